@@ -1,0 +1,12 @@
+//! Lists that contracts see as the list of their items: byte strings, sequences, queues and names.
+#![tactic(auto)]
+
+mod bytes;
+mod names;
+mod queue;
+mod seq;
+
+pub use bytes::Bytes;
+pub use names::Names;
+pub use queue::Queue;
+pub use seq::Seq;

@@ -1,0 +1,12 @@
+//! What a session is told and what it asks: configurations, submissions, events and actions.
+#![tactic(auto)]
+
+mod action;
+mod config;
+mod event;
+mod outcome;
+
+pub use action::{Action, Cause, Owner, WaitKind};
+pub use config::Config;
+pub use event::{Event, EventKind, Submission};
+pub use outcome::{Outcome, Shape, Verdict};

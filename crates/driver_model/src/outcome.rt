@@ -1,0 +1,41 @@
+ghost use Rattle.std.specs.Prelude.{◌≡◌, IfOk};
+
+use resp_value::{RedisError, Value};
+use std::alloc::{AllocError, Global};
+
+/// How many items a message takes, and what they become.
+#[derive(Clone, Copy, PartialEq, Eq)]
+pub enum Shape {
+    /// One command: it takes one item, which is its reply.
+    Single,
+}
+
+/// What a message of a link came to.
+#[derive(Drop)]
+pub enum Verdict {
+    /// The reply of a single command, also where it is a server error.
+    One(Value),
+    /// Why there is no reply.
+    Fault(RedisError),
+}
+
+/// What a submission came to.
+#[derive(Drop)]
+pub enum Outcome {
+    /// The reply of a single command, also where it is a server error.
+    One(Value),
+    /// Why there is no reply.
+    Fault(RedisError),
+}
+
+impl Outcome {
+    /// An equal value of its own.
+    pub fn clone(&self, alloc: Global) -> Result<Outcome, AllocError>
+        ensures { IfOk result (λ o. o ≡ self.now) }
+    {
+        match self {
+            Outcome::One(value) => Ok(Outcome::One(value.clone(alloc)?)),
+            Outcome::Fault(error) => Ok(Outcome::Fault(error.clone(alloc)?)),
+        }
+    }
+}

@@ -1,0 +1,255 @@
+use crate::push_kind::PushKind;
+use crate::server_error::ServerError;
+use containers::Bytes;
+use std::alloc::{AllocError, Global};
+use std::marker::Model;
+
+#[derive(Drop)]
+#[cycle(value)]
+pub struct Values {
+    items: Vec<Value>,
+}
+
+impl Model for Values {
+    ghost use Rattle.std.specs.Prelude.{List};
+    ghost use Rattle.std.specs.Coded.{coded_list};
+    ghost use Rattle.resp_value.specs.Data.{Data, list_weight};
+    ghost use Rattle.resp_value.specs.Code.{data_code};
+
+    ghost Value = { List Data };
+
+    ghost coded = { coded_list data_code };
+
+    ghost use Rattle.resp_value.specs.View.{list_view};
+
+    ghost view = { λ b. list_view b.items.items };
+
+    ghost size = { list_weight };
+
+    ghost use Rattle.resp_value.specs.Falls.{list_falls};
+    ghost use Rattle.std.proofs.Common.{arith};
+
+    ghost size_decreases = { λ a h. omega (arith, list_falls a.items.items) };
+}
+
+#[derive(Drop)]
+#[cycle(value)]
+pub struct Pairs {
+    items: Vec<(Value, Value)>,
+}
+
+impl Model for Pairs {
+    ghost use Rattle.std.specs.Prelude.{List};
+    ghost use Rattle.std.specs.Coded.{coded_list, coded×};
+    ghost use Rattle.resp_value.specs.Data.{Data, pairs_weight};
+    ghost use Rattle.resp_value.specs.Code.{data_code};
+
+    ghost Value = { List (Data × Data) };
+
+    ghost coded = { coded_list (coded× data_code data_code) };
+
+    ghost use Rattle.resp_value.specs.View.{pairs_view};
+
+    ghost view = { λ b. pairs_view b.items.items };
+
+    ghost size = { pairs_weight };
+
+    ghost use Rattle.resp_value.specs.Falls.{pairs_falls};
+    ghost use Rattle.std.proofs.Common.{arith};
+
+    ghost size_decreases = { λ a h. Prim.grind (arith, pairs_falls a.items.items) };
+}
+
+#[derive(Drop)]
+#[cycle(value)]
+pub struct Inner {
+    value: Box<Value>,
+}
+
+impl Model for Inner {
+    ghost use Rattle.resp_value.specs.Data.{Data, weight};
+    ghost use Rattle.resp_value.specs.Code.{data_code};
+
+    ghost Value = { Data };
+
+    ghost coded = { data_code };
+
+    ghost use Rattle.resp_value.specs.View.{data_of};
+
+    ghost view = { λ b. data_of b.value.value };
+
+    ghost size = { weight };
+}
+
+#[derive(Drop)]
+#[cycle(value)]
+pub enum Value {
+    Nil,
+    Int(i64),
+    BulkString(Bytes),
+    Array(Values),
+    SimpleString(Bytes),
+    Okay,
+    Map(Pairs),
+    Attribute { inner: Inner, attributes: Pairs },
+    Set(Values),
+    Double(Bytes),
+    Boolean(bool),
+    VerbatimString { format: Bytes, text: Bytes },
+    BigNumber(Bytes),
+    Push { kind: PushKind, parts: Values },
+    ServerError(ServerError),
+}
+
+impl Values {
+    ghost use Rattle.std.specs.Prelude.{◌≡◌, ◌∷◌, [], ◌++◌, length, IfOk, OnOk, OnErr, MatchOption};
+    ghost use Rattle.resp_value.specs.View.{data_of, list_view};
+
+    pub fn new(alloc: Global) -> Values
+        ensures { result ≡ [] }
+    {
+        Values {
+            items: Vec::new(alloc),
+        }
+    }
+
+    pub fn as_slice(&self) -> &[Value]
+        ensures { list_view result.now ≡ self.now }
+    {
+        self.items.as_slice()
+    }
+
+    pub fn len(&self) -> usize
+        ensures { result ≡ length self.now }
+    {
+        self.items.len()
+    }
+
+    pub fn push(&mut self, value: Value) -> Result<(), AllocError>
+        ensures ok { OnOk result (self.new ≡ self.old ++ data_of value ∷ []) }
+        ensures err { OnErr result (self.new ≡ self.old) }
+    {
+        self.items.push(value)?;
+        Ok(())
+    }
+
+    /// The last value, taken out.
+    pub fn pop(&mut self) -> Option<Value>
+        ensures { MatchOption result ((self.old ≡ []) × (self.new ≡ [])) (λ v. self.old ≡ self.new ++ data_of v ∷ []) }
+    {
+        self.items.pop()
+    }
+
+    #[cycle(copy)]
+    pub fn clone(&self, alloc: Global) -> Result<Values, AllocError>
+        ensures { IfOk result (λ v. v ≡ self.now) }
+    {
+        let mut copies = Values::new(alloc);
+        for item in &self.items {
+            copies.push(item.clone(alloc)?)?;
+        }
+        Ok(copies)
+    }
+}
+
+impl Pairs {
+    ghost use Rattle.std.specs.Prelude.{◌≡◌, ◌∷◌, [], ◌++◌, length, IfOk, OnOk, OnErr};
+    ghost use Rattle.resp_value.specs.View.{data_of, pairs_view};
+
+    pub fn new(alloc: Global) -> Pairs
+        ensures { result ≡ [] }
+    {
+        Pairs {
+            items: Vec::new(alloc),
+        }
+    }
+
+    pub fn as_slice(&self) -> &[(Value, Value)]
+        ensures { pairs_view result.now ≡ self.now }
+    {
+        self.items.as_slice()
+    }
+
+    pub fn push(&mut self, key: Value, value: Value) -> Result<(), AllocError>
+        ensures ok { OnOk result (self.new ≡ self.old ++ (data_of key, data_of value) ∷ []) }
+        ensures err { OnErr result (self.new ≡ self.old) }
+    {
+        self.items.push((key, value))?;
+        Ok(())
+    }
+
+    #[cycle(copy)]
+    pub fn clone(&self, alloc: Global) -> Result<Pairs, AllocError>
+        ensures { IfOk result (λ v. v ≡ self.now) }
+    {
+        let mut copies = Pairs::new(alloc);
+        for item in &self.items {
+            let key = item.0.clone(alloc)?;
+            let value = item.1.clone(alloc)?;
+            copies.push(key, value)?;
+        }
+        Ok(copies)
+    }
+}
+
+impl Inner {
+    ghost use Rattle.std.specs.Prelude.{◌≡◌, IfOk};
+    ghost use Rattle.resp_value.specs.View.{data_of};
+
+    pub fn new(alloc: Global, value: Value) -> Result<Inner, AllocError>
+        ensures { IfOk result (λ v. v ≡ data_of value) }
+    {
+        Ok(Inner {
+            value: Box::new(alloc, value)?,
+        })
+    }
+
+    pub fn get(&self) -> &Value
+        ensures { data_of result.now ≡ self.now }
+    {
+        &self.value
+    }
+}
+
+impl Value {
+    ghost use Rattle.std.specs.Prelude.{◌≡◌, IfOk};
+    ghost use Rattle.resp_value.specs.View.{data_of};
+
+    #[cycle(copy)]
+    pub fn clone(&self, alloc: Global) -> Result<Value, AllocError>
+        ensures { IfOk result (λ v. v ≡ self.now) }
+    {
+        match self {
+            Value::Nil => Ok(Value::Nil),
+            Value::Int(n) => Ok(Value::Int(*n)),
+            Value::BulkString(text) => Ok(Value::BulkString(text.clone(alloc)?)),
+            Value::Array(items) => Ok(Value::Array(items.clone(alloc)?)),
+            Value::SimpleString(text) => Ok(Value::SimpleString(text.clone(alloc)?)),
+            Value::Okay => Ok(Value::Okay),
+            Value::Map(pairs) => Ok(Value::Map(pairs.clone(alloc)?)),
+            Value::Attribute { inner, attributes } => {
+                let value = inner.get().clone(alloc)?;
+                let attributes = attributes.clone(alloc)?;
+                Ok(Value::Attribute {
+                    inner: Inner::new(alloc, value)?,
+                    attributes,
+                })
+            }
+            Value::Set(items) => Ok(Value::Set(items.clone(alloc)?)),
+            Value::Double(text) => Ok(Value::Double(text.clone(alloc)?)),
+            Value::Boolean(on) => Ok(Value::Boolean(*on)),
+            Value::VerbatimString { format, text } => {
+                let format = format.clone(alloc)?;
+                let text = text.clone(alloc)?;
+                Ok(Value::VerbatimString { format, text })
+            }
+            Value::BigNumber(text) => Ok(Value::BigNumber(text.clone(alloc)?)),
+            Value::Push { kind, parts } => {
+                let kind = kind.clone(alloc)?;
+                let parts = parts.clone(alloc)?;
+                Ok(Value::Push { kind, parts })
+            }
+            Value::ServerError(error) => Ok(Value::ServerError(error.clone(alloc)?)),
+        }
+    }
+}
