@@ -1,4 +1,4 @@
-ghost use Rattle.std.specs.Prelude.{◌≡◌, ◌==◌, ◌<◌, [], ◌∷◌, ◌++◌, length, OnOk, OnErr, MatchOption, Some, slice_get, slice_set};
+ghost use Rattle.std.specs.Prelude.{◌≡◌, ◌==◌, ◌<◌, [], ◌∷◌, ◌++◌, length, OnOk, OnErr, MatchOption, Some, slice_get, slice_set, remove};
 
 use std::alloc::{AllocError, Global};
 use std::collections::VecDeque;
@@ -73,6 +73,14 @@ impl<T: Drop> Queue<T> {
     {
         self.items.push_front(item)?;
         Ok(())
+    }
+
+    /// Takes the item at `index` out.
+    pub fn remove(&mut self, index: usize)
+        requires { index < length self.old }
+        ensures { self.new ≡ remove self.old index }
+    {
+        let _item = self.items.remove(index);
     }
 
     /// Puts `item` in place of the one at `index`.

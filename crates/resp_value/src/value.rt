@@ -133,11 +133,15 @@ impl Values {
         Ok(())
     }
 
-    /// The last value, taken out.
-    pub fn pop(&mut self) -> Option<Value>
-        ensures { MatchOption result ((self.old ≡ []) × (self.new ≡ [])) (λ v. self.old ≡ self.new ++ data_of v ∷ []) }
+    /// The first value, taken out.
+    pub fn pop_front(&mut self) -> Option<Value>
+        ensures { MatchOption result ((self.old ≡ []) × (self.new ≡ [])) (λ v. self.old ≡ data_of v ∷ self.new) }
     {
-        self.items.pop()
+        if self.items.is_empty() {
+            None
+        } else {
+            Some(self.items.remove(0))
+        }
     }
 
     #[cycle(copy)]

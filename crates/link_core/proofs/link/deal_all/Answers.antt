@@ -1,0 +1,47 @@
+use Rattle.std.proofs.Common.{arith, ◌≡◌, sym, ap, ◌∙◌, List}
+use Rattle.resp_value.specs.Data.{Data}
+use Rattle.resp_value.specs.View.{data_of}
+use Rattle.resp_read.specs.State.{ReaderState}
+use Rattle.resp_read.specs.Values.{values}
+use Rattle.resp_read.proofs.Meaning.{reads-shorter}
+use Rattle.resp_read.proofs.Many.{values-read, values-short, values-bad}
+use Rattle.link_core.specs.Dealing.{Dealing, dealt, dealt_each}
+use Rattle.link_core.proofs.link.deal_all.Goals as goal
+
+pub values-smaller : goal.values-smaller
+values-smaller c =
+    let h = rw c.in-Ok-Some.field-0-is at c.in-Ok-Some.ensures in
+    reads-shorter c.values.reader.rest (data_of c.in-Ok-Some.value) c.next_value.new.self.rest h.found
+
+pub values-preserved : goal.values-preserved
+values-preserved c =
+    let h = rw c.in-Ok-Some.field-0-is at c.in-Ok-Some.ensures in
+    let law = values-read c.values.reader.rest (data_of c.in-Ok-Some.value) c.next_value.new.self.rest h.found in
+    let s : Dealing = record { row = c.values.row; out = c.values.out.items } in
+    record {
+      sound = h.value.2;
+      dealt = ap (λ (d : Dealing). dealt_each d (values c.next_value.new.self.rest)) c.in-Ok.ensures ∙ sym (ap (λ (vs : List Data). dealt_each s vs) law.0) ∙ c.values.invariant.dealt;
+      rest = sym law.1 ∙ c.values.invariant.rest;
+      spoiled = sym law.2 ∙ c.values.invariant.spoiled }
+
+pub returns-in-Ok-None : goal.returns-in-Ok-None
+returns-in-Ok-None c =
+    let h = rw c.in-Ok-None.field-0-is at c.in-Ok-None.ensures in
+    let law = values-short c.values.reader.rest h.found in
+    let s : Dealing = record { row = c.values.row; out = c.values.out.items } in
+    record {
+      dealt = sym (ap (λ (vs : List Data). dealt_each s vs) law.0) ∙ c.values.invariant.dealt;
+      rest = ap (λ (r : ReaderState). r.rest) h.value.2 ∙ sym law.1 ∙ c.values.invariant.rest;
+      spoiled = sym law.2 ∙ c.values.invariant.spoiled;
+      sound = λ _. ap (λ (r : ReaderState). r.health) h.value.2 ∙ c.values.invariant.sound }
+
+pub returns-in-Err-Parse : goal.returns-in-Err-Parse
+returns-in-Err-Parse c =
+    let h = rw c.in-Err-Parse.field-0-is at c.in-Err-Parse.ensures in
+    let law = values-bad c.values.reader.rest (h.found c.values.invariant.sound) in
+    let s : Dealing = record { row = c.values.row; out = c.values.out.items } in
+    record {
+      dealt = sym (ap (λ (vs : List Data). dealt_each s vs) law.0) ∙ c.values.invariant.dealt;
+      rest = ap (λ (r : ReaderState). r.rest) h.value.1 ∙ sym law.1 ∙ c.values.invariant.rest;
+      spoiled = sym law.2 ∙ c.values.invariant.spoiled;
+      sound = λ e. cc }

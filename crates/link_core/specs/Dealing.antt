@@ -1,0 +1,35 @@
+-- Which message gets an item, and what it comes to.
+use Rattle.std.specs.Prelude.{ℕ, nat_lt, List, [], ◌∷◌, ◌++◌, length, if◌then◌else◌}
+use Rattle.resp_value.specs.Data.{Data}
+use Rattle.driver_model.specs.Shape.{need, verdict}
+use Rattle.link_core.specs.declared.message.Entry.{Entry}
+use Rattle.link_core.specs.declared.message.Settled.{Settled}
+
+-- a row of started messages, and the messages that were settled
+pub record Dealing : Type 0 where
+  pub row : List Entry
+  pub out : List Settled
+
+abbrev pub with_item : Entry → Data → Entry
+with_item e item = record e { got = e.got ++ item ∷ [] }
+
+-- the verdict of a full entry, if it is awaited
+abbrev pub settled_by : Entry → List Settled
+settled_by e = if e.awaited then record { id = e.id; verdict = verdict e.shape e.got } ∷ [] else []
+
+-- the oldest message has one item more: it takes further ones, or it is full
+abbrev pub given : Dealing → Entry → List Entry → Dealing
+given d e es =
+  if nat_lt (length e.got) (need e.shape) then record d { row = e ∷ es } else record { row = es; out = d.out ++ settled_by e }
+
+abbrev pub dealt_to : Dealing → Data → List Entry → Dealing
+dealt_to d item [] = d
+dealt_to d item (e ∷ es) = given d (with_item e item) es
+
+-- an item goes to the oldest message that takes items, and one that finds none is dropped
+abbrev pub dealt : Dealing → Data → Dealing
+dealt d item = dealt_to d item d.row
+
+abbrev pub dealt_each : Dealing → List Data → Dealing
+dealt_each d [] = d
+dealt_each d (v ∷ vs) = dealt_each (dealt d v) vs

@@ -1,0 +1,120 @@
+-- One link as plain data, and what each call does to it.
+use Rattle.std.specs.Prelude.{ℕ, ◌+◌, ◌^◌, ◌==◌, nat_lt, nat_le, Bool, false, ◌&&◌, List, [], ◌∷◌, ◌++◌, length, if◌then◌else◌}
+use Rattle.resp_read.specs.Values.{values, left_over, is_spoiled}
+use Rattle.driver_model.specs.Shape.{need}
+use Rattle.link_core.specs.declared.errors.LinkFault.{LinkFault}
+use Rattle.link_core.specs.declared.message.Queued.{Queued}
+use Rattle.link_core.specs.declared.message.Entry.{Entry}
+use Rattle.link_core.specs.declared.message.Started.{Started}
+use Rattle.link_core.specs.declared.message.Settled.{Settled}
+use Rattle.link_core.specs.declared.outbox.Outbox.{Outbox}
+use Rattle.link_core.specs.Dealing.{Dealing, dealt_each}
+use Rattle.link_core.specs.Ends.{row_closed, row_hit, queue_closed}
+use Rattle.link_core.specs.Outbox.{added, all_offered, taken}
+use Rattle.link_core.specs.Row.{silenced}
+use Rattle.link_core.specs.Waiting.{without}
+
+-- a link: how many messages its queue holds, at how many unwritten bytes no message starts, what waits, what takes
+-- items, how many messages started, what is to be written, what was read of the next value, whether bytes came that
+-- begin none, and whether memory was refused
+pub record LinkState : Type 0 where
+  pub size : ℕ
+  pub boundary : ℕ
+  pub queue : List Queued
+  pub row : List Entry
+  pub started : ℕ
+  pub outbox : Outbox
+  pub rest : List ℕ
+  pub broken : Bool
+  pub failed : Bool
+
+abbrev pub fresh : ℕ → ℕ → LinkState
+fresh size boundary = record {
+  size = size; boundary = boundary; queue = []; row = []; started = 0;
+  outbox = record { unwritten = []; offered = 0 }; rest = []; broken = false; failed = false }
+
+-- the queue holds its size
+abbrev pub is_full : LinkState → Bool
+is_full s = nat_le s.size (length s.queue)
+
+-- a message takes the last place of the queue
+abbrev pub enqueued : LinkState → Queued → LinkState
+enqueued s q = record s { queue = s.queue ++ q ∷ [] }
+
+-- no message starts while bytes are unwritten, and as many as the boundary
+abbrev pub is_held_back : LinkState → Bool
+is_held_back s = nat_lt 0 (length s.outbox.unwritten) && nat_le s.boundary (length s.outbox.unwritten)
+
+-- a link, and the starts of one call
+pub record Starting : Type 0 where
+  pub link : LinkState
+  pub out : List Started
+
+abbrev pub entry_of : Queued → Entry
+entry_of q = record { id = q.id; shape = q.shape; awaited = q.awaited; got = [] }
+
+abbrev pub start_of : ℕ → Queued → Started
+start_of number q = record { msg = number; id = q.id; need = need q.shape; len = length q.packed }
+
+-- a message starts: it takes the next number, its bytes are to be written, and it takes items behind the others
+abbrev pub started_one : Starting → Queued → Starting
+started_one s q = record {
+  link = record s.link {
+    row = s.link.row ++ entry_of q ∷ [];
+    started = s.link.started + 1;
+    outbox = added s.link.outbox q.packed };
+  out = s.out ++ start_of s.link.started q ∷ [] }
+
+-- messages start in the order of the queue, as long as nothing holds them back
+abbrev pub started_each : Starting → List Queued → Starting
+started_each s [] = record s { link = record s.link { queue = [] } }
+started_each s (q ∷ qs) =
+  if is_held_back s.link then record s { link = record s.link { queue = q ∷ qs } } else started_each (started_one s q) qs
+
+abbrev pub started_all : Starting → Starting
+started_all s = started_each s s.link.queue
+
+-- the number 2^32 - 1 was given to a message
+abbrev pub is_spent : LinkState → Bool
+is_spent s = nat_le (2 ^ 32) s.started
+
+abbrev pub offered_of : LinkState → LinkState
+offered_of s = record s { outbox = all_offered s.outbox }
+
+-- so many of the offered bytes were taken
+abbrev pub wrote_of : LinkState → ℕ → LinkState
+wrote_of s n = record s { outbox = taken s.outbox n }
+
+-- the caller of a message has gone: before its start it leaves the queue, after it it stays in the row
+abbrev pub cancelled : LinkState → ℕ → LinkState
+cancelled s id = record s { queue = without s.queue id; row = silenced s.row id }
+
+-- a link, and the messages that one call settles
+pub record Settling : Type 0 where
+  pub link : LinkState
+  pub out : List Settled
+
+-- what was read of the next value, with more bytes
+abbrev pub read_on : LinkState → List ℕ → LinkState
+read_on s bytes = record s { rest = left_over bytes; broken = is_spoiled bytes }
+
+abbrev pub with_dealt : Settling → Dealing → Settling
+with_dealt s d = record { link = record s.link { row = d.row }; out = s.out ++ d.out }
+
+abbrev pub came_all : Settling → List ℕ → Settling
+came_all d bytes = with_dealt (record d { link = read_on d.link bytes }) (dealt_each (record { row = d.link.row; out = [] }) (values bytes))
+
+-- bytes come: each value in them is dealt. A broken link reads no more
+abbrev pub came : Settling → List ℕ → Settling
+came d piece = if d.link.broken then d else came_all d (d.link.rest ++ piece)
+
+abbrev pub emptied : Settling → List Settled → Settling
+emptied d more = record { link = record d.link { queue = []; row = [] }; out = d.out ++ more }
+
+-- the link is closed: every message that it has gets the closed connection
+abbrev pub closed_all : Settling → Settling
+closed_all d = emptied d (row_closed d.link.row ++ queue_closed d.link.queue)
+
+-- the link ends by a fault: the oldest message that takes items gets it, all others the closed connection
+abbrev pub faulted : Settling → LinkFault → Settling
+faulted d f = emptied d (row_hit f d.link.row ++ queue_closed d.link.queue)

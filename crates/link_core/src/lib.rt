@@ -1,0 +1,14 @@
+//! One link: a queue of messages, a row of started ones, the bytes to be written, and the dealing of items.
+#![tactic(auto)]
+
+mod errors;
+mod link;
+mod message;
+mod outbox;
+mod row;
+
+pub use errors::{EnqueueError, LinkFault, StartError};
+pub use link::LinkCore;
+pub use message::{Entry, PushAt, PushInfo, Queued, Settled, Started};
+pub use outbox::Outbox;
+pub use row::Row;

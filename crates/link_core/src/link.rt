@@ -1,0 +1,397 @@
+ghost use Rattle.std.specs.Prelude.{◌≡◌, ◌≢◌, ◌<◌, ◌≤◌, true, false, [], ◌++◌, length, take, if◌then◌else◌, OnOk, OnErr, IfOk, IsErr, IsErrOf, ◌↔◌, not};
+
+ghost use Rattle.link_core.specs.Link.{is_held_back as is_held_back_in};
+ghost use Rattle.link_core.specs.Waiting.{without, awaits as awaits_id};
+ghost use Rattle.link_core.specs.Ends.{queue_closed};
+ghost use Rattle.link_core.specs.Dealing.{Dealing, dealt_each};
+ghost use Rattle.resp_read.specs.Values.{values, left_over, is_spoiled};
+
+use crate::errors::{EnqueueError, LinkFault, StartError};
+use crate::message::{Entry, PushAt, Queued, Settled, Started};
+use crate::outbox::Outbox;
+use crate::row::{Row, fail, need};
+use containers::{Bytes, Queue};
+use driver_model::Shape;
+use resp_read::{Health, ReadError, Reader};
+use resp_value::{RedisError, Values};
+use std::alloc::{AllocError, Global};
+use std::marker::Model;
+
+/// A link. Messages take a place in its queue, start in that order, and each item that comes goes to the oldest started
+/// message that takes more.
+#[derive(Drop)]
+pub struct LinkCore {
+    size: u32,
+    boundary: u64,
+    queue: Queue<Queued>,
+    row: Row,
+    started: u32,
+    outbox: Outbox,
+    reader: Reader,
+    broken: bool,
+    failed: bool,
+}
+
+impl Model for LinkCore {
+    ghost use Rattle.std.specs.Coded.{codes};
+    ghost use Rattle.resp_value.specs.Code.{data_code};
+    ghost use Rattle.link_core.specs.Link.{LinkState};
+
+    ghost Value = { LinkState };
+
+    ghost coded = { Prim.hlevel (codes, data_code) };
+
+    ghost view = { λ s. record { size = s.size; boundary = s.boundary; queue = s.queue; row = s.row; started = s.started; outbox = s.outbox; rest = s.reader.rest; broken = s.broken; failed = s.failed } };
+
+    ghost use Rattle.link_core.specs.Inside.{IsSound};
+
+    ghost invariant = { λ s. IsSound s.outbox s.reader s.broken s.failed };
+}
+
+impl LinkCore {
+    ghost use Rattle.link_core.specs.Link.{fresh, is_full, enqueued, Starting, started_all, started_one, is_spent, offered_of, wrote_of, cancelled, Settling, came, came_all, closed_all, faulted};
+    ghost use Rattle.link_core.specs.Outbox.{can_offer};
+
+    /// A link whose queue holds `size` messages, at least one, and on which no message starts while `boundary` bytes or
+    /// more, and at least one, are unwritten. Takes no memory.
+    pub fn new(alloc: Global, size: u32, boundary: u64) -> LinkCore
+        ensures { result ≡ fresh size boundary }
+    {
+        LinkCore {
+            size,
+            boundary,
+            queue: Queue::new(alloc),
+            row: Row::new(alloc),
+            started: 0,
+            outbox: Outbox {
+                unwritten: Bytes::new(alloc),
+                offered: 0,
+            },
+            reader: Reader::new(alloc),
+            broken: false,
+            failed: false,
+        }
+    }
+
+    /// A message takes the last place of the queue. `id` names it: no earlier message of this link had it. Where
+    /// `answered`, its verdict is not wanted. `Full`: the queue holds its size, and nothing changed.
+    pub fn enqueue(&mut self, alloc: Global, id: u64, packed: &[u8], shape: Shape, answered: bool) -> Result<(), EnqueueError>
+        ensures ok { OnOk result (self.new ≡ enqueued self.old (record { id = id; packed = packed.now; shape = shape; awaited = not answered })) }
+        ensures full { IsErrOf result EnqueueError.Full ↔ ((self.old.failed ≡ false) × (is_full self.old ≡ true)) }
+        ensures full_same { IsErrOf result EnqueueError.Full → self.new ≡ self.old }
+        ensures no_memory { IsErrOf result EnqueueError.NoMemory → self.new.failed ≡ true }
+        ensures failed { self.old.failed ≡ true → IsErrOf result EnqueueError.NoMemory }
+    {
+        if self.failed {
+            return Err(EnqueueError::NoMemory);
+        }
+        if self.queue.len() >= self.size as usize {
+            return Err(EnqueueError::Full);
+        }
+        match self.try_enqueue(alloc, id, packed, shape, answered) {
+            Ok(()) => Ok(()),
+            Err(_) => {
+                self.failed = true;
+                Err(EnqueueError::NoMemory)
+            }
+        }
+    }
+
+    fn try_enqueue(&mut self, alloc: Global, id: u64, packed: &[u8], shape: Shape, answered: bool) -> Result<(), AllocError>
+        ensures ok { OnOk result (self.new ≡ enqueued self.old (record { id = id; packed = packed.now; shape = shape; awaited = not answered })) }
+        ensures err { OnErr result (self.new ≡ self.old) }
+    {
+        let packed = Bytes::from_slice(alloc, packed)?;
+        self.queue.push_back(Queued {
+            id,
+            packed,
+            shape,
+            awaited: !answered,
+        })
+    }
+
+    /// Starts messages in the order of the queue, as long as nothing holds them back, and appends the starts to `out`.
+    /// After an error `out` is as it was, and the link has failed.
+    pub fn start_ready(&mut self, alloc: Global, out: &mut Vec<Started>) -> Result<(), StartError>
+        ensures ok { OnOk result (record { link = self.new; out = out.new.items } ≡ started_all (record { link = self.old; out = out.old.items })) }
+        ensures err { OnErr result (out.new.items ≡ out.old.items) }
+        ensures spent { IsErrOf result StartError.Spent → is_spent (started_all (record { link = self.old; out = out.old.items })).link ≡ true }
+        ensures no_memory { OnErr result (self.new.failed ≡ true) }
+        ensures failed { self.old.failed ≡ true → IsErrOf result StartError.NoMemory }
+    {
+        if self.failed {
+            return Err(StartError::NoMemory);
+        }
+        let before = out.len();
+        match self.start_each(alloc, out) {
+            Ok(()) => Ok(()),
+            Err(error) => {
+                self.failed = true;
+                out.truncate(before);
+                Err(error)
+            }
+        }
+    }
+
+    fn is_held_back(&self) -> bool
+        ensures { result ≡ is_held_back_in self.now }
+    {
+        let unwritten = self.outbox.unwritten.len() as u64;
+        unwritten > 0 && unwritten >= self.boundary
+    }
+
+    fn start_each(&mut self, alloc: Global, out: &mut Vec<Started>) -> Result<(), StartError>
+        ensures ok { OnOk result (record { link = self.new; out = out.new.items } ≡ started_all (record { link = self.old; out = out.old.items })) }
+        ensures err { OnErr result (take (length out.old.items) out.new.items ≡ out.old.items) }
+        ensures spent { IsErrOf result StartError.Spent → is_spent (started_all (record { link = self.old; out = out.old.items })).link ≡ true }
+    {
+        'starts: while !self.is_held_back() {
+            match self.queue.pop_front() {
+                Some(message) => match self.start_one(alloc, message, out) {
+                    Ok(()) => {}
+                    Err(error) => return Err(error),
+                },
+                None => return Ok(()),
+            }
+        }
+        Ok(())
+    }
+
+    fn start_one(&mut self, alloc: Global, message: Queued, out: &mut Vec<Started>) -> Result<(), StartError>
+        ensures ok { OnOk result (record { link = self.new; out = out.new.items } ≡ started_one (record { link = self.old; out = out.old.items }) message) }
+        ensures err { OnErr result (out.new.items ≡ out.old.items) }
+        ensures spent { IsErrOf result StartError.Spent → is_spent (started_one (record { link = self.old; out = out.old.items }) message).link ≡ true }
+    {
+        if self.started == u32::MAX {
+            return Err(StartError::Spent);
+        }
+        let len = message.packed.len() as u64;
+        self.outbox.add(message.packed.as_slice())?;
+        self.row.push_back(Entry {
+            id: message.id,
+            shape: message.shape,
+            awaited: message.awaited,
+            got: Values::new(alloc),
+        })?;
+        let start = Started {
+            msg: self.started,
+            id: message.id,
+            need: need(message.shape),
+            len,
+        };
+        out.push(start).map_err(AllocError::from)?;
+        self.started += 1;
+        Ok(())
+    }
+
+    /// Whether there were unwritten bytes and no unanswered offer. Then all of them are appended to `out`, and offered.
+    pub fn offer(&mut self, out: &mut Vec<u8>) -> Result<bool, AllocError>
+        ensures answer { IfOk result (λ offers. offers ≡ can_offer self.old.outbox) }
+        ensures link { IfOk result (λ offers. self.new ≡ (if offers then offered_of self.old else self.old)) }
+        ensures bytes { IfOk result (λ offers. out.new.items ≡ (if offers then out.old.items ++ self.old.outbox.unwritten else out.old.items)) }
+        ensures err { OnErr result (out.new.items ≡ out.old.items) }
+        ensures no_memory { OnErr result (self.new.failed ≡ true) }
+        ensures failed { self.old.failed ≡ true → IsErr result }
+    {
+        if self.failed {
+            return Err(AllocError);
+        }
+        match self.outbox.offer(out) {
+            Ok(offers) => Ok(offers),
+            Err(error) => {
+                self.failed = true;
+                Err(error)
+            }
+        }
+    }
+
+    /// How many bytes the unanswered offer holds, 0 if there is none.
+    pub fn offered_len(&self) -> u64
+        ensures value { result ≡ self.now.outbox.offered }
+        ensures bound { result ≤ length self.now.outbox.unwritten }
+    {
+        self.outbox.offered
+    }
+
+    /// How many bytes of started messages are not written yet.
+    pub fn unwritten(&self) -> u64
+        ensures { result ≡ length self.now.outbox.unwritten }
+    {
+        self.outbox.unwritten.len() as u64
+    }
+
+    /// The offer is answered: its first `count` bytes were taken.
+    pub fn wrote(&mut self, count: u64)
+        requires { count ≤ self.old.outbox.offered }
+        ensures { self.new ≡ wrote_of self.old count }
+    {
+        self.outbox.take(count);
+    }
+
+    /// The caller of a message has gone. Before its start it leaves the queue; a started message stays, and takes its
+    /// items.
+    pub fn cancel(&mut self, id: u64)
+        ensures { self.new ≡ cancelled self.old id }
+    {
+        withdraw(&mut self.queue, id);
+        self.row.silence(id);
+    }
+
+    /// The link ends by a fault: the oldest message that takes items gets it, every other one the closed connection, and
+    /// `out` gains those that are awaited. After an error `out` is as it was, and the link has failed.
+    pub fn fault(&mut self, alloc: Global, fault: LinkFault, out: &mut Vec<Settled>) -> Result<(), AllocError>
+        ensures ok { OnOk result (record { link = self.new; out = out.new.items } ≡ faulted (record { link = self.old; out = out.old.items }) fault) }
+        ensures err { OnErr result (out.new.items ≡ out.old.items) }
+        ensures no_memory { OnErr result (self.new.failed ≡ true) }
+        ensures failed { self.old.failed ≡ true → IsErr result }
+    {
+        if self.failed {
+            return Err(AllocError);
+        }
+        match self.try_fault(alloc, fault, out) {
+            Ok(()) => Ok(()),
+            Err(error) => {
+                self.failed = true;
+                Err(error)
+            }
+        }
+    }
+
+    fn try_fault(&mut self, alloc: Global, fault: LinkFault, out: &mut Vec<Settled>) -> Result<(), AllocError>
+        ensures ok { OnOk result (record { link = self.new; out = out.new.items } ≡ faulted (record { link = self.old; out = out.old.items }) fault) }
+        ensures err { OnErr result (out.new.items ≡ out.old.items) }
+    {
+        let mut settled = Vec::new(alloc);
+        self.row.hit(fault, &mut settled)?;
+        close_queue(&mut self.queue, &mut settled)?;
+        out.append(&mut settled)
+    }
+
+    /// The link is closed: every message that it has gets the closed connection, and `out` gains those that are awaited.
+    /// After an error `out` is as it was, and the link has failed.
+    pub fn close(&mut self, alloc: Global, out: &mut Vec<Settled>) -> Result<(), AllocError>
+        ensures ok { OnOk result (record { link = self.new; out = out.new.items } ≡ closed_all (record { link = self.old; out = out.old.items })) }
+        ensures err { OnErr result (out.new.items ≡ out.old.items) }
+        ensures no_memory { OnErr result (self.new.failed ≡ true) }
+        ensures failed { self.old.failed ≡ true → IsErr result }
+    {
+        if self.failed {
+            return Err(AllocError);
+        }
+        match self.try_close(alloc, out) {
+            Ok(()) => Ok(()),
+            Err(error) => {
+                self.failed = true;
+                Err(error)
+            }
+        }
+    }
+
+    fn try_close(&mut self, alloc: Global, out: &mut Vec<Settled>) -> Result<(), AllocError>
+        ensures ok { OnOk result (record { link = self.new; out = out.new.items } ≡ closed_all (record { link = self.old; out = out.old.items })) }
+        ensures err { OnErr result (out.new.items ≡ out.old.items) }
+    {
+        let mut settled = Vec::new(alloc);
+        self.row.close(&mut settled)?;
+        close_queue(&mut self.queue, &mut settled)?;
+        out.append(&mut settled)
+    }
+
+    /// Bytes came. Each item in them is dealt, and `out` gains the messages that are settled and awaited. `Parse`: the
+    /// bytes begin no value, after what came before was dealt; from then on always. After `NoMemory` `out` is as it was,
+    /// and the link has failed. No form of the grammar is a push yet, so `pushes` stays as it is.
+    pub fn bytes(&mut self, alloc: Global, piece: &[u8], out: &mut Vec<Settled>, pushes: &mut Vec<PushAt>) -> Result<(), ReadError>
+        ensures ok { OnOk result (record { link = self.new; out = out.new.items } ≡ came (record { link = self.old; out = out.old.items }) piece.now) }
+        ensures parse { IsErrOf result ReadError.Parse → ◌≡◌ {A = Settling} (record { link = self.new; out = out.new.items }) (came (record { link = self.old; out = out.old.items }) piece.now) }
+        ensures sound { OnOk result (self.new.broken ≡ false) }
+        ensures broken { IsErrOf result ReadError.Parse → self.new.broken ≡ true }
+        ensures err { IsErrOf result ReadError.NoMemory → out.new.items ≡ out.old.items }
+        ensures no_memory { IsErrOf result ReadError.NoMemory → self.new.failed ≡ true }
+        ensures failed { self.old.failed ≡ true → IsErrOf result ReadError.NoMemory }
+        ensures pushes { pushes.new.items ≡ pushes.old.items }
+    {
+        let _none = pushes;
+        if self.failed {
+            return Err(ReadError::NoMemory);
+        }
+        if self.broken {
+            return Err(ReadError::Parse);
+        }
+        match self.try_bytes(alloc, piece, out) {
+            Ok(()) => {}
+            Err(_) => return Err(ReadError::NoMemory),
+        }
+        if self.broken {
+            Err(ReadError::Parse)
+        } else {
+            Ok(())
+        }
+    }
+
+    fn try_bytes(&mut self, alloc: Global, piece: &[u8], out: &mut Vec<Settled>) -> Result<(), AllocError>
+        requires sound { self.old.failed ≡ false }
+        requires whole { self.old.broken ≡ false }
+        ensures ok { OnOk result (record { link = self.new; out = out.new.items } ≡ came_all (record { link = self.old; out = out.old.items }) (self.old.rest ++ piece.now)) }
+        ensures err { OnErr result (out.new.items ≡ out.old.items) }
+        ensures no_memory { OnErr result (self.new.failed ≡ true) }
+    {
+        self.failed = true;
+        self.reader.feed(piece)?;
+        let mut settled = Vec::new(alloc);
+        self.broken = deal_all(alloc, &mut self.reader, &mut self.row, &mut settled)?;
+        out.append(&mut settled)?;
+        self.failed = false;
+        Ok(())
+    }
+}
+
+/// Deals each value that a reader gives, and answers whether what is left begins no value.
+fn deal_all(alloc: Global, reader: &mut Reader, row: &mut Row, out: &mut Vec<Settled>) -> Result<bool, AllocError>
+    requires { reader.old.health ≡ Health.Sound }
+    ensures dealt { OnOk result (record { row = row.new; out = out.new.items } ≡ dealt_each (record { row = row.old; out = out.old.items }) (values reader.old.rest)) }
+    ensures rest { OnOk result (reader.new.rest ≡ left_over reader.old.rest) }
+    ensures spoiled { IfOk result (λ broken. broken ≡ is_spoiled reader.old.rest) }
+    ensures sound { IfOk result (λ broken. broken ≡ false → reader.new.health ≡ Health.Sound) }
+{
+    'values: loop {
+        match reader.next_value(alloc) {
+            Ok(Some(value)) => match row.deal(value, out) {
+                Ok(()) => {}
+                Err(error) => return Err(error),
+            },
+            Ok(None) => return Ok(false),
+            Err(ReadError::Parse) => return Ok(true),
+            Err(ReadError::NoMemory) => return Err(AllocError),
+        }
+    }
+}
+
+/// Each message of the queue, in order, ends with the closed connection.
+fn close_queue(queue: &mut Queue<Queued>, out: &mut Vec<Settled>) -> Result<(), AllocError>
+    ensures emptied { OnOk result (queue.new ≡ []) }
+    ensures settled { OnOk result (out.new.items ≡ out.old.items ++ queue_closed queue.old) }
+{
+    while let Some(message) = queue.pop_front() {
+        fail(message.awaited, message.id, RedisError::Closed, out)?;
+    }
+    Ok(())
+}
+
+/// The message of this name, if its verdict is wanted, leaves the queue.
+fn withdraw(queue: &mut Queue<Queued>, id: u64)
+    ensures { queue.new ≡ without queue.old id }
+{
+    let len = queue.len();
+    for index in 0..len {
+        if awaits(queue.at(index), id) {
+            queue.remove(index);
+            return;
+        }
+    }
+}
+
+fn awaits(message: &Queued, id: u64) -> bool
+    ensures { result ≡ awaits_id id message.now }
+{
+    message.id == id && message.awaited
+}

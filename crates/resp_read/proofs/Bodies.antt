@@ -1,0 +1,73 @@
+-- Bytes of an announced length are lawful.
+use Rattle.std.proofs.Common.{◌≡◌, ℕ, ◌+◌, ◌-◌, ◌≤◌, ◌<◌, List, [], ◌∷◌, ◌++◌, length, take, drop, replicate, Bool, true, false, cond, refl, sym, ap, ◌∙◌, subst, append_assoc, arith, length-append}
+use Rattle.std.proofs.lemmas.List.{append-nil, length-replicate, take-append-drop, take-append-le, drop-append-le, take_at, drop_at}
+use Rattle.std.proofs.lemmas.Bool.Decides.{nat_tests}
+use Rattle.std.specs.Prelude.{◌==◌, nat_lt, Option, Some, None}
+use Rattle.resp_value.specs.Data.{Data, nil, bulk}
+use Rattle.resp_read.specs.Grammar.{Found, read, short, bad, fed, closed, body, found_and_then, bulk_of, bulk_string, line_as, size_line}
+use Rattle.resp_read.proofs.Laws.{LawfulAt, Lawful, Possible, lawful_where_read, lawful_where_short, lawful_where_bad, lawful_bad, lawful_read, lawful_if, lawful_cons, lawful_nil, lawful_then, lawful_map, possible_map}
+use Rattle.resp_read.proofs.LineLaws.{lawful_line}
+use Rattle.resp_read.proofs.Numbers.{lawful_size}
+
+module _ {A : Type 0} (v : A) where
+  pub lawful_fed : Lawful (fed v)
+  lawful_fed [] = lawful_nil (fed v) refl (10 ∷ [], v, refl)
+  lawful_fed (b ∷ bs) = lawful_cons (fed v) (λ x. cond (b == 10) (read v x) bad) b bs (λ x. refl) (lawful_if (b == 10) (read v) (λ x. bad) bs (lawful_read v bs) (lawful_bad bs))
+
+  pub lawful_closed : Lawful (closed v)
+  lawful_closed [] = lawful_nil (closed v) refl (13 ∷ 10 ∷ [], v, refl)
+  lawful_closed (b ∷ bs) = lawful_cons (closed v) (λ x. cond (b == 13) (fed v x) bad) b bs (λ x. refl) (lawful_if (b == 13) (fed v) (λ x. bad) bs (lawful_fed bs) (lawful_bad bs))
+
+body_few : (n : ℕ) (bs : List ℕ) → length bs < n → body n bs ≡ short
+body_few n bs h = let c : nat_lt (length bs) n ≡ true = grind (arith, nat_tests) in rw c refl
+
+body_enough : (n : ℕ) (bs : List ℕ) → n ≤ length bs → body n bs ≡ closed (take n bs) (drop n bs)
+body_enough n bs h = let c : nat_lt (length bs) n ≡ false = grind (arith, nat_tests) in rw c refl
+
+-- n bytes and their end are a body
+pub body_is : (n : ℕ) (xs : List ℕ) → length xs ≡ n → body n (xs ++ 13 ∷ 10 ∷ []) ≡ read xs []
+body_is n xs h =
+    let e = length-append xs (13 ∷ 10 ∷ []) in
+    body_enough n (xs ++ 13 ∷ 10 ∷ []) (omega arith) ∙ (λ i. closed (take_at xs (13 ∷ 10 ∷ []) n h i) (drop_at xs (13 ∷ 10 ∷ []) n h i))
+
+body_possible : (n : ℕ) → Possible (body n)
+body_possible n = let xs = replicate n 0 in (xs ++ 13 ∷ 10 ∷ [], xs, body_is n xs (length-replicate n 0))
+
+lawful_few : (n : ℕ) (bs : List ℕ) → length bs < n → LawfulAt (body n) bs
+lawful_few n bs h =
+    let pad = replicate (n - length bs) 0 in
+    let e : length (bs ++ pad) ≡ n = omega (arith, length-append bs pad, length-replicate {A = ℕ} (n - length bs) 0) in
+    lawful_where_short (body n) bs (body_few n bs h) (pad ++ 13 ∷ 10 ∷ []) (bs ++ pad) (ap (body n) (sym (append_assoc bs pad (13 ∷ 10 ∷ []))) ∙ body_is n (bs ++ pad) e)
+
+lawful_enough : (n : ℕ) (bs : List ℕ) → n ≤ length bs → LawfulAt (body n) bs
+lawful_enough n bs h =
+    let v = take n bs in
+    let tail = drop n bs in
+    let now : body n bs ≡ closed v tail = body_enough n bs h in
+    let more : (m : List ℕ) → body n (bs ++ m) ≡ closed v (tail ++ m) = λ m.
+      body_enough n (bs ++ m) (omega (arith, length-append bs m)) ∙ (λ i. closed (take-append-le n bs m h i) (drop-append-le n bs m h i)) in
+    let k = lawful_closed v tail in
+    record {
+      grows = λ m a r e. more m ∙ k.grows m a r (sym now ∙ e);
+      stays = λ m e. more m ∙ k.stays m (sym now ∙ e);
+      completes = λ e. let c = k.completes (sym now ∙ e) in (c.0, c.1, more c.0 ∙ c.2);
+      ends = λ a r e. let p = k.ends a r (sym now ∙ e) in (v ++ p.0, sym (take-append-drop n bs) ∙ ap (λ x. v ++ x) p.1 ∙ sym (append_assoc v p.0 r));
+    }
+
+lawful_by : (n : ℕ) (bs : List ℕ) (c : Bool) → nat_lt (length bs) n ≡ c → LawfulAt (body n) bs
+lawful_by n bs true h = lawful_few n bs (grind (arith, nat_tests))
+lawful_by n bs false h = lawful_enough n bs (grind (arith, nat_tests))
+
+pub lawful_body : (n : ℕ) → Lawful (body n)
+lawful_body n bs = lawful_by n bs (nat_lt (length bs) n) refl
+
+lawful_bulk_of : (n : Option ℕ) → Lawful (bulk_of n)
+lawful_bulk_of None = lawful_read nil
+lawful_bulk_of (Some n) = lawful_map bulk (body n) (lawful_body n)
+
+bulk_of_possible : (n : Option ℕ) → Possible (bulk_of n)
+bulk_of_possible None = ([], nil, refl)
+bulk_of_possible (Some n) = possible_map bulk (body n) (body_possible n)
+
+pub lawful_bulk_string : Lawful bulk_string
+lawful_bulk_string = lawful_then (line_as size_line) bulk_of (lawful_line size_line lawful_size) lawful_bulk_of bulk_of_possible

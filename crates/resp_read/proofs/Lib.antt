@@ -1,0 +1,9 @@
+pub mod FirstLine
+pub mod Scans
+pub mod Laws
+pub mod LineLaws
+pub mod Numbers
+pub mod Bodies
+pub mod Parsing
+pub mod Meaning
+pub mod Many

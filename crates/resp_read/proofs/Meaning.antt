@@ -1,0 +1,70 @@
+-- What is found at the front of a text is what the words of contracts say of it.
+use Rattle.std.proofs.Common.{◌≡◌, ℕ, ◌+◌, ◌-◌, ◌≤◌, ◌<◌, List, [], ◌++◌, length, take, drop, refl, sym, ap, ◌∙◌, append_assoc, arith, length-append}
+use Rattle.std.proofs.lemmas.List.{take-append-drop, drop_at}
+use Rattle.std.specs.Prelude.{◌↔◌}
+use Rattle.resp_value.specs.Data.{Data}
+use Rattle.resp_read.specs.Grammar.{Found, read, short, bad, parse, max_depth}
+use Rattle.resp_read.specs.Reads.{Reads, IsProperPrefix, IsMalformed}
+use Rattle.resp_read.proofs.Parsing.{lawful_parse, takes_a_byte}
+
+-- a value stays when bytes follow
+pub reads-append : (bs m : List ℕ) (v : Data) (rest : List ℕ) → Reads bs v rest → Reads (bs ++ m) v (rest ++ m)
+reads-append bs m v rest e = (lawful_parse max_depth bs).grows m v rest e
+
+-- what is bad stays bad
+pub bad-append : (bs m : List ℕ) → parse max_depth bs ≡ bad → parse max_depth (bs ++ m) ≡ bad
+bad-append bs m e = (lawful_parse max_depth bs).stays m e
+
+-- some bytes make a short text one value
+pub short-completes : (bs : List ℕ) → parse max_depth bs ≡ short → (m : List ℕ) × (v : Data) × Reads (bs ++ m) v []
+short-completes bs e = (lawful_parse max_depth bs).completes e
+
+-- what is left is the end of the text
+pub reads-ends : (bs : List ℕ) (v : Data) (rest : List ℕ) → Reads bs v rest → (p : List ℕ) × (bs ≡ p ++ rest)
+reads-ends bs v rest e = (lawful_parse max_depth bs).ends v rest e
+
+-- and shorter than it
+pub reads-shorter : (bs : List ℕ) (v : Data) (rest : List ℕ) → Reads bs v rest → length rest < length bs
+reads-shorter bs v rest e = takes_a_byte max_depth bs v rest e
+
+-- two readings of one text are one
+pub reads-one : (bs : List ℕ) (v w : Data) (r s : List ℕ) → Reads bs v r → Reads bs w s → (v ≡ w) × (r ≡ s)
+reads-one bs v w r s e f = (cc, cc)
+
+pub prefix_from_short : (bs : List ℕ) → parse max_depth bs ≡ short → IsProperPrefix bs
+prefix_from_short bs e = let c = short-completes bs e in ((c.0, c.1, [], c.2), λ v rest f. cc)
+
+pub malformed_from_bad : (bs : List ℕ) → parse max_depth bs ≡ bad → IsMalformed bs
+malformed_from_bad bs e = λ m v rest f. let g = bad-append bs m e in cc
+
+short_by : (bs : List ℕ) (x : Found Data) → parse max_depth bs ≡ x → IsProperPrefix bs → x ≡ short
+short_by bs (read v rest) is h = absurd (h.1 v rest is)
+short_by bs short is h = refl
+short_by bs bad is h = absurd (malformed_from_bad bs is h.0.0 h.0.1 h.0.2 h.0.3)
+
+pub short_from_prefix : (bs : List ℕ) → IsProperPrefix bs → parse max_depth bs ≡ short
+short_from_prefix bs h = short_by bs (parse max_depth bs) refl h
+
+bad_by : (bs : List ℕ) (x : Found Data) → parse max_depth bs ≡ x → IsMalformed bs → x ≡ bad
+bad_by bs (read v rest) is h = absurd (h [] v (rest ++ []) (reads-append bs [] v rest is))
+bad_by bs short is h = let c = short-completes bs is in absurd (h c.0 c.1 [] c.2)
+bad_by bs bad is h = refl
+
+pub bad_from_malformed : (bs : List ℕ) → IsMalformed bs → parse max_depth bs ≡ bad
+bad_from_malformed bs h = bad_by bs (parse max_depth bs) refl h
+
+-- a short text is the proper front of a value, and a bad one is malformed
+pub short-prefix : (bs : List ℕ) → (parse max_depth bs ≡ short) ↔ IsProperPrefix bs
+short-prefix bs = (prefix_from_short bs, short_from_prefix bs)
+
+pub bad-malformed : (bs : List ℕ) → (parse max_depth bs ≡ bad) ↔ IsMalformed bs
+bad-malformed bs = (malformed_from_bad bs, bad_from_malformed bs)
+
+-- what is left of a value at a place, seen from the whole text
+pub left_at : (place : ℕ) (bytes : List ℕ) (v : Data) (rest : List ℕ) → place ≤ length bytes → Reads (drop place bytes) v rest → (length rest ≤ length bytes) × (drop (length bytes - length rest) bytes ≡ rest)
+left_at place bytes v rest h e =
+    let end = reads-ends (drop place bytes) v rest e in
+    let front = take place bytes ++ end.0 in
+    let whole : bytes ≡ front ++ rest = sym (take-append-drop place bytes) ∙ ap (λ x. take place bytes ++ x) end.1 ∙ sym (append_assoc (take place bytes) end.0 rest) in
+    let n : length bytes ≡ length front + length rest = ap length whole ∙ length-append front rest in
+    (omega arith, ap (drop (length bytes - length rest)) whole ∙ drop_at front rest (length bytes - length rest) (omega arith))

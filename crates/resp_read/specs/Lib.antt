@@ -1,0 +1,6 @@
+pub mod Grammar
+pub mod Reads
+pub mod Values
+pub mod State
+pub mod Reading
+pub mod Parts

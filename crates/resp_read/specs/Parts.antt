@@ -1,0 +1,37 @@
+-- What the parts of the reader answer.
+use Rattle.std.specs.Prelude.{◌≡◌, ℕ, ◌+◌, ◌≤◌, List, length, take, drop, Result, Ok, Err}
+use Rattle.resp_value.specs.Data.{Data}
+use Rattle.resp_read.specs.Grammar.{Found, read, short, bad, Line, ended, held, unended, broken, LineForm, simple_line, error_line, number_line}
+use Rattle.resp_read.specs.declared.lines.LineEnd.{LineEnd}
+use Rattle.resp_read.specs.declared.lines.LineEnd.TheVariants.{Ended, Held, Unended, Broken}
+use Rattle.resp_read.specs.declared.forms.OneLine.{OneLine}
+use Rattle.resp_read.specs.declared.forms.OneLine.TheVariants.{Simple, Error, Number}
+use Rattle.resp_read.specs.declared.forms.Refusal.{Refusal}
+use Rattle.resp_read.specs.declared.forms.Refusal.TheVariants.{Short, Bad, NoMemory}
+
+-- the first line of a text, by the place where it ends
+abbrev pub line_at : LineEnd → List ℕ → Line
+line_at (Ended n) bs = ended (take n bs) (drop (n + 2) bs)
+line_at (Held n) bs = held (take n bs)
+line_at Unended bs = unended bs
+line_at Broken bs = broken
+
+-- the line is as long as the place says, and so is its end
+abbrev pub IsWithin : LineEnd → List ℕ → Type 0
+IsWithin (Ended n) bs = n + 2 ≤ length bs
+IsWithin (Held n) bs = n + 1 ≡ length bs
+IsWithin Unended bs = Unit {0}
+IsWithin Broken bs = Unit {0}
+
+-- the form of a value that is one line
+abbrev pub line_form : OneLine → LineForm Data
+line_form Simple = simple_line
+line_form Error = error_line
+line_form Number = number_line
+
+-- what was found, with these bytes left after it
+abbrev pub IsFound : {A X : Type 0} → (X → A) → Found A → Result X Refusal → List ℕ → Type 0
+IsFound view found (Ok v) left = found ≡ read (view v) left
+IsFound view found (Err Short) left = found ≡ short
+IsFound view found (Err Bad) left = found ≡ bad
+IsFound view found (Err NoMemory) left = Unit {0}
