@@ -28,6 +28,15 @@ impl<T> Queue<T> {
         }
     }
 
+    /// The items of a vector, not copied.
+    pub fn from_vec(items: Vec<T>) -> Queue<T>
+        ensures { result ≡ items.items }
+    {
+        Queue {
+            items: VecDeque::from_vec(items),
+        }
+    }
+
     pub fn len(&self) -> usize
         ensures { result ≡ length self.now }
     {

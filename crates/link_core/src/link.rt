@@ -97,6 +97,13 @@ impl LinkCore {
         }
     }
 
+    /// Whether the queue holds its size.
+    pub fn is_full(&self) -> bool
+        ensures { result ≡ is_full self.now }
+    {
+        self.queue.len() >= self.size as usize
+    }
+
     fn try_enqueue(&mut self, alloc: Global, id: u64, packed: &[u8], shape: Shape, answered: bool) -> Result<(), AllocError>
         ensures ok { OnOk result (self.new ≡ enqueued self.old (record { id = id; packed = packed.now; shape = shape; awaited = not answered })) }
         ensures err { OnErr result (self.new ≡ self.old) }

@@ -1,0 +1,108 @@
+ghost use Rattle.std.specs.Prelude.{◌≡◌, ◌++◌, ◌<◌, ◌^◌, OnOk, OnErr, IfOk, length};
+ghost use Rattle.resp_value.specs.Data.{items_of, list_of, members_of, pairs_of};
+ghost use Rattle.resp_value.specs.View.{data_of};
+ghost use Rattle.resp_write.specs.Canonical.{canonical, each_item, each_member};
+
+use crate::lines::{push_bulk_string, push_number_line, push_text_line};
+use crate::parts::{kind_text, push_boolean, push_error, push_int, push_verbatim};
+use containers::Bytes;
+use resp_value::{Pairs, Value, Values};
+use std::alloc::{AllocError, Global};
+
+/// How many values there are.
+fn count_of(values: &Values) -> usize
+    ensures count { result ≡ length (list_of (items_of values.now)) }
+    ensures fits { result < 2 ^ 63 }
+{
+    values.as_slice().len()
+}
+
+/// How many pairs there are.
+fn count_of_pairs(pairs: &Pairs) -> usize
+    ensures { result ≡ length (pairs_of (members_of pairs.now)) }
+{
+    pairs.as_slice().len()
+}
+
+/// The canonical text of a value.
+pub fn canonical_text(alloc: Global, value: &Value) -> Result<Bytes, AllocError>
+    ensures { IfOk result (λ text. text ≡ canonical (data_of value.now)) }
+{
+    let mut text = Bytes::new(alloc);
+    push_value(alloc, &mut text, value)?;
+    Ok(text)
+}
+
+/// Appends the canonical text of a value. An error leaves the bytes as they were.
+pub fn write_value(alloc: Global, out: &mut Bytes, value: &Value) -> Result<(), AllocError>
+    ensures ok { OnOk result (out.new ≡ out.old ++ canonical (data_of value.now)) }
+    ensures err { OnErr result (out.new ≡ out.old) }
+{
+    let text = canonical_text(alloc, value)?;
+    out.extend_from_slice(text.as_slice())
+}
+
+#[cycle(text)]
+fn push_value(alloc: Global, out: &mut Bytes, value: &Value) -> Result<(), AllocError>
+    ensures { OnOk result (out.new ≡ out.old ++ canonical (data_of value.now)) }
+{
+    match value {
+        Value::Nil => push_text_line(out, b'_', b""),
+        Value::Int(number) => push_int(out, *number),
+        Value::BulkString(text) => push_bulk_string(out, text.as_slice()),
+        Value::Array(items) => {
+            push_number_line(out, b'*', count_of(items))?;
+            push_values(alloc, out, items)
+        }
+        Value::SimpleString(text) => push_text_line(out, b'+', text.as_slice()),
+        Value::Okay => push_text_line(out, b'+', b"OK"),
+        Value::Map(pairs) => {
+            push_number_line(out, b'%', count_of_pairs(pairs))?;
+            push_pairs(alloc, out, pairs)
+        }
+        Value::Attribute { inner, attributes } => {
+            push_number_line(out, b'|', count_of_pairs(attributes))?;
+            push_pairs(alloc, out, attributes)?;
+            push_value(alloc, out, inner.get())
+        }
+        Value::Set(items) => {
+            push_number_line(out, b'~', count_of(items))?;
+            push_values(alloc, out, items)
+        }
+        Value::Double(text) => push_text_line(out, b',', text.as_slice()),
+        Value::Boolean(on) => push_boolean(out, *on),
+        Value::VerbatimString { format, text } => {
+            push_verbatim(out, format.as_slice(), text.as_slice())
+        }
+        Value::BigNumber(text) => push_text_line(out, b'(', text.as_slice()),
+        Value::Push { kind, parts } => {
+            push_number_line(out, b'>', count_of(parts) + 1)?;
+            push_bulk_string(out, kind_text(kind))?;
+            push_values(alloc, out, parts)
+        }
+        Value::ServerError(error) => push_error(alloc, out, error),
+    }
+}
+
+/// Appends values one after another.
+#[cycle(text)]
+fn push_values(alloc: Global, out: &mut Bytes, values: &Values) -> Result<(), AllocError>
+    ensures { OnOk result (out.new ≡ out.old ++ each_item (items_of values.now)) }
+{
+    for value in values.as_slice() {
+        push_value(alloc, out, value)?;
+    }
+    Ok(())
+}
+
+/// Appends keys, each followed by its value.
+#[cycle(text)]
+fn push_pairs(alloc: Global, out: &mut Bytes, pairs: &Pairs) -> Result<(), AllocError>
+    ensures { OnOk result (out.new ≡ out.old ++ each_member (members_of pairs.now)) }
+{
+    for pair in pairs.as_slice() {
+        push_value(alloc, out, &pair.0)?;
+        push_value(alloc, out, &pair.1)?;
+    }
+    Ok(())
+}

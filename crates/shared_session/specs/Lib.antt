@@ -1,0 +1,3 @@
+pub mod Requests
+pub mod Steps
+pub mod Turn

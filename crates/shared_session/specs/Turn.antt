@@ -1,0 +1,31 @@
+-- One turn.
+use Rattle.std.specs.Prelude.{ℕ, ◌+◌, ◌^◌, ◌==◌, nat_lt, nat_le, Bool, false, ◌&&◌, ◌||◌, not, length}
+use Rattle.driver_model.specs.declared.action.Action.TheVariants as action
+use Rattle.driver_model.specs.declared.action.Cause.TheVariants as cause
+use Rattle.driver_model.specs.declared.event.Event.{Event}
+use Rattle.driver_model.specs.declared.event.EventKind.{EventKind}
+use Rattle.driver_model.specs.declared.event.EventKind.TheVariants as event
+use Rattle.driver_model.specs.declared.event.Submission.TheVariants as submission
+use Rattle.shared_session.specs.declared.connection.Connection.{Connection}
+use Rattle.shared_session.specs.declared.core_state.Core.{Core}
+use Rattle.shared_session.specs.Steps.{acts, is_ended, submitted, left, connected, wrote, read, peer_closed, shut_down, passes, flushed}
+
+-- the event's own effect
+abbrev pub applied : Connection → EventKind → Connection
+applied c (event.Submit (submission.Cmd args)) = submitted c args
+applied c (event.Cancel n) = left c n
+applied c (event.Connected l) = connected c
+applied c (event.Wrote l n) = wrote c n
+applied c (event.Bytes l piece) = read c piece
+applied c (event.Ended l) = peer_closed c
+applied c event.Shutdown = shut_down c
+
+-- the event names a link or a submission that was never given out, or more written bytes than were offered
+unfoldable pub is_bad : Connection → EventKind → Bool
+is_bad c (event.Submit s) = false
+is_bad c (event.Cancel n) = nat_le (length c.requests) n
+is_bad c (event.Connected l) = not (l == 0)
+is_bad c (event.Wrote l n) = not (l == 0) || (not (is_ended c.phase) && nat_lt c.link.outbox.offered n)
+is_bad c (event.Bytes l piece) = not (l == 0)
+is_bad c (event.Ended l) = not (l == 0)
+is_bad c event.Shutdown = false

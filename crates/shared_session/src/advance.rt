@@ -1,0 +1,116 @@
+ghost use Rattle.std.specs.Prelude.{◌≡◌, ◌<◌, ◌^◌, length, OnOk, IfOk, false};
+
+use crate::connection::{Connection, Phase, Progress, Waiting};
+use crate::errors::TurnError;
+use containers::Queue;
+use driver_model::{Action, Owner, Shape};
+use link_core::{EnqueueError, StartError, Started};
+use std::alloc::Global;
+
+impl Connection {
+    ghost use Rattle.link_core.specs.Link.{is_full};
+    ghost use Rattle.shared_session.specs.Steps.{shown_each, started, advanced, advanced_all, passes as passes_of};
+
+    /// Each start is shown.
+    fn show_starts(&mut self, starts: Vec<Started>) -> Result<(), TurnError>
+        ensures core { OnOk result (self.new ≡ shown_each self.old starts.items) }
+        ensures count { length self.new.requests ≡ length self.old.requests }
+    {
+        let mut rest = Queue::from_vec(starts);
+        while let Some(start) = rest.pop_front() {
+            let submission = submission_of(start.id)?;
+            self.act(Action::Start {
+                link: 0,
+                message: start.msg,
+                owner: Owner::Try {
+                    submission,
+                    round: 0,
+                },
+                need: start.need,
+                len: start.len,
+            })?;
+        }
+        Ok(())
+    }
+
+    /// Messages start as far as they can.
+    fn start(&mut self, alloc: Global) -> Result<(), TurnError>
+        ensures core { OnOk result (self.new ≡ started self.old) }
+        ensures count { length self.new.requests ≡ length self.old.requests }
+    {
+        let mut starts = Vec::new(alloc);
+        match self.link.start_ready(alloc, &mut starts) {
+            Ok(()) => {}
+            Err(StartError::Spent) => return Err(TurnError::Spent),
+            Err(StartError::NoMemory) => return Err(TurnError::NoMemory),
+        }
+        self.show_starts(starts)
+    }
+
+    /// One submission is moved as far as it can go: if it still waits, it takes its place, and messages start.
+    fn advance(&mut self, alloc: Global, request: Waiting) -> Result<(), TurnError>
+        requires { is_full self.old.link ≡ false }
+        ensures core { OnOk result (self.new ≡ advanced self.old request) }
+        ensures count { length self.new.requests ≡ length self.old.requests }
+    {
+        if !self.is_waiting(request.number) {
+            return Ok(());
+        }
+        self.requests
+            .set(request.number as usize, Progress::Placed);
+        let id = u64::from(request.number);
+        match self
+            .link
+            .enqueue(alloc, id, request.packed.as_slice(), Shape::Single, false)
+        {
+            Ok(()) => {}
+            Err(EnqueueError::Full) => unreachable!(),
+            Err(EnqueueError::NoMemory) => return Err(TurnError::NoMemory),
+        }
+        self.start(alloc)
+    }
+
+    /// The submissions that wait are moved in order, until the queue is full.
+    fn advance_waiting(&mut self, alloc: Global) -> Result<(), TurnError>
+        ensures core { OnOk result (self.new ≡ advanced_all self.old) }
+        ensures count { length self.new.requests ≡ length self.old.requests }
+    {
+        let mut rest = std::mem::replace(&mut self.waiting, Queue::new(alloc));
+        'requests: while !self.link.is_full() {
+            match rest.pop_front() {
+                Some(request) => match self.advance(alloc, request) {
+                    Ok(()) => {}
+                    Err(error) => return Err(error),
+                },
+                None => {
+                    self.waiting = rest;
+                    return Ok(());
+                }
+            }
+        }
+        self.waiting = rest;
+        Ok(())
+    }
+
+    /// Every open submission is moved as far as it can go.
+    pub fn advance_all(&mut self, alloc: Global) -> Result<(), TurnError>
+        ensures core { OnOk result (self.new ≡ passes_of self.old) }
+        ensures count { length self.new.requests ≡ length self.old.requests }
+    {
+        if self.phase != Phase::Up {
+            return Ok(());
+        }
+        self.start(alloc)?;
+        self.advance_waiting(alloc)
+    }
+}
+
+/// The submission that a message of the link is of: its name on the link is the submission's number.
+fn submission_of(id: u64) -> Result<u32, TurnError>
+    ensures { IfOk result (λ n. n ≡ id) }
+{
+    match u32::try_from(id) {
+        Ok(number) => Ok(number),
+        Err(_) => Err(TurnError::NoMemory),
+    }
+}

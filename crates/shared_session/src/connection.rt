@@ -1,0 +1,115 @@
+ghost use Rattle.std.specs.Prelude.{◌≡◌, ◌<◌, ◌^◌, length, OnOk, true};
+
+use crate::errors::TurnError;
+use containers::{Bytes, Queue, Seq};
+use driver_model::{Action, Outcome};
+use link_core::LinkCore;
+use std::alloc::Global;
+
+/// How far a link has come.
+#[derive(Clone, Copy, PartialEq, Eq)]
+pub enum Phase {
+    /// Its connect isn't answered.
+    Dialing,
+    Up,
+    Ended,
+}
+
+/// How far a submission has come.
+#[derive(Drop)]
+pub enum Progress {
+    /// It has no place in the queue yet.
+    Waiting,
+    /// It has its place, or is started.
+    Placed,
+    /// Its caller has gone.
+    Cancelled,
+    Answered(Outcome),
+}
+
+/// A submission that waits for its place: its number and its packed bytes.
+#[derive(Drop)]
+pub struct Waiting {
+    pub number: u32,
+    pub packed: Bytes,
+}
+
+/// One multiplexed connection: its link, what was submitted, and the actions of the turn that runs.
+#[derive(Drop)]
+pub struct Connection {
+    pub phase: Phase,
+    /// Whether everything was shut down.
+    pub shut: bool,
+    pub link: LinkCore,
+    /// Every submission, by its number.
+    pub requests: Seq<Progress>,
+    /// Those that wait for their place, in order, and some that have gone since.
+    pub waiting: Queue<Waiting>,
+    /// The submissions of this turn.
+    pub fresh: Queue<u32>,
+    pub acts: Seq<Action>,
+}
+
+impl Connection {
+    ghost use Rattle.shared_session.specs.Requests.{is_open_at, is_waiting_at};
+    ghost use Rattle.shared_session.specs.Steps.{acts, answered};
+
+    /// One more action of this turn.
+    pub fn act(&mut self, action: Action) -> Result<(), TurnError>
+        ensures core { OnOk result (self.new ≡ acts self.old action) }
+        ensures same { self.new ≡ record self.old { acts = self.new.acts } }
+    {
+        self.acts.push(action)?;
+        Ok(())
+    }
+
+    /// Whether a submission is neither answered nor cancelled.
+    pub fn is_open(&self, number: u64) -> bool
+        ensures value { result ≡ is_open_at self.now.requests number }
+        ensures there { result ≡ true → number < length self.now.requests }
+    {
+        if number >= self.requests.len() as u64 {
+            return false;
+        }
+        match self.requests.at(number as usize) {
+            Progress::Waiting => true,
+            Progress::Placed => true,
+            Progress::Cancelled => false,
+            Progress::Answered(_) => false,
+        }
+    }
+
+    /// Whether a submission waits for its place.
+    pub fn is_waiting(&self, number: u32) -> bool
+        ensures value { result ≡ is_waiting_at self.now.requests number }
+        ensures there { result ≡ true → number < length self.now.requests }
+    {
+        if number as usize >= self.requests.len() {
+            return false;
+        }
+        match self.requests.at(number as usize) {
+            Progress::Waiting => true,
+            Progress::Placed => false,
+            Progress::Cancelled => false,
+            Progress::Answered(_) => false,
+        }
+    }
+
+    /// A submission that is open is answered.
+    pub fn answer(&mut self, alloc: Global, number: u64, outcome: Outcome) -> Result<(), TurnError>
+        requires { length self.old.requests < 2 ^ 32 }
+        ensures core { OnOk result (self.new ≡ answered self.old number outcome) }
+        ensures count { length self.new.requests ≡ length self.old.requests }
+    {
+        if !self.is_open(number) {
+            return Ok(());
+        }
+        let shown = outcome.clone(alloc)?;
+        self.requests
+            .set(number as usize, Progress::Answered(outcome));
+        self.act(Action::Outcome {
+            submission: number as u32,
+            outcome: shown,
+        })
+    }
+}

@@ -1,0 +1,61 @@
+use link_core::StartError;
+use resp_read::ReadError;
+use std::alloc::AllocError;
+
+/// Why a session was not made.
+#[derive(Drop)]
+pub enum MakeError {
+    NoMemory,
+}
+
+/// Why a session took no event.
+#[derive(Drop)]
+pub enum StepError {
+    /// The event names what was never given out, or says that more bytes were written than were offered. Nothing
+    /// changed.
+    BadEvent,
+    /// A number has run out. The session has failed, after so many events.
+    Spent { events: u32 },
+    /// Memory was refused. The session has failed.
+    NoMemory,
+}
+
+/// Why a replay ended before its last event. The finished turns are kept.
+#[derive(Drop)]
+pub enum ReplayError {
+    /// The event at this index is the first bad one.
+    BadEvent { index: u32 },
+    /// A number has run out, after so many events.
+    Spent { events: u32 },
+    NoMemory,
+}
+
+/// Why a turn was not finished.
+#[derive(Clone, Copy, PartialEq, Eq)]
+pub enum TurnError {
+    /// A number has run out.
+    Spent,
+    NoMemory,
+}
+
+impl From<AllocError> for MakeError {
+    ghost use Rattle.std.specs.Prelude.{◌≡◌};
+    ghost use Rattle.shared_session.specs.declared.errors.MakeError.TheVariants.{NoMemory};
+
+    ghost from_gives = { λ _ e. e ≡ NoMemory };
+
+    fn from(_error: AllocError) -> Self {
+        MakeError::NoMemory
+    }
+}
+
+impl From<AllocError> for TurnError {
+    ghost use Rattle.std.specs.Prelude.{◌≡◌};
+    ghost use Rattle.shared_session.specs.declared.errors.TurnError.TheVariants.{NoMemory};
+
+    ghost from_gives = { λ _ e. e ≡ NoMemory };
+
+    fn from(_error: AllocError) -> Self {
+        TurnError::NoMemory
+    }
+}

@@ -1,0 +1,13 @@
+//! A session: its history of events, and the state that this history leads to.
+#![tactic(auto)]
+
+mod advance;
+mod apply;
+mod connection;
+mod core_state;
+mod errors;
+mod flush;
+
+pub use connection::{Connection, Phase, Progress, Waiting};
+pub use core_state::Core;
+pub use errors::{MakeError, ReplayError, StepError, TurnError};
