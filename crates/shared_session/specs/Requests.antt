@@ -1,6 +1,5 @@
 -- How far submissions have come.
 use Rattle.std.specs.Prelude.{ℕ, Bool, true, false, List, Option, Some, None, slice_get}
-use Rattle.driver_model.specs.declared.outcome.Outcome.{Outcome}
 use Rattle.shared_session.specs.declared.connection.Progress.{Progress}
 use Rattle.shared_session.specs.declared.connection.Progress.TheVariants.{Waiting, Placed, Cancelled, Answered}
 
@@ -9,19 +8,13 @@ abbrev pub is_open : Progress → Bool
 is_open Waiting = true
 is_open Placed = true
 is_open Cancelled = false
-is_open (Answered o) = false
+is_open Answered = false
 
 abbrev pub is_waiting : Progress → Bool
 is_waiting Waiting = true
 is_waiting Placed = false
 is_waiting Cancelled = false
-is_waiting (Answered o) = false
-
-abbrev pub outcome_in : Progress → Option Outcome
-outcome_in Waiting = None
-outcome_in Placed = None
-outcome_in Cancelled = None
-outcome_in (Answered o) = Some o
+is_waiting Answered = false
 
 abbrev pub if_there : (Progress → Bool) → Option Progress → Bool
 if_there test None = false

@@ -50,7 +50,10 @@ at_progress c n p = record c { requests = slice_set c.requests n p }
 
 -- an open submission is answered, and any other stays as it is
 abbrev pub answered : Connection → ℕ → Outcome → Connection
-answered c n o = if is_open_at c.requests n then acts (at_progress c n (progress.Answered o)) (action.Outcome n o) else c
+answered c n o =
+  if is_open_at c.requests n
+  then acts (record (at_progress c n progress.Answered) { done = c.done ++ record { submission = n; outcome = o } ∷ [] }) (action.Outcome n o)
+  else c
 
 abbrev pub outcome_of : Verdict → Outcome
 outcome_of (verdict.One v) = outcome.One v

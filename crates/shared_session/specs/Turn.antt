@@ -1,5 +1,5 @@
 -- One turn.
-use Rattle.std.specs.Prelude.{ℕ, ◌+◌, ◌^◌, ◌==◌, nat_lt, nat_le, Bool, false, ◌&&◌, ◌||◌, not, length}
+use Rattle.std.specs.Prelude.{ℕ, ◌+◌, ◌^◌, ◌==◌, nat_lt, nat_le, Bool, false, ◌&&◌, ◌||◌, not, List, [], length}
 use Rattle.driver_model.specs.declared.action.Action.TheVariants as action
 use Rattle.driver_model.specs.declared.action.Cause.TheVariants as cause
 use Rattle.driver_model.specs.declared.event.Event.{Event}
@@ -29,3 +29,21 @@ is_bad c (event.Wrote l n) = not (l == 0) || (not (is_ended c.phase) && nat_lt c
 is_bad c (event.Bytes l piece) = not (l == 0)
 is_bad c (event.Ended l) = not (l == 0)
 is_bad c event.Shutdown = false
+
+-- the actions and outcomes of the turn before are gone
+abbrev pub quiet : Core → Core
+quiet c = record c { connection = record c.connection { done = []; acts = [] } }
+
+-- a turn: it is announced, the event has its effect, open submissions are moved, and bytes and waits are shown
+unfoldable pub turn : Core → Event → Core
+turn c e = record {
+  turns = c.turns + 1;
+  connection = flushed (passes (applied (acts c.connection (action.Turn c.turns (cause.Event e))) e.kind)) }
+
+-- the number 2^32 - 1 was given to a message or a submission
+unfoldable pub is_spent : Core → Bool
+is_spent c = nat_le (2 ^ 32) c.connection.link.started || nat_le (2 ^ 32) (length c.connection.requests)
+
+-- the step of an event is spent: the history holds 2^32 - 1 events, or the turn would give out a number too many
+unfoldable pub spends : Core → Event → Bool
+spends c e = nat_le (2 ^ 32) c.turns || is_spent (turn c e)

@@ -16,7 +16,7 @@ pub enum Phase {
 }
 
 /// How far a submission has come.
-#[derive(Drop)]
+#[derive(Clone, Copy, PartialEq, Eq)]
 pub enum Progress {
     /// It has no place in the queue yet.
     Waiting,
@@ -24,7 +24,14 @@ pub enum Progress {
     Placed,
     /// Its caller has gone.
     Cancelled,
-    Answered(Outcome),
+    Answered,
+}
+
+/// A submission that was answered in this turn, and its outcome.
+#[derive(Drop)]
+pub struct Done {
+    pub submission: u32,
+    pub outcome: Outcome,
 }
 
 /// A submission that waits for its place: its number and its packed bytes.
@@ -47,6 +54,8 @@ pub struct Connection {
     pub waiting: Queue<Waiting>,
     /// The submissions of this turn.
     pub fresh: Queue<u32>,
+    /// The outcomes of this turn.
+    pub done: Queue<Done>,
     pub acts: Seq<Action>,
 }
 
@@ -57,7 +66,7 @@ impl Connection {
     /// One more action of this turn.
     pub fn act(&mut self, action: Action) -> Result<(), TurnError>
         ensures core { OnOk result (self.new ≡ acts self.old action) }
-        ensures same { self.new ≡ record self.old { acts = self.new.acts } }
+        ensures count { length self.new.requests ≡ length self.old.requests }
     {
         self.acts.push(action)?;
         Ok(())
@@ -75,7 +84,7 @@ impl Connection {
             Progress::Waiting => true,
             Progress::Placed => true,
             Progress::Cancelled => false,
-            Progress::Answered(_) => false,
+            Progress::Answered => false,
         }
     }
 
@@ -91,7 +100,7 @@ impl Connection {
             Progress::Waiting => true,
             Progress::Placed => false,
             Progress::Cancelled => false,
-            Progress::Answered(_) => false,
+            Progress::Answered => false,
         }
     }
 
@@ -104,12 +113,16 @@ impl Connection {
         if !self.is_open(number) {
             return Ok(());
         }
-        let shown = outcome.clone(alloc)?;
-        self.requests
-            .set(number as usize, Progress::Answered(outcome));
+        let submission = number as u32;
+        let kept = outcome.clone(alloc)?;
+        self.requests.set(number as usize, Progress::Answered);
+        self.done.push_back(Done {
+            submission,
+            outcome: kept,
+        })?;
         self.act(Action::Outcome {
-            submission: number as u32,
-            outcome: shown,
+            submission,
+            outcome,
         })
     }
 }

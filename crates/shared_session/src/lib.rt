@@ -7,7 +7,9 @@ mod connection;
 mod core_state;
 mod errors;
 mod flush;
+mod session;
 
-pub use connection::{Connection, Phase, Progress, Waiting};
+pub use connection::{Connection, Done, Phase, Progress, Waiting};
 pub use core_state::Core;
 pub use errors::{MakeError, ReplayError, StepError, TurnError};
+pub use session::{Failure, Session};

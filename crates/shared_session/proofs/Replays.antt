@@ -1,0 +1,85 @@
+-- One more event of a history.
+use Rattle.std.proofs.Common.{◌≡◌, ℕ, ◌+◌, ◌-◌, ◌^◌, ◌<◌, ◌≤◌, List, [], ◌∷◌, ◌++◌, length, refl, sym, ◌∙◌, ap, append_assoc, false, arith, length-append}
+use Rattle.std.specs.Prelude.{Option}
+use Rattle.std.proofs.lemmas.List.{append-nil}
+use Rattle.driver_model.specs.declared.action.Action.{Action}
+use Rattle.driver_model.specs.declared.config.Config.{Config}
+use Rattle.driver_model.specs.declared.event.Event.{Event}
+use Rattle.driver_model.specs.declared.outcome.Outcome.{Outcome}
+use Rattle.shared_session.specs.declared.connection.Done.{Done}
+use Rattle.shared_session.specs.declared.core_state.Core.{Core}
+use Rattle.shared_session.specs.Turn.{quiet, turn, is_bad}
+use Rattle.shared_session.specs.Replay.{opening, run_on, state_after, actions_of, turns_on, trace_of, outcomes_with, outcomes_on, outcomes_after}
+
+run_on-more : (c : Core) (es : List Event) (e : Event) → run_on c (es ++ e ∷ []) ≡ quiet (turn (run_on c es) e)
+run_on-more c [] e = refl
+run_on-more c (d ∷ es) e = run_on-more (quiet (turn c d)) es e
+
+pub state_after-more : (config : Config) (word : ℕ) (es : List Event) (e : Event) → state_after config word (es ++ e ∷ []) ≡ quiet (turn (state_after config word es) e)
+unfolding state_after
+state_after-more config word es e = run_on-more (quiet (opening config word)) es e
+
+pub state_after-none : (config : Config) (word : ℕ) → state_after config word [] ≡ quiet (opening config word)
+unfolding state_after
+state_after-none config word = refl
+
+outcomes_on-more : (c : Core) (os : List (Option Outcome)) (es : List Event) (e : Event) → outcomes_on c os (es ++ e ∷ []) ≡ outcomes_with (outcomes_on c os es) (turn (run_on c es) e).connection
+outcomes_on-more c os [] e = refl
+outcomes_on-more c os (d ∷ es) e = outcomes_on-more (quiet (turn c d)) (outcomes_with os (turn c d).connection) es e
+
+pub outcomes_after-more : (config : Config) (word : ℕ) (es : List Event) (e : Event) → outcomes_after config word (es ++ e ∷ []) ≡ outcomes_with (outcomes_after config word es) (turn (state_after config word es) e).connection
+unfolding state_after outcomes_after
+outcomes_after-more config word es e = outcomes_on-more (quiet (opening config word)) [] es e
+
+pub outcomes_after-none : (config : Config) (word : ℕ) → outcomes_after config word [] ≡ []
+unfolding outcomes_after
+outcomes_after-none config word = refl
+
+turns_on-more : (c : Core) (es : List Event) (e : Event) → turns_on c (es ++ e ∷ []) ≡ turns_on c es ++ actions_of (run_on c es) e
+turns_on-more c [] e = append-nil (actions_of c e)
+turns_on-more c (d ∷ es) e = ap (λ (acts : List Action). actions_of c d ++ acts) (turns_on-more (quiet (turn c d)) es e) ∙ sym (append_assoc (actions_of c d) _ _)
+
+pub trace_of-none : (config : Config) (word : ℕ) → trace_of config word [] ≡ (opening config word).connection.acts
+unfolding trace_of
+trace_of-none config word = refl
+
+pub trace_of-more : (config : Config) (word : ℕ) (es : List Event) (e : Event) → trace_of config word (es ++ e ∷ []) ≡ trace_of config word es ++ actions_of (state_after config word es) e
+unfolding trace_of state_after
+trace_of-more config word es e =
+    ap (λ (acts : List Action). (opening config word).connection.acts ++ acts) (turns_on-more (quiet (opening config word)) es e)
+    ∙ sym (append_assoc (opening config word).connection.acts (turns_on (quiet (opening config word)) es) _)
+
+turn_turns : (c : Core) (e : Event) → (turn c e).turns ≡ c.turns + 1
+unfolding turn
+turn_turns c e = refl
+
+run_on_turns : (c : Core) (es : List Event) → (run_on c es).turns ≡ c.turns + length es
+run_on_turns c [] = omega arith
+run_on_turns c (e ∷ es) = omega (arith, run_on_turns (quiet (turn c e)) es, turn_turns c e)
+
+-- the opening is a turn, and each event is one
+pub turns_after : (config : Config) (word : ℕ) (es : List Event) → (state_after config word es).turns ≡ 1 + length es
+unfolding state_after
+turns_after config word es = run_on_turns (quiet (opening config word)) es
+
+-- the fields of a session that has made its opening
+pub opened_is : (core : Core) (config : Config) (word : ℕ) (es : List Event) (acts : List Action) →
+    core ≡ opening config word → es ≡ [] → acts ≡ [] → record core { connection = record core.connection { acts = acts } } ≡ state_after config word es
+opened_is core config word es acts c e a = rw (e, state_after-none config word, c, a) refl
+
+-- a turn leads to where the history with its event leads
+pub state_kept : (before after : Core) (config : Config) (word : ℕ) (es fs : List Event) (e : Event) (done : List Done) (acts : List Action) →
+    before ≡ state_after config word es → after ≡ turn before e → fs ≡ es ++ e ∷ [] → done ≡ [] → acts ≡ []
+    → record after { connection = record after.connection { done = done; acts = acts } } ≡ state_after config word fs
+state_kept before after config word es fs e done acts b a f d s = rw (f, state_after-more config word es e, ← b, ← a, d, s) refl
+
+-- and so do its outcomes
+pub outcomes_kept : (before after : Core) (config : Config) (word : ℕ) (es fs : List Event) (e : Event) (os ps : List (Option Outcome)) →
+    before ≡ state_after config word es → os ≡ outcomes_after config word es → after ≡ turn before e → fs ≡ es ++ e ∷ []
+    → ps ≡ outcomes_with os after.connection → ps ≡ outcomes_after config word fs
+outcomes_kept before after config word es fs e os ps b o a f p = rw (f, outcomes_after-more config word es e, ← b, ← a, ← o) p
+
+pub few_kept : (before : Core) (config : Config) (word : ℕ) (es fs : List Event) (e : Event) → before ≡ state_after config word es → before.turns ≤ 2 ^ 32 - 1 → fs ≡ es ++ e ∷ [] → length fs < 2 ^ 32
+few_kept before config word es fs e b t f =
+    let n : before.turns ≡ 1 + length es = ap (λ (c : Core). c.turns) b ∙ turns_after config word es in
+    omega (arith, n, ap length f, length-append es (e ∷ []))
