@@ -1,11 +1,11 @@
 -- Bytes of an announced length are lawful.
-use Rattle.std.proofs.Common.{◌≡◌, ℕ, ◌+◌, ◌-◌, ◌≤◌, ◌<◌, List, [], ◌∷◌, ◌++◌, length, take, drop, replicate, Bool, true, false, cond, refl, sym, ap, ◌∙◌, subst, append_assoc, arith, length-append}
-use Rattle.std.proofs.lemmas.List.{append-nil, length-replicate, take-append-drop, take-append-le, drop-append-le, take_at, drop_at}
+use Rattle.std.proofs.Common.{◌≡◌, ℕ, ◌-◌, ◌≤◌, ◌<◌, List, [], ◌∷◌, ◌++◌, length, take, drop, replicate, Bool, true, false, cond, refl, sym, ap, ◌∙◌, append_assoc, arith, length-append}
+use Rattle.std.proofs.lemmas.List.{length-replicate, take-append-drop, take-append-le, drop-append-le, take_at, drop_at}
 use Rattle.std.proofs.lemmas.Bool.Decides.{nat_tests}
 use Rattle.std.specs.Prelude.{◌==◌, nat_lt, Option, Some, None}
-use Rattle.resp_value.specs.Data.{Data, nil, bulk}
-use Rattle.resp_read.specs.Grammar.{Found, read, short, bad, fed, closed, body, found_and_then, bulk_of, bulk_string, line_as, size_line}
-use Rattle.resp_read.proofs.Laws.{LawfulAt, Lawful, Possible, lawful_where_read, lawful_where_short, lawful_where_bad, lawful_bad, lawful_read, lawful_if, lawful_cons, lawful_nil, lawful_then, lawful_map, possible_map}
+use Rattle.resp_value.specs.Data.{nil, bulk}
+use Rattle.resp_read.specs.Grammar.{read, short, bad, fed, closed, body, bulk_of, bulk_string, line_as, size_line}
+use Rattle.resp_read.proofs.Laws.{LawfulAt, Lawful, Possible, lawful_where_short, lawful_bad, lawful_read, lawful_if, lawful_cons, lawful_nil, lawful_then, lawful_map, possible_map}
 use Rattle.resp_read.proofs.LineLaws.{lawful_line}
 use Rattle.resp_read.proofs.Numbers.{lawful_size}
 
@@ -45,7 +45,7 @@ lawful_enough n bs h =
     let tail = drop n bs in
     let now : body n bs ≡ closed v tail = body_enough n bs h in
     let more : (m : List ℕ) → body n (bs ++ m) ≡ closed v (tail ++ m) = λ m.
-      body_enough n (bs ++ m) (omega (arith, length-append bs m)) ∙ (λ i. closed (take-append-le n bs m h i) (drop-append-le n bs m h i)) in
+    body_enough n (bs ++ m) (omega (arith, length-append bs m)) ∙ (λ i. closed (take-append-le n bs m h i) (drop-append-le n bs m h i)) in
     let k = lawful_closed v tail in
     record {
       grows = λ m a r e. more m ∙ k.grows m a r (sym now ∙ e);

@@ -1,6 +1,5 @@
 -- The first line of a text, when bytes stand before it or follow.
 use Rattle.std.proofs.Common.{◌≡◌, ℕ, List, [], ◌∷◌, ◌++◌, Bool, true, false, cond, refl, sym, ap, ◌∙◌}
-use Rattle.std.proofs.lemmas.List.{append-nil}
 use Rattle.std.specs.Prelude.{◌==◌}
 use Rattle.resp_read.specs.Grammar.{Line, ended, held, unended, broken, after_return, byte_before, line}
 

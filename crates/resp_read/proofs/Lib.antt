@@ -4,6 +4,6 @@ pub mod Laws
 pub mod LineLaws
 pub mod Numbers
 pub mod Bodies
-pub mod Parsing
-pub mod Meaning
-pub mod Many
+pub mod ParseLaws
+pub mod ReadLaws
+pub mod ValueLaws

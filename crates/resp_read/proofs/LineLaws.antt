@@ -2,8 +2,8 @@
 use Rattle.std.proofs.Common.{◌≡◌, ℕ, ◌≤◌, List, [], ◌∷◌, ◌++◌, length, Option, Some, None, Bool, true, false, cond, refl, sym, ap, ◌∙◌, subst, append_assoc, arith, length-append}
 use Rattle.std.proofs.lemmas.List.{append-nil}
 use Rattle.std.proofs.lemmas.Bool.Decides.{nat_tests}
-use Rattle.std.specs.Prelude.{◌==◌, ◌&&◌, nat_le, is_some}
-use Rattle.resp_read.specs.Grammar.{Found, read, short, bad, Line, ended, held, unended, broken, after_return, byte_before, line, LineForm, fits, max_line, found, line_found, line_as}
+use Rattle.std.specs.Prelude.{◌==◌, ◌&&◌}
+use Rattle.resp_read.specs.Grammar.{read, short, bad, Line, ended, held, unended, broken, after_return, byte_before, line, LineForm, fits, max_line, line_found, line_as}
 use Rattle.resp_read.proofs.FirstLine.{bytes_before, before-ended, before-held, before-unended, before-broken, going_on, line-append}
 use Rattle.resp_read.proofs.Laws.{LawfulAt, Lawful, lawful_where_read, lawful_where_short, lawful_where_bad}
 

@@ -1,10 +1,10 @@
 -- The lines of each form: which fronts can become one.
-use Rattle.std.proofs.Common.{◌≡◌, ℕ, ◌+◌, ◌-◌, ◌*◌, ◌≤◌, ◌<◌, List, [], ◌∷◌, ◌++◌, length, Option, Some, None, Bool, true, false, cond, inl, inr, lit≤, refl, sym, ap, ◌∙◌, subst, append_assoc, arith}
+use Rattle.std.proofs.Common.{◌≡◌, ℕ, ◌+◌, ◌-◌, ◌*◌, ◌≤◌, ◌<◌, List, [], ◌∷◌, ◌++◌, length, Option, Some, None, Bool, true, false, cond, inl, inr, lit≤, refl, sym, ap, ◌∙◌, subst, arith}
 use Rattle.std.proofs.lemmas.List.{append-nil}
 use Rattle.std.proofs.lemmas.Bool.Decides.{nat_tests}
 use Rattle.std.specs.Prelude.{ℤ, pos, neg_ℤ, nat_le, option_map, ◌==◌, ◌&&◌, ◌||◌, bytes_eq, is_some, ◌⊎◌}
-use Rattle.resp_value.specs.Data.{Data, int}
-use Rattle.resp_read.specs.Grammar.{LineForm, max_line, max_bulk, is_digit, digits_after, at_most, natural, number, number_begun, size, size_begun, simple_of, error_of, simple_line, error_line, number_line, size_line}
+use Rattle.resp_value.specs.Data.{int}
+use Rattle.resp_read.specs.Grammar.{max_line, max_bulk, is_digit, digits_after, at_most, natural, number, number_begun, size, size_begun, simple_of, error_of, simple_line, error_line, number_line, size_line}
 use Rattle.resp_read.proofs.Scans.{stays_above}
 use Rattle.resp_read.proofs.LineLaws.{IsOneLine, LawfulLine}
 
@@ -94,9 +94,9 @@ sign_begins b k h begins = let e : b ≡ k = grind (arith, nat_tests) in subst (
 number_can : (l : List ℕ) → length l ≤ max_line → number_begun l ≡ true → Begins number l
 number_can [] fit h = (48 ∷ [], pos 0, refl, lit≤ tt, refl)
 number_can (b ∷ []) fit h = elim (one_of_three (b == 45) (b == 43) (is_some (number (b ∷ []))) h) [
-  inl minus ↦ sign_begins b 45 minus (48 ∷ [], pos 0, refl, lit≤ tt, refl)
+  | inl minus ↦ sign_begins b 45 minus (48 ∷ [], pos 0, refl, lit≤ tt, refl)
   | inr other ↦ elim other [
-    inl plus ↦ sign_begins b 43 plus (48 ∷ [], pos 0, refl, lit≤ tt, refl)
+    | inl plus ↦ sign_begins b 43 plus (48 ∷ [], pos 0, refl, lit≤ tt, refl)
     | inr whole ↦ whole_already number (b ∷ []) (number (b ∷ [])) refl fit whole
   ]
 ]
@@ -164,7 +164,7 @@ minus_begins = (49 ∷ [], None, refl, lit≤ tt, refl)
 size_can : (l : List ℕ) → length l ≤ max_line → size_begun l ≡ true → Begins size l
 size_can [] fit h = (45 ∷ 49 ∷ [], None, refl, lit≤ tt, refl)
 size_can (b ∷ []) fit h = elim (one_of_two (b == 45) (is_some (size (b ∷ []))) h) [
-  inl minus ↦ let e : b ≡ 45 = grind (arith, nat_tests) in subst (λ x. Begins size (x ∷ [])) (sym e) minus_begins
+  | inl minus ↦ let e : b ≡ 45 = grind (arith, nat_tests) in subst (λ x. Begins size (x ∷ [])) (sym e) minus_begins
   | inr whole ↦ whole_already size (b ∷ []) (size (b ∷ [])) refl fit whole
 ]
 size_can (b ∷ c ∷ ds) fit h = whole_already size (b ∷ c ∷ ds) (size (b ∷ c ∷ ds)) refl fit h

@@ -1,9 +1,9 @@
 -- Steps of the loops over a line.
-use Rattle.std.proofs.Common.{◌≡◌, ℕ, suc, ◌+◌, ◌-◌, ◌*◌, ◌/◌, ◌≤◌, ◌<◌, List, [], ◌∷◌, ◌++◌, length, take, drop, get_or, append_assoc, inl, inr, Option, Some, None, Bool, true, false, cond, refl, sym, ap, ◌∙◌, arith}
-use Rattle.std.proofs.lemmas.List.{append-nil, at_drop_more, at_drop_all, drop_more, take_more, drop_all, take_all}
+use Rattle.std.proofs.Common.{◌≡◌, ℕ, ◌+◌, ◌-◌, ◌*◌, ◌≤◌, ◌<◌, List, [], ◌∷◌, ◌++◌, length, take, drop, get_or, append_assoc, inl, inr, Option, Some, None, Bool, true, false, cond, refl, sym, ap, ◌∙◌, arith}
+use Rattle.std.proofs.lemmas.List.{append-nil, drop_more, take_more, drop_all, take_all}
 use Rattle.std.proofs.lemmas.Bool.Decides.{nat_tests}
 use Rattle.std.specs.Prelude.{◌==◌, ◌⊎◌, ◌&&◌, nat_le}
-use Rattle.resp_read.specs.Grammar.{Line, ended, held, unended, broken, after_return, byte_before, line, is_digit, digits_after, at_most, natural, before_space, after_space}
+use Rattle.resp_read.specs.Grammar.{ended, held, unended, broken, after_return, byte_before, line, is_digit, digits_after, at_most, natural, before_space, after_space}
 use Rattle.resp_read.proofs.FirstLine.{bytes_before, before-ended, before-held, before-unended, before-broken, before-push}
 
 -- the first i bytes hold no CR

@@ -1,7 +1,6 @@
--- RESP, the protocol of Redis: which value stands at the front of a text, and what is left after it.
-use Rattle.std.specs.Prelude.{ℕ, zero, suc, ◌+◌, ◌-◌, ◌*◌, ℤ, pos, neg_ℤ, Bool, true, false, ◌&&◌, ◌||◌, ◌==◌, nat_le, nat_lt, List, [], ◌∷◌, ◌++◌, length, take, drop, Option, Some, None, option_map, is_some, bytes_eq, if◌then◌else◌}
+-- RESP, the protocol of Redis (https://redis.io/docs/latest/develop/reference/protocol-spec): which value stands at the front of a text, and what is left after it.
+use Rattle.std.specs.Prelude.{ℕ, zero, suc, ◌+◌, ◌-◌, ◌*◌, ℤ, pos, neg_ℤ, Bool, true, ◌&&◌, ◌||◌, ◌==◌, nat_le, nat_lt, List, [], ◌∷◌, ◌++◌, length, take, drop, Option, Some, None, option_map, is_some, bytes_eq, if◌then◌else◌}
 use Rattle.resp_value.specs.Data.{Data, nil, int, bulk, simple, okay, error}
-use Rattle.resp_value.specs.declared.server_error.ServerError.{ServerError}
 
 -- what stands at the front of a text: something whole with the bytes after it, something that is not whole yet, or nothing that can become whole
 pub data Found (A : Type 0) : Type 0 where
@@ -19,15 +18,15 @@ found_and_then f bad = bad
 abbrev pub found_map : {A B : Type 0} → (A → B) → Found A → Found B
 found_map f x = found_and_then (λ a rest. read (f a) rest) x
 
--- the most bytes of a line, its CR LF not counted
+-- the most bytes of a line, its CR LF not counted: a limit of this reader
 abbrev pub max_line : ℕ
 max_line = 1_048_576
 
--- the most bytes of a bulk string
+-- the most bytes of a bulk string: 512 megabytes, the protocol's own limit
 abbrev pub max_bulk : ℕ
 max_bulk = 536_870_912
 
--- the first line of a text: all of it with the bytes after its CR LF, all of it where the LF is still to come, its front where no CR has come, or nothing because no LF follows a CR
+-- the first line of a text: all of it with the bytes after its CR LF, all of it where the LF is still to come, its front where no CR has come, or none because no LF follows the CR
 pub data Line : Type 0 where
   ended : List ℕ → List ℕ → Line
   held : List ℕ → Line
@@ -60,21 +59,23 @@ pub record LineForm (A : Type 0) : Type 0 where
 abbrev pub fits : List ℕ → Bool
 fits l = nat_le (length l) max_line
 
+-- what a whole line stands for, and the bytes after it
 abbrev pub found : {A : Type 0} → Option A → List ℕ → Found A
 found (Some a) rest = read a rest
 found None rest = bad
 
--- a line read by its form
+-- what the first line of a text is, by its form
 abbrev pub line_found : {A : Type 0} → LineForm A → Line → Found A
 line_found form (ended l rest) = if fits l then found (form.whole l) rest else bad
 line_found form (held l) = if fits l && is_some (form.whole l) then short else bad
 line_found form (unended l) = if fits l && form.begun l then short else bad
 line_found form broken = bad
 
--- a line of this form
+-- a line of this form, and CR LF
 abbrev pub line_as : {A : Type 0} → LineForm A → List ℕ → Found A
 line_as form bs = line_found form (line bs)
 
+-- `0` to `9`
 abbrev pub is_digit : ℕ → Bool
 is_digit b = nat_le 48 b && nat_le b 57
 
@@ -83,6 +84,7 @@ abbrev pub digits_after : ℕ → List ℕ → Option ℕ
 digits_after n [] = Some n
 digits_after n (b ∷ bs) = if is_digit b then digits_after (10 * n + (b - 48)) bs else None
 
+-- a number within the limit
 abbrev pub at_most : ℕ → Option ℕ → Option ℕ
 at_most most None = None
 at_most most (Some n) = if nat_le n most then Some n else None
@@ -92,25 +94,25 @@ abbrev pub natural : ℕ → List ℕ → Option ℕ
 natural most [] = None
 natural most (b ∷ bs) = at_most most (digits_after 0 (b ∷ bs))
 
--- a number of 64 bits, with a sign or without
+-- a number of 64 bits with `-`, `+` or no sign; leading zeros are accepted
 abbrev pub number : List ℕ → Option ℤ
 number [] = None
 number (b ∷ bs) =
-  if b == 45 then option_map (λ n. neg_ℤ (pos n)) (natural 9_223_372_036_854_775_808 bs)
-  else if b == 43 then option_map pos (natural 9_223_372_036_854_775_807 bs)
-  else option_map pos (natural 9_223_372_036_854_775_807 (b ∷ bs))
+    if b == 45 then option_map (λ n. neg_ℤ (pos n)) (natural 9_223_372_036_854_775_808 bs)
+    else if b == 43 then option_map pos (natural 9_223_372_036_854_775_807 bs)
+    else option_map pos (natural 9_223_372_036_854_775_807 (b ∷ bs))
 
--- nothing, a sign, or a number
+-- the front of a number: nothing, a sign, or a number
 abbrev pub number_begun : List ℕ → Bool
 number_begun [] = true
 number_begun (b ∷ []) = (b == 45) || (b == 43) || is_some (number (b ∷ []))
 number_begun (b ∷ c ∷ bs) = is_some (number (b ∷ c ∷ bs))
 
--- the length of a bulk string, or none for `-1`
+-- the length of a bulk string, or none for `-1`, which stands for Nil
 abbrev pub size : List ℕ → Option (Option ℕ)
 size l = if bytes_eq l (45 ∷ 49 ∷ []) then Some None else option_map Some (natural max_bulk l)
 
--- nothing, `-`, or a length
+-- the front of a length: nothing, `-`, or a length
 abbrev pub size_begun : List ℕ → Bool
 size_begun [] = true
 size_begun (b ∷ []) = (b == 45) || is_some (size (b ∷ []))
@@ -134,38 +136,42 @@ body n bs = if nat_lt (length bs) n then short else closed (take n bs) (drop n b
 abbrev pub simple_of : List ℕ → Data
 simple_of l = if bytes_eq l (79 ∷ 75 ∷ []) then okay else simple l
 
+-- the bytes before the first space
 abbrev pub before_space : List ℕ → List ℕ
 before_space [] = []
 before_space (b ∷ bs) = if b == 32 then [] else b ∷ before_space bs
 
+-- the bytes after the first space, if there is one
 abbrev pub after_space : List ℕ → Option (List ℕ)
 after_space [] = None
 after_space (b ∷ bs) = if b == 32 then Some bs else after_space bs
 
--- the code of an error stands before the first space, and its detail after it
+-- an error's code stands before the first space, and its detail after it
 abbrev pub error_of : List ℕ → Data
 error_of l = error (record { code = before_space l; detail = after_space l })
 
--- `+`
+-- `+`: a simple string
 abbrev pub simple_line : LineForm Data
 simple_line = record { whole = λ l. Some (simple_of l); begun = λ l. true }
 
--- `-`
+-- `-`: an error
 abbrev pub error_line : LineForm Data
 error_line = record { whole = λ l. Some (error_of l); begun = λ l. true }
 
--- `:`
+-- `:`: a number
 abbrev pub number_line : LineForm Data
 number_line = record { whole = λ l. option_map int (number l); begun = number_begun }
 
+-- the line that announces how long a bulk string is
 abbrev pub size_line : LineForm (Option ℕ)
 size_line = record { whole = size; begun = size_begun }
 
+-- Nil, or a bulk string of that length
 abbrev pub bulk_of : Option ℕ → List ℕ → Found Data
 bulk_of None bs = read nil bs
 bulk_of (Some n) bs = found_map bulk (body n bs)
 
--- `$`: a length and so many bytes
+-- `$`: a length, and so many bytes
 abbrev pub bulk_string : List ℕ → Found Data
 bulk_string bs = found_and_then bulk_of (line_as size_line bs)
 
@@ -176,11 +182,11 @@ Table = List (ℕ × (List ℕ → Found Data))
 -- the forms that hold no values
 abbrev pub plain : Table
 plain =
-  (43, line_as simple_line)
-  ∷ (45, line_as error_line)
-  ∷ (58, line_as number_line)
-  ∷ (36, bulk_string)
-  ∷ []
+    (43, line_as simple_line)
+    ∷ (45, line_as error_line)
+    ∷ (58, line_as number_line)
+    ∷ (36, bulk_string)
+    ∷ []
 
 -- the forms that hold values, which inside reads
 abbrev pub nested : (List ℕ → Found Data) → Table
@@ -190,11 +196,12 @@ nested inside = []
 abbrev pub innermost : Table
 innermost = []
 
--- by the first byte; another begins no value
+-- by its first byte b, the form of the bytes after it; any other byte begins no value
 abbrev pub chosen : Table → ℕ → List ℕ → Found Data
 chosen [] b bs = bad
 chosen (f ∷ fs) b bs = if b == f.0 then f.1 bs else chosen fs b bs
 
+-- a value of the plain forms or of these
 abbrev pub form : Table → List ℕ → Found Data
 form more [] = short
 form more (b ∷ bs) = chosen (plain ++ more) b bs

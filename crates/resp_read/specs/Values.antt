@@ -14,11 +14,11 @@ abbrev pub values_within : ℕ → List ℕ → List Data
 values_within zero bs = []
 values_within (suc n) bs = first_and (values_within n) (parse max_depth bs)
 
--- each value takes a byte at least
+-- the values one after another; there are no more of them than bytes, since each takes one at least
 unfoldable pub values : List ℕ → List Data
 values bs = values_within (length bs) bs
 
--- bs itself, where no value was read
+-- what is left after what was read, or bs where nothing was
 abbrev pub past_first : (List ℕ → List ℕ) → List ℕ → Found Data → List ℕ
 past_first next bs (read v rest) = next rest
 past_first next bs short = bs
@@ -29,15 +29,16 @@ abbrev pub left_within : ℕ → List ℕ → List ℕ
 left_within zero bs = bs
 left_within (suc n) bs = past_first (left_within n) bs (parse max_depth bs)
 
--- what is left behind them
+-- what is left behind the values
 unfoldable pub left_over : List ℕ → List ℕ
 left_over bs = left_within (length bs) bs
 
+-- nothing can begin there
 abbrev pub is_bad : Found Data → Bool
 is_bad (read v rest) = false
 is_bad short = false
 is_bad bad = true
 
--- what is left behind them can never begin a value
+-- no value can begin with what is left behind the values
 unfoldable pub is_spoiled : List ℕ → Bool
 is_spoiled bs = is_bad (parse max_depth (left_over bs))

@@ -17,12 +17,23 @@ pub enum OneLine {
     Number,
 }
 
-/// Why no value was read.
-#[derive(Drop)]
+/// Why no value was read: more bytes are wanted, or none can help, or memory was refused.
+#[derive(Clone, Copy)]
 pub enum Refusal {
     Short,
     Bad,
     NoMemory,
+}
+
+impl From<AllocError> for Refusal {
+    ghost use Rattle.std.specs.Prelude.{◌≡◌};
+    ghost use Rattle.resp_read.specs.declared.forms.Refusal.TheVariants.{NoMemory};
+
+    ghost from_gives = { λ _ e. e ≡ NoMemory };
+
+    fn from(_error: AllocError) -> Self {
+        Refusal::NoMemory
+    }
 }
 
 /// The bytes not yet read.
@@ -97,13 +108,12 @@ fn line_value(alloc: Global, form: OneLine, input: &mut Input<'_>) -> Result<Val
             if !lines::fits(&left[..n]) {
                 return Err(Refusal::Bad);
             }
-            match value_of_line(alloc, form, &left[..n]) {
-                Ok(Some(value)) => {
+            match value_of_line(alloc, form, &left[..n])? {
+                Some(value) => {
                     input.left = &left[n + 2..];
                     Ok(value)
                 }
-                Ok(None) => Err(Refusal::Bad),
-                Err(_) => Err(Refusal::NoMemory),
+                None => Err(Refusal::Bad),
             }
         }
         LineEnd::Held(n) => {
@@ -179,25 +189,17 @@ fn body(alloc: Global, input: &mut Input<'_>, n: usize) -> Result<Bytes, Refusal
     if left[n + 1] != b'\n' {
         return Err(Refusal::Bad);
     }
-    match Bytes::from_slice(alloc, &left[..n]) {
-        Ok(bytes) => {
-            input.left = &left[n + 2..];
-            Ok(bytes)
-        }
-        Err(_) => Err(Refusal::NoMemory),
-    }
+    let bytes = Bytes::from_slice(alloc, &left[..n])?;
+    input.left = &left[n + 2..];
+    Ok(bytes)
 }
 
 fn bulk_string(alloc: Global, input: &mut Input<'_>) -> Result<Value, Refusal>
     ensures { IsFound data_of (bulk_string_of input.old.left.now) result input.new.left.now }
 {
-    match announced(input) {
-        Ok(None) => Ok(Value::Nil),
-        Ok(Some(n)) => match body(alloc, input, n as usize) {
-            Ok(bytes) => Ok(Value::BulkString(bytes)),
-            Err(refusal) => Err(refusal),
-        },
-        Err(refusal) => Err(refusal),
+    match announced(input)? {
+        None => Ok(Value::Nil),
+        Some(n) => Ok(Value::BulkString(body(alloc, input, n as usize)?)),
     }
 }
 

@@ -20,11 +20,23 @@ pub enum Health {
 }
 
 /// Why a reader gives no value.
-#[derive(Drop)]
+#[derive(Clone, Copy)]
 pub enum ReadError {
     /// The bytes begin no value.
     Parse,
+    /// Memory was refused, now or before.
     NoMemory,
+}
+
+impl From<AllocError> for ReadError {
+    ghost use Rattle.std.specs.Prelude.{◌≡◌};
+    ghost use Rattle.resp_read.specs.declared.reader.ReadError.TheVariants.{NoMemory};
+
+    ghost from_gives = { λ _ e. e ≡ NoMemory };
+
+    fn from(_error: AllocError) -> Self {
+        ReadError::NoMemory
+    }
 }
 
 /// Reads values from bytes that come in pieces.

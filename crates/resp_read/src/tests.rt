@@ -59,7 +59,11 @@ fn cut_there(
     reader.feed(&bytes[..cut])?;
     let early = next(alloc, &mut reader)?;
     let expected = if cut < at { "none" } else { want };
-    assert_eq!(rt; early.as_slice(), expected.as_bytes(), "{text:?} cut at {cut}");
+    assert_eq!(rt;
+        early.as_slice(),
+        expected.as_bytes(),
+        "{text:?} cut at {cut}"
+    );
     reader.feed(&bytes[cut..])?;
     if cut < at {
         let late = next(alloc, &mut reader)?;

@@ -1,7 +1,7 @@
 -- One more event of a history.
 use Rattle.std.proofs.Common.{◌≡◌, ℕ, ◌+◌, ◌-◌, ◌^◌, ◌<◌, ◌≤◌, List, [], ◌∷◌, ◌++◌, length, refl, sym, ◌∙◌, ap, append_assoc, false, arith, length-append}
-use Rattle.std.specs.Prelude.{Option}
-use Rattle.std.proofs.lemmas.List.{append-nil}
+use Rattle.std.specs.Prelude.{Option, Some, slice_get, take, true}
+use Rattle.std.proofs.lemmas.List.{append-nil, length-take-le}
 use Rattle.driver_model.specs.declared.action.Action.{Action}
 use Rattle.driver_model.specs.declared.config.Config.{Config}
 use Rattle.driver_model.specs.declared.event.Event.{Event}
@@ -9,7 +9,10 @@ use Rattle.driver_model.specs.declared.outcome.Outcome.{Outcome}
 use Rattle.shared_session.specs.declared.connection.Done.{Done}
 use Rattle.shared_session.specs.declared.core_state.Core.{Core}
 use Rattle.shared_session.specs.Turn.{quiet, turn, is_bad}
-use Rattle.shared_session.specs.Replay.{opening, run_on, state_after, actions_of, turns_on, trace_of, outcomes_with, outcomes_on, outcomes_after}
+use Rattle.shared_session.specs.Replay.{opening, run_on, state_after, actions_of, turns_on, trace_of, outcomes_with, outcomes_on, outcomes_after, AreGood, AreGoodOn, is_bad_after}
+use Rattle.shared_session.specs.Stops.{Shown, IsBadAt}
+use Rattle.shared_session.specs.declared.session.Failure.TheVariants.{Sound}
+use Rattle.shared_session.specs.History.{History}
 
 run_on-more : (c : Core) (es : List Event) (e : Event) → run_on c (es ++ e ∷ []) ≡ quiet (turn (run_on c es) e)
 run_on-more c [] e = refl
@@ -83,3 +86,54 @@ pub few_kept : (before : Core) (config : Config) (word : ℕ) (es fs : List Even
 few_kept before config word es fs e b t f =
     let n : before.turns ≡ 1 + length es = ap (λ (c : Core). c.turns) b ∙ turns_after config word es in
     omega (arith, n, ap length f, length-append es (e ∷ []))
+
+good_on-more : (c : Core) (es : List Event) (e : Event) → AreGoodOn c es → is_bad (run_on c es).connection e.kind ≡ false → AreGoodOn c (es ++ e ∷ [])
+good_on-more c [] e all good = (good, tt)
+good_on-more c (d ∷ es) e all good = (all.0, good_on-more (quiet (turn c d)) es e all.1 good)
+
+good-none : (config : Config) (word : ℕ) → AreGood config word []
+unfolding AreGood
+good-none config word = tt
+
+good-more : (config : Config) (word : ℕ) (es : List Event) (e : Event) → AreGood config word es → is_bad_after config word es e ≡ false → AreGood config word (es ++ e ∷ [])
+unfolding AreGood state_after
+good-more config word es e all good = good_on-more (quiet (opening config word)) es e all good
+
+-- what a replay keeps from event to event: the session has taken those events, and their turns were shown
+pub record Kept (config : Config) (word : ℕ) (taken : List Event) (before : List Action) (s : History) (after : List Action) : Type 0 where
+  pub made : s ≡ record { config = config; word = word; events = taken; failure = Sound }
+  pub shown : after ≡ before ++ trace_of config word taken
+  pub good : AreGood config word taken
+
+pub kept_none : (config : Config) (word : ℕ) (before after : List Action) (s : History) → s ≡ record { config = config; word = word; events = []; failure = Sound }
+    → after ≡ before ++ (opening config word).connection.acts → Kept config word [] before s after
+kept_none config word before after s m a = record {
+  made = m;
+  shown = a ∙ ap (λ (acts : List Action). before ++ acts) (sym (trace_of-none config word));
+  good = good-none config word }
+
+pub kept_more : (config : Config) (word : ℕ) (taken : List Event) (before after later : List Action) (s t : History) (e : Event) → Kept config word taken before s after
+    → t ≡ record s { events = s.events ++ e ∷ [] } → later ≡ after ++ actions_of (state_after s.config s.word s.events) e
+    → is_bad_after s.config s.word s.events e ≡ false → Kept config word (taken ++ e ∷ []) before t later
+kept_more config word taken before after later s t e h n a g =
+    let es : s.events ≡ taken = ap (λ (x : History). x.events) h.made in
+    let c : s.config ≡ config = ap (λ (x : History). x.config) h.made in
+    let w : s.word ≡ word = ap (λ (x : History). x.word) h.made in
+    record {
+      made = n ∙ ap (λ (x : History). record x { events = x.events ++ e ∷ [] }) h.made;
+      shown = a ∙ ap (λ (x : History). after ++ actions_of (state_after x.config x.word x.events) e) h.made ∙ ap (λ (acts : List Action). acts ++ actions_of (state_after config word taken) e) h.shown
+          ∙ append_assoc before (trace_of config word taken) (actions_of (state_after config word taken) e) ∙ ap (λ (acts : List Action). before ++ acts) (sym (trace_of-more config word taken e));
+      good = good-more config word taken e h.good (sym (ap (λ (x : History). is_bad_after x.config x.word x.events e) h.made) ∙ g) }
+
+-- the session of a replay has taken the first n events
+pub taken_count : (config : Config) (word : ℕ) (all : List Event) (n : ℕ) (before after : List Action) (s : History) → n ≤ length all → Kept config word (take n all) before s after → length s.events ≡ n
+taken_count config word all n before after s l h = ap (λ (x : History). length x.events) h.made ∙ length-take-le n all l
+
+-- a bad event ends a replay
+pub bad_stops : (config : Config) (word : ℕ) (all : List Event) (n k : ℕ) (before after later : List Action) (s t : History) (e : Event) →
+    n < length all → slice_get all n ≡ Some e → Kept config word (take n all) before s after → later ≡ after → t ≡ s → is_bad_after s.config s.word s.events e ≡ true
+    → k ≡ length t.events → Shown config word all before later k × IsBadAt config word all k
+bad_stops config word all n k before after later s t e l is h o u b c =
+    let count : k ≡ n = c ∙ ap (λ (x : History). length x.events) u ∙ taken_count config word all n before after s (omega arith) h in
+    let bad : is_bad_after config word (take n all) e ≡ true = sym (ap (λ (x : History). is_bad_after x.config x.word x.events e) h.made) ∙ b in
+    rw count (record { within = omega arith; shown = o ∙ h.shown; good = h.good }, record { event = e; stands = is; bad = bad })

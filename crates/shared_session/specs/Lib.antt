@@ -4,3 +4,4 @@ pub mod Turn
 pub mod Replay
 pub mod History
 pub mod IsReplay
+pub mod Stops

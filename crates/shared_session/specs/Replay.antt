@@ -1,5 +1,5 @@
 -- The state and the trace that a history leads to: a fold of one turn.
-use Rattle.std.specs.Prelude.{◌≡◌, ℕ, nat_lt, false, List, [], ◌∷◌, ◌++◌, length, Option, Some, None, slice_get, slice_set, if◌then◌else◌}
+use Rattle.std.specs.Prelude.{◌≡◌, ℕ, nat_lt, Bool, false, List, [], ◌∷◌, ◌++◌, length, Option, Some, None, slice_get, slice_set, if◌then◌else◌}
 use Rattle.driver_model.specs.declared.action.Action.{Action}
 use Rattle.driver_model.specs.declared.action.Action.TheVariants as action
 use Rattle.driver_model.specs.declared.action.Cause.TheVariants as cause
@@ -12,7 +12,7 @@ use Rattle.shared_session.specs.declared.connection.Done.{Done}
 use Rattle.shared_session.specs.declared.connection.Phase.TheVariants.{Dialing}
 use Rattle.shared_session.specs.declared.core_state.Core.{Core}
 use Rattle.shared_session.specs.Steps.{acts}
-use Rattle.shared_session.specs.Turn.{quiet, turn, is_bad, spends}
+use Rattle.shared_session.specs.Turn.{quiet, turn, is_bad}
 
 -- a queue of any size, and no boundary
 abbrev pub max_size : ℕ
@@ -80,8 +80,12 @@ outcome_at os n = if_placed (slice_get os n)
 
 abbrev pub AreGoodOn : Core → List Event → Type 0
 AreGoodOn c [] = Unit {0}
-AreGoodOn c (e ∷ es) = (is_bad c.connection e.kind ≡ false) × (spends c e ≡ false) × AreGoodOn (quiet (turn c e)) es
+AreGoodOn c (e ∷ es) = (is_bad c.connection e.kind ≡ false) × AreGoodOn (quiet (turn c e)) es
 
--- no event is bad, and no step is spent
+-- no event is bad
 unfoldable pub AreGood : Config → ℕ → List Event → Type 0
 AreGood config word events = AreGoodOn (quiet (opening config word)) events
+
+-- the event is bad after that history
+abbrev pub is_bad_after : Config → ℕ → List Event → Event → Bool
+is_bad_after config word events e = is_bad (state_after config word events).connection e.kind

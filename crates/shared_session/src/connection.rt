@@ -42,7 +42,6 @@ pub struct Waiting {
 }
 
 /// One multiplexed connection: its link, what was submitted, and the actions of the turn that runs.
-#[derive(Drop)]
 pub struct Connection {
     pub phase: Phase,
     /// Whether everything was shut down.
@@ -57,6 +56,27 @@ pub struct Connection {
     /// The outcomes of this turn.
     pub done: Queue<Done>,
     pub acts: Seq<Action>,
+}
+
+impl Drop for Connection {
+    fn drop(self) {
+        let Connection {
+            phase: _,
+            shut: _,
+            link,
+            requests,
+            waiting,
+            fresh,
+            done,
+            acts,
+        } = self;
+        drop(link);
+        drop(requests);
+        drop(waiting);
+        drop(fresh);
+        drop(done);
+        drop(acts);
+    }
 }
 
 impl Connection {

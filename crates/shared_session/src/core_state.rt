@@ -6,10 +6,19 @@ use driver_model::{Action, Cause, Event};
 use std::alloc::Global;
 
 /// The state of a session: how many turns it has made, the opening among them, and its connection.
-#[derive(Drop)]
 pub struct Core {
     pub turns: u64,
     pub connection: Connection,
+}
+
+impl Drop for Core {
+    fn drop(self) {
+        let Core {
+            turns: _,
+            connection,
+        } = self;
+        drop(connection);
+    }
 }
 
 impl Core {

@@ -7,6 +7,7 @@ mod connection;
 mod core_state;
 mod errors;
 mod flush;
+mod replaying;
 mod session;
 
 pub use connection::{Connection, Done, Phase, Progress, Waiting};

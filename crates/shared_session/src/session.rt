@@ -1,4 +1,4 @@
-ghost use Rattle.std.specs.Prelude.{◌≡◌, ◌<◌, ◌+◌, ◌^◌, ◌↔◌, [], ◌∷◌, ◌++◌, length, true, false, OnOk, OnErr, IfOk, IsErrOf, option_copied};
+ghost use Rattle.std.specs.Prelude.{◌≡◌, ℕ, ◌<◌, ◌+◌, ◌^◌, ◌↔◌, [], ◌∷◌, ◌++◌, length, true, false, OnOk, OnErr, IfOk, IsErrOf, option_copied};
 ghost use Rattle.shared_session.specs.Replay.{opening, with_room, put_each};
 
 use crate::connection::{Connection, Done, Phase};
@@ -21,7 +21,6 @@ pub enum Failure {
 }
 
 /// A session: the events that it has taken, and the state that they lead to. Contracts see its history.
-#[derive(Drop)]
 pub struct Session {
     config: Config,
     word: u64,
@@ -41,6 +40,23 @@ impl Model for Session {
     ghost use Rattle.shared_session.specs.IsReplay.{IsReplay};
 
     ghost invariant = { IsReplay };
+}
+
+impl Drop for Session {
+    fn drop(self) {
+        let Session {
+            config,
+            word: _,
+            events,
+            core,
+            outcomes,
+            failure: _,
+        } = self;
+        drop(config);
+        drop(events);
+        drop(core);
+        drop(outcomes);
+    }
 }
 
 /// The state after the opening, with its actions.
@@ -127,6 +143,7 @@ impl Session {
         ensures good { OnOk result (is_bad (state_after self.old.config self.old.word self.old.events).connection event.kind ≡ false) }
         ensures bad { IsErrOf result StepError.BadEvent ↔ ((self.old.failure ≡ Failure.Sound) × (is_bad (state_after self.old.config self.old.word self.old.events).connection event.kind ≡ true)) }
         ensures bad_same { IsErrOf result StepError.BadEvent → self.new ≡ self.old }
+        ensures spent { (n : ℕ) → IsErrOf result (StepError.Spent n) → n ≡ length self.old.events }
         ensures err { OnErr result (out.new.items ≡ out.old.items) }
         ensures kept { OnErr result (self.new ≡ record self.old { failure = self.new.failure }) }
     {

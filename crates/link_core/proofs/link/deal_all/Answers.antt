@@ -3,8 +3,8 @@ use Rattle.resp_value.specs.Data.{Data}
 use Rattle.resp_value.specs.View.{data_of}
 use Rattle.resp_read.specs.State.{ReaderState}
 use Rattle.resp_read.specs.Values.{values}
-use Rattle.resp_read.proofs.Meaning.{reads-shorter}
-use Rattle.resp_read.proofs.Many.{values-read, values-short, values-bad}
+use Rattle.resp_read.proofs.ReadLaws.{reads-shorter}
+use Rattle.resp_read.proofs.ValueLaws.{values-read, values-short, values-bad}
 use Rattle.link_core.specs.Dealing.{Dealing, dealt, dealt_each}
 use Rattle.link_core.proofs.link.deal_all.Goals as goal
 

@@ -1,4 +1,4 @@
-use Rattle.std.proofs.Common.{◌≡◌, ℕ, ◌-◌, ◌≤◌, List, length, take, drop, Err, inr, sym, ap, ◌∙◌, subst, arith, refl}
+use Rattle.std.proofs.Common.{◌≡◌, ℕ, ◌-◌, List, length, take, drop, Err, inr, sym, ap, ◌∙◌, subst, arith, refl}
 use Rattle.std.proofs.lemmas.List.{take_rest}
 use Rattle.resp_value.specs.Data.{Data}
 use Rattle.resp_value.specs.View.{data_of}
@@ -9,7 +9,7 @@ use Rattle.resp_read.specs.State.{ReaderState}
 use Rattle.resp_read.specs.declared.reader.Health.TheVariants.{Sound, Malformed}
 use Rattle.resp_read.specs.declared.forms.Refusal.{Refusal}
 use Rattle.resp_read.specs.declared.forms.Refusal.TheVariants.{Short, Bad}
-use Rattle.resp_read.proofs.Meaning.{left_at, prefix_from_short, malformed_from_bad}
+use Rattle.resp_read.proofs.ReadLaws.{left_at, prefix_from_short, malformed_from_bad}
 use Rattle.resp_read.proofs.reader.Reader.next_value.Goals as goal
 
 -- the text that was read is what the state has left

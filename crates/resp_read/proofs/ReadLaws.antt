@@ -5,7 +5,7 @@ use Rattle.std.specs.Prelude.{◌↔◌}
 use Rattle.resp_value.specs.Data.{Data}
 use Rattle.resp_read.specs.Grammar.{Found, read, short, bad, parse, max_depth}
 use Rattle.resp_read.specs.Reads.{Reads, IsProperPrefix, IsMalformed}
-use Rattle.resp_read.proofs.Parsing.{lawful_parse, takes_a_byte}
+use Rattle.resp_read.proofs.ParseLaws.{lawful_parse, takes_a_byte}
 
 -- a value stays when bytes follow
 pub reads-append : (bs m : List ℕ) (v : Data) (rest : List ℕ) → Reads bs v rest → Reads (bs ++ m) v (rest ++ m)

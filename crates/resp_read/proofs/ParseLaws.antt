@@ -1,9 +1,9 @@
 -- The laws of the whole grammar.
-use Rattle.std.proofs.Common.{◌≡◌, ℕ, zero, suc, ◌<◌, ◌≤◌, ◌-◌, List, [], ◌∷◌, ◌++◌, length, get_or, drop, refl, sym, ap, ◌∙◌, arith, length-append}
-use Rattle.std.specs.Prelude.{◌==◌, if◌then◌else◌}
+use Rattle.std.proofs.Common.{◌≡◌, ℕ, zero, suc, ◌<◌, List, [], ◌∷◌, ◌++◌, length, get_or, drop, refl, ap, arith, length-append}
+use Rattle.std.specs.Prelude.{◌==◌}
 use Rattle.resp_value.specs.Data.{Data, simple}
-use Rattle.resp_read.specs.Grammar.{Found, read, short, bad, Table, plain, nested, innermost, chosen, form, parse, line_as, simple_line, error_line, number_line, bulk_string}
-use Rattle.resp_read.proofs.Laws.{LawfulAt, Lawful, Possible, lawful_bad, lawful_if, lawful_cons, lawful_nil}
+use Rattle.resp_read.specs.Grammar.{Found, read, short, Table, plain, nested, innermost, chosen, form, parse, line_as, simple_line, error_line, number_line, bulk_string}
+use Rattle.resp_read.proofs.Laws.{Lawful, lawful_bad, lawful_if, lawful_cons, lawful_nil}
 use Rattle.resp_read.proofs.LineLaws.{lawful_line}
 use Rattle.resp_read.proofs.Numbers.{lawful_simple, lawful_error, lawful_number}
 use Rattle.resp_read.proofs.Bodies.{lawful_bulk_string}

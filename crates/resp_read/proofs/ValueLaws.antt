@@ -1,14 +1,10 @@
 -- The values at the front of a text, one by one, and when the text is cut.
-use Rattle.std.proofs.Common.{◌≡◌, ℕ, zero, suc, ◌≤◌, ◌<◌, List, [], ◌∷◌, ◌++◌, length, Bool, true, false, refl, sym, ap, ◌∙◌, arith}
+use Rattle.std.proofs.Common.{◌≡◌, ℕ, zero, suc, ◌≤◌, ◌<◌, List, [], ◌∷◌, ◌++◌, length, Bool, true, false, refl, sym, ap, ◌∙◌, subst, append_assoc, arith}
 use Rattle.resp_value.specs.Data.{Data}
 use Rattle.resp_read.specs.Grammar.{Found, read, short, bad, parse, max_depth}
 use Rattle.resp_read.specs.Values.{first_and, values_within, values, past_first, left_within, left_over, is_bad, is_spoiled}
-use Rattle.resp_read.proofs.Parsing.{empty_short}
-use Rattle.resp_read.proofs.Meaning.{reads-append, bad-append, reads-shorter}
-
--- a number of values that is large enough
-abbrev IsEnough : ℕ → List ℕ → Type 0
-IsEnough n bs = length bs ≤ n
+use Rattle.resp_read.proofs.ParseLaws.{empty_short}
+use Rattle.resp_read.proofs.ReadLaws.{reads-append, bad-append, reads-ends, reads-shorter}
 
 none_values : (n : ℕ) (bs : List ℕ) → length bs ≤ 0 → values_within n bs ≡ []
 none_values zero bs h = refl
@@ -82,12 +78,16 @@ values-bad bs e =
     let left = left_once bs ∙ ap (past_first (left_within (length bs)) bs) e in
     (values_once bs ∙ ap (first_and (values_within (length bs))) e, left, spoiled_where bs bad left e)
 
+-- an empty text
+pub values-empty : (values [] ≡ []) × (left_over [] ≡ []) × (is_spoiled [] ≡ false)
+values-empty = values-short [] (empty_short max_depth)
+
 -- where more bytes follow a text that is not spoiled
-pub record Goes (bs m : List ℕ) : Type 0 where
+record Goes (bs m : List ℕ) : Type 0 where
   pub values_go : values (bs ++ m) ≡ values bs ++ values (left_over bs ++ m)
   pub left_goes : left_over (bs ++ m) ≡ left_over (left_over bs ++ m)
   pub spoils : is_spoiled (bs ++ m) ≡ is_spoiled (left_over bs ++ m)
-  
+
 cut_by : (n : ℕ) (bs m : List ℕ) (x : Found Data) → parse max_depth bs ≡ x → length bs ≤ n → is_spoiled bs ≡ false → ((r : List ℕ) → length r < length bs → is_spoiled r ≡ false → Goes r m) → Goes bs m
 cut_by n bs m (read v r) is h sound later =
     let here = values-read bs v r is in
@@ -112,8 +112,14 @@ cut_within zero bs m h sound = cut_by zero bs m (parse max_depth bs) refl h soun
 cut_within (suc n) bs m h sound = cut_by (suc n) bs m (parse max_depth bs) refl h sound (λ r l s. cut_within n r m (omega arith) s)
 
 -- a text that is not spoiled, cut anywhere: its values, and then those of what was left and the rest
-pub values-cut : (bs m : List ℕ) → is_spoiled bs ≡ false → Goes bs m
-values-cut bs m sound = cut_within (length bs) bs m (omega arith) sound
+pub values-append : (bs m : List ℕ) → is_spoiled bs ≡ false → values (bs ++ m) ≡ values bs ++ values (left_over bs ++ m)
+values-append bs m sound = (cut_within (length bs) bs m (omega arith) sound).values_go
+
+pub left_over-append : (bs m : List ℕ) → is_spoiled bs ≡ false → left_over (bs ++ m) ≡ left_over (left_over bs ++ m)
+left_over-append bs m sound = (cut_within (length bs) bs m (omega arith) sound).left_goes
+
+pub is_spoiled-append : (bs m : List ℕ) → is_spoiled bs ≡ false → is_spoiled (bs ++ m) ≡ is_spoiled (left_over bs ++ m)
+is_spoiled-append bs m sound = (cut_within (length bs) bs m (omega arith) sound).spoils
 
 -- a spoiled text has no more values, and stays spoiled
 abbrev Stops : List ℕ → List ℕ → Type 0
@@ -137,3 +143,27 @@ stops_within (suc n) bs m h spoiled = stops_by bs m (parse max_depth bs) refl sp
 
 pub values-spoiled : (bs m : List ℕ) → is_spoiled bs ≡ true → (values (bs ++ m) ≡ values bs) × (is_spoiled (bs ++ m) ≡ true)
 values-spoiled bs m spoiled = stops_within (length bs) bs m (omega arith) spoiled
+
+-- what is left is the end of the text, and holds no value itself
+abbrev IsLeft : List ℕ → List ℕ → Type 0
+IsLeft bs left = ((p : List ℕ) × (bs ≡ p ++ left)) × (values left ≡ []) × (left_over left ≡ left) × (is_spoiled left ≡ is_spoiled bs)
+
+left_by : (bs : List ℕ) (x : Found Data) → parse max_depth bs ≡ x → ((r : List ℕ) → length r < length bs → IsLeft r (left_over r)) → IsLeft bs (left_over bs)
+left_by bs (read v r) is later =
+    let here = values-read bs v r is in
+    let g = later r (reads-shorter bs v r is) in
+    let front = reads-ends bs v r is in
+    let end : bs ≡ (front.0 ++ g.0.0) ++ left_over r = front.1 ∙ ap (λ x. front.0 ++ x) g.0.1 ∙ sym (append_assoc front.0 g.0.0 (left_over r)) in
+    subst (IsLeft bs) (sym here.1) ((front.0 ++ g.0.0, end), g.1, g.2, g.3 ∙ sym here.2)
+left_by bs short is later = let here = values-short bs is in subst (IsLeft bs) (sym here.1) (([], refl), here.0, here.1, refl)
+left_by bs bad is later = let here = values-bad bs is in subst (IsLeft bs) (sym here.1) (([], refl), here.0, here.1, refl)
+
+left_all : (n : ℕ) (bs : List ℕ) → length bs ≤ n → IsLeft bs (left_over bs)
+left_all zero bs h = left_by bs (parse max_depth bs) refl (λ r l. absurd (omega arith))
+left_all (suc n) bs h = left_by bs (parse max_depth bs) refl (λ r l. left_all n r (omega arith))
+
+pub left_over-end : (bs : List ℕ) → (p : List ℕ) × (bs ≡ p ++ left_over bs)
+left_over-end bs = (left_all (length bs) bs (omega arith)).0
+
+pub left_over-settled : (bs : List ℕ) → (values (left_over bs) ≡ []) × (left_over (left_over bs) ≡ left_over bs) × (is_spoiled (left_over bs) ≡ is_spoiled bs)
+left_over-settled bs = let h = left_all (length bs) bs (omega arith) in (h.1, h.2, h.3)

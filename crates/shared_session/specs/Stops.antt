@@ -1,0 +1,26 @@
+-- Where a replay stopped, and what it had shown by then.
+use Rattle.std.specs.Prelude.{◌≡◌, ◌⊎◌, ℕ, ◌≤◌, true, List, ◌++◌, length, take, Some, slice_get}
+use Rattle.driver_model.specs.declared.action.Action.{Action}
+use Rattle.driver_model.specs.declared.config.Config.{Config}
+use Rattle.driver_model.specs.declared.event.Event.{Event}
+use Rattle.shared_session.specs.declared.errors.ReplayError.{ReplayError}
+use Rattle.shared_session.specs.declared.errors.ReplayError.TheVariants.{BadEvent, Spent, NoMemory}
+use Rattle.shared_session.specs.Replay.{trace_of, AreGood, is_bad_after}
+
+-- the turns of the first n events were shown, behind what stood there before, and none of these events is bad
+pub record Shown (config : Config) (word : ℕ) (events : List Event) (before after : List Action) (n : ℕ) : Type 0 where
+  pub within : n ≤ length events
+  pub shown : after ≡ before ++ trace_of config word (take n events)
+  pub good : AreGood config word (take n events)
+
+-- the event at n is bad
+pub record IsBadAt (config : Config) (word : ℕ) (events : List Event) (n : ℕ) : Type 0 where
+  pub event : Event
+  pub stands : slice_get events n ≡ Some event
+  pub bad : is_bad_after config word (take n events) event ≡ true
+
+-- a bad event: the turns before it were shown. A number that ran out, or want of memory: the finished turns were shown
+abbrev pub Stops : ReplayError → Config → ℕ → List Event → List Action → List Action → Type 0
+Stops (BadEvent n) config word events before after = Shown config word events before after n × IsBadAt config word events n
+Stops (Spent n) config word events before after = Shown config word events before after n
+Stops NoMemory config word events before after = (after ≡ before) ⊎ ((n : ℕ) × Shown config word events before after n)

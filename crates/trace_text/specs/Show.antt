@@ -1,0 +1,95 @@
+-- The text of a trace: for each action the line of its words.
+use Rattle.std.specs.Prelude.{ℕ, ◌==◌, List, [], ◌∷◌, ◌++◌, codes, decimal, flat_map, if◌then◌else◌}
+use Rattle.std.specs.Str.{byte}
+use Rattle.resp_value.specs.View.{data_of}
+use Rattle.resp_value.specs.declared.redis_error.RedisError.{RedisError}
+use Rattle.resp_value.specs.declared.redis_error.RedisError.TheVariants as fault
+use Rattle.driver_model.specs.declared.config.Config.{Config}
+use Rattle.driver_model.specs.declared.event.Submission.{Submission}
+use Rattle.driver_model.specs.declared.event.Submission.TheVariants as submission
+use Rattle.driver_model.specs.declared.event.EventKind.{EventKind}
+use Rattle.driver_model.specs.declared.event.EventKind.TheVariants as event
+use Rattle.driver_model.specs.declared.action.Owner.{Owner}
+use Rattle.driver_model.specs.declared.action.Owner.TheVariants.{Try}
+use Rattle.driver_model.specs.declared.action.WaitKind.{WaitKind}
+use Rattle.driver_model.specs.declared.action.WaitKind.TheVariants as wait
+use Rattle.driver_model.specs.declared.action.Cause.{Cause}
+use Rattle.driver_model.specs.declared.action.Cause.TheVariants.{Opening, Event}
+use Rattle.driver_model.specs.declared.action.Action.{Action}
+use Rattle.driver_model.specs.declared.action.Action.TheVariants as action
+use Rattle.driver_model.specs.declared.outcome.Outcome.{Outcome}
+use Rattle.driver_model.specs.declared.outcome.Outcome.TheVariants.{One, Fault}
+use Rattle.resp_write.specs.Canonical.{canonical}
+use Rattle.trace_text.specs.Words.{line_of}
+
+-- `HOST:PORT`
+abbrev pub address : List ℕ → ℕ → List ℕ
+address host port = host ++ byte ":" ∷ decimal port
+
+-- the number of a submission
+abbrev pub submission_word : ℕ → List ℕ
+submission_word s = byte "s" ∷ decimal s
+
+-- a try of a submission: its number and its round
+abbrev pub owner_word : Owner → List ℕ
+owner_word (Try s round) = submission_word s ++ byte "." ∷ decimal round
+
+abbrev pub wait_word : WaitKind → List ℕ
+wait_word wait.Connect = codes "connect"
+
+abbrev pub error_word : RedisError → List ℕ
+error_word fault.EmptyCommand = codes "empty"
+error_word fault.Closed = codes "closed"
+error_word fault.Parse = codes "parse"
+
+-- the word that random draws come from, where it isn't 0
+abbrev pub draw_words : ℕ → List (List ℕ)
+draw_words w = if w == 0 then [] else (byte "@" ∷ decimal w) ∷ []
+
+-- no timers, and no setup
+abbrev pub bare_words : List (List ℕ)
+bare_words = codes "connect=none" ∷ codes "response=none" ∷ codes "lib=off" ∷ []
+
+-- where a connection goes
+unfoldable pub url : Config → List ℕ
+url c = codes "url=redis://" ++ address c.host c.port
+
+-- the config line of one multiplexed connection
+abbrev pub config_words : Config → List (List ℕ)
+config_words c = codes "config" ∷ codes "single" ∷ url c ∷ bare_words
+
+abbrev pub submission_words : Submission → List (List ℕ)
+submission_words (submission.Cmd args) = codes "cmd" ∷ args
+
+abbrev pub event_words : EventKind → List (List ℕ)
+event_words (event.Submit s) = codes "submit" ∷ submission_words s
+event_words (event.Cancel s) = codes "cancel" ∷ decimal s ∷ []
+event_words (event.Connected link) = codes "connected" ∷ decimal link ∷ []
+event_words (event.Wrote link count) = codes "wrote" ∷ decimal link ∷ decimal count ∷ []
+event_words (event.Bytes link piece) = codes "bytes" ∷ decimal link ∷ piece ∷ []
+event_words (event.Ended link) = codes "ended" ∷ decimal link ∷ []
+event_words event.Shutdown = codes "shutdown" ∷ []
+
+-- the opening is told by the config line, an event by its own
+abbrev pub cause_words : Cause → List (List ℕ)
+cause_words (Opening config w) = draw_words w ++ config_words config
+cause_words (Event e) = draw_words e.word ++ event_words e.kind
+
+abbrev pub outcome_words : Outcome → List (List ℕ)
+outcome_words (One value) = codes "ok" ∷ canonical (data_of value) ∷ []
+outcome_words (Fault error) = codes "err" ∷ error_word error ∷ []
+
+-- the words of an action, as they are before any escape
+abbrev pub words_of : Action → List (List ℕ)
+words_of (action.Turn number cause) = codes "turn" ∷ decimal number ∷ cause_words cause
+words_of (action.Connect link host port) = codes "connect" ∷ decimal link ∷ address host port ∷ []
+words_of (action.Close link) = codes "close" ∷ decimal link ∷ []
+words_of (action.Write link bytes) = codes "write" ∷ decimal link ∷ bytes ∷ []
+words_of (action.Wait owner kind) = codes "wait" ∷ owner_word owner ∷ wait_word kind ∷ []
+words_of (action.Start link message owner need len) = codes "start" ∷ decimal link ∷ decimal message ∷ owner_word owner ∷ decimal need ∷ decimal len ∷ []
+words_of action.Created = codes "created" ∷ codes "ok" ∷ []
+words_of (action.Outcome s outcome) = codes "outcome" ∷ submission_word s ∷ outcome_words outcome
+
+-- the text of a trace
+abbrev pub show : List Action → List ℕ
+show actions = flat_map (λ a. line_of (words_of a)) actions

@@ -1,0 +1,168 @@
+ghost use Rattle.std.specs.Prelude.{◌≡◌, ◌++◌, OnOk, OnErr, IfOk};
+ghost use Rattle.trace_text.specs.Words.{following, line_of};
+ghost use Rattle.trace_text.specs.Show.{show, words_of};
+
+use crate::writer::Writer;
+use containers::Bytes;
+use driver_model::{Action, Cause, Outcome, Owner, WaitKind};
+use std::alloc::{AllocError, Global};
+use std::mem;
+
+impl Writer {
+    fn turn(&mut self, alloc: Global, number: u32, cause: &Cause) -> Result<(), AllocError>
+        ensures before { self.new.before ≡ self.old.before }
+        ensures ok { OnOk result (self.new.line ≡ self.old.line ++ line_of (words_of (Action.Turn number cause.now))) }
+    {
+        self.first(b"turn")?;
+        self.number(u64::from(number))?;
+        self.cause(alloc, cause)?;
+        self.end_line()
+    }
+
+    fn connect(
+        &mut self,
+        alloc: Global,
+        link: u32,
+        host: &Bytes,
+        port: u16,
+    ) -> Result<(), AllocError>
+        ensures before { self.new.before ≡ self.old.before }
+        ensures ok { OnOk result (self.new.line ≡ self.old.line ++ line_of (words_of (Action.Connect link host.now port))) }
+    {
+        self.first(b"connect")?;
+        self.number(u64::from(link))?;
+        self.address(alloc, b"", host, port)?;
+        self.end_line()
+    }
+
+    fn close(&mut self, link: u32) -> Result<(), AllocError>
+        ensures before { self.new.before ≡ self.old.before }
+        ensures ok { OnOk result (self.new.line ≡ self.old.line ++ line_of (words_of (Action.Close link))) }
+    {
+        self.first(b"close")?;
+        self.number(u64::from(link))?;
+        self.end_line()
+    }
+
+    fn write(&mut self, link: u32, bytes: &Bytes) -> Result<(), AllocError>
+        ensures before { self.new.before ≡ self.old.before }
+        ensures ok { OnOk result (self.new.line ≡ self.old.line ++ line_of (words_of (Action.Write link bytes.now))) }
+    {
+        self.first(b"write")?;
+        self.number(u64::from(link))?;
+        self.word(bytes.as_slice())?;
+        self.end_line()
+    }
+
+    fn wait(&mut self, alloc: Global, owner: Owner, wait: WaitKind) -> Result<(), AllocError>
+        ensures before { self.new.before ≡ self.old.before }
+        ensures ok { OnOk result (self.new.line ≡ self.old.line ++ line_of (words_of (Action.Wait owner wait))) }
+    {
+        let WaitKind::Connect = wait;
+        self.first(b"wait")?;
+        self.owner(alloc, owner)?;
+        self.word(b"connect")?;
+        self.end_line()
+    }
+
+    fn start(
+        &mut self,
+        alloc: Global,
+        link: u32,
+        message: u32,
+        owner: Owner,
+        need: u64,
+        len: u64,
+    ) -> Result<(), AllocError>
+        ensures before { self.new.before ≡ self.old.before }
+        ensures ok { OnOk result (self.new.line ≡ self.old.line ++ line_of (words_of (Action.Start link message owner need len))) }
+    {
+        self.first(b"start")?;
+        self.number(u64::from(link))?;
+        self.number(u64::from(message))?;
+        self.owner(alloc, owner)?;
+        self.number(need)?;
+        self.number(len)?;
+        self.end_line()
+    }
+
+    fn created(&mut self) -> Result<(), AllocError>
+        ensures before { self.new.before ≡ self.old.before }
+        ensures ok { OnOk result (self.new.line ≡ self.old.line ++ line_of (words_of Action.Created)) }
+    {
+        self.first(b"created")?;
+        self.word(b"ok")?;
+        self.end_line()
+    }
+
+    fn answered(
+        &mut self,
+        alloc: Global,
+        submission: u32,
+        outcome: &Outcome,
+    ) -> Result<(), AllocError>
+        ensures before { self.new.before ≡ self.old.before }
+        ensures ok { OnOk result (self.new.line ≡ self.old.line ++ line_of (words_of (Action.Outcome submission outcome.now))) }
+    {
+        self.first(b"outcome")?;
+        self.submission(alloc, submission)?;
+        self.outcome(alloc, outcome)?;
+        self.end_line()
+    }
+
+    /// The line of an action.
+    fn action(&mut self, alloc: Global, action: &Action) -> Result<(), AllocError>
+        ensures before { self.new.before ≡ self.old.before }
+        ensures ok { OnOk result (self.new.line ≡ self.old.line ++ line_of (words_of action.now)) }
+    {
+        match action {
+            Action::Turn { number, cause } => self.turn(alloc, *number, cause),
+            Action::Connect { link, host, port } => self.connect(alloc, *link, host, *port),
+            Action::Close { link } => self.close(*link),
+            Action::Write { link, bytes } => self.write(*link, bytes),
+            Action::Wait { owner, wait } => self.wait(alloc, *owner, *wait),
+            Action::Start {
+                link,
+                message,
+                owner,
+                need,
+                len,
+            } => self.start(alloc, *link, *message, *owner, *need, *len),
+            Action::Created => self.created(),
+            Action::Outcome {
+                submission,
+                outcome,
+            } => self.answered(alloc, *submission, outcome),
+        }
+    }
+}
+
+/// Appends the line of an action. An error leaves the text as it was.
+pub fn append_action(alloc: Global, out: &mut Bytes, action: &Action) -> Result<(), AllocError>
+    ensures ok { OnOk result (out.new ≡ out.old ++ line_of (words_of action.now)) }
+    ensures err { OnErr result (out.new ≡ out.old) }
+{
+    let text = mem::replace(out, Bytes::new(alloc));
+    let mut writer = Writer::new(text);
+    match writer.action(alloc, action) {
+        Ok(()) => {
+            *out = writer.finish();
+            Ok(())
+        }
+        Err(error) => {
+            *out = writer.give_up();
+            Err(error)
+        }
+    }
+}
+
+/// The text of a trace.
+pub fn show(alloc: Global, actions: &[Action]) -> Result<Bytes, AllocError>
+    ensures { IfOk result (λ text. text ≡ show actions.now) }
+{
+    let mut text = Bytes::new(alloc);
+    for action in actions {
+        append_action(alloc, &mut text, action)?;
+    }
+    Ok(text)
+}

@@ -1,0 +1,14 @@
+//! The text of a trace: a line of words for each action.
+#![tactic(auto)]
+
+mod actions;
+mod causes;
+mod names;
+mod outcomes;
+mod words;
+mod writer;
+
+pub use actions::{append_action, show};
+
+#[cfg(test)]
+mod tests;

@@ -1,0 +1,61 @@
+ghost use Rattle.std.specs.Prelude.{◌≡◌, ◌++◌, ◌∷◌, [], OnOk};
+ghost use Rattle.trace_text.specs.Words.{following};
+ghost use Rattle.trace_text.specs.Show.{address, draw_words, owner_word, submission_word};
+
+use crate::writer::Writer;
+use containers::Bytes;
+use driver_model::Owner;
+use itoa::Buffer;
+use std::alloc::{AllocError, Global};
+
+impl Writer {
+    /// One more word: a host and a port behind a lead.
+    pub fn address(
+        &mut self,
+        alloc: Global,
+        lead: &[u8],
+        host: &Bytes,
+        port: u16,
+    ) -> Result<(), AllocError>
+        ensures before { self.new.before ≡ self.old.before }
+        ensures ok { OnOk result (self.new.line ≡ self.old.line ++ following ((lead.now ++ address host.now port) ∷ [])) }
+    {
+        let mut digits = Buffer::new();
+        let mut word = Bytes::from_slice(alloc, lead)?;
+        word.extend_from_slice(host.as_slice())?;
+        word.push(b':')?;
+        word.extend_from_slice(digits.format(port).as_bytes())?;
+        self.word(word.as_slice())
+    }
+
+    /// One more word: a submission.
+    pub fn submission(&mut self, alloc: Global, submission: u32) -> Result<(), AllocError>
+        ensures before { self.new.before ≡ self.old.before }
+        ensures ok { OnOk result (self.new.line ≡ self.old.line ++ following (submission_word submission ∷ [])) }
+    {
+        let word = format!(in alloc; "s{submission}")?;
+        self.word(word.as_bytes())
+    }
+
+    /// One more word: a try of a submission.
+    pub fn owner(&mut self, alloc: Global, owner: Owner) -> Result<(), AllocError>
+        ensures before { self.new.before ≡ self.old.before }
+        ensures ok { OnOk result (self.new.line ≡ self.old.line ++ following (owner_word owner ∷ [])) }
+    {
+        let Owner::Try { submission, round } = owner;
+        let word = format!(in alloc; "s{submission}.{round}")?;
+        self.word(word.as_bytes())
+    }
+
+    /// The word that random draws come from, where it isn't 0.
+    pub fn draw(&mut self, alloc: Global, number: u64) -> Result<(), AllocError>
+        ensures before { self.new.before ≡ self.old.before }
+        ensures ok { OnOk result (self.new.line ≡ self.old.line ++ following (draw_words number)) }
+    {
+        if number == 0 {
+            return Ok(());
+        }
+        let word = format!(in alloc; "@{number}")?;
+        self.word(word.as_bytes())
+    }
+}

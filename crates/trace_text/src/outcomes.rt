@@ -1,0 +1,45 @@
+ghost use Rattle.std.specs.Prelude.{◌≡◌, ◌++◌, OnOk};
+ghost use Rattle.trace_text.specs.Words.{following};
+ghost use Rattle.trace_text.specs.Show.{error_word, outcome_words};
+
+use crate::writer::Writer;
+use driver_model::Outcome;
+use resp_value::{RedisError, Value};
+use resp_write::canonical_text;
+use std::alloc::{AllocError, Global};
+
+/// The word of an error.
+fn error_word(error: &RedisError) -> &'static [u8]
+    ensures { result.now ≡ error_word error.now }
+{
+    match error {
+        RedisError::EmptyCommand => b"empty",
+        RedisError::Closed => b"closed",
+        RedisError::Parse => b"parse",
+    }
+}
+
+impl Writer {
+    /// The words of what a submission came to.
+    pub fn outcome(&mut self, alloc: Global, outcome: &Outcome) -> Result<(), AllocError>
+        ensures before { self.new.before ≡ self.old.before }
+        ensures ok { OnOk result (self.new.line ≡ self.old.line ++ following (outcome_words outcome.now)) }
+    {
+        match outcome {
+            Outcome::One(value) => self.reply(alloc, value),
+            Outcome::Fault(error) => {
+                self.word(b"err")?;
+                self.word(error_word(error))
+            }
+        }
+    }
+
+    fn reply(&mut self, alloc: Global, value: &Value) -> Result<(), AllocError>
+        ensures before { self.new.before ≡ self.old.before }
+        ensures ok { OnOk result (self.new.line ≡ self.old.line ++ following (outcome_words (Outcome.One value.now))) }
+    {
+        let text = canonical_text(alloc, value)?;
+        self.word(b"ok")?;
+        self.word(text.as_slice())
+    }
+}

@@ -1,0 +1,197 @@
+use super::{append_action, show};
+use containers::{Bytes, Names, Seq};
+use driver_model::{Action, Cause, Config, Event, EventKind, Outcome, Owner, Submission, WaitKind};
+use resp_value::{RedisError, Value};
+use std::alloc::{AllocError, Global};
+
+/// A request that is answered, and the same with a reply that is none.
+const ANSWERED: &[u8] = b"turn 0 config single url=redis://h:6379 connect=none response=none lib=off
+connect 0 h:6379
+turn 1 connected 0
+created ok
+turn 2 submit cmd GET a
+start 0 0 s0.0 1 20
+write 0 *2%0D%0A$3%0D%0AGET%0D%0A$1%0D%0Aa%0D%0A
+turn 3 wrote 0 20
+turn 4 bytes 0 +x%0D%0A
+outcome s0 ok +x%0D%0A
+";
+
+const REFUSED: &[u8] = b"turn 0 config single url=redis://h:6379 connect=none response=none lib=off
+connect 0 h:6379
+turn 1 connected 0
+created ok
+turn 2 submit cmd GET a
+start 0 0 s0.0 1 20
+write 0 *2%0D%0A$3%0D%0AGET%0D%0A$1%0D%0Aa%0D%0A
+turn 3 bytes 0 ?x%0D%0A
+close 0
+outcome s0 err parse
+";
+
+/// What these two do not show.
+const OTHERS: &[u8] =
+    b"turn 0 @18446744073709551615 config single url=redis://%25-:0 connect=none response=none lib=off
+turn 5 @7 submit cmd %- %3B ;; %20 %25
+turn 6 submit cmd
+turn 7 cancel 3
+turn 8 ended 2
+turn 9 shutdown
+wait s4294967295.1 connect
+outcome s1 err closed
+outcome s2 err empty
+outcome s3 ok $0%0D%0A%0D%0A
+";
+
+fn bytes(alloc: Global, text: &[u8]) -> Result<Bytes, AllocError> {
+    Bytes::from_slice(alloc, text)
+}
+
+fn opening(alloc: Global, host: &[u8], port: u16, word: u64) -> Result<Action, AllocError> {
+    let host = bytes(alloc, host)?;
+    let config = Config { host, port };
+    let cause = Cause::Opening { config, word };
+    Ok(Action::Turn { number: 0, cause })
+}
+
+fn turn(number: u32, word: u64, kind: EventKind) -> Action {
+    let event = Event { word, kind };
+    let cause = Cause::Event { event };
+    Action::Turn { number, cause }
+}
+
+fn submit(alloc: Global, words: &[&[u8]]) -> Result<EventKind, AllocError> {
+    let mut args = Names::new(alloc);
+    for word in words {
+        args.push(bytes(alloc, word)?)?;
+    }
+    let submission = Submission::Cmd { args };
+    Ok(EventKind::Submit { submission })
+}
+
+fn begin(alloc: Global, actions: &mut Seq<Action>) -> Result<(), AllocError> {
+    actions.push(opening(alloc, b"h", 6379, 0)?)?;
+    let host = bytes(alloc, b"h")?;
+    let port = 6379;
+    actions.push(Action::Connect {
+        link: 0,
+        host,
+        port,
+    })?;
+    actions.push(turn(1, 0, EventKind::Connected { link: 0 }))?;
+    actions.push(Action::Created)?;
+    actions.push(turn(2, 0, submit(alloc, &[b"GET", b"a"])?))?;
+    let owner = Owner::Try {
+        submission: 0,
+        round: 0,
+    };
+    actions.push(Action::Start {
+        link: 0,
+        message: 0,
+        owner,
+        need: 1,
+        len: 20,
+    })?;
+    let packed = bytes(alloc, b"*2\r\n$3\r\nGET\r\n$1\r\na\r\n")?;
+    actions.push(Action::Write {
+        link: 0,
+        bytes: packed,
+    })
+}
+
+fn answered(alloc: Global, actions: &mut Seq<Action>) -> Result<(), AllocError> {
+    begin(alloc, actions)?;
+    actions.push(turn(3, 0, EventKind::Wrote { link: 0, count: 20 }))?;
+    let piece = bytes(alloc, b"+x\r\n")?;
+    actions.push(turn(4, 0, EventKind::Bytes { link: 0, piece }))?;
+    let outcome = Outcome::One(Value::SimpleString(bytes(alloc, b"x")?));
+    actions.push(Action::Outcome {
+        submission: 0,
+        outcome,
+    })
+}
+
+fn refused(alloc: Global, actions: &mut Seq<Action>) -> Result<(), AllocError> {
+    begin(alloc, actions)?;
+    let piece = bytes(alloc, b"?x\r\n")?;
+    actions.push(turn(3, 0, EventKind::Bytes { link: 0, piece }))?;
+    actions.push(Action::Close { link: 0 })?;
+    let outcome = Outcome::Fault(RedisError::Parse);
+    actions.push(Action::Outcome {
+        submission: 0,
+        outcome,
+    })
+}
+
+fn others(alloc: Global, actions: &mut Seq<Action>) -> Result<(), AllocError> {
+    actions.push(opening(alloc, b"%-", 0, u64::MAX)?)?;
+    actions.push(turn(5, 7, submit(alloc, &[b"", b";", b";;", b" ", b"%"])?))?;
+    actions.push(turn(6, 0, submit(alloc, &[])?))?;
+    actions.push(turn(7, 0, EventKind::Cancel { submission: 3 }))?;
+    actions.push(turn(8, 0, EventKind::Ended { link: 2 }))?;
+    actions.push(turn(9, 0, EventKind::Shutdown))?;
+    let owner = Owner::Try {
+        submission: u32::MAX,
+        round: 1,
+    };
+    actions.push(Action::Wait {
+        owner,
+        wait: WaitKind::Connect,
+    })?;
+    let outcome = Outcome::Fault(RedisError::Closed);
+    actions.push(Action::Outcome {
+        submission: 1,
+        outcome,
+    })?;
+    let outcome = Outcome::Fault(RedisError::EmptyCommand);
+    actions.push(Action::Outcome {
+        submission: 2,
+        outcome,
+    })?;
+    let outcome = Outcome::One(Value::BulkString(Bytes::new(alloc)));
+    actions.push(Action::Outcome {
+        submission: 3,
+        outcome,
+    })
+}
+
+#[test]
+fn traces_have_text(rt: HostRuntime) -> Result<(), AllocError> {
+    let alloc = rt.alloc();
+    let mut actions = Seq::new(alloc);
+    answered(alloc, &mut actions)?;
+    assert_eq!(rt; show(alloc, actions.as_slice())?.as_slice(), ANSWERED);
+    actions.truncate(0);
+    refused(alloc, &mut actions)?;
+    assert_eq!(rt; show(alloc, actions.as_slice())?.as_slice(), REFUSED);
+    actions.truncate(0);
+    others(alloc, &mut actions)?;
+    assert_eq!(rt; show(alloc, actions.as_slice())?.as_slice(), OTHERS);
+    Ok(())
+}
+
+#[test]
+fn each_byte_has_a_word(rt: HostRuntime) -> Result<(), AllocError> {
+    let alloc = rt.alloc();
+    let mut text = Bytes::new(alloc);
+    for byte in 0..=255u8 {
+        let written = bytes(alloc, &[byte])?;
+        text.clear();
+        append_action(
+            alloc,
+            &mut text,
+            &Action::Write {
+                link: 9,
+                bytes: written,
+            },
+        )?;
+        let visible = (0x21..=0x7E).contains(&byte) && byte != b'%' && byte != b';';
+        let wanted = if visible {
+            format!(in alloc; "write 9 {}\n", char::from(byte))?
+        } else {
+            format!(in alloc; "write 9 %{byte:02X}\n")?
+        };
+        assert_eq!(rt; text.as_slice(), wanted.as_bytes());
+    }
+    Ok(())
+}
