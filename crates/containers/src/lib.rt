@@ -5,6 +5,8 @@ mod bytes;
 mod names;
 mod queue;
 mod seq;
+#[cfg(test)]
+mod tests;
 
 pub use bytes::Bytes;
 pub use names::Names;

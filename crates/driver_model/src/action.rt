@@ -30,15 +30,30 @@ pub enum WaitKind {
 #[derive(Drop)]
 pub enum Action {
     /// A turn begins. The opening is turn 0, the first event turn 1.
-    Turn { number: u32, cause: Cause },
+    Turn {
+        number: u32,
+        cause: Cause,
+    },
     /// A link is to be connected.
-    Connect { link: u32, host: Bytes, port: u16 },
+    Connect {
+        link: u32,
+        host: Bytes,
+        port: u16,
+    },
     /// The link ended, or is to be closed.
-    Close { link: u32 },
+    Close {
+        link: u32,
+    },
     /// All unwritten bytes of the link are offered.
-    Write { link: u32, bytes: Bytes },
+    Write {
+        link: u32,
+        bytes: Bytes,
+    },
     /// A request waits.
-    Wait { owner: Owner, wait: WaitKind },
+    Wait {
+        owner: Owner,
+        wait: WaitKind,
+    },
     /// A message starts: the messages of a link are numbered from 0; how many items it takes, and how many bytes it has.
     Start {
         link: u32,
@@ -50,7 +65,10 @@ pub enum Action {
     /// The first link is ready.
     Created,
     /// A submission is answered.
-    Outcome { submission: u32, outcome: Outcome },
+    Outcome {
+        submission: u32,
+        outcome: Outcome,
+    },
 }
 
 impl Cause {

@@ -5,6 +5,8 @@ mod action;
 mod config;
 mod event;
 mod outcome;
+#[cfg(test)]
+mod tests;
 
 pub use action::{Action, Cause, Owner, WaitKind};
 pub use config::Config;

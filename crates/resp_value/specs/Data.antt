@@ -1,7 +1,7 @@
 -- What a value is: the tree that contracts see inside an aggregate.
 use Rattle.resp_value.specs.declared.push_kind.PushKind.{PushKind}
 use Rattle.resp_value.specs.declared.server_error.ServerError.{ServerError}
-use Rattle.std.specs.Prelude.{ℕ, suc, ◌+◌, ℤ, Bool, List, [], ◌∷◌, Option}
+use Rattle.std.specs.Prelude.{ℕ, suc, ◌+◌, ℤ, Bool, List, [], ◌∷◌}
 
 mutual
   pub data Data : Type 0 where

@@ -4,6 +4,8 @@
 mod push_kind;
 mod redis_error;
 mod server_error;
+#[cfg(test)]
+mod tests;
 mod value;
 
 pub use push_kind::PushKind;

@@ -1,0 +1,76 @@
+-- Which configuration the words of a line are.
+use Rattle.std.specs.Prelude.{ℕ, Bool, false, ◌&&◌, ◌||◌, ◌==◌, List, [], ◌∷◌, ◌++◌, take, drop, Option, Some, None, option_map, option_and_then, bytes_eq, codes, if◌then◌else◌}
+use Rattle.std.specs.Option.{option_to_list}
+use Rattle.std.specs.List.{list_all, list_any}
+use Rattle.std.specs.Char.{is_ascii_lowercase, is_ascii_digit}
+use Rattle.driver_model.specs.declared.config.Config.{Config}
+use Rattle.script_text.specs.Words.{cut_at}
+use Rattle.script_text.specs.Numbers.{number, max_u16}
+use Rattle.script_text.specs.EventLine.{Forms, by_first}
+
+-- the key is one of these
+abbrev pub has_key : List (List ℕ) → Option (List ℕ × List ℕ) → Bool
+has_key keys None = false
+has_key keys (Some c) = list_any (bytes_eq c.0) keys
+
+-- the word is KEY=VALUE, cut at the first `=`, with one of these keys
+abbrev pub is_setting : List (List ℕ) → List ℕ → Bool
+is_setting keys word = has_key keys (cut_at 61 word)
+
+-- the value that a word gives the key, if it gives it one
+abbrev pub value_of : List ℕ → List ℕ → Option (List ℕ)
+value_of key word = option_and_then (λ c. if bytes_eq c.0 key then Some c.1 else None) (cut_at 61 word)
+
+-- all values that words give the key
+abbrev pub values : List ℕ → List (List ℕ) → List (List ℕ)
+values key [] = []
+values key (word ∷ words) = option_to_list (value_of key word) ++ values key words
+
+-- the one of a list of one
+abbrev pub only : {A : Type 0} → List A → Option A
+only (a ∷ []) = Some a
+only _ = None
+
+-- there is a value, and it is this text
+abbrev pub is_value : Option (List ℕ) → List ℕ → Bool
+is_value None text = false
+is_value (Some value) text = bytes_eq value text
+
+-- the words give the key just one value, and it is this one
+abbrev pub gives : List (List ℕ) → List ℕ → List ℕ → Bool
+gives words key value = is_value (only (values key words)) value
+
+-- a-z, 0-9, `.` or `-`
+abbrev pub is_host_byte : ℕ → Bool
+is_host_byte b = is_ascii_lowercase b || is_ascii_digit b || b == 46 || b == 45
+
+-- one or more of these
+abbrev pub is_host : List ℕ → Bool
+is_host [] = false
+is_host (b ∷ bs) = list_all is_host_byte (b ∷ bs)
+
+-- the two sides of the colon
+abbrev pub host_and_port : List ℕ × List ℕ → Option Config
+host_and_port c = if is_host c.0 then option_map (λ port. record { host = c.0; port = port }) (number max_u16 c.1) else None
+
+-- redis://HOST:PORT
+abbrev pub address : List ℕ → Option Config
+address url = if bytes_eq (take 8 url) (codes "redis://") then option_and_then host_and_port (cut_at 58 (drop 8 url)) else None
+
+-- the keys of one connection
+abbrev pub keys : List (List ℕ)
+keys = codes "url" ∷ codes "connect" ∷ codes "response" ∷ codes "lib" ∷ []
+
+-- one connection: each key just once, in any order, all but the address with the only value that there is
+abbrev pub single : List (List ℕ) → Option Config
+single words =
+    if list_all (is_setting keys) words && gives words (codes "connect") (codes "none") && gives words (codes "response") (codes "none") && gives words (codes "lib") (codes "off")
+    then option_and_then address (only (values (codes "url") words)) else None
+
+-- the kinds of sessions
+abbrev pub kinds : Forms Config
+kinds = (codes "single", single) ∷ []
+
+-- a configuration; its word is 0
+unfoldable pub config_of : List (List ℕ) → Option Config
+config_of words = by_first ((codes "config", by_first kinds) ∷ []) words

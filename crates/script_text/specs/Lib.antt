@@ -1,0 +1,7 @@
+pub mod ConfigLine
+pub mod Cursor
+pub mod EventLine
+pub mod Limits
+pub mod Numbers
+pub mod Script
+pub mod Words

@@ -1,0 +1,23 @@
+-- Numbers in decimal.
+use Rattle.std.specs.Prelude.{ℕ, Bool, false, not, ◌&&◌, ◌||◌, ◌==◌, nat_le, List, [], ◌∷◌, length, Option, Some, None, if◌then◌else◌}
+use Rattle.std.specs.Str.{all_ascii_digits}
+use Rattle.std.specs.Str.Parse.{digits_value}
+
+-- digits, the first of them no 0 unless it is the only one
+abbrev pub is_decimal : List ℕ → Bool
+is_decimal [] = false
+is_decimal (d ∷ ds) = all_ascii_digits (d ∷ ds) && (not (d == 48) || length ds == 0)
+
+-- the number that a word is, if it is one of at most that
+abbrev pub number : ℕ → List ℕ → Option ℕ
+number most word = if is_decimal word && nat_le (digits_value 10 word) most then Some (digits_value 10 word) else None
+
+-- the greatest numbers of 16, 32 and 64 bits
+abbrev pub max_u16 : ℕ
+max_u16 = 65_535
+
+abbrev pub max_u32 : ℕ
+max_u32 = 4_294_967_295
+
+abbrev pub max_u64 : ℕ
+max_u64 = 18_446_744_073_709_551_615

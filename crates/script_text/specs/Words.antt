@@ -1,0 +1,42 @@
+-- How a text is cut into lines and a line into words, and which bytes a word stands for.
+use Rattle.std.specs.Prelude.{ℕ, Bool, true, false, not, ◌&&◌, ◌||◌, ◌==◌, List, [], ◌∷◌, map, Option, Some, None, option_map, bytes_eq, codes, if◌then◌else◌}
+use Rattle.std.specs.List.{slice_split}
+use Rattle.std.specs.Char.{is_digit}
+use Rattle.percent_encoding.specs.Percent.{percent_decode}
+
+-- the parts between the bytes b: one more than there are such bytes
+abbrev pub parts : ℕ → List ℕ → List (List ℕ)
+parts b bytes = slice_split (λ x. x == b) bytes
+
+-- what stands before the first byte b, and what stands behind it
+abbrev pub cut_at : ℕ → List ℕ → Option (List ℕ × List ℕ)
+cut_at b [] = None
+cut_at b (x ∷ xs) = if x == b then Some ([], xs) else option_map (λ c. (x ∷ c.0, c.1)) (cut_at b xs)
+
+-- two hexadecimal digits, of either case, and anything behind them
+abbrev pub begins_with_hex : List ℕ → Bool
+begins_with_hex [] = false
+begins_with_hex (high ∷ []) = false
+begins_with_hex (high ∷ low ∷ rest) = is_digit high 16 && is_digit low 16
+
+-- behind each `%` stand two hexadecimal digits
+abbrev pub is_well_escaped : List ℕ → Bool
+is_well_escaped [] = true
+is_well_escaped (b ∷ rest) = (not (b == 37) || begins_with_hex rest) && is_well_escaped rest
+
+-- the bytes that a word stands for: no byte for `%-`, else each escape is its byte; nothing at all and `;` are no words
+unfoldable pub unescaped : List ℕ → Option (List ℕ)
+unescaped raw =
+    if bytes_eq raw [] || bytes_eq raw (codes ";") then None else (
+    if bytes_eq raw (codes "%-") then Some [] else (
+    if is_well_escaped raw then Some (percent_decode raw) else None))
+
+-- all of them, if none is missing
+abbrev pub all_of : {A : Type 0} → List (Option A) → Option (List A)
+all_of [] = Some []
+all_of (None ∷ rest) = None
+all_of (Some x ∷ rest) = option_map (λ xs. x ∷ xs) (all_of rest)
+
+-- the words of a line: its parts between spaces
+unfoldable pub words_of_line : List ℕ → Option (List (List ℕ))
+words_of_line line = all_of (map unescaped (parts 32 line))

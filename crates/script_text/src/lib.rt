@@ -1,0 +1,18 @@
+//! The text of scripts: a line with the configuration, a line for each event, and a last line `end`.
+//!
+//! Lines end with LF, and one space stands between two words. In a word `%` and two hexadecimal digits are a byte, and
+//! `%-` is the word of no bytes. Words are compared once they are read so.
+#![tactic(auto)]
+
+mod config_line;
+mod event_line;
+mod intake;
+mod number;
+mod script;
+mod words;
+
+pub use intake::Intake;
+pub use script::{Script, ScriptError, read_script};
+
+#[cfg(test)]
+mod tests;

@@ -1,0 +1,59 @@
+ghost use Rattle.std.specs.Prelude.{◌≡◌, ◌≤◌, ◌<◌, ◌+◌, ◌*◌, IfSome};
+ghost use Rattle.std.specs.Option.{SomeIff};
+ghost use Rattle.script_text.specs.Numbers.{number as number_of, max_u16, max_u32, max_u64};
+
+/// A number with one more digit, if it is one of at most that.
+fn with_digit(n: u64, digit: u64, most: u64) -> Option<u64>
+    requires { digit < 10 }
+    ensures { SomeIff result (10 * n + digit ≤ most) (10 * n + digit) }
+{
+    if n <= most / 10 && digit <= most - 10 * n {
+        Some(10 * n + digit)
+    } else {
+        None
+    }
+}
+
+/// The number that a word is, if it is one of at most that.
+fn number(word: &[u8], most: u64) -> Option<u64>
+    ensures is { result ≡ number_of most word.now }
+    ensures fits { IfSome result (λ n. n ≤ most) }
+{
+    let [first, rest @ ..] = word else {
+        return None;
+    };
+    if *first == b'0' && !rest.is_empty() {
+        return None;
+    }
+    let mut n = 0u64;
+    for byte in word {
+        if !byte.is_ascii_digit() {
+            return None;
+        }
+        n = with_digit(n, u64::from(*byte - b'0'), most)?;
+    }
+    Some(n)
+}
+
+/// The number that a word is, of at most 32 bits.
+pub fn number_u32(word: &[u8]) -> Option<u32>
+    ensures { result ≡ number_of max_u32 word.now }
+{
+    let n = number(word, u64::from(u32::MAX))?;
+    Some(n as u32)
+}
+
+/// The number that a word is, of at most 64 bits.
+pub fn number_u64(word: &[u8]) -> Option<u64>
+    ensures { result ≡ number_of max_u64 word.now }
+{
+    number(word, u64::MAX)
+}
+
+/// The number that a word is, of at most 16 bits.
+pub fn number_u16(word: &[u8]) -> Option<u16>
+    ensures { result ≡ number_of max_u16 word.now }
+{
+    let n = number(word, u64::from(u16::MAX))?;
+    Some(n as u16)
+}

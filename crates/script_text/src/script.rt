@@ -1,0 +1,176 @@
+ghost use Rattle.std.specs.Prelude.{◌≡◌, ◌<◌, length, MatchOption, Some, None, Ok, IfOk, IfErr, option_and_then};
+ghost use Rattle.script_text.specs.ConfigLine.{config_of};
+ghost use Rattle.script_text.specs.Cursor.{line_left, words_left, events_left, Passes, Goes, Continues, Refuses, Tells};
+ghost use Rattle.script_text.specs.Script.{is_end as is_end_of, script_of};
+
+use crate::config_line::config;
+use crate::event_line::event;
+use crate::words::{cut, words};
+use containers::{Bytes, Seq};
+use driver_model::{Config, Event};
+use std::alloc::{AllocError, Global};
+
+/// The most lines that a script has.
+pub const MAX_LINES: u32 = 1_000_000;
+
+/// The most bytes that a line has, without its LF.
+pub const MAX_LINE: usize = 1_048_576;
+
+/// The most bytes that a script has.
+pub const MAX_TEXT: usize = 67_108_864;
+
+/// What a session is made from, and what happens to it.
+#[derive(Drop)]
+pub struct Script {
+    pub config: Config,
+    pub word: u64,
+    pub events: Seq<Event>,
+}
+
+/// Why a text was not read.
+#[derive(Clone, Copy, Debug, PartialEq, Eq)]
+pub enum ScriptError {
+    /// This line is the first at fault. Lines are counted from 1.
+    Line(u32),
+    NoMemory,
+}
+
+impl From<AllocError> for ScriptError {
+    ghost use Rattle.std.specs.Prelude.{◌≡◌};
+    ghost use Rattle.script_text.specs.declared.script.ScriptError.TheVariants.{NoMemory};
+
+    ghost from_gives = { λ _ e. e ≡ NoMemory };
+
+    fn from(_error: AllocError) -> Self {
+        ScriptError::NoMemory
+    }
+}
+
+/// What is left of a text: its bytes, the number of the line that they begin with, and how many of them there may be.
+#[derive(Drop)]
+struct Cursor<'a> {
+    left: &'a [u8],
+    number: u32,
+    room: usize,
+}
+
+/// The next line, if an LF ends it and it keeps the limits.
+fn next_line<'a>(cursor: &mut Cursor<'a>) -> Option<&'a [u8]>
+    ensures { MatchOption result (line_left cursor.old ≡ None) (λ line. (line_left cursor.old ≡ Some line.now) × Passes line.now cursor.old cursor.new) }
+{
+    let (line, rest) = cut(cursor.left, b'\n')?;
+    if cursor.number > MAX_LINES || line.len() > MAX_LINE || line.len() >= cursor.room {
+        return None;
+    }
+    cursor.left = rest;
+    cursor.number += 1;
+    cursor.room -= line.len() + 1;
+    Some(line)
+}
+
+/// The words of the next line.
+fn line_words(alloc: Global, cursor: &mut Cursor<'_>) -> Result<Vec<Bytes>, ScriptError>
+    ensures words { IfOk result (λ ws. words_left cursor.old ≡ Some ws.items) }
+    ensures passed { IfOk result (λ _. Goes cursor.old cursor.new) }
+    ensures fault { IfErr result (λ e. Refuses e cursor.old.number (words_left cursor.old)) }
+{
+    let number = cursor.number;
+    let Some(line) = next_line(cursor) else {
+        return Err(ScriptError::Line(number));
+    };
+    match words(alloc, line)? {
+        Some(words) => Ok(words),
+        None => Err(ScriptError::Line(number)),
+    }
+}
+
+/// Whether these are the words of the last line.
+fn is_end(words: &[Bytes]) -> bool
+    ensures { result ≡ is_end_of words.now }
+{
+    match words {
+        [word] => word.as_slice() == b"end".as_slice(),
+        _ => false,
+    }
+}
+
+/// The event that the next line is, or none where it is the last line.
+#[tactic(auto, using(crate::proofs::Lines::nothing_left))]
+fn next_event(alloc: Global, cursor: &mut Cursor<'_>) -> Result<Option<Event>, ScriptError>
+    ensures event { IfOk result (λ e. Continues e (events_left cursor.old) (events_left cursor.new)) }
+    ensures less { IfOk result (λ _. length cursor.new.left.now < length cursor.old.left.now) }
+    ensures fault { IfErr result (λ e. Tells e (events_left cursor.old)) }
+{
+    let number = cursor.number;
+    let words = match line_words(alloc, cursor) {
+        Ok(words) => words,
+        Err(error) => return Err(error),
+    };
+    if is_end(words.as_slice()) {
+        if cursor.left.is_empty() {
+            return Ok(None);
+        }
+        return Err(ScriptError::Line(cursor.number));
+    }
+    match event(words) {
+        Some(event) => Ok(Some(event)),
+        None => Err(ScriptError::Line(number)),
+    }
+}
+
+/// The events up to the last line.
+fn all_events(alloc: Global, cursor: &mut Cursor<'_>) -> Result<Seq<Event>, ScriptError>
+    ensures events { IfOk result (λ es. events_left cursor.old ≡ Ok es) }
+    ensures fault { IfErr result (λ e. Tells e (events_left cursor.old)) }
+{
+    let mut events = Seq::new(alloc);
+    loop {
+        match next_event(alloc, cursor) {
+            Ok(Some(event)) => events.push(event)?,
+            Ok(None) => return Ok(events),
+            Err(error) => return Err(error),
+        }
+    }
+}
+
+/// The configuration that the next line is.
+fn config_line(alloc: Global, cursor: &mut Cursor<'_>) -> Result<Config, ScriptError>
+    ensures config { IfOk result (λ c. option_and_then config_of (words_left cursor.old) ≡ Some c) }
+    ensures passed { IfOk result (λ _. Goes cursor.old cursor.new) }
+    ensures fault { IfErr result (λ e. Refuses e cursor.old.number (option_and_then config_of (words_left cursor.old))) }
+{
+    let number = cursor.number;
+    let words = match line_words(alloc, cursor) {
+        Ok(words) => words,
+        Err(error) => return Err(error),
+    };
+    match config(alloc, words.as_slice())? {
+        Some(config) => Ok(config),
+        None => Err(ScriptError::Line(number)),
+    }
+}
+
+/// Reads a script.
+#[tactic(auto, unfolding(crate::specs::Script::script_of))]
+pub fn read_script(alloc: Global, text: &[u8]) -> Result<Script, ScriptError>
+    ensures script { IfOk result (λ script. script_of text.now ≡ Ok script) }
+    ensures fault { IfErr result (λ error. Tells error (script_of text.now)) }
+{
+    let mut cursor = Cursor {
+        left: text,
+        number: 1,
+        room: MAX_TEXT,
+    };
+    let config = match config_line(alloc, &mut cursor) {
+        Ok(config) => config,
+        Err(error) => return Err(error),
+    };
+    match all_events(alloc, &mut cursor) {
+        Ok(events) => Ok(Script {
+            config,
+            word: 0,
+            events,
+        }),
+        Err(error) => Err(error),
+    }
+}

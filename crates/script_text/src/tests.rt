@@ -1,0 +1,243 @@
+use crate::intake::Intake;
+use crate::script::{ScriptError, read_script};
+use containers::Bytes;
+use driver_model::{Event, EventKind, Submission};
+use std::alloc::{AllocError, Global};
+use std::test::Fail;
+
+const CONFIG: &[u8] = b"config single url=redis://h:6379 connect=none response=none lib=off\n";
+
+/// The line at fault, or 0.
+fn fault(alloc: Global, text: &[u8]) -> Result<u32, ScriptError> {
+    match read_script(alloc, text) {
+        Ok(_) => Ok(0),
+        Err(ScriptError::Line(line)) => Ok(line),
+        Err(ScriptError::NoMemory) => Err(ScriptError::NoMemory),
+    }
+}
+
+/// The same of a text behind a configuration.
+fn fault_behind(alloc: Global, rest: &[u8]) -> Result<u32, ScriptError> {
+    let mut text = Bytes::from_slice(alloc, CONFIG)?;
+    text.extend_from_slice(rest)?;
+    fault(alloc, text.as_slice())
+}
+
+#[test]
+fn first_lines(rt: HostRuntime) -> Result<(), Fail> {
+    let rows: [(&[u8], u32); 21] = [
+        (b"", 1),
+        (b"\n", 1),
+        (b"end\n", 1),
+        (b"connected 0\nend\n", 1),
+        (
+            b"config single url=redis://h:6379 connect=none response=none lib=off",
+            1,
+        ),
+        (
+            b"config single url=redis://h:6379 connect=none response=none lib=off\n",
+            2,
+        ),
+        (
+            b"config single url=redis://h:6379 connect=none response=none lib=off\nend\n",
+            0,
+        ),
+        (
+            b"config single lib=off response=none connect=none url=redis://127.0.0.1:0\nend\n",
+            0,
+        ),
+        (
+            b"%63onfig single url%3Dredis://a-b.c:65535 connect=none response=none lib=off\nend\n",
+            0,
+        ),
+        (
+            b"config  single url=redis://h:6379 connect=none response=none lib=off\nend\n",
+            1,
+        ),
+        (
+            b"config manager url=redis://h:6379 connect=none response=none lib=off\nend\n",
+            1,
+        ),
+        (
+            b"config single connect=none response=none lib=off\nend\n",
+            1,
+        ),
+        (
+            b"config single url=redis://h:6379 connect=none response=none\nend\n",
+            1,
+        ),
+        (
+            b"config single url=redis://h:6379 connect=none connect=none response=none lib=off\nend\n",
+            1,
+        ),
+        (
+            b"config single url=redis://h:6379 connect=none response=none lib=off db=1\nend\n",
+            1,
+        ),
+        (
+            b"config single url=redis://h:6379 connect=none response=none lib=off word\nend\n",
+            1,
+        ),
+        (
+            b"config single url=redis://h:6379 connect=1000 response=none lib=off\nend\n",
+            1,
+        ),
+        (
+            b"config single url=redis://h:65536 connect=none response=none lib=off\nend\n",
+            1,
+        ),
+        (
+            b"config single url=redis://h:06379 connect=none response=none lib=off\nend\n",
+            1,
+        ),
+        (
+            b"config single url=redis://:6379 connect=none response=none lib=off\nend\n",
+            1,
+        ),
+        (
+            b"config single url=redis://H:6379 connect=none response=none lib=off\nend\n",
+            1,
+        ),
+    ];
+    for (text, line) in rows {
+        let found = fault(rt.alloc(), text)?;
+        assert_eq!(rt; found, line);
+    }
+    Ok(())
+}
+
+#[test]
+fn later_lines(rt: HostRuntime) -> Result<(), Fail> {
+    let rows: [(&[u8], u32); 47] = [
+        (
+            b"connected 0\nsubmit cmd GET a\nwrote 0 20\nbytes 0 +x%0D%0A\nend\n",
+            0,
+        ),
+        (
+            b"connected 0\nsubmit cmd GET a\nwrote 0 7\nwrote 0 14\nend\n",
+            0,
+        ),
+        (
+            b"connected 0\nsubmit cmd GET a\nwrote 0 20\nbytes 0 +\nbytes 0 x\nbytes 0 %0D\nbytes 0 %0A\nend\n",
+            0,
+        ),
+        (b"connected 0\nsubmit cmd GET a\nbytes 0 ?x%0D%0A\nend\n", 0),
+        (b"end\n", 0),
+        (b"%65nd\n", 0),
+        (b"end", 2),
+        (b"end\nx", 3),
+        (b"end\n\n", 3),
+        (b"end \n", 2),
+        (b" end\n", 2),
+        (b"end x\n", 2),
+        (b"\nend\n", 2),
+        (b"connected 0\n", 3),
+        (b"connected 0\nend\nend\n", 4),
+        (b"connected 4294967295\nend\n", 0),
+        (b"connected 4294967296\nend\n", 2),
+        (b"connected 00\nend\n", 2),
+        (b"connected 01\nend\n", 2),
+        (b"connected\nend\n", 2),
+        (b"connected 0 1\nend\n", 2),
+        (b"connected %30\nend\n", 0),
+        (b"cancel 7\nended 3\nshutdown\nend\n", 0),
+        (b"cancel +7\nend\n", 2),
+        (b"cancel -7\nend\n", 2),
+        (b"cancel %-\nend\n", 2),
+        (b"wrote 0 18446744073709551615\nend\n", 0),
+        (b"wrote 0 18446744073709551616\nend\n", 2),
+        (b"wrote 0\nend\n", 2),
+        (b"bytes 0\nend\n", 2),
+        (b"bytes 0 %-\nend\n", 0),
+        (b"bytes 0 a b\nend\n", 2),
+        (b"bytes 0 \x01\x7f\xff;=%\nend\n", 2),
+        (b"bytes 0 \x01\x7f\xff;=%4f%4F\nend\n", 0),
+        (b"submit cmd\nend\n", 0),
+        (b"submit cmd %3B\nend\n", 0),
+        (b"submit cmd ;\nend\n", 2),
+        (b"submit cmd a  b\nend\n", 2),
+        (b"submit cmd a%\nend\n", 2),
+        (b"submit cmd %4\nend\n", 2),
+        (b"submit cmd %4g\nend\n", 2),
+        (b"submit cmd a%-\nend\n", 2),
+        (b"submit\nend\n", 2),
+        (b"submit pipe GET a\nend\n", 2),
+        (b"@0 shutdown\nend\n", 2),
+        (b"shutdown 0\nend\n", 2),
+        (b"config single\nend\n", 2),
+    ];
+    for (text, line) in rows {
+        let found = fault_behind(rt.alloc(), text)?;
+        assert_eq!(rt; found, line);
+    }
+    Ok(())
+}
+
+fn is_get(event: &Event, argument: &[u8]) -> bool {
+    let EventKind::Submit { submission } = &event.kind else {
+        return false;
+    };
+    let Submission::Cmd { args } = submission;
+    let [name, given] = args.as_slice() else {
+        return false;
+    };
+    name.as_slice() == b"GET".as_slice() && given.as_slice() == argument
+}
+
+fn is_wrote(event: &Event) -> bool {
+    matches!(event.kind, EventKind::Wrote { link: 8, count: 20 })
+}
+
+fn is_bytes(event: &Event, bytes: &[u8]) -> bool {
+    let EventKind::Bytes { link, piece } = &event.kind else {
+        return false;
+    };
+    *link == 8 && piece.as_slice() == bytes
+}
+
+fn are_as_given(events: &[Event]) -> bool {
+    let [connected, submit, wrote, bytes] = events else {
+        return false;
+    };
+    matches!(connected.kind, EventKind::Connected { link: 8 })
+        && is_get(submit, b"%;")
+        && is_wrote(wrote)
+        && is_bytes(bytes, b"+x\r\n")
+}
+
+#[test]
+fn events_as_given(rt: HostRuntime) -> Result<(), Fail> {
+    let text =
+        b"config single lib=off response=none url=redis://h.1:7 connect=none\nconnected 8\nsubmit cmd GET %25%3b\nwrote 8 20\nbytes 8 +x%0D%0a\nend\n";
+    let script = read_script(rt.alloc(), text)?;
+    assert!(rt; script.config.host.as_slice() == b"h.1".as_slice() && script.config.port == 7);
+    assert!(rt; are_as_given(script.events.as_slice()));
+    Ok(())
+}
+
+/// The answers to a piece that comes so many times and to one more, and how many bytes are kept.
+fn kept(
+    alloc: Global,
+    piece: &[u8],
+    times: u32,
+    last: &[u8],
+) -> Result<(bool, bool, usize), AllocError> {
+    let mut intake = Intake::new(alloc);
+    let mut goes_on = true;
+    for _ in 0..times {
+        goes_on = intake.push(piece)?;
+    }
+    let after = intake.push(last)?;
+    Ok((goes_on, after, intake.text().len()))
+}
+
+#[test]
+fn pieces(rt: HostRuntime) -> Result<(), Fail> {
+    let lines = kept(rt.alloc(), &[b'\n'; 50_000], 20, b"end\n")?;
+    assert_eq!(rt; lines, (true, false, 1_000_001));
+    let bytes = kept(rt.alloc(), &[b'a'; 65_536], 16, b"\nend\n")?;
+    assert_eq!(rt; bytes, (true, true, 1_048_581));
+    let more = kept(rt.alloc(), &[b'a'; 65_536], 17, b"\nend\n")?;
+    assert_eq!(rt; more, (false, false, 1_048_577));
+    Ok(())
+}
