@@ -1,7 +1,7 @@
 -- How far a search for the first item of a kind has come.
 use Rattle.std.proofs.Common.{◌≡◌, ℕ, zero, suc, ◌+◌, ◌<◌, ◌≤◌, Bool, false, true, List, [], ◌∷◌, ◌++◌, length, take, drop, get_or, set, sym, ap, ◌∙◌, refl, append_assoc, arith, add-one}
 use Rattle.std.proofs.lemmas.List.{drop_more, take_more, append-nil, set_split, take_all, drop_all}
-use Rattle.std.specs.Prelude.{if◌then◌else◌, remove}
+use Rattle.std.specs.Prelude.{remove}
 use Rattle.link_core.specs.First.{first_replaced}
 
 module _ {X : Type 0} (test : X → Bool) (items : X → List X) where

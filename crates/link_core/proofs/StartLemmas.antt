@@ -5,7 +5,7 @@ use Rattle.std.proofs.lemmas.List.{take-append-le, length-take}
 use Rattle.link_core.specs.declared.message.Started.{Started}
 use Rattle.std.specs.Prelude.{if◌then◌else◌}
 use Rattle.link_core.specs.declared.message.Queued.{Queued}
-use Rattle.link_core.specs.Link.{LinkState, Starting, started_one, started_each, started_all, is_held_back, is_spent}
+use Rattle.link_core.specs.Link.{Starting, started_one, started_each, started_all, is_held_back, is_spent}
 
 -- the same starting, with another queue
 abbrev pub with_queue : Starting → List Queued → Starting

@@ -1,5 +1,5 @@
 -- Which message gets an item, and what it comes to.
-use Rattle.std.specs.Prelude.{ℕ, nat_lt, List, [], ◌∷◌, ◌++◌, length, if◌then◌else◌}
+use Rattle.std.specs.Prelude.{nat_lt, List, [], ◌∷◌, ◌++◌, length, if◌then◌else◌}
 use Rattle.resp_value.specs.Data.{Data}
 use Rattle.driver_model.specs.Shape.{need, verdict}
 use Rattle.link_core.specs.declared.message.Entry.{Entry}
@@ -20,7 +20,7 @@ settled_by e = if e.awaited then record { id = e.id; verdict = verdict e.shape e
 -- the oldest message has one item more: it takes further ones, or it is full
 abbrev pub given : Dealing → Entry → List Entry → Dealing
 given d e es =
-  if nat_lt (length e.got) (need e.shape) then record d { row = e ∷ es } else record { row = es; out = d.out ++ settled_by e }
+    if nat_lt (length e.got) (need e.shape) then record d { row = e ∷ es } else record { row = es; out = d.out ++ settled_by e }
 
 abbrev pub dealt_to : Dealing → Data → List Entry → Dealing
 dealt_to d item [] = d

@@ -4,6 +4,5 @@ pub mod Row
 pub mod Waiting
 pub mod Dealing
 pub mod Ends
-
 pub mod Link
 pub mod Inside

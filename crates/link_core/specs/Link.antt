@@ -1,5 +1,5 @@
 -- One link as plain data, and what each call does to it.
-use Rattle.std.specs.Prelude.{ℕ, ◌+◌, ◌^◌, ◌==◌, nat_lt, nat_le, Bool, false, ◌&&◌, List, [], ◌∷◌, ◌++◌, length, if◌then◌else◌}
+use Rattle.std.specs.Prelude.{ℕ, ◌+◌, ◌^◌, nat_lt, nat_le, Bool, false, ◌&&◌, List, [], ◌∷◌, ◌++◌, length, if◌then◌else◌}
 use Rattle.resp_read.specs.Values.{values, left_over, is_spoiled}
 use Rattle.driver_model.specs.Shape.{need}
 use Rattle.link_core.specs.declared.errors.LinkFault.{LinkFault}
@@ -30,8 +30,16 @@ pub record LinkState : Type 0 where
 
 abbrev pub fresh : ℕ → ℕ → LinkState
 fresh size boundary = record {
-  size = size; boundary = boundary; queue = []; row = []; started = 0;
-  outbox = record { unwritten = []; offered = 0 }; rest = []; broken = false; failed = false }
+  size = size;
+  boundary = boundary;
+  queue = [];
+  row = [];
+  started = 0;
+  outbox = record { unwritten = []; offered = 0 };
+  rest = [];
+  broken = false;
+  failed = false;
+}
 
 -- the queue holds its size
 abbrev pub is_full : LinkState → Bool
@@ -62,14 +70,16 @@ started_one s q = record {
   link = record s.link {
     row = s.link.row ++ entry_of q ∷ [];
     started = s.link.started + 1;
-    outbox = added s.link.outbox q.packed };
-  out = s.out ++ start_of s.link.started q ∷ [] }
+    outbox = added s.link.outbox q.packed;
+  };
+  out = s.out ++ start_of s.link.started q ∷ [];
+}
 
 -- messages start in the order of the queue, as long as nothing holds them back
 abbrev pub started_each : Starting → List Queued → Starting
 started_each s [] = record s { link = record s.link { queue = [] } }
 started_each s (q ∷ qs) =
-  if is_held_back s.link then record s { link = record s.link { queue = q ∷ qs } } else started_each (started_one s q) qs
+    if is_held_back s.link then record s { link = record s.link { queue = q ∷ qs } } else started_each (started_one s q) qs
 
 abbrev pub started_all : Starting → Starting
 started_all s = started_each s s.link.queue

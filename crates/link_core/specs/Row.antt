@@ -1,5 +1,6 @@
 -- The started messages that take more items.
-use Rattle.std.specs.Prelude.{ℕ, ◌==◌, Bool, false, List, [], ◌∷◌}
+use Rattle.std.specs.Prelude.{ℕ, ◌+◌, ◌-◌, ◌==◌, Bool, false, List, [], ◌∷◌, length}
+use Rattle.driver_model.specs.Shape.{need}
 use Rattle.link_core.specs.declared.message.Entry.{Entry}
 use Rattle.link_core.specs.First.{first_replaced}
 
@@ -12,3 +13,12 @@ is_entry_of id e = e.id == id
 -- the verdict of that message is not wanted any more; it stays where it is, and takes its items
 abbrev pub silenced : List Entry → ℕ → List Entry
 silenced row id = first_replaced (is_entry_of id) (λ e. silent e ∷ []) row
+
+-- how many more items a message takes
+abbrev pub lack : Entry → ℕ
+lack e = need e.shape - length e.got
+
+-- how many more items the messages of a row take together
+abbrev pub lacks : List Entry → ℕ
+lacks [] = 0
+lacks (e ∷ es) = lack e + lacks es

@@ -1,5 +1,4 @@
 ghost use Rattle.std.specs.Prelude.{◌≡◌, ◌≢◌, ◌<◌, ◌≤◌, true, false, [], ◌++◌, length, take, if◌then◌else◌, OnOk, OnErr, IfOk, IsErr, IsErrOf, ◌↔◌, not};
-
 ghost use Rattle.link_core.specs.Link.{is_held_back as is_held_back_in};
 ghost use Rattle.link_core.specs.Waiting.{without, awaits as awaits_id};
 ghost use Rattle.link_core.specs.Ends.{queue_closed};
@@ -51,6 +50,7 @@ impl Model for LinkCore {
 impl LinkCore {
     ghost use Rattle.link_core.specs.Link.{fresh, is_full, enqueued, Starting, started_all, started_one, is_spent, offered_of, wrote_of, cancelled, Settling, came, came_all, closed_all, faulted};
     ghost use Rattle.link_core.specs.Outbox.{can_offer};
+    ghost use Rattle.link_core.specs.Row.{lacks};
 
     /// A link whose queue holds `size` messages, at least one, and on which no message starts while `boundary` bytes or
     /// more, and at least one, are unwritten. Takes no memory.
@@ -75,7 +75,14 @@ impl LinkCore {
 
     /// A message takes the last place of the queue. `id` names it: no earlier message of this link had it. Where
     /// `answered`, its verdict is not wanted. `Full`: the queue holds its size, and nothing changed.
-    pub fn enqueue(&mut self, alloc: Global, id: u64, packed: &[u8], shape: Shape, answered: bool) -> Result<(), EnqueueError>
+    pub fn enqueue(
+        &mut self,
+        alloc: Global,
+        id: u64,
+        packed: &[u8],
+        shape: Shape,
+        answered: bool,
+    ) -> Result<(), EnqueueError>
         ensures ok { OnOk result (self.new ≡ enqueued self.old (record { id = id; packed = packed.now; shape = shape; awaited = not answered })) }
         ensures full { IsErrOf result EnqueueError.Full ↔ ((self.old.failed ≡ false) × (is_full self.old ≡ true)) }
         ensures full_same { IsErrOf result EnqueueError.Full → self.new ≡ self.old }
@@ -104,7 +111,14 @@ impl LinkCore {
         self.queue.len() >= self.size as usize
     }
 
-    fn try_enqueue(&mut self, alloc: Global, id: u64, packed: &[u8], shape: Shape, answered: bool) -> Result<(), AllocError>
+    fn try_enqueue(
+        &mut self,
+        alloc: Global,
+        id: u64,
+        packed: &[u8],
+        shape: Shape,
+        answered: bool,
+    ) -> Result<(), AllocError>
         ensures ok { OnOk result (self.new ≡ enqueued self.old (record { id = id; packed = packed.now; shape = shape; awaited = not answered })) }
         ensures err { OnErr result (self.new ≡ self.old) }
     {
@@ -164,7 +178,12 @@ impl LinkCore {
         Ok(())
     }
 
-    fn start_one(&mut self, alloc: Global, message: Queued, out: &mut Vec<Started>) -> Result<(), StartError>
+    fn start_one(
+        &mut self,
+        alloc: Global,
+        message: Queued,
+        out: &mut Vec<Started>,
+    ) -> Result<(), StartError>
         ensures ok { OnOk result (record { link = self.new; out = out.new.items } ≡ started_one (record { link = self.old; out = out.old.items }) message) }
         ensures err { OnErr result (out.new.items ≡ out.old.items) }
         ensures spent { IsErrOf result StartError.Spent → is_spent (started_one (record { link = self.old; out = out.old.items }) message).link ≡ true }
@@ -227,6 +246,13 @@ impl LinkCore {
         self.outbox.unwritten.len() as u64
     }
 
+    /// How many more items the started messages take. Takes no memory.
+    pub fn open_needs(&self) -> u128
+        ensures { result ≡ lacks self.now.row }
+    {
+        self.row.lacks()
+    }
+
     /// The offer is answered: its first `count` bytes were taken.
     pub fn wrote(&mut self, count: u64)
         requires { count ≤ self.old.outbox.offered }
@@ -246,7 +272,12 @@ impl LinkCore {
 
     /// The link ends by a fault: the oldest message that takes items gets it, every other one the closed connection, and
     /// `out` gains those that are awaited. After an error `out` is as it was, and the link has failed.
-    pub fn fault(&mut self, alloc: Global, fault: LinkFault, out: &mut Vec<Settled>) -> Result<(), AllocError>
+    pub fn fault(
+        &mut self,
+        alloc: Global,
+        fault: LinkFault,
+        out: &mut Vec<Settled>,
+    ) -> Result<(), AllocError>
         ensures ok { OnOk result (record { link = self.new; out = out.new.items } ≡ faulted (record { link = self.old; out = out.old.items }) fault) }
         ensures err { OnErr result (out.new.items ≡ out.old.items) }
         ensures no_memory { OnErr result (self.new.failed ≡ true) }
@@ -264,7 +295,12 @@ impl LinkCore {
         }
     }
 
-    fn try_fault(&mut self, alloc: Global, fault: LinkFault, out: &mut Vec<Settled>) -> Result<(), AllocError>
+    fn try_fault(
+        &mut self,
+        alloc: Global,
+        fault: LinkFault,
+        out: &mut Vec<Settled>,
+    ) -> Result<(), AllocError>
         ensures ok { OnOk result (record { link = self.new; out = out.new.items } ≡ faulted (record { link = self.old; out = out.old.items }) fault) }
         ensures err { OnErr result (out.new.items ≡ out.old.items) }
     {
@@ -307,7 +343,13 @@ impl LinkCore {
     /// Bytes came. Each item in them is dealt, and `out` gains the messages that are settled and awaited. `Parse`: the
     /// bytes begin no value, after what came before was dealt; from then on always. After `NoMemory` `out` is as it was,
     /// and the link has failed. No form of the grammar is a push yet, so `pushes` stays as it is.
-    pub fn bytes(&mut self, alloc: Global, piece: &[u8], out: &mut Vec<Settled>, pushes: &mut Vec<PushAt>) -> Result<(), ReadError>
+    pub fn bytes(
+        &mut self,
+        alloc: Global,
+        piece: &[u8],
+        out: &mut Vec<Settled>,
+        pushes: &mut Vec<PushAt>,
+    ) -> Result<(), ReadError>
         ensures ok { OnOk result (record { link = self.new; out = out.new.items } ≡ came (record { link = self.old; out = out.old.items }) piece.now) }
         ensures parse { IsErrOf result ReadError.Parse → ◌≡◌ {A = Settling} (record { link = self.new; out = out.new.items }) (came (record { link = self.old; out = out.old.items }) piece.now) }
         ensures sound { OnOk result (self.new.broken ≡ false) }
@@ -335,7 +377,12 @@ impl LinkCore {
         }
     }
 
-    fn try_bytes(&mut self, alloc: Global, piece: &[u8], out: &mut Vec<Settled>) -> Result<(), AllocError>
+    fn try_bytes(
+        &mut self,
+        alloc: Global,
+        piece: &[u8],
+        out: &mut Vec<Settled>,
+    ) -> Result<(), AllocError>
         requires sound { self.old.failed ≡ false }
         requires whole { self.old.broken ≡ false }
         ensures ok { OnOk result (record { link = self.new; out = out.new.items } ≡ came_all (record { link = self.old; out = out.old.items }) (self.old.rest ++ piece.now)) }
@@ -353,7 +400,12 @@ impl LinkCore {
 }
 
 /// Deals each value that a reader gives, and answers whether what is left begins no value.
-fn deal_all(alloc: Global, reader: &mut Reader, row: &mut Row, out: &mut Vec<Settled>) -> Result<bool, AllocError>
+fn deal_all(
+    alloc: Global,
+    reader: &mut Reader,
+    row: &mut Row,
+    out: &mut Vec<Settled>,
+) -> Result<bool, AllocError>
     requires { reader.old.health ≡ Health.Sound }
     ensures dealt { OnOk result (record { row = row.new; out = out.new.items } ≡ dealt_each (record { row = row.old; out = out.old.items }) (values reader.old.rest)) }
     ensures rest { OnOk result (reader.new.rest ≡ left_over reader.old.rest) }

@@ -2,6 +2,7 @@ ghost use Rattle.std.specs.Prelude.{◌≡◌, [], ◌∷◌, ◌++◌, length, 
 ghost use Rattle.driver_model.specs.Shape.{need as need_of, verdict as verdict_of};
 ghost use Rattle.link_core.specs.Dealing.{settled_by};
 ghost use Rattle.link_core.specs.Ends.{failed_by, hit_by};
+ghost use Rattle.link_core.specs.Row.{lack as lack_of};
 
 use crate::errors::LinkFault;
 use crate::message::{Entry, Settled};
@@ -20,7 +21,6 @@ pub struct Row {
 impl Model for Row {
     ghost use Rattle.std.specs.Prelude.{List};
     ghost use Rattle.link_core.specs.declared.message.Entry.{Entry};
-
     ghost use Rattle.std.specs.Coded.{codes};
     ghost use Rattle.resp_value.specs.Code.{data_code};
 
@@ -33,7 +33,7 @@ impl Model for Row {
 
 impl Row {
     ghost use Rattle.resp_value.specs.View.{data_of};
-    ghost use Rattle.link_core.specs.Row.{silenced};
+    ghost use Rattle.link_core.specs.Row.{silenced, lacks as lacks_of};
     ghost use Rattle.link_core.specs.Dealing.{Dealing, dealt, given};
 
     /// No entries. Takes no memory.
@@ -74,6 +74,18 @@ impl Row {
         ensures { MatchOption result ((self.old ≡ []) × (self.new ≡ [])) (λ e. self.old ≡ e ∷ self.new) }
     {
         self.entries.pop_front()
+    }
+
+    /// How many more items these messages take.
+    pub fn lacks(&self) -> u128
+        ensures { result ≡ lacks_of self.now }
+    {
+        let mut sum: u128 = 0;
+        let len = self.entries.len();
+        for index in 0..len {
+            sum += u128::from(lack(&self.entries[index]));
+        }
+        sum
     }
 
     /// The verdict of this message is not wanted any more. It still takes its items.
@@ -156,7 +168,12 @@ fn error_of(fault: LinkFault, shape: Shape) -> RedisError
 }
 
 /// A message without verdict ends with an error, if it is awaited.
-pub fn fail(awaited: bool, id: u64, error: RedisError, out: &mut Vec<Settled>) -> Result<(), AllocError>
+pub fn fail(
+    awaited: bool,
+    id: u64,
+    error: RedisError,
+    out: &mut Vec<Settled>,
+) -> Result<(), AllocError>
     ensures { OnOk result (out.new.items ≡ out.old.items ++ failed_by awaited id error) }
 {
     if !awaited {
@@ -176,6 +193,13 @@ pub fn need(shape: Shape) -> u64
     match shape {
         Shape::Single => 1,
     }
+}
+
+/// How many more items a message takes.
+fn lack(entry: &Entry) -> u64
+    ensures { result ≡ lack_of entry.now }
+{
+    need(entry.shape).saturating_sub(entry.got.len() as u64)
 }
 
 /// What the items of a full message are.

@@ -110,7 +110,8 @@ pub kept_none : (config : Config) (word : ℕ) (before after : List Action) (s :
 kept_none config word before after s m a = record {
   made = m;
   shown = a ∙ ap (λ (acts : List Action). before ++ acts) (sym (trace_of-none config word));
-  good = good-none config word }
+  good = good-none config word;
+}
 
 pub kept_more : (config : Config) (word : ℕ) (taken : List Event) (before after later : List Action) (s t : History) (e : Event) → Kept config word taken before s after
     → t ≡ record s { events = s.events ++ e ∷ [] } → later ≡ after ++ actions_of (state_after s.config s.word s.events) e
@@ -123,7 +124,8 @@ kept_more config word taken before after later s t e h n a g =
       made = n ∙ ap (λ (x : History). record x { events = x.events ++ e ∷ [] }) h.made;
       shown = a ∙ ap (λ (x : History). after ++ actions_of (state_after x.config x.word x.events) e) h.made ∙ ap (λ (acts : List Action). acts ++ actions_of (state_after config word taken) e) h.shown
           ∙ append_assoc before (trace_of config word taken) (actions_of (state_after config word taken) e) ∙ ap (λ (acts : List Action). before ++ acts) (sym (trace_of-more config word taken e));
-      good = good-more config word taken e h.good (sym (ap (λ (x : History). is_bad_after x.config x.word x.events e) h.made) ∙ g) }
+      good = good-more config word taken e h.good (sym (ap (λ (x : History). is_bad_after x.config x.word x.events e) h.made) ∙ g);
+    }
 
 -- the session of a replay has taken the first n events
 pub taken_count : (config : Config) (word : ℕ) (all : List Event) (n : ℕ) (before after : List Action) (s : History) → n ≤ length all → Kept config word (take n all) before s after → length s.events ≡ n

@@ -28,7 +28,8 @@ blank = record { phase = Dialing; shut = false; link = fresh max_size max_bounda
 abbrev pub opening : Config → ℕ → Core
 opening config word = record {
   turns = 1;
-  connection = acts (acts blank (action.Turn 0 (cause.Opening config word))) (action.Connect 0 config.host config.port) }
+  connection = acts (acts blank (action.Turn 0 (cause.Opening config word))) (action.Connect 0 config.host config.port);
+}
 
 abbrev pub run_on : Core → List Event → Core
 run_on c [] = c

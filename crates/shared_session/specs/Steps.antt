@@ -51,9 +51,9 @@ at_progress c n p = record c { requests = slice_set c.requests n p }
 -- an open submission is answered, and any other stays as it is
 abbrev pub answered : Connection → ℕ → Outcome → Connection
 answered c n o =
-  if is_open_at c.requests n
-  then acts (record (at_progress c n progress.Answered) { done = c.done ++ record { submission = n; outcome = o } ∷ [] }) (action.Outcome n o)
-  else c
+    if is_open_at c.requests n
+    then acts (record (at_progress c n progress.Answered) { done = c.done ++ record { submission = n; outcome = o } ∷ [] }) (action.Outcome n o)
+    else c
 
 abbrev pub outcome_of : Verdict → Outcome
 outcome_of (verdict.One v) = outcome.One v
@@ -85,10 +85,10 @@ ended_by c f = ends c (faulted (record { link = c.link; out = [] }) f)
 -- a submission is checked, and then waits for its place
 abbrev pub checked : Connection → ℕ → List (List ℕ) → Connection
 checked c n args =
-  if c.shut then answered c n closed
-  else if length args == 0 then answered c n (outcome.Fault error.EmptyCommand)
-  else if is_ended c.phase then answered c n closed
-  else record c { waiting = c.waiting ++ record { number = n; packed = pack args } ∷ []; fresh = c.fresh ++ n ∷ [] }
+    if c.shut then answered c n closed
+    else if length args == 0 then answered c n (outcome.Fault error.EmptyCommand)
+    else if is_ended c.phase then answered c n closed
+    else record c { waiting = c.waiting ++ record { number = n; packed = pack args } ∷ []; fresh = c.fresh ++ n ∷ [] }
 
 abbrev pub submitted : Connection → List (List ℕ) → Connection
 submitted c args = checked (record c { requests = c.requests ++ progress.Waiting ∷ [] }) (length c.requests) args
@@ -120,8 +120,8 @@ peer_closed c = if is_up c.phase then ended_by c fault.Ended else c
 -- everything is closed
 abbrev pub shut_down : Connection → Connection
 shut_down c =
-  if is_ended c.phase then record c { shut = true }
-  else ends (record c { shut = true }) (closed_all (record { link = c.link; out = [] }))
+    if is_ended c.phase then record c { shut = true }
+    else ends (record c { shut = true }) (closed_all (record { link = c.link; out = [] }))
 
 -- each start is shown
 abbrev pub shown_each : Connection → List Started → Connection
@@ -141,9 +141,9 @@ message_of w = record { id = w.number; packed = w.packed; shape = Single; awaite
 -- a submission that still waits takes its place, and messages start
 abbrev pub advanced : Connection → Waiting → Connection
 advanced c w =
-  if is_waiting_at c.requests w.number
-  then started (record (at_progress c w.number progress.Placed) { link = enqueued c.link (message_of w) })
-  else c
+    if is_waiting_at c.requests w.number
+    then started (record (at_progress c w.number progress.Placed) { link = enqueued c.link (message_of w) })
+    else c
 
 -- the submissions that wait are moved in order, until the queue is full
 abbrev pub advanced_each : Connection → List Waiting → Connection

@@ -38,7 +38,8 @@ quiet c = record c { connection = record c.connection { done = []; acts = [] } }
 unfoldable pub turn : Core → Event → Core
 turn c e = record {
   turns = c.turns + 1;
-  connection = flushed (passes (applied (acts c.connection (action.Turn c.turns (cause.Event e))) e.kind)) }
+  connection = flushed (passes (applied (acts c.connection (action.Turn c.turns (cause.Event e))) e.kind));
+}
 
 -- the number 2^32 - 1 was given to a message or a submission
 unfoldable pub is_spent : Core → Bool

@@ -56,8 +56,7 @@ impl Connection {
         if !self.is_waiting(request.number) {
             return Ok(());
         }
-        self.requests
-            .set(request.number as usize, Progress::Placed);
+        self.requests.set(request.number as usize, Progress::Placed);
         let id = u64::from(request.number);
         match self
             .link

@@ -36,7 +36,11 @@ impl Connection {
     {
         let mut rest = std::mem::replace(&mut self.waiting, Queue::new(alloc));
         while let Some(request) = rest.pop_front() {
-            self.answer(alloc, u64::from(request.number), Outcome::Fault(RedisError::Closed))?;
+            self.answer(
+                alloc,
+                u64::from(request.number),
+                Outcome::Fault(RedisError::Closed),
+            )?;
         }
         Ok(())
     }
@@ -76,7 +80,11 @@ impl Connection {
             return self.answer(alloc, u64::from(number), Outcome::Fault(RedisError::Closed));
         }
         if args.is_empty() {
-            return self.answer(alloc, u64::from(number), Outcome::Fault(RedisError::EmptyCommand));
+            return self.answer(
+                alloc,
+                u64::from(number),
+                Outcome::Fault(RedisError::EmptyCommand),
+            );
         }
         if self.phase == Phase::Ended {
             return self.answer(alloc, u64::from(number), Outcome::Fault(RedisError::Closed));

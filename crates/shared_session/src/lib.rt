@@ -14,3 +14,6 @@ pub use connection::{Connection, Done, Phase, Progress, Waiting};
 pub use core_state::Core;
 pub use errors::{MakeError, ReplayError, StepError, TurnError};
 pub use session::{Failure, Session};
+
+#[cfg(test)]
+mod tests;

@@ -9,7 +9,13 @@ use std::alloc::Global;
 
 impl Session {
     /// Runs a whole history, and appends the actions of its turns. After an error the finished turns are kept.
-    pub fn replay(alloc: Global, config: Config, word: u64, events: &[Event], actions: &mut Vec<Action>) -> Result<(), ReplayError>
+    pub fn replay(
+        alloc: Global,
+        config: Config,
+        word: u64,
+        events: &[Event],
+        actions: &mut Vec<Action>,
+    ) -> Result<(), ReplayError>
         ensures actions { OnOk result (actions.new.items ≡ actions.old.items ++ trace_of config word events.now) }
         ensures good { OnOk result (AreGood config word events.now) }
         ensures stops { IfErr result (λ e. Stops e config word events.now actions.old.items actions.new.items) }

@@ -99,7 +99,12 @@ impl Session {
     ghost use Rattle.shared_session.specs.Replay.{state_after, actions_of, outcomes_after, outcome_at};
 
     /// A session that has made its opening, whose actions `out` gains. After `NoMemory` `out` is as it was.
-    pub fn new(alloc: Global, config: Config, word: u64, out: &mut Vec<Action>) -> Result<Session, MakeError>
+    pub fn new(
+        alloc: Global,
+        config: Config,
+        word: u64,
+        out: &mut Vec<Action>,
+    ) -> Result<Session, MakeError>
         ensures made { IfOk result (λ s. s ≡ record { config = config; word = word; events = []; failure = Failure.Sound }) }
         ensures actions { OnOk result (out.new.items ≡ out.old.items ++ (opening config word).connection.acts) }
         ensures err { OnErr result (out.new.items ≡ out.old.items) }
@@ -136,7 +141,12 @@ impl Session {
 
     /// Takes one event: one turn, whose actions `out` gains. After an error `out` is as it was. After `Spent` and
     /// `NoMemory` the session has failed: its history and its outcomes stay, and every later step answers the same.
-    pub fn step(&mut self, alloc: Global, event: Event, out: &mut Vec<Action>) -> Result<(), StepError>
+    pub fn step(
+        &mut self,
+        alloc: Global,
+        event: Event,
+        out: &mut Vec<Action>,
+    ) -> Result<(), StepError>
         ensures ok { OnOk result (self.new ≡ record self.old { events = self.old.events ++ event ∷ [] }) }
         ensures actions { OnOk result (out.new.items ≡ out.old.items ++ actions_of (state_after self.old.config self.old.word self.old.events) event) }
         ensures sound { OnOk result (self.old.failure ≡ Failure.Sound) }
@@ -156,7 +166,9 @@ impl Session {
         if self.core.connection.is_bad_event(&event.kind) {
             return Err(StepError::BadEvent);
         }
-        if self.core.turns > u64::from(u32::MAX) || self.core.connection.requests.len() >= 0xffff_ffff {
+        if self.core.turns > u64::from(u32::MAX)
+            || self.core.connection.requests.len() >= 0xffff_ffff
+        {
             self.failure = Failure::Spent;
             return Err(StepError::Spent { events });
         }

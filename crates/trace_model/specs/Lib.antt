@@ -1,3 +1,4 @@
 pub mod Submissions
 pub mod LinkLedger
 pub mod Cut
+pub mod Story

@@ -1,11 +1,11 @@
-use Rattle.std.proofs.Common.{arith, ◌≡◌, sym, ap, ◌∙◌, List}
+use Rattle.std.proofs.Common.{sym, ap, ◌∙◌, List}
 use Rattle.resp_value.specs.Data.{Data}
 use Rattle.resp_value.specs.View.{data_of}
 use Rattle.resp_read.specs.State.{ReaderState}
 use Rattle.resp_read.specs.Values.{values}
 use Rattle.resp_read.proofs.ReadLaws.{reads-shorter}
 use Rattle.resp_read.proofs.ValueLaws.{values-read, values-short, values-bad}
-use Rattle.link_core.specs.Dealing.{Dealing, dealt, dealt_each}
+use Rattle.link_core.specs.Dealing.{Dealing, dealt_each}
 use Rattle.link_core.proofs.link.deal_all.Goals as goal
 
 pub values-smaller : goal.values-smaller
@@ -22,7 +22,8 @@ values-preserved c =
       sound = h.value.2;
       dealt = ap (λ (d : Dealing). dealt_each d (values c.next_value.new.self.rest)) c.in-Ok.ensures ∙ sym (ap (λ (vs : List Data). dealt_each s vs) law.0) ∙ c.values.invariant.dealt;
       rest = sym law.1 ∙ c.values.invariant.rest;
-      spoiled = sym law.2 ∙ c.values.invariant.spoiled }
+      spoiled = sym law.2 ∙ c.values.invariant.spoiled;
+    }
 
 pub returns-in-Ok-None : goal.returns-in-Ok-None
 returns-in-Ok-None c =
@@ -33,7 +34,8 @@ returns-in-Ok-None c =
       dealt = sym (ap (λ (vs : List Data). dealt_each s vs) law.0) ∙ c.values.invariant.dealt;
       rest = ap (λ (r : ReaderState). r.rest) h.value.2 ∙ sym law.1 ∙ c.values.invariant.rest;
       spoiled = sym law.2 ∙ c.values.invariant.spoiled;
-      sound = λ _. ap (λ (r : ReaderState). r.health) h.value.2 ∙ c.values.invariant.sound }
+      sound = λ _. ap (λ (r : ReaderState). r.health) h.value.2 ∙ c.values.invariant.sound;
+    }
 
 pub returns-in-Err-Parse : goal.returns-in-Err-Parse
 returns-in-Err-Parse c =
@@ -44,4 +46,5 @@ returns-in-Err-Parse c =
       dealt = sym (ap (λ (vs : List Data). dealt_each s vs) law.0) ∙ c.values.invariant.dealt;
       rest = ap (λ (r : ReaderState). r.rest) h.value.1 ∙ sym law.1 ∙ c.values.invariant.rest;
       spoiled = sym law.2 ∙ c.values.invariant.spoiled;
-      sound = λ e. cc }
+      sound = λ e. cc;
+    }

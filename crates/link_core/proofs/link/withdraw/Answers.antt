@@ -1,4 +1,4 @@
-use Rattle.std.proofs.Common.{arith, ◌≡◌, ◌<◌, [], length, true, false, sym, ◌∙◌}
+use Rattle.std.proofs.Common.{arith, ◌<◌, [], length, sym, ◌∙◌}
 use Rattle.std.proofs.lemmas.Option.{get_or_from_slice_get}
 use Rattle.link_core.specs.Waiting.{awaits}
 use Rattle.link_core.proofs.FirstLemmas.{one_passed, first_here, all_passed, remove_is}
@@ -13,7 +13,8 @@ loop-index-preserved c =
     record {
       same = inv.same;
       len_is = inv.len_is;
-      passed = one_passed (awaits c.args.id) (λ _. []) c.args.queue.now c.loop-index.index q l read (sym c.awaits.ensures ∙ c.if-awaits.false) inv.passed }
+      passed = one_passed (awaits c.args.id) (λ _. []) c.args.queue.now c.loop-index.index q l read (sym c.awaits.ensures ∙ c.if-awaits.false) inv.passed;
+    }
 
 pub returns-then-awaits : goal.returns-then-awaits
 returns-then-awaits c =

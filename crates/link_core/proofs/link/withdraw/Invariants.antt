@@ -7,4 +7,5 @@ abbrev pub invariant-loop-index : goal.invariant-loop-index
 invariant-loop-index l = record {
   same : l.queue ≡ l.fn.queue;
   len_is : l.len ≡ length l.fn.queue;
-  passed : Passed (awaits l.id) (λ _. []) l.fn.queue l.index }
+  passed : Passed (awaits l.id) (λ _. []) l.fn.queue l.index;
+}

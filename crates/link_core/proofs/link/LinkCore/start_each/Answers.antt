@@ -1,6 +1,6 @@
-use Rattle.std.proofs.Common.{arith, ◌≡◌, ◌∷◌, false, true, sym, ap, ◌∙◌}
+use Rattle.std.proofs.Common.{◌≡◌, ◌∷◌, false, sym, ap, ◌∙◌}
 use Rattle.link_core.specs.Link.{Starting, LinkState, started_all, started_one, is_held_back, is_spent}
-use Rattle.link_core.proofs.StartLemmas.{one_more, none_more, none_waits, spent_on, front_kept}
+use Rattle.link_core.proofs.StartLemmas.{one_more, none_more, spent_on, front_kept}
 use Rattle.link_core.proofs.link.LinkCore.start_each.Goals as goal
 
 pub starts-preserved : goal.starts-preserved
@@ -13,7 +13,8 @@ starts-preserved c =
     let seen = ap (λ (x : LinkState). started_all (started_one (record { link = record x { queue = qs }; out = s.out }) q)) c.self.view_is in
     record {
       all = ap started_all c.in-Ok.ensures.ok ∙ seen ∙ sym (one_more s q qs e free) ∙ c.starts.invariant.all;
-      front = front_kept s.out c.args.out.now.items c.start_one.new.out.items _ c.starts.invariant.front (ap (λ (x : Starting). x.out) c.in-Ok.ensures.ok) }
+      front = front_kept s.out c.args.out.now.items c.start_one.new.out.items _ c.starts.invariant.front (ap (λ (x : Starting). x.out) c.in-Ok.ensures.ok);
+    }
 
 pub returns-in-Err-clause-spent : goal.returns-in-Err-clause-spent
 returns-in-Err-clause-spent c is =

@@ -12,7 +12,8 @@ loop-index-preserved c =
     record {
       same = inv.same;
       len_is = inv.len_is;
-      passed = one_passed (is_entry_of c.args.id) (λ e. silent e ∷ []) c.args.self.now c.loop-index.index c.index.result.now l (rw inv.same at c.index.ensures) other inv.passed }
+      passed = one_passed (is_entry_of c.args.id) (λ e. silent e ∷ []) c.args.self.now c.loop-index.index c.index.result.now l (rw inv.same at c.index.ensures) other inv.passed;
+    }
 
 pub returns-then-index-id : goal.returns-then-index-id
 returns-then-index-id c =

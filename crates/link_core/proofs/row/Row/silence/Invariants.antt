@@ -7,4 +7,5 @@ abbrev pub invariant-loop-index : goal.invariant-loop-index
 invariant-loop-index l = record {
   same : l.self-inside.entries.items ≡ l.fn.self;
   len_is : l.len ≡ length l.fn.self;
-  passed : Passed (is_entry_of l.id) (λ e. silent e ∷ []) l.fn.self l.index }
+  passed : Passed (is_entry_of l.id) (λ e. silent e ∷ []) l.fn.self l.index;
+}

@@ -6,4 +6,5 @@ pub invariant_of-result : goal.invariant_of-result
 invariant_of-result c = record {
   core = λ _. opened_is c.in_ok-core.core c.args.config c.args.word c.new-events.result c.move_into.new.self c.in_ok-core.ensures c.new-events.ensures c.in_ok-move_into.ensures.emptied;
   outcomes = c.new.ensures ∙ rw c.new-events.ensures (sym (outcomes_after-none c.args.config c.args.word));
-  few = omega (arith, ap length c.new-events.ensures) }
+  few = omega (arith, ap length c.new-events.ensures);
+}

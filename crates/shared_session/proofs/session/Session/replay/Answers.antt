@@ -18,7 +18,7 @@ returns-in-Err-BadEvent-clause-stops c =
     let n = c.loop-event.event-index in
     let e : slice_get all n ≡ Some c.in-Ok-clone.event = slice_get_read all (length all) n c.event-item.result refl c.loop-event-test.true c.event-item.is ∙ ap Some (sym c.in-Ok-clone.ensures) in
     bad_stops c.args.config c.args.word all n c.events_taken-index.result c.args.actions.now.items c.loop-event.actions.items c.step.new.out.items
-        c.loop-event.session c.step.new.self c.in-Ok-clone.event c.loop-event-test.true e c.loop-event.invariant h.err (h.bad_same refl) (h.bad.0 refl).1 c.events_taken-index.ensures
+    c.loop-event.session c.step.new.self c.in-Ok-clone.event c.loop-event-test.true e c.loop-event.invariant h.err (h.bad_same refl) (h.bad.0 refl).1 c.events_taken-index.ensures
 
 pub loop-event-preserved : goal.loop-event-preserved
 loop-event-preserved c =
@@ -26,7 +26,7 @@ loop-event-preserved c =
     let n = c.loop-event.event-index in
     let e = c.in-Ok-clone.event in
     let next : take (n + 1) all ≡ take n all ++ e ∷ [] =
-        take_more all n c.event-item.result c.loop-event-test.true ∙ ap (λ (x : Event). take n all ++ x ∷ []) (sym c.event-item.is ∙ sym c.in-Ok-clone.ensures) in
+    take_more all n c.event-item.result c.loop-event-test.true ∙ ap (λ (x : Event). take n all ++ x ∷ []) (sym c.event-item.is ∙ sym c.in-Ok-clone.ensures) in
     subst (λ (es : List Event). Kept c.args.config c.args.word es c.args.actions.now.items c.step.new.self c.step.new.out.items) (sym next)
-        (kept_more c.args.config c.args.word (take n all) c.args.actions.now.items c.loop-event.actions.items c.step.new.out.items c.loop-event.session c.step.new.self e c.loop-event.invariant
-        c.in-Ok-step.ensures.ok c.in-Ok-step.ensures.actions c.in-Ok-step.ensures.good)
+    (kept_more c.args.config c.args.word (take n all) c.args.actions.now.items c.loop-event.actions.items c.step.new.out.items c.loop-event.session c.step.new.self e c.loop-event.invariant
+    c.in-Ok-step.ensures.ok c.in-Ok-step.ensures.actions c.in-Ok-step.ensures.good)

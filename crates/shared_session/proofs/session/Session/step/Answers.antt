@@ -19,4 +19,5 @@ invariant_of-self-2 c =
     record {
       core = λ _. state_kept before after c.self.inside.config c.self.inside.word es c.keep.new.events c.args.event c.commit.new.done c.keep.new.acts b a kept.1 c.commit.ensures.done kept.2;
       outcomes = outcomes_kept before after c.self.inside.config c.self.inside.word es c.keep.new.events c.args.event c.self.inside.outcomes c.commit.new.outcomes b c.self.invariant.outcomes a kept.1 put;
-      few = few_kept before c.self.inside.config c.self.inside.word es c.keep.new.events c.args.event b low kept.1 }
+      few = few_kept before c.self.inside.config c.self.inside.word es c.keep.new.events c.args.event b low kept.1;
+    }

@@ -1,0 +1,251 @@
+use crate::{EnqueueError, LinkCore, LinkFault, Settled, StartError};
+use driver_model::{Shape, Verdict};
+use resp_read::ReadError;
+use resp_value::{RedisError, Value};
+use std::alloc::{AllocError, Global};
+use std::process::Abort;
+
+/// One call at a link.
+#[derive(Clone, Copy)]
+enum Call {
+    Put(u64, &'static str),
+    /// A message whose verdict is not wanted.
+    PutAnswered(u64, &'static str),
+    Start,
+    Offer,
+    Wrote(u64),
+    Bytes(&'static str),
+    Cancel(u64),
+    Fault(LinkFault),
+    Close,
+}
+
+fn put(
+    alloc: Global,
+    link: &mut LinkCore,
+    id: u64,
+    text: &str,
+    answered: bool,
+    log: &mut Vec<u8>,
+) -> Result<(), AllocError> {
+    let word: &str = match link.enqueue(alloc, id, text.as_bytes(), Shape::Single, answered) {
+        Ok(()) => if link.is_full() {
+            "put, full; "
+        } else {
+            "put; "
+        },
+        Err(EnqueueError::Full) => "full; ",
+        Err(EnqueueError::NoMemory) => "no memory; ",
+    };
+    log.extend_from_slice(word.as_bytes())
+}
+
+fn start(alloc: Global, link: &mut LinkCore, log: &mut Vec<u8>) -> Result<(), AllocError> {
+    let mut starts = Vec::new(alloc);
+    match link.start_ready(alloc, &mut starts) {
+        Ok(()) => {}
+        Err(StartError::Spent) => log.extend_from_slice(b"spent; ".as_slice())?,
+        Err(StartError::NoMemory) => return Err(AllocError),
+    }
+    let (count, lack) = (starts.len(), link.open_needs());
+    log.extend_from_slice(format!(in alloc; "starts {count}, open {lack}; ")?.as_bytes())?;
+    for start in &starts {
+        let (msg, id, need, len) = (start.msg, start.id, start.need, start.len);
+        log.extend_from_slice(format!(in alloc; "{msg} {id} {need} {len}; ")?.as_bytes())?;
+    }
+    Ok(())
+}
+
+fn offer(link: &mut LinkCore, log: &mut Vec<u8>) -> Result<(), AllocError> {
+    log.extend_from_slice(b"offer ".as_slice())?;
+    link.offer(log)?;
+    log.extend_from_slice(b"; ".as_slice())
+}
+
+fn wrote(
+    rt: &impl Abort,
+    alloc: Global,
+    link: &mut LinkCore,
+    count: u64,
+    log: &mut Vec<u8>,
+) -> Result<(), AllocError> {
+    assert!(rt; count <= link.offered_len());
+    link.wrote(count);
+    let left = link.unwritten();
+    log.extend_from_slice(format!(in alloc; "left {left}; ")?.as_bytes())
+}
+
+fn describe(alloc: Global, settled: &Settled, log: &mut Vec<u8>) -> Result<(), AllocError> {
+    let id = settled.id;
+    log.extend_from_slice(format!(in alloc; "{id} ")?.as_bytes())?;
+    match &settled.verdict {
+        Verdict::One(Value::Int(n)) => log.extend_from_slice(format!(in alloc;
+            "{n}; "
+        )?.as_bytes()),
+        Verdict::One(Value::Okay) => log.extend_from_slice(b"okay; ".as_slice()),
+        Verdict::One(_) => log.extend_from_slice(b"other; ".as_slice()),
+        Verdict::Fault(RedisError::Closed) => log.extend_from_slice(b"closed; ".as_slice()),
+        Verdict::Fault(RedisError::Parse) => log.extend_from_slice(b"parse; ".as_slice()),
+        Verdict::Fault(RedisError::EmptyCommand) => log.extend_from_slice(b"empty; ".as_slice()),
+    }
+}
+
+fn describe_all(alloc: Global, settled: &[Settled], log: &mut Vec<u8>) -> Result<(), AllocError> {
+    for message in settled {
+        describe(alloc, message, log)?;
+    }
+    Ok(())
+}
+
+fn bytes(
+    alloc: Global,
+    link: &mut LinkCore,
+    text: &str,
+    log: &mut Vec<u8>,
+) -> Result<(), AllocError> {
+    let mut settled = Vec::new(alloc);
+    let mut pushes = Vec::new(alloc);
+    let answer = link.bytes(alloc, text.as_bytes(), &mut settled, &mut pushes);
+    describe_all(alloc, settled.as_slice(), log)?;
+    match answer {
+        Ok(()) => Ok(()),
+        Err(ReadError::Parse) => log.extend_from_slice(b"malformed; ".as_slice()),
+        Err(ReadError::NoMemory) => Err(AllocError),
+    }
+}
+
+fn fault(
+    alloc: Global,
+    link: &mut LinkCore,
+    fault: LinkFault,
+    log: &mut Vec<u8>,
+) -> Result<(), AllocError> {
+    let mut settled = Vec::new(alloc);
+    link.fault(alloc, fault, &mut settled)?;
+    describe_all(alloc, settled.as_slice(), log)
+}
+
+fn close(alloc: Global, link: &mut LinkCore, log: &mut Vec<u8>) -> Result<(), AllocError> {
+    let mut settled = Vec::new(alloc);
+    link.close(alloc, &mut settled)?;
+    describe_all(alloc, settled.as_slice(), log)
+}
+
+fn make(
+    rt: &impl Abort,
+    alloc: Global,
+    link: &mut LinkCore,
+    call: &Call,
+    log: &mut Vec<u8>,
+) -> Result<(), AllocError> {
+    match call {
+        Call::Put(id, text) => put(alloc, link, *id, text, false, log),
+        Call::PutAnswered(id, text) => put(alloc, link, *id, text, true, log),
+        Call::Start => start(alloc, link, log),
+        Call::Offer => offer(link, log),
+        Call::Wrote(count) => wrote(rt, alloc, link, *count, log),
+        Call::Bytes(text) => bytes(alloc, link, text, log),
+        Call::Cancel(id) => {
+            link.cancel(*id);
+            Ok(())
+        }
+        Call::Fault(cause) => fault(alloc, link, *cause, log),
+        Call::Close => close(alloc, link, log),
+    }
+}
+
+/// Makes the calls at a new link, and compares what they answered.
+fn run(
+    rt: &impl Abort,
+    alloc: Global,
+    size: u32,
+    boundary: u64,
+    calls: &[Call],
+    wanted: &str,
+) -> Result<(), AllocError> {
+    let mut link = LinkCore::new(alloc, size, boundary);
+    let mut log = Vec::new(alloc);
+    for next in calls {
+        make(rt, alloc, &mut link, next, &mut log)?;
+    }
+    assert_eq!(rt; log.as_slice(), wanted.as_bytes());
+    Ok(())
+}
+
+#[test]
+fn replies_come_in_order(rt: HostRuntime) -> Result<(), AllocError> {
+    let calls = [
+        Call::Put(7, "abcd"),
+        Call::Put(8, "xy"),
+        Call::Start,
+        Call::Offer,
+        Call::Offer,
+        Call::Wrote(3),
+        Call::Offer,
+        Call::Wrote(3),
+        Call::Offer,
+        Call::Bytes(":1\r\n+O"),
+        Call::Bytes("K\r\n:5\r\n"),
+        Call::PutAnswered(9, "z"),
+        Call::Put(10, "z"),
+        Call::Start,
+        Call::Bytes(":2\r\n:3\r\n"),
+    ];
+    let wanted =
+        "put; put; starts 2, open 2; 0 7 1 4; 1 8 1 2; offer abcdxy; offer ; left 3; offer dxy; left 0; offer ; 7 1; 8 okay; \
+put; put; starts 2, open 2; 2 9 1 1; 3 10 1 1; 10 3; ";
+    run(&rt, rt.alloc(), 3, 1000, calls.as_slice(), wanted)
+}
+
+#[test]
+fn messages_are_held_back_and_cancelled(rt: HostRuntime) -> Result<(), AllocError> {
+    let calls = [
+        Call::Put(1, "ab"),
+        Call::Put(2, "c"),
+        Call::Start,
+        Call::Put(3, "c"),
+        Call::Start,
+        Call::Cancel(3),
+        Call::Put(4, "d"),
+        Call::Cancel(1),
+        Call::Offer,
+        Call::Wrote(2),
+        Call::Start,
+        Call::Bytes(":1\r\n:2\r\n"),
+    ];
+    let wanted =
+        "put, full; full; starts 1, open 1; 0 1 1 2; put, full; starts 0, open 1; put, full; offer ab; left 0; starts 1, open 2; 1 4 1 1; 4 2; ";
+    run(&rt, rt.alloc(), 1, 1, calls.as_slice(), wanted)
+}
+
+#[test]
+fn ends_settle_each_message(rt: HostRuntime) -> Result<(), AllocError> {
+    let alloc = rt.alloc();
+    let calls = [
+        Call::Put(1, "a"),
+        Call::Put(2, "b"),
+        Call::Start,
+        Call::Put(3, "c"),
+        Call::Bytes("?x"),
+        Call::Bytes(":1\r\n"),
+        Call::Fault(LinkFault::Parse),
+        Call::Close,
+    ];
+    let wanted =
+        "put; put; starts 2, open 2; 0 1 1 1; 1 2 1 1; put; malformed; malformed; 1 parse; 2 closed; 3 closed; ";
+    run(&rt, alloc, 9, 1000, calls.as_slice(), wanted)?;
+    let calls = [
+        Call::Put(1, "a"),
+        Call::Start,
+        Call::Put(2, "c"),
+        Call::Fault(LinkFault::Ended),
+        Call::Put(3, "a"),
+        Call::Start,
+        Call::Put(4, "c"),
+        Call::Cancel(3),
+        Call::Close,
+    ];
+    let wanted =
+        "put; starts 1, open 1; 0 1 1 1; put; 1 closed; 2 closed; put; starts 1, open 1; 1 3 1 1; put; 4 closed; ";
+    run(&rt, alloc, 9, 1000, calls.as_slice(), wanted)
+}

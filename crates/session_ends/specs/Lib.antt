@@ -1,0 +1,5 @@
+pub mod Ends
+pub mod Feeding
+pub mod Memory
+pub mod World
+pub mod MemWorld
