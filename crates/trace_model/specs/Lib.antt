@@ -2,3 +2,5 @@ pub mod Submissions
 pub mod LinkLedger
 pub mod Cut
 pub mod Story
+pub mod Turns
+pub mod Legal
