@@ -49,9 +49,13 @@ is_full s = nat_le s.size (length s.queue)
 abbrev pub enqueued : LinkState → Queued → LinkState
 enqueued s q = record s { queue = s.queue ++ q ∷ [] }
 
+-- the greatest boundary, which holds nothing back
+abbrev pub no_boundary : ℕ
+no_boundary = 18_446_744_073_709_551_615
+
 -- no message starts while bytes are unwritten, and as many as the boundary
 abbrev pub is_held_back : LinkState → Bool
-is_held_back s = nat_lt 0 (length s.outbox.unwritten) && nat_le s.boundary (length s.outbox.unwritten)
+is_held_back s = nat_lt s.boundary no_boundary && (nat_lt 0 (length s.outbox.unwritten) && nat_le s.boundary (length s.outbox.unwritten))
 
 -- a link, and the starts of one call
 pub record Starting : Type 0 where

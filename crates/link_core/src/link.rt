@@ -53,7 +53,7 @@ impl LinkCore {
     ghost use Rattle.link_core.specs.Row.{lacks};
 
     /// A link whose queue holds `size` messages, at least one, and on which no message starts while `boundary` bytes or
-    /// more, and at least one, are unwritten. Takes no memory.
+    /// more, and at least one, are unwritten. The greatest boundary holds nothing back. Takes no memory.
     pub fn new(alloc: Global, size: u32, boundary: u64) -> LinkCore
         ensures { result ≡ fresh size boundary }
     {
@@ -158,7 +158,7 @@ impl LinkCore {
         ensures { result ≡ is_held_back_in self.now }
     {
         let unwritten = self.outbox.unwritten.len() as u64;
-        unwritten > 0 && unwritten >= self.boundary
+        self.boundary < u64::MAX && (unwritten > 0 && unwritten >= self.boundary)
     }
 
     fn start_each(&mut self, alloc: Global, out: &mut Vec<Started>) -> Result<(), StartError>

@@ -6,7 +6,7 @@ use Rattle.driver_model.specs.declared.action.Cause.TheVariants as cause
 use Rattle.driver_model.specs.declared.config.Config.{Config}
 use Rattle.driver_model.specs.declared.event.Event.{Event}
 use Rattle.driver_model.specs.declared.outcome.Outcome.{Outcome}
-use Rattle.link_core.specs.Link.{fresh}
+use Rattle.link_core.specs.Link.{fresh, no_boundary}
 use Rattle.shared_session.specs.declared.connection.Connection.{Connection}
 use Rattle.shared_session.specs.declared.connection.Done.{Done}
 use Rattle.shared_session.specs.declared.connection.Phase.TheVariants.{Dialing}
@@ -18,11 +18,8 @@ use Rattle.shared_session.specs.Turn.{quiet, turn, is_bad}
 abbrev pub max_size : ℕ
 max_size = 4_294_967_295
 
-abbrev pub max_boundary : ℕ
-max_boundary = 18_446_744_073_709_551_615
-
 abbrev pub blank : Connection
-blank = record { phase = Dialing; shut = false; link = fresh max_size max_boundary; requests = []; waiting = []; fresh = []; done = []; acts = [] }
+blank = record { phase = Dialing; shut = false; link = fresh max_size no_boundary; requests = []; waiting = []; fresh = []; done = []; acts = [] }
 
 -- turn 0: the link is to be connected
 abbrev pub opening : Config → ℕ → Core

@@ -1,5 +1,5 @@
 -- What the parts of a turn do to a connection.
-use Rattle.std.specs.Prelude.{ℕ, ◌+◌, ◌==◌, Bool, true, false, List, [], ◌∷◌, ◌++◌, length, slice_set, if◌then◌else◌}
+use Rattle.std.specs.Prelude.{ℕ, ◌==◌, Bool, true, false, List, [], ◌∷◌, ◌++◌, length, slice_set, if◌then◌else◌}
 use Rattle.resp_value.specs.declared.redis_error.RedisError.TheVariants as error
 use Rattle.resp_write.specs.Pack.{pack}
 use Rattle.driver_model.specs.declared.action.Action.{Action}
@@ -16,7 +16,7 @@ use Rattle.link_core.specs.declared.errors.LinkFault.TheVariants as fault
 use Rattle.link_core.specs.declared.message.Queued.{Queued}
 use Rattle.link_core.specs.declared.message.Settled.{Settled}
 use Rattle.link_core.specs.declared.message.Started.{Started}
-use Rattle.link_core.specs.Link.{LinkState, Starting, Settling, is_full, enqueued, started_all, offered_of, wrote_of, cancelled, came, faulted, closed_all}
+use Rattle.link_core.specs.Link.{Starting, Settling, is_full, enqueued, started_all, offered_of, wrote_of, cancelled, came, faulted, closed_all}
 use Rattle.link_core.specs.Outbox.{can_offer}
 use Rattle.shared_session.specs.declared.connection.Connection.{Connection}
 use Rattle.shared_session.specs.declared.connection.Phase.{Phase}

@@ -1,5 +1,5 @@
 -- When a trace can be relied on: said of the trace alone, apart from any machine.
-use Rattle.std.specs.Prelude.{◌≡◌, ◌≢◌, ◌⊎◌, ℕ, ◌+◌, ◌<◌, ◌≤◌, Bool, true, false, List, [], ◌∷◌, ◌++◌, length, take, drop, flat_map, Option, Some, None, slice_get}
+use Rattle.std.specs.Prelude.{◌≡◌, ◌≢◌, ◌⊎◌, ℕ, ◌+◌, ◌<◌, ◌≤◌, true, false, List, [], ◌∷◌, ◌++◌, length, take, drop, flat_map, Option, Some, None, slice_get}
 use Rattle.resp_value.specs.declared.redis_error.RedisError.TheVariants as error
 use Rattle.resp_value.specs.Data.{Data}
 use Rattle.resp_read.specs.Values.{is_spoiled}
@@ -68,7 +68,7 @@ WaitHolds before wait.Connect = ((link_ledger 0 before).up ≡ false) × ((link_
 -- why a submission has this outcome at this place
 abbrev pub IsVerdictOf : List Action → ℕ → Submission → Outcome → Type 0
 IsVerdictOf before n s (outcome.One v) =
-  (k : ℕ) × (items : List Data) × StartedAs (link_ledger 0 before) n k × IsFull (link_ledger 0 before) k items × (verdict_of s items ≡ verdict.One v)
+    (k : ℕ) × (items : List Data) × StartedAs (link_ledger 0 before) n k × IsFull (link_ledger 0 before) k items × (verdict_of s items ≡ verdict.One v)
 IsVerdictOf before n s (outcome.Fault e) = ⊥
 
 -- its link has ended before its message was full, and not by bytes that begin no value while it was the oldest
@@ -180,8 +180,8 @@ pub record MayBeCreated (before : List Action) : Type 0 where
 -- after a turn a submission is started and offered with a cut that isn't full, or truly in the wait shown
 abbrev pub Goes : List Action → ℕ → Type 0
 Goes before n =
-  ((k : ℕ) × StartedAs (link_ledger 0 before) n k × ((link_ledger 0 before).up ≡ true) × (length (link_ledger 0 before).dealt < needs (take (k + 1) (link_ledger 0 before).starts)) × IsOffered 0 before)
-  ⊎ ((kind : WaitKind) × ((story n before).waiting ≡ Some kind) × WaitHolds before kind)
+    ((k : ℕ) × StartedAs (link_ledger 0 before) n k × ((link_ledger 0 before).up ≡ true) × (length (link_ledger 0 before).dealt < needs (take (k + 1) (link_ledger 0 before).starts)) × IsOffered 0 before)
+    ⊎ ((kind : WaitKind) × ((story n before).waiting ≡ Some kind) × WaitHolds before kind)
 
 -- what holds after each turn
 pub record IsSettled (before : List Action) : Type 0 where

@@ -1,4 +1,4 @@
-use Rattle.std.proofs.Common.{◌≡◌, [], length}
+use Rattle.std.proofs.Common.{◌≡◌, length}
 use Rattle.shared_session.specs.Steps.{shown_each}
 use Rattle.shared_session.proofs.connection.Connection.show_starts.Given as goal
 

@@ -1,4 +1,4 @@
-use Rattle.std.proofs.Common.{◌≡◌, ◌^◌, ◌<◌, length, arith, ap, ◌∙◌, sym, refl}
+use Rattle.std.proofs.Common.{length, arith, ap, ◌∙◌, sym}
 use Rattle.shared_session.proofs.Replays.{opened_is, outcomes_after-none}
 use Rattle.shared_session.proofs.session.Session.new.Goals as goal
 

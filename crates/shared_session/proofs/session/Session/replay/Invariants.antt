@@ -1,7 +1,4 @@
-use Rattle.std.proofs.Common.{◌≡◌, ◌++◌, take}
-use Rattle.shared_session.specs.declared.session.Failure.TheVariants.{Sound}
-use Rattle.shared_session.specs.History.{History}
-use Rattle.shared_session.specs.Replay.{trace_of, AreGood}
+use Rattle.std.proofs.Common.{take}
 use Rattle.shared_session.proofs.Replays.{Kept}
 use Rattle.shared_session.proofs.session.Session.replay.Given as goal
 
