@@ -16,7 +16,7 @@ line_at (Held n) bs = held (take n bs)
 line_at Unended bs = unended bs
 line_at Broken bs = broken
 
--- the line is as long as the place says, and so is its end
+-- the line stands within the text, and so do the CR and the LF that have come
 abbrev pub IsWithin : LineEnd → List ℕ → Type 0
 IsWithin (Ended n) bs = n + 2 ≤ length bs
 IsWithin (Held n) bs = n + 1 ≡ length bs

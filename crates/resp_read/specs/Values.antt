@@ -9,12 +9,12 @@ first_and next (read v rest) = v ∷ next rest
 first_and next short = []
 first_and next bad = []
 
--- at most n of them
+-- at most n values, one after another
 abbrev pub values_within : ℕ → List ℕ → List Data
 values_within zero bs = []
 values_within (suc n) bs = first_and (values_within n) (parse max_depth bs)
 
--- the values one after another; there are no more of them than bytes, since each takes one at least
+-- all the values that stand one after another at the front: no more than there are bytes, since each takes one at least
 unfoldable pub values : List ℕ → List Data
 values bs = values_within (length bs) bs
 

@@ -1,94 +1,84 @@
 use crate::{ReadError, Reader};
-use resp_value::Value;
+use resp_value::{ServerError, Value};
 use std::alloc::{AllocError, Global};
-use std::process::Abort;
 use std::test::Fail;
 
-fn describe(alloc: Global, value: &Value) -> Result<Vec<u8>, AllocError> {
-    let mut out = Vec::new(alloc);
+fn is_error(error: &ServerError, want: &str) -> bool {
+    match (&error.detail, want.split_once('|')) {
+        (Some(detail), Some((code, rest))) => {
+            error.code.as_slice() == code.as_bytes() && detail.as_slice() == rest.as_bytes()
+        }
+        (None, None) => error.code.as_slice() == want.as_bytes(),
+        _ => false,
+    }
+}
+
+/// Whether these words name the value.
+fn is_value(value: &Value, want: &str) -> bool {
     match value {
-        Value::Okay => out.extend_from_slice(b"okay".as_slice())?,
-        Value::Nil => out.extend_from_slice(b"nil".as_slice())?,
-        Value::Int(n) => out.extend_from_slice(format!(in alloc; "int {n}")?.as_bytes())?,
-        Value::SimpleString(text) => {
-            out.extend_from_slice(b"simple ".as_slice())?;
-            out.extend_from_slice(text.as_slice())?;
-        }
-        Value::BulkString(text) => {
-            out.extend_from_slice(b"bulk ".as_slice())?;
-            out.extend_from_slice(text.as_slice())?;
-        }
-        Value::ServerError(error) => {
-            out.extend_from_slice(b"error ".as_slice())?;
-            out.extend_from_slice(error.code.as_slice())?;
-            if let Some(detail) = &error.detail {
-                out.extend_from_slice(b"|".as_slice())?;
-                out.extend_from_slice(detail.as_slice())?;
-            }
-        }
-        _ => out.extend_from_slice(b"other".as_slice())?,
+        Value::Okay => want == "okay",
+        Value::Nil => want == "nil",
+        Value::Int(n) => match want.strip_prefix("int ") {
+            Some(digits) => digits.parse::<i64>() == Ok(*n),
+            None => false,
+        },
+        Value::SimpleString(text) => match want.strip_prefix("simple ") {
+            Some(rest) => text.as_slice() == rest.as_bytes(),
+            None => false,
+        },
+        Value::BulkString(text) => match want.strip_prefix("bulk ") {
+            Some(rest) => text.as_slice() == rest.as_bytes(),
+            None => false,
+        },
+        Value::ServerError(error) => match want.strip_prefix("error ") {
+            Some(rest) => is_error(error, rest),
+            None => false,
+        },
+        _ => false,
     }
-    Ok(out)
 }
 
-/// What the reader answers, in words.
-fn next(alloc: Global, reader: &mut Reader) -> Result<Vec<u8>, AllocError> {
+fn is_answer(answer: &Result<Option<Value>, ReadError>, want: &str) -> bool {
+    match answer {
+        Ok(Some(value)) => is_value(value, want),
+        Ok(None) => want == "none",
+        Err(ReadError::Parse) => want == "parse",
+        Err(ReadError::NoMemory) => false,
+    }
+}
+
+/// Whether the next answer is what these words name, and whether the reader says so afterwards.
+fn answers(alloc: Global, reader: &mut Reader, want: &str) -> bool {
     let answer = reader.next_value(alloc);
-    match &answer {
-        Ok(Some(value)) => describe(alloc, value),
-        Ok(None) => Vec::from_slice(alloc, b"none".as_slice()),
-        Err(ReadError::Parse) => Vec::from_slice(alloc, b"parse".as_slice()),
-        Err(ReadError::NoMemory) => Vec::from_slice(alloc, b"no memory".as_slice()),
-    }
+    let is_so = is_answer(&answer, want);
+    drop(answer);
+    is_so && reader.is_malformed() == (want == "parse")
 }
 
-/// Feeds the text in two pieces. The answer comes at byte `at`, and none before.
-fn cut_there(
-    rt: &impl Abort,
+/// Feeds the text in two pieces, the first of `cut` bytes or all. The answer comes at byte `at`, and none before.
+fn is_read(
     alloc: Global,
-    text: &str,
+    text: &[u8],
     cut: usize,
     at: usize,
     want: &str,
-) -> Result<(), AllocError> {
-    let bytes = text.as_bytes();
-    if cut > bytes.len() {
-        return Ok(());
-    }
+) -> Result<bool, AllocError> {
+    let (front, back) = text.split_at(cut.min(text.len()));
     let mut reader = Reader::new(alloc);
-    reader.feed(&bytes[..cut])?;
-    let early = next(alloc, &mut reader)?;
-    let expected = if cut < at { "none" } else { want };
-    assert_eq!(rt;
-        early.as_slice(),
-        expected.as_bytes(),
-        "{text:?} cut at {cut}"
+    reader.feed(front)?;
+    let early = answers(alloc, &mut reader, if cut < at { "none" } else { want });
+    reader.feed(back)?;
+    let late = cut >= at || answers(alloc, &mut reader, want);
+    let end = answers(
+        alloc,
+        &mut reader,
+        if want == "parse" { "parse" } else { "none" },
     );
-    reader.feed(&bytes[cut..])?;
-    if cut < at {
-        let late = next(alloc, &mut reader)?;
-        assert_eq!(rt; late.as_slice(), want.as_bytes(), "{text:?} from {cut} on");
-    }
-    let end = next(alloc, &mut reader)?;
-    let expected = if want == "parse" { "parse" } else { "none" };
-    assert_eq!(rt; end.as_slice(), expected.as_bytes(), "{text:?} after {cut}");
-    Ok(())
-}
-
-/// One mark, so many equal bytes, and an end.
-fn long(alloc: Global, mark: u8, count: usize, byte: u8, end: &[u8]) -> Result<Reader, AllocError> {
-    let mut text = Vec::new(alloc);
-    text.resize(count, byte)?;
-    let mut reader = Reader::new(alloc);
-    reader.feed([mark].as_slice())?;
-    reader.feed(text.as_slice())?;
-    reader.feed(end)?;
-    Ok(reader)
+    Ok(early && late && end)
 }
 
 #[test]
-fn reads_texts(rt: HostRuntime) -> Result<(), Fail> {
-    let alloc = rt.alloc();
+fn reads_texts_cut_anywhere(rt: HostRuntime) -> Result<(), Fail> {
     for (text, at, want) in [
         ("+OK\r\n", 5, "okay"),
         ("+\r\n", 3, "simple "),
@@ -126,28 +116,44 @@ fn reads_texts(rt: HostRuntime) -> Result<(), Fail> {
         ("?x", 1, "parse"),
         ("\r\n", 1, "parse"),
     ] {
-        for cut in 0..40 {
-            cut_there(&rt, alloc, text, cut, at, want)?;
+        for cut in 0..24 {
+            let is_so = is_read(rt.alloc(), text.as_bytes(), cut, at, want)?;
+            assert!(rt; is_so, "{text:?} cut at {cut}");
         }
     }
     Ok(())
 }
 
+/// A mark, so many equal bytes, and an end.
+fn is_long_read(
+    alloc: Global,
+    mark: u8,
+    count: usize,
+    byte: u8,
+    end: &str,
+    want: &str,
+) -> Result<bool, AllocError> {
+    let mut text = Vec::new(alloc);
+    text.resize(count, byte)?;
+    let mut reader = Reader::new(alloc);
+    reader.feed([mark].as_slice())?;
+    reader.feed(text.as_slice())?;
+    reader.feed(end.as_bytes())?;
+    Ok(answers(alloc, &mut reader, want))
+}
+
 #[test]
-fn reads_up_to_the_limit_of_a_line(rt: HostRuntime) -> Result<(), Fail> {
-    let alloc = rt.alloc();
-    let mut reader = long(alloc, b':', 1_048_576, b'0', b"\r\n:1\r\n".as_slice())?;
-    assert_eq!(rt; next(alloc, &mut reader)?.as_slice(), b"int 0".as_slice());
-    assert_eq!(rt; next(alloc, &mut reader)?.as_slice(), b"int 1".as_slice());
-    assert!(rt; !reader.is_malformed());
-    let mut reader = long(alloc, b'+', 1_048_576, b'a', b"".as_slice())?;
-    assert_eq!(rt; next(alloc, &mut reader)?.as_slice(), b"none".as_slice());
-    reader.feed(b"a".as_slice())?;
-    assert_eq!(rt; next(alloc, &mut reader)?.as_slice(), b"parse".as_slice());
-    assert!(rt; reader.is_malformed());
-    let mut reader = long(alloc, b'$', 1_048_575, b'0', b"1\r\nx\r\n".as_slice())?;
-    assert_eq!(rt; next(alloc, &mut reader)?.as_slice(), b"bulk x".as_slice());
-    let mut reader = long(alloc, b'$', 1_048_576, b'0', b"1\r\nx\r\n".as_slice())?;
-    assert_eq!(rt; next(alloc, &mut reader)?.as_slice(), b"parse".as_slice());
+fn reads_lines_up_to_the_limit(rt: HostRuntime) -> Result<(), Fail> {
+    for (mark, count, byte, end, want) in [
+        (b':', 1_048_576, b'0', "\r\n", "int 0"),
+        (b':', 1_048_576, b'0', "1\r\n", "parse"),
+        (b'+', 1_048_576, b'a', "", "none"),
+        (b'+', 1_048_576, b'a', "a", "parse"),
+        (b'$', 1_048_575, b'0', "1\r\nx\r\n", "bulk x"),
+        (b'$', 1_048_576, b'0', "1\r\nx\r\n", "parse"),
+    ] {
+        let is_so = is_long_read(rt.alloc(), mark, count, byte, end, want)?;
+        assert!(rt; is_so, "{want} after {count}");
+    }
     Ok(())
 }
