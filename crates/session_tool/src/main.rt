@@ -1,0 +1,45 @@
+//! Replays a script of events for one multiplexed connection, and writes the trace.
+#![tactic(auto)]
+
+mod command;
+mod lines;
+mod reading;
+mod replaying;
+mod running;
+mod streaming;
+#[cfg(test)]
+mod tests;
+
+use crate::running::{NO_MEMORY, run};
+use session_ends::{MemWorld, WorldScript, standard_input, standard_output};
+use std::alloc::{AllocError, Global};
+use std::env;
+use std::env::Args;
+use std::io;
+use std::process::ExitCode;
+
+/// The words after the program's name. Where one can't be read as text there are none, which is no command.
+fn words_of(alloc: Global, args: io::Result<Args>) -> Result<Vec<String>, AllocError> {
+    let mut words = Vec::new(alloc);
+    let Ok(args) = args else {
+        return Ok(words);
+    };
+    let mut rest = args;
+    rest.next();
+    for word in rest {
+        words.push(word)?;
+    }
+    Ok(words)
+}
+
+fn main(rt: HostRuntime) -> ExitCode {
+    let alloc = rt.alloc();
+    let Ok(words) = words_of(alloc, env::args(&rt)) else {
+        return ExitCode::from(NO_MEMORY);
+    };
+    let mut source = standard_input(&rt);
+    let mut sink = standard_output(&rt);
+    let mut world = MemWorld::new(alloc, WorldScript::new(alloc));
+    let status = run(&rt, alloc, words.as_slice(), &mut source, &mut sink, &mut world);
+    ExitCode::from(status)
+}

@@ -1,0 +1,116 @@
+ghost use Rattle.std.specs.Prelude.{◌≡◌, ℕ, ◌+◌, ◌≤◌, ◌++◌, [], ◌∷◌, length, true, false, OnOk, OnErr, IfOk, IsErrOf};
+ghost use Rattle.session_ends.specs.Ends.{Rose};
+ghost use Rattle.shared_session.specs.Replay.{opening, state_after, actions_of, trace_of, is_bad_after, AreGood};
+ghost use Rattle.shared_session.specs.declared.session.Failure.TheVariants.{Sound};
+ghost use Rattle.trace_text.specs.Show.{show};
+ghost use Rattle.session_tool.specs.Streaming.{Sent};
+ghost use Rattle.session_tool.specs.Stops.{EndsBadly};
+
+use crate::streaming::{show_turn, write_large};
+use containers::Bytes;
+use driver_model::{Config, Event};
+use session_ends::Sink;
+use shared_session::{MakeError, Session, StepError};
+use std::alloc::{AllocError, Global};
+
+/// Why a replay ended before its last event. The text has the lines of the finished turns that are not written yet.
+#[derive(Clone, Copy, Debug, PartialEq, Eq)]
+pub enum Stop {
+    /// This event is the first bad one. Events are counted from 1.
+    BadEvent(u64),
+    /// A number ran out at this event.
+    Spent(u64),
+    NoMemory,
+    /// The sink failed.
+    WriteFault,
+}
+
+impl From<AllocError> for Stop {
+    ghost use Rattle.std.specs.Prelude.{◌≡◌};
+    ghost use Rattle.session_tool.specs.declared.replaying.Stop.TheVariants.{NoMemory};
+
+    ghost from_gives = { λ _ e. e ≡ NoMemory };
+
+    fn from(_error: AllocError) -> Self {
+        Stop::NoMemory
+    }
+}
+
+/// Makes a session, and shows its opening.
+fn open_session(
+    alloc: Global,
+    config: &Config,
+    word: u64,
+    text: &mut Bytes,
+) -> Result<Session, AllocError>
+    ensures made { IfOk result (λ s. s ≡ record { config = config.now; word = word; events = []; failure = Sound }) }
+    ensures shown { OnOk result (text.new ≡ text.old ++ show (opening config.now word).connection.acts) }
+    ensures err { OnErr result (text.new ≡ text.old) }
+{
+    let config = config.clone(alloc)?;
+    let mut actions = Vec::new(alloc);
+    let session = match Session::new(alloc, config, word, &mut actions) {
+        Ok(session) => session,
+        Err(MakeError::NoMemory) => return Err(AllocError),
+    };
+    show_turn(alloc, text, actions.as_slice())?;
+    Ok(session)
+}
+
+/// Steps one event, and shows its turn.
+fn take_turn(
+    alloc: Global,
+    session: &mut Session,
+    event: &Event,
+    text: &mut Bytes,
+) -> Result<(), Stop>
+    ensures ok { OnOk result (session.new ≡ record session.old { events = session.old.events ++ event.now ∷ [] }) }
+    ensures shown { OnOk result (text.new ≡ text.old ++ show (actions_of (state_after session.old.config session.old.word session.old.events) event.now)) }
+    ensures good { OnOk result (is_bad_after session.old.config session.old.word session.old.events event.now ≡ false) }
+    ensures bad { (n : ℕ) → IsErrOf result (Stop.BadEvent n) → is_bad_after session.old.config session.old.word session.old.events event.now ≡ true }
+    ensures number { (n : ℕ) → IsErrOf result (Stop.BadEvent n) → n ≡ length session.old.events + 1 }
+    ensures spent { (n : ℕ) → IsErrOf result (Stop.Spent n) → n ≡ length session.old.events + 1 }
+    ensures writes { IsErrOf result Stop.WriteFault → ⊥ }
+    ensures err { OnErr result (text.new ≡ text.old) }
+{
+    let event = event.clone(alloc)?;
+    let number = u64::from(session.events_taken()) + 1;
+    let mut actions = Vec::new(alloc);
+    match session.step(alloc, event, &mut actions) {
+        Ok(()) => {}
+        Err(StepError::BadEvent) => return Err(Stop::BadEvent(number)),
+        Err(StepError::Spent { events }) => return Err(Stop::Spent(u64::from(events) + 1)),
+        Err(StepError::NoMemory) => return Err(Stop::NoMemory),
+    }
+    show_turn(alloc, text, actions.as_slice())?;
+    Ok(())
+}
+
+/// Replays a history into a sink. What of the trace is not written yet is left in the text.
+pub fn replay_into<K: Sink>(
+    alloc: Global,
+    config: &Config,
+    word: u64,
+    events: &[Event],
+    sink: &mut K,
+    text: &mut Bytes,
+) -> Result<(), Stop>
+    requires { text.old ≡ [] }
+    ensures sent { OnOk result (Sent (K.held sink.old) (K.held sink.new) text.new (show (trace_of config.now word events.now))) }
+    ensures good { OnOk result (AreGood config.now word events.now) }
+    ensures bad { (n : ℕ) → IsErrOf result (Stop.BadEvent n) → EndsBadly config.now word events.now n (K.held sink.old) (K.held sink.new) text.new }
+    ensures later { K.fault_count sink.old ≤ K.fault_count sink.new }
+    ensures cause { IsErrOf result Stop.WriteFault → Rose (K.fault_count sink.old) (K.fault_count sink.new) }
+{
+    let mut session = open_session(alloc, config, word, text)?;
+    for event in events {
+        match take_turn(alloc, &mut session, event, text) {
+            Ok(()) => {}
+            Err(stop) => return Err(stop),
+        }
+        if !write_large(sink, text) {
+            return Err(Stop::WriteFault);
+        }
+    }
+    Ok(())
+}
