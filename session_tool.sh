@@ -8,7 +8,7 @@ newer() {
 }
 if [ ! -x "$program" ] || newer; then
   log=$(mktemp)
-  if ! (cd "$top/crates/session_tool" && rt run) </dev/null >"$log" 2>&1 || [ ! -x "$program" ]; then
+  if ! (cd "$top/crates/session_tool" && rt run -- --version) </dev/null >"$log" 2>&1 || [ ! -x "$program" ]; then
     cat "$log" >&2
     rm -f "$log"
     echo "session_tool.sh: the program was not built" >&2

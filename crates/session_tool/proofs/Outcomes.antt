@@ -1,5 +1,5 @@
 -- What a run did, from what its parts did.
-use Rattle.std.proofs.Common.{arith, ◌≡◌, ◌≤◌, ◌⊎◌, inl, inr, ℕ, List, ◌++◌, Option, Some, ◌∙◌, ap}
+use Rattle.std.proofs.Common.{arith, ◌≡◌, ◌≤◌, ◌⊎◌, inl, inr, ℕ, List, Option, Some, ◌∙◌}
 use Rattle.std.specs.Prelude.{Ok, Err, codes}
 use Rattle.session_ends.specs.Ends.{Rose, Gained}
 use Rattle.script_text.specs.Script.{script_of}
@@ -19,7 +19,8 @@ replayed kept script decides reads gained good bytes held told holds = record {
   reads = decides.same bytes told ∙ reads;
   ended = decides.ended bytes told script reads;
   trace = gained.held held holds;
-  good = good }
+  good = good;
+}
 
 pub refused : {left rest was now : Option (List ℕ)} (kept : List ℕ) (line : ℕ) → Decides left rest kept → script_of kept ≡ Err line
     → Gained was now (numbered_line (codes "script line") line)
@@ -27,7 +28,8 @@ pub refused : {left rest was now : Option (List ℕ)} (kept : List ℕ) (line : 
 refused kept line decides fault gained bytes held told holds = record {
   line = line;
   fault = decides.same bytes told ∙ fault;
-  told = gained.held held holds }
+  told = gained.held held holds;
+}
 
 pub stopped : {left rest was now : Option (List ℕ)} (kept : List ℕ) (script : Script) → Decides left rest kept → script_of kept ≡ Ok script
     → IsToldBad script.config script.word script.events was now
@@ -37,7 +39,8 @@ stopped kept script decides reads bad bytes held told holds = record {
   reads = decides.same bytes told ∙ reads;
   index = bad.index;
   first = bad.first;
-  told = bad.gained.held held holds }
+  told = bad.gained.held held holds;
+}
 
 -- a count rose in the first of two calls, or in the second
 pub rose_either : (P : Type 0) (old mid new : ℕ) → old ≤ mid → mid ≤ new → (P → Rose old mid) → P ⊎ Rose mid new → Rose old new

@@ -2,9 +2,9 @@
 use Rattle.std.proofs.Common.{◌≡◌, ◌≤◌, ◌<◌, ◌-◌, ℕ, Bool, true, false, ◌&&◌, List, [], ◌++◌, length, Option, Some, append_assoc, take, arith, length-append, refl, ◌∙◌, sym, ap}
 use Rattle.std.proofs.lemmas.List.{append-nil, length-take-le}
 use Rattle.std.proofs.lemmas.Bool.{leb-true, both_ways}
-use Rattle.std.specs.Prelude.{Result, Ok, Err, IsErr, is_err, nat_le}
+use Rattle.std.specs.Prelude.{Result, Ok, IsErr, is_err, nat_le}
 use Rattle.session_ends.specs.Ends.{Gave, IsAtEnd}
-use Rattle.script_text.specs.Limits.{keeps_limits, is_short, lines_begun, IsRefused}
+use Rattle.script_text.specs.Limits.{keeps_limits, is_short, lines_begun}
 use Rattle.script_text.specs.Script.{max_text, max_lines, script_of}
 use Rattle.script_text.specs.declared.script.Script.{Script}
 use Rattle.script_text.specs.Words.{parts}

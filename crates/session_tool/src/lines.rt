@@ -9,7 +9,8 @@ use std::alloc::{AllocError, Global};
 pub const USAGE: &[u8] = b"usage: session_tool replay or gen N or live CONFIG\n";
 
 /// What the program says of itself.
-pub const HELP: &[u8] = b"session_tool replay: reads a script, and writes the trace of its session\n";
+pub const HELP: &[u8] =
+    b"session_tool replay: reads a script, and writes the trace of its session\n";
 
 /// The program's version.
 pub const VERSION: &[u8] = b"session_tool 0.1.0\n";
@@ -31,7 +32,12 @@ fn numbered_line(alloc: Global, words: &[u8], number: u64) -> Result<Bytes, Allo
 }
 
 /// Appends a line of a word or two, a space and a number. An error leaves the text as it was.
-pub fn push_line(alloc: Global, text: &mut Bytes, words: &[u8], number: u64) -> Result<(), AllocError>
+pub fn push_line(
+    alloc: Global,
+    text: &mut Bytes,
+    words: &[u8],
+    number: u64,
+) -> Result<(), AllocError>
     ensures ok { OnOk result (text.new ≡ text.old ++ numbered_line words.now number) }
     ensures err { OnErr result (text.new ≡ text.old) }
 {

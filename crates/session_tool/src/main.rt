@@ -13,10 +13,9 @@ mod tests;
 use crate::running::{NO_MEMORY, run};
 use session_ends::{MemWorld, WorldScript, standard_input, standard_output};
 use std::alloc::{AllocError, Global};
-use std::env;
 use std::env::Args;
-use std::io;
 use std::process::ExitCode;
+use std::{env, io};
 
 /// The words after the program's name. Where one can't be read as text there are none, which is no command.
 fn words_of(alloc: Global, args: io::Result<Args>) -> Result<Vec<String>, AllocError> {
@@ -40,6 +39,13 @@ fn main(rt: HostRuntime) -> ExitCode {
     let mut source = standard_input(&rt);
     let mut sink = standard_output(&rt);
     let mut world = MemWorld::new(alloc, WorldScript::new(alloc));
-    let status = run(&rt, alloc, words.as_slice(), &mut source, &mut sink, &mut world);
+    let status = run(
+        &rt,
+        alloc,
+        words.as_slice(),
+        &mut source,
+        &mut sink,
+        &mut world,
+    );
     ExitCode::from(status)
 }

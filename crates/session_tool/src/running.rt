@@ -171,15 +171,9 @@ pub fn run_alone<S: Source, K: Sink>(
 {
     match command_of(words) {
         Command::Replay => replay_source(alloc, source, sink),
-        Command::Help => {
-            if write_all(sink, HELP) { 0 } else { 7 }
-        }
-        Command::Version => {
-            if write_all(sink, VERSION) { 0 } else { 7 }
-        }
-        Command::Unknown => {
-            if write_all(sink, USAGE) { 1 } else { 7 }
-        }
+        Command::Help => { if write_all(sink, HELP) { 0 } else { 7 } }
+        Command::Version => { if write_all(sink, VERSION) { 0 } else { 7 } }
+        Command::Unknown => { if write_all(sink, USAGE) { 1 } else { 7 } }
     }
 }
 

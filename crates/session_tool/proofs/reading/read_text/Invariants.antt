@@ -1,4 +1,4 @@
-use Rattle.std.proofs.Common.{◌≡◌, ◌≤◌, ◌<◌, ◌-◌, [], length}
+use Rattle.std.proofs.Common.{◌≤◌, ◌-◌, [], length}
 use Rattle.script_text.specs.Script.{max_text}
 use Rattle.session_tool.specs.Reading.{Gains}
 use Rattle.session_tool.proofs.reading.read_text.Given as goal

@@ -1,4 +1,4 @@
-use Rattle.std.proofs.Common.{◌≡◌, ◌≤◌, take}
+use Rattle.std.proofs.Common.{◌≤◌, take}
 use Rattle.session_tool.proofs.Traces.{Streams}
 use Rattle.session_tool.proofs.replaying.replay_into.Given as goal
 

@@ -14,6 +14,7 @@ returns g c =
       bad = λ n is.
           let b = c.end_early.ensures.bad n (cc) in
           let ends = subst (λ (es : List Event). EndsBadly script.config script.word es n (g.K.Sink.held c.args.sink.now) (g.K.Sink.held c.replay_into.new.sink) c.replay_into.new.text)
-              c.as_slice-events.ensures (c.in-Err.ensures.bad n (ap (λ s. Err s) b.0)) in
+          c.as_slice-events.ensures (c.in-Err.ensures.bad n (ap (λ s. Err s) b.0)) in
           told_bad script.config script.word script.events n c.replay_into.new.text ends b.1;
-      cause = λ is. rose_either _ _ _ _ c.replay_into.ensures.later c.end_early.ensures.later (λ p. c.in-Err.ensures.cause (ap (λ s. Err s) p)) (c.end_early.ensures.cause (cc)) }
+      cause = λ is. rose_either _ _ _ _ c.replay_into.ensures.later c.end_early.ensures.later (λ p. c.in-Err.ensures.cause (ap (λ s. Err s) p)) (c.end_early.ensures.cause (cc));
+    }
