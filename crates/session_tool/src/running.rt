@@ -3,7 +3,7 @@ ghost use Rattle.session_ends.specs.Ends.{Rose, Gained, IsAtEnd};
 ghost use Rattle.script_text.specs.Script.{script_of};
 ghost use Rattle.shared_session.specs.Replay.{trace_of, AreGood};
 ghost use Rattle.trace_text.specs.Show.{show};
-ghost use Rattle.session_tool.specs.Lines.{numbered_line};
+ghost use Rattle.session_tool.specs.Lines.{is_status, numbered_line, read_fault_line, usage_line, version_line};
 ghost use Rattle.session_tool.specs.Runs.{IsReplay, IsRefusal, IsBadRun};
 ghost use Rattle.session_tool.specs.Stops.{IsToldBad};
 ghost use Rattle.session_tool.specs.Words.{command_of};
@@ -124,7 +124,9 @@ fn replay_source<S: Source, K: Sink>(alloc: Global, source: &mut S, sink: &mut K
     ensures words { result ≡ 1 → ⊥ }
     ensures script { result ≡ 2 → (bytes held : List ℕ) → S.left source.old ≡ Some bytes → K.held sink.old ≡ Some held → IsRefusal bytes held (K.held sink.new) }
     ensures bad { result ≡ 4 → (bytes held : List ℕ) → S.left source.old ≡ Some bytes → K.held sink.old ≡ Some held → IsBadRun bytes held (K.held sink.new) }
+    ensures fault { result ≡ 6 → Gained (K.held sink.old) (K.held sink.new) read_fault_line }
     ensures read { result ≡ 6 → Rose (S.fault_count source.old) (S.fault_count source.new) }
+    ensures statuses { is_status result ≡ true }
     ensures write { result ≡ 7 → Rose (K.fault_count sink.old) (K.fault_count sink.new) }
 {
     let intake = match read_text(alloc, source) {
@@ -164,9 +166,13 @@ pub fn run_alone<S: Source, K: Sink>(
     ensures done { result ≡ 0 → command_of words.now ≡ Command.Replay → (bytes held : List ℕ) → S.left source.old ≡ Some bytes → K.held sink.old ≡ Some held → IsReplay bytes held (S.left source.new) (K.held sink.new) }
     ensures words { result ≡ 1 → command_of words.now ≡ Command.Unknown }
     ensures unknown { command_of words.now ≡ Command.Unknown → (result ≡ 1) ⊎ (result ≡ 7) }
+    ensures usage { result ≡ 1 → Gained (K.held sink.old) (K.held sink.new) usage_line }
+    ensures version { result ≡ 0 → command_of words.now ≡ Command.Version → Gained (K.held sink.old) (K.held sink.new) version_line }
     ensures script { result ≡ 2 → (bytes held : List ℕ) → S.left source.old ≡ Some bytes → K.held sink.old ≡ Some held → IsRefusal bytes held (K.held sink.new) }
     ensures bad { result ≡ 4 → (bytes held : List ℕ) → S.left source.old ≡ Some bytes → K.held sink.old ≡ Some held → IsBadRun bytes held (K.held sink.new) }
+    ensures fault { result ≡ 6 → Gained (K.held sink.old) (K.held sink.new) read_fault_line }
     ensures read { result ≡ 6 → Rose (S.fault_count source.old) (S.fault_count source.new) }
+    ensures statuses { is_status result ≡ true }
     ensures write { result ≡ 7 → Rose (K.fault_count sink.old) (K.fault_count sink.new) }
 {
     match command_of(words) {
@@ -189,9 +195,13 @@ pub fn run<R: Threads + Wait + Sync, S: Source, K: Sink, W: World>(
     ensures done { result ≡ 0 → command_of words.now ≡ Command.Replay → (bytes held : List ℕ) → S.left source.old ≡ Some bytes → K.held sink.old ≡ Some held → IsReplay bytes held (S.left source.new) (K.held sink.new) }
     ensures words { result ≡ 1 → command_of words.now ≡ Command.Unknown }
     ensures unknown { command_of words.now ≡ Command.Unknown → (result ≡ 1) ⊎ (result ≡ 7) }
+    ensures usage { result ≡ 1 → Gained (K.held sink.old) (K.held sink.new) usage_line }
+    ensures version { result ≡ 0 → command_of words.now ≡ Command.Version → Gained (K.held sink.old) (K.held sink.new) version_line }
     ensures script { result ≡ 2 → (bytes held : List ℕ) → S.left source.old ≡ Some bytes → K.held sink.old ≡ Some held → IsRefusal bytes held (K.held sink.new) }
     ensures bad { result ≡ 4 → (bytes held : List ℕ) → S.left source.old ≡ Some bytes → K.held sink.old ≡ Some held → IsBadRun bytes held (K.held sink.new) }
+    ensures fault { result ≡ 6 → Gained (K.held sink.old) (K.held sink.new) read_fault_line }
     ensures read { result ≡ 6 → Rose (S.fault_count source.old) (S.fault_count source.new) }
+    ensures statuses { is_status result ≡ true }
     ensures write { result ≡ 7 → Rose (K.fault_count sink.old) (K.fault_count sink.new) }
 {
     run_alone(alloc, words, source, sink)
