@@ -1,0 +1,160 @@
+-- Traces that can't be relied on: whatever comes after these fronts, no trace that begins so is legal.
+use Rattle.std.proofs.Common.{◌≡◌, ℕ, ◌+◌, zero, suc, false, List, [], ◌∷◌, ◌++◌, Some, slice_get, refl, sym, ap, ◌∙◌, subst, append_assoc, inl, inr, take, arith}
+use Rattle.std.proofs.lemmas.List.{append-nil}
+use Rattle.resp_value.specs.declared.redis_error.RedisError.TheVariants as error
+use Rattle.resp_value.specs.Data.{Data, simple}
+use Rattle.resp_value.specs.View.{value_of}
+use Rattle.resp_read.specs.Grammar.{max_depth}
+use Rattle.resp_read.specs.Values.{values}
+use Rattle.resp_write.specs.Pack.{pack}
+use Rattle.driver_model.specs.declared.action.Action.{Action}
+use Rattle.driver_model.specs.declared.action.Action.TheVariants as action
+use Rattle.driver_model.specs.declared.action.Cause.TheVariants as cause
+use Rattle.driver_model.specs.declared.action.Owner.TheVariants as owner
+use Rattle.driver_model.specs.declared.config.Config.{Config}
+use Rattle.driver_model.specs.declared.event.Event.{Event}
+use Rattle.driver_model.specs.declared.event.EventKind.{EventKind}
+use Rattle.driver_model.specs.declared.event.EventKind.TheVariants as event
+use Rattle.driver_model.specs.declared.event.Submission.{Submission}
+use Rattle.driver_model.specs.declared.event.Submission.TheVariants as submission
+use Rattle.driver_model.specs.declared.outcome.Outcome.{Outcome}
+use Rattle.driver_model.specs.declared.outcome.Outcome.TheVariants as outcome
+use Rattle.driver_model.specs.declared.outcome.Verdict.TheVariants as verdict
+use Rattle.trace_model.specs.LinkLedger.{LinkLedger, Start, link_ledger}
+use Rattle.trace_model.specs.Cut.{IsFull, verdict_of}
+use Rattle.trace_model.specs.Story.{story, is_open}
+use Rattle.trace_model.specs.Legal.{MayStand, AllStand, MayAnswer, Legal}
+
+-- what an action of a legal trace stands behind
+stood : (before front after : List Action) (a : Action) → AllStand before (front ++ a ∷ after) → MayStand (before ++ front) a
+stood before [] after a all = subst (λ b. MayStand b a) (sym (append-nil before)) all.0
+stood before (b ∷ front) after a all = subst (λ t. MayStand t a) (append_assoc before (b ∷ []) front) (stood (before ++ b ∷ []) front after a all.1)
+
+may_stand : (config : Config) (word : ℕ) (events : List Event) (front after : List Action) (a : Action) → Legal config word events (front ++ a ∷ after) → MayStand front a
+may_stand config word events front after a h = stood [] front after a h.each
+
+abbrev pub turn : ℕ → EventKind → Action
+turn k kind = action.Turn k (cause.Event (record { word = 0; kind = kind }))
+
+abbrev pub opening : Config → ℕ → List Action
+opening config word = action.Turn 0 (cause.Opening config word) ∷ action.Connect 0 config.host config.port ∷ []
+
+abbrev pub command : ℕ → Submission
+command letter = submission.Cmd ((letter ∷ []) ∷ [])
+
+-- +x and +y, each as a line
+abbrev pub replies : List ℕ
+replies = 43 ∷ 120 ∷ 13 ∷ 10 ∷ 43 ∷ 121 ∷ 13 ∷ 10 ∷ []
+
+abbrev pub reply : ℕ → Outcome
+reply letter = outcome.One (value_of (simple (letter ∷ [])))
+
+-- two requests were started and written, and both replies came
+abbrev pub answered_both : Config → ℕ → List Action
+answered_both config word =
+    opening config word ++
+    turn 1 (event.Connected 0) ∷ action.Created ∷
+    turn 2 (event.Submit (command 71)) ∷ action.Start 0 0 (owner.Try 0 0) 1 11 ∷ action.Write 0 (pack ((71 ∷ []) ∷ [])) ∷
+    turn 3 (event.Submit (command 72)) ∷ action.Start 0 1 (owner.Try 1 0) 1 11 ∷
+    turn 4 (event.Wrote 0 11) ∷ action.Write 0 (pack ((72 ∷ []) ∷ [])) ∷
+    turn 5 (event.Wrote 0 11) ∷
+    turn 6 (event.Bytes 0 replies) ∷ []
+
+-- its request was started, and nothing else happened
+abbrev pub started_one : Config → ℕ → List Action
+started_one config word =
+    opening config word ++
+    turn 1 (event.Connected 0) ∷ action.Created ∷
+    turn 2 (event.Submit (command 71)) ∷ action.Start 0 0 (owner.Try 0 0) 1 11 ∷ action.Write 0 (pack ((71 ∷ []) ∷ [])) ∷ []
+
+-- a request was handed in before the link is up, and no wait was shown
+abbrev pub left_out : Config → ℕ → List Action
+left_out config word = opening config word ++ turn 1 (event.Submit (command 71)) ∷ []
+
+ledger_answered : (config : Config) (word : ℕ) → (link_ledger 0 (answered_both config word)).dealt ≡ simple (120 ∷ []) ∷ simple (121 ∷ []) ∷ []
+unfolding link_ledger values max_depth
+ledger_answered config word = refl
+
+abbrev pub sent_first : Start
+sent_first = record { owner = owner.Try 0 0; need = 1; len = 11 }
+
+abbrev pub sent_second : Start
+sent_second = record { owner = owner.Try 1 0; need = 1; len = 11 }
+
+second_is_other : sent_second.owner ≡ owner.Try 0 0 → ⊥
+second_is_other e = cc e
+
+-- only the first message is of submission 0
+first_only : (k : ℕ) (start : Start) → slice_get (sent_first ∷ sent_second ∷ []) k ≡ Some start → start.owner ≡ owner.Try 0 0 → k ≡ 0
+first_only zero start e o = refl
+first_only (suc zero) start e o =
+    let same : start ≡ sent_second = cc e in
+    absurd (second_is_other (sym (ap (λ (s : Start). s.owner) same) ∙ o))
+first_only (suc (suc k)) start e o = cc
+
+-- it has the first item
+first_item : (l : LinkLedger) (items : List Data) → l.starts ≡ sent_first ∷ sent_second ∷ [] → l.dealt ≡ simple (120 ∷ []) ∷ simple (121 ∷ []) ∷ [] → IsFull l 0 items → items ≡ simple (120 ∷ []) ∷ []
+first_item l items starts dealt full =
+    let same : full.start ≡ sent_first = cc (full.stands, starts) in
+    let one : full.start.need ≡ 1 = ap (λ (s : Start). s.need) same in
+    full.items_are ∙ ap (λ n. take n l.dealt) one ∙ ap (take 1) dealt
+
+verdict_is : (s : Submission) (items : List Data) (letter : ℕ) → items ≡ simple (letter ∷ []) ∷ [] → verdict_of s items ≡ verdict.One (value_of (simple (letter ∷ [])))
+verdict_is (submission.Cmd args) items letter e = ap (λ ds. verdict_of (submission.Cmd args) ds) e
+
+same_letter : (x y : ℕ) → verdict.One (value_of (simple (x ∷ []))) ≡ verdict.One (value_of (simple (y ∷ []))) → x ≡ y
+same_letter x y e = cc e
+
+apart : (x y : ℕ) → y ≡ x + 1 → x ≡ y → ⊥
+apart x y next same = omega (arith, next, same)
+
+-- two replies swapped
+pub swapped : (config : Config) (word : ℕ) (events : List Event) (after : List Action) → Legal config word events (answered_both config word ++ action.Outcome 0 (reply 121) ∷ after) → ⊥
+unfolding link_ledger
+swapped config word events after h =
+    let m : MayAnswer (answered_both config word) 0 (reply 121) = may_stand config word events (answered_both config word) after (action.Outcome 0 (reply 121)) h in
+    let k : ℕ = m.cause.0 in
+    let e : k ≡ 0 = first_only k m.cause.2.0 m.cause.2.1 m.cause.2.2 in
+    let full : IsFull (link_ledger 0 (answered_both config word)) 0 m.cause.1 = subst (λ j. IsFull (link_ledger 0 (answered_both config word)) j m.cause.1) e m.cause.3 in
+    let items = first_item (link_ledger 0 (answered_both config word)) m.cause.1 refl (ledger_answered config word) full in
+    apart 120 121 refl (same_letter 120 121 (sym (verdict_is m.asked.submission m.cause.1 120 items) ∙ m.cause.4))
+
+-- an outcome too many
+pub answered_twice : (config : Config) (word : ℕ) (events : List Event) (after : List Action)
+    → Legal config word events ((answered_both config word ++ action.Outcome 0 (reply 120) ∷ []) ++ action.Outcome 0 (reply 120) ∷ after) → ⊥
+unfolding story
+answered_twice config word events after h =
+    let m : MayAnswer (answered_both config word ++ action.Outcome 0 (reply 120) ∷ []) 0 (reply 120) = may_stand config word events (answered_both config word ++ action.Outcome 0 (reply 120) ∷ []) after (action.Outcome 0 (reply 120)) h in
+    let closed : is_open (story 0 (answered_both config word ++ action.Outcome 0 (reply 120) ∷ [])) ≡ false = refl in
+    cc (m.asked.open_still, closed)
+
+-- an outcome whose cause is missing
+pub causeless : (config : Config) (word : ℕ) (events : List Event) (after : List Action) → Legal config word events (started_one config word ++ action.Outcome 0 (outcome.Fault error.Closed) ∷ after) → ⊥
+unfolding story link_ledger
+causeless config word events after h =
+    let m : MayAnswer (started_one config word) 0 (outcome.Fault error.Closed) = may_stand config word events (started_one config word) after (action.Outcome 0 (outcome.Fault error.Closed)) h in
+    elim m.cause [ inl late ↦ cc late | inr c ↦ elim c.1 [ inl down ↦ cc down | inr cut ↦ cc cut.over ] ]
+
+-- a request that is in no wait
+pub forgotten : (config : Config) (word : ℕ) (events : List Event) → Legal config word events (left_out config word) → ⊥
+unfolding story link_ledger
+forgotten config word events h =
+    elim (h.settled.goes 0 (record { submission = command 71; handed_in = refl; open_still = refl })) [ inl started ↦ cc started.1.1 | inr waits ↦ cc waits.1 ]
+
+-- bytes that are offered twice
+pub offered_twice : (config : Config) (word : ℕ) (events : List Event) (after : List Action) → Legal config word events (started_one config word ++ action.Write 0 (pack ((71 ∷ []) ∷ [])) ∷ after) → ⊥
+unfolding link_ledger
+offered_twice config word events after h =
+    let m = may_stand config word events (started_one config word) after (action.Write 0 (pack ((71 ∷ []) ∷ []))) h in
+    m.1.some m.1.answered
+
+-- a request was started, and its bytes were never offered
+abbrev pub started_unoffered : Config → ℕ → List Action
+started_unoffered config word =
+    opening config word ++
+    turn 1 (event.Connected 0) ∷ action.Created ∷
+    turn 2 (event.Submit (command 71)) ∷ action.Start 0 0 (owner.Try 0 0) 1 11 ∷ []
+
+pub never_offered : (config : Config) (word : ℕ) (events : List Event) → Legal config word events (started_unoffered config word) → ⊥
+unfolding link_ledger
+never_offered config word events h = elim (h.settled.offered refl) [ inl none ↦ cc none | inr some ↦ some refl ]

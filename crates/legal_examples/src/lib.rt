@@ -1,0 +1,1 @@
+//! Traces that cannot be relied on, each with the proof that it cannot.
