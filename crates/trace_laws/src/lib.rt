@@ -1,0 +1,1 @@
+//! What follows for any trace that can be relied on.
