@@ -202,6 +202,48 @@ connected 0
     status: 2,
 };
 
+/// A command without words.
+const EMPTY_COMMAND: Row = Row {
+    script: b"config single url=redis://h:6379 connect=none response=none lib=off
+connected 0
+submit cmd
+end
+",
+    output: b"turn 0 config single url=redis://h:6379 connect=none response=none lib=off
+connect 0 h:6379
+turn 1 connected 0
+created ok
+turn 2 submit cmd
+outcome s0 err empty
+",
+    status: 0,
+};
+
+/// A shutdown answers what is open, and what comes later.
+const SHUT_DOWN: Row = Row {
+    script: b"config single url=redis://h:6379 connect=none response=none lib=off
+connected 0
+submit cmd GET a
+shutdown
+submit cmd GET b
+end
+",
+    output: b"turn 0 config single url=redis://h:6379 connect=none response=none lib=off
+connect 0 h:6379
+turn 1 connected 0
+created ok
+turn 2 submit cmd GET a
+start 0 0 s0.0 1 20
+write 0 *2%0D%0A$3%0D%0AGET%0D%0A$1%0D%0Aa%0D%0A
+turn 3 shutdown
+close 0
+outcome s0 err closed
+turn 4 submit cmd GET b
+outcome s1 err closed
+",
+    status: 0,
+};
+
 fn strings(alloc: Global, words: &[&str]) -> Result<Vec<String>, AllocError> {
     let mut all = Vec::new(alloc);
     for word in words {
@@ -245,6 +287,8 @@ fn scripts_are_replayed(rt: HostRuntime) -> Result<(), Fail> {
         NO_VALUE,
         TOO_LONG,
         WITHOUT_END,
+        EMPTY_COMMAND,
+        SHUT_DOWN,
     ] {
         let (status, sink) = answer(rt.alloc(), &["replay"], row.script, None, None)?;
         assert_eq!(rt; status, row.status);

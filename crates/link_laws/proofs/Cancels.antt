@@ -1,0 +1,172 @@
+-- A cancel of a started message: from then on its link does all as it would have, but for that message's own verdict.
+use Rattle.std.proofs.Common.{◌≡◌, ℕ, ◌==◌, Bool, true, false, List, [], ◌∷◌, ◌++◌, if◌then◌else◌, refl, sym, ap, subst, inl, inr, arith}
+use Rattle.std.proofs.lemmas.Bool.Decides.{nat_tests}
+use Rattle.resp_value.specs.declared.redis_error.RedisError.TheVariants as error
+use Rattle.resp_read.specs.Values.{values}
+use Rattle.link_core.specs.declared.errors.LinkFault.{LinkFault}
+use Rattle.link_core.specs.declared.message.Entry.{Entry}
+use Rattle.link_core.specs.declared.message.Queued.{Queued}
+use Rattle.link_core.specs.declared.message.Settled.{Settled}
+use Rattle.link_core.specs.declared.message.Started.{Started}
+use Rattle.link_core.specs.Dealing.{Dealing, dealt_each}
+use Rattle.link_core.specs.Ends.{row_closed, row_hit, queue_closed, hit_by, failed_by}
+use Rattle.link_core.specs.Link.{LinkState, Starting, Settling, entry_of, enqueued, is_held_back, started_one, started_each, started_all, offered_of, wrote_of, cancelled, came_all, came, emptied, closed_all, faulted}
+use Rattle.link_core.specs.Row.{silent, silenced}
+use Rattle.link_core.specs.Waiting.{without}
+use Rattle.link_laws.proofs.Alike.{SameEntry, SameRow, SameDealing, others, others_joined, same_row_refl, same_failed, same_dealt_each}
+
+-- the same link, but for whether that message's verdict is wanted
+pub record SameLink (id : ℕ) (s t : LinkState) : Type 0 where
+  pub row : SameRow id s.row t.row
+  pub rest : t ≡ record s { row = t.row }
+
+-- and the same starts
+pub record SameStarting (id : ℕ) (a b : Starting) : Type 0 where
+  pub link : SameLink id a.link b.link
+  pub out : a.out ≡ b.out
+
+-- and the same verdicts, but for that message's own
+pub record SameSettling (id : ℕ) (a b : Settling) : Type 0 where
+  pub link : SameLink id a.link b.link
+  pub out : others id a.out ≡ others id b.out
+
+-- a message that started stays where it is
+silenced_if : (b : Bool) (id : ℕ) (e : Entry) (es : List Entry) → (b ≡ true → e.id ≡ id) → SameRow id es (silenced es id) → SameRow id (e ∷ es) (if b then silent e ∷ es else e ∷ silenced es id)
+silenced_if true id e es own rest = (inr (own refl, refl), same_row_refl id es)
+silenced_if false id e es own rest = (inl refl, rest)
+
+same_number : (n m : ℕ) → (n == m) ≡ true → n ≡ m
+same_number n m t = grind (arith, nat_tests, t)
+
+row_stays : (id : ℕ) (row : List Entry) → SameRow id row (silenced row id)
+row_stays id [] = tt
+row_stays id (e ∷ es) = silenced_if (e.id == id) id e es (same_number e.id id) (row_stays id es)
+
+-- the cancel of a message that has no place in the queue
+pub cancel_stays : (id : ℕ) (s : LinkState) → without s.queue id ≡ s.queue → SameLink id s (cancelled s id)
+cancel_stays id s started = record {
+  row = row_stays id s.row;
+  rest = ap (λ queue. record s { queue = queue; row = silenced s.row id }) started;
+}
+
+-- what comes later
+--
+pub enqueue_alike : (id : ℕ) (s t : LinkState) (q : Queued) → SameLink id s t → SameLink id (enqueued s q) (enqueued t q)
+enqueue_alike id s t q h = record { row = h.row; rest = ap (λ x. enqueued x q) h.rest }
+
+pub offer_alike : (id : ℕ) (s t : LinkState) → SameLink id s t → SameLink id (offered_of s) (offered_of t)
+offer_alike id s t h = record { row = h.row; rest = ap offered_of h.rest }
+
+pub wrote_alike : (id : ℕ) (s t : LinkState) (n : ℕ) → SameLink id s t → SameLink id (wrote_of s n) (wrote_of t n)
+wrote_alike id s t n h = record { row = h.row; rest = ap (λ x. wrote_of x n) h.rest }
+
+row_behind : (id : ℕ) (row row' : List Entry) (e : Entry) → SameRow id row row' → SameRow id (row ++ e ∷ []) (row' ++ e ∷ [])
+row_behind id [] [] e h = (inl refl, tt)
+row_behind id (x ∷ xs) (y ∷ ys) e h = (h.0, row_behind id xs ys e h.1)
+row_behind id [] (y ∷ ys) e h = absurd h
+row_behind id (x ∷ xs) [] e h = absurd h
+
+start_branch : (id : ℕ) (b : Bool) (x y x' y' : Starting) → SameStarting id x x' → SameStarting id y y' → SameStarting id (if b then x else y) (if b then x' else y')
+start_branch id true x y x' y' p q = p
+start_branch id false x y x' y' p q = q
+
+starts_alike : (id : ℕ) (s : LinkState) (row : List Entry) (out : List Started) (queue : List Queued) → SameRow id s.row row
+    → SameStarting id (started_each (record { link = s; out = out }) queue) (started_each (record { link = record s { row = row }; out = out }) queue)
+starts_alike id s row out [] h = record { link = record { row = h; rest = refl }; out = refl }
+starts_alike id s row out (q ∷ qs) h =
+    let one = started_one (record { link = s; out = out }) q in
+    let other = started_one (record { link = record s { row = row }; out = out }) q in
+    start_branch id (is_held_back s)
+    (record { link = record s { queue = q ∷ qs }; out = out }) (started_each one qs)
+    (record { link = record s { row = row; queue = q ∷ qs }; out = out }) (started_each other qs)
+    (record { link = record { row = h; rest = refl }; out = refl })
+    (starts_alike id one.link (row ++ entry_of q ∷ []) one.out qs (row_behind id s.row row (entry_of q) h))
+
+-- the same messages start, in the same order
+pub start_alike : (id : ℕ) (s t : LinkState) (out : List Started) → SameLink id s t → SameStarting id (started_all (record { link = s; out = out })) (started_all (record { link = t; out = out }))
+start_alike id s t out h = subst (λ x. SameStarting id (started_all (record { link = s; out = out })) (started_all (record { link = x; out = out }))) (sym h.rest) (starts_alike id s t.row out s.queue h.row)
+
+settle_branch : (id : ℕ) (b : Bool) (x y x' y' : Settling) → SameSettling id x x' → SameSettling id y y' → SameSettling id (if b then x else y) (if b then x' else y')
+settle_branch id true x y x' y' p q = p
+settle_branch id false x y x' y' p q = q
+
+all_alike : (id : ℕ) (s : LinkState) (row : List Entry) (out out' : List Settled) (bytes : List ℕ) → SameRow id s.row row → others id out ≡ others id out'
+    → SameSettling id (came_all (record { link = s; out = out }) bytes) (came_all (record { link = record s { row = row }; out = out' }) bytes)
+all_alike id s row out out' bytes h o =
+    let one : Dealing = dealt_each (record { row = s.row; out = [] }) (values bytes) in
+    let other : Dealing = dealt_each (record { row = row; out = [] }) (values bytes) in
+    let same : SameDealing id one other = same_dealt_each id (record { row = s.row; out = [] }) (record { row = row; out = [] }) (values bytes) (record { row = h; out = refl }) in
+    record { link = record { row = same.row; rest = refl }; out = others_joined id out one.out out' other.out o same.out }
+
+came_alike : (id : ℕ) (s : LinkState) (row : List Entry) (out out' : List Settled) (piece : List ℕ) → SameRow id s.row row → others id out ≡ others id out'
+    → SameSettling id (came (record { link = s; out = out }) piece) (came (record { link = record s { row = row }; out = out' }) piece)
+came_alike id s row out out' piece h o =
+    settle_branch id s.broken (record { link = s; out = out }) (came_all (record { link = s; out = out }) (s.rest ++ piece))
+    (record { link = record s { row = row }; out = out' }) (came_all (record { link = record s { row = row }; out = out' }) (s.rest ++ piece))
+    (record { link = record { row = h; rest = refl }; out = o })
+    (all_alike id s row out out' (s.rest ++ piece) h o)
+
+-- each item goes to the same message, and every other verdict is the same
+pub bytes_alike : (id : ℕ) (s t : LinkState) (out out' : List Settled) (piece : List ℕ) → SameLink id s t → others id out ≡ others id out' → SameSettling id (came (record { link = s; out = out }) piece) (came (record { link = t; out = out' }) piece)
+bytes_alike id s t out out' piece h o = subst (λ x. SameSettling id (came (record { link = s; out = out }) piece) (came (record { link = x; out = out' }) piece)) (sym h.rest) (came_alike id s t.row out out' piece h.row o)
+
+row_ends_alike : (id : ℕ) (row row' : List Entry) → SameRow id row row' → others id (row_closed row) ≡ others id (row_closed row')
+row_ends_alike id [] [] h = refl
+row_ends_alike id (e ∷ es) (f ∷ fs) h =
+    others_joined id (failed_by e.awaited e.id error.Closed) (row_closed es) (failed_by f.awaited f.id error.Closed) (row_closed fs) (same_failed id e f error.Closed error.Closed h.0 refl) (row_ends_alike id es fs h.1)
+row_ends_alike id [] (f ∷ fs) h = absurd h
+row_ends_alike id (e ∷ es) [] h = absurd h
+
+same_hit : (id : ℕ) (fault : LinkFault) (e f : Entry) → SameEntry id e f → hit_by fault e.shape ≡ hit_by fault f.shape
+same_hit id fault e f (inl p) = ap (λ (x : Entry). hit_by fault x.shape) p
+same_hit id fault e f (inr p) = sym (ap (λ (x : Entry). hit_by fault x.shape) p.1)
+
+row_hits_alike : (id : ℕ) (fault : LinkFault) (row row' : List Entry) → SameRow id row row' → others id (row_hit fault row) ≡ others id (row_hit fault row')
+row_hits_alike id fault [] [] h = refl
+row_hits_alike id fault (e ∷ es) (f ∷ fs) h =
+    others_joined id (failed_by e.awaited e.id (hit_by fault e.shape)) (row_closed es) (failed_by f.awaited f.id (hit_by fault f.shape)) (row_closed fs)
+    (same_failed id e f (hit_by fault e.shape) (hit_by fault f.shape) h.0 (same_hit id fault e f h.0)) (row_ends_alike id es fs h.1)
+row_hits_alike id fault [] (f ∷ fs) h = absurd h
+row_hits_alike id fault (e ∷ es) [] h = absurd h
+
+same_emptied : (id : ℕ) (s : LinkState) (row : List Entry) (out out' more more' : List Settled) → others id out ≡ others id out' → others id more ≡ others id more'
+    → SameSettling id (emptied (record { link = s; out = out }) more) (emptied (record { link = record s { row = row }; out = out' }) more')
+same_emptied id s row out out' more more' o m = record { link = record { row = tt; rest = refl }; out = others_joined id out more out' more' o m }
+
+-- where the link is closed, or ends by a fault
+pub close_alike : (id : ℕ) (s t : LinkState) (out out' : List Settled) → SameLink id s t → others id out ≡ others id out' → SameSettling id (closed_all (record { link = s; out = out })) (closed_all (record { link = t; out = out' }))
+close_alike id s t out out' h o =
+    subst (λ x. SameSettling id (closed_all (record { link = s; out = out })) (closed_all (record { link = x; out = out' }))) (sym h.rest)
+    (same_emptied id s t.row out out' (row_closed s.row ++ queue_closed s.queue) (row_closed t.row ++ queue_closed s.queue) o
+    (others_joined id (row_closed s.row) (queue_closed s.queue) (row_closed t.row) (queue_closed s.queue) (row_ends_alike id s.row t.row h.row) refl))
+
+pub fault_alike : (id : ℕ) (fault : LinkFault) (s t : LinkState) (out out' : List Settled) → SameLink id s t → others id out ≡ others id out' → SameSettling id (faulted (record { link = s; out = out }) fault) (faulted (record { link = t; out = out' }) fault)
+fault_alike id fault s t out out' h o =
+    subst (λ x. SameSettling id (faulted (record { link = s; out = out }) fault) (faulted (record { link = x; out = out' }) fault)) (sym h.rest)
+    (same_emptied id s t.row out out' (row_hit fault s.row ++ queue_closed s.queue) (row_hit fault t.row ++ queue_closed s.queue) o
+    (others_joined id (row_hit fault s.row) (queue_closed s.queue) (row_hit fault t.row) (queue_closed s.queue) (row_hits_alike id fault s.row t.row h.row) refl))
+
+-- the cancel of a further message
+silenced_alike_if : (b : Bool) (id other : ℕ) (e f : Entry) (es fs : List Entry) → SameEntry id e f → SameRow id es fs → SameRow id (silenced es other) (silenced fs other)
+    → SameRow id (if b then silent e ∷ es else e ∷ silenced es other) (if b then silent f ∷ fs else f ∷ silenced fs other)
+silenced_alike_if true id other e f es fs (inl p) rest later = (inl (ap silent p), rest)
+silenced_alike_if true id other e f es fs (inr p) rest later = (inl (sym (ap silent p.1)), rest)
+silenced_alike_if false id other e f es fs s rest later = (s, later)
+
+same_id : (id : ℕ) (e f : Entry) → SameEntry id e f → f.id ≡ e.id
+same_id id e f (inl p) = ap (λ (x : Entry). x.id) (sym p)
+same_id id e f (inr p) = ap (λ (x : Entry). x.id) p.1
+
+silenced_alike : (id other : ℕ) (row row' : List Entry) → SameRow id row row' → SameRow id (silenced row other) (silenced row' other)
+silenced_alike id other [] [] h = tt
+silenced_alike id other (e ∷ es) (f ∷ fs) h =
+    subst (λ (n : ℕ). SameRow id (silenced (e ∷ es) other) (if n == other then silent f ∷ fs else f ∷ silenced fs other)) (sym (same_id id e f h.0))
+    (silenced_alike_if (e.id == other) id other e f es fs h.0 h.1 (silenced_alike id other es fs h.1))
+silenced_alike id other [] (f ∷ fs) h = absurd h
+silenced_alike id other (e ∷ es) [] h = absurd h
+
+pub cancel_alike : (id other : ℕ) (s t : LinkState) → SameLink id s t → SameLink id (cancelled s other) (cancelled t other)
+cancel_alike id other s t h = record {
+  row = silenced_alike id other s.row t.row h.row;
+  rest = ap (λ (x : LinkState). record x { queue = without x.queue other; row = silenced t.row other }) h.rest;
+}

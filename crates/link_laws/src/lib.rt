@@ -1,0 +1,1 @@
+//! What a cancel of a started message changes of its link: nothing but its own verdict.
