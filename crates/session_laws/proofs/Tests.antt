@@ -1,0 +1,50 @@
+-- What tests on numbers mean, and choices by a test.
+use Rattle.std.proofs.Common.{◌≡◌, ◌≢◌, ℕ, ◌<◌, ◌≤◌, ◌==◌, nat_lt, nat_le, Bool, true, false, if◌then◌else◌, refl, arith}
+use Rattle.std.proofs.lemmas.Bool.Decides.{nat_tests}
+
+pub by_test : (b : Bool) (P : Type 0) → (b ≡ true → P) → (b ≡ false → P) → P
+by_test true P t f = t refl
+by_test false P t f = f refl
+
+-- a fact of both choices, with how the test came out
+pub chosen : {X : Type 0} (P : X → Type 0) (b : Bool) (x y : X) → (b ≡ true → P x) → (b ≡ false → P y) → P (if b then x else y)
+chosen P true x y t f = t refl
+chosen P false x y t f = f refl
+
+pub if_true : {X : Type 0} (P : X → Type 0) (b : Bool) (x y : X) → b ≡ true → P x → P (if b then x else y)
+if_true P true x y e p = p
+if_true P false x y e p = cc
+
+pub if_false : {X : Type 0} (P : X → Type 0) (b : Bool) (x y : X) → b ≡ false → P y → P (if b then x else y)
+if_false P true x y e p = cc
+if_false P false x y e p = p
+
+pub le_from : (a b : ℕ) → nat_le a b ≡ true → a ≤ b
+le_from a b t = grind (arith, nat_tests)
+
+pub not_le_from : (a b : ℕ) → nat_le a b ≡ false → b < a
+not_le_from a b t = grind (arith, nat_tests)
+
+pub le_test : (a b : ℕ) → a ≤ b → nat_le a b ≡ true
+le_test a b l = grind (arith, nat_tests)
+
+pub not_le_test : (a b : ℕ) → b < a → nat_le a b ≡ false
+not_le_test a b l = grind (arith, nat_tests)
+
+pub lt_from : (a b : ℕ) → nat_lt a b ≡ true → a < b
+lt_from a b t = grind (arith, nat_tests)
+
+pub not_lt_from : (a b : ℕ) → nat_lt a b ≡ false → b ≤ a
+not_lt_from a b t = grind (arith, nat_tests)
+
+pub eq_from : (a b : ℕ) → (a == b) ≡ true → a ≡ b
+eq_from a b t = grind (arith, nat_tests)
+
+pub ne_from : (a b : ℕ) → (a == b) ≡ false → a ≢ b
+ne_from a b t = grind (arith, nat_tests)
+
+pub eq_test : (a : ℕ) → (a == a) ≡ true
+eq_test a = grind (arith, nat_tests)
+
+pub ne_test : (a b : ℕ) → a ≢ b → (a == b) ≡ false
+ne_test a b n = grind (arith, nat_tests)
