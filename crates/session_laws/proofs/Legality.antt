@@ -189,4 +189,4 @@ pub legal : (config : Config) (word : ℕ) (events : List Event) → AreGood con
 unfolding trace_of AreGood opened asked
 legal config word events good =
     let r = run_holds (opening config word).connection.acts (quiet (opening config word)) events (cause.Opening config word ∷ []) (opening_ready config word) refl good in
-    record { turns = r.turns; in_order = r.in_order; each = r.each; settled = r.settled }
+    record { opens = (turns_on (quiet (opening config word)) events, refl); turns = r.turns; in_order = r.in_order; each = r.each; settled = r.settled }

@@ -1,3 +1,4 @@
+mod Headlines
 mod Outcomes
 mod Texts
 mod Traces

@@ -2,7 +2,9 @@ ghost use Rattle.std.specs.Prelude.{◌≡◌, ◌⊎◌, ◌≤◌, ◌++◌, �
 ghost use Rattle.session_ends.specs.Ends.{Rose, Gained, IsAtEnd};
 ghost use Rattle.script_text.specs.Script.{script_of};
 ghost use Rattle.shared_session.specs.Replay.{trace_of, AreGood};
+ghost use Rattle.trace_model.specs.Legal.{IsSettled};
 ghost use Rattle.trace_text.specs.Show.{show};
+ghost use Rattle.session_tool.specs.Headline.{OfTrace, IsInOrder, IsInPlace, AnswersOnce, AnswersAll, IsLegal};
 ghost use Rattle.session_tool.specs.Lines.{is_status, numbered_line, read_fault_line, usage_line, version_line};
 ghost use Rattle.session_tool.specs.Runs.{IsReplay, IsRefusal, IsBadRun};
 ghost use Rattle.session_tool.specs.Stops.{IsToldBad};
@@ -118,9 +120,15 @@ fn replay_script<K: Sink>(alloc: Global, script: &Script, sink: &mut K) -> Resul
 }
 
 /// Reads a script to the source's end, and replays it.
-#[tactic(auto, using(crate::proofs::Outcomes::replayed, crate::proofs::Outcomes::refused, crate::proofs::Outcomes::stopped))]
+#[tactic(auto, using(crate::proofs::Outcomes::replayed, crate::proofs::Headlines::legal_replay, crate::proofs::Headlines::in_order, crate::proofs::Headlines::in_place, crate::proofs::Headlines::settled, crate::proofs::Headlines::answers_once, crate::proofs::Headlines::answers_all, crate::proofs::Outcomes::refused, crate::proofs::Outcomes::stopped))]
 fn replay_source<S: Source, K: Sink>(alloc: Global, source: &mut S, sink: &mut K) -> u8
     ensures done { result ≡ 0 → (bytes held : List ℕ) → S.left source.old ≡ Some bytes → K.held sink.old ≡ Some held → IsReplay bytes held (S.left source.new) (K.held sink.new) }
+    ensures legal { result ≡ 0 → (bytes : List ℕ) → S.left source.old ≡ Some bytes → IsLegal bytes }
+    ensures in_order { result ≡ 0 → (bytes : List ℕ) → S.left source.old ≡ Some bytes → OfTrace bytes IsInOrder }
+    ensures in_place { result ≡ 0 → (bytes : List ℕ) → S.left source.old ≡ Some bytes → OfTrace bytes IsInPlace }
+    ensures settled { result ≡ 0 → (bytes : List ℕ) → S.left source.old ≡ Some bytes → OfTrace bytes IsSettled }
+    ensures answers_once { result ≡ 0 → (bytes : List ℕ) → S.left source.old ≡ Some bytes → OfTrace bytes AnswersOnce }
+    ensures answers_all { result ≡ 0 → (bytes : List ℕ) → S.left source.old ≡ Some bytes → OfTrace bytes AnswersAll }
     ensures words { result ≡ 1 → ⊥ }
     ensures script { result ≡ 2 → (bytes held : List ℕ) → S.left source.old ≡ Some bytes → K.held sink.old ≡ Some held → IsRefusal bytes held (K.held sink.new) }
     ensures bad { result ≡ 4 → (bytes held : List ℕ) → S.left source.old ≡ Some bytes → K.held sink.old ≡ Some held → IsBadRun bytes held (K.held sink.new) }
@@ -164,6 +172,12 @@ pub fn run_alone<S: Source, K: Sink>(
     sink: &mut K,
 ) -> u8
     ensures done { result ≡ 0 → command_of words.now ≡ Command.Replay → (bytes held : List ℕ) → S.left source.old ≡ Some bytes → K.held sink.old ≡ Some held → IsReplay bytes held (S.left source.new) (K.held sink.new) }
+    ensures legal { result ≡ 0 → command_of words.now ≡ Command.Replay → (bytes : List ℕ) → S.left source.old ≡ Some bytes → IsLegal bytes }
+    ensures in_order { result ≡ 0 → command_of words.now ≡ Command.Replay → (bytes : List ℕ) → S.left source.old ≡ Some bytes → OfTrace bytes IsInOrder }
+    ensures in_place { result ≡ 0 → command_of words.now ≡ Command.Replay → (bytes : List ℕ) → S.left source.old ≡ Some bytes → OfTrace bytes IsInPlace }
+    ensures settled { result ≡ 0 → command_of words.now ≡ Command.Replay → (bytes : List ℕ) → S.left source.old ≡ Some bytes → OfTrace bytes IsSettled }
+    ensures answers_once { result ≡ 0 → command_of words.now ≡ Command.Replay → (bytes : List ℕ) → S.left source.old ≡ Some bytes → OfTrace bytes AnswersOnce }
+    ensures answers_all { result ≡ 0 → command_of words.now ≡ Command.Replay → (bytes : List ℕ) → S.left source.old ≡ Some bytes → OfTrace bytes AnswersAll }
     ensures words { result ≡ 1 → command_of words.now ≡ Command.Unknown }
     ensures unknown { command_of words.now ≡ Command.Unknown → (result ≡ 1) ⊎ (result ≡ 7) }
     ensures usage { result ≡ 1 → Gained (K.held sink.old) (K.held sink.new) usage_line }
@@ -193,6 +207,12 @@ pub fn run<R: Threads + Wait + Sync, S: Source, K: Sink, W: World>(
     _world: &mut W,
 ) -> u8
     ensures done { result ≡ 0 → command_of words.now ≡ Command.Replay → (bytes held : List ℕ) → S.left source.old ≡ Some bytes → K.held sink.old ≡ Some held → IsReplay bytes held (S.left source.new) (K.held sink.new) }
+    ensures legal { result ≡ 0 → command_of words.now ≡ Command.Replay → (bytes : List ℕ) → S.left source.old ≡ Some bytes → IsLegal bytes }
+    ensures in_order { result ≡ 0 → command_of words.now ≡ Command.Replay → (bytes : List ℕ) → S.left source.old ≡ Some bytes → OfTrace bytes IsInOrder }
+    ensures in_place { result ≡ 0 → command_of words.now ≡ Command.Replay → (bytes : List ℕ) → S.left source.old ≡ Some bytes → OfTrace bytes IsInPlace }
+    ensures settled { result ≡ 0 → command_of words.now ≡ Command.Replay → (bytes : List ℕ) → S.left source.old ≡ Some bytes → OfTrace bytes IsSettled }
+    ensures answers_once { result ≡ 0 → command_of words.now ≡ Command.Replay → (bytes : List ℕ) → S.left source.old ≡ Some bytes → OfTrace bytes AnswersOnce }
+    ensures answers_all { result ≡ 0 → command_of words.now ≡ Command.Replay → (bytes : List ℕ) → S.left source.old ≡ Some bytes → OfTrace bytes AnswersAll }
     ensures words { result ≡ 1 → command_of words.now ≡ Command.Unknown }
     ensures unknown { command_of words.now ≡ Command.Unknown → (result ≡ 1) ⊎ (result ≡ 7) }
     ensures usage { result ≡ 1 → Gained (K.held sink.old) (K.held sink.new) usage_line }

@@ -223,9 +223,11 @@ abbrev pub event_causes : List Event → List Cause
 event_causes [] = []
 event_causes (e ∷ es) = cause.Event e ∷ event_causes es
 
--- a trace that can be relied on: it has the opening and one turn for each event; the bytes that each link took and is
--- offered are the front of its messages' bytes; each action stands where it may; and the last turn is settled
+-- a trace that can be relied on: it begins with the opening, which asks for the link; it has one turn for each event;
+-- the bytes that each link took and is offered are the front of its messages' bytes; each action stands where it may;
+-- and the last turn is settled
 pub record Legal (config : Config) (word : ℕ) (events : List Event) (trace : List Action) : Type 0 where
+  pub opens : (more : List Action) × (trace ≡ action.Turn 0 (cause.Opening config word) ∷ action.Connect 0 config.host config.port ∷ more)
   pub turns : causes trace ≡ cause.Opening config word ∷ event_causes events
   pub in_order : IsPrefix (stream (link_ledger 0 trace)) (sent 0 trace)
   pub each : AllStand [] trace

@@ -1,0 +1,39 @@
+-- What a finished replay gives its callers, said of its trace.
+use Rattle.std.specs.Prelude.{◌≡◌, ◌≤◌, ℕ, true, false, List, [], length, Some, Ok}
+use Rattle.driver_model.specs.declared.action.Action.{Action}
+use Rattle.driver_model.specs.declared.event.Submission.{Submission}
+use Rattle.script_text.specs.Script.{script_of}
+use Rattle.script_text.specs.declared.script.Script.{Script}
+use Rattle.shared_session.specs.Replay.{trace_of}
+use Rattle.trace_model.specs.LinkLedger.{link_ledger, stream}
+use Rattle.trace_model.specs.Story.{story}
+use Rattle.trace_model.specs.Turns.{is_shut}
+use Rattle.trace_model.specs.Legal.{IsPrefix, sent, AllStand, Legal}
+
+-- these bytes are a script, and that holds of its trace
+pub record OfTrace (bytes : List ℕ) (P : List Action → Type 0) : Type 0 where
+  pub script : Script
+  pub reads : script_of bytes ≡ Ok script
+  pub holds : P (trace_of script.config script.word script.events)
+
+-- the bytes that the link took, and those offered to it, are the front of the messages that started there
+abbrev pub IsInOrder : List Action → Type 0
+IsInOrder trace = IsPrefix (stream (link_ledger 0 trace)) (sent 0 trace)
+
+-- each action stands where it may: each start, offer, wait and close, and each outcome with its cause
+abbrev pub IsInPlace : List Action → Type 0
+IsInPlace trace = AllStand [] trace
+
+-- no submission has a second outcome
+abbrev pub AnswersOnce : List Action → Type 0
+AnswersOnce trace = (n : ℕ) → length (story n trace).outcomes ≤ 1
+
+-- after a shutdown each submission that was not cancelled has its outcome
+abbrev pub AnswersAll : List Action → Type 0
+AnswersAll trace = is_shut trace ≡ true → (n : ℕ) (s : Submission) → (story n trace).submission ≡ Some s → (story n trace).cancelled ≡ false → length (story n trace).outcomes ≡ 1
+
+-- these bytes are a script, and its trace is a legal one of its events
+pub record IsLegal (bytes : List ℕ) : Type 0 where
+  pub script : Script
+  pub reads : script_of bytes ≡ Ok script
+  pub legal : Legal script.config script.word script.events (trace_of script.config script.word script.events)
