@@ -18,6 +18,7 @@ use Rattle.shared_session.specs.Turn.{applied, is_bad, quiet, turn}
 use Rattle.shared_session.specs.Replay.{opening, actions_of, turns_on, trace_of, AreGoodOn, AreGood}
 use Rattle.trace_model.specs.LinkLedger.{link_ledger, blank_ledger, stream}
 use Rattle.trace_model.specs.Story.{story, blank_story}
+use Rattle.trace_model.specs.Order.{AreInOrder}
 use Rattle.trace_model.specs.Turns.{causes}
 use Rattle.trace_model.specs.Legal.{IsPrefix, sent, AllStand, IsSettled, MayConnect, event_causes, Legal}
 use Rattle.session_laws.proofs.Account.{Account, account, begun, account-append, causes-append}
@@ -29,6 +30,7 @@ use Rattle.session_laws.proofs.Bytes.{bytes_applied}
 use Rattle.session_laws.proofs.Cancels.{cancel_applied}
 use Rattle.session_laws.proofs.Submits.{submit_applied}
 use Rattle.session_laws.proofs.Announced.{rest_same}
+use Rattle.session_laws.proofs.Ordered.{turn_ordered, orders-append}
 
 or_left : (a b : Bool) → (a || b) ≡ false → a ≡ false
 or_left true b e = cc
@@ -106,6 +108,15 @@ run_holds b c (e ∷ es) cs h began good =
     let r = run_holds (b ++ actions_of c e) (quiet (turn c e)) es (cs ++ cause.Event e ∷ []) t.ready (t.began ∙ ap (λ (x : List Cause). x ++ cause.Event e ∷ []) began) good.1 in
     subst (λ (x : List Action). HasRun x (cs ++ (cause.Event e ∷ event_causes es))) (append_assoc b (actions_of c e) (turns_on (quiet (turn c e)) es))
     (subst (HasRun (b ++ actions_of c e ++ turns_on (quiet (turn c e)) es)) (append_assoc cs (cause.Event e ∷ []) (event_causes es)) r)
+
+-- each turn has the order of its steps
+turn_in_order : (c : Core) (e : Event) → c.connection.acts ≡ [] → (step : ℕ) → AreInOrder step (actions_of c e)
+unfolding turn
+turn_in_order c e none = turn_ordered (announced c.connection c.turns e.word e.kind) e.kind c.turns (cause.Event e) (ap (λ (x : List Action). x ++ action.Turn c.turns (cause.Event e) ∷ []) none)
+
+turns_in_order : (c : Core) (es : List Event) → c.connection.acts ≡ [] → (step : ℕ) → AreInOrder step (turns_on c es)
+turns_in_order c [] none = λ step. tt
+turns_in_order c (e ∷ es) none = λ step. orders-append step (actions_of c e) (turns_on (quiet (turn c e)) es) (turn_in_order c e none step) (turns_in_order (quiet (turn c e)) es refl)
 
 -- the opening
 blank_account : Account
@@ -189,4 +200,4 @@ pub legal : (config : Config) (word : ℕ) (events : List Event) → AreGood con
 unfolding trace_of AreGood opened asked
 legal config word events good =
     let r = run_holds (opening config word).connection.acts (quiet (opening config word)) events (cause.Opening config word ∷ []) (opening_ready config word) refl good in
-    record { opens = (turns_on (quiet (opening config word)) events, refl); turns = r.turns; in_order = r.in_order; each = r.each; settled = r.settled }
+    record { opens = (turns_on (quiet (opening config word)) events, refl); turns = r.turns; steps = (tt, (omega arith, turns_in_order (quiet (opening config word)) events refl 1)); in_order = r.in_order; each = r.each; settled = r.settled }

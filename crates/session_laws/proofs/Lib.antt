@@ -19,4 +19,5 @@ pub mod Bytes
 pub mod Cancels
 pub mod Submits
 pub mod Announced
+pub mod Ordered
 pub mod Legality

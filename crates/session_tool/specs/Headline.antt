@@ -8,6 +8,7 @@ use Rattle.shared_session.specs.Replay.{trace_of}
 use Rattle.trace_model.specs.LinkLedger.{link_ledger, stream}
 use Rattle.trace_model.specs.Story.{story}
 use Rattle.trace_model.specs.Turns.{is_shut}
+use Rattle.trace_model.specs.Order.{AreInOrder}
 use Rattle.trace_model.specs.Legal.{IsPrefix, sent, AllStand, Legal}
 
 -- these bytes are a script, and that holds of its trace
@@ -20,9 +21,10 @@ pub record OfTrace (bytes : List ℕ) (P : List Action → Type 0) : Type 0 wher
 abbrev pub IsInOrder : List Action → Type 0
 IsInOrder trace = IsPrefix (stream (link_ledger 0 trace)) (sent 0 trace)
 
--- each action stands where it may: each start, offer, wait and close, and each outcome with its cause
+-- each action stands where it may, each start, offer, wait and close, and each outcome with its cause; and those of a
+-- turn have the order of its steps
 abbrev pub IsInPlace : List Action → Type 0
-IsInPlace trace = AllStand [] trace
+IsInPlace trace = AllStand [] trace × AreInOrder 0 trace
 
 -- no submission has a second outcome
 abbrev pub AnswersOnce : List Action → Type 0

@@ -1,1 +1,2 @@
 //! What follows for any trace that can be relied on.
+#![tactic(auto)]

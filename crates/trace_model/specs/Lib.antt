@@ -3,4 +3,5 @@ pub mod LinkLedger
 pub mod Cut
 pub mod Story
 pub mod Turns
+pub mod Order
 pub mod Legal
