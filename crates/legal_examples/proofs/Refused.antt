@@ -9,20 +9,17 @@ use Rattle.resp_read.specs.Values.{values}
 use Rattle.resp_write.specs.Pack.{pack}
 use Rattle.driver_model.specs.declared.action.Action.{Action}
 use Rattle.driver_model.specs.declared.action.Action.TheVariants as action
-use Rattle.driver_model.specs.declared.action.Cause.TheVariants as cause
 use Rattle.driver_model.specs.declared.action.Owner.TheVariants as owner
 use Rattle.driver_model.specs.declared.config.Config.{Config}
 use Rattle.driver_model.specs.declared.event.Event.{Event}
-use Rattle.driver_model.specs.declared.event.EventKind.{EventKind}
-use Rattle.driver_model.specs.declared.event.EventKind.TheVariants as event
 use Rattle.driver_model.specs.declared.event.Submission.{Submission}
 use Rattle.driver_model.specs.declared.event.Submission.TheVariants as submission
-use Rattle.driver_model.specs.declared.outcome.Outcome.{Outcome}
 use Rattle.driver_model.specs.declared.outcome.Outcome.TheVariants as outcome
 use Rattle.driver_model.specs.declared.outcome.Verdict.TheVariants as verdict
 use Rattle.trace_model.specs.LinkLedger.{LinkLedger, Start, link_ledger}
 use Rattle.trace_model.specs.Cut.{IsFull, verdict_of}
 use Rattle.trace_model.specs.Story.{story, is_open}
+use Rattle.legal_examples.specs.Traces.{command, reply, answered_both, started_one, left_out, started_unoffered}
 use Rattle.trace_model.specs.Legal.{MayStand, AllStand, MayAnswer, Legal}
 
 -- what an action of a legal trace stands behind
@@ -32,44 +29,6 @@ stood before (b ∷ front) after a all = subst (λ t. MayStand t a) (append_asso
 
 may_stand : (config : Config) (word : ℕ) (events : List Event) (front after : List Action) (a : Action) → Legal config word events (front ++ a ∷ after) → MayStand front a
 may_stand config word events front after a h = stood [] front after a h.each
-
-abbrev pub turn : ℕ → EventKind → Action
-turn k kind = action.Turn k (cause.Event (record { word = 0; kind = kind }))
-
-abbrev pub opening : Config → ℕ → List Action
-opening config word = action.Turn 0 (cause.Opening config word) ∷ action.Connect 0 config.host config.port ∷ []
-
-abbrev pub command : ℕ → Submission
-command letter = submission.Cmd ((letter ∷ []) ∷ [])
-
--- +x and +y, each as a line
-abbrev pub replies : List ℕ
-replies = 43 ∷ 120 ∷ 13 ∷ 10 ∷ 43 ∷ 121 ∷ 13 ∷ 10 ∷ []
-
-abbrev pub reply : ℕ → Outcome
-reply letter = outcome.One (value_of (simple (letter ∷ [])))
-
--- two requests were started and written, and both replies came
-abbrev pub answered_both : Config → ℕ → List Action
-answered_both config word =
-    opening config word ++
-    turn 1 (event.Connected 0) ∷ action.Created ∷
-    turn 2 (event.Submit (command 71)) ∷ action.Start 0 0 (owner.Try 0 0) 1 11 ∷ action.Write 0 (pack ((71 ∷ []) ∷ [])) ∷
-    turn 3 (event.Submit (command 72)) ∷ action.Start 0 1 (owner.Try 1 0) 1 11 ∷
-    turn 4 (event.Wrote 0 11) ∷ action.Write 0 (pack ((72 ∷ []) ∷ [])) ∷
-    turn 5 (event.Wrote 0 11) ∷
-    turn 6 (event.Bytes 0 replies) ∷ []
-
--- its request was started, and nothing else happened
-abbrev pub started_one : Config → ℕ → List Action
-started_one config word =
-    opening config word ++
-    turn 1 (event.Connected 0) ∷ action.Created ∷
-    turn 2 (event.Submit (command 71)) ∷ action.Start 0 0 (owner.Try 0 0) 1 11 ∷ action.Write 0 (pack ((71 ∷ []) ∷ [])) ∷ []
-
--- a request was handed in before the link is up, and no wait was shown
-abbrev pub left_out : Config → ℕ → List Action
-left_out config word = opening config word ++ turn 1 (event.Submit (command 71)) ∷ []
 
 ledger_answered : (config : Config) (word : ℕ) → (link_ledger 0 (answered_both config word)).dealt ≡ simple (120 ∷ []) ∷ simple (121 ∷ []) ∷ []
 unfolding link_ledger values max_depth
@@ -148,13 +107,7 @@ offered_twice config word events after h =
     let m = may_stand config word events (started_one config word) after (action.Write 0 (pack ((71 ∷ []) ∷ []))) h in
     m.1.some m.1.answered
 
--- a request was started, and its bytes were never offered
-abbrev pub started_unoffered : Config → ℕ → List Action
-started_unoffered config word =
-    opening config word ++
-    turn 1 (event.Connected 0) ∷ action.Created ∷
-    turn 2 (event.Submit (command 71)) ∷ action.Start 0 0 (owner.Try 0 0) 1 11 ∷ []
-
+-- and bytes that are never offered
 pub never_offered : (config : Config) (word : ℕ) (events : List Event) → Legal config word events (started_unoffered config word) → ⊥
 unfolding link_ledger
 never_offered config word events h = elim (h.settled.offered refl) [ inl none ↦ cc none | inr some ↦ some refl ]

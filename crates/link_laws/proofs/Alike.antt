@@ -1,5 +1,5 @@
--- Links that are alike but for whether one message's verdict is wanted.
-use Rattle.std.proofs.Common.{◌≡◌, ◌⊎◌, ℕ, ◌==◌, nat_lt, Bool, true, false, List, [], ◌∷◌, ◌++◌, length, if◌then◌else◌, refl, sym, ap, ◌∙◌, subst, inl, inr, arith}
+-- What alike rows come to.
+use Rattle.std.proofs.Common.{◌≡◌, ℕ, ◌==◌, nat_lt, Bool, true, false, List, [], ◌∷◌, ◌++◌, length, if◌then◌else◌, refl, sym, ap, ◌∙◌, subst, inl, inr, arith}
 use Rattle.std.proofs.lemmas.Bool.Decides.{nat_tests}
 use Rattle.resp_value.specs.Data.{Data}
 use Rattle.resp_value.specs.declared.redis_error.RedisError.{RedisError}
@@ -9,28 +9,7 @@ use Rattle.link_core.specs.declared.message.Entry.{Entry}
 use Rattle.link_core.specs.declared.message.Settled.{Settled}
 use Rattle.link_core.specs.Dealing.{Dealing, with_item, settled_by, given, dealt_to, dealt, dealt_each}
 use Rattle.link_core.specs.Ends.{failed_by}
-use Rattle.link_core.specs.Row.{silent}
-
--- the same entry, or that message's, with its verdict not wanted
-abbrev pub SameEntry : ℕ → Entry → Entry → Type 0
-SameEntry id e f = (e ≡ f) ⊎ ((e.id ≡ id) × (f ≡ silent e))
-
--- the same messages, with the same items
-abbrev pub SameRow : ℕ → List Entry → List Entry → Type 0
-SameRow id [] [] = Unit {0}
-SameRow id [] (f ∷ fs) = ⊥
-SameRow id (e ∷ es) [] = ⊥
-SameRow id (e ∷ es) (f ∷ fs) = SameEntry id e f × SameRow id es fs
-
--- the verdicts of all other messages
-abbrev pub others : ℕ → List Settled → List Settled
-others id [] = []
-others id (s ∷ ss) = if s.id == id then others id ss else s ∷ others id ss
-
--- the same, but for that message's own verdict
-pub record SameDealing (id : ℕ) (d e : Dealing) : Type 0 where
-  pub row : SameRow id d.row e.row
-  pub out : others id d.out ≡ others id e.out
+use Rattle.link_laws.specs.Alike.{SameEntry, SameRow, SameDealing, others}
 
 pub same_row_refl : (id : ℕ) (row : List Entry) → SameRow id row row
 same_row_refl id [] = tt

@@ -13,22 +13,8 @@ use Rattle.link_core.specs.Ends.{row_closed, row_hit, queue_closed, hit_by, fail
 use Rattle.link_core.specs.Link.{LinkState, Starting, Settling, entry_of, enqueued, is_held_back, started_one, started_each, started_all, offered_of, wrote_of, cancelled, came_all, came, emptied, closed_all, faulted}
 use Rattle.link_core.specs.Row.{silent, silenced}
 use Rattle.link_core.specs.Waiting.{without}
-use Rattle.link_laws.proofs.Alike.{SameEntry, SameRow, SameDealing, others, others_joined, same_row_refl, same_failed, same_dealt_each}
-
--- the same link, but for whether that message's verdict is wanted
-pub record SameLink (id : ℕ) (s t : LinkState) : Type 0 where
-  pub row : SameRow id s.row t.row
-  pub rest : t ≡ record s { row = t.row }
-
--- and the same starts
-pub record SameStarting (id : ℕ) (a b : Starting) : Type 0 where
-  pub link : SameLink id a.link b.link
-  pub out : a.out ≡ b.out
-
--- and the same verdicts, but for that message's own
-pub record SameSettling (id : ℕ) (a b : Settling) : Type 0 where
-  pub link : SameLink id a.link b.link
-  pub out : others id a.out ≡ others id b.out
+use Rattle.link_laws.specs.Alike.{SameEntry, SameRow, SameDealing, SameLink, SameStarting, SameSettling, others}
+use Rattle.link_laws.proofs.Alike.{others_joined, same_row_refl, same_failed, same_dealt_each}
 
 -- a message that started stays where it is
 silenced_if : (b : Bool) (id : ℕ) (e : Entry) (es : List Entry) → (b ≡ true → e.id ≡ id) → SameRow id es (silenced es id) → SameRow id (e ∷ es) (if b then silent e ∷ es else e ∷ silenced es id)

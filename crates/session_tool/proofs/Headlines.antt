@@ -7,9 +7,10 @@ use Rattle.script_text.specs.declared.script.Script.{Script}
 use Rattle.shared_session.specs.Replay.{trace_of, AreGood}
 use Rattle.trace_model.specs.Legal.{IsSettled, Legal}
 use Rattle.session_laws.proofs.Legality.{legal}
+use Rattle.trace_laws.specs.Answers.{AnswersOnce, AnswersAll}
 use Rattle.trace_laws.proofs.Outcomes.{at_most_one}
 use Rattle.trace_laws.proofs.Shutdown.{exactly_one}
-use Rattle.session_tool.specs.Headline.{OfTrace, IsInOrder, IsInPlace, AnswersOnce, AnswersAll, IsLegal}
+use Rattle.session_tool.specs.Headline.{OfTrace, IsInOrder, IsInPlace, IsLegal}
 use Rattle.session_tool.specs.Reading.{Decides}
 
 pub legal_replay : {left rest : Option (List ℕ)} (kept : List ℕ) (script : Script) → Decides left rest kept → script_of kept ≡ Ok script → AreGood script.config script.word script.events

@@ -1,13 +1,10 @@
 -- What a finished replay gives its callers, said of its trace.
-use Rattle.std.specs.Prelude.{◌≡◌, ◌≤◌, ℕ, true, false, List, [], length, Some, Ok}
+use Rattle.std.specs.Prelude.{◌≡◌, ℕ, List, [], Ok}
 use Rattle.driver_model.specs.declared.action.Action.{Action}
-use Rattle.driver_model.specs.declared.event.Submission.{Submission}
 use Rattle.script_text.specs.Script.{script_of}
 use Rattle.script_text.specs.declared.script.Script.{Script}
 use Rattle.shared_session.specs.Replay.{trace_of}
 use Rattle.trace_model.specs.LinkLedger.{link_ledger, stream}
-use Rattle.trace_model.specs.Story.{story}
-use Rattle.trace_model.specs.Turns.{is_shut}
 use Rattle.trace_model.specs.Order.{AreInOrder}
 use Rattle.trace_model.specs.Legal.{IsPrefix, sent, AllStand, Legal}
 
@@ -25,14 +22,6 @@ IsInOrder trace = IsPrefix (stream (link_ledger 0 trace)) (sent 0 trace)
 -- turn have the order of its steps
 abbrev pub IsInPlace : List Action → Type 0
 IsInPlace trace = AllStand [] trace × AreInOrder 0 trace
-
--- no submission has a second outcome
-abbrev pub AnswersOnce : List Action → Type 0
-AnswersOnce trace = (n : ℕ) → length (story n trace).outcomes ≤ 1
-
--- after a shutdown each submission that was not cancelled has its outcome
-abbrev pub AnswersAll : List Action → Type 0
-AnswersAll trace = is_shut trace ≡ true → (n : ℕ) (s : Submission) → (story n trace).submission ≡ Some s → (story n trace).cancelled ≡ false → length (story n trace).outcomes ≡ 1
 
 -- these bytes are a script, and its trace is a legal one of its events
 pub record IsLegal (bytes : List ℕ) : Type 0 where

@@ -14,6 +14,7 @@ use Rattle.driver_model.specs.declared.event.EventKind.TheVariants as event
 use Rattle.driver_model.specs.declared.outcome.Outcome.{Outcome}
 use Rattle.trace_model.specs.Story.{Story, blank_story, told, told_event, told_cause, told_each, story, is_open}
 use Rattle.trace_model.specs.Legal.{MayStand, AllStand, Legal}
+use Rattle.trace_laws.specs.Answers.{AnswersOnce}
 
 told_append : (s : Story) (n : ℕ) (t : List Action) (a : Action) → told_each s n (t ++ a ∷ []) ≡ told (told_each s n t) n a
 told_append s n [] a = refl
@@ -80,5 +81,5 @@ unfolding story
 none_yet n = omega arith
 
 -- at most one outcome for each submission
-pub at_most_one : (config : Config) (word : ℕ) (events : List Event) (trace : List Action) → Legal config word events trace → (n : ℕ) → length (story n trace).outcomes ≤ 1
+pub at_most_one : (config : Config) (word : ℕ) (events : List Event) (trace : List Action) → Legal config word events trace → AnswersOnce trace
 at_most_one config word events trace h n = once n [] trace h.each (none_yet n)

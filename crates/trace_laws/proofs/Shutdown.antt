@@ -17,6 +17,7 @@ use Rattle.trace_model.specs.LinkLedger.{LinkLedger, blank_ledger, bytes_came, n
 use Rattle.trace_model.specs.Story.{Story, story, is_open}
 use Rattle.trace_model.specs.Turns.{is_shut}
 use Rattle.trace_model.specs.Legal.{WaitHolds, IsOpen, Legal}
+use Rattle.trace_laws.specs.Answers.{AnswersAll}
 use Rattle.trace_laws.proofs.Outcomes.{at_most_one}
 
 -- a link that is over is not up
@@ -82,7 +83,6 @@ is_answered : (s : Story) (what : Submission) → s.submission ≡ Some what →
 is_answered s what there stays closed few = by_length s.outcomes s.submission s.cancelled (cc there) stays closed few
 
 -- and each that was not cancelled has exactly one outcome
-pub exactly_one : (config : Config) (word : ℕ) (events : List Event) (trace : List Action) → Legal config word events trace → is_shut trace ≡ true
-    → (n : ℕ) (s : Submission) → (story n trace).submission ≡ Some s → (story n trace).cancelled ≡ false → length (story n trace).outcomes ≡ 1
+pub exactly_one : (config : Config) (word : ℕ) (events : List Event) (trace : List Action) → Legal config word events trace → AnswersAll trace
 exactly_one config word events trace h shut n s there stays =
     is_answered (story n trace) s there stays (λ o. none_open config word events trace h shut n (record { submission = s; handed_in = there; open_still = o })) (at_most_one config word events trace h n)

@@ -1,0 +1,43 @@
+-- Links that are alike but for whether one message's verdict is wanted.
+use Rattle.std.specs.Prelude.{◌≡◌, ◌⊎◌, ℕ, ◌==◌, List, [], ◌∷◌, if◌then◌else◌}
+use Rattle.link_core.specs.declared.message.Entry.{Entry}
+use Rattle.link_core.specs.declared.message.Settled.{Settled}
+use Rattle.link_core.specs.Dealing.{Dealing}
+use Rattle.link_core.specs.Link.{LinkState, Starting, Settling}
+use Rattle.link_core.specs.Row.{silent}
+
+-- the same entry, or that message's, with its verdict not wanted
+abbrev pub SameEntry : ℕ → Entry → Entry → Type 0
+SameEntry id e f = (e ≡ f) ⊎ ((e.id ≡ id) × (f ≡ silent e))
+
+-- the same messages, with the same items
+abbrev pub SameRow : ℕ → List Entry → List Entry → Type 0
+SameRow id [] [] = Unit {0}
+SameRow id [] (f ∷ fs) = ⊥
+SameRow id (e ∷ es) [] = ⊥
+SameRow id (e ∷ es) (f ∷ fs) = SameEntry id e f × SameRow id es fs
+
+-- the verdicts of all other messages
+abbrev pub others : ℕ → List Settled → List Settled
+others id [] = []
+others id (s ∷ ss) = if s.id == id then others id ss else s ∷ others id ss
+
+-- the same, but for that message's own verdict
+pub record SameDealing (id : ℕ) (d e : Dealing) : Type 0 where
+  pub row : SameRow id d.row e.row
+  pub out : others id d.out ≡ others id e.out
+
+-- the same link, but for whether that message's verdict is wanted
+pub record SameLink (id : ℕ) (s t : LinkState) : Type 0 where
+  pub row : SameRow id s.row t.row
+  pub rest : t ≡ record s { row = t.row }
+
+-- and the same starts
+pub record SameStarting (id : ℕ) (a b : Starting) : Type 0 where
+  pub link : SameLink id a.link b.link
+  pub out : a.out ≡ b.out
+
+-- and the same verdicts, but for that message's own
+pub record SameSettling (id : ℕ) (a b : Settling) : Type 0 where
+  pub link : SameLink id a.link b.link
+  pub out : others id a.out ≡ others id b.out
