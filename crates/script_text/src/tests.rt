@@ -23,150 +23,154 @@ fn fault_behind(alloc: Global, rest: &[u8]) -> Result<u32, ScriptError> {
     fault(alloc, text.as_slice())
 }
 
+/// Whole texts, each with its line at fault, or 0.
+const FIRST_LINES: [(&[u8], u32); 21] = [
+    (b"", 1),
+    (b"\n", 1),
+    (b"end\n", 1),
+    (b"connected 0\nend\n", 1),
+    (
+        b"config single url=redis://h:6379 connect=none response=none lib=off",
+        1,
+    ),
+    (
+        b"config single url=redis://h:6379 connect=none response=none lib=off\n",
+        2,
+    ),
+    (
+        b"config single url=redis://h:6379 connect=none response=none lib=off\nend\n",
+        0,
+    ),
+    (
+        b"config single lib=off response=none connect=none url=redis://127.0.0.1:0\nend\n",
+        0,
+    ),
+    (
+        b"%63onfig single url%3Dredis://a-b.c:65535 connect=none response=none lib=off\nend\n",
+        0,
+    ),
+    (
+        b"config  single url=redis://h:6379 connect=none response=none lib=off\nend\n",
+        1,
+    ),
+    (
+        b"config manager url=redis://h:6379 connect=none response=none lib=off\nend\n",
+        1,
+    ),
+    (
+        b"config single connect=none response=none lib=off\nend\n",
+        1,
+    ),
+    (
+        b"config single url=redis://h:6379 connect=none response=none\nend\n",
+        1,
+    ),
+    (
+        b"config single url=redis://h:6379 connect=none connect=none response=none lib=off\nend\n",
+        1,
+    ),
+    (
+        b"config single url=redis://h:6379 connect=none response=none lib=off db=1\nend\n",
+        1,
+    ),
+    (
+        b"config single url=redis://h:6379 connect=none response=none lib=off word\nend\n",
+        1,
+    ),
+    (
+        b"config single url=redis://h:6379 connect=1000 response=none lib=off\nend\n",
+        1,
+    ),
+    (
+        b"config single url=redis://h:65536 connect=none response=none lib=off\nend\n",
+        1,
+    ),
+    (
+        b"config single url=redis://h:06379 connect=none response=none lib=off\nend\n",
+        1,
+    ),
+    (
+        b"config single url=redis://:6379 connect=none response=none lib=off\nend\n",
+        1,
+    ),
+    (
+        b"config single url=redis://H:6379 connect=none response=none lib=off\nend\n",
+        1,
+    ),
+];
+
 #[test]
 fn first_lines(rt: HostRuntime) -> Result<(), Fail> {
-    let rows: [(&[u8], u32); 21] = [
-        (b"", 1),
-        (b"\n", 1),
-        (b"end\n", 1),
-        (b"connected 0\nend\n", 1),
-        (
-            b"config single url=redis://h:6379 connect=none response=none lib=off",
-            1,
-        ),
-        (
-            b"config single url=redis://h:6379 connect=none response=none lib=off\n",
-            2,
-        ),
-        (
-            b"config single url=redis://h:6379 connect=none response=none lib=off\nend\n",
-            0,
-        ),
-        (
-            b"config single lib=off response=none connect=none url=redis://127.0.0.1:0\nend\n",
-            0,
-        ),
-        (
-            b"%63onfig single url%3Dredis://a-b.c:65535 connect=none response=none lib=off\nend\n",
-            0,
-        ),
-        (
-            b"config  single url=redis://h:6379 connect=none response=none lib=off\nend\n",
-            1,
-        ),
-        (
-            b"config manager url=redis://h:6379 connect=none response=none lib=off\nend\n",
-            1,
-        ),
-        (
-            b"config single connect=none response=none lib=off\nend\n",
-            1,
-        ),
-        (
-            b"config single url=redis://h:6379 connect=none response=none\nend\n",
-            1,
-        ),
-        (
-            b"config single url=redis://h:6379 connect=none connect=none response=none lib=off\nend\n",
-            1,
-        ),
-        (
-            b"config single url=redis://h:6379 connect=none response=none lib=off db=1\nend\n",
-            1,
-        ),
-        (
-            b"config single url=redis://h:6379 connect=none response=none lib=off word\nend\n",
-            1,
-        ),
-        (
-            b"config single url=redis://h:6379 connect=1000 response=none lib=off\nend\n",
-            1,
-        ),
-        (
-            b"config single url=redis://h:65536 connect=none response=none lib=off\nend\n",
-            1,
-        ),
-        (
-            b"config single url=redis://h:06379 connect=none response=none lib=off\nend\n",
-            1,
-        ),
-        (
-            b"config single url=redis://:6379 connect=none response=none lib=off\nend\n",
-            1,
-        ),
-        (
-            b"config single url=redis://H:6379 connect=none response=none lib=off\nend\n",
-            1,
-        ),
-    ];
-    for (text, line) in rows {
+    for (text, line) in FIRST_LINES {
         let found = fault(rt.alloc(), text)?;
         assert_eq!(rt; found, line);
     }
     Ok(())
 }
 
+/// Texts behind a configuration, each with its line at fault, or 0.
+const LATER_LINES: [(&[u8], u32); 47] = [
+    (
+        b"connected 0\nsubmit cmd GET a\nwrote 0 20\nbytes 0 +x%0D%0A\nend\n",
+        0,
+    ),
+    (
+        b"connected 0\nsubmit cmd GET a\nwrote 0 7\nwrote 0 14\nend\n",
+        0,
+    ),
+    (
+        b"connected 0\nsubmit cmd GET a\nwrote 0 20\nbytes 0 +\nbytes 0 x\nbytes 0 %0D\nbytes 0 %0A\nend\n",
+        0,
+    ),
+    (b"connected 0\nsubmit cmd GET a\nbytes 0 ?x%0D%0A\nend\n", 0),
+    (b"end\n", 0),
+    (b"%65nd\n", 0),
+    (b"end", 2),
+    (b"end\nx", 3),
+    (b"end\n\n", 3),
+    (b"end \n", 2),
+    (b" end\n", 2),
+    (b"end x\n", 2),
+    (b"\nend\n", 2),
+    (b"connected 0\n", 3),
+    (b"connected 0\nend\nend\n", 4),
+    (b"connected 4294967295\nend\n", 0),
+    (b"connected 4294967296\nend\n", 2),
+    (b"connected 00\nend\n", 2),
+    (b"connected 01\nend\n", 2),
+    (b"connected\nend\n", 2),
+    (b"connected 0 1\nend\n", 2),
+    (b"connected %30\nend\n", 0),
+    (b"cancel 7\nended 3\nshutdown\nend\n", 0),
+    (b"cancel +7\nend\n", 2),
+    (b"cancel -7\nend\n", 2),
+    (b"cancel %-\nend\n", 2),
+    (b"wrote 0 18446744073709551615\nend\n", 0),
+    (b"wrote 0 18446744073709551616\nend\n", 2),
+    (b"wrote 0\nend\n", 2),
+    (b"bytes 0\nend\n", 2),
+    (b"bytes 0 %-\nend\n", 0),
+    (b"bytes 0 a b\nend\n", 2),
+    (b"bytes 0 \x01\x7f\xff;=%\nend\n", 2),
+    (b"bytes 0 \x01\x7f\xff;=%4f%4F\nend\n", 0),
+    (b"submit cmd\nend\n", 0),
+    (b"submit cmd %3B\nend\n", 0),
+    (b"submit cmd ;\nend\n", 2),
+    (b"submit cmd a  b\nend\n", 2),
+    (b"submit cmd a%\nend\n", 2),
+    (b"submit cmd %4\nend\n", 2),
+    (b"submit cmd %4g\nend\n", 2),
+    (b"submit cmd a%-\nend\n", 2),
+    (b"submit\nend\n", 2),
+    (b"submit pipe GET a\nend\n", 2),
+    (b"@0 shutdown\nend\n", 2),
+    (b"shutdown 0\nend\n", 2),
+    (b"config single\nend\n", 2),
+];
+
 #[test]
 fn later_lines(rt: HostRuntime) -> Result<(), Fail> {
-    let rows: [(&[u8], u32); 47] = [
-        (
-            b"connected 0\nsubmit cmd GET a\nwrote 0 20\nbytes 0 +x%0D%0A\nend\n",
-            0,
-        ),
-        (
-            b"connected 0\nsubmit cmd GET a\nwrote 0 7\nwrote 0 14\nend\n",
-            0,
-        ),
-        (
-            b"connected 0\nsubmit cmd GET a\nwrote 0 20\nbytes 0 +\nbytes 0 x\nbytes 0 %0D\nbytes 0 %0A\nend\n",
-            0,
-        ),
-        (b"connected 0\nsubmit cmd GET a\nbytes 0 ?x%0D%0A\nend\n", 0),
-        (b"end\n", 0),
-        (b"%65nd\n", 0),
-        (b"end", 2),
-        (b"end\nx", 3),
-        (b"end\n\n", 3),
-        (b"end \n", 2),
-        (b" end\n", 2),
-        (b"end x\n", 2),
-        (b"\nend\n", 2),
-        (b"connected 0\n", 3),
-        (b"connected 0\nend\nend\n", 4),
-        (b"connected 4294967295\nend\n", 0),
-        (b"connected 4294967296\nend\n", 2),
-        (b"connected 00\nend\n", 2),
-        (b"connected 01\nend\n", 2),
-        (b"connected\nend\n", 2),
-        (b"connected 0 1\nend\n", 2),
-        (b"connected %30\nend\n", 0),
-        (b"cancel 7\nended 3\nshutdown\nend\n", 0),
-        (b"cancel +7\nend\n", 2),
-        (b"cancel -7\nend\n", 2),
-        (b"cancel %-\nend\n", 2),
-        (b"wrote 0 18446744073709551615\nend\n", 0),
-        (b"wrote 0 18446744073709551616\nend\n", 2),
-        (b"wrote 0\nend\n", 2),
-        (b"bytes 0\nend\n", 2),
-        (b"bytes 0 %-\nend\n", 0),
-        (b"bytes 0 a b\nend\n", 2),
-        (b"bytes 0 \x01\x7f\xff;=%\nend\n", 2),
-        (b"bytes 0 \x01\x7f\xff;=%4f%4F\nend\n", 0),
-        (b"submit cmd\nend\n", 0),
-        (b"submit cmd %3B\nend\n", 0),
-        (b"submit cmd ;\nend\n", 2),
-        (b"submit cmd a  b\nend\n", 2),
-        (b"submit cmd a%\nend\n", 2),
-        (b"submit cmd %4\nend\n", 2),
-        (b"submit cmd %4g\nend\n", 2),
-        (b"submit cmd a%-\nend\n", 2),
-        (b"submit\nend\n", 2),
-        (b"submit pipe GET a\nend\n", 2),
-        (b"@0 shutdown\nend\n", 2),
-        (b"shutdown 0\nend\n", 2),
-        (b"config single\nend\n", 2),
-    ];
-    for (text, line) in rows {
+    for (text, line) in LATER_LINES {
         let found = fault_behind(rt.alloc(), text)?;
         assert_eq!(rt; found, line);
     }
