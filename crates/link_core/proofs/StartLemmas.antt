@@ -46,7 +46,7 @@ numbers_rise_by : (s : Starting) (q : Queued) (qs : List Queued) (held : Bool) �
 numbers_rise_by s q qs true is h = rw is (le_refl s.link.started)
 numbers_rise_by s q qs false is h = rw is (omega arith)
 
-numbers_rise : (s : Starting) (qs : List Queued) → s.link.started ≤ (started_each s qs).link.started
+pub numbers_rise : (s : Starting) (qs : List Queued) → s.link.started ≤ (started_each s qs).link.started
 numbers_rise s [] = le_refl s.link.started
 numbers_rise s (q ∷ qs) = numbers_rise_by s q qs (is_held_back s.link) refl (numbers_rise (started_one s q) qs)
 

@@ -246,6 +246,13 @@ impl LinkCore {
         self.outbox.unwritten.len() as u64
     }
 
+    /// How many messages have started.
+    pub fn started(&self) -> u32
+        ensures { result ≡ self.now.started }
+    {
+        self.started
+    }
+
     /// How many more items the started messages take. Takes no memory.
     pub fn open_needs(&self) -> u128
         ensures { result ≡ lacks self.now.row }

@@ -1,50 +1,76 @@
 -- Traces that are written while they grow.
-use Rattle.std.proofs.Common.{arith, ◌≡◌, ◌<◌, ◌+◌, ℕ, true, false, List, [], ◌∷◌, ◌++◌, length, Option, Some, append_assoc, ◌∙◌, sym, ap, subst}
+use Rattle.std.proofs.Common.{arith, ◌≡◌, ◌<◌, ◌≤◌, ◌⊎◌, inl, inr, ◌+◌, ℕ, true, false, List, [], ◌∷◌, ◌++◌, length, Option, Some, append_assoc, ◌∙◌, refl, sym, ap, subst, length-append}
 use Rattle.std.proofs.lemmas.List.{append-nil}
 use Rattle.std.proofs.lemmas.Grind.{flat_map-append}
-use Rattle.session_ends.specs.Ends.{Gained}
+use Rattle.std.proofs.Math.Seq.{take-append-add}
+use Rattle.std.specs.Prelude.{slice_get, take, codes}
+use Rattle.session_ends.specs.Ends.{Gained, GainedPart}
 use Rattle.driver_model.specs.declared.action.Action.{Action}
 use Rattle.driver_model.specs.declared.config.Config.{Config}
 use Rattle.driver_model.specs.declared.event.Event.{Event}
-use Rattle.shared_session.specs.declared.session.Failure.TheVariants.{Sound}
+use Rattle.shared_session.specs.declared.session.Failure.TheVariants.{Sound, Spent}
 use Rattle.shared_session.specs.History.{History}
-use Rattle.shared_session.specs.Replay.{opening, state_after, actions_of, trace_of, is_bad_after}
-use Rattle.shared_session.proofs.Replays.{Kept, kept_none, kept_more, taken_count, trace_of-none, trace_of-more}
+use Rattle.shared_session.specs.Replay.{opening, state_after, actions_of, trace_of, is_bad_after, is_spent_after}
+use Rattle.shared_session.specs.Stops.{IsSpentAt, IsSpentBy}
+use Rattle.shared_session.proofs.Replays.{Kept, kept_none, kept_more, taken_count, spent_stops, trace_of-none, trace_of-more}
 use Rattle.trace_text.specs.Words.{line_of}
 use Rattle.trace_text.specs.Show.{show, words_of}
-use Rattle.std.specs.Prelude.{slice_get, take, codes}
 use Rattle.session_tool.specs.Streaming.{Sent}
-use Rattle.session_tool.specs.Stops.{EndsBadly, IsToldBad}
+use Rattle.session_tool.specs.declared.replaying.Stop.{Stop}
+use Rattle.session_tool.specs.declared.replaying.Stop.TheVariants as stop
+use Rattle.session_tool.specs.Stops.{AreTaken, AreTurns, IsFirstBad, IsFirstSpent, EndsAt, EndsBadly, EndsSpent, ToldAt, IsToldBad, IsToldSpent, SentTurns, GainedTurns, GainedFront, Ends, Told, IsReplayText, EndsWith, turns_before, event_line, stop_line}
 use Rattle.session_tool.specs.Lines.{numbered_line}
 
 -- the text of two lists of actions
 pub show-append : (xs ys : List Action) → show (xs ++ ys) ≡ show xs ++ show ys
 show-append xs ys = flat_map-append (λ (a : Action). line_of (words_of a)) xs ys
 
+-- a sink that gained one text and then another
+gained_more : {old mid new : Option (List ℕ)} (first second : List ℕ) → Gained old mid first → Gained mid new second → Gained old new (first ++ second)
+gained_more {old} {mid} {new} first second one two = record {
+  held = λ held told. two.held (held ++ first) (one.held held told) ∙ ap (λ (xs : List ℕ). Some xs) (append_assoc held first second);
+}
+
+-- and one that gained nothing
+pub gained_none : {held : Option (List ℕ)} → Gained held held []
+gained_none {held} = record { held = λ bytes told. told ∙ ap (λ (xs : List ℕ). Some xs) (sym (append-nil bytes)) }
+
 -- nothing is written yet
 pub sent_none : {held : Option (List ℕ)} (rest text : List ℕ) → rest ≡ text → Sent held held rest text
-sent_none {held} rest text is = record { sent = λ bytes told. (bytes, told, ap (λ (xs : List ℕ). bytes ++ xs) is) }
+sent_none {held} rest text is = record { front = []; gained = gained_none; whole = is }
 
 -- all is written
 pub sent_all : {old new : Option (List ℕ)} (rest text : List ℕ) → rest ≡ [] → Gained old new text → Sent old new rest text
-sent_all {old} {new} rest text none gained = record { sent = λ held told. (held ++ text, gained.held held told, ap (λ (xs : List ℕ). (held ++ text) ++ xs) none ∙ append-nil (held ++ text)) }
+sent_all {old} {new} rest text none gained = record { front = text; gained = gained; whole = ap (λ (xs : List ℕ). text ++ xs) none ∙ append-nil text }
 
 -- more text, of which some is written
 pub sent_more : {old mid new : Option (List ℕ)} (before between after text more : List ℕ) → Sent old mid before text → between ≡ before ++ more → Sent mid new after between → Sent old new after (text ++ more)
 sent_more {old} {mid} {new} before between after text more one grown two = record {
-  sent = λ held told.
-      let a = one.sent held told in
-      let b = two.sent a.0 a.1 in
-      (b.0, b.1, b.2 ∙ ap (λ (xs : List ℕ). a.0 ++ xs) grown ∙ sym (append_assoc a.0 before more) ∙ ap (λ (xs : List ℕ). xs ++ more) a.2 ∙ append_assoc held text more);
+  front = one.front ++ two.front;
+  gained = gained_more one.front two.front one.gained two.gained;
+  whole = append_assoc one.front two.front after ∙ ap (λ (xs : List ℕ). one.front ++ xs) (two.whole ∙ grown) ∙ sym (append_assoc one.front before more)
+      ∙ ap (λ (xs : List ℕ). xs ++ more) one.whole;
 }
+
+-- the rest is written too, and more
+pub sent_end_more : {old mid new : Option (List ℕ)} (rest text more : List ℕ) → Sent old mid rest text → Gained mid new (rest ++ more) → Gained old new (text ++ more)
+sent_end_more {old} {mid} {new} rest text more one last =
+    subst (λ (xs : List ℕ). Gained old new xs) (sym (append_assoc one.front rest more) ∙ ap (λ (xs : List ℕ). xs ++ more) one.whole) (gained_more one.front (rest ++ more) one.gained last)
 
 -- the rest is written too
 pub sent_end : {old mid new : Option (List ℕ)} (rest text : List ℕ) → Sent old mid rest text → Gained mid new rest → Gained old new text
-sent_end {old} {mid} {new} rest text one last = record {
-  held = λ held told.
-      let a = one.sent held told in
-      last.held a.0 a.1 ∙ ap (λ (xs : List ℕ). Some xs) a.2;
-}
+sent_end {old} {mid} {new} rest text one last = subst (λ (xs : List ℕ). Gained old new xs) one.whole (gained_more one.front rest one.gained last)
+
+-- the front of the rest is written, and more
+pub sent_part : {old mid new : Option (List ℕ)} (rest text more : List ℕ) → Sent old mid rest text → GainedPart mid new (rest ++ more) → GainedPart old new (text ++ more)
+sent_part {old} {mid} {new} rest text more one last =
+    let whole : one.front ++ (rest ++ more) ≡ text ++ more = sym (append_assoc one.front rest more) ∙ ap (λ (xs : List ℕ). xs ++ more) one.whole in
+    record {
+      count = length one.front + last.count;
+      within = omega (arith, last.within, length-append one.front (rest ++ more), ap length whole);
+      gained = subst (λ (xs : List ℕ). Gained old new xs) (sym (take-append-add one.front (rest ++ more) last.count) ∙ ap (λ (xs : List ℕ). take (length one.front + last.count) xs) whole)
+          (gained_more one.front (take last.count (rest ++ more)) one.gained last.gained);
+    }
 
 -- what a replay into a sink keeps from event to event: the session has taken these events, and the sink and the rest have their trace
 pub record Streams (config : Config) (word : ℕ) (taken : List Event) (s : History) (old new : Option (List ℕ)) (rest : List ℕ) : Type 0 where
@@ -60,17 +86,21 @@ streams_none {held} config word s before rest made empty shown = record {
 
 pub streams_more : {old mid new : Option (List ℕ)} (config : Config) (word : ℕ) (taken : List Event) (s t : History) (e : Event) (rest grown after : List ℕ) →
     Streams config word taken s old mid rest → t ≡ record s { events = s.events ++ e ∷ [] } → is_bad_after s.config s.word s.events e ≡ false
-    → grown ≡ rest ++ show (actions_of (state_after s.config s.word s.events) e) → Sent mid new after grown → Streams config word (taken ++ e ∷ []) t old new after
-streams_more {old} {mid} {new} config word taken s t e rest grown after h made good shown sent =
+    → is_spent_after s.config s.word s.events e ≡ false → grown ≡ rest ++ show (actions_of (state_after s.config s.word s.events) e) → Sent mid new after grown → Streams config word (taken ++ e ∷ []) t old new after
+streams_more {old} {mid} {new} config word taken s t e rest grown after h made good unspent shown sent =
     let acts = actions_of (state_after config word taken) e in
     let same : actions_of (state_after s.config s.word s.events) e ≡ acts = ap (λ (x : History). actions_of (state_after x.config x.word x.events) e) h.kept.made in
     let next : trace_of config word (taken ++ e ∷ []) ≡ trace_of config word taken ++ acts = trace_of-more config word taken e in
     record {
       kept = kept_more config word taken [] (trace_of config word taken) (trace_of config word (taken ++ e ∷ [])) s t e h.kept made
-          (next ∙ ap (λ (acted : List Action). trace_of config word taken ++ acted) (sym same)) good;
+          (next ∙ ap (λ (acted : List Action). trace_of config word taken ++ acted) (sym same)) good unspent;
       sent = subst (λ (xs : List ℕ). Sent old new after xs) (sym (ap (λ (acted : List Action). show acted) next ∙ show-append (trace_of config word taken) acts))
           (sent_more rest grown after (show (trace_of config word taken)) (show acts) h.sent (shown ∙ ap (λ (acted : List Action). rest ++ show acted) same) sent);
     }
+
+-- the events so far are taken
+taken_before : {old new : Option (List ℕ)} (config : Config) (word : ℕ) (all : List Event) (index : ℕ) (s : History) (rest : List ℕ) → index < length all → Streams config word (take index all) s old new rest → AreTaken config word all index
+taken_before {old} {new} config word all index s rest l h = record { within = omega arith; good = h.kept.good; unspent = h.kept.unspent }
 
 -- a bad event ends a replay into a sink
 pub ends_badly : {old new : Option (List ℕ)} (config : Config) (word : ℕ) (all : List Event) (index number : ℕ) (s : History) (e : Event) (before after : List ℕ) →
@@ -82,24 +112,162 @@ ends_badly {old} {new} config word all index number s e before after l is h same
       index = index;
       counted = counted ∙ ap (λ (k : ℕ). k + 1) count;
       first = record {
-        good = h.kept.good;
+        before = taken_before config word all index s before l h;
         bad = record { event = e; stands = is; bad = sym (ap (λ (x : History). is_bad_after x.config x.word x.events e) h.kept.made) ∙ b };
       };
-      sent = subst (λ (xs : List ℕ). Sent old new xs (show (trace_of config word (take index all)))) (sym same) h.sent;
+      sent = subst (λ (xs : List ℕ). Sent old new xs (turns_before config word all index)) (sym same) h.sent;
     }
 
--- and its line is written behind the turns before it
-pub told_bad : {old mid new : Option (List ℕ)} (config : Config) (word : ℕ) (all : List Event) (number : ℕ) (rest : List ℕ) →
-    EndsBadly config word all number old mid rest → Gained mid new (rest ++ numbered_line (codes "bad event") number) → IsToldBad config word all old new
-told_bad {old} {mid} {new} config word all number rest h last = record {
+-- and so does a spent step
+pub ends_spent : {old new : Option (List ℕ)} (config : Config) (word : ℕ) (all : List Event) (index number : ℕ) (s : History) (e : Event) (before after : List ℕ) →
+    index < length all → slice_get all index ≡ Some e → Streams config word (take index all) s old new before → after ≡ before
+    → (s.failure ≡ Spent) ⊎ IsSpentBy s e → number ≡ length s.events + 1 → EndsSpent config word all number old new after
+ends_spent {old} {new} config word all index number s e before after l is h same why counted =
+    let acts = trace_of config word (take index all) in
+    let stops = spent_stops config word all index (length s.events) [] acts acts s e l is h.kept refl why refl in
+    let count = taken_count config word all index [] acts s (omega arith) h.kept in
+    record {
+      index = index;
+      counted = counted ∙ ap (λ (k : ℕ). k + 1) count;
+      first = record {
+        before = taken_before config word all index s before l h;
+        spent = subst (λ (k : ℕ). IsSpentAt config word all k) count stops.1;
+      };
+      sent = subst (λ (xs : List ℕ). Sent old new xs (turns_before config word all index)) (sym same) h.sent;
+    }
+
+-- the sink and the rest have whole turns, wherever a replay into a sink stopped
+pub sent_turns : {old new : Option (List ℕ)} (config : Config) (word : ℕ) (all : List Event) (index : ℕ) (s : History) (before after : List ℕ) →
+    index ≤ length all → Streams config word (take index all) s old new before → after ≡ before → SentTurns config word all old new after
+sent_turns {old} {new} config word all index s before after l h same = record {
+  text = turns_before config word all index;
+  turns = inr (index, l, refl);
+  sent = subst (λ (xs : List ℕ). Sent old new xs (turns_before config word all index)) (sym same) h.sent;
+}
+
+-- and where nothing was shown
+pub sent_nothing : {held : Option (List ℕ)} (config : Config) (word : ℕ) (all : List Event) (before after : List ℕ) → before ≡ [] → after ≡ before → SentTurns config word all held held after
+sent_nothing {held} config word all before after none same = record { text = []; turns = inl refl; sent = sent_none after [] (same ∙ none) }
+
+-- the front of whole turns
+front_of_turns : {old new : Option (List ℕ)} (config : Config) (word : ℕ) (all : List Event) (text : List ℕ) → AreTurns config word all text → GainedPart old new text → GainedFront config word all old new
+front_of_turns {old} {new} config word all text turns part = record { text = text; is = inl turns; part = part }
+
+-- the sink failed behind an event: it has the front of the turns up to that event's
+pub cut_short : {old mid new : Option (List ℕ)} (config : Config) (word : ℕ) (all : List Event) (index : ℕ) (s : History) (e : Event) (before grown : List ℕ) →
+    index < length all → take (index + 1) all ≡ take index all ++ e ∷ [] → Streams config word (take index all) s old mid before
+    → grown ≡ before ++ show (actions_of (state_after s.config s.word s.events) e) → GainedPart mid new grown → GainedFront config word all old new
+cut_short {old} {mid} {new} config word all index s e before grown l next h shown part =
+    let taken = take index all in
+    let acts = actions_of (state_after config word taken) e in
+    let same : actions_of (state_after s.config s.word s.events) e ≡ acts = ap (λ (x : History). actions_of (state_after x.config x.word x.events) e) h.kept.made in
+    let more : grown ≡ before ++ show acts = shown ∙ ap (λ (acted : List Action). before ++ show acted) same in
+    let turns : turns_before config word all index ++ show acts ≡ turns_before config word all (index + 1) =
+        sym (ap (λ (es : List Event). show (trace_of config word es)) next ∙ ap (λ (acted : List Action). show acted) (trace_of-more config word taken e) ∙ show-append (trace_of config word taken) acts) in
+    front_of_turns config word all (turns_before config word all index ++ show acts) (inr (index + 1, omega arith, turns))
+    (sent_part before (turns_before config word all index) (show acts) h.sent (subst (λ (xs : List ℕ). GainedPart mid new xs) more part))
+
+-- the line of where it stopped is written behind the turns before it
+told_at : {old mid new : Option (List ℕ)} (First : ℕ → Type 0) (turns : ℕ → List ℕ) (words : List ℕ) (number : ℕ) (rest : List ℕ) →
+    EndsAt First turns number old mid rest → Gained mid new (rest ++ numbered_line words number) → ToldAt First turns words old new
+told_at {old} {mid} {new} First turns words number rest h last = record {
   index = h.index;
   first = h.first;
-  gained = record {
-    held = λ held told.
-        let a = h.sent.sent held told in
-        let turns = show (trace_of config word (take h.index all)) in
-        let line = numbered_line (codes "bad event") in
-        last.held a.0 a.1 ∙ ap (λ (xs : List ℕ). Some xs) (sym (append_assoc a.0 rest (line number)) ∙ ap (λ (xs : List ℕ). xs ++ line number) a.2
-        ∙ append_assoc held turns (line number) ∙ ap (λ (k : ℕ). held ++ (turns ++ line k)) h.counted);
-  };
+  gained = subst (λ (k : ℕ). Gained old new (turns h.index ++ numbered_line words k)) h.counted (sent_end_more rest (turns h.index) (numbered_line words number) h.sent last);
 }
+
+-- or its front
+cut_at_line : {old mid new : Option (List ℕ)} (First : ℕ → Type 0) (turns : ℕ → List ℕ) (words : List ℕ) (number : ℕ) (rest : List ℕ) →
+    (h : EndsAt First turns number old mid rest) → GainedPart mid new (rest ++ numbered_line words number) → GainedPart old new (turns h.index ++ event_line words h.index)
+cut_at_line {old} {mid} {new} First turns words number rest h part =
+    subst (λ (k : ℕ). GainedPart old new (turns h.index ++ numbered_line words k)) h.counted (sent_part rest (turns h.index) (numbered_line words number) h.sent part)
+
+-- the front of whole turns, or of them and the line behind them
+front_first : {old mid new : Option (List ℕ)} (config : Config) (word : ℕ) (all : List Event) (First : ℕ → Type 0) (words : List ℕ) (number : ℕ) (rest : List ℕ) →
+    ((text : List ℕ) → EndsWith First (turns_before config word all) words text → IsReplayText config word all text) → ((k : ℕ) → First k → k ≤ length all)
+    → EndsAt First (turns_before config word all) number old mid rest → GainedPart mid new (rest ++ numbered_line words number) ⊎ GainedPart mid new (rest ++ []) → GainedFront config word all old new
+front_first {old} {mid} {new} config word all First words number rest inject within h (inl part) =
+    let text = turns_before config word all h.index ++ event_line words h.index in
+    record {
+      text = text;
+      is = inject text (record { index = h.index; first = h.first; is = refl });
+      part = cut_at_line First (turns_before config word all) words number rest h part;
+    }
+front_first {old} {mid} {new} config word all First words number rest inject within h (inr part) =
+    let turns = turns_before config word all h.index in
+    front_of_turns config word all (turns ++ []) (inr (h.index, within h.index h.first, append-nil turns)) (sent_part rest turns [] h.sent part)
+
+-- whole turns, and no line
+turns_first : {old mid new : Option (List ℕ)} (config : Config) (word : ℕ) (all : List Event) (First : ℕ → Type 0) (number : ℕ) (rest : List ℕ) → ((k : ℕ) → First k → k ≤ length all)
+    → EndsAt First (turns_before config word all) number old mid rest → Gained mid new (rest ++ []) → GainedTurns config word all old new
+turns_first {old} {mid} {new} config word all First number rest within h gained =
+    let turns = turns_before config word all h.index in
+    record {
+      text = turns ++ [];
+      turns = inr (h.index, within h.index h.first, append-nil turns);
+      gained = sent_end_more rest turns [] h.sent gained;
+    }
+
+bad_within : (config : Config) (word : ℕ) (all : List Event) (k : ℕ) → IsFirstBad config word all k → k ≤ length all
+bad_within config word all k h = h.before.within
+
+spent_within : (config : Config) (word : ℕ) (all : List Event) (k : ℕ) → IsFirstSpent config word all k → k ≤ length all
+spent_within config word all k h = h.before.within
+
+no_fault : stop.NoMemory ≡ stop.WriteFault → ⊥
+no_fault is = cc
+
+either_part : {mid new : Option (List ℕ)} (rest : List ℕ) → GainedPart mid new (rest ++ []) ⊎ GainedPart mid new (rest ++ []) → GainedPart mid new (rest ++ [])
+either_part {mid} {new} rest (inl part) = part
+either_part {mid} {new} rest (inr part) = part
+
+-- the stop stays, and its line was written
+told_same : {old mid new : Option (List ℕ)} (config : Config) (word : ℕ) (all : List Event) (s : Stop) (rest : List ℕ) → Ends s config word all old mid rest
+    → (s ≡ stop.WriteFault → new ≡ mid) → (s ≡ stop.WriteFault) ⊎ Gained mid new (rest ++ stop_line s) → Told s config word all old new
+told_same {old} {mid} {new} config word all (stop.BadEvent n) rest ends same (inr told) = told_at (IsFirstBad config word all) (turns_before config word all) (codes "bad event") n rest ends told
+told_same {old} {mid} {new} config word all (stop.BadEvent n) rest ends same (inl is) = cc
+told_same {old} {mid} {new} config word all (stop.Spent n) rest ends same (inr told) = told_at (IsFirstSpent config word all) (turns_before config word all) (codes "spent event") n rest ends told
+told_same {old} {mid} {new} config word all (stop.Spent n) rest ends same (inl is) = cc
+told_same {old} {mid} {new} config word all stop.NoMemory rest ends same (inr told) =
+    record { text = ends.text ++ []; turns = subst (λ (xs : List ℕ). AreTurns config word all xs) (sym (append-nil ends.text)) ends.turns; gained = sent_end_more rest ends.text [] ends.sent told }
+told_same {old} {mid} {new} config word all stop.NoMemory rest ends same (inl is) = cc
+told_same {old} {mid} {new} config word all stop.WriteFault rest ends same told = subst (λ (x : Option (List ℕ)). GainedFront config word all old x) (sym (same refl)) ends
+
+-- memory was refused for its line
+told_less : {old mid new : Option (List ℕ)} (config : Config) (word : ℕ) (all : List Event) (s : Stop) (rest : List ℕ) → Ends s config word all old mid rest → (s ≡ stop.WriteFault → ⊥)
+    → Gained mid new (rest ++ []) → GainedTurns config word all old new
+told_less {old} {mid} {new} config word all (stop.BadEvent n) rest ends not_fault told = turns_first config word all (IsFirstBad config word all) n rest (bad_within config word all) ends told
+told_less {old} {mid} {new} config word all (stop.Spent n) rest ends not_fault told = turns_first config word all (IsFirstSpent config word all) n rest (spent_within config word all) ends told
+told_less {old} {mid} {new} config word all stop.NoMemory rest ends not_fault told =
+    record { text = ends.text ++ []; turns = subst (λ (xs : List ℕ). AreTurns config word all xs) (sym (append-nil ends.text)) ends.turns; gained = sent_end_more rest ends.text [] ends.sent told }
+told_less {old} {mid} {new} config word all stop.WriteFault rest ends not_fault told = absurd (not_fault refl)
+
+-- the sink failed on the way
+told_cut : {old mid new : Option (List ℕ)} (config : Config) (word : ℕ) (all : List Event) (s : Stop) (rest : List ℕ) → Ends s config word all old mid rest → (s ≡ stop.WriteFault → new ≡ mid)
+    → (s ≡ stop.WriteFault) ⊎ (GainedPart mid new (rest ++ stop_line s) ⊎ GainedPart mid new (rest ++ [])) → GainedFront config word all old new
+told_cut {old} {mid} {new} config word all stop.WriteFault rest ends same cut = subst (λ (x : Option (List ℕ)). GainedFront config word all old x) (sym (same refl)) ends
+told_cut {old} {mid} {new} config word all (stop.BadEvent n) rest ends same (inr cut) =
+    front_first config word all (IsFirstBad config word all) (codes "bad event") n rest (λ text is. inr (inl is)) (bad_within config word all) ends cut
+told_cut {old} {mid} {new} config word all (stop.BadEvent n) rest ends same (inl is) = cc
+told_cut {old} {mid} {new} config word all (stop.Spent n) rest ends same (inr cut) =
+    front_first config word all (IsFirstSpent config word all) (codes "spent event") n rest (λ text is. inr (inr is)) (spent_within config word all) ends cut
+told_cut {old} {mid} {new} config word all (stop.Spent n) rest ends same (inl is) = cc
+told_cut {old} {mid} {new} config word all stop.NoMemory rest ends same (inr cut) =
+    front_of_turns config word all (ends.text ++ []) (subst (λ (xs : List ℕ). AreTurns config word all xs) (sym (append-nil ends.text)) ends.turns)
+    (sent_part rest ends.text [] ends.sent (either_part rest cut))
+told_cut {old} {mid} {new} config word all stop.NoMemory rest ends same (inl is) = cc
+
+-- What a replay that stopped leaves once it is ended: its stop, or want of memory, or the sink's fault.
+pub told_end : {old mid new : Option (List ℕ)} (config : Config) (word : ℕ) (all : List Event) (s r : Stop) (rest : List ℕ) → Ends s config word all old mid rest
+    → (r ≡ s) ⊎ ((r ≡ stop.NoMemory) ⊎ (r ≡ stop.WriteFault)) → (r ≡ stop.WriteFault) ⊎ Gained mid new (rest ++ stop_line r)
+    → (s ≡ stop.WriteFault → (r ≡ stop.WriteFault) × (new ≡ mid))
+    → (r ≡ stop.WriteFault → (s ≡ stop.WriteFault) ⊎ (GainedPart mid new (rest ++ stop_line s) ⊎ GainedPart mid new (rest ++ []))) → Told r config word all old new
+told_end {old} {mid} {new} config word all s r rest ends (inl e) told same cut =
+    subst (λ (x : Stop). Told x config word all old new) (sym e)
+    (told_same config word all s rest ends (λ is. (same is).1) (subst (λ (x : Stop). (x ≡ stop.WriteFault) ⊎ Gained mid new (rest ++ stop_line x)) e told))
+told_end {old} {mid} {new} config word all s r rest ends (inr (inl e)) (inr told) same cut =
+    subst (λ (x : Stop). Told x config word all old new) (sym e)
+    (told_less config word all s rest ends (λ is. no_fault (sym e ∙ (same is).0)) (subst (λ (x : Stop). Gained mid new (rest ++ stop_line x)) e told))
+told_end {old} {mid} {new} config word all s r rest ends (inr (inl e)) (inl is) same cut = absurd (no_fault (sym e ∙ is))
+told_end {old} {mid} {new} config word all s r rest ends (inr (inr e)) told same cut =
+    subst (λ (x : Stop). Told x config word all old new) (sym e) (told_cut config word all s rest ends (λ is. (same is).1) (cut e))

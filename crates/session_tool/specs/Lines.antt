@@ -20,3 +20,7 @@ read_fault_line = codes "read fault" ++ 10 ∷ []
 -- the statuses that a run ends with
 abbrev pub is_status : ℕ → Bool
 is_status status = nat_le status 8 && not (status == 3)
+
+-- what the program says of itself
+abbrev pub help_line : List ℕ
+help_line = codes "session_tool replay: reads a script, and writes the trace of its session" ++ 10 ∷ []

@@ -1,30 +1,88 @@
 -- What a run of the program did.
-use Rattle.std.specs.Prelude.{◌≡◌, ℕ, ◌+◌, List, [], ◌++◌, Option, Some, Ok, Err, codes, take}
+use Rattle.std.specs.Prelude.{◌≡◌, ◌⊎◌, ℕ, List, [], Option, Some, Ok, Err, codes}
 use Rattle.script_text.specs.Script.{script_of}
 use Rattle.script_text.specs.declared.script.Script.{Script}
-use Rattle.shared_session.specs.Replay.{trace_of, AreGood}
+use Rattle.shared_session.specs.Replay.{trace_of, AreGood, AreUnspent}
 use Rattle.trace_text.specs.Show.{show}
-use Rattle.session_tool.specs.Lines.{numbered_line}
-use Rattle.session_tool.specs.Stops.{IsFirstBad}
+use Rattle.session_ends.specs.Ends.{Rose, Gained, GainedPart}
+use Rattle.session_tool.specs.declared.command.Command.{Command}
+use Rattle.session_tool.specs.declared.command.Command.TheVariants.{Replay, Help, Version, Unknown}
+use Rattle.session_tool.specs.Lines.{numbered_line, read_fault_line, usage_line, help_line, version_line}
+use Rattle.session_tool.specs.Stops.{IsToldBad, IsToldSpent, AreTurns, IsReplayText}
 
--- the source's bytes are a script without a bad event, they were read to their end, and the sink gained the script's trace
-pub record IsReplay (bytes held : List ℕ) (left now : Option (List ℕ)) : Type 0 where
+-- the bytes are a script without a bad event or a spent step, they were read to their end, and the sink gained the
+-- script's trace
+pub record IsReplay (bytes : List ℕ) (left old new : Option (List ℕ)) : Type 0 where
   pub script : Script
   pub reads : script_of bytes ≡ Ok script
   pub ended : left ≡ Some []
-  pub trace : now ≡ Some (held ++ show (trace_of script.config script.word script.events))
+  pub trace : Gained old new (show (trace_of script.config script.word script.events))
   pub good : AreGood script.config script.word script.events
+  pub unspent : AreUnspent script.config script.word script.events
 
--- a line of the source's bytes is the first at fault, and the sink gained its number
-pub record IsRefusal (bytes held : List ℕ) (now : Option (List ℕ)) : Type 0 where
+-- a line of the bytes is the first at fault, and the sink gained its number
+pub record IsRefusal (bytes : List ℕ) (old new : Option (List ℕ)) : Type 0 where
   pub line : ℕ
   pub fault : script_of bytes ≡ Err line
-  pub told : now ≡ Some (held ++ numbered_line (codes "script line") line)
+  pub told : Gained old new (numbered_line (codes "script line") line)
 
--- an event of the source's script is the first bad one, and the sink gained the turns before it and its number, counted from 1
-pub record IsBadRun (bytes held : List ℕ) (now : Option (List ℕ)) : Type 0 where
+-- an event of the script is the first bad one, and no step before it is spent: the sink gained the turns before it, and
+-- its number
+pub record IsBadRun (bytes : List ℕ) (old new : Option (List ℕ)) : Type 0 where
   pub script : Script
   pub reads : script_of bytes ≡ Ok script
-  pub index : ℕ
-  pub first : IsFirstBad script.config script.word script.events index
-  pub told : now ≡ Some (held ++ (show (trace_of script.config script.word (take index script.events)) ++ numbered_line (codes "bad event") (index + 1)))
+  pub told : IsToldBad script.config script.word script.events old new
+
+-- the step of an event of the script is the first spent one, and no event up to it is bad: the sink gained the turns
+-- before it, and its number
+pub record IsSpentRun (bytes : List ℕ) (old new : Option (List ℕ)) : Type 0 where
+  pub script : Script
+  pub reads : script_of bytes ≡ Ok script
+  pub told : IsToldSpent script.config script.word script.events old new
+
+-- whole turns of the script that the bytes are, if they are one
+pub record AreTurnsOf (bytes text : List ℕ) : Type 0 where
+  pub script : Script
+  pub reads : script_of bytes ≡ Ok script
+  pub turns : AreTurns script.config script.word script.events text
+
+-- the sink gained nothing, or whole turns
+pub record IsWholeRun (bytes : List ℕ) (old new : Option (List ℕ)) : Type 0 where
+  pub text : List ℕ
+  pub turns : (text ≡ []) ⊎ AreTurnsOf bytes text
+  pub gained : Gained old new text
+
+-- the text of the replay of the script that the bytes are
+pub record IsTextOf (bytes text : List ℕ) : Type 0 where
+  pub script : Script
+  pub reads : script_of bytes ≡ Ok script
+  pub text : IsReplayText script.config script.word script.events text
+
+-- all that a replay of these bytes may write: that the source failed, the line of the script that is at fault, or the
+-- text of the script's replay
+abbrev pub IsOutput : List ℕ → List ℕ → Type 0
+IsOutput bytes text = (text ≡ read_fault_line) ⊎ ((line : ℕ) × (script_of bytes ≡ Err line) × (text ≡ numbered_line (codes "script line") line)) ⊎ IsTextOf bytes text
+
+-- the sink gained the front of what the replay writes
+pub record IsCutRun (bytes : List ℕ) (old new : Option (List ℕ)) : Type 0 where
+  pub text : List ℕ
+  pub output : IsOutput bytes text
+  pub part : GainedPart old new text
+
+-- the sink gained the front of what the command writes; of a replay this is said where the source tells its bytes
+abbrev pub IsCut : Command → Option (List ℕ) → Option (List ℕ) → Option (List ℕ) → Type 0
+IsCut Replay left old new = (bytes : List ℕ) → left ≡ Some bytes → IsCutRun bytes old new
+IsCut Help left old new = GainedPart old new help_line
+IsCut Version left old new = GainedPart old new version_line
+IsCut Unknown left old new = GainedPart old new usage_line
+
+-- the bytes are a script, no event is bad, and no step is spent
+pub record IsSound (bytes : List ℕ) : Type 0 where
+  pub script : Script
+  pub reads : script_of bytes ≡ Ok script
+  pub good : AreGood script.config script.word script.events
+  pub unspent : AreUnspent script.config script.word script.events
+
+-- no fault was counted
+abbrev pub IsUnfailed : ℕ → ℕ → Type 0
+IsUnfailed old new = Rose old new → ⊥

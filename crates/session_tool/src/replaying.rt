@@ -1,10 +1,11 @@
-ghost use Rattle.std.specs.Prelude.{◌≡◌, ℕ, ◌+◌, ◌≤◌, ◌++◌, [], ◌∷◌, length, true, false, OnOk, OnErr, IfOk, IsErrOf};
+ghost use Rattle.std.specs.Prelude.{◌≡◌, ◌⊎◌, ℕ, ◌+◌, ◌≤◌, ◌++◌, [], ◌∷◌, length, true, false, OnOk, OnErr, IfOk, IfErr, IsErrOf};
 ghost use Rattle.session_ends.specs.Ends.{Rose};
-ghost use Rattle.shared_session.specs.Replay.{opening, state_after, actions_of, trace_of, is_bad_after, AreGood};
-ghost use Rattle.shared_session.specs.declared.session.Failure.TheVariants.{Sound};
+ghost use Rattle.shared_session.specs.Replay.{opening, state_after, actions_of, trace_of, is_bad_after, is_spent_after, AreGood, AreUnspent};
+ghost use Rattle.shared_session.specs.declared.session.Failure.TheVariants.{Sound, Spent};
+ghost use Rattle.shared_session.specs.Stops.{IsSpentBy};
 ghost use Rattle.trace_text.specs.Show.{show};
 ghost use Rattle.session_tool.specs.Streaming.{Sent};
-ghost use Rattle.session_tool.specs.Stops.{EndsBadly};
+ghost use Rattle.session_tool.specs.Stops.{Ends};
 
 use crate::streaming::{show_turn, write_large};
 use containers::Bytes;
@@ -69,7 +70,9 @@ fn take_turn(
     ensures good { OnOk result (is_bad_after session.old.config session.old.word session.old.events event.now ≡ false) }
     ensures bad { (n : ℕ) → IsErrOf result (Stop.BadEvent n) → is_bad_after session.old.config session.old.word session.old.events event.now ≡ true }
     ensures number { (n : ℕ) → IsErrOf result (Stop.BadEvent n) → n ≡ length session.old.events + 1 }
-    ensures spent { (n : ℕ) → IsErrOf result (Stop.Spent n) → n ≡ length session.old.events + 1 }
+    ensures unspent { OnOk result (is_spent_after session.old.config session.old.word session.old.events event.now ≡ false) }
+    ensures spent { (n : ℕ) → IsErrOf result (Stop.Spent n) → (session.old.failure ≡ Spent) ⊎ IsSpentBy session.old event.now }
+    ensures count { (n : ℕ) → IsErrOf result (Stop.Spent n) → n ≡ length session.old.events + 1 }
     ensures writes { IsErrOf result Stop.WriteFault → ⊥ }
     ensures err { OnErr result (text.new ≡ text.old) }
 {
@@ -98,11 +101,15 @@ pub fn replay_into<K: Sink>(
     requires { text.old ≡ [] }
     ensures sent { OnOk result (Sent (K.held sink.old) (K.held sink.new) text.new (show (trace_of config.now word events.now))) }
     ensures good { OnOk result (AreGood config.now word events.now) }
-    ensures bad { (n : ℕ) → IsErrOf result (Stop.BadEvent n) → EndsBadly config.now word events.now n (K.held sink.old) (K.held sink.new) text.new }
+    ensures unspent { OnOk result (AreUnspent config.now word events.now) }
+    ensures stops { IfErr result (λ stop. Ends stop config.now word events.now (K.held sink.old) (K.held sink.new) text.new) }
     ensures later { K.fault_count sink.old ≤ K.fault_count sink.new }
     ensures cause { IsErrOf result Stop.WriteFault → Rose (K.fault_count sink.old) (K.fault_count sink.new) }
 {
-    let mut session = open_session(alloc, config, word, text)?;
+    let mut session = match open_session(alloc, config, word, text) {
+        Ok(session) => session,
+        Err(_) => return Err(Stop::NoMemory),
+    };
     for event in events {
         match take_turn(alloc, &mut session, event, text) {
             Ok(()) => {}

@@ -1,14 +1,14 @@
-ghost use Rattle.std.specs.Prelude.{◌≡◌, ◌⊎◌, ◌≤◌, ◌++◌, ℕ, List, true, false, Some, codes, OnOk, IsErrOf};
-ghost use Rattle.session_ends.specs.Ends.{Rose, Gained, IsAtEnd};
+ghost use Rattle.std.specs.Prelude.{◌≡◌, ◌⊎◌, ◌≤◌, ◌++◌, ℕ, List, [], true, false, Some, codes, OnOk, IfErr, IsErrOf};
+ghost use Rattle.session_ends.specs.Ends.{Rose, Gained, GainedPart};
 ghost use Rattle.script_text.specs.Script.{script_of};
-ghost use Rattle.shared_session.specs.Replay.{trace_of, AreGood};
+ghost use Rattle.shared_session.specs.Replay.{trace_of, AreGood, AreUnspent};
 ghost use Rattle.trace_model.specs.Legal.{IsSettled};
 ghost use Rattle.trace_text.specs.Show.{show};
 ghost use Rattle.session_tool.specs.Headline.{OfTrace, IsInOrder, IsInPlace, IsLegal};
 ghost use Rattle.trace_laws.specs.Answers.{AnswersOnce, AnswersAll};
-ghost use Rattle.session_tool.specs.Lines.{is_status, numbered_line, read_fault_line, usage_line, version_line};
-ghost use Rattle.session_tool.specs.Runs.{IsReplay, IsRefusal, IsBadRun};
-ghost use Rattle.session_tool.specs.Stops.{IsToldBad};
+ghost use Rattle.session_tool.specs.Lines.{is_status, help_line, numbered_line, read_fault_line, usage_line, version_line};
+ghost use Rattle.session_tool.specs.Runs.{IsReplay, IsRefusal, IsBadRun, IsSpentRun, IsWholeRun, IsCut, IsCutRun, IsSound, IsUnfailed};
+ghost use Rattle.session_tool.specs.Stops.{Told, stop_line};
 ghost use Rattle.session_tool.specs.Words.{command_of};
 
 use crate::command::{Command, command_of};
@@ -47,6 +47,7 @@ impl From<AllocError> for PutError {
 /// Writes a text. `false`: the sink failed.
 fn put<K: Sink>(text: &Bytes, sink: &mut K) -> bool
     ensures all { result ≡ true → Gained (K.held sink.old) (K.held sink.new) text.now }
+    ensures part { GainedPart (K.held sink.old) (K.held sink.new) text.now }
     ensures later { K.fault_count sink.old ≤ K.fault_count sink.new }
     ensures cause { result ≡ false → Rose (K.fault_count sink.old) (K.fault_count sink.new) }
 {
@@ -56,6 +57,8 @@ fn put<K: Sink>(text: &Bytes, sink: &mut K) -> bool
 /// Writes the line of a script that is at fault.
 fn refuse_script<K: Sink>(alloc: Global, line: u32, sink: &mut K) -> Result<(), PutError>
     ensures told { OnOk result (Gained (K.held sink.old) (K.held sink.new) (numbered_line (codes "script line") line)) }
+    ensures none { IsErrOf result PutError.NoMemory → Gained (K.held sink.old) (K.held sink.new) [] }
+    ensures cut { IsErrOf result PutError.WriteFault → GainedPart (K.held sink.old) (K.held sink.new) (numbered_line (codes "script line") line) }
     ensures cause { IsErrOf result PutError.WriteFault → Rose (K.fault_count sink.old) (K.fault_count sink.new) }
 {
     let mut text = Bytes::new(alloc);
@@ -69,13 +72,14 @@ fn refuse_script<K: Sink>(alloc: Global, line: u32, sink: &mut K) -> Result<(), 
 
 /// Appends the line of the event at which a replay stopped. Where memory is refused it stopped for that.
 fn push_stop(alloc: Global, text: &mut Bytes, stop: Stop) -> Stop
-    ensures bad { (n : ℕ) → result ≡ Stop.BadEvent n → (stop ≡ Stop.BadEvent n) × (text.new ≡ text.old ++ numbered_line (codes "bad event") n) }
-    ensures cause { result ≡ Stop.WriteFault → stop ≡ Stop.WriteFault }
+    ensures text { text.new ≡ text.old ++ stop_line result }
+    ensures kept { (result ≡ stop) ⊎ (result ≡ Stop.NoMemory) }
 {
     let pushed = match stop {
         Stop::BadEvent(number) => push_line(alloc, text, b"bad event", number),
         Stop::Spent(number) => push_line(alloc, text, b"spent event", number),
-        Stop::NoMemory | Stop::WriteFault => return stop,
+        Stop::NoMemory => return stop,
+        Stop::WriteFault => return stop,
     };
     match pushed {
         Ok(()) => stop,
@@ -83,12 +87,18 @@ fn push_stop(alloc: Global, text: &mut Bytes, stop: Stop) -> Stop
     }
 }
 
-/// Writes what is left of a replay that stopped.
+/// Writes what is left of a replay that stopped, unless the sink's fault stopped it.
 fn end_early<K: Sink>(alloc: Global, stop: Stop, text: &mut Bytes, sink: &mut K) -> Stop
-    ensures bad { (n : ℕ) → result ≡ Stop.BadEvent n → (stop ≡ Stop.BadEvent n) × Gained (K.held sink.old) (K.held sink.new) (text.old ++ numbered_line (codes "bad event") n) }
+    ensures kept { (result ≡ stop) ⊎ (result ≡ Stop.NoMemory) ⊎ (result ≡ Stop.WriteFault) }
+    ensures told { (result ≡ Stop.WriteFault) ⊎ Gained (K.held sink.old) (K.held sink.new) (text.old ++ stop_line result) }
+    ensures same { stop ≡ Stop.WriteFault → (result ≡ Stop.WriteFault) × (K.held sink.new ≡ K.held sink.old) }
+    ensures cut { result ≡ Stop.WriteFault → (stop ≡ Stop.WriteFault) ⊎ GainedPart (K.held sink.old) (K.held sink.new) (text.old ++ stop_line stop) ⊎ GainedPart (K.held sink.old) (K.held sink.new) (text.old ++ []) }
     ensures cause { result ≡ Stop.WriteFault → (stop ≡ Stop.WriteFault) ⊎ Rose (K.fault_count sink.old) (K.fault_count sink.new) }
     ensures later { K.fault_count sink.old ≤ K.fault_count sink.new }
 {
+    if stop == Stop::WriteFault {
+        return stop;
+    }
     let stop = push_stop(alloc, text, stop);
     if put(text, sink) {
         stop
@@ -98,11 +108,12 @@ fn end_early<K: Sink>(alloc: Global, stop: Stop, text: &mut Bytes, sink: &mut K)
 }
 
 /// Replays a script, and writes its trace.
-#[tactic(auto, using(crate::proofs::Traces::sent_end, crate::proofs::Traces::told_bad))]
+#[tactic(auto, using(crate::proofs::Traces::sent_end))]
 fn replay_script<K: Sink>(alloc: Global, script: &Script, sink: &mut K) -> Result<(), Stop>
     ensures trace { OnOk result (Gained (K.held sink.old) (K.held sink.new) (show (trace_of script.now.config script.now.word script.now.events))) }
     ensures good { OnOk result (AreGood script.now.config script.now.word script.now.events) }
-    ensures bad { (n : ℕ) → IsErrOf result (Stop.BadEvent n) → IsToldBad script.now.config script.now.word script.now.events (K.held sink.old) (K.held sink.new) }
+    ensures unspent { OnOk result (AreUnspent script.now.config script.now.word script.now.events) }
+    ensures stops { IfErr result (λ stop. Told stop script.now.config script.now.word script.now.events (K.held sink.old) (K.held sink.new)) }
     ensures cause { IsErrOf result Stop.WriteFault → Rose (K.fault_count sink.old) (K.fault_count sink.new) }
 {
     let mut text = Bytes::new(alloc);
@@ -115,7 +126,6 @@ fn replay_script<K: Sink>(alloc: Global, script: &Script, sink: &mut K) -> Resul
                 Err(Stop::WriteFault)
             }
         }
-        Err(Stop::WriteFault) => Err(Stop::WriteFault),
         Err(stop) => Err(end_early(alloc, stop, &mut text, sink)),
     }
 }
@@ -123,7 +133,7 @@ fn replay_script<K: Sink>(alloc: Global, script: &Script, sink: &mut K) -> Resul
 /// Reads a script to the source's end, and replays it.
 #[tactic(auto, using(crate::proofs::Outcomes::replayed, crate::proofs::Headlines::legal_replay, crate::proofs::Headlines::in_order, crate::proofs::Headlines::in_place, crate::proofs::Headlines::settled, crate::proofs::Headlines::answers_once, crate::proofs::Headlines::answers_all, crate::proofs::Outcomes::refused, crate::proofs::Outcomes::stopped))]
 fn replay_source<S: Source, K: Sink>(alloc: Global, source: &mut S, sink: &mut K) -> u8
-    ensures done { result ≡ 0 → (bytes held : List ℕ) → S.left source.old ≡ Some bytes → K.held sink.old ≡ Some held → IsReplay bytes held (S.left source.new) (K.held sink.new) }
+    ensures done { result ≡ 0 → (bytes : List ℕ) → S.left source.old ≡ Some bytes → IsReplay bytes (S.left source.new) (K.held sink.old) (K.held sink.new) }
     ensures legal { result ≡ 0 → (bytes : List ℕ) → S.left source.old ≡ Some bytes → IsLegal bytes }
     ensures in_order { result ≡ 0 → (bytes : List ℕ) → S.left source.old ≡ Some bytes → OfTrace bytes IsInOrder }
     ensures in_place { result ≡ 0 → (bytes : List ℕ) → S.left source.old ≡ Some bytes → OfTrace bytes IsInPlace }
@@ -131,8 +141,12 @@ fn replay_source<S: Source, K: Sink>(alloc: Global, source: &mut S, sink: &mut K
     ensures answers_once { result ≡ 0 → (bytes : List ℕ) → S.left source.old ≡ Some bytes → OfTrace bytes AnswersOnce }
     ensures answers_all { result ≡ 0 → (bytes : List ℕ) → S.left source.old ≡ Some bytes → OfTrace bytes AnswersAll }
     ensures words { result ≡ 1 → ⊥ }
-    ensures script { result ≡ 2 → (bytes held : List ℕ) → S.left source.old ≡ Some bytes → K.held sink.old ≡ Some held → IsRefusal bytes held (K.held sink.new) }
-    ensures bad { result ≡ 4 → (bytes held : List ℕ) → S.left source.old ≡ Some bytes → K.held sink.old ≡ Some held → IsBadRun bytes held (K.held sink.new) }
+    ensures script { result ≡ 2 → (bytes : List ℕ) → S.left source.old ≡ Some bytes → IsRefusal bytes (K.held sink.old) (K.held sink.new) }
+    ensures bad { result ≡ 4 → (bytes : List ℕ) → S.left source.old ≡ Some bytes → IsBadRun bytes (K.held sink.old) (K.held sink.new) }
+    ensures spent { result ≡ 8 → (bytes : List ℕ) → S.left source.old ≡ Some bytes → IsSpentRun bytes (K.held sink.old) (K.held sink.new) }
+    ensures whole { result ≡ 5 → (bytes : List ℕ) → S.left source.old ≡ Some bytes → IsWholeRun bytes (K.held sink.old) (K.held sink.new) }
+    ensures cut { result ≡ 7 → (bytes : List ℕ) → S.left source.old ≡ Some bytes → IsCutRun bytes (K.held sink.old) (K.held sink.new) }
+    ensures complete { (bytes : List ℕ) → S.left source.old ≡ Some bytes → IsSound bytes → IsUnfailed (S.fault_count source.old) (S.fault_count source.new) → IsUnfailed (K.fault_count sink.old) (K.fault_count sink.new) → (result ≡ 0) ⊎ (result ≡ 5) }
     ensures fault { result ≡ 6 → Gained (K.held sink.old) (K.held sink.new) read_fault_line }
     ensures read { result ≡ 6 → Rose (S.fault_count source.old) (S.fault_count source.new) }
     ensures statuses { is_status result ≡ true }
@@ -172,7 +186,7 @@ pub fn run_alone<S: Source, K: Sink>(
     source: &mut S,
     sink: &mut K,
 ) -> u8
-    ensures done { result ≡ 0 → command_of words.now ≡ Command.Replay → (bytes held : List ℕ) → S.left source.old ≡ Some bytes → K.held sink.old ≡ Some held → IsReplay bytes held (S.left source.new) (K.held sink.new) }
+    ensures done { result ≡ 0 → command_of words.now ≡ Command.Replay → (bytes : List ℕ) → S.left source.old ≡ Some bytes → IsReplay bytes (S.left source.new) (K.held sink.old) (K.held sink.new) }
     ensures legal { result ≡ 0 → command_of words.now ≡ Command.Replay → (bytes : List ℕ) → S.left source.old ≡ Some bytes → IsLegal bytes }
     ensures in_order { result ≡ 0 → command_of words.now ≡ Command.Replay → (bytes : List ℕ) → S.left source.old ≡ Some bytes → OfTrace bytes IsInOrder }
     ensures in_place { result ≡ 0 → command_of words.now ≡ Command.Replay → (bytes : List ℕ) → S.left source.old ≡ Some bytes → OfTrace bytes IsInPlace }
@@ -183,8 +197,14 @@ pub fn run_alone<S: Source, K: Sink>(
     ensures unknown { command_of words.now ≡ Command.Unknown → (result ≡ 1) ⊎ (result ≡ 7) }
     ensures usage { result ≡ 1 → Gained (K.held sink.old) (K.held sink.new) usage_line }
     ensures version { result ≡ 0 → command_of words.now ≡ Command.Version → Gained (K.held sink.old) (K.held sink.new) version_line }
-    ensures script { result ≡ 2 → (bytes held : List ℕ) → S.left source.old ≡ Some bytes → K.held sink.old ≡ Some held → IsRefusal bytes held (K.held sink.new) }
-    ensures bad { result ≡ 4 → (bytes held : List ℕ) → S.left source.old ≡ Some bytes → K.held sink.old ≡ Some held → IsBadRun bytes held (K.held sink.new) }
+    ensures help { result ≡ 0 → command_of words.now ≡ Command.Help → Gained (K.held sink.old) (K.held sink.new) help_line }
+    ensures script { result ≡ 2 → (bytes : List ℕ) → S.left source.old ≡ Some bytes → IsRefusal bytes (K.held sink.old) (K.held sink.new) }
+    ensures bad { result ≡ 4 → (bytes : List ℕ) → S.left source.old ≡ Some bytes → IsBadRun bytes (K.held sink.old) (K.held sink.new) }
+    ensures spent { result ≡ 8 → (bytes : List ℕ) → S.left source.old ≡ Some bytes → IsSpentRun bytes (K.held sink.old) (K.held sink.new) }
+    ensures whole { result ≡ 5 → (bytes : List ℕ) → S.left source.old ≡ Some bytes → IsWholeRun bytes (K.held sink.old) (K.held sink.new) }
+    ensures cut { result ≡ 7 → IsCut (command_of words.now) (S.left source.old) (K.held sink.old) (K.held sink.new) }
+    ensures complete { command_of words.now ≡ Command.Replay → (bytes : List ℕ) → S.left source.old ≡ Some bytes → IsSound bytes → IsUnfailed (S.fault_count source.old) (S.fault_count source.new) → IsUnfailed (K.fault_count sink.old) (K.fault_count sink.new) → (result ≡ 0) ⊎ (result ≡ 5) }
+    ensures free { result ≡ 5 → command_of words.now ≡ Command.Replay }
     ensures fault { result ≡ 6 → Gained (K.held sink.old) (K.held sink.new) read_fault_line }
     ensures read { result ≡ 6 → Rose (S.fault_count source.old) (S.fault_count source.new) }
     ensures statuses { is_status result ≡ true }
@@ -207,7 +227,7 @@ pub fn run<R: Threads + Wait + Sync, S: Source, K: Sink, W: World>(
     sink: &mut K,
     _world: &mut W,
 ) -> u8
-    ensures done { result ≡ 0 → command_of words.now ≡ Command.Replay → (bytes held : List ℕ) → S.left source.old ≡ Some bytes → K.held sink.old ≡ Some held → IsReplay bytes held (S.left source.new) (K.held sink.new) }
+    ensures done { result ≡ 0 → command_of words.now ≡ Command.Replay → (bytes : List ℕ) → S.left source.old ≡ Some bytes → IsReplay bytes (S.left source.new) (K.held sink.old) (K.held sink.new) }
     ensures legal { result ≡ 0 → command_of words.now ≡ Command.Replay → (bytes : List ℕ) → S.left source.old ≡ Some bytes → IsLegal bytes }
     ensures in_order { result ≡ 0 → command_of words.now ≡ Command.Replay → (bytes : List ℕ) → S.left source.old ≡ Some bytes → OfTrace bytes IsInOrder }
     ensures in_place { result ≡ 0 → command_of words.now ≡ Command.Replay → (bytes : List ℕ) → S.left source.old ≡ Some bytes → OfTrace bytes IsInPlace }
@@ -218,8 +238,14 @@ pub fn run<R: Threads + Wait + Sync, S: Source, K: Sink, W: World>(
     ensures unknown { command_of words.now ≡ Command.Unknown → (result ≡ 1) ⊎ (result ≡ 7) }
     ensures usage { result ≡ 1 → Gained (K.held sink.old) (K.held sink.new) usage_line }
     ensures version { result ≡ 0 → command_of words.now ≡ Command.Version → Gained (K.held sink.old) (K.held sink.new) version_line }
-    ensures script { result ≡ 2 → (bytes held : List ℕ) → S.left source.old ≡ Some bytes → K.held sink.old ≡ Some held → IsRefusal bytes held (K.held sink.new) }
-    ensures bad { result ≡ 4 → (bytes held : List ℕ) → S.left source.old ≡ Some bytes → K.held sink.old ≡ Some held → IsBadRun bytes held (K.held sink.new) }
+    ensures help { result ≡ 0 → command_of words.now ≡ Command.Help → Gained (K.held sink.old) (K.held sink.new) help_line }
+    ensures script { result ≡ 2 → (bytes : List ℕ) → S.left source.old ≡ Some bytes → IsRefusal bytes (K.held sink.old) (K.held sink.new) }
+    ensures bad { result ≡ 4 → (bytes : List ℕ) → S.left source.old ≡ Some bytes → IsBadRun bytes (K.held sink.old) (K.held sink.new) }
+    ensures spent { result ≡ 8 → (bytes : List ℕ) → S.left source.old ≡ Some bytes → IsSpentRun bytes (K.held sink.old) (K.held sink.new) }
+    ensures whole { result ≡ 5 → (bytes : List ℕ) → S.left source.old ≡ Some bytes → IsWholeRun bytes (K.held sink.old) (K.held sink.new) }
+    ensures cut { result ≡ 7 → IsCut (command_of words.now) (S.left source.old) (K.held sink.old) (K.held sink.new) }
+    ensures complete { command_of words.now ≡ Command.Replay → (bytes : List ℕ) → S.left source.old ≡ Some bytes → IsSound bytes → IsUnfailed (S.fault_count source.old) (S.fault_count source.new) → IsUnfailed (K.fault_count sink.old) (K.fault_count sink.new) → (result ≡ 0) ⊎ (result ≡ 5) }
+    ensures free { result ≡ 5 → command_of words.now ≡ Command.Replay }
     ensures fault { result ≡ 6 → Gained (K.held sink.old) (K.held sink.new) read_fault_line }
     ensures read { result ≡ 6 → Rose (S.fault_count source.old) (S.fault_count source.new) }
     ensures statuses { is_status result ≡ true }

@@ -1,5 +1,5 @@
 ghost use Rattle.std.specs.Prelude.{◌≡◌, ◌≤◌, ◌++◌, [], OnOk, OnErr, true, false};
-ghost use Rattle.session_ends.specs.Ends.{Rose};
+ghost use Rattle.session_ends.specs.Ends.{Rose, GainedPart};
 ghost use Rattle.trace_text.specs.Show.{show};
 ghost use Rattle.session_tool.specs.Streaming.{Sent};
 
@@ -24,6 +24,7 @@ pub fn show_turn(alloc: Global, text: &mut Bytes, actions: &[Action]) -> Result<
 /// Writes a text that is large, and empties it. `false`: the sink failed.
 pub fn write_large<K: Sink>(sink: &mut K, text: &mut Bytes) -> bool
     ensures sent { result ≡ true → Sent (K.held sink.old) (K.held sink.new) text.new text.old }
+    ensures part { result ≡ false → GainedPart (K.held sink.old) (K.held sink.new) text.old }
     ensures later { K.fault_count sink.old ≤ K.fault_count sink.new }
     ensures cause { result ≡ false → Rose (K.fault_count sink.old) (K.fault_count sink.new) }
 {

@@ -1,2 +1,3 @@
 pub mod Announced
 pub mod Replays
+pub mod Spent

@@ -1,5 +1,5 @@
 -- One more event of a history.
-use Rattle.std.proofs.Common.{◌≡◌, ℕ, ◌+◌, ◌-◌, ◌^◌, ◌<◌, ◌≤◌, List, [], ◌∷◌, ◌++◌, length, refl, sym, ◌∙◌, ap, append_assoc, false, arith, length-append}
+use Rattle.std.proofs.Common.{◌≡◌, ℕ, ◌+◌, ◌-◌, ◌^◌, ◌<◌, ◌≤◌, List, [], ◌∷◌, ◌++◌, length, refl, sym, ◌∙◌, ap, append_assoc, false, ◌⊎◌, inl, inr, arith, length-append}
 use Rattle.std.specs.Prelude.{Option, Some, slice_get, take, true}
 use Rattle.std.proofs.lemmas.List.{append-nil, length-take-le}
 use Rattle.driver_model.specs.declared.action.Action.{Action}
@@ -8,10 +8,11 @@ use Rattle.driver_model.specs.declared.event.Event.{Event}
 use Rattle.driver_model.specs.declared.outcome.Outcome.{Outcome}
 use Rattle.shared_session.specs.declared.connection.Done.{Done}
 use Rattle.shared_session.specs.declared.core_state.Core.{Core}
-use Rattle.shared_session.specs.Turn.{quiet, turn, is_bad}
-use Rattle.shared_session.specs.Replay.{opening, run_on, state_after, actions_of, turns_on, trace_of, outcomes_with, outcomes_on, outcomes_after, AreGood, AreGoodOn, is_bad_after}
-use Rattle.shared_session.specs.Stops.{Shown, IsBadAt}
-use Rattle.shared_session.specs.declared.session.Failure.TheVariants.{Sound}
+use Rattle.shared_session.specs.Turn.{quiet, turn, is_bad, is_spent, spends}
+use Rattle.shared_session.specs.Replay.{opening, run_on, state_after, actions_of, turns_on, trace_of, outcomes_with, outcomes_on, outcomes_after, AreGood, AreGoodOn, AreUnspent, AreUnspentOn, is_bad_after, is_spent_after}
+use Rattle.shared_session.specs.Stops.{Shown, IsBadAt, IsSpentAt, IsSpentBy}
+use Rattle.shared_session.specs.declared.session.Failure.{Failure}
+use Rattle.shared_session.specs.declared.session.Failure.TheVariants.{Sound, Spent, NoMemory}
 use Rattle.shared_session.specs.History.{History}
 
 run_on-more : (c : Core) (es : List Event) (e : Event) → run_on c (es ++ e ∷ []) ≡ quiet (turn (run_on c es) e)
@@ -99,11 +100,34 @@ good-more : (config : Config) (word : ℕ) (es : List Event) (e : Event) → Are
 unfolding AreGood state_after
 good-more config word es e all good = good_on-more (quiet (opening config word)) es e all good
 
+unspent_on-more : (c : Core) (es : List Event) (e : Event) → AreUnspentOn c es → spends (run_on c es) e ≡ false → AreUnspentOn c (es ++ e ∷ [])
+unspent_on-more c [] e all free = (free, tt)
+unspent_on-more c (d ∷ es) e all free = (all.0, unspent_on-more (quiet (turn c d)) es e all.1 free)
+
+unspent-none : (config : Config) (word : ℕ) → AreUnspent config word []
+unfolding AreUnspent
+unspent-none config word = tt
+
+unspent-more : (config : Config) (word : ℕ) (es : List Event) (e : Event) → AreUnspent config word es → is_spent_after config word es e ≡ false → AreUnspent config word (es ++ e ∷ [])
+unfolding AreUnspent state_after
+unspent-more config word es e all free = unspent_on-more (quiet (opening config word)) es e all free
+
+-- no number has run out at the opening
+pub unspent_opening : (core : Core) (config : Config) (word : ℕ) (acts : List Action) → core ≡ opening config word → is_spent (record core { connection = record core.connection { acts = acts } }) ≡ false
+unfolding is_spent
+unspent_opening core config word acts c = rw c refl
+
+-- and none runs out where its actions and outcomes are taken away
+pub unspent_kept : (c : Core) (done : List Done) (acts : List Action) → is_spent c ≡ false → is_spent (record c { connection = record c.connection { done = done; acts = acts } }) ≡ false
+unfolding is_spent
+unspent_kept c done acts h = h
+
 -- what a replay keeps from event to event: the session has taken those events, and their turns were shown
 pub record Kept (config : Config) (word : ℕ) (taken : List Event) (before : List Action) (s : History) (after : List Action) : Type 0 where
   pub made : s ≡ record { config = config; word = word; events = taken; failure = Sound }
   pub shown : after ≡ before ++ trace_of config word taken
   pub good : AreGood config word taken
+  pub unspent : AreUnspent config word taken
 
 pub kept_none : (config : Config) (word : ℕ) (before after : List Action) (s : History) → s ≡ record { config = config; word = word; events = []; failure = Sound }
     → after ≡ before ++ (opening config word).connection.acts → Kept config word [] before s after
@@ -111,12 +135,13 @@ kept_none config word before after s m a = record {
   made = m;
   shown = a ∙ ap (λ (acts : List Action). before ++ acts) (sym (trace_of-none config word));
   good = good-none config word;
+  unspent = unspent-none config word;
 }
 
 pub kept_more : (config : Config) (word : ℕ) (taken : List Event) (before after later : List Action) (s t : History) (e : Event) → Kept config word taken before s after
     → t ≡ record s { events = s.events ++ e ∷ [] } → later ≡ after ++ actions_of (state_after s.config s.word s.events) e
-    → is_bad_after s.config s.word s.events e ≡ false → Kept config word (taken ++ e ∷ []) before t later
-kept_more config word taken before after later s t e h n a g =
+    → is_bad_after s.config s.word s.events e ≡ false → is_spent_after s.config s.word s.events e ≡ false → Kept config word (taken ++ e ∷ []) before t later
+kept_more config word taken before after later s t e h n a g u =
     let es : s.events ≡ taken = ap (λ (x : History). x.events) h.made in
     let c : s.config ≡ config = ap (λ (x : History). x.config) h.made in
     let w : s.word ≡ word = ap (λ (x : History). x.word) h.made in
@@ -125,6 +150,7 @@ kept_more config word taken before after later s t e h n a g =
       shown = a ∙ ap (λ (x : History). after ++ actions_of (state_after x.config x.word x.events) e) h.made ∙ ap (λ (acts : List Action). acts ++ actions_of (state_after config word taken) e) h.shown
           ∙ append_assoc before (trace_of config word taken) (actions_of (state_after config word taken) e) ∙ ap (λ (acts : List Action). before ++ acts) (sym (trace_of-more config word taken e));
       good = good-more config word taken e h.good (sym (ap (λ (x : History). is_bad_after x.config x.word x.events e) h.made) ∙ g);
+      unspent = unspent-more config word taken e h.unspent (sym (ap (λ (x : History). is_spent_after x.config x.word x.events e) h.made) ∙ u);
     }
 
 -- the session of a replay has taken the first n events
@@ -138,4 +164,25 @@ pub bad_stops : (config : Config) (word : ℕ) (all : List Event) (n k : ℕ) (b
 bad_stops config word all n k before after later s t e l is h o u b c =
     let count : k ≡ n = c ∙ ap (λ (x : History). length x.events) u ∙ taken_count config word all n before after s (omega arith) h in
     let bad : is_bad_after config word (take n all) e ≡ true = sym (ap (λ (x : History). is_bad_after x.config x.word x.events e) h.made) ∙ b in
-    rw count (record { within = omega arith; shown = o ∙ h.shown; good = h.good }, record { event = e; stands = is; bad = bad })
+    rw count (record { within = omega arith; shown = o ∙ h.shown; good = h.good; unspent = h.unspent }, record { event = e; stands = is; bad = bad })
+
+not_spent : (f : Failure) → f ≡ Sound → f ≡ Spent → ⊥
+not_spent Sound s e = cc
+not_spent Spent s e = cc
+not_spent NoMemory s e = cc
+
+-- the step of a session that hasn't failed is spent
+pub spent_by : (config : Config) (word : ℕ) (taken : List Event) (before after : List Action) (s : History) (e : Event) → Kept config word taken before s after → (s.failure ≡ Spent) ⊎ IsSpentBy s e → IsSpentBy s e
+spent_by config word taken before after s e h (inl failed) = absurd (not_spent s.failure (ap (λ (x : History). x.failure) h.made) failed)
+spent_by config word taken before after s e h (inr spent) = spent
+
+-- a spent step ends a replay
+pub spent_stops : (config : Config) (word : ℕ) (all : List Event) (n k : ℕ) (before after later : List Action) (s : History) (e : Event) →
+    n < length all → slice_get all n ≡ Some e → Kept config word (take n all) before s after → later ≡ after → (s.failure ≡ Spent) ⊎ IsSpentBy s e
+    → k ≡ length s.events → Shown config word all before later k × IsSpentAt config word all k
+spent_stops config word all n k before after later s e l is h o why c =
+    let count : k ≡ n = c ∙ taken_count config word all n before after s (omega arith) h in
+    let by = spent_by config word (take n all) before after s e h why in
+    let good : is_bad_after config word (take n all) e ≡ false = sym (ap (λ (x : History). is_bad_after x.config x.word x.events e) h.made) ∙ by.good in
+    let spent : is_spent_after config word (take n all) e ≡ true = sym (ap (λ (x : History). is_spent_after x.config x.word x.events e) h.made) ∙ by.spent in
+    rw count (record { within = omega arith; shown = o ∙ h.shown; good = h.good; unspent = h.unspent }, record { event = e; stands = is; good = good; spent = spent })

@@ -12,7 +12,7 @@ use Rattle.shared_session.specs.declared.connection.Done.{Done}
 use Rattle.shared_session.specs.declared.connection.Phase.TheVariants.{Dialing}
 use Rattle.shared_session.specs.declared.core_state.Core.{Core}
 use Rattle.shared_session.specs.Steps.{acts}
-use Rattle.shared_session.specs.Turn.{quiet, turn, is_bad}
+use Rattle.shared_session.specs.Turn.{quiet, turn, is_bad, spends}
 
 -- a queue of any size, and no boundary
 abbrev pub max_size : ℕ
@@ -87,3 +87,15 @@ AreGood config word events = AreGoodOn (quiet (opening config word)) events
 -- the event is bad after that history
 abbrev pub is_bad_after : Config → ℕ → List Event → Event → Bool
 is_bad_after config word events e = is_bad (state_after config word events).connection e.kind
+
+abbrev pub AreUnspentOn : Core → List Event → Type 0
+AreUnspentOn c [] = Unit {0}
+AreUnspentOn c (e ∷ es) = (spends c e ≡ false) × AreUnspentOn (quiet (turn c e)) es
+
+-- no event's step is spent
+unfoldable pub AreUnspent : Config → ℕ → List Event → Type 0
+AreUnspent config word events = AreUnspentOn (quiet (opening config word)) events
+
+-- the event's step is spent after that history
+abbrev pub is_spent_after : Config → ℕ → List Event → Event → Bool
+is_spent_after config word events e = spends (state_after config word events) e

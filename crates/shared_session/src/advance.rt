@@ -1,18 +1,18 @@
-ghost use Rattle.std.specs.Prelude.{◌≡◌, ◌<◌, ◌^◌, length, OnOk, IfOk, false};
+ghost use Rattle.std.specs.Prelude.{◌≡◌, ◌<◌, ◌^◌, length, OnOk, IfOk, IsErrOf, true, false};
 
 use crate::connection::{Connection, Phase, Progress, Waiting};
 use crate::errors::TurnError;
 use containers::Queue;
 use driver_model::{Action, Owner, Shape};
 use link_core::{EnqueueError, StartError, Started};
-use std::alloc::Global;
+use std::alloc::{AllocError, Global};
 
 impl Connection {
-    ghost use Rattle.link_core.specs.Link.{is_full};
+    ghost use Rattle.link_core.specs.Link.{is_full, is_spent};
     ghost use Rattle.shared_session.specs.Steps.{shown_each, started, advanced, advanced_all, passes as passes_of};
 
     /// Each start is shown.
-    fn show_starts(&mut self, starts: Vec<Started>) -> Result<(), TurnError>
+    fn show_starts(&mut self, starts: Vec<Started>) -> Result<(), AllocError>
         ensures core { OnOk result (self.new ≡ shown_each self.old starts.items) }
         ensures count { length self.new.requests ≡ length self.old.requests }
     {
@@ -36,6 +36,7 @@ impl Connection {
     /// Messages start as far as they can.
     fn start(&mut self, alloc: Global) -> Result<(), TurnError>
         ensures core { OnOk result (self.new ≡ started self.old) }
+        ensures spent { IsErrOf result TurnError.Spent → is_spent (started self.old).link ≡ true }
         ensures count { length self.new.requests ≡ length self.old.requests }
     {
         let mut starts = Vec::new(alloc);
@@ -44,13 +45,15 @@ impl Connection {
             Err(StartError::Spent) => return Err(TurnError::Spent),
             Err(StartError::NoMemory) => return Err(TurnError::NoMemory),
         }
-        self.show_starts(starts)
+        self.show_starts(starts)?;
+        Ok(())
     }
 
     /// One submission is moved as far as it can go: if it still waits, it takes its place, and messages start.
     fn advance(&mut self, alloc: Global, request: Waiting) -> Result<(), TurnError>
         requires { is_full self.old.link ≡ false }
         ensures core { OnOk result (self.new ≡ advanced self.old request) }
+        ensures spent { IsErrOf result TurnError.Spent → is_spent (advanced self.old request).link ≡ true }
         ensures count { length self.new.requests ≡ length self.old.requests }
     {
         if !self.is_waiting(request.number) {
@@ -72,6 +75,7 @@ impl Connection {
     /// The submissions that wait are moved in order, until the queue is full.
     fn advance_waiting(&mut self, alloc: Global) -> Result<(), TurnError>
         ensures core { OnOk result (self.new ≡ advanced_all self.old) }
+        ensures spent { IsErrOf result TurnError.Spent → is_spent (advanced_all self.old).link ≡ true }
         ensures count { length self.new.requests ≡ length self.old.requests }
     {
         let mut rest = std::mem::replace(&mut self.waiting, Queue::new(alloc));
@@ -94,22 +98,28 @@ impl Connection {
     /// Every open submission is moved as far as it can go.
     pub fn advance_all(&mut self, alloc: Global) -> Result<(), TurnError>
         ensures core { OnOk result (self.new ≡ passes_of self.old) }
+        ensures spent { IsErrOf result TurnError.Spent → is_spent (passes_of self.old).link ≡ true }
         ensures count { length self.new.requests ≡ length self.old.requests }
     {
-        if self.phase != Phase::Up {
-            return Ok(());
+        match self.phase {
+            Phase::Up => {}
+            Phase::Dialing => return Ok(()),
+            Phase::Ended => return Ok(()),
         }
-        self.start(alloc)?;
+        match self.start(alloc) {
+            Ok(()) => {}
+            Err(error) => return Err(error),
+        }
         self.advance_waiting(alloc)
     }
 }
 
 /// The submission that a message of the link is of: its name on the link is the submission's number.
-fn submission_of(id: u64) -> Result<u32, TurnError>
+fn submission_of(id: u64) -> Result<u32, AllocError>
     ensures { IfOk result (λ n. n ≡ id) }
 {
     match u32::try_from(id) {
         Ok(number) => Ok(number),
-        Err(_) => Err(TurnError::NoMemory),
+        Err(_) => Err(AllocError),
     }
 }

@@ -2,21 +2,20 @@ ghost use Rattle.std.specs.Prelude.{◌≡◌, ◌<◌, ◌≤◌, ◌+◌, ◌^
 ghost use Rattle.shared_session.specs.Steps.{outcome_of, is_ended as is_ended_in};
 
 use crate::connection::{Connection, Phase, Progress, Waiting};
-use crate::errors::TurnError;
 use containers::{Names, Queue};
 use driver_model::{Action, EventKind, Outcome, Submission, Verdict};
 use link_core::{LinkFault, Settled};
 use resp_read::ReadError;
 use resp_value::RedisError;
 use resp_write::pack_names;
-use std::alloc::Global;
+use std::alloc::{AllocError, Global};
 
 impl Connection {
     ghost use Rattle.shared_session.specs.Steps.{settled_each, waiting_closed, ended_by, checked, submitted, left, connected, wrote, read as read_of, peer_closed, shut_down as shut_down_of};
     ghost use Rattle.shared_session.specs.Turn.{applied, is_bad};
 
     /// What the link has settled is answered, in order.
-    fn settle(&mut self, alloc: Global, settled: Vec<Settled>) -> Result<(), TurnError>
+    fn settle(&mut self, alloc: Global, settled: Vec<Settled>) -> Result<(), AllocError>
         requires { length self.old.requests < 2 ^ 32 }
         ensures core { OnOk result (self.new ≡ settled_each self.old settled.items) }
         ensures count { length self.new.requests ≡ length self.old.requests }
@@ -29,7 +28,7 @@ impl Connection {
     }
 
     /// Each submission that waits for its place is answered with the closed connection.
-    fn close_waiting(&mut self, alloc: Global) -> Result<(), TurnError>
+    fn close_waiting(&mut self, alloc: Global) -> Result<(), AllocError>
         requires { length self.old.requests < 2 ^ 32 }
         ensures core { OnOk result (self.new ≡ waiting_closed self.old) }
         ensures count { length self.new.requests ≡ length self.old.requests }
@@ -46,7 +45,7 @@ impl Connection {
     }
 
     /// The link ends by a fault.
-    fn end(&mut self, alloc: Global, fault: LinkFault) -> Result<(), TurnError>
+    fn end(&mut self, alloc: Global, fault: LinkFault) -> Result<(), AllocError>
         requires { length self.old.requests < 2 ^ 32 }
         ensures core { OnOk result (self.new ≡ ended_by self.old fault) }
         ensures count { length self.new.requests ≡ length self.old.requests }
@@ -60,8 +59,8 @@ impl Connection {
     }
 
     /// A caller hands in a command.
-    fn submit(&mut self, alloc: Global, args: &Names) -> Result<(), TurnError>
-        requires { length self.old.requests + 1 < 2 ^ 32 }
+    fn submit(&mut self, alloc: Global, args: &Names) -> Result<(), AllocError>
+        requires { length self.old.requests < 2 ^ 32 }
         ensures core { OnOk result (self.new ≡ submitted self.old args.now) }
         ensures count { length self.new.requests ≤ length self.old.requests + 1 }
     {
@@ -71,8 +70,8 @@ impl Connection {
     }
 
     /// A submission is refused, or waits for its place.
-    fn check(&mut self, alloc: Global, number: u32, args: &Names) -> Result<(), TurnError>
-        requires { length self.old.requests < 2 ^ 32 }
+    fn check(&mut self, alloc: Global, number: u32, args: &Names) -> Result<(), AllocError>
+        requires { length self.old.requests ≤ 2 ^ 32 }
         ensures core { OnOk result (self.new ≡ checked self.old number args.now) }
         ensures count { length self.new.requests ≡ length self.old.requests }
     {
@@ -108,7 +107,7 @@ impl Connection {
     }
 
     /// The connect is answered.
-    fn connect(&mut self) -> Result<(), TurnError>
+    fn connect(&mut self) -> Result<(), AllocError>
         ensures core { OnOk result (self.new ≡ connected self.old) }
         ensures count { length self.new.requests ≡ length self.old.requests }
     {
@@ -131,7 +130,7 @@ impl Connection {
     }
 
     /// Bytes came.
-    fn read(&mut self, alloc: Global, piece: &[u8]) -> Result<(), TurnError>
+    fn read(&mut self, alloc: Global, piece: &[u8]) -> Result<(), AllocError>
         requires { length self.old.requests < 2 ^ 32 }
         ensures core { OnOk result (self.new ≡ read_of self.old piece.now) }
         ensures count { length self.new.requests ≡ length self.old.requests }
@@ -144,7 +143,7 @@ impl Connection {
         let broken = match self.link.bytes(alloc, piece, &mut settled, &mut pushes) {
             Ok(()) => false,
             Err(ReadError::Parse) => true,
-            Err(ReadError::NoMemory) => return Err(TurnError::NoMemory),
+            Err(ReadError::NoMemory) => return Err(AllocError),
         };
         self.settle(alloc, settled)?;
         if broken {
@@ -154,7 +153,7 @@ impl Connection {
     }
 
     /// The peer closed the link.
-    fn end_by_peer(&mut self, alloc: Global) -> Result<(), TurnError>
+    fn end_by_peer(&mut self, alloc: Global) -> Result<(), AllocError>
         requires { length self.old.requests < 2 ^ 32 }
         ensures core { OnOk result (self.new ≡ peer_closed self.old) }
         ensures count { length self.new.requests ≡ length self.old.requests }
@@ -166,7 +165,7 @@ impl Connection {
     }
 
     /// Everything is closed.
-    fn shut_down(&mut self, alloc: Global) -> Result<(), TurnError>
+    fn shut_down(&mut self, alloc: Global) -> Result<(), AllocError>
         requires { length self.old.requests < 2 ^ 32 }
         ensures core { OnOk result (self.new ≡ shut_down_of self.old) }
         ensures count { length self.new.requests ≡ length self.old.requests }
@@ -185,9 +184,9 @@ impl Connection {
 
     /// The event's own effect. No submission is moved.
     #[tactic(auto, unfolding(crate::specs::Turn::is_bad))]
-    pub fn apply(&mut self, alloc: Global, event: &EventKind) -> Result<(), TurnError>
+    pub fn apply(&mut self, alloc: Global, event: &EventKind) -> Result<(), AllocError>
         requires good { is_bad self.old event.now ≡ false }
-        requires room { length self.old.requests + 1 < 2 ^ 32 }
+        requires room { length self.old.requests < 2 ^ 32 }
         ensures core { OnOk result (self.new ≡ applied self.old event.now) }
         ensures count { length self.new.requests ≤ length self.old.requests + 1 }
     {

@@ -1,10 +1,9 @@
-ghost use Rattle.std.specs.Prelude.{◌≡◌, ◌<◌, ◌^◌, length, OnOk, true};
+ghost use Rattle.std.specs.Prelude.{◌≡◌, ◌<◌, ◌≤◌, ◌^◌, length, OnOk, true};
 
-use crate::errors::TurnError;
 use containers::{Bytes, Queue, Seq};
 use driver_model::{Action, Outcome};
 use link_core::LinkCore;
-use std::alloc::Global;
+use std::alloc::{AllocError, Global};
 
 /// How far a link has come.
 #[derive(Clone, Copy, PartialEq, Eq)]
@@ -84,12 +83,11 @@ impl Connection {
     ghost use Rattle.shared_session.specs.Steps.{acts, answered};
 
     /// One more action of this turn.
-    pub fn act(&mut self, action: Action) -> Result<(), TurnError>
+    pub fn act(&mut self, action: Action) -> Result<(), AllocError>
         ensures core { OnOk result (self.new ≡ acts self.old action) }
         ensures count { length self.new.requests ≡ length self.old.requests }
     {
-        self.acts.push(action)?;
-        Ok(())
+        self.acts.push(action)
     }
 
     /// Whether a submission is neither answered nor cancelled.
@@ -125,8 +123,8 @@ impl Connection {
     }
 
     /// A submission that is open is answered.
-    pub fn answer(&mut self, alloc: Global, number: u64, outcome: Outcome) -> Result<(), TurnError>
-        requires { length self.old.requests < 2 ^ 32 }
+    pub fn answer(&mut self, alloc: Global, number: u64, outcome: Outcome) -> Result<(), AllocError>
+        requires { length self.old.requests ≤ 2 ^ 32 }
         ensures core { OnOk result (self.new ≡ answered self.old number outcome) }
         ensures count { length self.new.requests ≡ length self.old.requests }
     {

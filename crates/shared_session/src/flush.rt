@@ -1,16 +1,15 @@
 ghost use Rattle.std.specs.Prelude.{◌≡◌, length, OnOk};
 
 use crate::connection::{Connection, Phase};
-use crate::errors::TurnError;
 use containers::{Bytes, Queue};
 use driver_model::{Action, Owner, WaitKind};
-use std::alloc::Global;
+use std::alloc::{AllocError, Global};
 
 impl Connection {
     ghost use Rattle.shared_session.specs.Steps.{writes, waits_shown, waits, flushed};
 
     /// All unwritten bytes are offered, unless an offer is unanswered.
-    fn offer(&mut self, alloc: Global) -> Result<(), TurnError>
+    fn offer(&mut self, alloc: Global) -> Result<(), AllocError>
         ensures core { OnOk result (self.new ≡ writes self.old) }
         ensures count { length self.new.requests ≡ length self.old.requests }
     {
@@ -28,7 +27,7 @@ impl Connection {
     }
 
     /// A submission of this turn that waits for the connect shows it.
-    fn show_wait(&mut self, number: u32) -> Result<(), TurnError>
+    fn show_wait(&mut self, number: u32) -> Result<(), AllocError>
         ensures core { OnOk result (self.new ≡ waits_shown self.old number) }
         ensures count { length self.new.requests ≡ length self.old.requests }
     {
@@ -45,7 +44,7 @@ impl Connection {
     }
 
     /// The waits that began in this turn are shown.
-    fn show_waits(&mut self, alloc: Global) -> Result<(), TurnError>
+    fn show_waits(&mut self, alloc: Global) -> Result<(), AllocError>
         ensures core { OnOk result (self.new ≡ waits self.old) }
         ensures count { length self.new.requests ≡ length self.old.requests }
     {
@@ -57,7 +56,7 @@ impl Connection {
     }
 
     /// What a turn ends with: the link's one write, and the waits that began.
-    pub fn flush(&mut self, alloc: Global) -> Result<(), TurnError>
+    pub fn flush(&mut self, alloc: Global) -> Result<(), AllocError>
         ensures core { OnOk result (self.new ≡ flushed self.old) }
         ensures count { length self.new.requests ≡ length self.old.requests }
     {

@@ -1,5 +1,5 @@
 ghost use Rattle.std.specs.Prelude.{◌≡◌, ◌++◌, OnOk, IfErr};
-ghost use Rattle.shared_session.specs.Replay.{trace_of, AreGood};
+ghost use Rattle.shared_session.specs.Replay.{trace_of, AreGood, AreUnspent};
 ghost use Rattle.shared_session.specs.Stops.{Stops};
 
 use crate::errors::{MakeError, ReplayError, StepError};
@@ -18,6 +18,7 @@ impl Session {
     ) -> Result<(), ReplayError>
         ensures actions { OnOk result (actions.new.items ≡ actions.old.items ++ trace_of config word events.now) }
         ensures good { OnOk result (AreGood config word events.now) }
+        ensures unspent { OnOk result (AreUnspent config word events.now) }
         ensures stops { IfErr result (λ e. Stops e config word events.now actions.old.items actions.new.items) }
     {
         let mut session = match Session::new(alloc, config, word, actions) {

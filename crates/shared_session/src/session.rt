@@ -1,4 +1,4 @@
-ghost use Rattle.std.specs.Prelude.{◌≡◌, ℕ, ◌<◌, ◌+◌, ◌^◌, ◌↔◌, [], ◌∷◌, ◌++◌, length, true, false, OnOk, OnErr, IfOk, IsErrOf, option_copied};
+ghost use Rattle.std.specs.Prelude.{◌≡◌, ◌⊎◌, ℕ, ◌<◌, ◌+◌, ◌^◌, ◌↔◌, [], ◌∷◌, ◌++◌, length, true, false, OnOk, OnErr, IfOk, IsErrOf, option_copied};
 ghost use Rattle.shared_session.specs.Replay.{opening, with_room, put_each};
 
 use crate::connection::{Connection, Done, Phase};
@@ -95,8 +95,9 @@ fn opened(alloc: Global, config: &Config, word: u64) -> Result<Core, AllocError>
 }
 
 impl Session {
-    ghost use Rattle.shared_session.specs.Turn.{is_bad, quiet};
+    ghost use Rattle.shared_session.specs.Turn.{is_bad, spends};
     ghost use Rattle.shared_session.specs.Replay.{state_after, actions_of, outcomes_after, outcome_at};
+    ghost use Rattle.shared_session.specs.Stops.{IsSpentBy};
 
     /// A session that has made its opening, whose actions `out` gains. After `NoMemory` `out` is as it was.
     pub fn new(
@@ -141,6 +142,7 @@ impl Session {
 
     /// Takes one event: one turn, whose actions `out` gains. After an error `out` is as it was. After `Spent` and
     /// `NoMemory` the session has failed: its history and its outcomes stay, and every later step answers the same.
+    #[tactic(auto, unfolding(crate::specs::Turn::spends))]
     pub fn step(
         &mut self,
         alloc: Global,
@@ -153,7 +155,13 @@ impl Session {
         ensures good { OnOk result (is_bad (state_after self.old.config self.old.word self.old.events).connection event.kind ≡ false) }
         ensures bad { IsErrOf result StepError.BadEvent ↔ ((self.old.failure ≡ Failure.Sound) × (is_bad (state_after self.old.config self.old.word self.old.events).connection event.kind ≡ true)) }
         ensures bad_same { IsErrOf result StepError.BadEvent → self.new ≡ self.old }
-        ensures spent { (n : ℕ) → IsErrOf result (StepError.Spent n) → n ≡ length self.old.events }
+        ensures spent { (n : ℕ) → IsErrOf result (StepError.Spent n) → (self.old.failure ≡ Failure.Spent) ⊎ IsSpentBy self.old event }
+        ensures count { (n : ℕ) → IsErrOf result (StepError.Spent n) → n ≡ length self.old.events }
+        ensures unspent { OnOk result (spends (state_after self.old.config self.old.word self.old.events) event ≡ false) }
+        ensures again { self.old.failure ≡ Failure.Spent → IsErrOf result (StepError.Spent (length self.old.events)) }
+        ensures failed { self.old.failure ≡ Failure.NoMemory → IsErrOf result StepError.NoMemory }
+        ensures fails_spent { (n : ℕ) → IsErrOf result (StepError.Spent n) → self.new.failure ≡ Failure.Spent }
+        ensures fails { IsErrOf result StepError.NoMemory → self.new.failure ≡ Failure.NoMemory }
         ensures err { OnErr result (out.new.items ≡ out.old.items) }
         ensures kept { OnErr result (self.new ≡ record self.old { failure = self.new.failure }) }
     {
@@ -166,9 +174,7 @@ impl Session {
         if self.core.connection.is_bad_event(&event.kind) {
             return Err(StepError::BadEvent);
         }
-        if self.core.turns > u64::from(u32::MAX)
-            || self.core.connection.requests.len() >= 0xffff_ffff
-        {
+        if self.core.turns > u64::from(u32::MAX) {
             self.failure = Failure::Spent;
             return Err(StepError::Spent { events });
         }

@@ -1,9 +1,9 @@
-use Rattle.std.proofs.Common.{arith, refl, sym, ◌∙◌, ap, subst, ◌≡◌, ◌+◌, List, [], ◌∷◌, ◌++◌, length, take, Some}
-use Rattle.std.specs.Prelude.{slice_get}
+use Rattle.std.proofs.Common.{arith, refl, sym, ◌∙◌, ap, subst, ◌≡◌, ◌+◌, List, [], ◌∷◌, ◌++◌, length, take, Some, ℕ, Option, Err}
+use Rattle.std.specs.Prelude.{slice_get, Result}
 use Rattle.std.proofs.lemmas.List.{take_more}
 use Rattle.std.proofs.lemmas.Option.{slice_get_read}
 use Rattle.driver_model.specs.declared.event.Event.{Event}
-use Rattle.session_tool.proofs.Traces.{Streams, streams_none, streams_more, ends_badly}
+use Rattle.session_tool.proofs.Traces.{Streams, streams_none, streams_more, sent_nothing, stopped_turn, cut_short}
 use Rattle.session_tool.proofs.replaying.replay_into.Goals as goal
 
 pub loop-event-init : goal.loop-event-init
