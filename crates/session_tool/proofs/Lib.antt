@@ -1,4 +1,5 @@
 mod Headlines
 mod Outcomes
+mod Sound
 mod Texts
 mod Traces

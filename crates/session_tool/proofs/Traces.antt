@@ -1,8 +1,9 @@
 -- Traces that are written while they grow.
 use Rattle.std.proofs.Common.{arith, ◌≡◌, ◌<◌, ◌≤◌, ◌⊎◌, inl, inr, ◌+◌, ℕ, true, false, List, [], ◌∷◌, ◌++◌, length, Option, Some, append_assoc, ◌∙◌, refl, sym, ap, subst, length-append}
+use Rattle.std.proofs.Math.Nat.{le_refl}
 use Rattle.std.proofs.lemmas.List.{append-nil}
 use Rattle.std.proofs.lemmas.Grind.{flat_map-append}
-use Rattle.std.proofs.Math.Seq.{take-append-add}
+use Rattle.std.proofs.Math.Seq.{take-append-add, take-length}
 use Rattle.std.specs.Prelude.{slice_get, take, codes}
 use Rattle.session_ends.specs.Ends.{Gained, GainedPart}
 use Rattle.driver_model.specs.declared.action.Action.{Action}
@@ -167,6 +168,15 @@ cut_short {old} {mid} {new} config word all index s e before grown l next h show
     front_of_turns config word all (turns_before config word all index ++ show acts) (inr (index + 1, omega arith, turns))
     (sent_part before (turns_before config word all index) (show acts) h.sent (subst (λ (xs : List ℕ). GainedPart mid new xs) more part))
 
+-- the sink failed at the end of a whole replay
+pub cut_whole : {old mid new : Option (List ℕ)} (config : Config) (word : ℕ) (all taken : List Event) (rest : List ℕ) → taken ≡ all → Sent old mid rest (show (trace_of config word taken)) → GainedPart mid new rest
+    → GainedFront config word all old new
+cut_whole {old} {mid} {new} config word all taken rest same sent part =
+    let whole : show (trace_of config word taken) ++ [] ≡ turns_before config word all (length all) =
+        append-nil (show (trace_of config word taken)) ∙ ap (λ (es : List Event). show (trace_of config word es)) (same ∙ sym (take-length all)) in
+    front_of_turns config word all (show (trace_of config word taken) ++ []) (inr (length all, le_refl (length all), whole))
+    (sent_part rest (show (trace_of config word taken)) [] sent (subst (λ (xs : List ℕ). GainedPart mid new xs) (sym (append-nil rest)) part))
+
 -- the line of where it stopped is written behind the turns before it
 told_at : {old mid new : Option (List ℕ)} (First : ℕ → Type 0) (turns : ℕ → List ℕ) (words : List ℕ) (number : ℕ) (rest : List ℕ) →
     EndsAt First turns number old mid rest → Gained mid new (rest ++ numbered_line words number) → ToldAt First turns words old new
@@ -222,52 +232,63 @@ either_part {mid} {new} rest (inl part) = part
 either_part {mid} {new} rest (inr part) = part
 
 -- the stop stays, and its line was written
-told_same : {old mid new : Option (List ℕ)} (config : Config) (word : ℕ) (all : List Event) (s : Stop) (rest : List ℕ) → Ends s config word all old mid rest
+told_same : (old mid new : Option (List ℕ)) (config : Config) (word : ℕ) (all : List Event) (s : Stop) (rest : List ℕ) → Ends s config word all old mid rest
     → (s ≡ stop.WriteFault → new ≡ mid) → (s ≡ stop.WriteFault) ⊎ Gained mid new (rest ++ stop_line s) → Told s config word all old new
-told_same {old} {mid} {new} config word all (stop.BadEvent n) rest ends same (inr told) = told_at (IsFirstBad config word all) (turns_before config word all) (codes "bad event") n rest ends told
-told_same {old} {mid} {new} config word all (stop.BadEvent n) rest ends same (inl is) = cc
-told_same {old} {mid} {new} config word all (stop.Spent n) rest ends same (inr told) = told_at (IsFirstSpent config word all) (turns_before config word all) (codes "spent event") n rest ends told
-told_same {old} {mid} {new} config word all (stop.Spent n) rest ends same (inl is) = cc
-told_same {old} {mid} {new} config word all stop.NoMemory rest ends same (inr told) =
+told_same old mid new config word all (stop.BadEvent n) rest ends same (inr told) = told_at (IsFirstBad config word all) (turns_before config word all) (codes "bad event") n rest ends told
+told_same old mid new config word all (stop.BadEvent n) rest ends same (inl is) = cc
+told_same old mid new config word all (stop.Spent n) rest ends same (inr told) = told_at (IsFirstSpent config word all) (turns_before config word all) (codes "spent event") n rest ends told
+told_same old mid new config word all (stop.Spent n) rest ends same (inl is) = cc
+told_same old mid new config word all stop.NoMemory rest ends same (inr told) =
     record { text = ends.text ++ []; turns = subst (λ (xs : List ℕ). AreTurns config word all xs) (sym (append-nil ends.text)) ends.turns; gained = sent_end_more rest ends.text [] ends.sent told }
-told_same {old} {mid} {new} config word all stop.NoMemory rest ends same (inl is) = cc
-told_same {old} {mid} {new} config word all stop.WriteFault rest ends same told = subst (λ (x : Option (List ℕ)). GainedFront config word all old x) (sym (same refl)) ends
+told_same old mid new config word all stop.NoMemory rest ends same (inl is) = cc
+told_same old mid new config word all stop.WriteFault rest ends same told = subst (λ (x : Option (List ℕ)). GainedFront config word all old x) (sym (same refl)) ends
 
 -- memory was refused for its line
-told_less : {old mid new : Option (List ℕ)} (config : Config) (word : ℕ) (all : List Event) (s : Stop) (rest : List ℕ) → Ends s config word all old mid rest → (s ≡ stop.WriteFault → ⊥)
+told_less : (old mid new : Option (List ℕ)) (config : Config) (word : ℕ) (all : List Event) (s : Stop) (rest : List ℕ) → Ends s config word all old mid rest → (s ≡ stop.WriteFault → ⊥)
     → Gained mid new (rest ++ []) → GainedTurns config word all old new
-told_less {old} {mid} {new} config word all (stop.BadEvent n) rest ends not_fault told = turns_first config word all (IsFirstBad config word all) n rest (bad_within config word all) ends told
-told_less {old} {mid} {new} config word all (stop.Spent n) rest ends not_fault told = turns_first config word all (IsFirstSpent config word all) n rest (spent_within config word all) ends told
-told_less {old} {mid} {new} config word all stop.NoMemory rest ends not_fault told =
+told_less old mid new config word all (stop.BadEvent n) rest ends not_fault told = turns_first config word all (IsFirstBad config word all) n rest (bad_within config word all) ends told
+told_less old mid new config word all (stop.Spent n) rest ends not_fault told = turns_first config word all (IsFirstSpent config word all) n rest (spent_within config word all) ends told
+told_less old mid new config word all stop.NoMemory rest ends not_fault told =
     record { text = ends.text ++ []; turns = subst (λ (xs : List ℕ). AreTurns config word all xs) (sym (append-nil ends.text)) ends.turns; gained = sent_end_more rest ends.text [] ends.sent told }
-told_less {old} {mid} {new} config word all stop.WriteFault rest ends not_fault told = absurd (not_fault refl)
+told_less old mid new config word all stop.WriteFault rest ends not_fault told = absurd (not_fault refl)
 
 -- the sink failed on the way
-told_cut : {old mid new : Option (List ℕ)} (config : Config) (word : ℕ) (all : List Event) (s : Stop) (rest : List ℕ) → Ends s config word all old mid rest → (s ≡ stop.WriteFault → new ≡ mid)
+told_cut : (old mid new : Option (List ℕ)) (config : Config) (word : ℕ) (all : List Event) (s : Stop) (rest : List ℕ) → Ends s config word all old mid rest → (s ≡ stop.WriteFault → new ≡ mid)
     → (s ≡ stop.WriteFault) ⊎ (GainedPart mid new (rest ++ stop_line s) ⊎ GainedPart mid new (rest ++ [])) → GainedFront config word all old new
-told_cut {old} {mid} {new} config word all stop.WriteFault rest ends same cut = subst (λ (x : Option (List ℕ)). GainedFront config word all old x) (sym (same refl)) ends
-told_cut {old} {mid} {new} config word all (stop.BadEvent n) rest ends same (inr cut) =
+told_cut old mid new config word all stop.WriteFault rest ends same cut = subst (λ (x : Option (List ℕ)). GainedFront config word all old x) (sym (same refl)) ends
+told_cut old mid new config word all (stop.BadEvent n) rest ends same (inr cut) =
     front_first config word all (IsFirstBad config word all) (codes "bad event") n rest (λ text is. inr (inl is)) (bad_within config word all) ends cut
-told_cut {old} {mid} {new} config word all (stop.BadEvent n) rest ends same (inl is) = cc
-told_cut {old} {mid} {new} config word all (stop.Spent n) rest ends same (inr cut) =
+told_cut old mid new config word all (stop.BadEvent n) rest ends same (inl is) = cc
+told_cut old mid new config word all (stop.Spent n) rest ends same (inr cut) =
     front_first config word all (IsFirstSpent config word all) (codes "spent event") n rest (λ text is. inr (inr is)) (spent_within config word all) ends cut
-told_cut {old} {mid} {new} config word all (stop.Spent n) rest ends same (inl is) = cc
-told_cut {old} {mid} {new} config word all stop.NoMemory rest ends same (inr cut) =
+told_cut old mid new config word all (stop.Spent n) rest ends same (inl is) = cc
+told_cut old mid new config word all stop.NoMemory rest ends same (inr cut) =
     front_of_turns config word all (ends.text ++ []) (subst (λ (xs : List ℕ). AreTurns config word all xs) (sym (append-nil ends.text)) ends.turns)
     (sent_part rest ends.text [] ends.sent (either_part rest cut))
-told_cut {old} {mid} {new} config word all stop.NoMemory rest ends same (inl is) = cc
+told_cut old mid new config word all stop.NoMemory rest ends same (inl is) = cc
 
 -- What a replay that stopped leaves once it is ended: its stop, or want of memory, or the sink's fault.
-pub told_end : {old mid new : Option (List ℕ)} (config : Config) (word : ℕ) (all : List Event) (s r : Stop) (rest : List ℕ) → Ends s config word all old mid rest
+pub told_end : (old mid new : Option (List ℕ)) (config : Config) (word : ℕ) (all : List Event) (s r : Stop) (rest : List ℕ) → Ends s config word all old mid rest
     → (r ≡ s) ⊎ ((r ≡ stop.NoMemory) ⊎ (r ≡ stop.WriteFault)) → (r ≡ stop.WriteFault) ⊎ Gained mid new (rest ++ stop_line r)
     → (s ≡ stop.WriteFault → (r ≡ stop.WriteFault) × (new ≡ mid))
     → (r ≡ stop.WriteFault → (s ≡ stop.WriteFault) ⊎ (GainedPart mid new (rest ++ stop_line s) ⊎ GainedPart mid new (rest ++ []))) → Told r config word all old new
-told_end {old} {mid} {new} config word all s r rest ends (inl e) told same cut =
+told_end old mid new config word all s r rest ends (inl e) told same cut =
     subst (λ (x : Stop). Told x config word all old new) (sym e)
-    (told_same config word all s rest ends (λ is. (same is).1) (subst (λ (x : Stop). (x ≡ stop.WriteFault) ⊎ Gained mid new (rest ++ stop_line x)) e told))
-told_end {old} {mid} {new} config word all s r rest ends (inr (inl e)) (inr told) same cut =
+    (told_same old mid new config word all s rest ends (λ is. (same is).1) (subst (λ (x : Stop). (x ≡ stop.WriteFault) ⊎ Gained mid new (rest ++ stop_line x)) e told))
+told_end old mid new config word all s r rest ends (inr (inl e)) (inr told) same cut =
     subst (λ (x : Stop). Told x config word all old new) (sym e)
-    (told_less config word all s rest ends (λ is. no_fault (sym e ∙ (same is).0)) (subst (λ (x : Stop). Gained mid new (rest ++ stop_line x)) e told))
-told_end {old} {mid} {new} config word all s r rest ends (inr (inl e)) (inl is) same cut = absurd (no_fault (sym e ∙ is))
-told_end {old} {mid} {new} config word all s r rest ends (inr (inr e)) told same cut =
-    subst (λ (x : Stop). Told x config word all old new) (sym e) (told_cut config word all s rest ends (λ is. (same is).1) (cut e))
+    (told_less old mid new config word all s rest ends (λ is. no_fault (sym e ∙ (same is).0)) (subst (λ (x : Stop). Gained mid new (rest ++ stop_line x)) e told))
+told_end old mid new config word all s r rest ends (inr (inl e)) (inl is) same cut = absurd (no_fault (sym e ∙ is))
+told_end old mid new config word all s r rest ends (inr (inr e)) told same cut =
+    subst (λ (x : Stop). Told x config word all old new) (sym e) (told_cut old mid new config word all s rest ends (λ is. (same is).1) (cut e))
+
+-- a turn that wasn't taken ends a replay into a sink
+pub stopped_turn : {old new : Option (List ℕ)} (config : Config) (word : ℕ) (all : List Event) (index : ℕ) (s : History) (e : Event) (why : Stop) (before after : List ℕ) →
+    index < length all → slice_get all index ≡ Some e → Streams config word (take index all) s old new before → after ≡ before
+    → ((n : ℕ) → why ≡ stop.BadEvent n → is_bad_after s.config s.word s.events e ≡ true) → ((n : ℕ) → why ≡ stop.BadEvent n → n ≡ length s.events + 1)
+    → ((n : ℕ) → why ≡ stop.Spent n → (s.failure ≡ Spent) ⊎ IsSpentBy s e) → ((n : ℕ) → why ≡ stop.Spent n → n ≡ length s.events + 1)
+    → (why ≡ stop.WriteFault → ⊥) → Ends why config word all old new after
+stopped_turn {old} {new} config word all index s e (stop.BadEvent n) before after l is h same bad number spent count writes = ends_badly config word all index n s e before after l is h same (bad n refl) (number n refl)
+stopped_turn {old} {new} config word all index s e (stop.Spent n) before after l is h same bad number spent count writes = ends_spent config word all index n s e before after l is h same (spent n refl) (count n refl)
+stopped_turn {old} {new} config word all index s e stop.NoMemory before after l is h same bad number spent count writes = sent_turns config word all index s before after (omega arith) h same
+stopped_turn {old} {new} config word all index s e stop.WriteFault before after l is h same bad number spent count writes = absurd (writes refl)

@@ -56,7 +56,7 @@ pub record IsWholeRun (bytes : List ℕ) (old new : Option (List ℕ)) : Type 0 
 pub record IsTextOf (bytes text : List ℕ) : Type 0 where
   pub script : Script
   pub reads : script_of bytes ≡ Ok script
-  pub text : IsReplayText script.config script.word script.events text
+  pub replay : IsReplayText script.config script.word script.events text
 
 -- all that a replay of these bytes may write: that the source failed, the line of the script that is at fault, or the
 -- text of the script's replay

@@ -131,7 +131,7 @@ fn replay_script<K: Sink>(alloc: Global, script: &Script, sink: &mut K) -> Resul
 }
 
 /// Reads a script to the source's end, and replays it.
-#[tactic(auto, using(crate::proofs::Outcomes::replayed, crate::proofs::Headlines::legal_replay, crate::proofs::Headlines::in_order, crate::proofs::Headlines::in_place, crate::proofs::Headlines::settled, crate::proofs::Headlines::answers_once, crate::proofs::Headlines::answers_all, crate::proofs::Outcomes::refused, crate::proofs::Outcomes::stopped))]
+#[tactic(auto, using(crate::proofs::Outcomes::replayed, crate::proofs::Headlines::legal_replay, crate::proofs::Headlines::in_order, crate::proofs::Headlines::in_place, crate::proofs::Headlines::settled, crate::proofs::Headlines::answers_once, crate::proofs::Headlines::answers_all, crate::proofs::Outcomes::refused, crate::proofs::Outcomes::stopped, crate::proofs::Outcomes::spent, crate::proofs::Outcomes::whole, crate::proofs::Outcomes::nothing, crate::proofs::Outcomes::cut, crate::proofs::Outcomes::cut_refusal, crate::proofs::Outcomes::cut_fault))]
 fn replay_source<S: Source, K: Sink>(alloc: Global, source: &mut S, sink: &mut K) -> u8
     ensures done { result ≡ 0 → (bytes : List ℕ) → S.left source.old ≡ Some bytes → IsReplay bytes (S.left source.new) (K.held sink.old) (K.held sink.new) }
     ensures legal { result ≡ 0 → (bytes : List ℕ) → S.left source.old ≡ Some bytes → IsLegal bytes }

@@ -8,17 +8,9 @@ use Rattle.session_tool.proofs.replaying.replay_into.Goals as goal
 
 pub loop-event-init : goal.loop-event-init
 loop-event-init g c = record {
-  streams = streams_none c.args.config.now c.args.word c.in_ok-session.session c.args.text.now c.open_session.new.text c.in_ok-session.ensures.made c.requires c.in_ok-session.ensures.shown;
+  streams = streams_none c.args.config.now c.args.word c.in-Ok.session c.args.text.now c.open_session.new.text c.in-Ok.ensures.made c.requires c.in-Ok.ensures.shown;
   later = omega arith;
 }
-
-pub returns-in-Err-clause-bad : goal.returns-in-Err-clause-bad
-returns-in-Err-clause-bad g c n is =
-    let all = c.args.events.now in
-    let k = c.loop-event.event-index in
-    let stands : slice_get all k ≡ Some c.event-item.result = slice_get_read all (length all) k c.event-item.result refl c.loop-event-test.true c.event-item.is in
-    ends_badly c.args.config.now c.args.word all k n c.loop-event.session c.event-item.result c.loop-event.text c.take_turn.new.text c.loop-event-test.true stands
-    c.loop-event.invariant.streams c.in-Err.ensures.err (c.in-Err.ensures.bad n is) (c.in-Err.ensures.number n is)
 
 pub loop-event-preserved : goal.loop-event-preserved
 loop-event-preserved g c =
@@ -29,6 +21,28 @@ loop-event-preserved g c =
     record {
       streams = subst (λ (es : List Event). Streams c.args.config.now c.args.word es c.take_turn.new.session (g.K.Sink.held c.args.sink.now) (g.K.Sink.held c.write_large.new.sink) c.write_large.new.text) (sym next)
           (streams_more c.args.config.now c.args.word (take k all) c.loop-event.session c.take_turn.new.session e c.loop-event.text c.take_turn.new.text c.write_large.new.text
-          c.loop-event.invariant.streams c.in-Ok.ensures.ok c.in-Ok.ensures.good c.in-Ok.ensures.shown (c.if-not-write_large.ensures.sent refl));
+          c.loop-event.invariant.streams c.in-Ok-take_turn.ensures.ok c.in-Ok-take_turn.ensures.good c.in-Ok-take_turn.ensures.unspent c.in-Ok-take_turn.ensures.shown (c.if-not-write_large.ensures.sent refl));
       later = omega (arith, c.loop-event.invariant.later, c.write_large.ensures.later);
     }
+
+pub returns-in-Err-clause-stops : goal.returns-in-Err-clause-stops
+returns-in-Err-clause-stops g c = sent_nothing c.args.config.now c.args.word c.args.events.now c.args.text.now c.open_session.new.text c.requires c.in-Err.ensures.err
+
+pub returns-in-Err-take_turn-clause-stops : goal.returns-in-Err-take_turn-clause-stops
+returns-in-Err-take_turn-clause-stops g c =
+    let all = c.args.events.now in
+    let k = c.loop-event.event-index in
+    let e = c.event-item.result in
+    let stands : slice_get all k ≡ Some e = slice_get_read all (length all) k e refl c.loop-event-test.true c.event-item.is in
+    let turn = c.in-Err-take_turn.ensures in
+    stopped_turn c.args.config.now c.args.word all k c.loop-event.session e c.in-Err-take_turn.stop c.loop-event.text c.take_turn.new.text c.loop-event-test.true stands c.loop-event.invariant.streams turn.err
+    (λ n is. turn.bad n (ap (λ s. Err s) is)) (λ n is. turn.number n (ap (λ s. Err s) is)) (λ n is. turn.spent n (ap (λ s. Err s) is)) (λ n is. turn.count n (ap (λ s. Err s) is)) (λ is. turn.writes (ap (λ s. Err s) is))
+
+pub returns-then-not-write_large-clause-stops : goal.returns-then-not-write_large-clause-stops
+returns-then-not-write_large-clause-stops g c =
+    let all = c.args.events.now in
+    let k = c.loop-event.event-index in
+    let e = c.event-item.result in
+    let next : take (k + 1) all ≡ take k all ++ e ∷ [] = take_more all k e c.loop-event-test.true ∙ ap (λ (x : Event). take k all ++ x ∷ []) (sym c.event-item.is) in
+    cut_short c.args.config.now c.args.word all k c.loop-event.session e c.loop-event.text c.take_turn.new.text c.loop-event-test.true next c.loop-event.invariant.streams
+    c.in-Ok-take_turn.ensures.shown (c.if-not-write_large.ensures.part refl)

@@ -1,0 +1,53 @@
+-- A script without a bad event or a spent step has no first one.
+use Rattle.std.proofs.Common.{◌≡◌, ◌≢◌, ℕ, zero, suc, Bool, true, false, List, [], ◌∷◌, Option, Some, None, ◌∙◌, refl, sym, ap, subst}
+use Rattle.std.proofs.lemmas.Bool.{both_ways}
+use Rattle.std.specs.Prelude.{Result, Ok, Err, slice_get, take}
+use Rattle.driver_model.specs.declared.config.Config.{Config}
+use Rattle.driver_model.specs.declared.event.Event.{Event}
+use Rattle.script_text.specs.Script.{script_of}
+use Rattle.script_text.specs.declared.script.Script.{Script}
+use Rattle.shared_session.specs.declared.core_state.Core.{Core}
+use Rattle.shared_session.specs.Turn.{turn, quiet, is_bad, spends}
+use Rattle.shared_session.specs.Replay.{opening, run_on, state_after, AreGood, AreGoodOn, AreUnspent, AreUnspentOn, is_bad_after, is_spent_after}
+use Rattle.session_tool.specs.Runs.{IsSound}
+use Rattle.session_tool.specs.Stops.{IsFirstBad, IsFirstSpent}
+
+same_event : (d e : Event) → Some d ≡ Some e → d ≡ e
+same_event d e is = cc
+
+good_on-at : (c : Core) (es : List Event) (n : ℕ) (e : Event) → AreGoodOn c es → slice_get es n ≡ Some e → is_bad (run_on c (take n es)).connection e.kind ≡ false
+good_on-at c [] n e all is = cc
+good_on-at c (d ∷ es) zero e all is = subst (λ (x : Event). is_bad c.connection x.kind ≡ false) (same_event d e is) all.0
+good_on-at c (d ∷ es) (suc n) e all is = good_on-at (quiet (turn c d)) es n e all.1 is
+
+unspent_on-at : (c : Core) (es : List Event) (n : ℕ) (e : Event) → AreUnspentOn c es → slice_get es n ≡ Some e → spends (run_on c (take n es)) e ≡ false
+unspent_on-at c [] n e all is = cc
+unspent_on-at c (d ∷ es) zero e all is = subst (λ (x : Event). spends c x ≡ false) (same_event d e is) all.0
+unspent_on-at c (d ∷ es) (suc n) e all is = unspent_on-at (quiet (turn c d)) es n e all.1 is
+
+good-at : (config : Config) (word : ℕ) (es : List Event) (n : ℕ) (e : Event) → AreGood config word es → slice_get es n ≡ Some e → is_bad_after config word (take n es) e ≡ false
+unfolding AreGood state_after
+good-at config word es n e all is = good_on-at (quiet (opening config word)) es n e all is
+
+unspent-at : (config : Config) (word : ℕ) (es : List Event) (n : ℕ) (e : Event) → AreUnspent config word es → slice_get es n ≡ Some e → is_spent_after config word (take n es) e ≡ false
+unfolding AreUnspent state_after
+unspent-at config word es n e all is = unspent_on-at (quiet (opening config word)) es n e all is
+
+abbrev the_script : Result Script ℕ → Script → Script
+the_script (Ok s) d = s
+the_script (Err n) d = d
+
+same_script : (r : Result Script ℕ) (s t : Script) → r ≡ Ok s → r ≡ Ok t → s ≡ t
+same_script r s t one other = sym (ap (λ (x : Result Script ℕ). the_script x s) one) ∙ ap (λ (x : Result Script ℕ). the_script x s) other
+
+pub not_bad : (bytes : List ℕ) (script : Script) → script_of bytes ≡ Ok script → (index : ℕ) → IsFirstBad script.config script.word script.events index → IsSound bytes → ⊥
+not_bad bytes script reads index first sound =
+    let same : sound.script ≡ script = same_script (script_of bytes) sound.script script sound.reads reads in
+    let good : AreGood script.config script.word script.events = subst (λ (s : Script). AreGood s.config s.word s.events) same sound.good in
+    both_ways _ (good-at script.config script.word script.events index first.bad.event good first.bad.stands) first.bad.bad
+
+pub not_spent : (bytes : List ℕ) (script : Script) → script_of bytes ≡ Ok script → (index : ℕ) → IsFirstSpent script.config script.word script.events index → IsSound bytes → ⊥
+not_spent bytes script reads index first sound =
+    let same : sound.script ≡ script = same_script (script_of bytes) sound.script script sound.reads reads in
+    let unspent : AreUnspent script.config script.word script.events = subst (λ (s : Script). AreUnspent s.config s.word s.events) same sound.unspent in
+    both_ways _ (unspent-at script.config script.word script.events index first.spent.event unspent first.spent.stands) first.spent.spent
