@@ -164,7 +164,7 @@ cut_short {old} {mid} {new} config word all index s e before grown l next h show
     let same : actions_of (state_after s.config s.word s.events) e ≡ acts = ap (λ (x : History). actions_of (state_after x.config x.word x.events) e) h.kept.made in
     let more : grown ≡ before ++ show acts = shown ∙ ap (λ (acted : List Action). before ++ show acted) same in
     let turns : turns_before config word all index ++ show acts ≡ turns_before config word all (index + 1) =
-        sym (ap (λ (es : List Event). show (trace_of config word es)) next ∙ ap (λ (acted : List Action). show acted) (trace_of-more config word taken e) ∙ show-append (trace_of config word taken) acts) in
+    sym (ap (λ (es : List Event). show (trace_of config word es)) next ∙ ap (λ (acted : List Action). show acted) (trace_of-more config word taken e) ∙ show-append (trace_of config word taken) acts) in
     front_of_turns config word all (turns_before config word all index ++ show acts) (inr (index + 1, omega arith, turns))
     (sent_part before (turns_before config word all index) (show acts) h.sent (subst (λ (xs : List ℕ). GainedPart mid new xs) more part))
 
@@ -173,7 +173,7 @@ pub cut_whole : {old mid new : Option (List ℕ)} (config : Config) (word : ℕ)
     → GainedFront config word all old new
 cut_whole {old} {mid} {new} config word all taken rest same sent part =
     let whole : show (trace_of config word taken) ++ [] ≡ turns_before config word all (length all) =
-        append-nil (show (trace_of config word taken)) ∙ ap (λ (es : List Event). show (trace_of config word es)) (same ∙ sym (take-length all)) in
+    append-nil (show (trace_of config word taken)) ∙ ap (λ (es : List Event). show (trace_of config word es)) (same ∙ sym (take-length all)) in
     front_of_turns config word all (show (trace_of config word taken) ++ []) (inr (length all, le_refl (length all), whole))
     (sent_part rest (show (trace_of config word taken)) [] sent (subst (λ (xs : List ℕ). GainedPart mid new xs) (sym (append-nil rest)) part))
 

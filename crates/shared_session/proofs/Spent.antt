@@ -122,6 +122,6 @@ pub spent_in_turn : (c : Core) (e : Event) (announced done : Connection) → ann
 unfolding turn is_spent
 spent_in_turn c e announced done a d spent =
     let h : is_link_spent (passes (applied (acts c.connection (action.Turn c.turns (cause.Event e))) e.kind)).link ≡ true =
-        subst (λ (x : Connection). is_link_spent (passes x).link ≡ true) (d ∙ ap (λ (x : Connection). applied x e.kind) a) spent in
+    subst (λ (x : Connection). is_link_spent (passes x).link ≡ true) (d ∙ ap (λ (x : Connection). applied x e.kind) a) spent in
     let p = passes (applied (acts c.connection (action.Turn c.turns (cause.Event e))) e.kind) in
     or_left (nat_le (2 ^ 32) (count (flushed p))) (nat_le (2 ^ 32) (length (flushed p).requests)) (ap (λ (n : ℕ). nat_le (2 ^ 32) n) (flushed_count p) ∙ h)
