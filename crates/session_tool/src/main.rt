@@ -14,16 +14,22 @@ use crate::running::{NO_MEMORY, run};
 use session_ends::{MemWorld, WorldScript, standard_input, standard_output};
 use std::alloc::{AllocError, Global};
 use std::env::Args;
+use std::io::ErrorKind;
 use std::process::ExitCode;
 use std::{env, io};
 
-/// The words after the program's name. Where one can't be read as text there are none, which is no command.
+/// The words after the program's name. Where one isn't text there are none, which is no command.
 fn words_of(alloc: Global, args: io::Result<Args>) -> Result<Vec<String>, AllocError> {
     let mut words = Vec::new(alloc);
-    let Ok(args) = args else {
-        return Ok(words);
+    let mut rest = match args {
+        Ok(args) => args,
+        Err(error) => {
+            return match error.kind() {
+                ErrorKind::OutOfMemory => Err(AllocError),
+                _ => Ok(words),
+            };
+        }
     };
-    let mut rest = args;
     rest.next();
     for word in rest {
         words.push(word)?;

@@ -1,3 +1,4 @@
+use super::reading::read_text;
 use super::running::{run, run_alone};
 use containers::{Bytes, Seq};
 use session_ends::{MemSink, MemSource, MemWorld, WorldScript};
@@ -202,6 +203,18 @@ connected 0
     status: 2,
 };
 
+/// A line behind the last.
+const BEHIND_END: Row = Row {
+    script: b"config single url=redis://h:6379 connect=none response=none lib=off
+connected 0
+end
+connected 0
+",
+    output: b"script line 4
+",
+    status: 2,
+};
+
 /// A command without words.
 const EMPTY_COMMAND: Row = Row {
     script: b"config single url=redis://h:6379 connect=none response=none lib=off
@@ -287,6 +300,7 @@ fn scripts_are_replayed(rt: HostRuntime) -> Result<(), Fail> {
         NO_VALUE,
         TOO_LONG,
         WITHOUT_END,
+        BEHIND_END,
         EMPTY_COMMAND,
         SHUT_DOWN,
     ] {
@@ -297,22 +311,163 @@ fn scripts_are_replayed(rt: HostRuntime) -> Result<(), Fail> {
     Ok(())
 }
 
+/// A script, its read and its write that fail, counted from 0, the status, and what the sink holds then.
+type Failing = (Row, Option<u64>, Option<u64>, u8, &'static [u8]);
+
+const FAILING: [Failing; 7] = [
+    (ANSWERED, Some(0), None, 6, b"read fault\n"),
+    (ANSWERED, Some(1), None, 6, b"read fault\n"),
+    (
+        ANSWERED,
+        None,
+        Some(2),
+        7,
+        b"turn 0 config single url=redis://h:6379 ",
+    ),
+    (ANSWERED, None, Some(0), 7, b""),
+    (ANSWERED, Some(1), Some(0), 7, b""),
+    (WITHOUT_END, None, Some(0), 7, b""),
+    (BAD_EVENT, None, Some(0), 7, b""),
+];
+
 #[test]
 fn ends_may_fail(rt: HostRuntime) -> Result<(), Fail> {
-    let cases: [(Option<u64>, Option<u64>, u8, &[u8]); 3] = [
-        (Some(1), None, 6, b"read fault\n"),
-        (
-            None,
-            Some(2),
-            7,
-            b"turn 0 config single url=redis://h:6379 ",
-        ),
-        (Some(1), Some(0), 7, b""),
-    ];
-    for (read, write, status, output) in cases {
-        let (answered, sink) = answer(rt.alloc(), &["replay"], ANSWERED.script, read, write)?;
+    for (row, read, write, status, output) in FAILING {
+        let (answered, sink) = answer(rt.alloc(), &["replay"], row.script, read, write)?;
         assert_eq!(rt; answered, status);
         assert_eq!(rt; sink.as_slice(), output);
+    }
+    Ok(())
+}
+
+/// A script of so many shutdowns, and of lines of bytes, `longs` of them as long as `long`, and one as long as `last`.
+#[derive(Clone, Copy)]
+struct Large {
+    shutdowns: u32,
+    longs: u32,
+    long: u32,
+    last: u32,
+}
+
+/// A line of bytes of this length, its LF not counted.
+fn bytes_line(alloc: Global, length: u32) -> Result<Bytes, AllocError> {
+    let mut line = Bytes::from_slice(alloc, b"bytes 0 ")?;
+    for _ in 8..length {
+        line.push(b'a')?;
+    }
+    line.push(b'\n')?;
+    Ok(line)
+}
+
+fn text_of(alloc: Global, large: Large) -> Result<Bytes, AllocError> {
+    let mut text = Bytes::from_slice(
+        alloc,
+        b"config single url=redis://h:6379 connect=none response=none lib=off\n",
+    )?;
+    for _ in 0..large.shutdowns {
+        text.extend_from_slice(b"shutdown\n")?;
+    }
+    let long = bytes_line(alloc, large.long)?;
+    for _ in 0..large.longs {
+        text.extend_from_slice(long.as_slice())?;
+    }
+    let last = bytes_line(alloc, large.last)?;
+    text.extend_from_slice(last.as_slice())?;
+    text.extend_from_slice(b"end\n")?;
+    Ok(text)
+}
+
+/// How many bytes are kept of a text that comes in pieces of this size.
+fn kept(alloc: Global, text: Bytes, size: usize) -> Result<usize, AllocError> {
+    let mut source = MemSource::new(text, size, Seq::new(alloc));
+    match read_text(alloc, &mut source) {
+        Ok(intake) => Ok(intake.text().len()),
+        Err(_) => Err(AllocError),
+    }
+}
+
+/// The status of a replay of a text that comes in pieces of this size, and what its sink holds.
+fn replayed(alloc: Global, text: Bytes, size: usize) -> Result<(u8, MemSink), AllocError> {
+    let words = strings(alloc, &["replay"])?;
+    let mut source = MemSource::new(text, size, Seq::new(alloc));
+    let mut sink = MemSink::new(alloc, 65_536, Seq::new(alloc));
+    let status = run_alone(alloc, words.as_slice(), &mut source, &mut sink);
+    Ok((status, sink))
+}
+
+/// Scripts at a limit: 1,000,000 lines, a line of 1,048,576 bytes, and 67,108,864 bytes in all.
+const AT_A_LIMIT: [Large; 3] = [
+    Large {
+        shutdowns: 999_997,
+        longs: 0,
+        long: 8,
+        last: 9,
+    },
+    Large {
+        shutdowns: 0,
+        longs: 0,
+        long: 8,
+        last: 1_048_576,
+    },
+    Large {
+        shutdowns: 0,
+        longs: 63,
+        long: 1_048_575,
+        last: 1_048_503,
+    },
+];
+
+#[test]
+fn a_script_may_be_as_large_as_its_limits(rt: HostRuntime) -> Result<(), Fail> {
+    for large in AT_A_LIMIT {
+        let (status, _sink) = replayed(rt.alloc(), text_of(rt.alloc(), large)?, 4_093)?;
+        assert_eq!(rt; status, 0);
+    }
+    Ok(())
+}
+
+/// Scripts one past a limit, the lines at which they are refused, and how many of their bytes are kept.
+const PAST_A_LIMIT: [(Large, &[u8], usize); 3] = [
+    (
+        Large {
+            shutdowns: 999_998,
+            longs: 0,
+            long: 8,
+            last: 9,
+        },
+        b"script line 1000001\n",
+        9_000_061,
+    ),
+    (
+        Large {
+            shutdowns: 0,
+            longs: 0,
+            long: 8,
+            last: 1_048_577,
+        },
+        b"script line 2\n",
+        1_048_645,
+    ),
+    (
+        Large {
+            shutdowns: 0,
+            longs: 63,
+            long: 1_048_575,
+            last: 1_048_504,
+        },
+        b"script line 66\n",
+        67_108_865,
+    ),
+];
+
+#[test]
+fn a_script_past_a_limit_is_refused_at_its_line(rt: HostRuntime) -> Result<(), Fail> {
+    for (large, output, held) in PAST_A_LIMIT {
+        let (status, sink) = replayed(rt.alloc(), text_of(rt.alloc(), large)?, 4_093)?;
+        assert_eq!(rt; status, 2);
+        assert_eq!(rt; sink.as_slice(), output);
+        let counted = kept(rt.alloc(), text_of(rt.alloc(), large)?, 4_093)?;
+        assert_eq!(rt; counted, held);
     }
     Ok(())
 }
