@@ -1,7 +1,12 @@
+ghost use Rattle.std.specs.Prelude.{◌≡◌, ◌⊎◌, ℕ, List, Some};
+ghost use Rattle.session_tool.specs.Runs.{IsSound};
+ghost use Rattle.session_tool.specs.Words.{command_of};
+
+use super::command::Command;
 use super::reading::read_text;
 use super::running::{run, run_alone};
 use containers::{Bytes, Seq};
-use session_ends::{MemSink, MemSource, MemWorld, WorldScript};
+use session_ends::{MemSink, MemSource, MemWorld, Source, SureSink, SureSource, WorldScript};
 use std::alloc::{AllocError, Global};
 use std::test::Fail;
 
@@ -286,6 +291,31 @@ fn answer(
     let mut sink = MemSink::new(alloc, 20, numbers(alloc, write)?);
     let status = run_alone(alloc, words.as_slice(), &mut source, &mut sink);
     Ok((status, sink))
+}
+
+/// A run over a source and a sink that never fail. The replay of a script without a bad event or a spent step ends well,
+/// or for want of memory.
+fn run_surely(
+    alloc: Global,
+    words: &[String],
+    source: &mut SureSource,
+    sink: &mut SureSink,
+) -> u8
+    ensures { command_of words.now ≡ Command.Replay → (bytes : List ℕ) → ⟦<SureSource as Source>⟧.left source.old ≡ Some bytes → IsSound bytes → (result ≡ 0) ⊎ (result ≡ 5) }
+{
+    run_alone(alloc, words, source, sink)
+}
+
+#[test]
+fn ends_that_never_fail_end_no_run(rt: HostRuntime) -> Result<(), Fail> {
+    for row in [OPENING, ANSWERED, CANCELLED, EMPTY_COMMAND, SHUT_DOWN] {
+        let words = strings(rt.alloc(), &["replay"])?;
+        let mut source = SureSource::new(Bytes::from_slice(rt.alloc(), row.script)?);
+        let mut sink = SureSink::new();
+        let status = run_surely(rt.alloc(), words.as_slice(), &mut source, &mut sink);
+        assert_eq!(rt; status, 0);
+    }
+    Ok(())
 }
 
 #[test]
