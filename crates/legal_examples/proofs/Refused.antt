@@ -1,5 +1,5 @@
 -- Traces that can't be relied on: whatever comes after these fronts, no trace that begins so is legal.
-use Rattle.std.proofs.Common.{◌≡◌, ℕ, ◌+◌, zero, suc, false, List, [], ◌∷◌, ◌++◌, Some, slice_get, refl, sym, ap, ◌∙◌, subst, append_assoc, inl, inr, take, arith}
+use Rattle.std.proofs.Common.{◌≡◌, ℕ, ◌+◌, ◌<◌, zero, suc, false, List, [], ◌∷◌, ◌++◌, Option, Some, None, slice_get, refl, sym, ap, ◌∙◌, subst, append_assoc, inl, inr, take, arith}
 use Rattle.std.proofs.lemmas.List.{append-nil}
 use Rattle.resp_value.specs.declared.redis_error.RedisError.TheVariants as error
 use Rattle.resp_value.specs.Data.{Data, simple}
@@ -19,8 +19,9 @@ use Rattle.driver_model.specs.declared.outcome.Verdict.TheVariants as verdict
 use Rattle.trace_model.specs.LinkLedger.{LinkLedger, Start, link_ledger}
 use Rattle.trace_model.specs.Cut.{IsFull, verdict_of}
 use Rattle.trace_model.specs.Story.{story, is_open}
-use Rattle.legal_examples.specs.Traces.{command, reply, answered_both, started_one, left_out, started_unoffered}
+use Rattle.legal_examples.specs.Traces.{command, reply, answered_both, answered_alike, started_one, left_out, started_unoffered}
 use Rattle.trace_model.specs.Legal.{MayStand, AllStand, MayAnswer, Legal}
+use Rattle.trace_model.specs.Order.{last_answered, OutcomesAscend}
 
 -- what an action of a legal trace stands behind
 stood : (before front after : List Action) (a : Action) → AllStand before (front ++ a ∷ after) → MayStand (before ++ front) a
@@ -77,6 +78,23 @@ swapped config word events after h =
     let full : IsFull (link_ledger 0 (answered_both config word)) 0 m.cause.1 = subst (λ j. IsFull (link_ledger 0 (answered_both config word)) j m.cause.1) e m.cause.3 in
     let items = first_item (link_ledger 0 (answered_both config word)) m.cause.1 refl (ledger_answered config word) full in
     apart 120 121 refl (same_letter 120 121 (sym (verdict_is m.asked.submission m.cause.1 120 items) ∙ m.cause.4))
+
+-- the submission that was answered last
+abbrev answered_by : Option ℕ → List Action → Option ℕ
+answered_by last [] = last
+answered_by last (a ∷ more) = answered_by (last_answered last a) more
+
+ascends_behind : (last : Option ℕ) (front more : List Action) → OutcomesAscend last (front ++ more) → OutcomesAscend (answered_by last front) more
+ascends_behind last [] more h = h
+ascends_behind last (a ∷ front) more h = ascends_behind (last_answered last a) front more h.1
+
+-- two replies that are alike, in the other order
+pub out_of_order : (config : Config) (word : ℕ) (events : List Event) (after : List Action)
+    → Legal config word events (answered_alike config word ++ action.Outcome 1 (reply 120) ∷ action.Outcome 0 (reply 120) ∷ after) → ⊥
+out_of_order config word events after h =
+    let m = ascends_behind None (answered_alike config word) (action.Outcome 1 (reply 120) ∷ action.Outcome 0 (reply 120) ∷ after) h.outcomes in
+    let below : 1 < 0 = m.1.0 in
+    absurd (omega (arith, below))
 
 -- an outcome too many
 pub answered_twice : (config : Config) (word : ℕ) (events : List Event) (after : List Action)

@@ -35,16 +35,23 @@ replies = 43 ∷ 120 ∷ 13 ∷ 10 ∷ 43 ∷ 121 ∷ 13 ∷ 10 ∷ []
 abbrev pub reply : ℕ → Outcome
 reply letter = outcome.One (value_of (simple (letter ∷ [])))
 
--- two requests were started and written, and both replies came
-abbrev pub answered_both : Config → ℕ → List Action
-answered_both config word =
+-- two requests were started and written
+abbrev pub sent_both : Config → ℕ → List Action
+sent_both config word =
     opening config word ++
     turn 1 (event.Connected 0) ∷ action.Created ∷
     turn 2 (event.Submit (command 71)) ∷ action.Start 0 0 (owner.Try 0 0) 1 11 ∷ action.Write 0 (pack ((71 ∷ []) ∷ [])) ∷
     turn 3 (event.Submit (command 72)) ∷ action.Start 0 1 (owner.Try 1 0) 1 11 ∷
     turn 4 (event.Wrote 0 11) ∷ action.Write 0 (pack ((72 ∷ []) ∷ [])) ∷
-    turn 5 (event.Wrote 0 11) ∷
-    turn 6 (event.Bytes 0 replies) ∷ []
+    turn 5 (event.Wrote 0 11) ∷ []
+
+-- and both replies came
+abbrev pub answered_both : Config → ℕ → List Action
+answered_both config word = sent_both config word ++ turn 6 (event.Bytes 0 replies) ∷ []
+
+-- or +x came twice
+abbrev pub answered_alike : Config → ℕ → List Action
+answered_alike config word = sent_both config word ++ turn 6 (event.Bytes 0 (43 ∷ 120 ∷ 13 ∷ 10 ∷ 43 ∷ 120 ∷ 13 ∷ 10 ∷ [])) ∷ []
 
 -- its request was started, and nothing else happened
 abbrev pub started_one : Config → ℕ → List Action

@@ -57,13 +57,13 @@ cuts_started a (s ∷ ss) n all (inl e) = subst (λ m. IsIn m (owners a.link.sta
 cuts_started a (s ∷ ss) n all (inr i) = cuts_started a ss n all.1 i
 
 -- what a link has read and dealt
-abbrev deals : LinkState → List ℕ → Dealing
+abbrev pub deals : LinkState → List ℕ → Dealing
 deals s piece = dealt_each (record { row = s.row; out = [] }) (values (s.rest ++ piece))
 
-abbrev has_read : LinkState → List ℕ → LinkState
+abbrev pub has_read : LinkState → List ℕ → LinkState
 has_read s piece = record (read_on s (s.rest ++ piece)) { row = (deals s piece).row }
 
-dealt_alike : (a : Account) (s : LinkState) (piece : List ℕ) → TiedLink a.link a.subs s → open_list s.row ≡ open_rows a.link.starts a.link.dealt → IsDealt a.link.starts (bytes_came a.link piece).dealt s.row (deals s piece)
+pub dealt_alike : (a : Account) (s : LinkState) (piece : List ℕ) → TiedLink a.link a.subs s → open_list s.row ≡ open_rows a.link.starts a.link.dealt → IsDealt a.link.starts (bytes_came a.link piece).dealt s.row (deals s piece)
 dealt_alike a s piece h row =
     subst (λ vs. IsDealt a.link.starts (items_with (needs a.link.starts) a.link.dealt vs) s.row (deals s piece)) (ap (λ bs. values (bs ++ piece)) (sym h.rest))
     (row_dealt a.link.starts a.link.dealt s.row (values (s.rest ++ piece)) h.needy row h.within)
@@ -123,7 +123,7 @@ stays_tied a p word piece f h =
     (record { phase = h.phase; link = h.link; row = h.row; count = h.count; story = h.story; lines = h.lines; waits = h.waits; idle = h.idle; ended = h.ended })
 
 -- a link that isn't broken reads
-reads_on : (s : LinkState) (piece : List ℕ) → s.broken ≡ false → came (record { link = s; out = [] }) piece ≡ record { link = has_read s piece; out = (deals s piece).out }
+pub reads_on : (s : LinkState) (piece : List ℕ) → s.broken ≡ false → came (record { link = s; out = [] }) piece ≡ record { link = has_read s piece; out = (deals s piece).out }
 reads_on s piece f = if_false (λ (x : Settling). x ≡ record { link = has_read s piece; out = (deals s piece).out }) s.broken _ _ f refl
 
 cuts_at : (a : Account) (p : Inner) (word : ℕ) (piece : List ℕ) → is_up p.phase ≡ true → Tied a (record p { pending = [] }) → AllSettledReady (begun a (cause.Event (record { word = word; kind = event.Bytes 0 piece }))) (deals p.link piece).out

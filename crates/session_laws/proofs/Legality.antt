@@ -1,5 +1,5 @@
 -- Every replay is legal.
-use Rattle.std.proofs.Common.{◌≡◌, inl, ℕ, ◌+◌, ◌≤◌, ◌==◌, nat_lt, ◌&&◌, ◌||◌, not, Bool, true, false, List, [], ◌∷◌, ◌++◌, length, drop, None, refl, sym, ap, ◌∙◌, subst, append_assoc, arith}
+use Rattle.std.proofs.Common.{◌≡◌, inl, ℕ, ◌+◌, ◌≤◌, ◌==◌, nat_lt, ◌&&◌, ◌||◌, not, Bool, true, false, List, [], ◌∷◌, ◌++◌, length, drop, Option, None, refl, sym, ap, ◌∙◌, subst, append_assoc, arith}
 use Rattle.std.proofs.lemmas.List.{append-nil, take-append-drop, length_push}
 use Rattle.resp_read.proofs.ValueLaws.{values-empty}
 use Rattle.driver_model.specs.declared.action.Action.{Action}
@@ -18,7 +18,7 @@ use Rattle.shared_session.specs.Turn.{applied, is_bad, quiet, turn}
 use Rattle.shared_session.specs.Replay.{opening, actions_of, turns_on, trace_of, AreGoodOn, AreGood}
 use Rattle.trace_model.specs.LinkLedger.{link_ledger, blank_ledger, stream}
 use Rattle.trace_model.specs.Story.{story, blank_story}
-use Rattle.trace_model.specs.Order.{AreInOrder}
+use Rattle.trace_model.specs.Order.{AreInOrder, OutcomesAscend}
 use Rattle.trace_model.specs.Turns.{causes}
 use Rattle.trace_model.specs.Legal.{IsPrefix, sent, AllStand, IsSettled, MayConnect, event_causes, Legal}
 use Rattle.session_laws.proofs.Account.{Account, account, begun, account-append, causes-append}
@@ -31,6 +31,7 @@ use Rattle.session_laws.proofs.Cancels.{cancel_applied}
 use Rattle.session_laws.proofs.Submits.{submit_applied}
 use Rattle.session_laws.proofs.Announced.{rest_same}
 use Rattle.session_laws.proofs.Ordered.{turn_ordered, orders-append}
+use Rattle.session_laws.proofs.Ascending.{turn_ascends, ascends-append}
 
 or_left : (a b : Bool) → (a || b) ≡ false → a ≡ false
 or_left true b e = cc
@@ -118,6 +119,17 @@ turns_in_order : (c : Core) (es : List Event) → c.connection.acts ≡ [] → (
 turns_in_order c [] none = λ step. tt
 turns_in_order c (e ∷ es) none = λ step. orders-append step (actions_of c e) (turns_on (quiet (turn c e)) es) (turn_in_order c e none step) (turns_in_order (quiet (turn c e)) es refl)
 
+-- and its outcomes that of their submissions
+turn_outcomes : (b : List Action) (c : Core) (e : Event) → IsReadyFor b c.connection c.turns → (last : Option ℕ) → OutcomesAscend last (actions_of c e)
+unfolding turn
+turn_outcomes b c e h = turn_ascends b c.connection c.turns e.word e.kind h
+
+turns_outcomes : (b : List Action) (c : Core) (es : List Event) → IsReadyFor b c.connection c.turns → AreGoodOn c es → (last : Option ℕ) → OutcomesAscend last (turns_on c es)
+turns_outcomes b c [] h good = λ last. tt
+turns_outcomes b c (e ∷ es) h good = λ last.
+    ascends-append last (actions_of c e) (turns_on (quiet (turn c e)) es) (turn_outcomes b c e h last)
+    (turns_outcomes (b ++ actions_of c e) (quiet (turn c e)) es (turn_holds b c e h good.0).ready good.1)
+
 -- the opening
 blank_account : Account
 blank_account = record { link = blank_ledger; subs = []; story = λ n. blank_story; running = None; shut = false; turns = 0; created = 0 }
@@ -200,4 +212,4 @@ pub legal : (config : Config) (word : ℕ) (events : List Event) → AreGood con
 unfolding trace_of AreGood opened asked
 legal config word events good =
     let r = run_holds (opening config word).connection.acts (quiet (opening config word)) events (cause.Opening config word ∷ []) (opening_ready config word) refl good in
-    record { opens = (turns_on (quiet (opening config word)) events, refl); turns = r.turns; steps = (tt, (omega arith, turns_in_order (quiet (opening config word)) events refl 1)); in_order = r.in_order; each = r.each; settled = r.settled }
+    record { opens = (turns_on (quiet (opening config word)) events, refl); turns = r.turns; steps = (tt, (omega arith, turns_in_order (quiet (opening config word)) events refl 1)); outcomes = (tt, (tt, turns_outcomes (opening config word).connection.acts (quiet (opening config word)) events (opening_ready config word) good None)); in_order = r.in_order; each = r.each; settled = r.settled }

@@ -20,4 +20,5 @@ pub mod Cancels
 pub mod Submits
 pub mod Announced
 pub mod Ordered
+pub mod Ascending
 pub mod Legality

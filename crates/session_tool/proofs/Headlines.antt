@@ -26,7 +26,7 @@ in_order kept script decides reads good bytes told = of_legal IsInOrder bytes (l
 
 pub in_place : {left rest : Option (List ℕ)} (kept : List ℕ) (script : Script) → Decides left rest kept → script_of kept ≡ Ok script → AreGood script.config script.word script.events
     → (bytes : List ℕ) → left ≡ Some bytes → OfTrace bytes IsInPlace
-in_place kept script decides reads good bytes told = of_legal IsInPlace bytes (legal_replay kept script decides reads good bytes told) (λ l. (l.each, l.steps))
+in_place kept script decides reads good bytes told = of_legal IsInPlace bytes (legal_replay kept script decides reads good bytes told) (λ l. (l.each, l.steps, l.outcomes))
 
 pub settled : {left rest : Option (List ℕ)} (kept : List ℕ) (script : Script) → Decides left rest kept → script_of kept ≡ Ok script → AreGood script.config script.word script.events
     → (bytes : List ℕ) → left ≡ Some bytes → OfTrace bytes IsSettled

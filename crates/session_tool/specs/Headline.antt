@@ -1,11 +1,11 @@
 -- What a finished replay gives its callers, said of its trace.
-use Rattle.std.specs.Prelude.{◌≡◌, ℕ, List, [], Ok}
+use Rattle.std.specs.Prelude.{◌≡◌, ℕ, List, [], None, Ok}
 use Rattle.driver_model.specs.declared.action.Action.{Action}
 use Rattle.script_text.specs.Script.{script_of}
 use Rattle.script_text.specs.declared.script.Script.{Script}
 use Rattle.shared_session.specs.Replay.{trace_of}
 use Rattle.trace_model.specs.LinkLedger.{link_ledger, stream}
-use Rattle.trace_model.specs.Order.{AreInOrder}
+use Rattle.trace_model.specs.Order.{AreInOrder, OutcomesAscend}
 use Rattle.trace_model.specs.Legal.{IsPrefix, sent, AllStand, Legal}
 
 -- these bytes are a script, and that holds of its trace
@@ -18,10 +18,10 @@ pub record OfTrace (bytes : List ℕ) (P : List Action → Type 0) : Type 0 wher
 abbrev pub IsInOrder : List Action → Type 0
 IsInOrder trace = IsPrefix (stream (link_ledger 0 trace)) (sent 0 trace)
 
--- each action stands where it may, each start, offer, wait and close, and each outcome with its cause; and those of a
--- turn have the order of its steps
+-- each action stands where it may, each start, offer, wait and close, and each outcome with its cause; those of a turn
+-- have the order of its steps, and its outcomes that of their submissions
 abbrev pub IsInPlace : List Action → Type 0
-IsInPlace trace = AllStand [] trace × AreInOrder 0 trace
+IsInPlace trace = AllStand [] trace × AreInOrder 0 trace × OutcomesAscend None trace
 
 -- these bytes are a script, and its trace is a legal one of its events
 pub record IsLegal (bytes : List ℕ) : Type 0 where

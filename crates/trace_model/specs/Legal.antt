@@ -24,7 +24,7 @@ use Rattle.trace_model.specs.Submissions.{submissions, packed, bytes_of}
 use Rattle.trace_model.specs.LinkLedger.{LinkLedger, Start, needs, link_ledger, stream}
 use Rattle.trace_model.specs.Cut.{IsFull, shape_of, verdict_of}
 use Rattle.trace_model.specs.Story.{Story, story, is_open}
-use Rattle.trace_model.specs.Order.{AreInOrder}
+use Rattle.trace_model.specs.Order.{AreInOrder, OutcomesAscend}
 use Rattle.trace_model.specs.Turns.{causes, running, is_shut, created_count}
 
 -- ys begins with xs
@@ -225,12 +225,13 @@ event_causes [] = []
 event_causes (e ∷ es) = cause.Event e ∷ event_causes es
 
 -- a trace that can be relied on: it begins with the opening, which asks for the link; it has one turn for each event;
--- each turn's actions have the order of its steps; the bytes that each link took and is offered are the front of its
--- messages' bytes; each action stands where it may; and the last turn is settled
+-- each turn's actions have the order of its steps, and its outcomes that of their submissions; the bytes that each link
+-- took and is offered are the front of its messages' bytes; each action stands where it may; and the last turn is settled
 pub record Legal (config : Config) (word : ℕ) (events : List Event) (trace : List Action) : Type 0 where
   pub opens : (more : List Action) × (trace ≡ action.Turn 0 (cause.Opening config word) ∷ action.Connect 0 config.host config.port ∷ more)
   pub turns : causes trace ≡ cause.Opening config word ∷ event_causes events
   pub steps : AreInOrder 0 trace
+  pub outcomes : OutcomesAscend None trace
   pub in_order : IsPrefix (stream (link_ledger 0 trace)) (sent 0 trace)
   pub each : AllStand [] trace
   pub settled : IsSettled trace

@@ -1,5 +1,5 @@
 -- In which order the actions of a turn stand.
-use Rattle.std.specs.Prelude.{ℕ, ◌<◌, ◌≤◌, List, [], ◌∷◌}
+use Rattle.std.specs.Prelude.{ℕ, ◌<◌, ◌≤◌, List, [], ◌∷◌, Option, Some, None}
 use Rattle.driver_model.specs.declared.action.Action.{Action}
 use Rattle.driver_model.specs.declared.action.Action.TheVariants as action
 
@@ -30,3 +30,35 @@ MayCome step (action.Wait who kind) = step ≤ 4
 abbrev pub AreInOrder : ℕ → List Action → Type 0
 AreInOrder step [] = Unit {0}
 AreInOrder step (a ∷ more) = MayCome step a × AreInOrder (step_of a) more
+
+-- the submission that was answered last in the turn that runs, if there is one
+abbrev pub last_answered : Option ℕ → Action → Option ℕ
+last_answered last (action.Turn k c) = None
+last_answered last (action.Connect l host port) = last
+last_answered last (action.Close l) = last
+last_answered last action.Created = last
+last_answered last (action.Outcome n o) = Some n
+last_answered last (action.Start l k who need len) = last
+last_answered last (action.Write l bytes) = last
+last_answered last (action.Wait who kind) = last
+
+-- a submission that came after that one
+abbrev pub IsAfter : Option ℕ → ℕ → Type 0
+IsAfter None n = Unit {0}
+IsAfter (Some m) n = m < n
+
+-- an outcome may follow one of a submission that came before its own
+abbrev pub MayFollow : Option ℕ → Action → Type 0
+MayFollow last (action.Turn k c) = Unit {0}
+MayFollow last (action.Connect l host port) = Unit {0}
+MayFollow last (action.Close l) = Unit {0}
+MayFollow last action.Created = Unit {0}
+MayFollow last (action.Outcome n o) = IsAfter last n
+MayFollow last (action.Start l k who need len) = Unit {0}
+MayFollow last (action.Write l bytes) = Unit {0}
+MayFollow last (action.Wait who kind) = Unit {0}
+
+-- within each turn, the submissions that are answered have ascending numbers, after the one answered last
+abbrev pub OutcomesAscend : Option ℕ → List Action → Type 0
+OutcomesAscend last [] = Unit {0}
+OutcomesAscend last (a ∷ more) = MayFollow last a × OutcomesAscend (last_answered last a) more

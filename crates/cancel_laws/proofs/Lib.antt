@@ -1,0 +1,9 @@
+pub mod Choices
+pub mod Lists
+pub mod Links
+pub mod Kept
+pub mod Gone
+pub mod Bare
+pub mod Rest
+pub mod Cancels
+pub mod Started

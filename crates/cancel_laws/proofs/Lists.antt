@@ -1,0 +1,38 @@
+-- Places of lists.
+use Rattle.std.proofs.Common.{◌≡◌, ◌≢◌, ℕ, zero, suc, ◌<◌, List, [], ◌∷◌, ◌++◌, length, Some, slice_get, slice_set, refl, ap, arith}
+
+pub set_twice : {X : Type 0} (xs : List X) (n : ℕ) (x y : X) → slice_set (slice_set xs n x) n y ≡ slice_set xs n y
+set_twice [] n x y = refl
+set_twice (z ∷ xs) zero x y = refl
+set_twice (z ∷ xs) (suc n) x y = ap (λ zs. z ∷ zs) (set_twice xs n x y)
+
+pub set_apart : {X : Type 0} (xs : List X) (n m : ℕ) (x y : X) → n ≢ m → slice_set (slice_set xs n x) m y ≡ slice_set (slice_set xs m y) n x
+set_apart [] n m x y o = refl
+set_apart (z ∷ xs) zero zero x y o = absurd (o refl)
+set_apart (z ∷ xs) zero (suc m) x y o = refl
+set_apart (z ∷ xs) (suc n) zero x y o = refl
+set_apart (z ∷ xs) (suc n) (suc m) x y o = ap (λ zs. z ∷ zs) (set_apart xs n m x y (λ e. o (ap suc e)))
+
+-- one more item
+pub set_push : {X : Type 0} (xs : List X) (n : ℕ) (x y : X) → n < length xs → slice_set (xs ++ y ∷ []) n x ≡ slice_set xs n x ++ y ∷ []
+set_push [] n x y l = absurd (omega arith)
+set_push (z ∷ xs) zero x y l = refl
+set_push (z ∷ xs) (suc n) x y l = ap (λ zs. z ∷ zs) (set_push xs n x y (omega arith))
+
+pub set_push_same : {X : Type 0} (xs : List X) (n : ℕ) (x : X) → slice_set (xs ++ x ∷ []) n x ≡ slice_set xs n x ++ x ∷ []
+set_push_same [] zero x = refl
+set_push_same [] (suc n) x = refl
+set_push_same (z ∷ xs) zero x = refl
+set_push_same (z ∷ xs) (suc n) x = ap (λ zs. z ∷ zs) (set_push_same xs n x)
+
+pub get_set_other : {X : Type 0} (xs : List X) (n m : ℕ) (x : X) → n ≢ m → slice_get (slice_set xs n x) m ≡ slice_get xs m
+get_set_other [] n m x o = refl
+get_set_other (y ∷ xs) zero zero x o = absurd (o refl)
+get_set_other (y ∷ xs) zero (suc m) x o = refl
+get_set_other (y ∷ xs) (suc n) zero x o = refl
+get_set_other (y ∷ xs) (suc n) (suc m) x o = get_set_other xs n m x (λ e. o (ap suc e))
+
+pub get_within : {X : Type 0} (xs : List X) (n : ℕ) (x : X) → slice_get xs n ≡ Some x → n < length xs
+get_within [] n x e = cc
+get_within (y ∷ xs) zero x e = omega arith
+get_within (y ∷ xs) (suc n) x e = let l = get_within xs n x e in omega arith

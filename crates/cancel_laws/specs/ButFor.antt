@@ -1,0 +1,34 @@
+-- What turns show and what a link has, but for one submission's own outcome.
+use Rattle.std.specs.Prelude.{ℕ, ◌==◌, ◌&&◌, not, List, [], ◌∷◌, ◌++◌, if◌then◌else◌}
+use Rattle.driver_model.specs.declared.action.Action.{Action}
+use Rattle.driver_model.specs.declared.action.Action.TheVariants as action
+use Rattle.link_core.specs.declared.message.Entry.{Entry}
+use Rattle.link_core.specs.Link.{LinkState}
+
+-- what an action shows but for the number of its turn, if it is not that submission's outcome
+abbrev pub shown_of : ℕ → Action → List Action
+shown_of n (action.Turn k c) = action.Turn 0 c ∷ []
+shown_of n (action.Connect l host port) = action.Connect l host port ∷ []
+shown_of n (action.Close l) = action.Close l ∷ []
+shown_of n (action.Write l bytes) = action.Write l bytes ∷ []
+shown_of n (action.Wait who kind) = action.Wait who kind ∷ []
+shown_of n (action.Start l k who need len) = action.Start l k who need len ∷ []
+shown_of n action.Created = action.Created ∷ []
+shown_of n (action.Outcome m o) = if m == n then [] else action.Outcome m o ∷ []
+
+-- all actions in order, but for the numbers of turns and for the outcomes of submission n
+abbrev pub but_for : ℕ → List Action → List Action
+but_for n [] = []
+but_for n (a ∷ more) = shown_of n a ++ but_for n more
+
+-- an entry with its items; that of message n as one whose verdict is not wanted
+abbrev pub hushed : ℕ → Entry → Entry
+hushed n e = record e { awaited = e.awaited && not (e.id == n) }
+
+abbrev pub hushed_each : ℕ → List Entry → List Entry
+hushed_each n [] = []
+hushed_each n (e ∷ es) = hushed n e ∷ hushed_each n es
+
+-- all that a link has, but for whether the verdict of message n is wanted
+abbrev pub hushed_link : ℕ → LinkState → LinkState
+hushed_link n l = record l { row = hushed_each n l.row }

@@ -1,0 +1,40 @@
+-- A history, and the same history with the cancel of a started request in it.
+use Rattle.std.specs.Prelude.{◌≡◌, ℕ, ◌+◌, List, ◌∷◌, ◌++◌, length, Some, slice_get}
+use Rattle.driver_model.specs.declared.action.Action.{Action}
+use Rattle.driver_model.specs.declared.action.Action.TheVariants as action
+use Rattle.driver_model.specs.declared.action.Cause.TheVariants as cause
+use Rattle.driver_model.specs.declared.config.Config.{Config}
+use Rattle.driver_model.specs.declared.event.Event.{Event}
+use Rattle.driver_model.specs.declared.event.EventKind.TheVariants as event
+use Rattle.driver_model.specs.declared.event.Submission.TheVariants as submission
+use Rattle.link_core.specs.Waiting.{without}
+use Rattle.shared_session.specs.declared.connection.Connection.{Connection}
+use Rattle.shared_session.specs.declared.connection.Progress.TheVariants as progress
+use Rattle.shared_session.specs.Replay.{trace_of}
+use Rattle.cancel_laws.specs.ButFor.{but_for}
+
+-- the caller of submission n drops its request
+abbrev pub cancel_of : ℕ → ℕ → Event
+cancel_of word n = record { word = word; kind = event.Cancel n }
+
+-- the link's connect succeeded
+abbrev pub connected_at : ℕ → Event
+connected_at word = record { word = word; kind = event.Connected 0 }
+
+-- a command is handed in
+abbrev pub handed_in_at : ℕ → List (List ℕ) → Event
+handed_in_at word args = record { word = word; kind = event.Submit (submission.Cmd args) }
+
+-- submission n is neither answered nor cancelled; it has had its place, and its message has left the queue
+pub record HasStarted (n : ℕ) (c : Connection) : Type 0 where
+  pub placed : slice_get c.requests n ≡ Some progress.Placed
+  pub gone : without c.link.queue n ≡ c.link.queue
+
+-- the two traces are the same up to the one more event; that event's turn shows nothing; and then the turns show the
+-- same, but for their numbers and for the outcomes of submission n
+pub record GoesOn (config : Config) (word n : ℕ) (before : List Event) (more : Event) (after : List Event) : Type 0 where
+  pub later : List Action
+  pub later_with : List Action
+  pub plain : trace_of config word (before ++ after) ≡ trace_of config word before ++ later
+  pub with_more : trace_of config word (before ++ more ∷ after) ≡ trace_of config word before ++ action.Turn (length before + 1) (cause.Event more) ∷ later_with
+  pub alike : but_for n later ≡ but_for n later_with

@@ -1,0 +1,2 @@
+pub mod ButFor
+pub mod Cancels

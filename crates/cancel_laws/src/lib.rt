@@ -1,0 +1,25 @@
+//! The law of cancels: over whole histories, the cancel of a started request changes nothing but its own outcome.
+#![tactic(auto)]
+
+ghost use Rattle.std.specs.Prelude.{◌≡◌, ◌≢◌, ℕ, false, List, [], ◌∷◌, ◌++◌};
+ghost use Rattle.driver_model.specs.declared.config.Config.{Config};
+ghost use Rattle.driver_model.specs.declared.event.Event.{Event};
+ghost use Rattle.shared_session.specs.Replay.{state_after, outcomes_after, outcome_at, is_bad_after};
+ghost use Rattle.cancel_laws.specs.ButFor.{hushed_link};
+ghost use Rattle.cancel_laws.specs.Cancels.{cancel_of, connected_at, handed_in_at, HasStarted, GoesOn};
+
+/// Does nothing. Its contract: where submission n has started and is open after a history, its cancel there changes
+/// nothing of what comes later but n's own outcome. All other submissions have the same outcomes; the turns show the same
+/// starts, offers, waits and closes in the same order; each item goes to the same message; and the same events are bad.
+pub fn a_cancel_changes_one_outcome()
+    ensures good { (config : Config) (word draw n : ℕ) (before : List Event) → HasStarted n (state_after config word before).connection → is_bad_after config word before (cancel_of draw n) ≡ false }
+    ensures outcomes { (config : Config) (word draw n m : ℕ) (before after : List Event) → HasStarted n (state_after config word before).connection → m ≢ n → outcome_at (outcomes_after config word (before ++ after)) m ≡ outcome_at (outcomes_after config word (before ++ cancel_of draw n ∷ after)) m }
+    ensures turns { (config : Config) (word draw n : ℕ) (before after : List Event) → HasStarted n (state_after config word before).connection → GoesOn config word n before (cancel_of draw n) after }
+    ensures items { (config : Config) (word draw n : ℕ) (before after : List Event) → HasStarted n (state_after config word before).connection → hushed_link n (state_after config word (before ++ after)).connection.link ≡ hushed_link n (state_after config word (before ++ cancel_of draw n ∷ after)).connection.link }
+    ensures bad { (config : Config) (word draw n : ℕ) (before after : List Event) (e : Event) → HasStarted n (state_after config word before).connection → is_bad_after config word (before ++ after) e ≡ is_bad_after config word (before ++ cancel_of draw n ∷ after) e }
+{}
+
+/// Does nothing. Its contract: such submissions exist. A command that is handed in after the link's connect has started.
+pub fn a_command_on_a_link_that_is_up_has_started()
+    ensures { (config : Config) (word draw later : ℕ) (name : List ℕ) (args : List (List ℕ)) → HasStarted 0 (state_after config word (connected_at draw ∷ handed_in_at later (name ∷ args) ∷ [])).connection }
+{}
