@@ -137,6 +137,7 @@ impl LinkCore {
         ensures ok { OnOk result (record { link = self.new; out = out.new.items } ≡ started_all (record { link = self.old; out = out.old.items })) }
         ensures err { OnErr result (out.new.items ≡ out.old.items) }
         ensures spent { IsErrOf result StartError.Spent → is_spent (started_all (record { link = self.old; out = out.old.items })).link ≡ true }
+        ensures unspent { OnOk result (is_spent self.new ≡ false) }
         ensures no_memory { OnErr result (self.new.failed ≡ true) }
         ensures failed { self.old.failed ≡ true → IsErrOf result StartError.NoMemory }
     {
