@@ -46,12 +46,14 @@ stop_line (Spent number) = numbered_line (codes "spent event") number
 stop_line NoMemory = []
 stop_line WriteFault = []
 
--- how all that a replay writes reads: whole turns, and the line of a first bad event, or of the first spent step
+-- a text of whole turns, and of the line of such a first event
 pub record EndsWith (First : ℕ → Type 0) (turns : ℕ → List ℕ) (words text : List ℕ) : Type 0 where
   pub index : ℕ
   pub first : First index
   pub is : text ≡ turns index ++ event_line words index
 
+-- how all that a replay writes may read: whole turns, and behind them the line of the first bad event, or of the first
+-- spent step, or none
 abbrev pub IsReplayText : Config → ℕ → List Event → List ℕ → Type 0
 IsReplayText config word events text =
     AreTurns config word events text
@@ -65,9 +67,11 @@ pub record EndsAt (First : ℕ → Type 0) (turns : ℕ → List ℕ) (number : 
   pub first : First index
   pub sent : Sent old new rest (turns index)
 
+-- of the first bad event
 abbrev pub EndsBadly : Config → ℕ → List Event → ℕ → Option (List ℕ) → Option (List ℕ) → List ℕ → Type 0
 EndsBadly config word events = EndsAt (IsFirstBad config word events) (turns_before config word events)
 
+-- of the first spent step
 abbrev pub EndsSpent : Config → ℕ → List Event → ℕ → Option (List ℕ) → Option (List ℕ) → List ℕ → Type 0
 EndsSpent config word events = EndsAt (IsFirstSpent config word events) (turns_before config word events)
 
@@ -77,9 +81,11 @@ pub record ToldAt (First : ℕ → Type 0) (turns : ℕ → List ℕ) (words : L
   pub first : First index
   pub gained : Gained old new (turns index ++ event_line words index)
 
+-- the first bad event
 abbrev pub IsToldBad : Config → ℕ → List Event → Option (List ℕ) → Option (List ℕ) → Type 0
 IsToldBad config word events = ToldAt (IsFirstBad config word events) (turns_before config word events) (codes "bad event")
 
+-- the first spent step
 abbrev pub IsToldSpent : Config → ℕ → List Event → Option (List ℕ) → Option (List ℕ) → Type 0
 IsToldSpent config word events = ToldAt (IsFirstSpent config word events) (turns_before config word events) (codes "spent event")
 

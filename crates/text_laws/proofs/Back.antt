@@ -1,0 +1,105 @@
+-- The configuration, the word and the events are read back from the words of their causes.
+use Rattle.std.proofs.Common.{◌≡◌, ◌≢◌, ℕ, ◌<◌, ◌^◌, ◌==◌, List, [], ◌∷◌, ◌++◌, All, Some, None, map, drop, option_map, option_and_then, decimal, refl, sym, ap, ◌∙◌, if◌then◌else◌, arith}
+use Rattle.std.proofs.lemmas.List.Elements.{All-head, All-tail}
+use Rattle.driver_model.specs.declared.action.Cause.TheVariants as cause
+use Rattle.driver_model.specs.declared.config.Config.{Config}
+use Rattle.driver_model.specs.declared.event.Event.{Event}
+use Rattle.driver_model.specs.declared.event.EventKind.{EventKind}
+use Rattle.driver_model.specs.declared.event.EventKind.TheVariants as event
+use Rattle.driver_model.specs.declared.event.Submission.TheVariants as submission
+use Rattle.script_text.specs.Numbers.{number, max_u16, max_u32, max_u64}
+use Rattle.script_text.specs.EventLine.{event_of}
+use Rattle.script_text.specs.Words.{all_of}
+use Rattle.trace_model.specs.Legal.{event_causes}
+use Rattle.trace_text.specs.Show.{url, draw_words, config_words, event_words, cause_words}
+use Rattle.session_laws.proofs.Tests.{chosen, eq_from, eq_test, ne_test}
+use Rattle.text_laws.specs.Fits.{FitsKind, FitsEvent, FitsConfig, FitsHistory}
+use Rattle.text_laws.specs.History.{drawn, onto_cut, cut_at_last, config_from, config_in, opening_in, drawing, event_in, script_with, history_in}
+use Rattle.text_laws.proofs.Bytes.{number_back, decimal_no_colon}
+
+small_number : (n : ℕ) → n < 2 ^ 32 → number max_u32 (decimal n) ≡ Some n
+small_number n fits = number_back max_u32 n (omega arith) (omega arith)
+
+long_number : (n : ℕ) → n < 2 ^ 64 → number max_u64 (decimal n) ≡ Some n
+long_number n fits = number_back max_u64 n (omega arith) fits
+
+undrawn : EventKind → Event
+undrawn kind = record { word = 0; kind = kind }
+
+-- an event's own words
+kind_back : (kind : EventKind) → FitsKind kind → event_of (event_words kind) ≡ Some (record { word = 0; kind = kind })
+unfolding event_of undrawn
+kind_back (event.Submit (submission.Cmd args)) fits = refl
+kind_back (event.Cancel s) fits = ap (λ o. option_map undrawn (option_map event.Cancel o)) (small_number s fits)
+kind_back (event.Connected link) fits = ap (λ o. option_map undrawn (option_map event.Connected o)) (small_number link fits)
+kind_back (event.Wrote link count) fits =
+    ap (λ o. option_map undrawn (option_and_then (λ l. option_map (event.Wrote l) (number max_u64 (decimal count))) o)) (small_number link fits.0)
+    ∙ ap (λ o. option_map undrawn (option_map (event.Wrote link) o)) (long_number count fits.1)
+kind_back (event.Bytes link piece) fits = ap (λ o. option_map undrawn (option_map (λ l. event.Bytes l piece) o)) (small_number link fits.0)
+kind_back (event.Ended link) fits = ap (λ o. option_map undrawn (option_map event.Ended o)) (small_number link fits)
+kind_back event.Shutdown fits = refl
+
+-- words that begin with no draw
+abbrev IsUndrawn : List (List ℕ) → Type 0
+IsUndrawn words = drawn words ≡ Some (0, words)
+
+kind_undrawn : (kind : EventKind) → IsUndrawn (event_words kind)
+kind_undrawn (event.Submit s) = refl
+kind_undrawn (event.Cancel s) = refl
+kind_undrawn (event.Connected link) = refl
+kind_undrawn (event.Wrote link count) = refl
+kind_undrawn (event.Bytes link piece) = refl
+kind_undrawn (event.Ended link) = refl
+kind_undrawn event.Shutdown = refl
+
+-- a draw before them
+drawn_back : (w : ℕ) (words : List (List ℕ)) → w < 2 ^ 64 → IsUndrawn words → drawn (draw_words w ++ words) ≡ Some (w, words)
+drawn_back w words small none =
+    chosen (λ front. drawn (front ++ words) ≡ Some (w, words)) (w == 0) [] ((64 ∷ decimal w) ∷ [])
+    (λ t. none ∙ ap (λ n. Some (n, words)) (sym (eq_from w 0 t)))
+    (λ f. ap (option_map (λ n. (n, words))) (long_number w small))
+
+event_back : (e : Event) → FitsEvent e → event_in (cause_words (cause.Event e)) ≡ Some e
+event_back e fits =
+    ap (option_and_then (λ d. option_map (drawing d.0) (event_of d.1))) (drawn_back e.word (event_words e.kind) fits.word (kind_undrawn e.kind))
+    ∙ ap (option_map (drawing e.word)) (kind_back e.kind fits.kind)
+
+-- the last of the bytes b is found
+last_cut : (b : ℕ) (front rest : List ℕ) → cut_at_last b rest ≡ None → cut_at_last b (front ++ b ∷ rest) ≡ Some (front, rest)
+last_cut b [] rest none = ap (onto_cut b b rest) none ∙ ap (λ t. if t then Some ([], rest) else None) (eq_test b)
+last_cut b (x ∷ front) rest none = ap (onto_cut b x (front ++ b ∷ rest)) (last_cut b front rest none)
+
+no_cut : (b : ℕ) (xs : List ℕ) → All (λ x. x ≢ b) xs → cut_at_last b xs ≡ None
+no_cut b [] none = refl
+no_cut b (x ∷ xs) none =
+    ap (onto_cut b x xs) (no_cut b xs (All-tail (λ y. y ≢ b) x xs none)) ∙ ap (λ t. if t then Some ([], xs) else None) (ne_test x b (All-head (λ y. y ≢ b) x xs none))
+
+address_back : (config : Config) → FitsConfig config → option_and_then config_from (cut_at_last 58 (drop 12 (url config))) ≡ Some config
+unfolding url
+address_back config fits =
+    ap (option_and_then config_from) (last_cut 58 config.host (decimal config.port) (no_cut 58 (decimal config.port) (decimal_no_colon config.port)))
+    ∙ ap (option_map (λ port. record { host = config.host; port = port })) (number_back max_u16 config.port (omega (arith, fits.port)) (omega (arith, fits.port)))
+
+config_back : (config : Config) → FitsConfig config → config_in (config_words config) ≡ Some config
+config_back config fits = address_back config fits
+
+config_undrawn : (config : Config) → IsUndrawn (config_words config)
+config_undrawn config = refl
+
+opening_back : (config : Config) (word : ℕ) → FitsConfig config → word < 2 ^ 64 → opening_in (cause_words (cause.Opening config word)) ≡ Some (config, word)
+opening_back config word fits small =
+    ap (option_and_then (λ d. option_map (λ c. (c, d.0)) (config_in d.1))) (drawn_back word (config_words config) small (config_undrawn config))
+    ∙ ap (option_map (λ c. (c, word))) (config_back config fits)
+
+events_back : (events : List Event) → All FitsEvent events → all_of (map event_in (map cause_words (event_causes events))) ≡ Some events
+events_back [] fits = refl
+events_back (e ∷ es) fits =
+    ap (λ o. all_of (o ∷ map event_in (map cause_words (event_causes es)))) (event_back e (All-head FitsEvent e es fits))
+    ∙ ap (option_map (λ xs. e ∷ xs)) (events_back es (All-tail FitsEvent e es fits))
+
+-- a history is read back from what the text says of its causes
+pub causes_back : (config : Config) (word : ℕ) (events : List Event) → FitsHistory config word events
+    → history_in (map cause_words (cause.Opening config word ∷ event_causes events)) ≡ Some (record { config = config; word = word; events = events })
+causes_back config word events fits =
+    ap (option_and_then (λ opening. option_map (script_with opening) (all_of (map event_in (map cause_words (event_causes events)))))) (opening_back config word fits.config fits.word)
+    ∙ ap (option_map (script_with (config, word))) (events_back events fits.events)

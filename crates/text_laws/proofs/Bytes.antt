@@ -1,0 +1,125 @@
+-- The words of a cause are bytes, and its numbers are read back.
+use Rattle.std.proofs.Common.{◌≡◌, ◌≢◌, ℕ, zero, suc, ◌+◌, ◌/◌, ◌%◌, ◌^◌, ◌<◌, ◌≤◌, true, false, not, ◌&&◌, ◌||◌, ◌==◌, nat_lt, nat_le, List, [], ◌∷◌, length, get_or, All, Some, None, codes, decimal, refl, ap, ◌∙◌, if◌then◌else◌, arith}
+use Rattle.std.specs.Fmt.{digits, digits_onto, digit_glyph}
+use Rattle.std.specs.List.{list_all}
+use Rattle.std.specs.Str.{all_ascii_digits}
+use Rattle.std.specs.Str.Parse.{digits_value}
+use Rattle.std.proofs.lemmas.Bool.{and_parts}
+use Rattle.std.proofs.lemmas.Bool.Decides.{nat_tests}
+use Rattle.std.proofs.lemmas.Fmt.{decimal_nonempty, first_decimal, digits_decimal, digits_value-decimal}
+use Rattle.std.proofs.lemmas.Str.Parse.{numerals_by_value, tells_all_ascii_digits}
+use Rattle.std.proofs.lemmas.List.Elements.{All-nil, All-cons, All-append, All-weaker}
+use Rattle.driver_model.specs.declared.action.Cause.{Cause}
+use Rattle.driver_model.specs.declared.action.Cause.TheVariants.{Opening, Event}
+use Rattle.driver_model.specs.declared.config.Config.{Config}
+use Rattle.driver_model.specs.declared.event.EventKind.{EventKind}
+use Rattle.driver_model.specs.declared.event.EventKind.TheVariants as event
+use Rattle.driver_model.specs.declared.event.Submission.TheVariants as submission
+use Rattle.script_text.specs.Numbers.{is_decimal, number}
+use Rattle.trace_text.specs.Show.{address, url, bare_words, draw_words, config_words, event_words, cause_words}
+use Rattle.session_laws.proofs.Tests.{chosen, lt_from, not_lt_from, le_test}
+use Rattle.text_laws.specs.Fits.{IsByte, AreBytes, FitsKind, FitsEvent, FitsConfig}
+
+-- a text whose bytes were looked at one by one
+pub looked : (bs : List ℕ) → list_all (λ b. nat_lt b 256) bs ≡ true → AreBytes bs
+looked [] e = All-nil IsByte
+looked (b ∷ bs) e = let here = and_parts (nat_lt b 256) (list_all (λ x. nat_lt x 256) bs) e in All-cons IsByte b bs (lt_from b 256 here.0) (looked bs here.1)
+
+-- a digit of a decimal number
+abbrev IsDigit : ℕ → Type 0
+IsDigit b = (48 ≤ b) × (b ≤ 57)
+
+glyph_is_digit : (n : ℕ) → IsDigit (digit_glyph false (n % 10))
+glyph_is_digit n = chosen IsDigit (nat_lt (n % 10) 10) (48 + n % 10) (87 + n % 10) (λ t. (omega arith, omega arith)) (λ f. let great = not_lt_from (n % 10) 10 f in absurd (omega arith))
+
+onto_digits : (k n : ℕ) (acc : List ℕ) → All IsDigit acc → All IsDigit (digits_onto k 10 false n acc)
+onto_digits zero n acc before = before
+onto_digits (suc k) n acc before =
+    let more = All-cons IsDigit (digit_glyph false (n % 10)) acc (glyph_is_digit n) before in
+    chosen (All IsDigit) (n / 10 == 0) (digit_glyph false (n % 10) ∷ acc) (digits_onto k 10 false (n / 10) (digit_glyph false (n % 10) ∷ acc))
+    (λ t. more) (λ f. onto_digits k (n / 10) (digit_glyph false (n % 10) ∷ acc) more)
+
+-- what is written of a number, however great
+decimal_digits : (n : ℕ) → All IsDigit (decimal n)
+unfolding digits
+decimal_digits n = onto_digits 64 n [] (All-nil IsDigit)
+
+pub decimal_bytes : (n : ℕ) → AreBytes (decimal n)
+decimal_bytes n = All-weaker IsDigit IsByte (λ b d. omega (arith, d.1)) (decimal n) (decimal_digits n)
+
+pub decimal_no_colon : (n : ℕ) → All (λ b. b ≢ 58) (decimal n)
+decimal_no_colon n = All-weaker IsDigit (λ b. b ≢ 58) (λ b d e. omega (arith, d.1, e)) (decimal n) (decimal_digits n)
+
+-- a number is read back
+decimal_by : (ds : List ℕ) → 0 < length ds → all_ascii_digits ds ≡ true → 48 < get_or ds 0 0 → is_decimal ds ≡ true
+decimal_by [] some digits lead = absurd (omega arith)
+decimal_by (d ∷ ds) some digits lead = ap (λ b. b && (not (d == 48) || length ds == 0)) digits ∙ other
+  where
+    other : (not (d == 48) || length ds == 0) ≡ true
+    other = grind (arith, nat_tests, lead)
+
+all_digits : (n : ℕ) → n < 2 ^ 64 → all_ascii_digits (decimal n) ≡ true
+all_digits n small = digits_decimal (numerals_by_value (λ ds. all_ascii_digits ds ≡ true) tells_all_ascii_digits) n small
+
+zero_decimal : is_decimal (decimal 0) ≡ true
+unfolding digits
+zero_decimal = refl
+
+is_decimal_decimal : (n : ℕ) → n < 2 ^ 64 → is_decimal (decimal n) ≡ true
+is_decimal_decimal zero small = zero_decimal
+is_decimal_decimal (suc n) small = decimal_by (decimal (suc n)) (decimal_nonempty (suc n) small) (all_digits (suc n) small) (first_decimal (suc n) (omega arith) small)
+
+pub number_back : (most n : ℕ) → n ≤ most → n < 2 ^ 64 → number most (decimal n) ≡ Some n
+number_back most n fits small =
+    let value : digits_value 10 (decimal n) ≡ n = digits_value-decimal (numerals_by_value (λ ds. all_ascii_digits ds ≡ true) tells_all_ascii_digits) n small in
+    ap (λ (m : ℕ). if is_decimal (decimal n) && nat_le m most then Some m else None) value
+    ∙ ap (λ b. if b && nat_le n most then Some n else None) (is_decimal_decimal n small) ∙ ap (λ b. if b then Some n else None) (le_test n most fits)
+
+-- the words
+pub word_and : (word : List ℕ) (words : List (List ℕ)) → AreBytes word → All AreBytes words → All AreBytes (word ∷ words)
+word_and word words = All-cons AreBytes word words
+
+pub no_words : All AreBytes []
+no_words = All-nil AreBytes
+
+one_number : (word : List ℕ) (n : ℕ) → AreBytes word → All AreBytes (word ∷ decimal n ∷ [])
+one_number word n small = word_and word (decimal n ∷ []) small (word_and (decimal n) [] (decimal_bytes n) no_words)
+
+kind_bytes : (kind : EventKind) → FitsKind kind → All AreBytes (event_words kind)
+kind_bytes (event.Submit (submission.Cmd args)) fits = word_and (codes "submit") (codes "cmd" ∷ args) (looked (codes "submit") refl) (word_and (codes "cmd") args (looked (codes "cmd") refl) fits)
+kind_bytes (event.Cancel s) fits = one_number (codes "cancel") s (looked (codes "cancel") refl)
+kind_bytes (event.Connected link) fits = one_number (codes "connected") link (looked (codes "connected") refl)
+kind_bytes (event.Wrote link count) fits =
+    word_and (codes "wrote") (decimal link ∷ decimal count ∷ []) (looked (codes "wrote") refl) (one_number (decimal link) count (decimal_bytes link))
+kind_bytes (event.Bytes link piece) fits =
+    word_and (codes "bytes") (decimal link ∷ piece ∷ []) (looked (codes "bytes") refl) (word_and (decimal link) (piece ∷ []) (decimal_bytes link) (word_and piece [] fits.1 no_words))
+kind_bytes (event.Ended link) fits = one_number (codes "ended") link (looked (codes "ended") refl)
+kind_bytes event.Shutdown fits = word_and (codes "shutdown") [] (looked (codes "shutdown") refl) no_words
+
+draw_bytes : (w : ℕ) → All AreBytes (draw_words w)
+draw_bytes w = chosen (All AreBytes) (w == 0) [] ((64 ∷ decimal w) ∷ []) (λ t. no_words) (λ f. word_and (64 ∷ decimal w) [] (All-cons IsByte 64 (decimal w) (omega arith) (decimal_bytes w)) no_words)
+
+url_bytes : (config : Config) → FitsConfig config → AreBytes (url config)
+unfolding url
+url_bytes config fits =
+    All-append IsByte (codes "url=redis://") (address config.host config.port) (looked (codes "url=redis://") refl)
+    (All-append IsByte config.host (58 ∷ decimal config.port) fits.host (All-cons IsByte 58 (decimal config.port) (omega arith) (decimal_bytes config.port)))
+
+bare_bytes : All AreBytes bare_words
+bare_bytes =
+    word_and (codes "connect=none") (codes "response=none" ∷ codes "lib=off" ∷ []) (looked (codes "connect=none") refl)
+    (word_and (codes "response=none") (codes "lib=off" ∷ []) (looked (codes "response=none") refl) (word_and (codes "lib=off") [] (looked (codes "lib=off") refl) no_words))
+
+config_bytes : (config : Config) → FitsConfig config → All AreBytes (config_words config)
+config_bytes config fits =
+    word_and (codes "config") (codes "single" ∷ url config ∷ bare_words) (looked (codes "config") refl)
+    (word_and (codes "single") (url config ∷ bare_words) (looked (codes "single") refl) (word_and (url config) bare_words (url_bytes config fits) bare_bytes))
+
+-- a cause that its type holds
+abbrev pub FitsCause : Cause → Type 0
+FitsCause (Opening config word) = FitsConfig config × (word < 2 ^ 64)
+FitsCause (Event e) = FitsEvent e
+
+pub cause_bytes : (c : Cause) → FitsCause c → All AreBytes (cause_words c)
+cause_bytes (Opening config word) fits = All-append AreBytes (draw_words word) (config_words config) (draw_bytes word) (config_bytes config fits.0)
+cause_bytes (Event e) fits = All-append AreBytes (draw_words e.word) (event_words e.kind) (draw_bytes e.word) (kind_bytes e.kind fits.kind)

@@ -1,0 +1,11 @@
+pub mod Back
+pub mod Bytes
+pub mod Escapes
+pub mod Held
+pub mod Lines
+pub mod OneTrace
+pub mod ScriptConfigs
+pub mod ScriptEvents
+pub mod Scripts
+pub mod Traces
+pub mod Turns

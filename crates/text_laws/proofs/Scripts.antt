@@ -1,0 +1,107 @@
+-- The history that a script is has nothing but what its types hold.
+use Rattle.std.proofs.Common.{◌≡◌, ℕ, ◌+◌, ◌-◌, ◌<◌, ◌^◌, Bool, ◌&&◌, ◌||◌, ◌==◌, bytes_eq, codes, nat_le, nat_lt, List, [], ◌∷◌, length, All, Some, None, Option, IfSome, IfOk, Ok, Err, Result, map, option_and_then, if◌then◌else◌, arith}
+use Rattle.std.specs.List.{onto_first}
+use Rattle.std.specs.Result.{result_map_both}
+use Rattle.std.proofs.lemmas.List.Elements.{All-nil, All-cons, All-head, All-tail, All-map, All-weaker}
+use Rattle.std.proofs.lemmas.Result.{IfOk-at_ok}
+use Rattle.percent_encoding.specs.Percent.{percent_decode}
+use Rattle.percent_encoding.proofs.PercentLemmas.{All-percent_decode}
+use Rattle.driver_model.specs.declared.config.Config.{Config}
+use Rattle.driver_model.specs.declared.event.Event.{Event}
+use Rattle.script_text.specs.declared.script.Script.{Script}
+use Rattle.script_text.specs.Words.{parts, is_well_escaped, unescaped, words_of_line}
+use Rattle.script_text.specs.EventLine.{event_of}
+use Rattle.script_text.specs.ConfigLine.{config_of}
+use Rattle.script_text.specs.Script.{max_lines, max_line, max_text, line_at, words_at, is_end, is_nothing, event_then, line_then, events_from, config_then, script_from, script_of}
+use Rattle.session_laws.proofs.Tests.{chosen}
+use Rattle.text_laws.specs.Fits.{IsByte, AreBytes, FitsConfig, FitsEvent, FitsHistory}
+use Rattle.text_laws.proofs.Held.{then_read, if_read, all_read}
+use Rattle.text_laws.proofs.ScriptEvents.{event_fits}
+use Rattle.text_laws.proofs.ScriptConfigs.{config_fits}
+
+abbrev AllBytes : List (List ℕ) → Type 0
+AllBytes = All AreBytes
+
+onto_bytes : (x : ℕ) (ps : List (List ℕ)) → x < 2 ^ 8 → AllBytes ps → AllBytes (onto_first x ps)
+onto_bytes x [] small each = All-cons AreBytes (x ∷ []) [] (All-cons IsByte x [] small (All-nil IsByte)) (All-nil AreBytes)
+onto_bytes x (p ∷ ps) small each = All-cons AreBytes (x ∷ p) ps (All-cons IsByte x p small (All-head AreBytes p ps each)) (All-tail AreBytes p ps each)
+
+-- the parts of bytes
+parts_bytes : (b : ℕ) (text : List ℕ) → AreBytes text → AllBytes (parts b text)
+parts_bytes b [] small = All-cons AreBytes [] [] (All-nil IsByte) (All-nil AreBytes)
+parts_bytes b (x ∷ xs) small =
+    let rest = parts_bytes b xs (All-tail IsByte x xs small) in
+    chosen AllBytes (x == b) ([] ∷ parts b xs) (onto_first x (parts b xs)) (λ t. All-cons AreBytes [] (parts b xs) (All-nil IsByte) rest) (λ f. onto_bytes x (parts b xs) (All-head IsByte x xs small) rest)
+
+-- the words of a line of bytes
+word_bytes : (raw : List ℕ) → AreBytes raw → IfSome (unescaped raw) AreBytes
+unfolding unescaped
+word_bytes raw small =
+    let decoded = if is_well_escaped raw then Some (percent_decode raw) else None in
+    let read = if bytes_eq raw (codes "%-") then Some [] else decoded in
+    chosen (λ o. IfSome o AreBytes) (bytes_eq raw [] || bytes_eq raw (codes ";")) None read (λ t. tt)
+    (λ f. chosen (λ o. IfSome o AreBytes) (bytes_eq raw (codes "%-")) (Some []) decoded (λ t. All-nil IsByte) (λ g. if_read AreBytes (is_well_escaped raw) (Some (percent_decode raw)) (λ t. All-percent_decode raw small)))
+
+line_words : (line : List ℕ) → AreBytes line → IfSome (words_of_line line) AllBytes
+unfolding words_of_line
+line_words line small =
+    all_read AreBytes (map unescaped (parts 32 line)) (All-map (λ o. IfSome o AreBytes) unescaped (parts 32 line) (All-weaker AreBytes (λ raw. IfSome (unescaped raw) AreBytes) word_bytes (parts 32 line) (parts_bytes 32 line small)))
+
+line_bytes : (number room : ℕ) (lines : List (List ℕ)) → AllBytes lines → IfSome (line_at number room lines) AreBytes
+line_bytes number room [] each = tt
+line_bytes number room (last ∷ []) each = tt
+line_bytes number room (line ∷ next ∷ rest) each =
+    if_read AreBytes (nat_le number max_lines && nat_le (length line) max_line && nat_lt (length line) room) (Some line) (λ t. All-head AreBytes line (next ∷ rest) each)
+
+words_bytes : (number room : ℕ) (lines : List (List ℕ)) → AllBytes lines → IfSome (words_at number room lines) AllBytes
+words_bytes number room lines each = then_read AreBytes AllBytes words_of_line line_words (line_at number room lines) (line_bytes number room lines each)
+
+abbrev AllFit : List Event → Type 0
+AllFit = All FitsEvent
+
+-- the events of lines
+event_before : (e : Event) → FitsEvent e → (rest : Result (List Event) ℕ) → IfOk rest AllFit → IfOk (result_map_both (λ es. e ∷ es) (λ n. n) rest) AllFit
+event_before e fits (Ok es) each = All-cons FitsEvent e es fits each
+event_before e fits (Err n) each = tt
+
+event_then_fits : (number : ℕ) (o : Option Event) → IfSome o FitsEvent → (rest : Result (List Event) ℕ) → IfOk rest AllFit → IfOk (event_then number o rest) AllFit
+event_then_fits number None fits rest each = tt
+event_then_fits number (Some e) fits rest each = event_before e fits rest each
+
+line_then_fits : (number : ℕ) (o : Option (List (List ℕ))) → IfSome o AllBytes → (nothing_behind : Bool) (rest : Result (List Event) ℕ) → IfOk rest AllFit → IfOk (line_then number o nothing_behind rest) AllFit
+line_then_fits number None small nothing_behind rest each = tt
+line_then_fits number (Some words) small nothing_behind rest each =
+    chosen (λ r. IfOk r AllFit) (is_end words) (if nothing_behind then Ok [] else Err (number + 1)) (event_then number (event_of words) rest)
+    (λ t. chosen (λ r. IfOk r AllFit) nothing_behind (Ok []) (Err (number + 1)) (λ u. All-nil FitsEvent) (λ f. tt))
+    (λ f. event_then_fits number (event_of words) (event_fits words small) rest each)
+
+events_fit : (number room : ℕ) (lines : List (List ℕ)) → AllBytes lines → IfOk (events_from number room lines) AllFit
+events_fit number room [] each = tt
+events_fit number room (line ∷ rest) each =
+    line_then_fits number (words_at number room (line ∷ rest)) (words_bytes number room (line ∷ rest) each) (is_nothing rest)
+    (events_from (number + 1) (room - (length line + 1)) rest) (events_fit (number + 1) (room - (length line + 1)) rest (All-tail AreBytes line rest each))
+
+abbrev FitsScript : Script → Type 0
+FitsScript s = FitsHistory s.config s.word s.events
+
+with_config : (config : Config) → FitsConfig config → (rest : Result (List Event) ℕ) → IfOk rest AllFit → IfOk (config_then (Some config) rest) FitsScript
+with_config config fits (Ok es) each = record { config = fits; word = omega arith; events = each }
+with_config config fits (Err n) each = tt
+
+config_then_fits : (o : Option Config) → IfSome o FitsConfig → (rest : Result (List Event) ℕ) → IfOk rest AllFit → IfOk (config_then o rest) FitsScript
+config_then_fits None fits rest each = tt
+config_then_fits (Some config) fits rest each = with_config config fits rest each
+
+lines_fit : (lines : List (List ℕ)) → AllBytes lines → IfOk (script_from lines) FitsScript
+lines_fit [] each = tt
+lines_fit (first ∷ rest) each =
+    config_then_fits (option_and_then config_of (words_at 1 max_text (first ∷ rest)))
+    (then_read AllBytes FitsConfig config_of config_fits (words_at 1 max_text (first ∷ rest)) (words_bytes 1 max_text (first ∷ rest) each))
+    (events_from 2 (max_text - (length first + 1)) rest) (events_fit 2 (max_text - (length first + 1)) rest (All-tail AreBytes first rest each))
+
+text_fits : (text : List ℕ) → AreBytes text → IfOk (script_of text) FitsScript
+unfolding script_of
+text_fits text small = lines_fit (parts 10 text) (parts_bytes 10 text small)
+
+pub script_fits : (text : List ℕ) (s : Script) → AreBytes text → script_of text ≡ Ok s → FitsHistory s.config s.word s.events
+script_fits text s small reads = IfOk-at_ok FitsScript reads (text_fits text small)

@@ -1,0 +1,46 @@
+-- What the types of a history hold: each number is in the range of its type, and each byte is one.
+use Rattle.std.specs.Prelude.{ℕ, ◌^◌, ◌<◌, List, All}
+use Rattle.driver_model.specs.declared.config.Config.{Config}
+use Rattle.driver_model.specs.declared.event.Event.{Event}
+use Rattle.driver_model.specs.declared.event.EventKind.{EventKind}
+use Rattle.driver_model.specs.declared.event.EventKind.TheVariants as event
+use Rattle.driver_model.specs.declared.event.Submission.{Submission}
+use Rattle.driver_model.specs.declared.event.Submission.TheVariants as submission
+
+-- a byte
+abbrev pub IsByte : ℕ → Type 0
+IsByte b = b < 2 ^ 8
+
+-- each of them is a byte
+abbrev pub AreBytes : List ℕ → Type 0
+AreBytes bytes = All IsByte bytes
+
+-- a submission that its type holds
+abbrev pub FitsSubmission : Submission → Type 0
+FitsSubmission (submission.Cmd args) = All AreBytes args
+
+-- a kind of event that its type holds
+abbrev pub FitsKind : EventKind → Type 0
+FitsKind (event.Submit s) = FitsSubmission s
+FitsKind (event.Cancel s) = s < 2 ^ 32
+FitsKind (event.Connected link) = link < 2 ^ 32
+FitsKind (event.Wrote link count) = (link < 2 ^ 32) × (count < 2 ^ 64)
+FitsKind (event.Bytes link piece) = (link < 2 ^ 32) × AreBytes piece
+FitsKind (event.Ended link) = link < 2 ^ 32
+FitsKind event.Shutdown = Unit {0}
+
+-- an event that its type holds
+pub record FitsEvent (e : Event) : Type 0 where
+  pub word : e.word < 2 ^ 64
+  pub kind : FitsKind e.kind
+
+-- a configuration that its type holds
+pub record FitsConfig (config : Config) : Type 0 where
+  pub host : AreBytes config.host
+  pub port : config.port < 2 ^ 16
+
+-- a history that the types hold
+pub record FitsHistory (c : Config) (w : ℕ) (es : List Event) : Type 0 where
+  pub config : FitsConfig c
+  pub word : w < 2 ^ 64
+  pub events : All FitsEvent es
