@@ -10,7 +10,10 @@ use Rattle.session_laws.proofs.Legality.{legal}
 use Rattle.trace_laws.specs.Answers.{AnswersOnce, AnswersAll}
 use Rattle.trace_laws.proofs.Outcomes.{at_most_one}
 use Rattle.trace_laws.proofs.Shutdown.{exactly_one}
-use Rattle.session_tool.specs.Headline.{OfTrace, IsInOrder, IsInPlace, IsLegal}
+use Rattle.text_laws.specs.Fits.{AreBytes}
+use Rattle.text_laws.proofs.OneTrace.{same_trace}
+use Rattle.text_laws.proofs.Scripts.{script_fits}
+use Rattle.session_tool.specs.Headline.{OfTrace, HasOwnText, IsInOrder, IsInPlace, IsLegal}
 use Rattle.session_tool.specs.Reading.{Decides}
 
 pub legal_replay : {left rest : Option (List ℕ)} (kept : List ℕ) (script : Script) → Decides left rest kept → script_of kept ≡ Ok script → AreGood script.config script.word script.events
@@ -43,3 +46,12 @@ pub answers_all : {left rest : Option (List ℕ)} (kept : List ℕ) (script : Sc
 answers_all kept script decides reads good bytes told =
     let h = legal_replay kept script decides reads good bytes told in
     of_legal AnswersAll bytes h (exactly_one h.script.config h.script.word h.script.events (trace_of h.script.config h.script.word h.script.events))
+
+-- what is kept is bytes
+pub own_text : {left rest : Option (List ℕ)} (kept : List ℕ) (script : Script) → Decides left rest kept → script_of kept ≡ Ok script → AreBytes kept
+    → (bytes : List ℕ) → left ≡ Some bytes → OfTrace bytes HasOwnText
+own_text kept script decides reads small bytes told = record {
+  script = script;
+  reads = decides.same bytes told ∙ reads;
+  holds = λ config word events fits same. same_trace config script.config word script.word events script.events fits (script_fits kept script small reads) same;
+}

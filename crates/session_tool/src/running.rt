@@ -4,7 +4,7 @@ ghost use Rattle.script_text.specs.Script.{script_of};
 ghost use Rattle.shared_session.specs.Replay.{trace_of, AreGood, AreUnspent};
 ghost use Rattle.trace_model.specs.Legal.{IsSettled};
 ghost use Rattle.trace_text.specs.Show.{show};
-ghost use Rattle.session_tool.specs.Headline.{OfTrace, IsInOrder, IsInPlace, IsLegal};
+ghost use Rattle.session_tool.specs.Headline.{OfTrace, HasOwnText, IsInOrder, IsInPlace, IsLegal};
 ghost use Rattle.trace_laws.specs.Answers.{AnswersOnce, AnswersAll};
 ghost use Rattle.session_tool.specs.Lines.{is_status, help_line, numbered_line, read_fault_line, usage_line, version_line};
 ghost use Rattle.session_tool.specs.Runs.{IsReplay, IsRefusal, IsBadRun, IsSpentRun, IsWholeRun, IsCut, IsCutRun, IsSound, IsUnfailed};
@@ -21,6 +21,7 @@ use session_ends::{Sink, Source, World, write_all};
 use std::alloc::{AllocError, Global};
 use std::sync::Wait;
 use std::thread::Threads;
+use text_laws::a_slice_has_bytes;
 
 /// The status where memory was refused.
 pub const NO_MEMORY: u8 = 5;
@@ -131,7 +132,7 @@ fn replay_script<K: Sink>(alloc: Global, script: &Script, sink: &mut K) -> Resul
 }
 
 /// Reads a script to the source's end, and replays it.
-#[tactic(auto, using(crate::proofs::Outcomes::replayed, crate::proofs::Headlines::legal_replay, crate::proofs::Headlines::in_order, crate::proofs::Headlines::in_place, crate::proofs::Headlines::settled, crate::proofs::Headlines::answers_once, crate::proofs::Headlines::answers_all, crate::proofs::Outcomes::refused, crate::proofs::Outcomes::stopped, crate::proofs::Outcomes::spent, crate::proofs::Outcomes::whole, crate::proofs::Outcomes::nothing, crate::proofs::Outcomes::cut, crate::proofs::Outcomes::cut_refusal, crate::proofs::Outcomes::cut_fault))]
+#[tactic(auto, using(crate::proofs::Outcomes::replayed, crate::proofs::Headlines::legal_replay, crate::proofs::Headlines::in_order, crate::proofs::Headlines::in_place, crate::proofs::Headlines::settled, crate::proofs::Headlines::answers_once, crate::proofs::Headlines::answers_all, crate::proofs::Headlines::own_text, crate::proofs::Outcomes::refused, crate::proofs::Outcomes::stopped, crate::proofs::Outcomes::spent, crate::proofs::Outcomes::whole, crate::proofs::Outcomes::nothing, crate::proofs::Outcomes::cut, crate::proofs::Outcomes::cut_refusal, crate::proofs::Outcomes::cut_fault))]
 fn replay_source<S: Source, K: Sink>(alloc: Global, source: &mut S, sink: &mut K) -> u8
     ensures done { result ≡ 0 → (bytes : List ℕ) → S.left source.old ≡ Some bytes → IsReplay bytes (S.left source.new) (K.held sink.old) (K.held sink.new) }
     ensures legal { result ≡ 0 → (bytes : List ℕ) → S.left source.old ≡ Some bytes → IsLegal bytes }
@@ -140,6 +141,7 @@ fn replay_source<S: Source, K: Sink>(alloc: Global, source: &mut S, sink: &mut K
     ensures settled { result ≡ 0 → (bytes : List ℕ) → S.left source.old ≡ Some bytes → OfTrace bytes IsSettled }
     ensures answers_once { result ≡ 0 → (bytes : List ℕ) → S.left source.old ≡ Some bytes → OfTrace bytes AnswersOnce }
     ensures answers_all { result ≡ 0 → (bytes : List ℕ) → S.left source.old ≡ Some bytes → OfTrace bytes AnswersAll }
+    ensures one_trace { result ≡ 0 → (bytes : List ℕ) → S.left source.old ≡ Some bytes → OfTrace bytes HasOwnText }
     ensures words { result ≡ 1 → ⊥ }
     ensures script { result ≡ 2 → (bytes : List ℕ) → S.left source.old ≡ Some bytes → IsRefusal bytes (K.held sink.old) (K.held sink.new) }
     ensures bad { result ≡ 4 → (bytes : List ℕ) → S.left source.old ≡ Some bytes → IsBadRun bytes (K.held sink.old) (K.held sink.new) }
@@ -157,7 +159,9 @@ fn replay_source<S: Source, K: Sink>(alloc: Global, source: &mut S, sink: &mut K
         Err(ReadError::Fault) => return if write_all(sink, READ_FAULT) { 6 } else { 7 },
         Err(ReadError::NoMemory) => return NO_MEMORY,
     };
-    let script = match read_script(alloc, intake.text()) {
+    let text = intake.text();
+    a_slice_has_bytes(text);
+    let script = match read_script(alloc, text) {
         Ok(script) => script,
         Err(ScriptError::Line(line)) => {
             return match refuse_script(alloc, line, sink) {
@@ -193,6 +197,7 @@ pub fn run_alone<S: Source, K: Sink>(
     ensures settled { result ≡ 0 → command_of words.now ≡ Command.Replay → (bytes : List ℕ) → S.left source.old ≡ Some bytes → OfTrace bytes IsSettled }
     ensures answers_once { result ≡ 0 → command_of words.now ≡ Command.Replay → (bytes : List ℕ) → S.left source.old ≡ Some bytes → OfTrace bytes AnswersOnce }
     ensures answers_all { result ≡ 0 → command_of words.now ≡ Command.Replay → (bytes : List ℕ) → S.left source.old ≡ Some bytes → OfTrace bytes AnswersAll }
+    ensures one_trace { result ≡ 0 → command_of words.now ≡ Command.Replay → (bytes : List ℕ) → S.left source.old ≡ Some bytes → OfTrace bytes HasOwnText }
     ensures words { result ≡ 1 → command_of words.now ≡ Command.Unknown }
     ensures unknown { command_of words.now ≡ Command.Unknown → (result ≡ 1) ⊎ (result ≡ 7) }
     ensures usage { result ≡ 1 → Gained (K.held sink.old) (K.held sink.new) usage_line }
@@ -234,6 +239,7 @@ pub fn run<R: Threads + Wait + Sync, S: Source, K: Sink, W: World>(
     ensures settled { result ≡ 0 → command_of words.now ≡ Command.Replay → (bytes : List ℕ) → S.left source.old ≡ Some bytes → OfTrace bytes IsSettled }
     ensures answers_once { result ≡ 0 → command_of words.now ≡ Command.Replay → (bytes : List ℕ) → S.left source.old ≡ Some bytes → OfTrace bytes AnswersOnce }
     ensures answers_all { result ≡ 0 → command_of words.now ≡ Command.Replay → (bytes : List ℕ) → S.left source.old ≡ Some bytes → OfTrace bytes AnswersAll }
+    ensures one_trace { result ≡ 0 → command_of words.now ≡ Command.Replay → (bytes : List ℕ) → S.left source.old ≡ Some bytes → OfTrace bytes HasOwnText }
     ensures words { result ≡ 1 → command_of words.now ≡ Command.Unknown }
     ensures unknown { command_of words.now ≡ Command.Unknown → (result ≡ 1) ⊎ (result ≡ 7) }
     ensures usage { result ≡ 1 → Gained (K.held sink.old) (K.held sink.new) usage_line }

@@ -295,12 +295,7 @@ fn answer(
 
 /// A run over a source and a sink that never fail. The replay of a script without a bad event or a spent step ends well,
 /// or for want of memory.
-fn run_surely(
-    alloc: Global,
-    words: &[String],
-    source: &mut SureSource,
-    sink: &mut SureSink,
-) -> u8
+fn run_surely(alloc: Global, words: &[String], source: &mut SureSource, sink: &mut SureSink) -> u8
     ensures { command_of words.now ≡ Command.Replay → (bytes : List ℕ) → ⟦<SureSource as Source>⟧.left source.old ≡ Some bytes → IsSound bytes → (result ≡ 0) ⊎ (result ≡ 5) }
 {
     run_alone(alloc, words, source, sink)

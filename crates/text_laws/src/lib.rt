@@ -23,3 +23,8 @@ pub fn one_text_has_one_trace()
     ensures of_scripts { (a b : List ℕ) (s t : Script) → AreBytes a → AreBytes b → script_of a ≡ Ok s → script_of b ≡ Ok t → show (trace_of s.config s.word s.events) ≡ show (trace_of t.config t.word t.events) → trace_of s.config s.word s.events ≡ trace_of t.config t.word t.events }
     ensures one_script { (a b : List ℕ) (s t : Script) → AreBytes a → AreBytes b → script_of a ≡ Ok s → script_of b ≡ Ok t → show (trace_of s.config s.word s.events) ≡ show (trace_of t.config t.word t.events) → s ≡ t }
 {}
+
+/// Does nothing. Its contract: what a slice of bytes has are bytes.
+pub fn a_slice_has_bytes(slice: &[u8])
+    ensures { AreBytes slice.now }
+{}
