@@ -4,6 +4,7 @@ pub mod Links
 pub mod Kept
 pub mod Gone
 pub mod Bare
+pub mod Silent
 pub mod Rest
 pub mod Cancels
 pub mod Started
