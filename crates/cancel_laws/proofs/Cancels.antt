@@ -1,5 +1,5 @@
 -- Over whole histories, the cancel of a started request changes nothing but its own outcome.
-use Rattle.std.proofs.Common.{◌≡◌, ◌≢◌, ℕ, ◌+◌, ◌<◌, ◌==◌, nat_lt, nat_le, true, false, List, [], ◌∷◌, ◌++◌, length, Option, Some, None, slice_get, slice_set, refl, sym, ap, ◌∙◌, subst, append_assoc, arith, length-set}
+use Rattle.std.proofs.Common.{◌≡◌, ◌≢◌, ℕ, ◌+◌, ◌<◌, ◌==◌, nat_lt, nat_le, false, List, [], ◌∷◌, ◌++◌, length, Option, Some, None, slice_get, slice_set, refl, sym, ap, ◌∙◌, subst, append_assoc, arith, length-set}
 use Rattle.std.proofs.lemmas.Bool.Decides.{nat_tests}
 use Rattle.driver_model.specs.declared.action.Action.{Action}
 use Rattle.driver_model.specs.declared.action.Action.TheVariants as action
@@ -10,7 +10,8 @@ use Rattle.driver_model.specs.declared.event.Event.{Event}
 use Rattle.driver_model.specs.declared.event.EventKind.{EventKind}
 use Rattle.driver_model.specs.declared.event.EventKind.TheVariants as event
 use Rattle.driver_model.specs.declared.outcome.Outcome.{Outcome}
-use Rattle.link_core.specs.Link.{cancelled}
+use Rattle.link_core.specs.declared.message.Entry.{Entry}
+use Rattle.link_core.specs.Link.{LinkState, cancelled}
 use Rattle.shared_session.specs.declared.connection.Connection.{Connection}
 use Rattle.shared_session.specs.declared.connection.Done.{Done}
 use Rattle.shared_session.specs.declared.connection.Progress.TheVariants as progress
@@ -26,6 +27,8 @@ use Rattle.cancel_laws.proofs.Lists.{get_set_same, set_twice, set_apart, set_pus
 use Rattle.cancel_laws.proofs.Kept.{At, There, effect_kept, turn_kept, passes_kept}
 use Rattle.cancel_laws.proofs.Gone.{IsGone, gone_kept, gone_handed_in, none_from}
 use Rattle.cancel_laws.proofs.Bare.{bare, other_outcomes, but_for-append, but_for-more, own_left, bare_applied, bare_passes, bare_flushed}
+use Rattle.cancel_laws.proofs.Once.{silenced_once, row_once}
+use Rattle.cancel_laws.proofs.Hushed.{IsHushed, hushed_on}
 use Rattle.cancel_laws.proofs.Silent.{IsSilent, silent_shown, same_in_room, silent_outcome}
 use Rattle.cancel_laws.proofs.Rest.{IsReady, ready_on, opening_ready, cancel_turn}
 
@@ -155,11 +158,23 @@ cancel_erased c os draw n r h =
     erased_with n os (turn c (cancel_of draw n)).connection ∙ ap (outcomes_with (erased n os)) (cancelled_bare c os draw n r h)
     ∙ ap (λ (ds : List Done). put_each (with_room (erased n os) k) (other_outcomes n ds)) r.done ∙ no_more_room (erased n os) k count
 
+left_open : (c : Connection) (n : ℕ) → HasStarted n c → left c n ≡ record (at_progress c n progress.Cancelled) { link = cancelled c.link n }
+left_open c n h = taken_if (is_open_at c.requests n) _ c (ap (if_there is_open) h.placed)
+
+cancel_hushed : (c : Core) (os : List (Option Outcome)) (draw n : ℕ) → IsReady c os → HasStarted n c.connection → At (There (IsHushed n)) (quiet (turn c (cancel_of draw n))).connection
+cancel_hushed c os draw n r h =
+    let l = c.connection.link in
+    let is = ap (λ (x : Connection). x.link) (cancel_turn c draw n r.idle ∙ left_open (cancelling c draw n) n (record { placed = h.placed; gone = h.gone })) in
+    let once = silenced_once n l.row (row_once n c.connection.requests l (r.once n) h.placed) in
+    record {
+      gone = turn_gone n c (cancel_of draw n) (started_gone n c.connection h);
+      same = subst (λ (x : LinkState). hushed_link n x ≡ x) (sym is) (ap (λ (row : List Entry). record (cancelled l n) { row = row }) once);
+    }
+
 cancel_silent : (c : Core) (os : List (Option Outcome)) (draw n : ℕ) → IsReady c os → HasStarted n c.connection → At (IsSilent n) (quiet (turn c (cancel_of draw n))).connection
 cancel_silent c os draw n r h =
     let d = cancelling c draw n in
-    let open_still : is_open_at d.requests n ≡ true = ap (if_there is_open) h.placed in
-    let is : left d n ≡ record (at_progress d n progress.Cancelled) { link = cancelled d.link n } = taken_if (is_open_at d.requests n) _ d open_still in
+    let is = left_open d n (record { placed = h.placed; gone = h.gone }) in
     record {
       cancelled = ap (λ (x : Connection). slice_get x.requests n) (cancel_turn c draw n r.idle ∙ is) ∙ get_set_same d.requests n progress.Cancelled (get_within d.requests n progress.Placed h.placed);
       unanswered = tt;
@@ -278,8 +293,13 @@ goes_on config word draw n before after h =
     }
 
 pub same_items : (config : Config) (word draw n : ℕ) (before after : List Event) → HasStarted n (state_after config word before).connection
-    → hushed_link n (state_after config word (before ++ after)).connection.link ≡ hushed_link n (state_after config word (before ++ cancel_of draw n ∷ after)).connection.link
-same_items config word draw n before after h = ap (λ (x : Connection). x.link) (alike_after config word draw n before after h).same
+    → hushed_link n (state_after config word (before ++ after)).connection.link ≡ (state_after config word (before ++ cancel_of draw n ∷ after)).connection.link
+same_items config word draw n before after h =
+    let c = state_after config word before in
+    let d = quiet (turn c (cancel_of draw n)) in
+    let s = hushed_on n d after (cancel_hushed c (outcomes_after config word before) draw n (ready_after config word before) h) in
+    ap (λ (x : Connection). x.link) (alike_after config word draw n before after h).same
+    ∙ subst (λ (x : Core). hushed_link n x.connection.link ≡ x.connection.link) (sym (state_split config word before (cancel_of draw n ∷ after))) s.same
 
 bare_bad : (n : ℕ) (c : Connection) (kind : EventKind) → is_bad c kind ≡ is_bad (bare n c) kind
 unfolding is_bad

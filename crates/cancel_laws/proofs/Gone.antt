@@ -65,7 +65,7 @@ other_number r n m t f = λ e. let same : is_waiting_at r m ≡ is_waiting_at r 
 not_awaited : (n m : ℕ) → m ≢ n → ((m == n) && true) ≡ false
 not_awaited n m o = ap (λ b. b && true) (ne_test m n o)
 
-gone_there : (n : ℕ) → IsKeptThere (IsGone n)
+pub gone_there : (n : ℕ) → IsKeptThere (IsGone n)
 gone_there n = record {
   answer = λ r l m h. record { there = within_set r n m progress.Answered h.there; past = past_set r n m progress.Answered refl h.past; none = h.none };
   cancel = λ r l m h. record { there = within_set r n m progress.Cancelled h.there; past = past_set r n m progress.Cancelled refl h.past; none = none_without n m l.queue h.none };

@@ -26,6 +26,7 @@ use Rattle.shared_session.specs.Turn.{applied, quiet, turn}
 use Rattle.shared_session.specs.Replay.{opening, run_on, put_each, with_room, outcomes_with, outcomes_on}
 use Rattle.cancel_laws.specs.Cancels.{cancel_of}
 use Rattle.cancel_laws.proofs.Choices.{chosen}
+use Rattle.cancel_laws.proofs.Once.{IsOnce, once_kept, once_handed_in, none_yet}
 use Rattle.cancel_laws.proofs.Kept.{IsKept, IsKeptThere, There, kept_there, handed_in, advanced_kept, started_kept, effect_kept, turn_kept}
 
 -- a queue with room, and nothing that holds messages back
@@ -247,6 +248,7 @@ count_handed_in event.Shutdown r = inl refl
 pub record IsReady (c : Core) (os : List (Option Outcome)) : Type 0 where
   pub wide : IsWide c.connection.requests c.connection.link
   pub idle : IsIdle c.connection
+  pub once : (n : ℕ) → IsOnce n c.connection.requests c.connection.link
   pub count : length os ≡ length c.connection.requests
   pub acts : c.connection.acts ≡ []
   pub done : c.connection.done ≡ []
@@ -264,6 +266,7 @@ ready_turn c os e h =
     record {
       wide = record { size = w.size; free = w.free };
       idle = record { fresh = i.fresh; queue = i.queue; waiting = i.waiting; offered = i.offered };
+      once = λ n. turn_kept (once_kept n) c e (once_handed_in n e.kind r l (h.once n));
       count = put_count (with_room os (length t.requests)) t.done ∙ room_count os (length t.requests) room;
       acts = refl;
       done = refl;
@@ -277,6 +280,7 @@ pub opening_ready : (config : Config) (word : ℕ) → IsReady (quiet (opening c
 opening_ready config word = record {
   wide = record { size = omega arith; free = refl };
   idle = record { fresh = refl; queue = λ u. refl; waiting = λ u. refl; offered = λ u. refl };
+  once = λ n. none_yet n [] (opening config word).connection.link refl refl;
   count = refl;
   acts = refl;
   done = refl;

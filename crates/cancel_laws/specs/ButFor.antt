@@ -45,6 +45,6 @@ abbrev pub hushed_each : ℕ → List Entry → List Entry
 hushed_each n [] = []
 hushed_each n (e ∷ es) = hushed n e ∷ hushed_each n es
 
--- all that a link has, but for whether the verdict of message n is wanted
+-- the link in which the verdict of message n is not wanted, and all else is as it was
 abbrev pub hushed_link : ℕ → LinkState → LinkState
 hushed_link n l = record l { row = hushed_each n l.row }

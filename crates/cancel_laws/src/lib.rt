@@ -17,7 +17,7 @@ pub fn a_cancel_changes_one_outcome()
     ensures outcomes { (config : Config) (word draw n m : ℕ) (before after : List Event) → HasStarted n (state_after config word before).connection → m ≢ n → outcome_at (outcomes_after config word (before ++ after)) m ≡ outcome_at (outcomes_after config word (before ++ cancel_of draw n ∷ after)) m }
     ensures none { (config : Config) (word draw n : ℕ) (before after : List Event) → HasStarted n (state_after config word before).connection → outcome_at (outcomes_after config word (before ++ cancel_of draw n ∷ after)) n ≡ outcome_at (outcomes_after config word before) n }
     ensures turns { (config : Config) (word draw n : ℕ) (before after : List Event) → HasStarted n (state_after config word before).connection → GoesOn config word n before (cancel_of draw n) after }
-    ensures items { (config : Config) (word draw n : ℕ) (before after : List Event) → HasStarted n (state_after config word before).connection → hushed_link n (state_after config word (before ++ after)).connection.link ≡ hushed_link n (state_after config word (before ++ cancel_of draw n ∷ after)).connection.link }
+    ensures items { (config : Config) (word draw n : ℕ) (before after : List Event) → HasStarted n (state_after config word before).connection → hushed_link n (state_after config word (before ++ after)).connection.link ≡ (state_after config word (before ++ cancel_of draw n ∷ after)).connection.link }
     ensures bad { (config : Config) (word draw n : ℕ) (before after : List Event) (e : Event) → HasStarted n (state_after config word before).connection → is_bad_after config word (before ++ after) e ≡ is_bad_after config word (before ++ cancel_of draw n ∷ after) e }
 {}
 
