@@ -20,6 +20,7 @@ use Rattle.shared_session.specs.Requests.{if_there, is_open, is_waiting, is_open
 use Rattle.shared_session.specs.Steps.{acts, at_progress, left, passes, flushed}
 use Rattle.shared_session.specs.Turn.{applied, is_bad, quiet, turn}
 use Rattle.shared_session.specs.Replay.{opening, run_on, state_after, actions_of, turns_on, trace_of, put_each, with_room, outcomes_with, outcomes_on, outcomes_after, if_placed, outcome_at, is_bad_after}
+use Rattle.shared_session.proofs.Replays.{turns_after}
 use Rattle.cancel_laws.specs.ButFor.{but_for, hushed_link}
 use Rattle.cancel_laws.specs.Cancels.{cancel_of, HasStarted, GoesOn}
 use Rattle.cancel_laws.proofs.Choices.{by_test, chosen, either_by, taken_if, left_if, eq_from, ne_from}
@@ -230,17 +231,8 @@ ready_after : (config : Config) (word : ℕ) (before : List Event) → IsReady (
 unfolding state_after outcomes_after
 ready_after config word before = ready_on (quiet (opening config word)) [] before (opening_ready config word)
 
-turn_number : (c : Core) (e : Event) → (turn c e).turns ≡ c.turns + 1
-unfolding turn
-turn_number c e = refl
-
-run_number : (c : Core) (es : List Event) → (run_on c es).turns ≡ c.turns + length es
-run_number c [] = omega arith
-run_number c (e ∷ es) = omega (arith, run_number (quiet (turn c e)) es, turn_number c e)
-
 number_after : (config : Config) (word : ℕ) (before : List Event) → (state_after config word before).turns ≡ length before + 1
-unfolding state_after
-number_after config word before = omega (arith, run_number (quiet (opening config word)) before)
+number_after config word before = omega (arith, turns_after config word before)
 
 alike_after : (config : Config) (word draw n : ℕ) (before after : List Event) → HasStarted n (state_after config word before).connection
     → AreAlike n (state_after config word (before ++ after)) (state_after config word (before ++ cancel_of draw n ∷ after))

@@ -1,5 +1,5 @@
 -- A submission has at most one message on its link.
-use Rattle.std.proofs.Common.{◌≡◌, ℕ, zero, suc, ◌+◌, ◌≤◌, ◌==◌, nat_lt, ◌&&◌, not, Bool, true, false, List, [], ◌∷◌, ◌++◌, length, Option, Some, None, slice_get, slice_set, if◌then◌else◌, refl, ap, ◌∙◌, subst, arith}
+use Rattle.std.proofs.Common.{◌≡◌, ℕ, zero, suc, ◌+◌, ◌≤◌, ◌==◌, nat_lt, ◌&&◌, true, false, List, [], ◌∷◌, ◌++◌, length, Option, Some, None, slice_get, slice_set, if◌then◌else◌, refl, ap, ◌∙◌, subst, arith}
 use Rattle.resp_value.specs.Data.{Data}
 use Rattle.resp_read.specs.Values.{values}
 use Rattle.driver_model.specs.Shape.{need}
@@ -17,6 +17,7 @@ use Rattle.shared_session.specs.Requests.{is_waiting, is_waiting_at}
 use Rattle.shared_session.specs.Steps.{message_of}
 use Rattle.cancel_laws.specs.ButFor.{hushed, hushed_each}
 use Rattle.cancel_laws.proofs.Choices.{by_test, chosen, taken_if, left_if, eq_from}
+use Rattle.cancel_laws.proofs.Links.{wanted_still}
 use Rattle.cancel_laws.proofs.Kept.{IsKept, IsKeptThere, There, kept_there, handed_in}
 
 -- 1 for that message, and 0 for any other
@@ -159,14 +160,8 @@ none_yet n r l row queue = record { within = omega (arith, ap (times n) row, ap 
 
 -- a cancel silences all that there is of the message
 --
-wanted_still : (b t : Bool) → t ≡ false → (b && not t) ≡ b
-wanted_still true true e = cc
-wanted_still true false e = refl
-wanted_still false true e = refl
-wanted_still false false e = refl
-
 other_entry : (n : ℕ) (e : Entry) → (e.id == n) ≡ false → hushed n e ≡ e
-other_entry n e f = ap (λ b. record e { awaited = b }) (wanted_still e.awaited (e.id == n) f)
+other_entry n e f = ap (λ b. record e { awaited = b }) (wanted_still (e.id == n) e.awaited (ap (λ b. b && e.awaited) f))
 
 none_left : (n : ℕ) (row : List Entry) → times n row ≡ 0 → hushed_each n row ≡ row
 none_left n [] z = refl
