@@ -33,7 +33,7 @@ use Rattle.cancel_laws.specs.ButFor.{shown_of, but_for, hushed_link}
 use Rattle.cancel_laws.proofs.Choices.{by_test, either, either_by, taken_if, left_if, eq_from, ne_from, eq_test}
 use Rattle.cancel_laws.proofs.Lists.{set_twice, set_apart, set_push, get_set_other}
 use Rattle.cancel_laws.proofs.Links.{NoneOf, hushed_settling, hushed_came, hushed_close, hushed_fault, hushed_started, hushed_cancelled, own_cancelled}
-use Rattle.cancel_laws.proofs.Kept.{At, settled_kept, started_kept, advanced_kept, writes_kept, waits_shown_kept}
+use Rattle.cancel_laws.proofs.Kept.{At, There, settled_kept, started_kept, advanced_kept, writes_kept, waits_shown_kept}
 use Rattle.cancel_laws.proofs.Gone.{IsGone, gone_kept, other_number}
 
 -- the outcomes of a turn, but for those of submission n
@@ -80,7 +80,7 @@ done_other n xs d f = others_done n xs (d ∷ []) ∙ ap (λ zs. other_outcomes 
 acts_own : (n m : ℕ) (xs : List Action) (o : Outcome) → (m == n) ≡ true → but_for n (xs ++ action.Outcome m o ∷ []) ≡ but_for n xs
 acts_own n m xs o t = but_for-more n xs (action.Outcome m o) ∙ ap (λ zs. but_for n xs ++ zs) (taken_if (m == n) [] (action.Outcome m o ∷ []) t) ∙ append-nil (but_for n xs)
 
-acts_other : (n m : ℕ) (xs : List Action) (o : Outcome) → (m == n) ≡ false → but_for n (xs ++ action.Outcome m o ∷ []) ≡ but_for n xs ++ action.Outcome m o ∷ []
+pub acts_other : (n m : ℕ) (xs : List Action) (o : Outcome) → (m == n) ≡ false → but_for n (xs ++ action.Outcome m o ∷ []) ≡ but_for n xs ++ action.Outcome m o ∷ []
 acts_other n m xs o f = but_for-more n xs (action.Outcome m o) ∙ ap (λ zs. but_for n xs ++ zs) (left_if (m == n) [] (action.Outcome m o ∷ []) f)
 
 -- progress
@@ -166,7 +166,7 @@ bare_ends n c s =
     bare_waiting_closed n (settled_each d s.out) ∙ ap waiting_closed (bare_settled n d s.out)
     ∙ ap (λ (xs : List Action). waiting_closed (settled_each (record (bare n c) { phase = phase.Ended; acts = xs; link = hushed_link n s.link }) (others n s.out))) (but_for-more n c.acts (action.Close 0))
 
-bare_ended : (n : ℕ) (c : Connection) (f : LinkFault) → At (IsGone n) c → bare n (ended_by c f) ≡ ended_by (bare n c) f
+bare_ended : (n : ℕ) (c : Connection) (f : LinkFault) → At (There (IsGone n)) c → bare n (ended_by c f) ≡ ended_by (bare n c) f
 bare_ended n c f h =
     let s : Settling = record { link = c.link; out = [] } in
     bare_ends n c (faulted s f) ∙ ap (ends (bare n c)) (hushed_fault n s f h.none)
@@ -212,7 +212,7 @@ none_without : (n : ℕ) (queue : List Queued) → NoneOf n queue → without qu
 none_without n [] h = refl
 none_without n (q ∷ qs) h = left_if (awaits n q) qs (q ∷ without qs n) h.0 ∙ ap (λ xs. q ∷ xs) (none_without n qs h.1)
 
-bare_left : (n m : ℕ) (c : Connection) → At (IsGone n) c → bare n (left c m) ≡ left (bare n c) m
+bare_left : (n m : ℕ) (c : Connection) → At (There (IsGone n)) c → bare n (left c m) ≡ left (bare n c) m
 bare_left n m c h =
     by_test (m == n) _
     (λ t. let e = eq_from m n t in ap (λ k. bare n (left c k)) e ∙ own_left n c (none_without n c.link.queue h.none) ∙ sym (left_stays n c) ∙ ap (left (bare n c)) (sym e))
@@ -226,7 +226,7 @@ bare_read n c s h =
     (λ t. bare_ended n e fault.Parse (settled_kept (gone_kept n) d s.out h) ∙ ap (λ x. ended_by x fault.Parse) (bare_settled n d s.out))
     (λ f. bare_settled n d s.out)
 
-pub bare_applied : (n : ℕ) (c : Connection) (kind : EventKind) → At (IsGone n) c → bare n (applied c kind) ≡ applied (bare n c) kind
+pub bare_applied : (n : ℕ) (c : Connection) (kind : EventKind) → At (There (IsGone n)) c → bare n (applied c kind) ≡ applied (bare n c) kind
 bare_applied n c (event.Submit (submission.Cmd args)) h = bare_submitted n c args h.there
 bare_applied n c (event.Cancel m) h = bare_left n m c h
 bare_applied n c (event.Connected l) h =
@@ -235,7 +235,7 @@ bare_applied n c (event.Wrote l k) h = either (bare n) (is_up c.phase) _ c _ (ba
 bare_applied n c (event.Bytes l piece) h =
     let s : Settling = record { link = c.link; out = [] } in
     either (bare n) (is_up c.phase) _ c _ (bare n c)
-    (λ t. bare_read n c (came s piece) ((gone_kept n).come c.requests c.link piece h) ∙ ap (read_to (bare n c)) (hushed_came n s piece))
+    (λ t. bare_read n c (came s piece) ((gone_kept n).come c.requests c.link c.done c.acts piece h) ∙ ap (read_to (bare n c)) (hushed_came n s piece))
     (λ f. refl)
 bare_applied n c (event.Ended l) h = either (bare n) (is_up c.phase) _ c _ (bare n c) (λ t. bare_ended n c fault.Ended h) (λ f. refl)
 bare_applied n c event.Shutdown h =
@@ -251,31 +251,31 @@ bare_shown n c (s ∷ ss) =
     let a = action.Start 0 s.msg (owner.Try s.id 0) s.need s.len in
     bare_shown n (acts c a) ss ∙ ap (λ (xs : List Action). shown_each (record (bare n c) { acts = xs }) ss) (but_for-more n c.acts a)
 
-bare_started : (n : ℕ) (c : Connection) → At (IsGone n) c → bare n (started c) ≡ started (bare n c)
+bare_started : (n : ℕ) (c : Connection) → At (There (IsGone n)) c → bare n (started c) ≡ started (bare n c)
 bare_started n c h =
     let s : Starting = record { link = c.link; out = [] } in
     let t = started_all s in
     bare_shown n (record c { link = t.link }) t.out ∙ ap (starts_with (bare n c)) (hushed_started n s h.none)
 
-bare_advanced : (n : ℕ) (c : Connection) (w : Waiting) → At (IsGone n) c → bare n (advanced c w) ≡ advanced (bare n c) w
+bare_advanced : (n : ℕ) (c : Connection) (w : Waiting) → At (There (IsGone n)) c → bare n (advanced c w) ≡ advanced (bare n c) w
 bare_advanced n c w h =
     let d = record (at_progress c w.number progress.Placed) { link = enqueued c.link (message_of w) } in
     either_by (bare n) (is_waiting_at c.requests w.number) (is_waiting_at (slice_set c.requests n progress.Cancelled) w.number) (started d) c _ (bare n c) (waiting_same c.requests n w.number h.past)
     (λ t.
-    bare_started n d ((gone_kept n).place c.requests c.link w t h)
+    bare_started n d ((gone_kept n).place c.requests c.link c.done c.acts w t h)
     ∙ ap (λ (r : List Progress). started (record (bare n c) { requests = r; link = enqueued (hushed_link n c.link) (message_of w) })) (set_apart c.requests w.number n progress.Placed progress.Cancelled (other_number c.requests n w.number t h.past)))
     (λ f. refl)
 
-bare_advanced_each : (n : ℕ) (c : Connection) (ws : List Waiting) → At (IsGone n) c → bare n (advanced_each c ws) ≡ advanced_each (bare n c) ws
+bare_advanced_each : (n : ℕ) (c : Connection) (ws : List Waiting) → At (There (IsGone n)) c → bare n (advanced_each c ws) ≡ advanced_each (bare n c) ws
 bare_advanced_each n c [] h = refl
 bare_advanced_each n c (w ∷ ws) h =
     either (bare n) (is_full c.link) _ _ _ _ (λ t. refl)
     (λ f. bare_advanced_each n (advanced c w) ws (advanced_kept (gone_kept n) c w h) ∙ ap (λ x. advanced_each x ws) (bare_advanced n c w h))
 
-bare_advanced_all : (n : ℕ) (c : Connection) → At (IsGone n) c → bare n (advanced_all c) ≡ advanced_all (bare n c)
+bare_advanced_all : (n : ℕ) (c : Connection) → At (There (IsGone n)) c → bare n (advanced_all c) ≡ advanced_all (bare n c)
 bare_advanced_all n c h = bare_advanced_each n (record c { waiting = [] }) c.waiting h
 
-pub bare_passes : (n : ℕ) (c : Connection) → At (IsGone n) c → bare n (passes c) ≡ passes (bare n c)
+pub bare_passes : (n : ℕ) (c : Connection) → At (There (IsGone n)) c → bare n (passes c) ≡ passes (bare n c)
 bare_passes n c h =
     either (bare n) (is_up c.phase) _ c _ (bare n c) (λ t. bare_advanced_all n (started c) (started_kept (gone_kept n) c h) ∙ ap advanced_all (bare_started n c h)) (λ f. refl)
 
@@ -286,17 +286,17 @@ bare_writes n c =
     (λ u. ap (λ (xs : List Action). record (bare n c) { acts = xs; link = offered_of (hushed_link n c.link) }) (but_for-more n c.acts (action.Write 0 c.link.outbox.unwritten))) (λ f. refl))
     (λ f. refl)
 
-bare_wait : (n : ℕ) (c : Connection) (m : ℕ) → At (IsGone n) c → bare n (waits_shown c m) ≡ waits_shown (bare n c) m
+bare_wait : (n : ℕ) (c : Connection) (m : ℕ) → At (There (IsGone n)) c → bare n (waits_shown c m) ≡ waits_shown (bare n c) m
 bare_wait n c m h =
     either_by (bare n) (is_waiting_at c.requests m) (is_waiting_at (slice_set c.requests n progress.Cancelled) m) _ c _ (bare n c) (waiting_same c.requests n m h.past)
     (λ t. either (bare n) (is_dialing c.phase) _ c _ (bare n c) (λ u. ap (λ (xs : List Action). record (bare n c) { acts = xs }) (but_for-more n c.acts (action.Wait (owner.Try m 0) wait.Connect))) (λ f. refl))
     (λ f. refl)
 
-bare_waits : (n : ℕ) (c : Connection) (ms : List ℕ) → At (IsGone n) c → bare n (waits_each c ms) ≡ waits_each (bare n c) ms
+bare_waits : (n : ℕ) (c : Connection) (ms : List ℕ) → At (There (IsGone n)) c → bare n (waits_each c ms) ≡ waits_each (bare n c) ms
 bare_waits n c [] h = refl
-bare_waits n c (m ∷ ms) h = bare_waits n (waits_shown c m) ms (waits_shown_kept (IsGone n) c m h) ∙ ap (λ x. waits_each x ms) (bare_wait n c m h)
+bare_waits n c (m ∷ ms) h = bare_waits n (waits_shown c m) ms (waits_shown_kept (gone_kept n) c m h) ∙ ap (λ x. waits_each x ms) (bare_wait n c m h)
 
-pub bare_flushed : (n : ℕ) (c : Connection) → At (IsGone n) c → bare n (flushed c) ≡ flushed (bare n c)
+pub bare_flushed : (n : ℕ) (c : Connection) → At (There (IsGone n)) c → bare n (flushed c) ≡ flushed (bare n c)
 bare_flushed n c h =
     let d = writes c in
     bare_waits n (record d { fresh = [] }) d.fresh (writes_kept (gone_kept n) c h) ∙ ap waits (bare_writes n c)

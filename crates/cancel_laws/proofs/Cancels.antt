@@ -1,5 +1,5 @@
 -- Over whole histories, the cancel of a started request changes nothing but its own outcome.
-use Rattle.std.proofs.Common.{◌≡◌, ◌≢◌, ℕ, ◌+◌, ◌<◌, ◌==◌, nat_lt, nat_le, false, List, [], ◌∷◌, ◌++◌, length, Option, Some, None, slice_set, refl, sym, ap, ◌∙◌, subst, append_assoc, arith, length-set}
+use Rattle.std.proofs.Common.{◌≡◌, ◌≢◌, ℕ, ◌+◌, ◌<◌, ◌==◌, nat_lt, nat_le, false, List, [], ◌∷◌, ◌++◌, length, Option, Some, None, slice_get, slice_set, refl, sym, ap, ◌∙◌, subst, append_assoc, arith, length-set}
 use Rattle.std.proofs.lemmas.Bool.Decides.{nat_tests}
 use Rattle.driver_model.specs.declared.action.Action.{Action}
 use Rattle.driver_model.specs.declared.action.Action.TheVariants as action
@@ -10,21 +10,27 @@ use Rattle.driver_model.specs.declared.event.Event.{Event}
 use Rattle.driver_model.specs.declared.event.EventKind.{EventKind}
 use Rattle.driver_model.specs.declared.event.EventKind.TheVariants as event
 use Rattle.driver_model.specs.declared.outcome.Outcome.{Outcome}
+use Rattle.link_core.specs.declared.message.Entry.{Entry}
+use Rattle.link_core.specs.Link.{LinkState, cancelled}
 use Rattle.shared_session.specs.declared.connection.Connection.{Connection}
 use Rattle.shared_session.specs.declared.connection.Done.{Done}
 use Rattle.shared_session.specs.declared.connection.Progress.TheVariants as progress
 use Rattle.shared_session.specs.declared.core_state.Core.{Core}
-use Rattle.shared_session.specs.Requests.{if_there, is_waiting, is_open_at}
-use Rattle.shared_session.specs.Steps.{acts, left, passes, flushed}
+use Rattle.shared_session.specs.Requests.{if_there, is_open, is_waiting, is_open_at}
+use Rattle.shared_session.specs.Steps.{acts, at_progress, left, passes, flushed}
 use Rattle.shared_session.specs.Turn.{applied, is_bad, quiet, turn}
 use Rattle.shared_session.specs.Replay.{opening, run_on, state_after, actions_of, turns_on, trace_of, put_each, with_room, outcomes_with, outcomes_on, outcomes_after, if_placed, outcome_at, is_bad_after}
+use Rattle.shared_session.proofs.Replays.{turns_after}
 use Rattle.cancel_laws.specs.ButFor.{but_for, hushed_link}
 use Rattle.cancel_laws.specs.Cancels.{cancel_of, HasStarted, GoesOn}
 use Rattle.cancel_laws.proofs.Choices.{by_test, chosen, either_by, taken_if, left_if, eq_from, ne_from}
-use Rattle.cancel_laws.proofs.Lists.{set_twice, set_apart, set_push_same, get_set_other, get_within}
-use Rattle.cancel_laws.proofs.Kept.{At, effect_kept, turn_kept, passes_kept}
+use Rattle.cancel_laws.proofs.Lists.{get_set_same, set_twice, set_apart, set_push_same, get_set_other, get_within}
+use Rattle.cancel_laws.proofs.Kept.{At, There, effect_kept, turn_kept, passes_kept}
 use Rattle.cancel_laws.proofs.Gone.{IsGone, gone_kept, gone_handed_in, none_from}
 use Rattle.cancel_laws.proofs.Bare.{bare, other_outcomes, but_for-append, but_for-more, own_left, bare_applied, bare_passes, bare_flushed}
+use Rattle.cancel_laws.proofs.Once.{silenced_once, row_once}
+use Rattle.cancel_laws.proofs.Hushed.{IsHushed, hushed_on}
+use Rattle.cancel_laws.proofs.Silent.{IsSilent, silent_shown, same_in_room, silent_outcome}
 use Rattle.cancel_laws.proofs.Rest.{IsReady, ready_on, opening_ready, cancel_turn}
 
 -- one turn
@@ -36,25 +42,25 @@ bare_announced n c k why = ap (λ (xs : List Action). record (bare n c) { acts =
 abbrev turned : Event → Connection → Connection
 turned e c = flushed (passes (applied (acts c (action.Turn 0 (cause.Event e))) e.kind))
 
-bare_turn : (n : ℕ) (c : Core) (e : Event) → At (IsGone n) c.connection → bare n (turn c e).connection ≡ turned e (bare n c.connection)
+bare_turn : (n : ℕ) (c : Core) (e : Event) → At (There (IsGone n)) c.connection → bare n (turn c e).connection ≡ turned e (bare n c.connection)
 unfolding turn
 bare_turn n c e h =
     let a = acts c.connection (action.Turn c.turns (cause.Event e)) in
     let d = applied a e.kind in
-    let g : At (IsGone n) d = effect_kept (gone_kept n) c e (gone_handed_in n e.kind c.connection.requests c.connection.link h) in
+    let g : At (There (IsGone n)) d = effect_kept (gone_kept n) c e (gone_handed_in n e.kind c.connection.requests c.connection.link h) in
     bare_flushed n (passes d) (passes_kept (gone_kept n) d g) ∙ ap flushed (bare_passes n d g) ∙ ap (λ x. flushed (passes x)) (bare_applied n a e.kind h)
     ∙ ap (λ x. flushed (passes (applied x e.kind))) (bare_announced n c.connection c.turns (cause.Event e))
 
 -- two sessions that are alike but for submission n, whose message has left the queue of both
 record AreAlike (n : ℕ) (c d : Core) : Type 0 where
   pub same : bare n c.connection ≡ bare n d.connection
-  pub gone : At (IsGone n) c.connection
-  pub gone_too : At (IsGone n) d.connection
+  pub gone : At (There (IsGone n)) c.connection
+  pub gone_too : At (There (IsGone n)) d.connection
 
 turns_same : (n : ℕ) (c d : Core) (e : Event) → AreAlike n c d → bare n (turn c e).connection ≡ bare n (turn d e).connection
 turns_same n c d e h = bare_turn n c e h.gone ∙ ap (turned e) h.same ∙ sym (bare_turn n d e h.gone_too)
 
-turn_gone : (n : ℕ) (c : Core) (e : Event) → At (IsGone n) c.connection → At (IsGone n) (quiet (turn c e)).connection
+turn_gone : (n : ℕ) (c : Core) (e : Event) → At (There (IsGone n)) c.connection → At (There (IsGone n)) (quiet (turn c e)).connection
 turn_gone n c e h = turn_kept (gone_kept n) c e (gone_handed_in n e.kind c.connection.requests c.connection.link h)
 
 alike_turn : (n : ℕ) (c d : Core) (e : Event) → AreAlike n c d → AreAlike n (quiet (turn c e)) (quiet (turn d e))
@@ -118,7 +124,7 @@ other_outcome os n m o = ap if_placed (sym (get_set_other os n m None (λ e. o (
 
 -- the cancel
 --
-started_gone : (n : ℕ) (c : Connection) → HasStarted n c → At (IsGone n) c
+started_gone : (n : ℕ) (c : Connection) → HasStarted n c → At (There (IsGone n)) c
 started_gone n c h = record { there = get_within c.requests n progress.Placed h.placed; past = ap (if_there is_waiting) h.placed; none = none_from n c.link.queue h.gone }
 
 abbrev cancelling : Core → ℕ → ℕ → Connection
@@ -152,6 +158,38 @@ cancel_erased c os draw n r h =
     let count : length (erased n os) ≡ k = length-set os n None ∙ r.count ∙ sym (length-set c.connection.requests n progress.Cancelled) in
     erased_with n os (turn c (cancel_of draw n)).connection ∙ ap (outcomes_with (erased n os)) (cancelled_bare c os draw n r h)
     ∙ ap (λ (ds : List Done). put_each (with_room (erased n os) k) (other_outcomes n ds)) r.done ∙ no_more_room (erased n os) k count
+
+left_open : (c : Connection) (n : ℕ) → HasStarted n c → left c n ≡ record (at_progress c n progress.Cancelled) { link = cancelled c.link n }
+left_open c n h = taken_if (is_open_at c.requests n) _ c (ap (if_there is_open) h.placed)
+
+cancel_hushed : (c : Core) (os : List (Option Outcome)) (draw n : ℕ) → IsReady c os → HasStarted n c.connection → At (There (IsHushed n)) (quiet (turn c (cancel_of draw n))).connection
+cancel_hushed c os draw n r h =
+    let l = c.connection.link in
+    let is = ap (λ (x : Connection). x.link) (cancel_turn c draw n r.idle ∙ left_open (cancelling c draw n) n (record { placed = h.placed; gone = h.gone })) in
+    let once = silenced_once n l.row (row_once n c.connection.requests l (r.once n) h.placed) in
+    record {
+      gone = turn_gone n c (cancel_of draw n) (started_gone n c.connection h);
+      same = subst (λ (x : LinkState). hushed_link n x ≡ x) (sym is) (ap (λ (row : List Entry). record (cancelled l n) { row = row }) once);
+    }
+
+cancel_silent : (c : Core) (os : List (Option Outcome)) (draw n : ℕ) → IsReady c os → HasStarted n c.connection → At (IsSilent n) (quiet (turn c (cancel_of draw n))).connection
+cancel_silent c os draw n r h =
+    let d = cancelling c draw n in
+    let is = left_open d n (record { placed = h.placed; gone = h.gone }) in
+    record {
+      cancelled = ap (λ (x : Connection). slice_get x.requests n) (cancel_turn c draw n r.idle ∙ is) ∙ get_set_same d.requests n progress.Cancelled (get_within d.requests n progress.Placed h.placed);
+      unanswered = tt;
+      unshown = refl;
+    }
+
+left_done : (c : Connection) (n : ℕ) → (left c n).done ≡ c.done
+left_done c n = chosen (λ (x : Connection). x.done ≡ c.done) (is_open_at c.requests n) _ c (λ t. refl) (λ f. refl)
+
+cancel_answers_nobody : (c : Core) (os : List (Option Outcome)) (draw n : ℕ) → IsReady c os → outcome_at (outcomes_with os (turn c (cancel_of draw n)).connection) n ≡ outcome_at os n
+cancel_answers_nobody c os draw n r =
+    let k = length (turn c (cancel_of draw n)).connection.requests in
+    let none = ap (λ (x : Connection). x.done) (cancel_turn c draw n r.idle) ∙ left_done (cancelling c draw n) n ∙ r.done in
+    ap (λ (ds : List Done). outcome_at (put_each (with_room os k) ds) n) none ∙ same_in_room os k n
 
 left_acts : (c : Connection) (n : ℕ) → (left c n).acts ≡ c.acts
 left_acts c n = chosen (λ (x : Connection). x.acts ≡ c.acts) (is_open_at c.requests n) _ c (λ t. refl) (λ f. refl)
@@ -193,17 +231,8 @@ ready_after : (config : Config) (word : ℕ) (before : List Event) → IsReady (
 unfolding state_after outcomes_after
 ready_after config word before = ready_on (quiet (opening config word)) [] before (opening_ready config word)
 
-turn_number : (c : Core) (e : Event) → (turn c e).turns ≡ c.turns + 1
-unfolding turn
-turn_number c e = refl
-
-run_number : (c : Core) (es : List Event) → (run_on c es).turns ≡ c.turns + length es
-run_number c [] = omega arith
-run_number c (e ∷ es) = omega (arith, run_number (quiet (turn c e)) es, turn_number c e)
-
 number_after : (config : Config) (word : ℕ) (before : List Event) → (state_after config word before).turns ≡ length before + 1
-unfolding state_after
-number_after config word before = omega (arith, run_number (quiet (opening config word)) before)
+number_after config word before = omega (arith, turns_after config word before)
 
 alike_after : (config : Config) (word draw n : ℕ) (before after : List Event) → HasStarted n (state_after config word before).connection
     → AreAlike n (state_after config word (before ++ after)) (state_after config word (before ++ cancel_of draw n ∷ after))
@@ -230,6 +259,16 @@ same_outcomes config word draw n m before after h o =
     ∙ ap (λ (qs : List (Option Outcome)). outcome_at (erased n qs) m) (sym (outcomes_split config word before (cancel_of draw n ∷ after)))
     ∙ sym (other_outcome (outcomes_after config word (before ++ cancel_of draw n ∷ after)) n m o)
 
+pub no_outcome : (config : Config) (word draw n : ℕ) (before after : List Event) → HasStarted n (state_after config word before).connection
+    → outcome_at (outcomes_after config word (before ++ cancel_of draw n ∷ after)) n ≡ outcome_at (outcomes_after config word before) n
+no_outcome config word draw n before after h =
+    let c = state_after config word before in
+    let os = outcomes_after config word before in
+    let r = ready_after config word before in
+    ap (λ (qs : List (Option Outcome)). outcome_at qs n) (outcomes_split config word before (cancel_of draw n ∷ after))
+    ∙ silent_outcome n (quiet (turn c (cancel_of draw n))) (outcomes_with os (turn c (cancel_of draw n)).connection) after (cancel_silent c os draw n r h)
+    ∙ cancel_answers_nobody c os draw n r
+
 pub goes_on : (config : Config) (word draw n : ℕ) (before after : List Event) → HasStarted n (state_after config word before).connection → GoesOn config word n before (cancel_of draw n) after
 goes_on config word draw n before after h =
     let c = state_after config word before in
@@ -242,12 +281,17 @@ goes_on config word draw n before after h =
       later_with = turns_on d after;
       plain = trace_split config word before after;
       with_more = trace_split config word before (cancel_of draw n ∷ after) ∙ ap (λ (xs : List Action). trace_of config word before ++ (xs ++ turns_on d after)) (cancel_shows c os draw n r ∙ number);
-      alike = shown_alike n c d after (cancel_alike c os draw n r h);
+      alike = shown_alike n c d after (cancel_alike c os draw n r h) ∙ silent_shown n d after (cancel_silent c os draw n r h);
     }
 
 pub same_items : (config : Config) (word draw n : ℕ) (before after : List Event) → HasStarted n (state_after config word before).connection
-    → hushed_link n (state_after config word (before ++ after)).connection.link ≡ hushed_link n (state_after config word (before ++ cancel_of draw n ∷ after)).connection.link
-same_items config word draw n before after h = ap (λ (x : Connection). x.link) (alike_after config word draw n before after h).same
+    → hushed_link n (state_after config word (before ++ after)).connection.link ≡ (state_after config word (before ++ cancel_of draw n ∷ after)).connection.link
+same_items config word draw n before after h =
+    let c = state_after config word before in
+    let d = quiet (turn c (cancel_of draw n)) in
+    let s = hushed_on n d after (cancel_hushed c (outcomes_after config word before) draw n (ready_after config word before) h) in
+    ap (λ (x : Connection). x.link) (alike_after config word draw n before after h).same
+    ∙ subst (λ (x : Core). hushed_link n x.connection.link ≡ x.connection.link) (sym (state_split config word before (cancel_of draw n ∷ after))) s.same
 
 bare_bad : (n : ℕ) (c : Connection) (kind : EventKind) → is_bad c kind ≡ is_bad (bare n c) kind
 unfolding is_bad

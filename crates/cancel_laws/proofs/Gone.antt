@@ -11,7 +11,7 @@ use Rattle.shared_session.specs.Requests.{is_waiting, is_waiting_at}
 use Rattle.shared_session.specs.Steps.{message_of}
 use Rattle.cancel_laws.proofs.Choices.{chosen, ne_test}
 use Rattle.cancel_laws.proofs.Links.{NoneOf}
-use Rattle.cancel_laws.proofs.Kept.{IsKept, handed_in}
+use Rattle.cancel_laws.proofs.Kept.{IsKept, IsKeptThere, There, kept_there, handed_in}
 
 -- it is handed in, doesn't wait for its place, and isn't in the queue
 pub record IsGone (n : ℕ) (r : List Progress) (l : LinkState) : Type 0 where
@@ -65,8 +65,8 @@ other_number r n m t f = λ e. let same : is_waiting_at r m ≡ is_waiting_at r 
 not_awaited : (n m : ℕ) → m ≢ n → ((m == n) && true) ≡ false
 not_awaited n m o = ap (λ b. b && true) (ne_test m n o)
 
-pub gone_kept : (n : ℕ) → IsKept (IsGone n)
-gone_kept n = record {
+pub gone_there : (n : ℕ) → IsKeptThere (IsGone n)
+gone_there n = record {
   answer = λ r l m h. record { there = within_set r n m progress.Answered h.there; past = past_set r n m progress.Answered refl h.past; none = h.none };
   cancel = λ r l m h. record { there = within_set r n m progress.Cancelled h.there; past = past_set r n m progress.Cancelled refl h.past; none = none_without n m l.queue h.none };
   place = λ r l w t h. record {
@@ -81,6 +81,9 @@ gone_kept n = record {
   fail = λ r l f h. record { there = h.there; past = h.past; none = tt };
   close = λ r l h. record { there = h.there; past = h.past; none = tt };
 }
+
+pub gone_kept : (n : ℕ) → IsKept (There (IsGone n))
+gone_kept n = kept_there (gone_there n)
 
 -- and one more submission changes nothing of that
 pub gone_handed_in : (n : ℕ) (kind : EventKind) (r : List Progress) (l : LinkState) → IsGone n r l → IsGone n (handed_in kind r) l

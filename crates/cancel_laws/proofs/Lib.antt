@@ -4,6 +4,9 @@ pub mod Links
 pub mod Kept
 pub mod Gone
 pub mod Bare
+pub mod Hushed
+pub mod Silent
+pub mod Once
 pub mod Rest
 pub mod Cancels
 pub mod Started

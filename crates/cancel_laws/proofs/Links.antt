@@ -128,7 +128,7 @@ hushed_fault n s f h = hushed_ended n s (row_hit f s.link.row) _ h (hushed_hit n
 
 -- starts
 --
-wanted_still : (t b : Bool) → (t && b) ≡ false → (b && not t) ≡ b
+pub wanted_still : (t b : Bool) → (t && b) ≡ false → (b && not t) ≡ b
 wanted_still true true e = cc
 wanted_still true false e = refl
 wanted_still false true e = refl

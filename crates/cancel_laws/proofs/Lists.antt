@@ -36,3 +36,13 @@ pub get_within : {X : Type 0} (xs : List X) (n : ℕ) (x : X) → slice_get xs n
 get_within [] n x e = cc
 get_within (y ∷ xs) zero x e = omega arith
 get_within (y ∷ xs) (suc n) x e = let l = get_within xs n x e in omega arith
+
+pub get_set_same : {X : Type 0} (xs : List X) (n : ℕ) (x : X) → n < length xs → slice_get (slice_set xs n x) n ≡ Some x
+get_set_same [] n x l = absurd (omega arith)
+get_set_same (y ∷ xs) zero x l = refl
+get_set_same (y ∷ xs) (suc n) x l = get_set_same xs n x (omega arith)
+
+pub get_push : {X : Type 0} (xs : List X) (n : ℕ) (x y : X) → slice_get xs n ≡ Some x → slice_get (xs ++ y ∷ []) n ≡ Some x
+get_push [] n x y e = cc
+get_push (z ∷ xs) zero x y e = e
+get_push (z ∷ xs) (suc n) x y e = get_push xs n x y e

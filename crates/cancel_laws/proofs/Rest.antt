@@ -26,7 +26,8 @@ use Rattle.shared_session.specs.Turn.{applied, quiet, turn}
 use Rattle.shared_session.specs.Replay.{opening, run_on, put_each, with_room, outcomes_with, outcomes_on}
 use Rattle.cancel_laws.specs.Cancels.{cancel_of}
 use Rattle.cancel_laws.proofs.Choices.{chosen}
-use Rattle.cancel_laws.proofs.Kept.{IsKept, handed_in, advanced_kept, started_kept, effect_kept, turn_kept}
+use Rattle.cancel_laws.proofs.Once.{IsOnce, once_kept, once_handed_in, none_yet}
+use Rattle.cancel_laws.proofs.Kept.{IsKept, IsKeptThere, There, kept_there, handed_in, advanced_kept, started_kept, effect_kept, turn_kept}
 
 -- a queue with room, and nothing that holds messages back
 pub record IsWide (r : List Progress) (l : LinkState) : Type 0 where
@@ -42,8 +43,8 @@ started_wide r s (q ∷ qs) h =
     chosen (λ (x : Starting). IsWide r x.link) (is_held_back s.link) _ _ (λ t. record { size = h.size; free = h.free })
     (λ f. started_wide r (started_one s q) qs (record { size = h.size; free = h.free }))
 
-wide_kept : IsKept IsWide
-wide_kept = record {
+wide_there : IsKeptThere IsWide
+wide_there = record {
   answer = λ r l m h. record { size = h.size; free = h.free };
   cancel = λ r l m h. record { size = h.size; free = h.free };
   place = λ r l w t h. record { size = h.size; free = h.free };
@@ -55,12 +56,15 @@ wide_kept = record {
   close = λ r l h. record { size = h.size; free = h.free };
 }
 
+wide_kept : IsKept (There IsWide)
+wide_kept = kept_there wide_there
+
 -- so many submissions
 abbrev Counts : ℕ → List Progress → LinkState → Type 0
 Counts k r l = length r ≡ k
 
-count_kept : (k : ℕ) → IsKept (Counts k)
-count_kept k = record {
+count_there : (k : ℕ) → IsKeptThere (Counts k)
+count_there k = record {
   answer = λ r l m h. length-set r m progress.Answered ∙ h;
   cancel = λ r l m h. length-set r m progress.Cancelled ∙ h;
   place = λ r l w t h. length-set r w.number progress.Placed ∙ h;
@@ -71,6 +75,9 @@ count_kept k = record {
   fail = λ r l f h. h;
   close = λ r l h. h;
 }
+
+count_kept : (k : ℕ) → IsKept (There (Counts k))
+count_kept k = kept_there (count_there k)
 
 -- where nothing is left to do
 pub record IsIdle (c : Connection) : Type 0 where
@@ -241,6 +248,7 @@ count_handed_in event.Shutdown r = inl refl
 pub record IsReady (c : Core) (os : List (Option Outcome)) : Type 0 where
   pub wide : IsWide c.connection.requests c.connection.link
   pub idle : IsIdle c.connection
+  pub once : (n : ℕ) → IsOnce n c.connection.requests c.connection.link
   pub count : length os ≡ length c.connection.requests
   pub acts : c.connection.acts ≡ []
   pub done : c.connection.done ≡ []
@@ -258,6 +266,7 @@ ready_turn c os e h =
     record {
       wide = record { size = w.size; free = w.free };
       idle = record { fresh = i.fresh; queue = i.queue; waiting = i.waiting; offered = i.offered };
+      once = λ n. turn_kept (once_kept n) c e (once_handed_in n e.kind r l (h.once n));
       count = put_count (with_room os (length t.requests)) t.done ∙ room_count os (length t.requests) room;
       acts = refl;
       done = refl;
@@ -271,6 +280,7 @@ pub opening_ready : (config : Config) (word : ℕ) → IsReady (quiet (opening c
 opening_ready config word = record {
   wide = record { size = omega arith; free = refl };
   idle = record { fresh = refl; queue = λ u. refl; waiting = λ u. refl; offered = λ u. refl };
+  once = λ n. none_yet n [] (opening config word).connection.link refl refl;
   count = refl;
   acts = refl;
   done = refl;

@@ -5,6 +5,22 @@ use Rattle.driver_model.specs.declared.action.Action.TheVariants as action
 use Rattle.link_core.specs.declared.message.Entry.{Entry}
 use Rattle.link_core.specs.Link.{LinkState}
 
+-- an action without the number of its turn
+abbrev pub unnumbered : Action → Action
+unnumbered (action.Turn k c) = action.Turn 0 c
+unnumbered (action.Connect l host port) = action.Connect l host port
+unnumbered (action.Close l) = action.Close l
+unnumbered (action.Write l bytes) = action.Write l bytes
+unnumbered (action.Wait who kind) = action.Wait who kind
+unnumbered (action.Start l k who need len) = action.Start l k who need len
+unnumbered action.Created = action.Created
+unnumbered (action.Outcome n o) = action.Outcome n o
+
+-- all actions in order, but for the numbers of turns
+abbrev pub all_unnumbered : List Action → List Action
+all_unnumbered [] = []
+all_unnumbered (a ∷ more) = unnumbered a ∷ all_unnumbered more
+
 -- what an action shows but for the number of its turn, if it is not that submission's outcome
 abbrev pub shown_of : ℕ → Action → List Action
 shown_of n (action.Turn k c) = action.Turn 0 c ∷ []
@@ -29,6 +45,6 @@ abbrev pub hushed_each : ℕ → List Entry → List Entry
 hushed_each n [] = []
 hushed_each n (e ∷ es) = hushed n e ∷ hushed_each n es
 
--- all that a link has, but for whether the verdict of message n is wanted
+-- the link in which the verdict of message n is not wanted, and all else is as it was
 abbrev pub hushed_link : ℕ → LinkState → LinkState
 hushed_link n l = record l { row = hushed_each n l.row }

@@ -11,7 +11,7 @@ use Rattle.link_core.specs.Waiting.{without}
 use Rattle.shared_session.specs.declared.connection.Connection.{Connection}
 use Rattle.shared_session.specs.declared.connection.Progress.TheVariants as progress
 use Rattle.shared_session.specs.Replay.{trace_of}
-use Rattle.cancel_laws.specs.ButFor.{but_for}
+use Rattle.cancel_laws.specs.ButFor.{but_for, all_unnumbered}
 
 -- the caller of submission n drops its request
 abbrev pub cancel_of : ℕ → ℕ → Event
@@ -31,10 +31,10 @@ pub record HasStarted (n : ℕ) (c : Connection) : Type 0 where
   pub gone : without c.link.queue n ≡ c.link.queue
 
 -- the two traces are the same up to the one more event; that event's turn shows nothing; and then the turns show the
--- same, but for their numbers and for the outcomes of submission n
+-- same, but for their numbers and for the outcomes of submission n, of which there are none where the event came
 pub record GoesOn (config : Config) (word n : ℕ) (before : List Event) (more : Event) (after : List Event) : Type 0 where
   pub later : List Action
   pub later_with : List Action
   pub plain : trace_of config word (before ++ after) ≡ trace_of config word before ++ later
   pub with_more : trace_of config word (before ++ more ∷ after) ≡ trace_of config word before ++ action.Turn (length before + 1) (cause.Event more) ∷ later_with
-  pub alike : but_for n later ≡ but_for n later_with
+  pub alike : but_for n later ≡ all_unnumbered later_with

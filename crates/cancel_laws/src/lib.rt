@@ -9,13 +9,15 @@ ghost use Rattle.cancel_laws.specs.ButFor.{hushed_link};
 ghost use Rattle.cancel_laws.specs.Cancels.{cancel_of, connected_at, handed_in_at, HasStarted, GoesOn};
 
 /// Does nothing. Its contract: where submission n has started and is open after a history, its cancel there changes
-/// nothing of what comes later but n's own outcome. All other submissions have the same outcomes; the turns show the same
-/// starts, offers, waits and closes in the same order; each item goes to the same message; and the same events are bad.
+/// nothing of what comes later but n's own outcome, which it never gets. All other submissions have the same outcomes;
+/// the turns show the same starts, offers, waits and closes in the same order; each item goes to the same message; and
+/// the same events are bad.
 pub fn a_cancel_changes_one_outcome()
     ensures good { (config : Config) (word draw n : ℕ) (before : List Event) → HasStarted n (state_after config word before).connection → is_bad_after config word before (cancel_of draw n) ≡ false }
     ensures outcomes { (config : Config) (word draw n m : ℕ) (before after : List Event) → HasStarted n (state_after config word before).connection → m ≢ n → outcome_at (outcomes_after config word (before ++ after)) m ≡ outcome_at (outcomes_after config word (before ++ cancel_of draw n ∷ after)) m }
+    ensures none { (config : Config) (word draw n : ℕ) (before after : List Event) → HasStarted n (state_after config word before).connection → outcome_at (outcomes_after config word (before ++ cancel_of draw n ∷ after)) n ≡ outcome_at (outcomes_after config word before) n }
     ensures turns { (config : Config) (word draw n : ℕ) (before after : List Event) → HasStarted n (state_after config word before).connection → GoesOn config word n before (cancel_of draw n) after }
-    ensures items { (config : Config) (word draw n : ℕ) (before after : List Event) → HasStarted n (state_after config word before).connection → hushed_link n (state_after config word (before ++ after)).connection.link ≡ hushed_link n (state_after config word (before ++ cancel_of draw n ∷ after)).connection.link }
+    ensures items { (config : Config) (word draw n : ℕ) (before after : List Event) → HasStarted n (state_after config word before).connection → hushed_link n (state_after config word (before ++ after)).connection.link ≡ (state_after config word (before ++ cancel_of draw n ∷ after)).connection.link }
     ensures bad { (config : Config) (word draw n : ℕ) (before after : List Event) (e : Event) → HasStarted n (state_after config word before).connection → is_bad_after config word (before ++ after) e ≡ is_bad_after config word (before ++ cancel_of draw n ∷ after) e }
 {}
 
