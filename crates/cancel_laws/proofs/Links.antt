@@ -3,7 +3,7 @@ use Rattle.std.proofs.Common.{◌≡◌, ℕ, ◌==◌, ◌&&◌, not, nat_lt, B
 use Rattle.resp_value.specs.Data.{Data}
 use Rattle.resp_value.specs.declared.redis_error.RedisError.{RedisError}
 use Rattle.resp_value.specs.declared.redis_error.RedisError.TheVariants as error
-use Rattle.resp_read.specs.Values.{values}
+use Rattle.resp_read.specs.Items.{items}
 use Rattle.driver_model.specs.Shape.{need, verdict}
 use Rattle.driver_model.specs.declared.outcome.Verdict.TheVariants.{Fault}
 use Rattle.link_core.specs.declared.errors.LinkFault.{LinkFault}
@@ -68,10 +68,10 @@ hushed_dealt n d (v ∷ vs) = hushed_dealt n (dealt d v) vs ∙ ap (λ x. dealt_
 hushed_all : (n : ℕ) (s : Settling) (bytes : List ℕ) → hushed_settling n (came_all s bytes) ≡ came_all (hushed_settling n s) bytes
 hushed_all n s bytes =
     let first : Dealing = record { row = s.link.row; out = [] } in
-    let d = dealt_each first (values bytes) in
+    let d = dealt_each first (items bytes) in
     let l = read_on s.link bytes in
     ap (λ out. record { link = record l { row = hushed_each n d.row }; out = out }) (others_append n s.out d.out)
-    ∙ ap (λ (x : Dealing). record { link = record l { row = x.row }; out = others n s.out ++ x.out }) (hushed_dealt n first (values bytes))
+    ∙ ap (λ (x : Dealing). record { link = record l { row = x.row }; out = others n s.out ++ x.out }) (hushed_dealt n first (items bytes))
 
 -- bytes come
 pub hushed_came : (n : ℕ) (s : Settling) (piece : List ℕ) → hushed_settling n (came s piece) ≡ came (hushed_settling n s) piece

@@ -1,7 +1,7 @@
 -- A submission has at most one message on its link.
 use Rattle.std.proofs.Common.{◌≡◌, ℕ, zero, suc, ◌+◌, ◌≤◌, ◌==◌, nat_lt, ◌&&◌, true, false, List, [], ◌∷◌, ◌++◌, length, Option, Some, None, slice_get, slice_set, if◌then◌else◌, refl, ap, ◌∙◌, subst, arith}
 use Rattle.resp_value.specs.Data.{Data}
-use Rattle.resp_read.specs.Values.{values}
+use Rattle.resp_read.specs.Items.{items}
 use Rattle.driver_model.specs.Shape.{need}
 use Rattle.driver_model.specs.declared.event.EventKind.{EventKind}
 use Rattle.driver_model.specs.declared.event.EventKind.TheVariants as event
@@ -138,7 +138,7 @@ once_there n = record {
   offer = λ r l h. record { within = h.within };
   write = λ r l k h. record { within = h.within };
   come = λ r l piece h. chosen (λ (x : Settling). IsOnce n r x.link) l.broken _ _ (λ t. h)
-      (λ f. record { within = omega (arith, h.within, times_dealt n (record { row = l.row; out = [] }) (values (l.rest ++ piece))) });
+      (λ f. record { within = omega (arith, h.within, times_dealt n (record { row = l.row; out = [] }) (items (l.rest ++ piece))) });
   fail = λ r l f h. record { within = omega arith };
   close = λ r l h. record { within = omega arith };
 }

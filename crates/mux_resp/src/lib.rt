@@ -5,3 +5,6 @@ pub use containers::{Bytes, Names};
 pub use resp_read::{ReadError, Reader};
 pub use resp_value::{Inner, Pairs, PushKind, RedisError, ServerError, Value, Values};
 pub use resp_write::{Cmd, cmd};
+
+#[cfg(test)]
+mod tests;

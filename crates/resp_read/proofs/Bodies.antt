@@ -1,13 +1,14 @@
--- Bytes of an announced length are lawful.
-use Rattle.std.proofs.Common.{◌≡◌, ℕ, ◌-◌, ◌≤◌, ◌<◌, List, [], ◌∷◌, ◌++◌, length, take, drop, replicate, Bool, true, false, cond, refl, sym, ap, ◌∙◌, append_assoc, arith, length-append}
-use Rattle.std.proofs.lemmas.List.{length-replicate, take-append-drop, take-append-le, drop-append-le, take_at, drop_at}
+-- Forms that announce a length are lawful.
+use Rattle.std.proofs.Common.{◌≡◌, ℕ, ◌-◌, ◌*◌, ◌≤◌, ◌<◌, lit≤, List, [], ◌∷◌, ◌++◌, length, take, drop, replicate, Bool, true, false, cond, refl, sym, ap, ◌∙◌, append_assoc, arith, length-append}
+use Rattle.std.proofs.lemmas.List.{length-replicate, take-append-drop, take-append-le, drop-append-le, take_at, drop_at, take_all, drop_all}
 use Rattle.std.proofs.lemmas.Bool.Decides.{nat_tests}
 use Rattle.std.specs.Prelude.{◌==◌, nat_lt, Option, Some, None}
-use Rattle.resp_value.specs.Data.{nil, bulk}
-use Rattle.resp_read.specs.Grammar.{read, short, bad, fed, closed, body, bulk_of, bulk_string, line_as, size_line}
-use Rattle.resp_read.proofs.Laws.{LawfulAt, Lawful, Possible, lawful_where_short, lawful_bad, lawful_read, lawful_if, lawful_cons, lawful_nil, lawful_then, lawful_map, possible_map}
+use Rattle.resp_value.specs.Data.{nil, bulk, verbatim}
+use Rattle.resp_read.specs.Grammar.{read, short, bad, fed, closed, body, bulk_of, bulk_string, line_as, size_line, count_line, max_bulk, error_of, error_body, bulk_error, some_bytes, colon, format, text_of, verbatim_of, verbatim_string, text_line, bulk_text, kind}
+use Rattle.resp_read.proofs.Laws.{LawfulAt, Lawful, Possible, lawful_where_read, lawful_where_short, lawful_bad, lawful_read, lawful_if, lawful_cons, lawful_nil, lawful_then, lawful_map, possible_map, possible_then}
 use Rattle.resp_read.proofs.LineLaws.{lawful_line}
-use Rattle.resp_read.proofs.Numbers.{lawful_size}
+use Rattle.resp_read.proofs.Numbers.{lawful_size, lawful_text_line}
+use Rattle.resp_read.proofs.Counts.{lawful_count}
 
 module _ {A : Type 0} (v : A) where
   pub lawful_fed : Lawful (fed v)
@@ -70,4 +71,82 @@ bulk_of_possible None = ([], nil, refl)
 bulk_of_possible (Some n) = possible_map bulk (body n) (body_possible n)
 
 pub lawful_bulk_string : Lawful bulk_string
-lawful_bulk_string = lawful_then (line_as size_line) bulk_of (lawful_line size_line lawful_size) lawful_bulk_of bulk_of_possible
+lawful_bulk_string = lawful_then (line_as (size_line max_bulk)) bulk_of (lawful_line (size_line max_bulk) (lawful_size max_bulk)) lawful_bulk_of bulk_of_possible
+
+pub lawful_counted : (least most : ℕ) → least ≤ 9 → 11 * least ≤ most → Lawful (line_as (count_line least most))
+lawful_counted least most digit room = lawful_line (count_line least most) (lawful_count least most digit room)
+
+pub lawful_bulk_error : Lawful bulk_error
+lawful_bulk_error =
+    lawful_then (line_as (count_line 0 max_bulk)) error_body (lawful_counted 0 max_bulk (lit≤ tt) (lit≤ tt))
+    (λ n. lawful_map error_of (body n) (lawful_body n)) (λ n. possible_map error_of (body n) (body_possible n))
+
+-- n bytes
+bytes_few : (n : ℕ) (bs : List ℕ) → length bs < n → some_bytes n bs ≡ short
+bytes_few n bs h = let c : nat_lt (length bs) n ≡ true = grind (arith, nat_tests) in rw c refl
+
+bytes_enough : (n : ℕ) (bs : List ℕ) → n ≤ length bs → some_bytes n bs ≡ read (take n bs) (drop n bs)
+bytes_enough n bs h = let c : nat_lt (length bs) n ≡ false = grind (arith, nat_tests) in rw c refl
+
+bytes_all : (n : ℕ) (bs : List ℕ) → length bs ≡ n → some_bytes n bs ≡ read bs []
+bytes_all n bs h = bytes_enough n bs (omega arith) ∙ (λ i. read (take_all n bs (omega arith) i) (drop_all n bs (omega arith) i))
+
+bytes_by : (n : ℕ) (bs : List ℕ) (c : Bool) → nat_lt (length bs) n ≡ c → LawfulAt (some_bytes n) bs
+bytes_by n bs true h =
+    let few : length bs < n = grind (arith, nat_tests) in
+    let pad = replicate (n - length bs) 0 in
+    let e : length (bs ++ pad) ≡ n = omega (arith, few, length-append bs pad, length-replicate {A = ℕ} (n - length bs) 0) in
+    lawful_where_short (some_bytes n) bs (bytes_few n bs few) pad (bs ++ pad) (bytes_all n (bs ++ pad) e)
+bytes_by n bs false h =
+    let fit : n ≤ length bs = grind (arith, nat_tests) in
+    lawful_where_read (some_bytes n) bs (take n bs) (drop n bs) (take n bs) (bytes_enough n bs fit)
+    (λ m. bytes_enough n (bs ++ m) (omega (arith, fit, length-append bs m)) ∙ (λ i. read (take-append-le n bs m fit i) (drop-append-le n bs m fit i)))
+    (sym (take-append-drop n bs))
+
+lawful_bytes : (n : ℕ) → Lawful (some_bytes n)
+lawful_bytes n bs = bytes_by n bs (nat_lt (length bs) n) refl
+
+module _ {A : Type 0} (v : A) where
+  colon_possible : Possible (colon v)
+  colon_possible = (58 ∷ [], v, refl)
+
+  lawful_colon : Lawful (colon v)
+  lawful_colon [] = lawful_nil (colon v) refl colon_possible
+  lawful_colon (b ∷ bs) = lawful_cons (colon v) (λ x. cond (b == 58) (read v x) bad) b bs (λ x. refl) (lawful_if (b == 58) (read v) (λ x. bad) bs (lawful_read v bs) (lawful_bad bs))
+
+lawful_format : Lawful format
+lawful_format = lawful_then (some_bytes 3) colon (lawful_bytes 3) lawful_colon colon_possible
+
+format_possible : Possible format
+format_possible = (0 ∷ 0 ∷ 0 ∷ 58 ∷ [], 0 ∷ 0 ∷ 0 ∷ [], refl)
+
+lawful_text : (n : ℕ) (f : List ℕ) → Lawful (text_of n f)
+lawful_text n f = lawful_map (verbatim f) (body (n - 4)) (lawful_body (n - 4))
+
+text_possible : (n : ℕ) (f : List ℕ) → Possible (text_of n f)
+text_possible n f = possible_map (verbatim f) (body (n - 4)) (body_possible (n - 4))
+
+lawful_verbatim_of : (n : ℕ) → Lawful (verbatim_of n)
+lawful_verbatim_of n = lawful_then format (text_of n) lawful_format (lawful_text n) (text_possible n)
+
+verbatim_possible : (n : ℕ) → Possible (verbatim_of n)
+verbatim_possible n = possible_then format (text_of n) lawful_format format_possible (text_possible n)
+
+pub lawful_verbatim_string : Lawful verbatim_string
+lawful_verbatim_string = lawful_then (line_as (count_line 4 max_bulk)) verbatim_of (lawful_counted 4 max_bulk (lit≤ tt) (lit≤ tt)) lawful_verbatim_of verbatim_possible
+
+-- the kind of a push
+kind_line : Lawful (line_as text_line)
+kind_line = lawful_line text_line lawful_text_line
+
+kind_text : Lawful bulk_text
+kind_text = lawful_then (line_as (count_line 0 max_bulk)) body (lawful_counted 0 max_bulk (lit≤ tt) (lit≤ tt)) lawful_body body_possible
+
+pub kind_possible : Possible kind
+kind_possible = (43 ∷ 13 ∷ 10 ∷ [], [], refl)
+
+pub lawful_kind : Lawful kind
+lawful_kind [] = lawful_nil kind refl kind_possible
+lawful_kind (b ∷ bs) =
+    lawful_cons kind (λ x. cond (b == 43) (line_as text_line x) (cond (b == 36) (bulk_text x) bad)) b bs (λ x. refl)
+    (lawful_if (b == 43) (line_as text_line) (λ x. cond (b == 36) (bulk_text x) bad) bs (kind_line bs) (lawful_if (b == 36) bulk_text (λ x. bad) bs (kind_text bs) (lawful_bad bs)))

@@ -81,6 +81,11 @@ module _ {A B : Type 0} (f : List ℕ → Found A) (g : A → List ℕ → Found
   pub lawful_then : Lawful f → ((a : A) → Lawful (g a)) → ((a : A) → Possible (g a)) → Lawful both
   lawful_then h k full bs = then_by bs (f bs) refl h k full
 
+  pub possible_then : Lawful f → Possible f → ((a : A) → Possible (g a)) → Possible both
+  possible_then h p k =
+      let q = k p.1 in
+      (p.0 ++ q.0, q.1, ap (found_and_then g) ((h p.0).grows q.0 p.1 [] p.2) ∙ q.2)
+
 module _ {A B : Type 0} (h : A → B) (f : List ℕ → Found A) where
   pub lawful_map : Lawful f → Lawful (λ bs. found_map h (f bs))
   lawful_map lawful = lawful_then f (λ a rest. read (h a) rest) lawful (λ a. lawful_read (h a)) (λ a. ([], h a, refl))

@@ -3,7 +3,12 @@ pub mod Scans
 pub mod Laws
 pub mod LineLaws
 pub mod Numbers
+pub mod Counts
+pub mod WordLaws
+pub mod DoubleLaws
 pub mod Bodies
+pub mod Repeats
 pub mod ParseLaws
 pub mod ReadLaws
 pub mod ValueLaws
+pub mod ItemLaws

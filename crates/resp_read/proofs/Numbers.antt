@@ -1,27 +1,27 @@
--- The lines of each form: which fronts can become one.
+-- Numbers and lengths with `-1`: which fronts can become one.
 use Rattle.std.proofs.Common.{◌≡◌, ℕ, ◌+◌, ◌-◌, ◌*◌, ◌≤◌, ◌<◌, List, [], ◌∷◌, ◌++◌, length, Option, Some, None, Bool, true, false, cond, inl, inr, lit≤, refl, sym, ap, ◌∙◌, subst, arith}
 use Rattle.std.proofs.lemmas.List.{append-nil}
 use Rattle.std.proofs.lemmas.Bool.Decides.{nat_tests}
 use Rattle.std.specs.Prelude.{ℤ, pos, neg_ℤ, nat_le, option_map, ◌==◌, ◌&&◌, ◌||◌, bytes_eq, is_some, ◌⊎◌}
 use Rattle.resp_value.specs.Data.{int}
-use Rattle.resp_read.specs.Grammar.{max_line, max_bulk, is_digit, digits_after, at_most, natural, number, number_begun, size, size_begun, simple_of, error_of, simple_line, error_line, number_line, size_line}
+use Rattle.resp_read.specs.Grammar.{max_line, is_digit, digits_after, at_most, natural, number, number_begun, size, size_begun, simple_of, error_of, simple_line, error_line, number_line, size_line, text_line}
 use Rattle.resp_read.proofs.Scans.{stays_above}
 use Rattle.resp_read.proofs.LineLaws.{IsOneLine, LawfulLine}
 
 -- some line of the form begins with l
-abbrev Begins : {A : Type 0} → (List ℕ → Option A) → List ℕ → Type 0
+abbrev pub Begins : {A : Type 0} → (List ℕ → Option A) → List ℕ → Type 0
 Begins {A} f l = (q : List ℕ) × (a : A) × (f (l ++ q) ≡ Some a) × (length (l ++ q) ≤ max_line) × IsOneLine q
 
-is_none : {A : Type 0} (o : Option A) → is_some o ≡ false → o ≡ None
+pub is_none : {A : Type 0} (o : Option A) → is_some o ≡ false → o ≡ None
 is_none None h = refl
 is_none (Some x) h = cc
 
 module _ {A : Type 0} (f : List ℕ → Option A) where
-  whole_already : (l : List ℕ) (o : Option A) → f l ≡ o → length l ≤ max_line → is_some o ≡ true → Begins f l
+  pub whole_already : (l : List ℕ) (o : Option A) → f l ≡ o → length l ≤ max_line → is_some o ≡ true → Begins f l
   whole_already l None is fit h = cc
   whole_already l (Some a) is fit h = ([], a, ap f (append-nil l) ∙ is, subst (λ x. length x ≤ max_line) (sym (append-nil l)) fit, refl)
 
-  seen_through : {B : Type 0} (h : A → B) (l : List ℕ) → Begins f l → Begins (λ x. option_map h (f x)) l
+  pub seen_through : {B : Type 0} (h : A → B) (l : List ℕ) → Begins f l → Begins (λ x. option_map h (f x)) l
   seen_through h l b = (b.0, h b.1, ap (option_map h) b.2, b.3, b.4)
 
 -- every line is of the form
@@ -34,6 +34,9 @@ module _ {A : Type 0} (f : List ℕ → A) where
 
 pub lawful_simple : LawfulLine simple_line
 lawful_simple = any_line simple_of
+
+pub lawful_text_line : LawfulLine text_line
+lawful_text_line = any_line (λ l. l)
 
 pub lawful_error : LawfulLine error_line
 lawful_error = any_line error_of
@@ -52,7 +55,7 @@ digits_stay most n [] q h = stays_above most n q (above most n (nat_le n most) r
 digits_stay most n (b ∷ ds) q h =
     none_still (is_digit b) most (digits_after (10 * n + (b - 48)) ds) (digits_after (10 * n + (b - 48)) (ds ++ q)) (digits_stay most (10 * n + (b - 48)) ds q) h
 
-natural_stays : (most b : ℕ) (ds q : List ℕ) → natural most (b ∷ ds) ≡ None → natural most ((b ∷ ds) ++ q) ≡ None
+pub natural_stays : (most b : ℕ) (ds q : List ℕ) → natural most (b ∷ ds) ≡ None → natural most ((b ∷ ds) ++ q) ≡ None
 natural_stays most b ds q h = digits_stay most 0 (b ∷ ds) q h
 
 module _ {A B : Type 0} (h : A → B) where
@@ -124,12 +127,12 @@ same_by true true w h = cc
 same_by true false w h = refl
 same_by false y w h = refl
 
-never_both : (x y : Bool) → (x && (y && false)) ≡ false
+pub never_both : (x y : Bool) → (x && (y && false)) ≡ false
 never_both true true = refl
 never_both true false = refl
 never_both false y = refl
 
-longer_other : (b c : ℕ) (ds q : List ℕ) → bytes_eq (b ∷ c ∷ ds) (45 ∷ 49 ∷ []) ≡ false → bytes_eq ((b ∷ c ∷ ds) ++ q) (45 ∷ 49 ∷ []) ≡ false
+pub longer_other : (b c : ℕ) (ds q : List ℕ) → bytes_eq (b ∷ c ∷ ds) (45 ∷ 49 ∷ []) ≡ false → bytes_eq ((b ∷ c ∷ ds) ++ q) (45 ∷ 49 ∷ []) ≡ false
 longer_other b c [] q h = same_by (b == 45) (c == 49) (bytes_eq q []) h
 longer_other b c (d ∷ ds) q h = never_both (b == 45) (c == 49)
 
@@ -137,42 +140,42 @@ not_minus_one : (c : Bool) (x : Option (Option ℕ)) → c ≡ false → x ≡ N
 not_minus_one true x h k = cc
 not_minus_one false x h k = k
 
-size_stays : (b c : ℕ) (ds q : List ℕ) → size (b ∷ c ∷ ds) ≡ None → size ((b ∷ c ∷ ds) ++ q) ≡ None
-size_stays b c ds q e =
-    let was = was_other (bytes_eq (b ∷ c ∷ ds) (45 ∷ 49 ∷ [])) (option_map Some (natural max_bulk (b ∷ c ∷ ds))) e in
-    not_minus_one (bytes_eq ((b ∷ c ∷ ds) ++ q) (45 ∷ 49 ∷ [])) (option_map Some (natural max_bulk ((b ∷ c ∷ ds) ++ q))) (longer_other b c ds q was.0) (seen_stays Some max_bulk b (c ∷ ds) q was.1)
+size_stays : (most b c : ℕ) (ds q : List ℕ) → size most (b ∷ c ∷ ds) ≡ None → size most ((b ∷ c ∷ ds) ++ q) ≡ None
+size_stays most b c ds q e =
+    let was = was_other (bytes_eq (b ∷ c ∷ ds) (45 ∷ 49 ∷ [])) (option_map Some (natural most (b ∷ c ∷ ds))) e in
+    not_minus_one (bytes_eq ((b ∷ c ∷ ds) ++ q) (45 ∷ 49 ∷ [])) (option_map Some (natural most ((b ∷ c ∷ ds) ++ q))) (longer_other b c ds q was.0) (seen_stays Some most b (c ∷ ds) q was.1)
 
-other_start : (b : ℕ) (q : List ℕ) → (b == 45) ≡ false → bytes_eq (b ∷ q) (45 ∷ 49 ∷ []) ≡ false
+pub other_start : (b : ℕ) (q : List ℕ) → (b == 45) ≡ false → bytes_eq (b ∷ q) (45 ∷ 49 ∷ []) ≡ false
 other_start b q h = rw h refl
 
-size_stays_one : (b : ℕ) (q : List ℕ) → (b == 45) ≡ false → size (b ∷ []) ≡ None → size (b ∷ q) ≡ None
-size_stays_one b q minus e =
-    let was = was_other (bytes_eq (b ∷ []) (45 ∷ 49 ∷ [])) (option_map Some (natural max_bulk (b ∷ []))) e in
-    not_minus_one (bytes_eq (b ∷ q) (45 ∷ 49 ∷ [])) (option_map Some (natural max_bulk (b ∷ q))) (other_start b q minus) (seen_stays Some max_bulk b [] q was.1)
+size_stays_one : (most b : ℕ) (q : List ℕ) → (b == 45) ≡ false → size most (b ∷ []) ≡ None → size most (b ∷ q) ≡ None
+size_stays_one most b q minus e =
+    let was = was_other (bytes_eq (b ∷ []) (45 ∷ 49 ∷ [])) (option_map Some (natural most (b ∷ []))) e in
+    not_minus_one (bytes_eq (b ∷ q) (45 ∷ 49 ∷ [])) (option_map Some (natural most (b ∷ q))) (other_start b q minus) (seen_stays Some most b [] q was.1)
 
-one_of_two : (x y : Bool) → (x || y) ≡ true → (x ≡ true) ⊎ (y ≡ true)
+pub one_of_two : (x y : Bool) → (x || y) ≡ true → (x ≡ true) ⊎ (y ≡ true)
 one_of_two true y h = inl refl
 one_of_two false y h = inr h
 
-neither : (x y : Bool) → (x || y) ≡ false → (x ≡ false) × (y ≡ false)
+pub neither : (x y : Bool) → (x || y) ≡ false → (x ≡ false) × (y ≡ false)
 neither true y h = cc
 neither false y h = (refl, h)
 
-minus_begins : Begins size (45 ∷ [])
-minus_begins = (49 ∷ [], None, refl, lit≤ tt, refl)
+minus_begins : (most : ℕ) → Begins (size most) (45 ∷ [])
+minus_begins most = (49 ∷ [], None, refl, lit≤ tt, refl)
 
-size_can : (l : List ℕ) → length l ≤ max_line → size_begun l ≡ true → Begins size l
-size_can [] fit h = (45 ∷ 49 ∷ [], None, refl, lit≤ tt, refl)
-size_can (b ∷ []) fit h = elim (one_of_two (b == 45) (is_some (size (b ∷ []))) h) [
-  | inl minus ↦ let e : b ≡ 45 = grind (arith, nat_tests) in subst (λ x. Begins size (x ∷ [])) (sym e) minus_begins
-  | inr whole ↦ whole_already size (b ∷ []) (size (b ∷ [])) refl fit whole
+size_can : (most : ℕ) (l : List ℕ) → length l ≤ max_line → size_begun most l ≡ true → Begins (size most) l
+size_can most [] fit h = (45 ∷ 49 ∷ [], None, refl, lit≤ tt, refl)
+size_can most (b ∷ []) fit h = elim (one_of_two (b == 45) (is_some (size most (b ∷ []))) h) [
+  | inl minus ↦ let e : b ≡ 45 = grind (arith, nat_tests) in subst (λ x. Begins (size most) (x ∷ [])) (sym e) (minus_begins most)
+  | inr whole ↦ whole_already (size most) (b ∷ []) (size most (b ∷ [])) refl fit whole
 ]
-size_can (b ∷ c ∷ ds) fit h = whole_already size (b ∷ c ∷ ds) (size (b ∷ c ∷ ds)) refl fit h
+size_can most (b ∷ c ∷ ds) fit h = whole_already (size most) (b ∷ c ∷ ds) (size most (b ∷ c ∷ ds)) refl fit h
 
-size_cannot : (l q : List ℕ) → size_begun l ≡ false → size (l ++ q) ≡ None
-size_cannot [] q h = cc
-size_cannot (b ∷ []) q h = let n = neither (b == 45) (is_some (size (b ∷ []))) h in size_stays_one b q n.0 (is_none (size (b ∷ [])) n.1)
-size_cannot (b ∷ c ∷ ds) q h = size_stays b c ds q (is_none (size (b ∷ c ∷ ds)) h)
+size_cannot : (most : ℕ) (l q : List ℕ) → size_begun most l ≡ false → size most (l ++ q) ≡ None
+size_cannot most [] q h = cc
+size_cannot most (b ∷ []) q h = let n = neither (b == 45) (is_some (size most (b ∷ []))) h in size_stays_one most b q n.0 (is_none (size most (b ∷ [])) n.1)
+size_cannot most (b ∷ c ∷ ds) q h = size_stays most b c ds q (is_none (size most (b ∷ c ∷ ds)) h)
 
-pub lawful_size : LawfulLine size_line
-lawful_size = record { can = size_can; cannot = λ l q fit h. size_cannot l q h }
+pub lawful_size : (most : ℕ) → LawfulLine (size_line most)
+lawful_size most = record { can = size_can most; cannot = λ l q fit h. size_cannot most l q h }

@@ -1,12 +1,17 @@
 -- The laws of the whole grammar.
-use Rattle.std.proofs.Common.{◌≡◌, ℕ, zero, suc, ◌<◌, List, [], ◌∷◌, ◌++◌, length, get_or, drop, refl, ap, arith, length-append}
-use Rattle.std.specs.Prelude.{◌==◌}
+use Rattle.std.proofs.Common.{◌≡◌, ℕ, zero, suc, ◌<◌, List, [], ◌∷◌, ◌++◌, length, get_or, drop, Bool, true, false, cond, refl, sym, ap, ◌∙◌, subst, arith, length-append}
+use Rattle.std.specs.Prelude.{◌==◌, ◌||◌, Result}
 use Rattle.resp_value.specs.Data.{Data, simple}
-use Rattle.resp_read.specs.Grammar.{Found, read, short, Table, plain, nested, innermost, chosen, form, parse, line_as, simple_line, error_line, number_line, bulk_string}
-use Rattle.resp_read.proofs.Laws.{Lawful, lawful_bad, lawful_if, lawful_cons, lawful_nil}
+use Rattle.resp_read.specs.Grammar.{Found, read, short, Table, plain, nested, innermost, chosen, form, parse, simple_line, error_line, number_line, null_line, boolean_line, double_line, big_line, no_array_line}
+use Rattle.resp_read.specs.Parts.{has, IsFound}
+use Rattle.resp_read.specs.declared.forms.Refusal.{Refusal}
+use Rattle.resp_read.proofs.Laws.{Lawful, Possible, lawful_bad, lawful_if, lawful_cons, lawful_nil}
 use Rattle.resp_read.proofs.LineLaws.{lawful_line}
 use Rattle.resp_read.proofs.Numbers.{lawful_simple, lawful_error, lawful_number}
-use Rattle.resp_read.proofs.Bodies.{lawful_bulk_string}
+use Rattle.resp_read.proofs.WordLaws.{lawful_null, lawful_boolean, lawful_big, lawful_no_array}
+use Rattle.resp_read.proofs.DoubleLaws.{lawful_double}
+use Rattle.resp_read.proofs.Bodies.{lawful_bulk_string, lawful_bulk_error, lawful_verbatim_string}
+use Rattle.resp_read.proofs.Repeats.{lawful_array, lawful_set, lawful_dict, lawful_push, lawful_attribute}
 
 abbrev AllLawful : Table → Type 0
 AllLawful [] = Unit {0}
@@ -25,7 +30,19 @@ lawful_plain = (
   lawful_line simple_line lawful_simple,
   (
     lawful_line error_line lawful_error,
-    (lawful_line number_line lawful_number, (lawful_bulk_string, tt)),
+    (
+      lawful_line number_line lawful_number,
+      (
+        lawful_bulk_string,
+        (
+          lawful_line null_line lawful_null,
+          (
+            lawful_line boolean_line lawful_boolean,
+            (lawful_line double_line lawful_double, (lawful_line big_line lawful_big, (lawful_bulk_error, (lawful_verbatim_string, tt)))),
+          ),
+        ),
+      ),
+    ),
   ),
 )
 
@@ -37,12 +54,19 @@ lawful_form : (more : Table) → AllLawful more → Lawful (form more)
 lawful_form more h [] = lawful_nil (form more) refl (43 ∷ 13 ∷ 10 ∷ [], simple [], shortest more [])
 lawful_form more h (b ∷ bs) = lawful_cons (form more) (chosen (plain ++ more) b) b bs (λ x. refl) (lawful_chosen (plain ++ more) (lawful_more plain more lawful_plain h) b bs)
 
-lawful_nested : (inside : List ℕ → Found Data) → Lawful inside → AllLawful (nested inside)
-lawful_nested inside h = tt
+lawful_nested : (inside : List ℕ → Found Data) → Lawful inside → Possible inside → AllLawful (nested inside)
+lawful_nested inside h p = (lawful_array inside h p, (lawful_set inside h p, (lawful_dict inside h p, (lawful_push inside h p, (lawful_attribute inside h p, tt)))))
+
+lawful_innermost : AllLawful innermost
+lawful_innermost = (lawful_line no_array_line lawful_no_array, tt)
+
+parse_possible : (n : ℕ) → Possible (parse n)
+parse_possible zero = (43 ∷ 13 ∷ 10 ∷ [], simple [], shortest innermost [])
+parse_possible (suc n) = (43 ∷ 13 ∷ 10 ∷ [], simple [], shortest (nested (parse n)) [])
 
 pub lawful_parse : (n : ℕ) → Lawful (parse n)
-lawful_parse zero = lawful_form innermost tt
-lawful_parse (suc n) = lawful_form (nested (parse n)) (lawful_nested (parse n) (lawful_parse n))
+lawful_parse zero = lawful_form innermost lawful_innermost
+lawful_parse (suc n) = lawful_form (nested (parse n)) (lawful_nested (parse n) (lawful_parse n) (parse_possible n))
 
 takes_by : (more : Table) → AllLawful more → (bs : List ℕ) (v : Data) (r : List ℕ) → form more bs ≡ read v r → length r < length bs
 takes_by more h [] v r e = cc
@@ -53,8 +77,8 @@ takes_by more h (b ∷ bs) v r e =
 
 -- a value takes one byte at least
 pub takes_a_byte : (n : ℕ) (bs : List ℕ) (v : Data) (r : List ℕ) → parse n bs ≡ read v r → length r < length bs
-takes_a_byte zero bs v r e = takes_by innermost tt bs v r e
-takes_a_byte (suc n) bs v r e = takes_by (nested (parse n)) (lawful_nested (parse n) (lawful_parse n)) bs v r e
+takes_a_byte zero bs v r e = takes_by innermost lawful_innermost bs v r e
+takes_a_byte (suc n) bs v r e = takes_by (nested (parse n)) (lawful_nested (parse n) (lawful_parse n) (parse_possible n)) bs v r e
 
 pub empty_short : (n : ℕ) → parse n [] ≡ short
 empty_short zero = refl
@@ -64,19 +88,37 @@ same_first : (bs : List ℕ) (b : ℕ) → 0 < length bs → get_or bs 0 0 ≡ b
 same_first [] b h is = absurd (omega arith)
 same_first (c ∷ bs) b h is = ap (λ x. x ∷ bs) is
 
--- the form by its first byte, at every depth
-pub parse_simple : (n : ℕ) (bs : List ℕ) → 0 < length bs → get_or bs 0 0 ≡ 43 → parse n bs ≡ line_as simple_line (drop 1 bs)
-parse_simple zero bs h is = ap (parse zero) (same_first bs 43 h is)
-parse_simple (suc n) bs h is = ap (parse (suc n)) (same_first bs 43 h is)
+step_by : (c d : Bool) (x y w z : Found Data) → w ≡ cond d y z → cond c x w ≡ cond (c || d) (cond c x y) z
+step_by true d x y w z h = refl
+step_by false d x y w z h = h
 
-pub parse_error : (n : ℕ) (bs : List ℕ) → 0 < length bs → get_or bs 0 0 ≡ 45 → parse n bs ≡ line_as error_line (drop 1 bs)
-parse_error zero bs h is = ap (parse zero) (same_first bs 45 h is)
-parse_error (suc n) bs h is = ap (parse (suc n)) (same_first bs 45 h is)
+-- two tables, by whether the first one has the byte
+chosen_more : (fs gs : Table) (b : ℕ) (bs : List ℕ) → chosen (fs ++ gs) b bs ≡ cond (has fs b) (chosen fs b bs) (chosen gs b bs)
+chosen_more [] gs b bs = refl
+chosen_more (f ∷ fs) gs b bs = step_by (b == f.0) (has fs b) (f.1 bs) (chosen fs b bs) (chosen (fs ++ gs) b bs) (chosen gs b bs) (chosen_more fs gs b bs)
 
-pub parse_number : (n : ℕ) (bs : List ℕ) → 0 < length bs → get_or bs 0 0 ≡ 58 → parse n bs ≡ line_as number_line (drop 1 bs)
-parse_number zero bs h is = ap (parse zero) (same_first bs 58 h is)
-parse_number (suc n) bs h is = ap (parse (suc n)) (same_first bs 58 h is)
+form_plain : (more : Table) (b : ℕ) (bs : List ℕ) → has plain b ≡ true → form more (b ∷ bs) ≡ chosen plain b bs
+form_plain more b bs h = chosen_more plain more b bs ∙ ap (λ c. cond c (chosen plain b bs) (chosen more b bs)) h
 
-pub parse_bulk : (n : ℕ) (bs : List ℕ) → 0 < length bs → get_or bs 0 0 ≡ 36 → parse n bs ≡ bulk_string (drop 1 bs)
-parse_bulk zero bs h is = ap (parse zero) (same_first bs 36 h is)
-parse_bulk (suc n) bs h is = ap (parse (suc n)) (same_first bs 36 h is)
+form_more : (more : Table) (b : ℕ) (bs : List ℕ) → has plain b ≡ false → form more (b ∷ bs) ≡ chosen more b bs
+form_more more b bs h = chosen_more plain more b bs ∙ ap (λ c. cond c (chosen plain b bs) (chosen more b bs)) h
+
+parse_plain : (depth b : ℕ) (bs : List ℕ) → has plain b ≡ true → parse depth (b ∷ bs) ≡ chosen plain b bs
+parse_plain zero b bs h = form_plain innermost b bs h
+parse_plain (suc n) b bs h = form_plain (nested (parse n)) b bs h
+
+-- what was found behind the first byte is found at the front
+module _ {X : Type 0} (view : X → Data) (left rest : List ℕ) (b : ℕ) (r : Result X Refusal) (new : List ℕ) (some : 0 < length left) (first : get_or left 0 0 ≡ b) (behind : rest ≡ drop 1 left) where
+  at_first : (f g : List ℕ → Found Data) → ((bs : List ℕ) → f (b ∷ bs) ≡ g bs) → IsFound view (g rest) r new → IsFound view (f left) r new
+  at_first f g same found =
+      let e : f left ≡ g rest = ap f (same_first left b some first) ∙ same (drop 1 left) ∙ ap g (sym behind) in
+      subst (λ x. IsFound view x r new) (sym e) found
+
+  pub at_plain : (depth : ℕ) → has plain b ≡ true → IsFound view (chosen plain b rest) r new → IsFound view (parse depth left) r new
+  at_plain depth h found = at_first (parse depth) (chosen plain b) (λ bs. parse_plain depth b bs h) found
+
+  pub at_innermost : (depth : ℕ) → depth ≡ 0 → has plain b ≡ false → IsFound view (chosen innermost b rest) r new → IsFound view (parse depth left) r new
+  at_innermost depth is h found = at_first (parse depth) (chosen innermost b) (λ bs. ap (λ d. parse d (b ∷ bs)) is ∙ form_more innermost b bs h) found
+
+  pub at_nested : (depth n : ℕ) → depth ≡ suc n → has plain b ≡ false → IsFound view (chosen (nested (parse n)) b rest) r new → IsFound view (parse depth left) r new
+  at_nested depth n is h found = at_first (parse depth) (chosen (nested (parse n)) b) (λ bs. ap (λ d. parse d (b ∷ bs)) is ∙ form_more (nested (parse n)) b bs h) found

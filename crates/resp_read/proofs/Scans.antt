@@ -3,7 +3,9 @@ use Rattle.std.proofs.Common.{◌≡◌, ℕ, ◌+◌, ◌-◌, ◌*◌, ◌≤�
 use Rattle.std.proofs.lemmas.List.{append-nil, drop_more, take_more, drop_all, take_all}
 use Rattle.std.proofs.lemmas.Bool.Decides.{nat_tests}
 use Rattle.std.specs.Prelude.{◌==◌, ◌⊎◌, ◌&&◌, nat_le}
-use Rattle.resp_read.specs.Grammar.{ended, held, unended, broken, after_return, byte_before, line, is_digit, digits_after, at_most, natural, before_space, after_space}
+use Rattle.resp_read.specs.Grammar.{ended, held, unended, broken, after_return, byte_before, line, is_digit, digits_after, at_most, natural, before_space, after_space, after_digits, is_end}
+use Rattle.resp_read.specs.Doubles.{step, run}
+use Rattle.resp_read.specs.declared.decimals.Seen.{Seen}
 use Rattle.resp_read.proofs.FirstLine.{bytes_before, before-ended, before-held, before-unended, before-broken, before-push}
 
 -- the first i bytes hold no CR
@@ -129,3 +131,20 @@ pub no_space : (i : ℕ) (l : List ℕ) → length l ≤ i → IsSpaceless i l �
 no_space i l h so_far =
     let d = drop_all i l h in
     (so_far.0 ∙ (λ j. take_all i l h j ++ before_space (d j)) ∙ append-nil l, so_far.1 ∙ ap after_space d)
+
+-- the digits behind i others
+pub digit_passed : (i : ℕ) (l : List ℕ) → i < length l → is_digit (get_or l i 0) ≡ true → after_digits (drop i l) ≡ after_digits (drop (i + 1) l)
+digit_passed i l h is = ap after_digits (drop_more l i 0 h) ∙ ap (λ c. cond c (after_digits (drop (i + 1) l)) (get_or l i 0 ∷ drop (i + 1) l)) is
+
+pub digits_stop : (i : ℕ) (l : List ℕ) → i < length l → is_digit (get_or l i 0) ≡ false → is_end (after_digits (drop i l)) ≡ false
+digits_stop i l h is = ap (λ x. is_end (after_digits x)) (drop_more l i 0 h) ∙ ap (λ c. is_end (cond c (after_digits (drop (i + 1) l)) (get_or l i 0 ∷ drop (i + 1) l))) is
+
+pub digits_done : (i : ℕ) (l : List ℕ) → length l ≤ i → is_end (after_digits (drop i l)) ≡ true
+digits_done i l h = ap (λ x. is_end (after_digits x)) (drop_all i l h)
+
+-- a double is read byte by byte
+pub run_more : (s : Seen) (i : ℕ) (l : List ℕ) → i < length l → run s (drop i l) ≡ run (step s (get_or l i 0)) (drop (i + 1) l)
+run_more s i l h = ap (run s) (drop_more l i 0 h)
+
+pub run_done : (s : Seen) (i : ℕ) (l : List ℕ) → length l ≤ i → run s (drop i l) ≡ s
+run_done s i l h = ap (run s) (drop_all i l h)

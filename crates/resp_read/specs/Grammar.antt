@@ -1,6 +1,7 @@
 -- RESP, the protocol of Redis (https://redis.io/docs/latest/develop/reference/protocol-spec): which value stands at the front of a text, and what is left after it.
-use Rattle.std.specs.Prelude.{ℕ, zero, suc, ◌+◌, ◌-◌, ◌*◌, ℤ, pos, neg_ℤ, Bool, true, ◌&&◌, ◌||◌, ◌==◌, nat_le, nat_lt, List, [], ◌∷◌, ◌++◌, length, take, drop, Option, Some, None, option_map, is_some, bytes_eq, if◌then◌else◌}
-use Rattle.resp_value.specs.Data.{Data, nil, int, bulk, simple, okay, error}
+use Rattle.std.specs.Prelude.{ℕ, zero, suc, ◌+◌, ◌-◌, ◌*◌, ℤ, pos, neg_ℤ, Bool, true, false, ◌&&◌, ◌||◌, ◌==◌, nat_le, nat_lt, List, [], ◌∷◌, ◌++◌, length, take, drop, Option, Some, None, option_map, is_some, bytes_eq, if◌then◌else◌}
+use Rattle.resp_value.specs.Data.{Data, nil, int, bulk, array, simple, okay, dict, attribute, set, double, boolean, verbatim, big, push, error, items_of, members_of}
+use Rattle.resp_value.specs.Kinds.{kind_of}
 
 -- what stands at the front of a text: something whole with the bytes after it, something that is not whole yet, or nothing that can become whole
 pub data Found (A : Type 0) : Type 0 where
@@ -25,6 +26,10 @@ max_line = 1_048_576
 -- the most bytes of a bulk string: 512 megabytes, the protocol's own limit
 abbrev pub max_bulk : ℕ
 max_bulk = 536_870_912
+
+-- the most values or pairs of an aggregate: a limit of this reader
+abbrev pub max_count : ℕ
+max_count = 2_147_483_647
 
 -- the first line of a text: all of it with the bytes after its CR LF, all of it where the LF is still to come, its front where no CR has come, or none because no LF follows the CR
 pub data Line : Type 0 where
@@ -108,15 +113,79 @@ number_begun [] = true
 number_begun (b ∷ []) = (b == 45) || (b == 43) || is_some (number (b ∷ []))
 number_begun (b ∷ c ∷ bs) = is_some (number (b ∷ c ∷ bs))
 
--- the length of a bulk string, or none for `-1`, which stands for Nil
-abbrev pub size : List ℕ → Option (Option ℕ)
-size l = if bytes_eq l (45 ∷ 49 ∷ []) then Some None else option_map Some (natural max_bulk l)
+-- a length that is at most that, or none for `-1`, which stands for Nil
+abbrev pub size : ℕ → List ℕ → Option (Option ℕ)
+size most l = if bytes_eq l (45 ∷ 49 ∷ []) then Some None else option_map Some (natural most l)
 
 -- the front of a length: nothing, `-`, or a length
-abbrev pub size_begun : List ℕ → Bool
-size_begun [] = true
-size_begun (b ∷ []) = (b == 45) || is_some (size (b ∷ []))
-size_begun (b ∷ c ∷ bs) = is_some (size (b ∷ c ∷ bs))
+abbrev pub size_begun : ℕ → List ℕ → Bool
+size_begun most [] = true
+size_begun most (b ∷ []) = (b == 45) || is_some (size most (b ∷ []))
+size_begun most (b ∷ c ∷ bs) = is_some (size most (b ∷ c ∷ bs))
+
+-- a number that is not below the limit
+abbrev pub at_least : ℕ → Option ℕ → Option ℕ
+at_least least None = None
+at_least least (Some n) = if nat_le least n then Some n else None
+
+-- a length between these two
+abbrev pub count : ℕ → ℕ → List ℕ → Option ℕ
+count least most l = at_least least (natural most l)
+
+-- one of these tails makes a front one of the lines that f takes, within the limit
+abbrev pub made_by : (List ℕ → Bool) → List (List ℕ) → List ℕ → Bool
+made_by f [] l = false
+made_by f (q ∷ qs) l = (fits (l ++ q) && f (l ++ q)) || made_by f qs l
+
+-- the front of a length: it is one, or one more digit makes it one
+abbrev pub count_begun : ℕ → ℕ → List ℕ → Bool
+count_begun least most l = made_by (λ x. is_some (count least most x)) ([] ∷ ((48 + least) ∷ []) ∷ []) l
+
+-- without its sign, if there is one
+abbrev pub unsigned : List ℕ → List ℕ
+unsigned [] = []
+unsigned (b ∷ bs) = if (b == 43) || (b == 45) then bs else b ∷ bs
+
+-- what stands behind the digits at the front
+abbrev pub after_digits : List ℕ → List ℕ
+after_digits [] = []
+after_digits (b ∷ bs) = if is_digit b then after_digits bs else b ∷ bs
+
+-- one digit at least, and behind the digits what f takes
+abbrev pub digits_and : (List ℕ → Bool) → List ℕ → Bool
+digits_and f [] = false
+digits_and f (b ∷ bs) = is_digit b && f (after_digits bs)
+
+-- nothing
+abbrev pub is_end : List ℕ → Bool
+is_end [] = true
+is_end (b ∷ bs) = false
+
+-- nothing, or `e` or `E` and digits with a sign or without
+abbrev pub is_exponent : List ℕ → Bool
+is_exponent [] = true
+is_exponent (b ∷ bs) = ((b == 101) || (b == 69)) && digits_and is_end (unsigned bs)
+
+-- `.` and digits, or none of them; and an exponent
+abbrev pub is_fraction : List ℕ → Bool
+is_fraction [] = true
+is_fraction (b ∷ bs) = if b == 46 then digits_and is_exponent bs else is_exponent (b ∷ bs)
+
+-- `inf`, `-inf`, `nan`, or digits with a sign or without, a fraction and an exponent
+abbrev pub is_double : List ℕ → Bool
+is_double l = bytes_eq l (105 ∷ 110 ∷ 102 ∷ []) || bytes_eq l (45 ∷ 105 ∷ 110 ∷ 102 ∷ []) || bytes_eq l (110 ∷ 97 ∷ 110 ∷ []) || digits_and is_fraction (unsigned l)
+
+-- what makes the front of a double whole: nothing, a digit, or what is left of `inf` or `nan`
+abbrev pub double_tails : List (List ℕ)
+double_tails = [] ∷ (48 ∷ []) ∷ (110 ∷ 102 ∷ []) ∷ (102 ∷ []) ∷ (97 ∷ 110 ∷ []) ∷ (110 ∷ []) ∷ []
+
+-- digits, with a sign or without
+abbrev pub is_big : List ℕ → Bool
+is_big l = digits_and is_end (unsigned l)
+
+-- the front of that: nothing, a sign, or some of the digits
+abbrev pub big_begun : List ℕ → Bool
+big_begun l = is_end (after_digits (unsigned l))
 
 -- v, where LF follows
 abbrev pub fed : {A : Type 0} → A → List ℕ → Found A
@@ -162,9 +231,33 @@ error_line = record { whole = λ l. Some (error_of l); begun = λ l. true }
 abbrev pub number_line : LineForm Data
 number_line = record { whole = λ l. option_map int (number l); begun = number_begun }
 
--- the line that announces how long a bulk string is
-abbrev pub size_line : LineForm (Option ℕ)
-size_line = record { whole = size; begun = size_begun }
+-- `_`: Nil, the empty line
+abbrev pub null_line : LineForm Data
+null_line = record { whole = λ l. if is_end l then Some nil else None; begun = is_end }
+
+-- `t` or `f`
+abbrev pub truth : List ℕ → Option Bool
+truth l = if bytes_eq l (116 ∷ []) then Some true else if bytes_eq l (102 ∷ []) then Some false else None
+
+-- `#`: a boolean
+abbrev pub boolean_line : LineForm Data
+boolean_line = record { whole = λ l. option_map boolean (truth l); begun = λ l. is_end l || is_some (truth l) }
+
+-- `,`: a double, whose text is kept
+abbrev pub double_line : LineForm Data
+double_line = record { whole = λ l. if is_double l then Some (double l) else None; begun = made_by is_double double_tails }
+
+-- `(`: a big number, whose text is kept
+abbrev pub big_line : LineForm Data
+big_line = record { whole = λ l. if is_big l then Some (big l) else None; begun = big_begun }
+
+-- the line that announces a length, or `-1`
+abbrev pub size_line : ℕ → LineForm (Option ℕ)
+size_line most = record { whole = size most; begun = size_begun most }
+
+-- the line that announces a length between these two
+abbrev pub count_line : ℕ → ℕ → LineForm ℕ
+count_line least most = record { whole = count least most; begun = count_begun least most }
 
 -- Nil, or a bulk string of that length
 abbrev pub bulk_of : Option ℕ → List ℕ → Found Data
@@ -173,7 +266,121 @@ bulk_of (Some n) bs = found_map bulk (body n bs)
 
 -- `$`: a length, and so many bytes
 abbrev pub bulk_string : List ℕ → Found Data
-bulk_string bs = found_and_then bulk_of (line_as size_line bs)
+bulk_string bs = found_and_then bulk_of (line_as (size_line max_bulk) bs)
+
+-- an error of that length
+abbrev pub error_body : ℕ → List ℕ → Found Data
+error_body n bs = found_map error_of (body n bs)
+
+-- `!`: an error in so many bytes
+abbrev pub bulk_error : List ℕ → Found Data
+bulk_error bs = found_and_then error_body (line_as (count_line 0 max_bulk) bs)
+
+-- n bytes
+abbrev pub some_bytes : ℕ → List ℕ → Found (List ℕ)
+some_bytes n bs = if nat_lt (length bs) n then short else read (take n bs) (drop n bs)
+
+-- v, where `:` follows
+abbrev pub colon : {A : Type 0} → A → List ℕ → Found A
+colon v [] = short
+colon v (b ∷ bs) = if b == 58 then read v bs else bad
+
+-- the format of a text: three bytes, and `:`
+abbrev pub format : List ℕ → Found (List ℕ)
+format bs = found_and_then colon (some_bytes 3 bs)
+
+-- a text of that format, of n bytes with its format
+abbrev pub text_of : ℕ → List ℕ → List ℕ → Found Data
+text_of n f bs = found_map (verbatim f) (body (n - 4) bs)
+
+-- a format and its text
+abbrev pub verbatim_of : ℕ → List ℕ → Found Data
+verbatim_of n bs = found_and_then (text_of n) (format bs)
+
+-- `=`: a text with its format
+abbrev pub verbatim_string : List ℕ → Found Data
+verbatim_string bs = found_and_then verbatim_of (line_as (count_line 4 max_bulk) bs)
+
+-- n of what inside reads, one after another
+abbrev pub repeated : {A : Type 0} → (List ℕ → Found A) → ℕ → List ℕ → Found (List A)
+repeated inside zero bs = read [] bs
+repeated inside (suc n) bs = found_and_then (λ a rest. found_map (λ others. a ∷ others) (repeated inside n rest)) (inside bs)
+
+-- two values
+abbrev pub pair : (List ℕ → Found Data) → List ℕ → Found (Data × Data)
+pair inside bs = found_and_then (λ k rest. found_map (λ v. (k, v)) (inside rest)) (inside bs)
+
+-- Nil, or an array of n values
+abbrev pub array_of : (List ℕ → Found Data) → Option ℕ → List ℕ → Found Data
+array_of inside None bs = read nil bs
+array_of inside (Some n) bs = found_map (λ ds. array (items_of ds)) (repeated inside n bs)
+
+-- `*`: a count, and so many values
+abbrev pub array_form : (List ℕ → Found Data) → List ℕ → Found Data
+array_form inside bs = found_and_then (array_of inside) (line_as (size_line max_count) bs)
+
+-- a set of n values
+abbrev pub set_of : (List ℕ → Found Data) → ℕ → List ℕ → Found Data
+set_of inside n bs = found_map (λ ds. set (items_of ds)) (repeated inside n bs)
+
+-- `~`: a count, and so many values
+abbrev pub set_form : (List ℕ → Found Data) → List ℕ → Found Data
+set_form inside bs = found_and_then (set_of inside) (line_as (count_line 0 max_count) bs)
+
+-- a map of n pairs
+abbrev pub map_of : (List ℕ → Found Data) → ℕ → List ℕ → Found Data
+map_of inside n bs = found_map (λ ps. dict (members_of ps)) (repeated (pair inside) n bs)
+
+-- `%`: a count, and so many pairs
+abbrev pub map_form : (List ℕ → Found Data) → List ℕ → Found Data
+map_form inside bs = found_and_then (map_of inside) (line_as (count_line 0 max_count) bs)
+
+-- a value with these attributes
+abbrev pub attributed : (List ℕ → Found Data) → List (Data × Data) → List ℕ → Found Data
+attributed inside ps bs = found_map (λ v. attribute v (members_of ps)) (inside bs)
+
+-- n pairs, and the value that they are attributes of
+abbrev pub attribute_of : (List ℕ → Found Data) → ℕ → List ℕ → Found Data
+attribute_of inside n bs = found_and_then (attributed inside) (repeated (pair inside) n bs)
+
+-- `|`: a count, so many pairs, and a value
+abbrev pub attribute_form : (List ℕ → Found Data) → List ℕ → Found Data
+attribute_form inside bs = found_and_then (attribute_of inside) (line_as (count_line 0 max_count) bs)
+
+-- a line that is a text
+abbrev pub text_line : LineForm (List ℕ)
+text_line = record { whole = λ l. Some l; begun = λ l. true }
+
+-- a length, and a text of so many bytes
+abbrev pub bulk_text : List ℕ → Found (List ℕ)
+bulk_text bs = found_and_then body (line_as (count_line 0 max_bulk) bs)
+
+-- the kind of a push: a simple or a bulk string
+abbrev pub kind : List ℕ → Found (List ℕ)
+kind [] = short
+kind (b ∷ bs) = if b == 43 then line_as text_line bs else if b == 36 then bulk_text bs else bad
+
+-- n values with their kind among them
+abbrev pub push_with : (List ℕ → Found Data) → ℕ → List ℕ → List ℕ → Found Data
+push_with inside n k bs = found_map (λ ds. push (kind_of k) (items_of ds)) (repeated inside (n - 1) bs)
+
+-- a kind, and the others of n values
+abbrev pub push_of : (List ℕ → Found Data) → ℕ → List ℕ → Found Data
+push_of inside n bs = found_and_then (push_with inside n) (kind bs)
+
+-- `>`: a count of one at least, a kind, and the other values
+abbrev pub push_form : (List ℕ → Found Data) → List ℕ → Found Data
+push_form inside bs = found_and_then (push_of inside) (line_as (count_line 1 max_count) bs)
+
+-- the front of `-1`
+abbrev pub no_array_begun : List ℕ → Bool
+no_array_begun [] = true
+no_array_begun (b ∷ []) = b == 45
+no_array_begun (b ∷ c ∷ bs) = bytes_eq (b ∷ c ∷ bs) (45 ∷ 49 ∷ [])
+
+-- `*-1`: Nil
+abbrev pub no_array_line : LineForm Data
+no_array_line = record { whole = λ l. if bytes_eq l (45 ∷ 49 ∷ []) then Some nil else None; begun = no_array_begun }
 
 -- first bytes, and what reads the bytes after each
 abbrev pub Table : Type 0
@@ -186,15 +393,27 @@ plain =
     ∷ (45, line_as error_line)
     ∷ (58, line_as number_line)
     ∷ (36, bulk_string)
+    ∷ (95, line_as null_line)
+    ∷ (35, line_as boolean_line)
+    ∷ (44, line_as double_line)
+    ∷ (40, line_as big_line)
+    ∷ (33, bulk_error)
+    ∷ (61, verbatim_string)
     ∷ []
 
 -- the forms that hold values, which inside reads
 abbrev pub nested : (List ℕ → Found Data) → Table
-nested inside = []
+nested inside =
+    (42, array_form inside)
+    ∷ (126, set_form inside)
+    ∷ (37, map_form inside)
+    ∷ (62, push_form inside)
+    ∷ (124, attribute_form inside)
+    ∷ []
 
--- the forms that stand where no nested form may
+-- where no more may be nested an array is still Nil, since that holds nothing
 abbrev pub innermost : Table
-innermost = []
+innermost = (42, line_as no_array_line) ∷ []
 
 -- by its first byte b, the form of the bytes after it; any other byte begins no value
 abbrev pub chosen : Table → ℕ → List ℕ → Found Data

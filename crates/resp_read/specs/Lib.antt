@@ -4,3 +4,5 @@ pub mod Values
 pub mod State
 pub mod Reading
 pub mod Parts
+pub mod Doubles
+pub mod Items

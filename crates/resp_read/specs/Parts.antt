@@ -1,11 +1,11 @@
 -- What the parts of the reader answer.
-use Rattle.std.specs.Prelude.{◌≡◌, ℕ, ◌+◌, ◌≤◌, List, length, take, drop, Result, Ok, Err}
+use Rattle.std.specs.Prelude.{◌≡◌, ℕ, ◌+◌, ◌≤◌, Bool, false, ◌||◌, ◌==◌, List, [], ◌∷◌, length, take, drop, Result, Ok, Err}
 use Rattle.resp_value.specs.Data.{Data}
-use Rattle.resp_read.specs.Grammar.{Found, read, short, bad, Line, ended, held, unended, broken, LineForm, simple_line, error_line, number_line}
+use Rattle.resp_read.specs.Grammar.{Found, read, short, bad, Line, ended, held, unended, broken, LineForm, simple_line, error_line, number_line, null_line, boolean_line, double_line, big_line, no_array_line, Table}
 use Rattle.resp_read.specs.declared.lines.LineEnd.{LineEnd}
 use Rattle.resp_read.specs.declared.lines.LineEnd.TheVariants.{Ended, Held, Unended, Broken}
 use Rattle.resp_read.specs.declared.forms.OneLine.{OneLine}
-use Rattle.resp_read.specs.declared.forms.OneLine.TheVariants.{Simple, Error, Number}
+use Rattle.resp_read.specs.declared.forms.OneLine.TheVariants.{Simple, Error, Number, Null, Boolean, Double, Big, NoArray}
 use Rattle.resp_read.specs.declared.forms.Refusal.{Refusal}
 use Rattle.resp_read.specs.declared.forms.Refusal.TheVariants.{Short, Bad, NoMemory}
 
@@ -28,6 +28,16 @@ abbrev pub line_form : OneLine → LineForm Data
 line_form Simple = simple_line
 line_form Error = error_line
 line_form Number = number_line
+line_form Null = null_line
+line_form Boolean = boolean_line
+line_form Double = double_line
+line_form Big = big_line
+line_form NoArray = no_array_line
+
+-- some form of the table begins with that byte
+abbrev pub has : Table → ℕ → Bool
+has [] b = false
+has (f ∷ fs) b = (b == f.0) || has fs b
 
 -- what was found, with these bytes left after it
 abbrev pub IsFound : {A X : Type 0} → (X → A) → Found A → Result X Refusal → List ℕ → Type 0

@@ -1,13 +1,17 @@
-ghost use Rattle.std.specs.Prelude.{◌≡◌, ◌≤◌, ℕ, length, IfOk, IfSome, option_map, is_some};
+ghost use Rattle.std.specs.Prelude.{◌≡◌, ◌≤◌, ◌*◌, length, IfOk, IfSome, option_map, is_some, Some, None, if◌then◌else◌};
+ghost use Rattle.resp_value.specs.Data.{nil};
 ghost use Rattle.resp_value.specs.View.{data_of};
-ghost use Rattle.resp_read.specs.Grammar.{simple_of, error_of, line_as, size_line, body as body_of, bulk_string as bulk_string_of, parse, max_bulk};
-ghost use Rattle.resp_read.specs.Parts.{line_form, IsFound};
+ghost use Rattle.resp_read.specs.Grammar.{simple_of, error_of, double_line, big_line, line_as, size_line, count_line, body as body_of, bulk_string as bulk_string_of, bulk_error as bulk_error_of, format as format_of, verbatim_string as verbatim_string_of, text_line, bulk_text as bulk_text_of, kind as kind_of, chosen, plain as plain_forms, innermost as innermost_forms, max_bulk};
+ghost use Rattle.resp_read.specs.Parts.{line_form, has, IsFound};
 
-use crate::lines;
 use crate::lines::LineEnd;
+use crate::{decimals, lines};
 use containers::Bytes;
 use resp_value::{ServerError, Value};
 use std::alloc::{AllocError, Global};
+
+/// The most bytes of a bulk string.
+const MAX_BULK: u64 = 536_870_912;
 
 /// A value that is one line.
 #[derive(Clone, Copy)]
@@ -15,6 +19,12 @@ pub enum OneLine {
     Simple,
     Error,
     Number,
+    Null,
+    Boolean,
+    Double,
+    Big,
+    /// An array that is Nil.
+    NoArray,
 }
 
 /// Why no value was read: more bytes are wanted, or none can help, or memory was refused.
@@ -65,6 +75,30 @@ fn error(alloc: Global, line: &[u8]) -> Result<Value, AllocError>
     Ok(Value::ServerError(ServerError { code, detail: None }))
 }
 
+fn nil_if(is_so: bool) -> Option<Value>
+    ensures { option_map data_of result ≡ (if is_so then Some nil else None) }
+{
+    if is_so { Some(Value::Nil) } else { None }
+}
+
+fn double(alloc: Global, line: &[u8]) -> Result<Option<Value>, AllocError>
+    ensures { IfOk result (λ v. option_map data_of v ≡ double_line.whole line.now) }
+{
+    if decimals::is_double(line) {
+        return Ok(Some(Value::Double(Bytes::from_slice(alloc, line)?)));
+    }
+    Ok(None)
+}
+
+fn big(alloc: Global, line: &[u8]) -> Result<Option<Value>, AllocError>
+    ensures { IfOk result (λ v. option_map data_of v ≡ big_line.whole line.now) }
+{
+    if decimals::is_big(line) {
+        return Ok(Some(Value::BigNumber(Bytes::from_slice(alloc, line)?)));
+    }
+    Ok(None)
+}
+
 /// What a whole line stands for.
 fn value_of_line(alloc: Global, form: OneLine, line: &[u8]) -> Result<Option<Value>, AllocError>
     ensures { IfOk result (λ v. option_map data_of v ≡ (line_form form).whole line.now) }
@@ -76,6 +110,14 @@ fn value_of_line(alloc: Global, form: OneLine, line: &[u8]) -> Result<Option<Val
             Some(n) => Ok(Some(Value::Int(n))),
             None => Ok(None),
         },
+        OneLine::Null => Ok(nil_if(line.is_empty())),
+        OneLine::Boolean => match lines::truth(line) {
+            Some(on) => Ok(Some(Value::Boolean(on))),
+            None => Ok(None),
+        },
+        OneLine::Double => double(alloc, line),
+        OneLine::Big => big(alloc, line),
+        OneLine::NoArray => Ok(nil_if(lines::is_no_array(line))),
     }
 }
 
@@ -86,6 +128,11 @@ fn is_whole(form: OneLine, line: &[u8]) -> bool
         OneLine::Simple => true,
         OneLine::Error => true,
         OneLine::Number => lines::number(line).is_some(),
+        OneLine::Null => line.is_empty(),
+        OneLine::Boolean => lines::truth(line).is_some(),
+        OneLine::Double => decimals::is_double(line),
+        OneLine::Big => decimals::is_big(line),
+        OneLine::NoArray => lines::is_no_array(line),
     }
 }
 
@@ -96,6 +143,11 @@ fn is_begun(form: OneLine, front: &[u8]) -> bool
         OneLine::Simple => true,
         OneLine::Error => true,
         OneLine::Number => lines::is_number_begun(front),
+        OneLine::Null => front.is_empty(),
+        OneLine::Boolean => lines::is_truth_begun(front),
+        OneLine::Double => decimals::is_double_begun(front),
+        OneLine::Big => decimals::is_big_begun(front),
+        OneLine::NoArray => lines::is_no_array_begun(front),
     }
 }
 
@@ -134,10 +186,11 @@ fn line_value(alloc: Global, form: OneLine, input: &mut Input<'_>) -> Result<Val
     }
 }
 
-/// The line that announces a length.
-fn announced(input: &mut Input<'_>) -> Result<Option<u64>, Refusal>
-    ensures found { IsFound (λ s. s) (line_as size_line input.old.left.now) result input.new.left.now }
-    ensures fits { IfOk result (λ s. IfSome s (λ n. n ≤ max_bulk)) }
+/// The line that announces a length, or none for `-1`.
+pub fn announced(most: u64, input: &mut Input<'_>) -> Result<Option<u64>, Refusal>
+    requires { most ≤ 9_223_372_036_854_775_808 }
+    ensures found { IsFound (λ s. s) (line_as (size_line most) input.old.left.now) result input.new.left.now }
+    ensures fits { IfOk result (λ s. IfSome s (λ n. n ≤ most)) }
 {
     let left = input.left;
     match lines::find_line(left) {
@@ -145,7 +198,7 @@ fn announced(input: &mut Input<'_>) -> Result<Option<u64>, Refusal>
             if !lines::fits(&left[..n]) {
                 return Err(Refusal::Bad);
             }
-            match lines::size(&left[..n]) {
+            match lines::size(most, &left[..n]) {
                 Some(size) => {
                     input.left = &left[n + 2..];
                     Ok(size)
@@ -154,14 +207,55 @@ fn announced(input: &mut Input<'_>) -> Result<Option<u64>, Refusal>
             }
         }
         LineEnd::Held(n) => {
-            if lines::fits(&left[..n]) && lines::size(&left[..n]).is_some() {
+            if lines::fits(&left[..n]) && lines::size(most, &left[..n]).is_some() {
                 Err(Refusal::Short)
             } else {
                 Err(Refusal::Bad)
             }
         }
         LineEnd::Unended => {
-            if lines::fits(left) && lines::is_size_begun(left) {
+            if lines::fits(left) && lines::is_size_begun(most, left) {
+                Err(Refusal::Short)
+            } else {
+                Err(Refusal::Bad)
+            }
+        }
+        LineEnd::Broken => Err(Refusal::Bad),
+    }
+}
+
+/// The line that announces a length between these two.
+pub fn counted(least: u64, most: u64, input: &mut Input<'_>) -> Result<u64, Refusal>
+    requires most { most ≤ 9_223_372_036_854_775_808 }
+    requires digit { least ≤ 9 }
+    requires room { 11 * least ≤ most }
+    ensures found { IsFound (λ n. n) (line_as (count_line least most) input.old.left.now) result input.new.left.now }
+    ensures fits { IfOk result (λ n. n ≤ most) }
+    ensures enough { IfOk result (λ n. least ≤ n) }
+{
+    let left = input.left;
+    match lines::find_line(left) {
+        LineEnd::Ended(n) => {
+            if !lines::fits(&left[..n]) {
+                return Err(Refusal::Bad);
+            }
+            match lines::count(least, most, &left[..n]) {
+                Some(count) => {
+                    input.left = &left[n + 2..];
+                    Ok(count)
+                }
+                None => Err(Refusal::Bad),
+            }
+        }
+        LineEnd::Held(n) => {
+            if lines::fits(&left[..n]) && lines::count(least, most, &left[..n]).is_some() {
+                Err(Refusal::Short)
+            } else {
+                Err(Refusal::Bad)
+            }
+        }
+        LineEnd::Unended => {
+            if lines::fits(left) && lines::is_count_begun(least, most, left) {
                 Err(Refusal::Short)
             } else {
                 Err(Refusal::Bad)
@@ -197,15 +291,63 @@ fn body(alloc: Global, input: &mut Input<'_>, n: usize) -> Result<Bytes, Refusal
 fn bulk_string(alloc: Global, input: &mut Input<'_>) -> Result<Value, Refusal>
     ensures { IsFound data_of (bulk_string_of input.old.left.now) result input.new.left.now }
 {
-    match announced(input)? {
+    match announced(MAX_BULK, input)? {
         None => Ok(Value::Nil),
         Some(n) => Ok(Value::BulkString(body(alloc, input, n as usize)?)),
     }
 }
 
-/// The value at the front, at whatever depth it stands.
-pub fn value(alloc: Global, input: &mut Input<'_>) -> Result<Value, Refusal>
-    ensures { (depth : ℕ) → IsFound data_of (parse depth input.old.left.now) result input.new.left.now }
+fn bulk_error(alloc: Global, input: &mut Input<'_>) -> Result<Value, Refusal>
+    ensures { IsFound data_of (bulk_error_of input.old.left.now) result input.new.left.now }
+{
+    let n = counted(0, MAX_BULK, input)?;
+    let text = body(alloc, input, n as usize)?;
+    Ok(error(alloc, text.as_slice())?)
+}
+
+/// A line that is a text.
+fn text(alloc: Global, input: &mut Input<'_>) -> Result<Bytes, Refusal>
+    ensures { IsFound (λ t. t) (line_as text_line input.old.left.now) result input.new.left.now }
+{
+    let left = input.left;
+    match lines::find_line(left) {
+        LineEnd::Ended(n) => {
+            if !lines::fits(&left[..n]) {
+                return Err(Refusal::Bad);
+            }
+            let text = Bytes::from_slice(alloc, &left[..n])?;
+            input.left = &left[n + 2..];
+            Ok(text)
+        }
+        LineEnd::Held(n) => {
+            if lines::fits(&left[..n]) {
+                Err(Refusal::Short)
+            } else {
+                Err(Refusal::Bad)
+            }
+        }
+        LineEnd::Unended => {
+            if lines::fits(left) {
+                Err(Refusal::Short)
+            } else {
+                Err(Refusal::Bad)
+            }
+        }
+        LineEnd::Broken => Err(Refusal::Bad),
+    }
+}
+
+/// A length, and a text of so many bytes.
+fn bulk_text(alloc: Global, input: &mut Input<'_>) -> Result<Bytes, Refusal>
+    ensures { IsFound (λ t. t) (bulk_text_of input.old.left.now) result input.new.left.now }
+{
+    let n = counted(0, MAX_BULK, input)?;
+    body(alloc, input, n as usize)
+}
+
+/// The kind of a push: a simple or a bulk string.
+pub fn kind(alloc: Global, input: &mut Input<'_>) -> Result<Bytes, Refusal>
+    ensures { IsFound (λ k. k) (kind_of input.old.left.now) result input.new.left.now }
 {
     let left = input.left;
     if left.is_empty() {
@@ -214,10 +356,72 @@ pub fn value(alloc: Global, input: &mut Input<'_>) -> Result<Value, Refusal>
     let first = left[0];
     input.left = &left[1..];
     match first {
+        b'+' => text(alloc, input),
+        b'$' => bulk_text(alloc, input),
+        _ => Err(Refusal::Bad),
+    }
+}
+
+/// Three bytes, and `:`.
+fn format(alloc: Global, input: &mut Input<'_>) -> Result<Bytes, Refusal>
+    ensures { IsFound (λ f. f) (format_of input.old.left.now) result input.new.left.now }
+{
+    let left = input.left;
+    if left.len() <= 3 {
+        return Err(Refusal::Short);
+    }
+    if left[3] != b':' {
+        return Err(Refusal::Bad);
+    }
+    let format = Bytes::from_slice(alloc, &left[..3])?;
+    input.left = &left[4..];
+    Ok(format)
+}
+
+fn verbatim_string(alloc: Global, input: &mut Input<'_>) -> Result<Value, Refusal>
+    ensures { IsFound data_of (verbatim_string_of input.old.left.now) result input.new.left.now }
+{
+    let n = counted(4, MAX_BULK, input)?;
+    let format = format(alloc, input)?;
+    let text = body(alloc, input, n as usize - 4)?;
+    Ok(Value::VerbatimString { format, text })
+}
+
+/// Whether a form that holds no values begins so.
+pub fn is_plain(first: u8) -> bool
+    ensures { result ≡ has plain_forms first }
+{
+    matches!(
+        first,
+        b'+' | b'-' | b':' | b'$' | b'_' | b'#' | b',' | b'(' | b'!' | b'='
+    )
+}
+
+/// A form that holds no values, by its first byte.
+pub fn plain(alloc: Global, first: u8, input: &mut Input<'_>) -> Result<Value, Refusal>
+    ensures { IsFound data_of (chosen plain_forms first input.old.left.now) result input.new.left.now }
+{
+    match first {
         b'+' => line_value(alloc, OneLine::Simple, input),
         b'-' => line_value(alloc, OneLine::Error, input),
         b':' => line_value(alloc, OneLine::Number, input),
         b'$' => bulk_string(alloc, input),
+        b'_' => line_value(alloc, OneLine::Null, input),
+        b'#' => line_value(alloc, OneLine::Boolean, input),
+        b',' => line_value(alloc, OneLine::Double, input),
+        b'(' => line_value(alloc, OneLine::Big, input),
+        b'!' => bulk_error(alloc, input),
+        b'=' => verbatim_string(alloc, input),
+        _ => Err(Refusal::Bad),
+    }
+}
+
+/// What stands where no more may be nested, by its first byte.
+pub fn innermost(alloc: Global, first: u8, input: &mut Input<'_>) -> Result<Value, Refusal>
+    ensures { IsFound data_of (chosen innermost_forms first input.old.left.now) result input.new.left.now }
+{
+    match first {
+        b'*' => line_value(alloc, OneLine::NoArray, input),
         _ => Err(Refusal::Bad),
     }
 }

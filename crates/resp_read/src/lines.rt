@@ -1,5 +1,5 @@
-ghost use Rattle.std.specs.Prelude.{◌≡◌, ◌≤◌, ◌+◌, length, neg_ℤ, pos, IfSome};
-ghost use Rattle.resp_read.specs.Grammar.{line, fits as fits_of, digits_after, at_most, natural as natural_of, number as number_of, number_begun, size as size_of, size_begun, max_bulk};
+ghost use Rattle.std.specs.Prelude.{◌≡◌, ◌≤◌, ◌+◌, ◌*◌, ◌||◌, [], ◌∷◌, length, neg_ℤ, pos, is_some, IfSome, bytes_eq};
+ghost use Rattle.resp_read.specs.Grammar.{line, fits as fits_of, digits_after, at_most, natural as natural_of, number as number_of, number_begun, size as size_of, size_begun, count as count_of, count_begun, truth as truth_of, is_end, no_array_begun};
 ghost use Rattle.resp_read.specs.Parts.{line_at, IsWithin};
 
 /// Where the first line of some bytes ends: at a CR LF, at a CR that is the last byte, not yet, or never, because a CR stands before another byte.
@@ -11,10 +11,7 @@ pub enum LineEnd {
 }
 
 /// The most bytes of a line.
-const MAX_LINE: usize = 1_048_576;
-
-/// The most bytes of a bulk string.
-const MAX_BULK: u64 = 536_870_912;
+pub const MAX_LINE: usize = 1_048_576;
 
 pub fn find_line(bytes: &[u8]) -> LineEnd
     ensures line { line_at result bytes.now ≡ line bytes.now }
@@ -112,27 +109,109 @@ pub fn is_number_begun(front: &[u8]) -> bool
     }
 }
 
-/// The length of a bulk string, or none for `-1`.
-pub fn size(line: &[u8]) -> Option<Option<u64>>
-    ensures is { result ≡ size_of line.now }
-    ensures fits { IfSome result (λ s. IfSome s (λ n. n ≤ max_bulk)) }
+/// A length that is at most `most`, or none for `-1`.
+pub fn size(most: u64, line: &[u8]) -> Option<Option<u64>>
+    requires { most ≤ 9_223_372_036_854_775_808 }
+    ensures is { result ≡ size_of most line.now }
+    ensures fits { IfSome result (λ s. IfSome s (λ n. n ≤ most)) }
 {
     if line == b"-1".as_slice() {
         return Some(None);
     }
-    match natural(MAX_BULK, line) {
+    match natural(most, line) {
         Some(n) => Some(Some(n)),
         None => None,
     }
 }
 
-/// Whether a line that starts so can become the length of a bulk string.
-pub fn is_size_begun(front: &[u8]) -> bool
-    ensures { result ≡ size_begun front.now }
+/// Whether a line that starts so can become such a length.
+pub fn is_size_begun(most: u64, front: &[u8]) -> bool
+    requires { most ≤ 9_223_372_036_854_775_808 }
+    ensures { result ≡ size_begun most front.now }
 {
     match front {
         [] => true,
         [b'-'] => true,
-        _ => size(front).is_some(),
+        _ => size(most, front).is_some(),
     }
+}
+
+/// A length between these two.
+pub fn count(least: u64, most: u64, line: &[u8]) -> Option<u64>
+    requires { most ≤ 9_223_372_036_854_775_808 }
+    ensures is { result ≡ count_of least most line.now }
+    ensures fits { IfSome result (λ n. n ≤ most) }
+    ensures enough { IfSome result (λ n. least ≤ n) }
+{
+    match natural(most, line) {
+        Some(n) => {
+            if n < least {
+                return None;
+            }
+            Some(n)
+        }
+        None => None,
+    }
+}
+
+/// Whether a line that starts so can become such a length, within the limit of a line.
+pub fn is_count_begun(least: u64, most: u64, front: &[u8]) -> bool
+    requires most { most ≤ 9_223_372_036_854_775_808 }
+    requires digit { least ≤ 9 }
+    requires room { 11 * least ≤ most }
+    ensures { result ≡ count_begun least most front.now }
+{
+    if front.is_empty() {
+        return true;
+    }
+    match natural(most, front) {
+        Some(n) => {
+            if n < least {
+                return front.len() < MAX_LINE;
+            }
+            fits(front)
+        }
+        None => false,
+    }
+}
+
+/// `t` or `f`.
+pub fn truth(line: &[u8]) -> Option<bool>
+    ensures { result ≡ truth_of line.now }
+{
+    if line == b"t".as_slice() {
+        return Some(true);
+    }
+    if line == b"f".as_slice() {
+        return Some(false);
+    }
+    None
+}
+
+/// Nothing, or `t` or `f`.
+pub fn is_truth_begun(front: &[u8]) -> bool
+    ensures { result ≡ (is_end front.now || is_some (truth_of front.now)) }
+{
+    if front.is_empty() {
+        return true;
+    }
+    truth(front).is_some()
+}
+
+/// Whether a line that starts so can become `-1`.
+pub fn is_no_array_begun(front: &[u8]) -> bool
+    ensures { result ≡ no_array_begun front.now }
+{
+    match front {
+        [] => true,
+        [b'-'] => true,
+        _ => is_no_array(front),
+    }
+}
+
+/// `-1`.
+pub fn is_no_array(line: &[u8]) -> bool
+    ensures { result ≡ bytes_eq line.now (45 ∷ 49 ∷ []) }
+{
+    line == b"-1".as_slice()
 }

@@ -2,8 +2,8 @@ ghost use Rattle.std.specs.Prelude.{◌≡◌, ◌++◌, [], OnOk, OnErr, IsErr,
 ghost use Rattle.resp_read.specs.declared.reader.Health.TheVariants.{Sound, Malformed, NoMemory};
 ghost use Rattle.resp_read.specs.Reading.{NextValue, NextFound};
 
-use crate::forms;
 use crate::forms::{Input, Refusal};
+use crate::nested;
 use containers::Bytes;
 use resp_value::Value;
 use std::alloc::{AllocError, Global};
@@ -104,7 +104,7 @@ impl Reader {
                 let mut input = Input {
                     left: &self.bytes.as_slice()[self.at..],
                 };
-                match forms::value(alloc, &mut input) {
+                match nested::front_value(alloc, &mut input) {
                     Ok(value) => {
                         self.at = self.bytes.len() - input.left.len();
                         Ok(Some(value))

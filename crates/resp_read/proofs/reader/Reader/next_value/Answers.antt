@@ -22,17 +22,17 @@ read_there slice bytes place v rest e h = subst (λ x. parse max_depth x ≡ rea
 pub overflow_sub-self : goal.overflow_sub-self
 overflow_sub-self c =
     let bytes = c.self.inside.bytes in
-    let rest = c.value.new.input.left.now in
-    let reads = read_there c.as_slice.result.now bytes c.self.inside.at (data_of c.in-Ok.value) rest c.as_slice.ensures (c.in-Ok.ensures max_depth) in
+    let rest = c.front_value.new.input.left.now in
+    let reads = read_there c.as_slice.result.now bytes c.self.inside.at (data_of c.in-Ok.value) rest c.as_slice.ensures c.in-Ok.ensures in
     let fits = left_at c.self.inside.at bytes (data_of c.in-Ok.value) rest c.self.invariant reads in
     omega (arith, fits.0, c.len.ensures)
 
 pub returns-in-Ok-clause-found : goal.returns-in-Ok-clause-found
 returns-in-Ok-clause-found c =
     let bytes = c.self.inside.bytes in
-    let rest = c.value.new.input.left.now in
+    let rest = c.front_value.new.input.left.now in
     let v = data_of c.in-Ok.value in
-    let reads = read_there c.as_slice.result.now bytes c.self.inside.at v rest c.as_slice.ensures (c.in-Ok.ensures max_depth) in
+    let reads = read_there c.as_slice.result.now bytes c.self.inside.at v rest c.as_slice.ensures c.in-Ok.ensures in
     let fits = left_at c.self.inside.at bytes v rest c.self.invariant reads in
     let left : drop (c.len.result - length rest) bytes ≡ rest = ap (λ n. drop (n - length rest) bytes) c.len.ensures ∙ fits.1 in
     subst (λ s. Reads s v (drop (c.len.result - length rest) bytes)) (ap (λ (p : ReaderState). p.rest) c.self.view_is) (reads ∙ ap (read v) (sym left))
@@ -47,9 +47,9 @@ refused x e k left is h = subst (λ r. IsFound data_of x (Err r) left) is h
 
 pub returns-in-Err-Short-clause-found : goal.returns-in-Err-Short-clause-found
 returns-in-Err-Short-clause-found c =
-    let rest = c.value.new.input.left.now in
+    let rest = c.front_value.new.input.left.now in
     let s = c.as_slice.result.now in
-    let there : parse max_depth (take (length s - c.self.inside.at) (drop c.self.inside.at s)) ≡ short = refused _ c.in-Err-Short.field-0 Short rest c.in-Err-Short.field-0-is (c.in-Err-Short.ensures max_depth) in
+    let there : parse max_depth (take (length s - c.self.inside.at) (drop c.self.inside.at s)) ≡ short = refused _ c.in-Err-Short.field-0 Short rest c.in-Err-Short.field-0-is c.in-Err-Short.ensures in
     ap (parse max_depth) (sym (text_is s c.self.inside.bytes c.self.inside.at c.as_slice.ensures ∙ ap (λ (p : ReaderState). p.rest) c.self.view_is)) ∙ there
 
 pub returns-in-Err-Short-clause-value : goal.returns-in-Err-Short-clause-value
@@ -59,9 +59,9 @@ returns-in-Err-Short-clause-value c =
 
 found_bad : goal.returns-in-Err-Bad-clause-found
 found_bad c = λ sound.
-    let rest = c.value.new.input.left.now in
+    let rest = c.front_value.new.input.left.now in
     let s = c.as_slice.result.now in
-    let there : parse max_depth (take (length s - c.self.inside.at) (drop c.self.inside.at s)) ≡ bad = refused _ c.in-Err-Bad.field-0 Bad rest c.in-Err-Bad.field-0-is (c.in-Err-Bad.ensures max_depth) in
+    let there : parse max_depth (take (length s - c.self.inside.at) (drop c.self.inside.at s)) ≡ bad = refused _ c.in-Err-Bad.field-0 Bad rest c.in-Err-Bad.field-0-is c.in-Err-Bad.ensures in
     ap (parse max_depth) (sym (text_is s c.self.inside.bytes c.self.inside.at c.as_slice.ensures ∙ ap (λ (p : ReaderState). p.rest) c.self.view_is)) ∙ there
 
 pub returns-in-Err-Bad-clause-found : goal.returns-in-Err-Bad-clause-found

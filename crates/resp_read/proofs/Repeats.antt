@@ -1,0 +1,119 @@
+-- Values that hold values are lawful, where those that they hold are.
+use Rattle.std.proofs.Common.{◌≡◌, ℕ, zero, suc, ◌+◌, ◌-◌, List, [], ◌∷◌, ◌++◌, Option, Some, None, lit≤, refl, sym, ap, ◌∙◌, append_assoc}
+use Rattle.std.proofs.lemmas.List.{append-nil}
+use Rattle.resp_value.specs.Data.{Data, nil, array, set, dict, attribute, push, items_of, members_of}
+use Rattle.resp_value.specs.Kinds.{kind_of}
+use Rattle.resp_read.specs.Grammar.{Found, read, short, bad, found_and_then, found_map, line_as, size_line, count_line, max_count, repeated, pair, array_of, array_form, set_of, set_form, map_of, map_form, attributed, attribute_of, attribute_form, kind, push_with, push_of, push_form}
+use Rattle.resp_read.proofs.Laws.{Lawful, Possible, lawful_read, lawful_then, lawful_map, possible_map, possible_then}
+use Rattle.resp_read.proofs.LineLaws.{lawful_line}
+use Rattle.resp_read.proofs.Numbers.{lawful_size}
+use Rattle.resp_read.proofs.Bodies.{lawful_counted, lawful_kind, kind_possible}
+
+module _ {A : Type 0} (inside : List ℕ → Found A) where
+  abbrev pub next : ℕ → A → List ℕ → Found (List A)
+  next n a rest = found_map (λ others. a ∷ others) (repeated inside n rest)
+
+  pub possible_repeated : Lawful inside → Possible inside → (n : ℕ) → Possible (repeated inside n)
+  possible_repeated h p zero = ([], [], refl)
+  possible_repeated h p (suc n) = possible_then inside (next n) h p (λ a. possible_map (λ others. a ∷ others) (repeated inside n) (possible_repeated h p n))
+
+  pub lawful_repeated : Lawful inside → Possible inside → (n : ℕ) → Lawful (repeated inside n)
+  lawful_repeated h p zero = lawful_read []
+  lawful_repeated h p (suc n) =
+      lawful_then inside (next n) h (λ a. lawful_map (λ others. a ∷ others) (repeated inside n) (lawful_repeated h p n))
+      (λ a. possible_map (λ others. a ∷ others) (repeated inside n) (possible_repeated h p n))
+
+  -- what was found before, and then these
+  abbrev pub behind : List A → Found (List A) → Found (List A)
+  behind found x = found_map (λ others. found ++ others) x
+
+  pub behind_none : (x : Found (List A)) → x ≡ behind [] x
+  behind_none (read others rest) = refl
+  behind_none short = refl
+  behind_none bad = refl
+
+  one_behind : (found : List A) (a : A) (x : Found (List A)) → behind found (found_map (λ others. a ∷ others) x) ≡ behind (found ++ a ∷ []) x
+  one_behind found a (read others rest) = ap (λ o. read o rest) (sym (append_assoc found (a ∷ []) others))
+  one_behind found a short = refl
+  one_behind found a bad = refl
+
+  -- one more was read
+  pub behind_one : (k : ℕ) (found : List A) (a : A) (left rest : List ℕ) → inside left ≡ read a rest → behind found (repeated inside (suc k) left) ≡ behind (found ++ a ∷ []) (repeated inside k rest)
+  behind_one k found a left rest is = ap (λ x. behind found (found_and_then (next k) x)) is ∙ one_behind found a (repeated inside k rest)
+
+  -- all were read
+  pub behind_all : (found : List A) (left : List ℕ) → behind found (repeated inside 0 left) ≡ read found left
+  behind_all found left = ap (λ o. read o left) (append-nil found)
+
+module _ (inside : List ℕ → Found Data) (h : Lawful inside) (p : Possible inside) where
+  abbrev pub second : Data → List ℕ → Found (Data × Data)
+  second k rest = found_map (λ v. (k, v)) (inside rest)
+
+  lawful_pair : Lawful (pair inside)
+  lawful_pair = lawful_then inside second h (λ k. lawful_map (λ v. (k, v)) inside h) (λ k. possible_map (λ v. (k, v)) inside p)
+
+  pair_possible : Possible (pair inside)
+  pair_possible = possible_then inside second h p (λ k. possible_map (λ v. (k, v)) inside p)
+
+  lawful_values : (n : ℕ) → Lawful (repeated inside n)
+  lawful_values = lawful_repeated inside h p
+
+  values_possible : (n : ℕ) → Possible (repeated inside n)
+  values_possible = possible_repeated inside h p
+
+  lawful_pairs : (n : ℕ) → Lawful (repeated (pair inside) n)
+  lawful_pairs = lawful_repeated (pair inside) lawful_pair pair_possible
+
+  pairs_possible : (n : ℕ) → Possible (repeated (pair inside) n)
+  pairs_possible = possible_repeated (pair inside) lawful_pair pair_possible
+
+  lawful_count : Lawful (line_as (count_line 0 max_count))
+  lawful_count = lawful_counted 0 max_count (lit≤ tt) (lit≤ tt)
+
+  lawful_array_of : (n : Option ℕ) → Lawful (array_of inside n)
+  lawful_array_of None = lawful_read nil
+  lawful_array_of (Some n) = lawful_map (λ ds. array (items_of ds)) (repeated inside n) (lawful_values n)
+
+  array_possible : (n : Option ℕ) → Possible (array_of inside n)
+  array_possible None = ([], nil, refl)
+  array_possible (Some n) = possible_map (λ ds. array (items_of ds)) (repeated inside n) (values_possible n)
+
+  pub lawful_array : Lawful (array_form inside)
+  lawful_array = lawful_then (line_as (size_line max_count)) (array_of inside) (lawful_line (size_line max_count) (lawful_size max_count)) lawful_array_of array_possible
+
+  pub lawful_set : Lawful (set_form inside)
+  lawful_set =
+      lawful_then (line_as (count_line 0 max_count)) (set_of inside) lawful_count (λ n. lawful_map (λ ds. set (items_of ds)) (repeated inside n) (lawful_values n))
+      (λ n. possible_map (λ ds. set (items_of ds)) (repeated inside n) (values_possible n))
+
+  pub lawful_dict : Lawful (map_form inside)
+  lawful_dict =
+      lawful_then (line_as (count_line 0 max_count)) (map_of inside) lawful_count (λ n. lawful_map (λ ps. dict (members_of ps)) (repeated (pair inside) n) (lawful_pairs n))
+      (λ n. possible_map (λ ps. dict (members_of ps)) (repeated (pair inside) n) (pairs_possible n))
+
+  lawful_attributed : (ps : List (Data × Data)) → Lawful (attributed inside ps)
+  lawful_attributed ps = lawful_map (λ v. attribute v (members_of ps)) inside h
+
+  attributed_possible : (ps : List (Data × Data)) → Possible (attributed inside ps)
+  attributed_possible ps = possible_map (λ v. attribute v (members_of ps)) inside p
+
+  lawful_attribute_of : (n : ℕ) → Lawful (attribute_of inside n)
+  lawful_attribute_of n = lawful_then (repeated (pair inside) n) (attributed inside) (lawful_pairs n) lawful_attributed attributed_possible
+
+  attribute_possible : (n : ℕ) → Possible (attribute_of inside n)
+  attribute_possible n = possible_then (repeated (pair inside) n) (attributed inside) (lawful_pairs n) (pairs_possible n) attributed_possible
+
+  pub lawful_attribute : Lawful (attribute_form inside)
+  lawful_attribute = lawful_then (line_as (count_line 0 max_count)) (attribute_of inside) lawful_count lawful_attribute_of attribute_possible
+
+  lawful_push_with : (n : ℕ) (k : List ℕ) → Lawful (push_with inside n k)
+  lawful_push_with n k = lawful_map (λ ds. push (kind_of k) (items_of ds)) (repeated inside (n - 1)) (lawful_values (n - 1))
+
+  push_with_possible : (n : ℕ) (k : List ℕ) → Possible (push_with inside n k)
+  push_with_possible n k = possible_map (λ ds. push (kind_of k) (items_of ds)) (repeated inside (n - 1)) (values_possible (n - 1))
+
+  pub lawful_push : Lawful (push_form inside)
+  lawful_push =
+      lawful_then (line_as (count_line 1 max_count)) (push_of inside) (lawful_counted 1 max_count (lit≤ tt) (lit≤ tt))
+      (λ n. lawful_then kind (push_with inside n) lawful_kind (lawful_push_with n) (push_with_possible n))
+      (λ n. possible_then kind (push_with inside n) lawful_kind kind_possible (push_with_possible n))

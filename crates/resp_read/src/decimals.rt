@@ -1,0 +1,225 @@
+ghost use Rattle.std.specs.Prelude.{◌≡◌};
+ghost use Rattle.resp_read.specs.Grammar.{is_digit as is_digit_of, is_end, after_digits, unsigned as unsigned_of, is_big as is_big_of, big_begun, is_double as is_double_of, made_by, double_tails};
+ghost use Rattle.resp_read.specs.Doubles.{digit_to as digit_to_of, byte_to as byte_to_of, exponent_to as exponent_to_of, step as step_of, run, missing as missing_of};
+ghost use Rattle.resp_read.specs.declared.decimals.Seen.TheVariants.{Nothing, Whole, Fraction, Exponent};
+
+use crate::lines::MAX_LINE;
+
+fn is_digit(b: u8) -> bool
+    ensures { result ≡ is_digit_of b }
+{
+    b >= b'0' && b <= b'9'
+}
+
+/// The bytes behind a sign, if there is one.
+fn unsigned(line: &[u8]) -> &[u8]
+    ensures { result.now ≡ unsigned_of line.now }
+{
+    match line {
+        [b'+', rest @ ..] => rest,
+        [b'-', rest @ ..] => rest,
+        _ => line,
+    }
+}
+
+fn all_digits(line: &[u8]) -> bool
+    ensures { result ≡ is_end (after_digits line.now) }
+{
+    for b in line {
+        if !is_digit(*b) {
+            return false;
+        }
+    }
+    true
+}
+
+/// Digits, with a sign or without.
+pub fn is_big(line: &[u8]) -> bool
+    ensures { result ≡ is_big_of line.now }
+{
+    let digits = unsigned(line);
+    if digits.is_empty() {
+        return false;
+    }
+    all_digits(digits)
+}
+
+/// Whether a line that starts so can become a big number.
+pub fn is_big_begun(front: &[u8]) -> bool
+    ensures { result ≡ big_begun front.now }
+{
+    all_digits(unsigned(front))
+}
+
+/// What has been read of a double.
+#[derive(Clone, Copy)]
+pub enum Seen {
+    Nothing,
+    Minus,
+    Plus,
+    I,
+    In,
+    Inf,
+    N,
+    Na,
+    Nan,
+    Whole,
+    Point,
+    Fraction,
+    Exponent,
+    Sign,
+    Power,
+    /// No double begins so.
+    Never,
+}
+
+fn digit_to(seen: Seen, b: u8) -> Seen
+    ensures { result ≡ digit_to_of seen b }
+{
+    if is_digit(b) { seen } else { Seen::Never }
+}
+
+fn exponent_to(b: u8) -> Seen
+    ensures { result ≡ exponent_to_of b }
+{
+    match b {
+        b'e' => Seen::Exponent,
+        b'E' => Seen::Exponent,
+        _ => Seen::Never,
+    }
+}
+
+fn after_nothing(b: u8) -> Seen
+    ensures { result ≡ step_of Nothing b }
+{
+    match b {
+        b'-' => Seen::Minus,
+        b'+' => Seen::Plus,
+        b'i' => Seen::I,
+        b'n' => Seen::N,
+        _ => digit_to(Seen::Whole, b),
+    }
+}
+
+fn after_exponent(b: u8) -> Seen
+    ensures { result ≡ step_of Exponent b }
+{
+    match b {
+        b'+' => Seen::Sign,
+        b'-' => Seen::Sign,
+        _ => digit_to(Seen::Power, b),
+    }
+}
+
+fn after_whole(b: u8) -> Seen
+    ensures { result ≡ step_of Whole b }
+{
+    if is_digit(b) {
+        return Seen::Whole;
+    }
+    if b == b'.' {
+        return Seen::Point;
+    }
+    exponent_to(b)
+}
+
+fn after_fraction(b: u8) -> Seen
+    ensures { result ≡ step_of Fraction b }
+{
+    if is_digit(b) {
+        return Seen::Fraction;
+    }
+    exponent_to(b)
+}
+
+/// This byte, or none.
+fn byte_to(seen: Seen, want: u8, b: u8) -> Seen
+    ensures { result ≡ byte_to_of seen want b }
+{
+    if b == want { seen } else { Seen::Never }
+}
+
+fn step(seen: Seen, b: u8) -> Seen
+    ensures { result ≡ step_of seen b }
+{
+    match seen {
+        Seen::Nothing => after_nothing(b),
+        Seen::Minus => if b == b'i' {
+            Seen::I
+        } else {
+            digit_to(Seen::Whole, b)
+        },
+        Seen::Plus => digit_to(Seen::Whole, b),
+        Seen::I => byte_to(Seen::In, b'n', b),
+        Seen::In => byte_to(Seen::Inf, b'f', b),
+        Seen::Inf => Seen::Never,
+        Seen::N => byte_to(Seen::Na, b'a', b),
+        Seen::Na => byte_to(Seen::Nan, b'n', b),
+        Seen::Nan => Seen::Never,
+        Seen::Whole => after_whole(b),
+        Seen::Point => digit_to(Seen::Fraction, b),
+        Seen::Fraction => after_fraction(b),
+        Seen::Exponent => after_exponent(b),
+        Seen::Sign => digit_to(Seen::Power, b),
+        Seen::Power => digit_to(Seen::Power, b),
+        Seen::Never => Seen::Never,
+    }
+}
+
+fn read_all(line: &[u8]) -> Seen
+    ensures { result ≡ run Nothing line.now }
+{
+    let mut seen = Seen::Nothing;
+    for b in line {
+        seen = step(seen, *b);
+    }
+    seen
+}
+
+/// How many bytes are missing until the double is whole, if any can make it so.
+fn missing(seen: Seen) -> Option<usize>
+    ensures { result ≡ missing_of seen }
+{
+    match seen {
+        Seen::Nothing => Some(1),
+        Seen::Minus => Some(1),
+        Seen::Plus => Some(1),
+        Seen::I => Some(2),
+        Seen::In => Some(1),
+        Seen::Inf => Some(0),
+        Seen::N => Some(2),
+        Seen::Na => Some(1),
+        Seen::Nan => Some(0),
+        Seen::Whole => Some(0),
+        Seen::Point => Some(1),
+        Seen::Fraction => Some(0),
+        Seen::Exponent => Some(1),
+        Seen::Sign => Some(1),
+        Seen::Power => Some(0),
+        Seen::Never => None,
+    }
+}
+
+pub fn is_double(line: &[u8]) -> bool
+    ensures { result ≡ is_double_of line.now }
+{
+    match missing(read_all(line)) {
+        Some(n) => n == 0,
+        None => false,
+    }
+}
+
+/// Whether a line that starts so can become a double within the limit of a line.
+pub fn is_double_begun(front: &[u8]) -> bool
+    ensures { result ≡ made_by is_double_of double_tails front.now }
+{
+    match missing(read_all(front)) {
+        Some(n) => {
+            if front.len() > MAX_LINE {
+                return false;
+            }
+            n <= MAX_LINE - front.len()
+        }
+        None => false,
+    }
+}
