@@ -1,0 +1,91 @@
+-- A packed command is read as the array of its arguments.
+use Rattle.std.proofs.Common.{◌≡◌, ℕ, zero, suc, ◌≤◌, List, [], ◌∷◌, ◌++◌, length, map, refl, sym, ap, ◌∙◌, append_assoc, arith}
+use Rattle.std.proofs.lemmas.List.Elements.{All-head, All-tail}
+use Rattle.std.specs.List.{All}
+use Rattle.std.specs.Prelude.{decimal, flat_map}
+use Rattle.resp_value.specs.Data.{Data, bulk, array, items_of, Items, no_items, item}
+use Rattle.resp_read.specs.Grammar.{Found, read, found_and_then, found_map, body, bulk_of, bulk_string as bulk_form, repeated, array_of, array_form, parse, max_depth, max_bulk, max_count}
+use Rattle.resp_read.specs.Reads.{Reads}
+use Rattle.resp_read.proofs.Bodies.{body_is, lawful_body}
+use Rattle.resp_write.specs.Pack.{crlf, bulk_string, number_line, pack}
+use Rattle.resp_laws.specs.Commands.{FitsBulk, IsWithinLimits, request}
+use Rattle.resp_laws.proofs.Lengths.{length_read}
+
+-- a line of a number, with what follows
+line_shape : (first n : ℕ) (rest : List ℕ) → number_line first n ++ rest ≡ first ∷ (decimal n ++ 13 ∷ 10 ∷ rest)
+line_shape first n rest = ap (λ x. first ∷ x) (append_assoc (decimal n) crlf rest)
+
+text_read : (text rest : List ℕ) → body (length text) ((text ++ crlf) ++ rest) ≡ read text rest
+text_read text rest = (lawful_body (length text) (text ++ crlf)).grows rest text [] (body_is (length text) text refl)
+
+parse_bulk : (n : ℕ) (bs : List ℕ) → parse n (36 ∷ bs) ≡ bulk_form bs
+parse_bulk zero bs = refl
+parse_bulk (suc n) bs = refl
+
+bulk_shape : (text rest : List ℕ) → bulk_string text ++ rest ≡ 36 ∷ (decimal (length text) ++ 13 ∷ 10 ∷ ((text ++ crlf) ++ rest))
+bulk_shape text rest =
+    let head = number_line 36 (length text) in
+    ap (λ x. x ++ rest) (append_assoc head text crlf) ∙ append_assoc head (text ++ crlf) rest ∙ line_shape 36 (length text) ((text ++ crlf) ++ rest)
+
+-- one argument
+bulk_read : (n : ℕ) (text rest : List ℕ) → length text ≤ max_bulk → parse n (bulk_string text ++ rest) ≡ read (bulk text) rest
+bulk_read n text rest fit =
+    ap (parse n) (bulk_shape text rest) ∙ parse_bulk n (decimal (length text) ++ 13 ∷ 10 ∷ ((text ++ crlf) ++ rest))
+    ∙ ap (found_and_then bulk_of) (length_read max_bulk (length text) ((text ++ crlf) ++ rest) (omega arith) fit)
+    ∙ ap (found_map bulk) (text_read text rest)
+
+-- what was found first, and then the others
+first_then : (inside : List ℕ → Found Data) (k : ℕ) (bs rest end : List ℕ) (v : Data) (vs : List Data) → inside bs ≡ read v rest → repeated inside k rest ≡ read vs end → repeated inside (suc k) bs ≡ read (v ∷ vs) end
+first_then inside k bs rest end v vs e f = ap (found_and_then (λ a r. found_map (λ others. a ∷ others) (repeated inside k r))) e ∙ ap (found_map (λ others. v ∷ others)) f
+
+args_read : (n : ℕ) (args : List (List ℕ)) (rest : List ℕ) → All FitsBulk args → repeated (parse n) (length args) (flat_map bulk_string args ++ rest) ≡ read (map bulk args) rest
+args_read n [] rest h = refl
+args_read n (a ∷ args) rest h =
+    let others = flat_map bulk_string args ++ rest in
+    ap (repeated (parse n) (suc (length args))) (append_assoc (bulk_string a) (flat_map bulk_string args) rest)
+    ∙ first_then (parse n) (length args) (bulk_string a ++ others) others rest (bulk a) (map bulk args) (bulk_read n a others (All-head FitsBulk a args h)) (args_read n args rest (All-tail FitsBulk a args h))
+
+parse_array : (d n : ℕ) (bs : List ℕ) → d ≡ suc n → parse d (42 ∷ bs) ≡ array_form (parse n) bs
+parse_array d n bs e = ap (λ k. parse k (42 ∷ bs)) e
+
+command_read : (n : ℕ) (args : List (List ℕ)) (rest : List ℕ) → IsWithinLimits args → parse (suc n) ((number_line 42 (length args) ++ flat_map bulk_string args) ++ rest) ≡ read (request args) rest
+command_read n args rest h =
+    let others = flat_map bulk_string args ++ rest in
+    ap (parse (suc n)) (append_assoc (number_line 42 (length args)) (flat_map bulk_string args) rest ∙ line_shape 42 (length args) others)
+    ∙ parse_array (suc n) n (decimal (length args) ++ 13 ∷ 10 ∷ others) refl
+    ∙ ap (found_and_then (array_of (parse n))) (length_read max_count (length args) others (omega (arith, h.1)) h.1)
+    ∙ ap (found_map (λ ds. array (items_of ds))) (args_read n args rest h.0)
+
+-- an array may stand in others
+is_deep : (n : ℕ) × (max_depth ≡ suc n)
+unfolding max_depth
+is_deep = (99, refl)
+
+pub reads_back : (name rest : List ℕ) (args : List (List ℕ)) → IsWithinLimits (name ∷ args) → Reads (pack (name ∷ args) ++ rest) (request (name ∷ args)) rest
+reads_back name rest args h = ap (λ d. parse d (pack (name ∷ args) ++ rest)) is_deep.1 ∙ command_read is_deep.0 (name ∷ args) rest h
+
+-- the arguments of a request
+abbrev texts_of : Items → List (List ℕ)
+texts_of no_items = []
+texts_of (item (bulk text) ds) = text ∷ texts_of ds
+texts_of (item _ ds) = texts_of ds
+
+abbrev args_of : Data → List (List ℕ)
+args_of (array ds) = texts_of ds
+args_of _ = []
+
+args_back : (args : List (List ℕ)) → texts_of (items_of (map bulk args)) ≡ args
+args_back [] = refl
+args_back (a ∷ args) = ap (λ x. a ∷ x) (args_back args)
+
+one_found : (v w : Data) (r s : List ℕ) → ◌≡◌ {A = Found Data} (read v r) (read w s) → v ≡ w
+one_found v w r s e = cc
+
+same_list : (x y : List ℕ) (xs ys : List (List ℕ)) → ◌≡◌ {A = List (List ℕ)} (x ∷ xs) (y ∷ ys) → (x ≡ y) × (xs ≡ ys)
+same_list x y xs ys e = (cc, cc)
+
+pub same_command : (name other : List ℕ) (args others : List (List ℕ)) → IsWithinLimits (name ∷ args) → IsWithinLimits (other ∷ others) → pack (name ∷ args) ≡ pack (other ∷ others) → (name ≡ other) × (args ≡ others)
+same_command name other args others h k e =
+    let both = sym (reads_back name [] args h) ∙ ap (λ x. parse max_depth (x ++ [])) e ∙ reads_back other [] others k in
+    let same = one_found (request (name ∷ args)) (request (other ∷ others)) [] [] both in
+    same_list name other args others (sym (args_back (name ∷ args)) ∙ ap args_of same ∙ args_back (other ∷ others))

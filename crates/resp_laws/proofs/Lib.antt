@@ -1,0 +1,4 @@
+pub mod Lengths
+pub mod Commands
+pub mod Pipelines
+pub mod Texts

@@ -1,0 +1,33 @@
+-- What packed commands are to a reader.
+use Rattle.std.specs.Prelude.{ℕ, ◌≤◌, List, [], ◌∷◌, ◌++◌, length, map}
+use Rattle.std.specs.List.{All}
+use Rattle.resp_value.specs.Data.{Data, bulk, array, items_of}
+use Rattle.resp_read.specs.Grammar.{max_bulk, max_count}
+use Rattle.resp_write.specs.Pack.{pack}
+
+-- no longer than the longest bulk string that a reader takes
+abbrev pub FitsBulk : List ℕ → Type 0
+FitsBulk text = length text ≤ max_bulk
+
+-- each argument fits a bulk string, and there are no more of them than an array may have values
+abbrev pub IsWithinLimits : List (List ℕ) → Type 0
+IsWithinLimits args = All FitsBulk args × (length args ≤ max_count)
+
+-- what a reader finds of a command's name and arguments: an array of bulk strings
+abbrev pub request : List (List ℕ) → Data
+request args = array (items_of (map bulk args))
+
+-- the packed commands one after another
+abbrev pub packed : List (List (List ℕ)) → List ℕ
+packed [] = []
+packed (c ∷ cs) = pack c ++ packed cs
+
+-- a request for this command before those, or none where it has not even a name
+abbrev pub request_and : List (List ℕ) → List Data → List Data
+request_and [] others = others
+request_and (name ∷ args) others = request (name ∷ args) ∷ others
+
+-- the requests of all commands, in order
+abbrev pub requests : List (List (List ℕ)) → List Data
+requests [] = []
+requests (c ∷ cs) = request_and c (requests cs)
