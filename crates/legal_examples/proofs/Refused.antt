@@ -1,11 +1,14 @@
 -- Traces that can't be relied on: whatever comes after these fronts, no trace that begins so is legal.
-use Rattle.std.proofs.Common.{◌≡◌, ℕ, ◌+◌, zero, suc, false, List, [], ◌∷◌, ◌++◌, Some, slice_get, refl, sym, ap, ◌∙◌, subst, append_assoc, inl, inr, take, arith}
+use Rattle.std.proofs.Common.{◌≡◌, ℕ, ◌+◌, zero, suc, false, List, [], ◌∷◌, ◌++◌, Some, slice_get, refl, sym, ap, ◌∙◌, subst, append_assoc, inl, inr, take, drop, length, arith}
 use Rattle.std.proofs.lemmas.List.{append-nil}
 use Rattle.resp_value.specs.declared.redis_error.RedisError.TheVariants as error
 use Rattle.resp_value.specs.Data.{Data, simple}
 use Rattle.resp_value.specs.View.{value_of}
+use Rattle.resp_value.specs.Kinds.{kind_of}
+use Rattle.resp_value.specs.declared.value.Value.{Value}
 use Rattle.resp_read.specs.Grammar.{max_depth}
 use Rattle.resp_read.specs.Values.{values}
+use Rattle.resp_read.specs.Items.{items}
 use Rattle.resp_write.specs.Pack.{pack}
 use Rattle.driver_model.specs.declared.action.Action.{Action}
 use Rattle.driver_model.specs.declared.action.Action.TheVariants as action
@@ -16,10 +19,10 @@ use Rattle.driver_model.specs.declared.event.Submission.{Submission}
 use Rattle.driver_model.specs.declared.event.Submission.TheVariants as submission
 use Rattle.driver_model.specs.declared.outcome.Outcome.TheVariants as outcome
 use Rattle.driver_model.specs.declared.outcome.Verdict.TheVariants as verdict
-use Rattle.trace_model.specs.LinkLedger.{LinkLedger, Start, link_ledger}
+use Rattle.trace_model.specs.LinkLedger.{LinkLedger, Start, needs, link_ledger}
 use Rattle.trace_model.specs.Cut.{IsFull, verdict_of}
 use Rattle.trace_model.specs.Story.{story, is_open}
-use Rattle.legal_examples.specs.Traces.{command, reply, answered_both, started_one, left_out, started_unoffered}
+use Rattle.legal_examples.specs.Traces.{command, reply, answered_both, started_one, pushed, left_out, started_unoffered}
 use Rattle.trace_model.specs.Legal.{MayStand, AllStand, MayAnswer, Legal}
 
 -- what an action of a legal trace stands behind
@@ -31,7 +34,7 @@ may_stand : (config : Config) (word : ℕ) (events : List Event) (front after : 
 may_stand config word events front after a h = stood [] front after a h.each
 
 ledger_answered : (config : Config) (word : ℕ) → (link_ledger 0 (answered_both config word)).dealt ≡ simple (120 ∷ []) ∷ simple (121 ∷ []) ∷ []
-unfolding link_ledger values max_depth
+unfolding link_ledger items values max_depth
 ledger_answered config word = refl
 
 abbrev pub sent_first : Start
@@ -86,6 +89,35 @@ answered_twice config word events after h =
     let m : MayAnswer (answered_both config word ++ action.Outcome 0 (reply 120) ∷ []) 0 (reply 120) = may_stand config word events (answered_both config word ++ action.Outcome 0 (reply 120) ∷ []) after (action.Outcome 0 (reply 120)) h in
     let closed : is_open (story 0 (answered_both config word ++ action.Outcome 0 (reply 120) ∷ [])) ≡ false = refl in
     cc (m.asked.open_still, closed)
+
+ledger_pushed : (config : Config) (word : ℕ) → (link_ledger 0 (pushed config word)).dealt ≡ []
+unfolding link_ledger items values max_depth kind_of
+ledger_pushed config word = refl
+
+needs_one : (k : ℕ) (start : Start) → slice_get (sent_first ∷ []) k ≡ Some start → start.need ≡ 1
+needs_one zero start e = let same : start ≡ sent_first = cc e in ap (λ (s : Start). s.need) same
+needs_one (suc k) start e = cc e
+
+nothing_of : (n m : ℕ) → length (take {A = Data} n (drop m [])) ≡ 0
+nothing_of zero zero = refl
+nothing_of (suc n) zero = refl
+nothing_of zero (suc m) = refl
+nothing_of (suc n) (suc m) = refl
+
+-- the message has nothing where no item was dealt
+nothing_full : (l : LinkLedger) (k : ℕ) (got : List Data) → l.starts ≡ sent_first ∷ [] → l.dealt ≡ [] → IsFull l k got → ⊥
+nothing_full l k got starts dealt full =
+    let one : full.start.need ≡ 1 = needs_one k full.start (ap (λ ss. slice_get ss k) (sym starts) ∙ full.stands) in
+    let before = needs (take k l.starts) in
+    let none : length got ≡ 0 = ap length full.items_are ∙ ap (λ ds. length (take full.start.need (drop before ds))) dealt ∙ nothing_of full.start.need before in
+    apart 0 1 refl (sym none ∙ full.full ∙ one)
+
+-- a push without reply as an answer
+pub push_as_answer : (config : Config) (word : ℕ) (events : List Event) (after : List Action) (value : Value) → Legal config word events (pushed config word ++ action.Outcome 0 (outcome.One value) ∷ after) → ⊥
+unfolding link_ledger
+push_as_answer config word events after value h =
+    let m : MayAnswer (pushed config word) 0 (outcome.One value) = may_stand config word events (pushed config word) after (action.Outcome 0 (outcome.One value)) h in
+    nothing_full (link_ledger 0 (pushed config word)) m.cause.0 m.cause.1 refl (ledger_pushed config word) m.cause.3
 
 -- an outcome whose cause is missing
 pub causeless : (config : Config) (word : ℕ) (events : List Event) (after : List Action) → Legal config word events (started_one config word ++ action.Outcome 0 (outcome.Fault error.Closed) ∷ after) → ⊥

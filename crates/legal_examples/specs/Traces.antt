@@ -53,6 +53,14 @@ started_one config word =
     turn 1 (event.Connected 0) ∷ action.Created ∷
     turn 2 (event.Submit (command 71)) ∷ action.Start 0 0 (owner.Try 0 0) 1 11 ∷ action.Write 0 (pack ((71 ∷ []) ∷ [])) ∷ []
 
+-- a push without reply: >1 and +x, each as a line
+abbrev pub a_push : List ℕ
+a_push = 62 ∷ 49 ∷ 13 ∷ 10 ∷ 43 ∷ 120 ∷ 13 ∷ 10 ∷ []
+
+-- its request was started, and a push without reply came
+abbrev pub pushed : Config → ℕ → List Action
+pushed config word = started_one config word ++ turn 3 (event.Bytes 0 a_push) ∷ []
+
 -- a request was handed in before the link is up, and no wait was shown
 abbrev pub left_out : Config → ℕ → List Action
 left_out config word = opening config word ++ turn 1 (event.Submit (command 71)) ∷ []

@@ -1,9 +1,11 @@
 -- Which message gets an item, and what it comes to.
-use Rattle.std.specs.Prelude.{nat_lt, List, [], ◌∷◌, ◌++◌, length, if◌then◌else◌}
-use Rattle.resp_value.specs.Data.{Data}
+use Rattle.std.specs.Prelude.{ℕ, nat_lt, List, [], ◌∷◌, ◌++◌, length, if◌then◌else◌}
+use Rattle.resp_value.specs.Data.{Data, push, list_of}
+use Rattle.resp_read.specs.Items.{is_item}
 use Rattle.driver_model.specs.Shape.{need, verdict}
 use Rattle.link_core.specs.declared.message.Entry.{Entry}
 use Rattle.link_core.specs.declared.message.Settled.{Settled}
+use Rattle.link_core.specs.declared.message.PushAt.{PushAt}
 
 -- a row of started messages, and the messages that were settled
 pub record Dealing : Type 0 where
@@ -33,3 +35,17 @@ dealt d item = dealt_to d item d.row
 abbrev pub dealt_each : Dealing → List Data → Dealing
 dealt_each d [] = d
 dealt_each d (v ∷ vs) = dealt_each (dealt d v) vs
+
+-- a value comes: an item is dealt, and a push without reply isn't
+abbrev pub value_dealt : Dealing → Data → Dealing
+value_dealt d v = if is_item v then dealt d v else d
+
+-- a push behind n settled messages
+abbrev pub push_behind : ℕ → Data → List PushAt
+push_behind n (push k parts) = record { settled = n; info = record { kind = k; parts = list_of parts } } ∷ []
+push_behind n _ = []
+
+-- the pushes among these values, in order, each with how many messages were settled before it
+abbrev pub pushes_each : Dealing → List Data → List PushAt
+pushes_each d [] = []
+pushes_each d (v ∷ vs) = push_behind (length d.out) v ++ pushes_each (value_dealt d v) vs

@@ -1,14 +1,16 @@
 -- One link as plain data, and what each call does to it.
 use Rattle.std.specs.Prelude.{ℕ, ◌+◌, ◌^◌, nat_lt, nat_le, Bool, false, ◌&&◌, List, [], ◌∷◌, ◌++◌, length, if◌then◌else◌}
 use Rattle.resp_read.specs.Values.{values, left_over, is_spoiled}
+use Rattle.resp_read.specs.Items.{items}
 use Rattle.driver_model.specs.Shape.{need}
 use Rattle.link_core.specs.declared.errors.LinkFault.{LinkFault}
 use Rattle.link_core.specs.declared.message.Queued.{Queued}
 use Rattle.link_core.specs.declared.message.Entry.{Entry}
 use Rattle.link_core.specs.declared.message.Started.{Started}
 use Rattle.link_core.specs.declared.message.Settled.{Settled}
+use Rattle.link_core.specs.declared.message.PushAt.{PushAt}
 use Rattle.link_core.specs.declared.outbox.Outbox.{Outbox}
-use Rattle.link_core.specs.Dealing.{Dealing, dealt_each}
+use Rattle.link_core.specs.Dealing.{Dealing, dealt_each, pushes_each}
 use Rattle.link_core.specs.Ends.{row_closed, row_hit, queue_closed}
 use Rattle.link_core.specs.Outbox.{added, all_offered, taken}
 use Rattle.link_core.specs.Row.{silenced}
@@ -116,11 +118,19 @@ abbrev pub with_dealt : Settling → Dealing → Settling
 with_dealt s d = record { link = record s.link { row = d.row }; out = s.out ++ d.out }
 
 abbrev pub came_all : Settling → List ℕ → Settling
-came_all d bytes = with_dealt (record d { link = read_on d.link bytes }) (dealt_each (record { row = d.link.row; out = [] }) (values bytes))
+came_all d bytes = with_dealt (record d { link = read_on d.link bytes }) (dealt_each (record { row = d.link.row; out = [] }) (items bytes))
 
--- bytes come: each value in them is dealt. A broken link reads no more
+-- bytes come: each item in them is dealt. A broken link reads no more
 abbrev pub came : Settling → List ℕ → Settling
 came d piece = if d.link.broken then d else came_all d (d.link.rest ++ piece)
+
+-- the pushes in these bytes, each with how many messages they settle before it
+abbrev pub pushes_of : LinkState → List ℕ → List PushAt
+pushes_of s bytes = pushes_each (record { row = s.row; out = [] }) (values bytes)
+
+-- the pushes that come with bytes
+abbrev pub pushes_came : LinkState → List ℕ → List PushAt
+pushes_came s piece = if s.broken then [] else pushes_of s (s.rest ++ piece)
 
 abbrev pub emptied : Settling → List Settled → Settling
 emptied d more = record { link = record d.link { queue = []; row = [] }; out = d.out ++ more }

@@ -2,17 +2,19 @@ ghost use Rattle.std.specs.Prelude.{◌≡◌, ◌≢◌, ◌<◌, ◌≤◌, tr
 ghost use Rattle.link_core.specs.Link.{is_held_back as is_held_back_in};
 ghost use Rattle.link_core.specs.Waiting.{without, awaits as awaits_id};
 ghost use Rattle.link_core.specs.Ends.{queue_closed};
-ghost use Rattle.link_core.specs.Dealing.{Dealing, dealt_each};
+ghost use Rattle.link_core.specs.Dealing.{Dealing, dealt_each, value_dealt, push_behind, pushes_each};
+ghost use Rattle.resp_value.specs.View.{data_of};
 ghost use Rattle.resp_read.specs.Values.{values, left_over, is_spoiled};
+ghost use Rattle.resp_read.specs.Items.{items, is_item as is_item_data};
 
 use crate::errors::{EnqueueError, LinkFault, StartError};
-use crate::message::{Entry, PushAt, Queued, Settled, Started};
+use crate::message::{Entry, PushAt, PushInfo, Queued, Settled, Started};
 use crate::outbox::Outbox;
 use crate::row::{Row, fail, need};
 use containers::{Bytes, Queue};
 use driver_model::Shape;
 use resp_read::{Health, ReadError, Reader};
-use resp_value::{RedisError, Values};
+use resp_value::{RedisError, Value, Values};
 use std::alloc::{AllocError, Global};
 use std::marker::Model;
 
@@ -48,7 +50,7 @@ impl Model for LinkCore {
 }
 
 impl LinkCore {
-    ghost use Rattle.link_core.specs.Link.{fresh, is_full, enqueued, Starting, started_all, started_one, is_spent, offered_of, wrote_of, cancelled, Settling, came, came_all, closed_all, faulted};
+    ghost use Rattle.link_core.specs.Link.{fresh, is_full, enqueued, Starting, started_all, started_one, is_spent, offered_of, wrote_of, cancelled, Settling, came, came_all, pushes_of, pushes_came, closed_all, faulted};
     ghost use Rattle.link_core.specs.Outbox.{can_offer};
     ghost use Rattle.link_core.specs.Row.{lacks};
 
@@ -340,9 +342,10 @@ impl LinkCore {
         out.append(&mut settled)
     }
 
-    /// Bytes came. Each item in them is dealt, and `out` gains the messages that are settled and awaited. `Parse`: the
-    /// bytes begin no value, after what came before was dealt; from then on always. After `NoMemory` `out` is as it was,
-    /// and the link has failed. No form of the grammar is a push yet, so `pushes` stays as it is.
+    /// Bytes came. Each item in them is dealt, and `out` gains the messages that are settled and awaited; `pushes` gains
+    /// the pushes in them, with a reply or without, each with how many messages this call had settled before it. `Parse`:
+    /// the bytes begin no value, after what came before was dealt; from then on always. After `NoMemory` `out` and
+    /// `pushes` are as they were, and the link has failed.
     pub fn bytes(
         &mut self,
         alloc: Global,
@@ -352,21 +355,22 @@ impl LinkCore {
     ) -> Result<(), ReadError>
         ensures ok { OnOk result (record { link = self.new; out = out.new.items } ≡ came (record { link = self.old; out = out.old.items }) piece.now) }
         ensures parse { IsErrOf result ReadError.Parse → ◌≡◌ {A = Settling} (record { link = self.new; out = out.new.items }) (came (record { link = self.old; out = out.old.items }) piece.now) }
+        ensures pushes_ok { OnOk result (pushes.new.items ≡ pushes.old.items ++ pushes_came self.old piece.now) }
+        ensures pushes_parse { IsErrOf result ReadError.Parse → pushes.new.items ≡ pushes.old.items ++ pushes_came self.old piece.now }
         ensures sound { OnOk result (self.new.broken ≡ false) }
         ensures broken { IsErrOf result ReadError.Parse → self.new.broken ≡ true }
         ensures err { IsErrOf result ReadError.NoMemory → out.new.items ≡ out.old.items }
+        ensures pushes_err { IsErrOf result ReadError.NoMemory → pushes.new.items ≡ pushes.old.items }
         ensures no_memory { IsErrOf result ReadError.NoMemory → self.new.failed ≡ true }
         ensures failed { self.old.failed ≡ true → IsErrOf result ReadError.NoMemory }
-        ensures pushes { pushes.new.items ≡ pushes.old.items }
     {
-        let _none = pushes;
         if self.failed {
             return Err(ReadError::NoMemory);
         }
         if self.broken {
             return Err(ReadError::Parse);
         }
-        match self.try_bytes(alloc, piece, out) {
+        match self.try_bytes(alloc, piece, out, pushes) {
             Ok(()) => {}
             Err(_) => return Err(ReadError::NoMemory),
         }
@@ -382,20 +386,53 @@ impl LinkCore {
         alloc: Global,
         piece: &[u8],
         out: &mut Vec<Settled>,
+        pushes: &mut Vec<PushAt>,
     ) -> Result<(), AllocError>
         requires sound { self.old.failed ≡ false }
         requires whole { self.old.broken ≡ false }
         ensures ok { OnOk result (record { link = self.new; out = out.new.items } ≡ came_all (record { link = self.old; out = out.old.items }) (self.old.rest ++ piece.now)) }
+        ensures pushes { OnOk result (pushes.new.items ≡ pushes.old.items ++ pushes_of self.old (self.old.rest ++ piece.now)) }
         ensures err { OnErr result (out.new.items ≡ out.old.items) }
+        ensures pushes_err { OnErr result (pushes.new.items ≡ pushes.old.items) }
         ensures no_memory { OnErr result (self.new.failed ≡ true) }
     {
         self.failed = true;
         self.reader.feed(piece)?;
         let mut settled = Vec::new(alloc);
-        self.broken = deal_all(alloc, &mut self.reader, &mut self.row, &mut settled)?;
-        out.append(&mut settled)?;
+        let mut pushed = Vec::new(alloc);
+        self.broken = deal_all(
+            alloc,
+            &mut self.reader,
+            &mut self.row,
+            &mut settled,
+            &mut pushed,
+        )?;
+        append_both(out, &mut settled, pushes, &mut pushed)?;
         self.failed = false;
         Ok(())
+    }
+}
+
+/// Moves what was settled and what was pushed. After an error nothing has moved.
+fn append_both(
+    out: &mut Vec<Settled>,
+    settled: &mut Vec<Settled>,
+    pushes: &mut Vec<PushAt>,
+    pushed: &mut Vec<PushAt>,
+) -> Result<(), AllocError>
+    ensures settled { OnOk result (out.new.items ≡ out.old.items ++ settled.old.items) }
+    ensures pushed { OnOk result (pushes.new.items ≡ pushes.old.items ++ pushed.old.items) }
+    ensures settled_err { OnErr result (out.new.items ≡ out.old.items) }
+    ensures pushed_err { OnErr result (pushes.new.items ≡ pushes.old.items) }
+{
+    let before = out.len();
+    out.append(settled)?;
+    match pushes.append(pushed) {
+        Ok(()) => Ok(()),
+        Err(error) => {
+            out.truncate(before);
+            Err(error)
+        }
     }
 }
 
@@ -405,16 +442,18 @@ fn deal_all(
     reader: &mut Reader,
     row: &mut Row,
     out: &mut Vec<Settled>,
+    pushes: &mut Vec<PushAt>,
 ) -> Result<bool, AllocError>
     requires { reader.old.health ≡ Health.Sound }
-    ensures dealt { OnOk result (record { row = row.new; out = out.new.items } ≡ dealt_each (record { row = row.old; out = out.old.items }) (values reader.old.rest)) }
+    ensures dealt { OnOk result (record { row = row.new; out = out.new.items } ≡ dealt_each (record { row = row.old; out = out.old.items }) (items reader.old.rest)) }
+    ensures pushed { OnOk result (pushes.new.items ≡ pushes.old.items ++ pushes_each (record { row = row.old; out = out.old.items }) (values reader.old.rest)) }
     ensures rest { OnOk result (reader.new.rest ≡ left_over reader.old.rest) }
     ensures spoiled { IfOk result (λ broken. broken ≡ is_spoiled reader.old.rest) }
     ensures sound { IfOk result (λ broken. broken ≡ false → reader.new.health ≡ Health.Sound) }
 {
     'values: loop {
         match reader.next_value(alloc) {
-            Ok(Some(value)) => match row.deal(value, out) {
+            Ok(Some(value)) => match deal_value(alloc, value, row, out, pushes) {
                 Ok(()) => {}
                 Err(error) => return Err(error),
             },
@@ -422,6 +461,55 @@ fn deal_all(
             Err(ReadError::Parse) => return Ok(true),
             Err(ReadError::NoMemory) => return Err(AllocError),
         }
+    }
+}
+
+/// One value: a push is noted, and an item is dealt.
+fn deal_value(
+    alloc: Global,
+    value: Value,
+    row: &mut Row,
+    out: &mut Vec<Settled>,
+    pushes: &mut Vec<PushAt>,
+) -> Result<(), AllocError>
+    ensures dealt { OnOk result (record { row = row.new; out = out.new.items } ≡ value_dealt (record { row = row.old; out = out.old.items }) (data_of value)) }
+    ensures pushed { OnOk result (pushes.new.items ≡ pushes.old.items ++ push_behind (length out.old.items) (data_of value)) }
+{
+    note_push(alloc, &value, out.len() as u64, pushes)?;
+    if is_item(&value) {
+        return row.deal(value, out);
+    }
+    Ok(())
+}
+
+/// A push, behind so many settled messages.
+fn note_push(
+    alloc: Global,
+    value: &Value,
+    settled: u64,
+    pushes: &mut Vec<PushAt>,
+) -> Result<(), AllocError>
+    ensures { OnOk result (pushes.new.items ≡ pushes.old.items ++ push_behind settled (data_of value.now)) }
+{
+    match value {
+        Value::Push { kind, parts } => {
+            let kind = kind.clone(alloc)?;
+            let parts = parts.clone(alloc)?;
+            let info = PushInfo { kind, parts };
+            pushes.push(PushAt { settled, info })?;
+            Ok(())
+        }
+        _ => Ok(()),
+    }
+}
+
+/// Whether a value is dealt: all but a push without reply.
+fn is_item(value: &Value) -> bool
+    ensures { result ≡ is_item_data (data_of value.now) }
+{
+    match value {
+        Value::Push { kind, parts: _ } => kind.has_reply(),
+        _ => true,
     }
 }
 

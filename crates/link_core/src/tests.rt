@@ -1,4 +1,4 @@
-use crate::{EnqueueError, LinkCore, LinkFault, Settled, StartError};
+use crate::{EnqueueError, LinkCore, LinkFault, PushAt, Settled, StartError};
 use driver_model::{Shape, Verdict};
 use resp_read::ReadError;
 use resp_value::{RedisError, Value};
@@ -97,6 +97,14 @@ fn describe_all(alloc: Global, settled: &[Settled], log: &mut Vec<u8>) -> Result
     Ok(())
 }
 
+fn describe_pushes(alloc: Global, pushes: &[PushAt], log: &mut Vec<u8>) -> Result<(), AllocError> {
+    for push in pushes {
+        let (settled, parts) = (push.settled, push.info.parts.len());
+        log.extend_from_slice(format!(in alloc; "push behind {settled} of {parts}; ")?.as_bytes())?;
+    }
+    Ok(())
+}
+
 fn bytes(
     alloc: Global,
     link: &mut LinkCore,
@@ -107,6 +115,7 @@ fn bytes(
     let mut pushes = Vec::new(alloc);
     let answer = link.bytes(alloc, text.as_bytes(), &mut settled, &mut pushes);
     describe_all(alloc, settled.as_slice(), log)?;
+    describe_pushes(alloc, pushes.as_slice(), log)?;
     match answer {
         Ok(()) => Ok(()),
         Err(ReadError::Parse) => log.extend_from_slice(b"malformed; ".as_slice()),
@@ -194,6 +203,20 @@ fn replies_come_in_order(rt: HostRuntime) -> Result<(), AllocError> {
     let wanted =
         "put; put; starts 2, open 2; 0 7 1 4; 1 8 1 2; offer abcdxy; offer ; left 3; offer dxy; left 0; offer ; 7 1; 8 okay; \
 put; put; starts 2, open 2; 2 9 1 1; 3 10 1 1; 10 3; ";
+    run(&rt, rt.alloc(), 3, 1000, calls.as_slice(), wanted)
+}
+
+#[test]
+fn pushes_without_reply_answer_nobody(rt: HostRuntime) -> Result<(), AllocError> {
+    let calls = [
+        Call::Put(7, "a"),
+        Call::Put(8, "b"),
+        Call::Start,
+        Call::Bytes(">2\r\n$7\r\nmessage\r\n:1\r\n+OK\r\n>3\r\n$9\r\nsubscribe\r\n$1\r\na"),
+        Call::Bytes("\r\n:1\r\n>1\r\n+x\r\n"),
+    ];
+    let wanted =
+        "put; put; starts 2, open 2; 0 7 1 1; 1 8 1 1; 7 okay; push behind 0 of 1; 8 other; push behind 0 of 2; push behind 1 of 0; ";
     run(&rt, rt.alloc(), 3, 1000, calls.as_slice(), wanted)
 }
 

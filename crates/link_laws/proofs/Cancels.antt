@@ -2,7 +2,7 @@
 use Rattle.std.proofs.Common.{◌≡◌, ℕ, ◌==◌, Bool, true, false, List, [], ◌∷◌, ◌++◌, if◌then◌else◌, refl, sym, ap, subst, inl, inr, arith}
 use Rattle.std.proofs.lemmas.Bool.Decides.{nat_tests}
 use Rattle.resp_value.specs.declared.redis_error.RedisError.TheVariants as error
-use Rattle.resp_read.specs.Values.{values}
+use Rattle.resp_read.specs.Items.{items}
 use Rattle.link_core.specs.declared.errors.LinkFault.{LinkFault}
 use Rattle.link_core.specs.declared.message.Entry.{Entry}
 use Rattle.link_core.specs.declared.message.Queued.{Queued}
@@ -79,9 +79,9 @@ settle_branch id false x y x' y' p q = q
 all_alike : (id : ℕ) (s : LinkState) (row : List Entry) (out out' : List Settled) (bytes : List ℕ) → SameRow id s.row row → others id out ≡ others id out'
     → SameSettling id (came_all (record { link = s; out = out }) bytes) (came_all (record { link = record s { row = row }; out = out' }) bytes)
 all_alike id s row out out' bytes h o =
-    let one : Dealing = dealt_each (record { row = s.row; out = [] }) (values bytes) in
-    let other : Dealing = dealt_each (record { row = row; out = [] }) (values bytes) in
-    let same : SameDealing id one other = same_dealt_each id (record { row = s.row; out = [] }) (record { row = row; out = [] }) (values bytes) (record { row = h; out = refl }) in
+    let one : Dealing = dealt_each (record { row = s.row; out = [] }) (items bytes) in
+    let other : Dealing = dealt_each (record { row = row; out = [] }) (items bytes) in
+    let same : SameDealing id one other = same_dealt_each id (record { row = s.row; out = [] }) (record { row = row; out = [] }) (items bytes) (record { row = h; out = refl }) in
     record { link = record { row = same.row; rest = refl }; out = others_joined id out one.out out' other.out o same.out }
 
 came_alike : (id : ℕ) (s : LinkState) (row : List Entry) (out out' : List Settled) (piece : List ℕ) → SameRow id s.row row → others id out ≡ others id out'

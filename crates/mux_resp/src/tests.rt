@@ -1,4 +1,4 @@
-use crate::{ReadError, Reader, Value};
+use crate::{Bytes, PushKind, ReadError, Reader, Value};
 use resp_write::canonical_text;
 use std::alloc::{AllocError, Global};
 use std::test::Fail;
@@ -59,92 +59,116 @@ fn is_read_cut(alloc: Global, text: &str, at: usize, want: &str) -> Result<bool,
     Ok(true)
 }
 
+/// Texts of the public page of the protocol, each its own canonical text.
+const EXAMPLES: [&str; 27] = [
+    "+OK\r\n",
+    "-Error message\r\n",
+    "-ERR unknown command 'asdf'\r\n",
+    "-WRONGTYPE Operation against a key holding the wrong kind of value\r\n",
+    ":0\r\n",
+    ":1000\r\n",
+    "$5\r\nhello\r\n",
+    "$0\r\n\r\n",
+    "*0\r\n",
+    "*2\r\n$5\r\nhello\r\n$5\r\nworld\r\n",
+    "*3\r\n:1\r\n:2\r\n:3\r\n",
+    "*5\r\n:1\r\n:2\r\n:3\r\n:4\r\n$5\r\nhello\r\n",
+    "*2\r\n*3\r\n:1\r\n:2\r\n:3\r\n*2\r\n+Hello\r\n-World\r\n",
+    "_\r\n",
+    "#t\r\n",
+    "#f\r\n",
+    ",1.23\r\n",
+    ",10\r\n",
+    ",inf\r\n",
+    ",-inf\r\n",
+    ",nan\r\n",
+    "(3492890328409238509324850943850943825024385\r\n",
+    "=15\r\ntxt:Some string\r\n",
+    "%2\r\n+first\r\n:1\r\n+second\r\n:2\r\n",
+    "~5\r\n+orange\r\n+apple\r\n#t\r\n:100\r\n:999\r\n",
+    "|1\r\n+key-popularity\r\n%2\r\n$1\r\na\r\n,0.1923\r\n$1\r\nb\r\n,0.0012\r\n*2\r\n:2039123\r\n:9543892\r\n",
+    "*3\r\n:1\r\n:2\r\n|1\r\n+ttl\r\n:3600\r\n:3\r\n",
+];
+
+/// Texts of that page whose canonical text is another.
+const OTHER_SPELLINGS: [(&str, &str); 5] = [
+    (
+        ">4\r\n+pubsub\r\n+message\r\n+somechannel\r\n+this is the message\r\n",
+        ">4\r\n$6\r\npubsub\r\n+message\r\n+somechannel\r\n+this is the message\r\n",
+    ),
+    ("$-1\r\n", "_\r\n"),
+    ("*-1\r\n", "_\r\n"),
+    (
+        "*3\r\n$5\r\nhello\r\n$-1\r\n$5\r\nworld\r\n",
+        "*3\r\n$5\r\nhello\r\n_\r\n$5\r\nworld\r\n",
+    ),
+    (
+        "!21\r\nSYNTAX invalid syntax\r\n",
+        "-SYNTAX invalid syntax\r\n",
+    ),
+];
+
 #[test]
 fn reads_the_examples_of_the_protocol_page(rt: HostRuntime) -> Result<(), Fail> {
-    for text in [
-        "+OK\r\n",
-        "-Error message\r\n",
-        "-ERR unknown command 'asdf'\r\n",
-        "-WRONGTYPE Operation against a key holding the wrong kind of value\r\n",
-        ":0\r\n",
-        ":1000\r\n",
-        "$5\r\nhello\r\n",
-        "$0\r\n\r\n",
-        "*0\r\n",
-        "*2\r\n$5\r\nhello\r\n$5\r\nworld\r\n",
-        "*3\r\n:1\r\n:2\r\n:3\r\n",
-        "*5\r\n:1\r\n:2\r\n:3\r\n:4\r\n$5\r\nhello\r\n",
-        "*2\r\n*3\r\n:1\r\n:2\r\n:3\r\n*2\r\n+Hello\r\n-World\r\n",
-        "_\r\n",
-        "#t\r\n",
-        "#f\r\n",
-        ",1.23\r\n",
-        ",10\r\n",
-        ",inf\r\n",
-        ",-inf\r\n",
-        ",nan\r\n",
-        "(3492890328409238509324850943850943825024385\r\n",
-        "=15\r\ntxt:Some string\r\n",
-        "%2\r\n+first\r\n:1\r\n+second\r\n:2\r\n",
-        "~5\r\n+orange\r\n+apple\r\n#t\r\n:100\r\n:999\r\n",
-        "|1\r\n+key-popularity\r\n%2\r\n$1\r\na\r\n,0.1923\r\n$1\r\nb\r\n,0.0012\r\n*2\r\n:2039123\r\n:9543892\r\n",
-        "*3\r\n:1\r\n:2\r\n|1\r\n+ttl\r\n:3600\r\n:3\r\n",
-    ] {
+    for text in EXAMPLES {
         let is_so = is_read_cut(rt.alloc(), text, text.len(), text)?;
         assert!(rt; is_so, "{text:?}");
     }
-    for (text, want) in [
-        ("$-1\r\n", "_\r\n"),
-        ("*-1\r\n", "_\r\n"),
-        (
-            "*3\r\n$5\r\nhello\r\n$-1\r\n$5\r\nworld\r\n",
-            "*3\r\n$5\r\nhello\r\n_\r\n$5\r\nworld\r\n",
-        ),
-        (
-            "!21\r\nSYNTAX invalid syntax\r\n",
-            "-SYNTAX invalid syntax\r\n",
-        ),
-    ] {
+    for (text, want) in OTHER_SPELLINGS {
         let is_so = is_read_cut(rt.alloc(), text, text.len(), want)?;
         assert!(rt; is_so, "{text:?}");
     }
     Ok(())
 }
 
+/// Texts and their canonical texts.
+const FORMS: [(&str, &str); 32] = [
+    (">1\r\n+OK\r\n", ">1\r\n$2\r\nOK\r\n"),
+    (
+        ">3\r\n$9\r\nsubscribe\r\n$1\r\na\r\n:1\r\n",
+        ">3\r\n$9\r\nsubscribe\r\n$1\r\na\r\n:1\r\n",
+    ),
+    (">02\r\n+message\r\n:1\r\n", ">2\r\n$7\r\nmessage\r\n:1\r\n"),
+    (
+        ">1\r\n$13\r\ndisconnection\r\n",
+        ">1\r\n$13\r\ndisconnection\r\n",
+    ),
+    ("|0\r\n>1\r\n$0\r\n\r\n", "|0\r\n>1\r\n$0\r\n\r\n"),
+    ("+\r\n", "+\r\n"),
+    ("+OK \r\n", "+OK \r\n"),
+    ("+a\nb\r\n", "+a\nb\r\n"),
+    ("-LOADING\r\n", "-LOADING\r\n"),
+    ("-ERR x y\r\n", "-ERR x y\r\n"),
+    ("- \r\n", "- \r\n"),
+    (":+007\r\n", ":7\r\n"),
+    (":-1\r\n", ":-1\r\n"),
+    (":9223372036854775807\r\n", ":9223372036854775807\r\n"),
+    (":-9223372036854775808\r\n", ":-9223372036854775808\r\n"),
+    ("$003\r\nfoo\r\n", "$3\r\nfoo\r\n"),
+    ("$2\r\n\r\n\r\n", "$2\r\n\r\n\r\n"),
+    (",+1\r\n", ",+1\r\n"),
+    (",-1.5e+10\r\n", ",-1.5e+10\r\n"),
+    (",007.50E-7\r\n", ",007.50E-7\r\n"),
+    (",1e5\r\n", ",1e5\r\n"),
+    ("(-5\r\n", "(-5\r\n"),
+    ("(+05\r\n", "(+05\r\n"),
+    ("!0\r\n\r\n", "-\r\n"),
+    ("!5\r\na\r\nb \r\n", "!5\r\na\r\nb \r\n"),
+    ("=4\r\nmkd:\r\n", "=4\r\nmkd:\r\n"),
+    ("=007\r\n\r\n\r:\n:\r\r\n", "=7\r\n\r\n\r:\n:\r\r\n"),
+    ("*01\r\n*-1\r\n", "*1\r\n_\r\n"),
+    ("%0\r\n", "%0\r\n"),
+    (
+        "%1\r\n%1\r\n_\r\n_\r\n*0\r\n",
+        "%1\r\n%1\r\n_\r\n_\r\n*0\r\n",
+    ),
+    ("~0\r\n", "~0\r\n"),
+    ("|0\r\n-A b\r\n", "|0\r\n-A b\r\n"),
+];
+
 #[test]
 fn reads_each_form_cut_anywhere(rt: HostRuntime) -> Result<(), Fail> {
-    for (text, want) in [
-        ("+\r\n", "+\r\n"),
-        ("+OK \r\n", "+OK \r\n"),
-        ("+a\nb\r\n", "+a\nb\r\n"),
-        ("-LOADING\r\n", "-LOADING\r\n"),
-        ("-ERR x y\r\n", "-ERR x y\r\n"),
-        ("- \r\n", "- \r\n"),
-        (":+007\r\n", ":7\r\n"),
-        (":-1\r\n", ":-1\r\n"),
-        (":9223372036854775807\r\n", ":9223372036854775807\r\n"),
-        (":-9223372036854775808\r\n", ":-9223372036854775808\r\n"),
-        ("$003\r\nfoo\r\n", "$3\r\nfoo\r\n"),
-        ("$2\r\n\r\n\r\n", "$2\r\n\r\n\r\n"),
-        (",+1\r\n", ",+1\r\n"),
-        (",-1.5e+10\r\n", ",-1.5e+10\r\n"),
-        (",007.50E-7\r\n", ",007.50E-7\r\n"),
-        (",1e5\r\n", ",1e5\r\n"),
-        ("(-5\r\n", "(-5\r\n"),
-        ("(+05\r\n", "(+05\r\n"),
-        ("!0\r\n\r\n", "-\r\n"),
-        ("!5\r\na\r\nb \r\n", "!5\r\na\r\nb \r\n"),
-        ("=4\r\nmkd:\r\n", "=4\r\nmkd:\r\n"),
-        ("=007\r\n\r\n\r:\n:\r\r\n", "=7\r\n\r\n\r:\n:\r\r\n"),
-        ("*01\r\n*-1\r\n", "*1\r\n_\r\n"),
-        ("%0\r\n", "%0\r\n"),
-        (
-            "%1\r\n%1\r\n_\r\n_\r\n*0\r\n",
-            "%1\r\n%1\r\n_\r\n_\r\n*0\r\n",
-        ),
-        ("~0\r\n", "~0\r\n"),
-        ("|0\r\n-A b\r\n", "|0\r\n-A b\r\n"),
-    ] {
+    for (text, want) in FORMS {
         let is_so = is_read_cut(rt.alloc(), text, text.len(), want)?
             && is_read_cut(rt.alloc(), want, want.len(), want)?;
         assert!(rt; is_so, "{text:?}");
@@ -152,110 +176,127 @@ fn reads_each_form_cut_anywhere(rt: HostRuntime) -> Result<(), Fail> {
     Ok(())
 }
 
+/// Fronts of no value, each by its last byte.
+const REFUSED: [&str; 88] = [
+    ">?",
+    ">-",
+    ">0\r",
+    ">00x",
+    ">1\r\n:",
+    ">1\r\n$-",
+    ">1\r\n*",
+    ">2147483648",
+    ">2\r\n+a\r\n?",
+    "?",
+    "\r",
+    "+a\rb",
+    "-a\rb",
+    ":\r",
+    ":+\r",
+    ":+-",
+    ":12a",
+    ":9223372036854775808",
+    ":-9223372036854775809",
+    "$-2",
+    "$-1x",
+    "$+",
+    "$?",
+    "$\r",
+    "$3\r\nfooo",
+    "$3\r\nfoo\rx",
+    "$536870913",
+    "_x",
+    "_\rx",
+    "#T",
+    "#tt",
+    "#\r",
+    ",+i",
+    ",-n",
+    ",infx",
+    ",in\r",
+    ",i\r",
+    ",.",
+    ",1.\r",
+    ",1.e",
+    ",1e\r",
+    ",1e+x",
+    ",1e+\r",
+    ",1e1.",
+    ",\r",
+    ",N",
+    ",1.2.",
+    ",--",
+    ",nana",
+    "(\r",
+    "(-\r",
+    "(1.",
+    "(12a",
+    "(--",
+    "!-",
+    "!?",
+    "!3\r\nabcd",
+    "!536870913",
+    "=-",
+    "=?",
+    "=3\r",
+    "=03\r",
+    "=03x",
+    "=4\r\ntxt;",
+    "=5\r\ntxt:ab",
+    "=\r",
+    "=536870913",
+    "*-2",
+    "*-1x",
+    "*+",
+    "*?",
+    "*\r",
+    "*1\r\n?",
+    "*2\r\n:1\r\n:x",
+    "*2147483648",
+    "%-",
+    "%?",
+    "%1\r\n+a\r\n?",
+    "%2147483648",
+    "~-",
+    "~?",
+    "~1\r\n!-",
+    "~2147483648",
+    "|-",
+    "|?",
+    "|1\r\n+a\r\n#x",
+    "|0\r\n?",
+    "|2147483648",
+];
+
 #[test]
 fn refuses_at_the_first_byte_that_shows_it(rt: HostRuntime) -> Result<(), Fail> {
-    for text in [
-        "?",
-        "\r",
-        ">",
-        "+a\rb",
-        "-a\rb",
-        ":\r",
-        ":+\r",
-        ":+-",
-        ":12a",
-        ":9223372036854775808",
-        ":-9223372036854775809",
-        "$-2",
-        "$-1x",
-        "$+",
-        "$?",
-        "$\r",
-        "$3\r\nfooo",
-        "$3\r\nfoo\rx",
-        "$536870913",
-        "_x",
-        "_\rx",
-        "#T",
-        "#tt",
-        "#\r",
-        ",+i",
-        ",-n",
-        ",infx",
-        ",in\r",
-        ",i\r",
-        ",.",
-        ",1.\r",
-        ",1.e",
-        ",1e\r",
-        ",1e+x",
-        ",1e+\r",
-        ",1e1.",
-        ",\r",
-        ",N",
-        ",1.2.",
-        ",--",
-        ",nana",
-        "(\r",
-        "(-\r",
-        "(1.",
-        "(12a",
-        "(--",
-        "!-",
-        "!?",
-        "!3\r\nabcd",
-        "!536870913",
-        "=-",
-        "=?",
-        "=3\r",
-        "=03\r",
-        "=03x",
-        "=4\r\ntxt;",
-        "=5\r\ntxt:ab",
-        "=\r",
-        "=536870913",
-        "*-2",
-        "*-1x",
-        "*+",
-        "*?",
-        "*\r",
-        "*1\r\n?",
-        "*2\r\n:1\r\n:x",
-        "*2147483648",
-        "%-",
-        "%?",
-        "%1\r\n+a\r\n?",
-        "%2147483648",
-        "~-",
-        "~?",
-        "~1\r\n!-",
-        "~2147483648",
-        "|-",
-        "|?",
-        "|1\r\n+a\r\n#x",
-        "|0\r\n?",
-        "|2147483648",
-    ] {
+    for text in REFUSED {
         let is_so = is_read_cut(rt.alloc(), text, text.len(), "parse")?;
         assert!(rt; is_so, "{text:?}");
     }
     Ok(())
 }
 
+/// Fronts of values.
+const SHORT: [&str; 13] = [
+    ">0",
+    ">1\r\n",
+    ">2147483647\r\n+a\r\n:1\r\n",
+    "$536870912\r\nx",
+    "!536870912\r\nx",
+    "=536870912\r\ntxt:",
+    "=000",
+    "*2147483647\r\n:1\r\n",
+    "%2147483647\r\n:1\r\n:2\r\n",
+    "~2147483647\r\n:1\r\n",
+    "|2147483647\r\n:1\r\n",
+    "|0\r\n",
+    "*1\r\n*1\r\n",
+];
+
 #[test]
 fn waits_for_what_was_announced(rt: HostRuntime) -> Result<(), Fail> {
-    for text in [
-        "$536870912\r\nx",
-        "!536870912\r\nx",
-        "=536870912\r\ntxt:",
-        "=000",
-        "*2147483647\r\n:1\r\n",
-        "%2147483647\r\n:1\r\n:2\r\n",
-        "~2147483647\r\n:1\r\n",
-        "|2147483647\r\n:1\r\n",
-        "|0\r\n",
-        "*1\r\n*1\r\n",
-    ] {
+    for text in SHORT {
         let is_so = is_read_cut(rt.alloc(), text, text.len(), "none")?;
         assert!(rt; is_so, "{text:?}");
     }
@@ -280,27 +321,32 @@ fn is_long_read(
     answers(alloc, &mut reader, want)
 }
 
+/// A mark, so many equal bytes, and an end; and the answer.
+const LONG: [(u8, usize, u8, &str, &str); 19] = [
+    (b'>', 1_048_575, b'0', "1\r\n+a\r\n", ">1\r\n$1\r\na\r\n"),
+    (b'>', 1_048_576, b'0', "", "parse"),
+    (b':', 1_048_576, b'0', "\r\n", ":0\r\n"),
+    (b':', 1_048_576, b'0', "1", "parse"),
+    (b'+', 1_048_576, b'a', "", "none"),
+    (b'+', 1_048_576, b'a', "a", "parse"),
+    (b'$', 1_048_575, b'0', "1\r\nx\r\n", "$1\r\nx\r\n"),
+    (b'$', 1_048_576, b'0', "1", "parse"),
+    (b',', 1_048_576, b'1', "\r", "none"),
+    (b',', 1_048_576, b'1', "1", "parse"),
+    (b',', 1_048_574, b'1', ".", "none"),
+    (b',', 1_048_575, b'1', ".", "parse"),
+    (b'(', 1_048_576, b'1', "", "none"),
+    (b'(', 1_048_576, b'1', "1", "parse"),
+    (b'!', 1_048_576, b'0', "\r\n\r\n", "-\r\n"),
+    (b'=', 1_048_575, b'0', "4\r\ntxt:\r\n", "=4\r\ntxt:\r\n"),
+    (b'=', 1_048_576, b'0', "", "parse"),
+    (b'*', 1_048_576, b'0', "\r\n", "*0\r\n"),
+    (b'*', 1_048_576, b'0', "0", "parse"),
+];
+
 #[test]
 fn reads_lines_up_to_the_limit(rt: HostRuntime) -> Result<(), Fail> {
-    for (mark, count, byte, end, want) in [
-        (b':', 1_048_576, b'0', "\r\n", ":0\r\n"),
-        (b':', 1_048_576, b'0', "1", "parse"),
-        (b'+', 1_048_576, b'a', "", "none"),
-        (b'+', 1_048_576, b'a', "a", "parse"),
-        (b'$', 1_048_575, b'0', "1\r\nx\r\n", "$1\r\nx\r\n"),
-        (b'$', 1_048_576, b'0', "1", "parse"),
-        (b',', 1_048_576, b'1', "\r", "none"),
-        (b',', 1_048_576, b'1', "1", "parse"),
-        (b',', 1_048_574, b'1', ".", "none"),
-        (b',', 1_048_575, b'1', ".", "parse"),
-        (b'(', 1_048_576, b'1', "", "none"),
-        (b'(', 1_048_576, b'1', "1", "parse"),
-        (b'!', 1_048_576, b'0', "\r\n\r\n", "-\r\n"),
-        (b'=', 1_048_575, b'0', "4\r\ntxt:\r\n", "=4\r\ntxt:\r\n"),
-        (b'=', 1_048_576, b'0', "", "parse"),
-        (b'*', 1_048_576, b'0', "\r\n", "*0\r\n"),
-        (b'*', 1_048_576, b'0', "0", "parse"),
-    ] {
+    for (mark, count, byte, end, want) in LONG {
         let is_so = is_long_read(rt.alloc(), mark, count, byte, end, want)?;
         assert!(rt; is_so, "{mark} and {count} times {byte}, then {end:?}");
     }
@@ -331,24 +377,59 @@ fn is_deep_read(
     is_read(alloc, text.as_bytes(), 7, text.len(), want)
 }
 
+/// One piece so many times, and an end; and what is shown behind the pieces, or `parse`.
+const DEEP: [(&str, usize, &str, &str); 14] = [
+    (
+        ">2\r\n$1\r\na\r\n",
+        99,
+        ">1\r\n$1\r\nb\r\n",
+        ">1\r\n$1\r\nb\r\n",
+    ),
+    (">2\r\n$1\r\na\r\n", 100, ">", "parse"),
+    ("*1\r\n", 100, ":1\r\n", ":1\r\n"),
+    ("*1\r\n", 100, "*-1\r\n", "_\r\n"),
+    ("*1\r\n", 100, "*-2", "parse"),
+    ("*1\r\n", 100, "*1", "parse"),
+    ("*1\r\n", 99, "*0\r\n", "*0\r\n"),
+    ("*1\r\n", 100, "*0", "parse"),
+    ("~1\r\n", 99, "~0\r\n", "~0\r\n"),
+    ("~1\r\n", 100, "~", "parse"),
+    ("%1\r\n+a\r\n", 99, "%0\r\n", "%0\r\n"),
+    ("%1\r\n+a\r\n", 100, "%", "parse"),
+    ("|0\r\n", 100, ":1\r\n", ":1\r\n"),
+    ("|0\r\n", 100, "|", "parse"),
+];
+
 #[test]
 fn reads_aggregates_up_to_the_depth(rt: HostRuntime) -> Result<(), Fail> {
-    for (piece, count, end, shown) in [
-        ("*1\r\n", 100, ":1\r\n", ":1\r\n"),
-        ("*1\r\n", 100, "*-1\r\n", "_\r\n"),
-        ("*1\r\n", 100, "*-2", "parse"),
-        ("*1\r\n", 100, "*1", "parse"),
-        ("*1\r\n", 99, "*0\r\n", "*0\r\n"),
-        ("*1\r\n", 100, "*0", "parse"),
-        ("~1\r\n", 99, "~0\r\n", "~0\r\n"),
-        ("~1\r\n", 100, "~", "parse"),
-        ("%1\r\n+a\r\n", 99, "%0\r\n", "%0\r\n"),
-        ("%1\r\n+a\r\n", 100, "%", "parse"),
-        ("|0\r\n", 100, ":1\r\n", ":1\r\n"),
-        ("|0\r\n", 100, "|", "parse"),
-    ] {
+    for (piece, count, end, shown) in DEEP {
         let is_so = is_deep_read(rt.alloc(), piece, count, end, shown)?;
         assert!(rt; is_so, "{count} times {piece:?}, then {end:?}");
+    }
+    Ok(())
+}
+
+/// Kinds of pushes by their texts, and whether they have a reply.
+const KINDS: [(&[u8], bool); 12] = [
+    (b"invalidate", false),
+    (b"message", false),
+    (b"pmessage", false),
+    (b"smessage", false),
+    (b"unsubscribe", true),
+    (b"punsubscribe", true),
+    (b"sunsubscribe", true),
+    (b"subscribe", true),
+    (b"psubscribe", true),
+    (b"ssubscribe", true),
+    (b"disconnection", false),
+    (b"Subscribe", false),
+];
+
+#[test]
+fn six_kinds_have_a_reply(rt: HostRuntime) -> Result<(), Fail> {
+    for (text, has_reply) in KINDS {
+        let kind = PushKind::of_text(Bytes::from_slice(rt.alloc(), text)?);
+        assert_eq!(rt; kind.has_reply(), has_reply);
     }
     Ok(())
 }

@@ -4,10 +4,10 @@ use Rattle.std.proofs.lemmas.List.{length-replicate, take-append-drop, take-appe
 use Rattle.std.proofs.lemmas.Bool.Decides.{nat_tests}
 use Rattle.std.specs.Prelude.{◌==◌, nat_lt, Option, Some, None}
 use Rattle.resp_value.specs.Data.{nil, bulk, verbatim}
-use Rattle.resp_read.specs.Grammar.{read, short, bad, fed, closed, body, bulk_of, bulk_string, line_as, size_line, count_line, max_bulk, error_of, error_body, bulk_error, some_bytes, colon, format, text_of, verbatim_of, verbatim_string}
+use Rattle.resp_read.specs.Grammar.{read, short, bad, fed, closed, body, bulk_of, bulk_string, line_as, size_line, count_line, max_bulk, error_of, error_body, bulk_error, some_bytes, colon, format, text_of, verbatim_of, verbatim_string, text_line, bulk_text, kind}
 use Rattle.resp_read.proofs.Laws.{LawfulAt, Lawful, Possible, lawful_where_read, lawful_where_short, lawful_bad, lawful_read, lawful_if, lawful_cons, lawful_nil, lawful_then, lawful_map, possible_map, possible_then}
 use Rattle.resp_read.proofs.LineLaws.{lawful_line}
-use Rattle.resp_read.proofs.Numbers.{lawful_size}
+use Rattle.resp_read.proofs.Numbers.{lawful_size, lawful_text_line}
 use Rattle.resp_read.proofs.Counts.{lawful_count}
 
 module _ {A : Type 0} (v : A) where
@@ -134,3 +134,19 @@ verbatim_possible n = possible_then format (text_of n) lawful_format format_poss
 
 pub lawful_verbatim_string : Lawful verbatim_string
 lawful_verbatim_string = lawful_then (line_as (count_line 4 max_bulk)) verbatim_of (lawful_counted 4 max_bulk (lit≤ tt) (lit≤ tt)) lawful_verbatim_of verbatim_possible
+
+-- the kind of a push
+kind_line : Lawful (line_as text_line)
+kind_line = lawful_line text_line lawful_text_line
+
+kind_text : Lawful bulk_text
+kind_text = lawful_then (line_as (count_line 0 max_bulk)) body (lawful_counted 0 max_bulk (lit≤ tt) (lit≤ tt)) lawful_body body_possible
+
+pub kind_possible : Possible kind
+kind_possible = (43 ∷ 13 ∷ 10 ∷ [], [], refl)
+
+pub lawful_kind : Lawful kind
+lawful_kind [] = lawful_nil kind refl kind_possible
+lawful_kind (b ∷ bs) =
+    lawful_cons kind (λ x. cond (b == 43) (line_as text_line x) (cond (b == 36) (bulk_text x) bad)) b bs (λ x. refl)
+    (lawful_if (b == 43) (line_as text_line) (λ x. cond (b == 36) (bulk_text x) bad) bs (kind_line bs) (lawful_if (b == 36) bulk_text (λ x. bad) bs (kind_text bs) (lawful_bad bs)))

@@ -1,11 +1,11 @@
 -- Lengths without `-1`: which fronts can become one.
-use Rattle.std.proofs.Common.{◌≡◌, ℕ, ◌+◌, ◌-◌, ◌*◌, ◌≤◌, ◌<◌, List, [], ◌∷◌, ◌++◌, length, Option, Some, None, Bool, true, false, cond, inl, inr, refl, sym, ap, ◌∙◌, subst, arith, length-append}
+use Rattle.std.proofs.Common.{◌≡◌, ℕ, ◌+◌, ◌-◌, ◌*◌, ◌≤◌, ◌<◌, List, [], ◌∷◌, ◌++◌, length, Option, Some, None, Bool, true, false, cond, inl, inr, refl, ap, ◌∙◌, arith, length-append}
 use Rattle.std.proofs.lemmas.List.{append-nil}
 use Rattle.std.proofs.lemmas.Bool.Decides.{nat_tests}
-use Rattle.std.specs.Prelude.{◌⊎◌, ◌&&◌, ◌||◌, ◌==◌, nat_le, nat_lt, is_some}
-use Rattle.resp_read.specs.Grammar.{max_line, fits, line, ended, is_digit, digits_after, at_most, natural, at_least, count, made_by, count_begun, count_line}
+use Rattle.std.specs.Prelude.{◌&&◌, ◌||◌, ◌==◌, nat_le, nat_lt, is_some}
+use Rattle.resp_read.specs.Grammar.{max_line, fits, is_digit, digits_after, at_most, natural, at_least, count, made_by, count_begun, count_line}
 use Rattle.resp_read.proofs.LineLaws.{IsOneLine, LawfulLine}
-use Rattle.resp_read.proofs.Numbers.{Begins, is_none, natural_stays, one_of_two, neither}
+use Rattle.resp_read.proofs.Numbers.{Begins, natural_stays, one_of_two, neither}
 
 both_true : (c d : Bool) → (c && d) ≡ true → (c ≡ true) × (d ≡ true)
 both_true true d h = (refl, h)

@@ -1,11 +1,11 @@
 -- What the code reads of a double is what the grammar says, and which fronts can become one.
 use Rattle.std.proofs.Common.{◌≡◌, ℕ, zero, suc, ◌+◌, ◌-◌, ◌≤◌, ◌<◌, List, [], ◌∷◌, ◌++◌, length, Option, Some, None, Bool, true, false, cond, inl, inr, refl, sym, ap, ◌∙◌, subst, arith, length-append}
 use Rattle.std.proofs.lemmas.Bool.Decides.{nat_tests}
-use Rattle.std.proofs.Math.Bool.{or-true}
+use Rattle.std.proofs.Math.Bool.{or-true, or-false, and-false}
 use Rattle.std.specs.Prelude.{◌==◌, ◌&&◌, ◌||◌, ◌⊎◌, nat_le, nat_eq, bytes_eq}
-use Rattle.resp_value.specs.Data.{Data, double}
+use Rattle.resp_value.specs.Data.{double}
 use Rattle.resp_read.specs.Grammar.{max_line, fits, is_digit, is_end, unsigned, after_digits, digits_and, is_exponent, is_fraction, is_double, made_by, double_tails, double_line}
-use Rattle.resp_read.specs.Doubles.{digit_to, byte_to, exponent_to, step, run, missing}
+use Rattle.resp_read.specs.Doubles.{digit_to, exponent_to, step, run, missing}
 use Rattle.resp_read.specs.declared.decimals.Seen.{Seen}
 use Rattle.resp_read.specs.declared.decimals.Seen.TheVariants.{Nothing, Minus, Plus, I, In, Inf, N, Na, Nan, Whole, Point, Fraction, Exponent, Sign, Power, Never}
 use Rattle.resp_read.proofs.LineLaws.{LawfulLine}
@@ -34,10 +34,6 @@ takes Never l = false
 and_by : (c : Bool) (s : Seen) (x : Bool) (l : List ℕ) → takes s l ≡ x → (c && x) ≡ takes (cond c s Never) l
 and_by true s x l h = sym h
 and_by false s x l h = refl
-
-or_false : (x : Bool) → (x || false) ≡ x
-or_false true = refl
-or_false false = refl
 
 end_empty : (l : List ℕ) → bytes_eq l [] ≡ is_end l
 end_empty [] = refl
@@ -68,7 +64,7 @@ power_by false b l = refl
 
 -- a byte that is this one, in a text that begins with it
 minus_at : (c : Bool) (b : ℕ) (l : List ℕ) → (b == 105) ≡ c → takes Minus (b ∷ l) ≡ takes (cond c I (digit_to Whole b)) l
-minus_at true b l h = let e : b ≡ 105 = grind (arith, nat_tests) in ap (λ x. takes Minus (x ∷ l)) e ∙ or_false (bytes_eq l (110 ∷ 102 ∷ []))
+minus_at true b l h = let e : b ≡ 105 = grind (arith, nat_tests) in ap (λ x. takes Minus (x ∷ l)) e ∙ or-false (bytes_eq l (110 ∷ 102 ∷ []))
 minus_at false b l h =
     ap (λ c. (c && bytes_eq l (110 ∷ 102 ∷ [])) || digits_and is_fraction (b ∷ l)) h ∙ and_by (is_digit b) Whole (is_fraction (after_digits l)) l refl
 
@@ -76,11 +72,11 @@ start_other : (b : ℕ) (l : List ℕ) → (b == 45) ≡ false → (b == 43) ≡
 start_other b l h k m n = rw (h, k, m, n) (and_by (is_digit b) Whole (is_fraction (after_digits l)) l refl)
 
 start_n : (c : Bool) (b : ℕ) (l : List ℕ) → (b == 110) ≡ c → (b == 45) ≡ false → (b == 43) ≡ false → (b == 105) ≡ false → is_double (b ∷ l) ≡ takes (cond c N (digit_to Whole b)) l
-start_n true b l h k m n = let e : b ≡ 110 = grind (arith, nat_tests) in ap (λ x. is_double (x ∷ l)) e ∙ or_false (bytes_eq l (97 ∷ 110 ∷ []))
+start_n true b l h k m n = let e : b ≡ 110 = grind (arith, nat_tests) in ap (λ x. is_double (x ∷ l)) e ∙ or-false (bytes_eq l (97 ∷ 110 ∷ []))
 start_n false b l h k m n = start_other b l k m n h
 
 start_i : (c : Bool) (b : ℕ) (l : List ℕ) → (b == 105) ≡ c → (b == 45) ≡ false → (b == 43) ≡ false → is_double (b ∷ l) ≡ takes (cond c I (cond (b == 110) N (digit_to Whole b))) l
-start_i true b l h k m = let e : b ≡ 105 = grind (arith, nat_tests) in ap (λ x. is_double (x ∷ l)) e ∙ or_false ((bytes_eq l (110 ∷ 102 ∷ []) || false) || false) ∙ or_false (bytes_eq l (110 ∷ 102 ∷ []) || false) ∙ or_false (bytes_eq l (110 ∷ 102 ∷ []))
+start_i true b l h k m = let e : b ≡ 105 = grind (arith, nat_tests) in ap (λ x. is_double (x ∷ l)) e ∙ or-false ((bytes_eq l (110 ∷ 102 ∷ []) || false) || false) ∙ or-false (bytes_eq l (110 ∷ 102 ∷ []) || false) ∙ or-false (bytes_eq l (110 ∷ 102 ∷ []))
 start_i false b l h k m = start_n (b == 110) b l refl k m h
 
 start_plus : (c : Bool) (b : ℕ) (l : List ℕ) → (b == 43) ≡ c → (b == 45) ≡ false → is_double (b ∷ l) ≡ takes (cond c Plus (cond (b == 105) I (cond (b == 110) N (digit_to Whole b)))) l
@@ -88,7 +84,7 @@ start_plus true b l h k = let e : b ≡ 43 = grind (arith, nat_tests) in ap (λ 
 start_plus false b l h k = start_i (b == 105) b l refl k h
 
 start_by : (c : Bool) (b : ℕ) (l : List ℕ) → (b == 45) ≡ c → is_double (b ∷ l) ≡ takes (cond c Minus (cond (b == 43) Plus (cond (b == 105) I (cond (b == 110) N (digit_to Whole b))))) l
-start_by true b l h = let e : b ≡ 45 = grind (arith, nat_tests) in ap (λ x. is_double (x ∷ l)) e ∙ ap (λ c. c || digits_and is_fraction l) (or_false (bytes_eq l (105 ∷ 110 ∷ 102 ∷ [])))
+start_by true b l h = let e : b ≡ 45 = grind (arith, nat_tests) in ap (λ x. is_double (x ∷ l)) e ∙ ap (λ c. c || digits_and is_fraction l) (or-false (bytes_eq l (105 ∷ 110 ∷ 102 ∷ [])))
 start_by false b l h = start_plus (b == 43) b l refl h
 
 step_takes : (s : Seen) (b : ℕ) (l : List ℕ) → takes s (b ∷ l) ≡ takes (step s b) l
@@ -157,10 +153,6 @@ abbrev TooFew : Option ℕ → ℕ → Type 0
 TooFew None k = Unit {0}
 TooFew (Some n) k = k < n
 
-last_missing : (c : Bool) → (c && false) ≡ false
-last_missing true = refl
-last_missing false = refl
-
 few : (s : Seen) (q : List ℕ) → TooFew (missing s) (length q) → takes s q ≡ false
 few Nothing [] h = refl
 few Nothing (b ∷ q) h = absurd (omega (arith, h))
@@ -169,13 +161,13 @@ few Minus (b ∷ q) h = absurd (omega (arith, h))
 few Plus [] h = refl
 few Plus (b ∷ q) h = absurd (omega (arith, h))
 few I [] h = refl
-few I (b ∷ []) h = last_missing (b == 110)
+few I (b ∷ []) h = and-false (b == 110)
 few I (b ∷ c ∷ q) h = absurd (omega (arith, h))
 few In [] h = refl
 few In (b ∷ q) h = absurd (omega (arith, h))
 few Inf q h = absurd (omega (arith, h))
 few N [] h = refl
-few N (b ∷ []) h = last_missing (b == 97)
+few N (b ∷ []) h = and-false (b == 97)
 few N (b ∷ c ∷ q) h = absurd (omega (arith, h))
 few Na [] h = refl
 few Na (b ∷ q) h = absurd (omega (arith, h))

@@ -11,3 +11,4 @@ pub mod Repeats
 pub mod ParseLaws
 pub mod ReadLaws
 pub mod ValueLaws
+pub mod ItemLaws

@@ -4,7 +4,7 @@ use Rattle.std.proofs.lemmas.List.{append-nil}
 use Rattle.std.proofs.lemmas.Bool.Decides.{nat_tests}
 use Rattle.std.specs.Prelude.{ℤ, pos, neg_ℤ, nat_le, option_map, ◌==◌, ◌&&◌, ◌||◌, bytes_eq, is_some, ◌⊎◌}
 use Rattle.resp_value.specs.Data.{int}
-use Rattle.resp_read.specs.Grammar.{max_line, is_digit, digits_after, at_most, natural, number, number_begun, size, size_begun, simple_of, error_of, simple_line, error_line, number_line, size_line}
+use Rattle.resp_read.specs.Grammar.{max_line, is_digit, digits_after, at_most, natural, number, number_begun, size, size_begun, simple_of, error_of, simple_line, error_line, number_line, size_line, text_line}
 use Rattle.resp_read.proofs.Scans.{stays_above}
 use Rattle.resp_read.proofs.LineLaws.{IsOneLine, LawfulLine}
 
@@ -34,6 +34,9 @@ module _ {A : Type 0} (f : List ℕ → A) where
 
 pub lawful_simple : LawfulLine simple_line
 lawful_simple = any_line simple_of
+
+pub lawful_text_line : LawfulLine text_line
+lawful_text_line = any_line (λ l. l)
 
 pub lawful_error : LawfulLine error_line
 lawful_error = any_line error_of

@@ -2,7 +2,7 @@
 use Rattle.std.proofs.Common.{◌≡◌, ℕ, zero, suc, ◌<◌, List, [], ◌∷◌, ◌++◌, length, get_or, drop, Bool, true, false, cond, refl, sym, ap, ◌∙◌, subst, arith, length-append}
 use Rattle.std.specs.Prelude.{◌==◌, ◌||◌, Result}
 use Rattle.resp_value.specs.Data.{Data, simple}
-use Rattle.resp_read.specs.Grammar.{Found, read, short, Table, plain, nested, innermost, chosen, form, parse, line_as, simple_line, error_line, number_line, null_line, boolean_line, double_line, big_line, no_array_line}
+use Rattle.resp_read.specs.Grammar.{Found, read, short, Table, plain, nested, innermost, chosen, form, parse, simple_line, error_line, number_line, null_line, boolean_line, double_line, big_line, no_array_line}
 use Rattle.resp_read.specs.Parts.{has, IsFound}
 use Rattle.resp_read.specs.declared.forms.Refusal.{Refusal}
 use Rattle.resp_read.proofs.Laws.{Lawful, Possible, lawful_bad, lawful_if, lawful_cons, lawful_nil}
@@ -11,7 +11,7 @@ use Rattle.resp_read.proofs.Numbers.{lawful_simple, lawful_error, lawful_number}
 use Rattle.resp_read.proofs.WordLaws.{lawful_null, lawful_boolean, lawful_big, lawful_no_array}
 use Rattle.resp_read.proofs.DoubleLaws.{lawful_double}
 use Rattle.resp_read.proofs.Bodies.{lawful_bulk_string, lawful_bulk_error, lawful_verbatim_string}
-use Rattle.resp_read.proofs.Repeats.{lawful_array, lawful_set, lawful_dict, lawful_attribute}
+use Rattle.resp_read.proofs.Repeats.{lawful_array, lawful_set, lawful_dict, lawful_push, lawful_attribute}
 
 abbrev AllLawful : Table → Type 0
 AllLawful [] = Unit {0}
@@ -55,7 +55,7 @@ lawful_form more h [] = lawful_nil (form more) refl (43 ∷ 13 ∷ 10 ∷ [], si
 lawful_form more h (b ∷ bs) = lawful_cons (form more) (chosen (plain ++ more) b) b bs (λ x. refl) (lawful_chosen (plain ++ more) (lawful_more plain more lawful_plain h) b bs)
 
 lawful_nested : (inside : List ℕ → Found Data) → Lawful inside → Possible inside → AllLawful (nested inside)
-lawful_nested inside h p = (lawful_array inside h p, (lawful_set inside h p, (lawful_dict inside h p, (lawful_attribute inside h p, tt))))
+lawful_nested inside h p = (lawful_array inside h p, (lawful_set inside h p, (lawful_dict inside h p, (lawful_push inside h p, (lawful_attribute inside h p, tt)))))
 
 lawful_innermost : AllLawful innermost
 lawful_innermost = (lawful_line no_array_line lawful_no_array, tt)

@@ -1,15 +1,13 @@
 -- Values that hold values are lawful, where those that they hold are.
-use Rattle.std.proofs.Common.{◌≡◌, ℕ, zero, suc, ◌+◌, ◌-◌, List, [], ◌∷◌, ◌++◌, Option, Some, None, Err, lit≤, refl, sym, ap, ◌∙◌, append_assoc}
+use Rattle.std.proofs.Common.{◌≡◌, ℕ, zero, suc, ◌+◌, ◌-◌, List, [], ◌∷◌, ◌++◌, Option, Some, None, lit≤, refl, sym, ap, ◌∙◌, append_assoc}
 use Rattle.std.proofs.lemmas.List.{append-nil}
-use Rattle.resp_value.specs.Data.{Data, nil, array, set, dict, attribute, items_of, members_of}
-use Rattle.resp_read.specs.Grammar.{Found, read, short, bad, found_and_then, found_map, line_as, size_line, count_line, max_count, repeated, pair, array_of, array_form, set_of, set_form, map_of, map_form, attributed, attribute_of, attribute_form}
-use Rattle.resp_read.specs.Parts.{IsFound}
-use Rattle.resp_read.specs.declared.forms.Refusal.{Refusal}
-use Rattle.resp_read.specs.declared.forms.Refusal.TheVariants.{Short, Bad, NoMemory}
+use Rattle.resp_value.specs.Data.{Data, nil, array, set, dict, attribute, push, items_of, members_of}
+use Rattle.resp_value.specs.Kinds.{kind_of}
+use Rattle.resp_read.specs.Grammar.{Found, read, short, bad, found_and_then, found_map, line_as, size_line, count_line, max_count, repeated, pair, array_of, array_form, set_of, set_form, map_of, map_form, attributed, attribute_of, attribute_form, kind, push_with, push_of, push_form}
 use Rattle.resp_read.proofs.Laws.{Lawful, Possible, lawful_read, lawful_then, lawful_map, possible_map, possible_then}
 use Rattle.resp_read.proofs.LineLaws.{lawful_line}
 use Rattle.resp_read.proofs.Numbers.{lawful_size}
-use Rattle.resp_read.proofs.Bodies.{lawful_counted}
+use Rattle.resp_read.proofs.Bodies.{lawful_counted, lawful_kind, kind_possible}
 
 module _ {A : Type 0} (inside : List ℕ → Found A) where
   abbrev pub next : ℕ → A → List ℕ → Found (List A)
@@ -46,13 +44,6 @@ module _ {A : Type 0} (inside : List ℕ → Found A) where
   -- all were read
   pub behind_all : (found : List A) (left : List ℕ) → behind found (repeated inside 0 left) ≡ read found left
   behind_all found left = ap (λ o. read o left) (append-nil found)
-
-  -- the next one was refused
-  pub behind_refused : {X Y : Type 0} (view : X → A) (see : Y → List A) (k : ℕ) (found : List A) (left : List ℕ) (whole : Found (List A)) (e : Refusal) (new new' : List ℕ)
-      → whole ≡ behind found (repeated inside (suc k) left) → IsFound view (inside left) (Err e) new → IsFound see whole (Err e) new'
-  behind_refused view see k found left whole Short new new' same is = same ∙ ap (λ x. behind found (found_and_then (next k) x)) is
-  behind_refused view see k found left whole Bad new new' same is = same ∙ ap (λ x. behind found (found_and_then (next k) x)) is
-  behind_refused view see k found left whole NoMemory new new' same is = tt
 
 module _ (inside : List ℕ → Found Data) (h : Lawful inside) (p : Possible inside) where
   abbrev pub second : Data → List ℕ → Found (Data × Data)
@@ -114,3 +105,15 @@ module _ (inside : List ℕ → Found Data) (h : Lawful inside) (p : Possible in
 
   pub lawful_attribute : Lawful (attribute_form inside)
   lawful_attribute = lawful_then (line_as (count_line 0 max_count)) (attribute_of inside) lawful_count lawful_attribute_of attribute_possible
+
+  lawful_push_with : (n : ℕ) (k : List ℕ) → Lawful (push_with inside n k)
+  lawful_push_with n k = lawful_map (λ ds. push (kind_of k) (items_of ds)) (repeated inside (n - 1)) (lawful_values (n - 1))
+
+  push_with_possible : (n : ℕ) (k : List ℕ) → Possible (push_with inside n k)
+  push_with_possible n k = possible_map (λ ds. push (kind_of k) (items_of ds)) (repeated inside (n - 1)) (values_possible (n - 1))
+
+  pub lawful_push : Lawful (push_form inside)
+  lawful_push =
+      lawful_then (line_as (count_line 1 max_count)) (push_of inside) (lawful_counted 1 max_count (lit≤ tt) (lit≤ tt))
+      (λ n. lawful_then kind (push_with inside n) lawful_kind (lawful_push_with n) (push_with_possible n))
+      (λ n. possible_then kind (push_with inside n) lawful_kind kind_possible (push_with_possible n))

@@ -1,12 +1,12 @@
 -- Lines of a few words and of digits: which fronts can become one.
-use Rattle.std.proofs.Common.{◌≡◌, ℕ, ◌+◌, ◌≤◌, List, [], ◌∷◌, ◌++◌, length, Option, Some, None, Bool, true, false, cond, inl, inr, lit≤, refl, sym, ap, ◌∙◌, subst, arith, length-append}
+use Rattle.std.proofs.Common.{◌≡◌, ℕ, ◌+◌, ◌≤◌, List, [], ◌∷◌, ◌++◌, length, Option, Some, None, Bool, true, false, cond, lit≤, refl, sym, ap, ◌∙◌, subst, arith}
 use Rattle.std.proofs.lemmas.Bool.Decides.{nat_tests}
-use Rattle.std.proofs.lemmas.Slice.Eq.{bytes_eq-Decides}
-use Rattle.std.specs.Prelude.{◌==◌, ◌&&◌, ◌||◌, ◌⊎◌, bytes_eq, is_some, option_map}
+use Rattle.std.proofs.Math.Bool.{and-false}
+use Rattle.std.specs.Prelude.{◌==◌, ◌&&◌, ◌||◌, bytes_eq, is_some, option_map}
 use Rattle.resp_value.specs.Data.{Data, nil, boolean, big}
 use Rattle.resp_read.specs.Grammar.{max_line, is_digit, truth, is_end, no_array_begun, unsigned, after_digits, digits_and, is_big, big_begun, null_line, boolean_line, big_line, no_array_line}
 use Rattle.resp_read.proofs.LineLaws.{LawfulLine}
-use Rattle.resp_read.proofs.Numbers.{Begins, is_none, whole_already, seen_through, longer_other, other_start, one_of_two, neither, never_both}
+use Rattle.resp_read.proofs.Numbers.{Begins, is_none, whole_already, seen_through, longer_other, other_start}
 
 abbrev nil_if : Bool → Option Data
 nil_if c = cond c (Some nil) None
@@ -27,12 +27,8 @@ lawful_null = record { can = null_can; cannot = λ l q fit h. null_cannot l q h 
 truth_by : (c d : Bool) → c ≡ false → d ≡ false → cond c (Some true) (cond d (Some false) None) ≡ None
 truth_by c d h k = rw (h, k) refl
 
-never : (x : Bool) → (x && false) ≡ false
-never true = refl
-never false = refl
-
 truth_long : (b c : ℕ) (l : List ℕ) → truth (b ∷ c ∷ l) ≡ None
-truth_long b c l = truth_by (bytes_eq (b ∷ c ∷ l) (116 ∷ [])) (bytes_eq (b ∷ c ∷ l) (102 ∷ [])) (never (b == 116)) (never (b == 102))
+truth_long b c l = truth_by (bytes_eq (b ∷ c ∷ l) (116 ∷ [])) (bytes_eq (b ∷ c ∷ l) (102 ∷ [])) (and-false (b == 116)) (and-false (b == 102))
 
 truth_stays : (b : ℕ) (l q : List ℕ) → truth (b ∷ l) ≡ None → truth ((b ∷ l) ++ q) ≡ None
 truth_stays b [] [] h = h

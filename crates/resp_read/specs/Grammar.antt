@@ -1,7 +1,7 @@
 -- RESP, the protocol of Redis (https://redis.io/docs/latest/develop/reference/protocol-spec): which value stands at the front of a text, and what is left after it.
--- Pushes (`>`) are refused as yet: a link takes each value for a reply, and a push without reply is none.
 use Rattle.std.specs.Prelude.{ℕ, zero, suc, ◌+◌, ◌-◌, ◌*◌, ℤ, pos, neg_ℤ, Bool, true, false, ◌&&◌, ◌||◌, ◌==◌, nat_le, nat_lt, List, [], ◌∷◌, ◌++◌, length, take, drop, Option, Some, None, option_map, is_some, bytes_eq, if◌then◌else◌}
-use Rattle.resp_value.specs.Data.{Data, nil, int, bulk, array, simple, okay, dict, attribute, set, double, boolean, verbatim, big, error, items_of, members_of}
+use Rattle.resp_value.specs.Data.{Data, nil, int, bulk, array, simple, okay, dict, attribute, set, double, boolean, verbatim, big, push, error, items_of, members_of}
+use Rattle.resp_value.specs.Kinds.{kind_of}
 
 -- what stands at the front of a text: something whole with the bytes after it, something that is not whole yet, or nothing that can become whole
 pub data Found (A : Type 0) : Type 0 where
@@ -347,6 +347,31 @@ attribute_of inside n bs = found_and_then (attributed inside) (repeated (pair in
 abbrev pub attribute_form : (List ℕ → Found Data) → List ℕ → Found Data
 attribute_form inside bs = found_and_then (attribute_of inside) (line_as (count_line 0 max_count) bs)
 
+-- a line that is a text
+abbrev pub text_line : LineForm (List ℕ)
+text_line = record { whole = λ l. Some l; begun = λ l. true }
+
+-- a length, and a text of so many bytes
+abbrev pub bulk_text : List ℕ → Found (List ℕ)
+bulk_text bs = found_and_then body (line_as (count_line 0 max_bulk) bs)
+
+-- the kind of a push: a simple or a bulk string
+abbrev pub kind : List ℕ → Found (List ℕ)
+kind [] = short
+kind (b ∷ bs) = if b == 43 then line_as text_line bs else if b == 36 then bulk_text bs else bad
+
+-- n values with their kind among them
+abbrev pub push_with : (List ℕ → Found Data) → ℕ → List ℕ → List ℕ → Found Data
+push_with inside n k bs = found_map (λ ds. push (kind_of k) (items_of ds)) (repeated inside (n - 1) bs)
+
+-- a kind, and the others of n values
+abbrev pub push_of : (List ℕ → Found Data) → ℕ → List ℕ → Found Data
+push_of inside n bs = found_and_then (push_with inside n) (kind bs)
+
+-- `>`: a count of one at least, a kind, and the other values
+abbrev pub push_form : (List ℕ → Found Data) → List ℕ → Found Data
+push_form inside bs = found_and_then (push_of inside) (line_as (count_line 1 max_count) bs)
+
 -- the front of `-1`
 abbrev pub no_array_begun : List ℕ → Bool
 no_array_begun [] = true
@@ -382,6 +407,7 @@ nested inside =
     (42, array_form inside)
     ∷ (126, set_form inside)
     ∷ (37, map_form inside)
+    ∷ (62, push_form inside)
     ∷ (124, attribute_form inside)
     ∷ []
 

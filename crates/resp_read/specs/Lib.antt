@@ -5,3 +5,4 @@ pub mod State
 pub mod Reading
 pub mod Parts
 pub mod Doubles
+pub mod Items

@@ -1,7 +1,7 @@
-ghost use Rattle.std.specs.Prelude.{◌≡◌, ◌≤◌, ◌*◌, ℕ, length, IfOk, IfSome, option_map, is_some, Some, None, if◌then◌else◌};
+ghost use Rattle.std.specs.Prelude.{◌≡◌, ◌≤◌, ◌*◌, length, IfOk, IfSome, option_map, is_some, Some, None, if◌then◌else◌};
 ghost use Rattle.resp_value.specs.Data.{nil};
 ghost use Rattle.resp_value.specs.View.{data_of};
-ghost use Rattle.resp_read.specs.Grammar.{simple_of, error_of, double_line, big_line, line_as, size_line, count_line, body as body_of, bulk_string as bulk_string_of, bulk_error as bulk_error_of, format as format_of, verbatim_string as verbatim_string_of, chosen, plain as plain_forms, innermost as innermost_forms, max_bulk};
+ghost use Rattle.resp_read.specs.Grammar.{simple_of, error_of, double_line, big_line, line_as, size_line, count_line, body as body_of, bulk_string as bulk_string_of, bulk_error as bulk_error_of, format as format_of, verbatim_string as verbatim_string_of, text_line, bulk_text as bulk_text_of, kind as kind_of, chosen, plain as plain_forms, innermost as innermost_forms, max_bulk};
 ghost use Rattle.resp_read.specs.Parts.{line_form, has, IsFound};
 
 use crate::lines::LineEnd;
@@ -303,6 +303,63 @@ fn bulk_error(alloc: Global, input: &mut Input<'_>) -> Result<Value, Refusal>
     let n = counted(0, MAX_BULK, input)?;
     let text = body(alloc, input, n as usize)?;
     Ok(error(alloc, text.as_slice())?)
+}
+
+/// A line that is a text.
+fn text(alloc: Global, input: &mut Input<'_>) -> Result<Bytes, Refusal>
+    ensures { IsFound (λ t. t) (line_as text_line input.old.left.now) result input.new.left.now }
+{
+    let left = input.left;
+    match lines::find_line(left) {
+        LineEnd::Ended(n) => {
+            if !lines::fits(&left[..n]) {
+                return Err(Refusal::Bad);
+            }
+            let text = Bytes::from_slice(alloc, &left[..n])?;
+            input.left = &left[n + 2..];
+            Ok(text)
+        }
+        LineEnd::Held(n) => {
+            if lines::fits(&left[..n]) {
+                Err(Refusal::Short)
+            } else {
+                Err(Refusal::Bad)
+            }
+        }
+        LineEnd::Unended => {
+            if lines::fits(left) {
+                Err(Refusal::Short)
+            } else {
+                Err(Refusal::Bad)
+            }
+        }
+        LineEnd::Broken => Err(Refusal::Bad),
+    }
+}
+
+/// A length, and a text of so many bytes.
+fn bulk_text(alloc: Global, input: &mut Input<'_>) -> Result<Bytes, Refusal>
+    ensures { IsFound (λ t. t) (bulk_text_of input.old.left.now) result input.new.left.now }
+{
+    let n = counted(0, MAX_BULK, input)?;
+    body(alloc, input, n as usize)
+}
+
+/// The kind of a push: a simple or a bulk string.
+pub fn kind(alloc: Global, input: &mut Input<'_>) -> Result<Bytes, Refusal>
+    ensures { IsFound (λ k. k) (kind_of input.old.left.now) result input.new.left.now }
+{
+    let left = input.left;
+    if left.is_empty() {
+        return Err(Refusal::Short);
+    }
+    let first = left[0];
+    input.left = &left[1..];
+    match first {
+        b'+' => text(alloc, input),
+        b'$' => bulk_text(alloc, input),
+        _ => Err(Refusal::Bad),
+    }
 }
 
 /// Three bytes, and `:`.

@@ -1,11 +1,11 @@
-ghost use Rattle.std.specs.Prelude.{◌≡◌, ℕ};
+ghost use Rattle.std.specs.Prelude.{◌≡◌};
 ghost use Rattle.resp_value.specs.View.{data_of, pair_of};
-ghost use Rattle.resp_read.specs.Grammar.{chosen, parse, nested as nested_forms, array_form, set_form, map_form, attribute_form, repeated, pair as pair_found, max_depth as depth_limit};
+ghost use Rattle.resp_read.specs.Grammar.{chosen, parse, nested as nested_forms, array_form, set_form, map_form, push_form, attribute_form, repeated, pair as pair_found, max_depth as depth_limit};
 ghost use Rattle.resp_read.specs.Parts.{IsFound};
 
 use crate::forms;
 use crate::forms::{Input, Refusal};
-use resp_value::{Inner, Pairs, Value, Values};
+use resp_value::{Inner, Pairs, PushKind, Value, Values};
 use std::alloc::Global;
 
 /// The most values or pairs of an aggregate.
@@ -56,6 +56,7 @@ fn nested(alloc: Global, first: u8, input: &mut Input<'_>, depth: usize) -> Resu
         b'*' => array(alloc, input, depth),
         b'~' => set(alloc, input, depth),
         b'%' => map(alloc, input, depth),
+        b'>' => push(alloc, input, depth),
         b'|' => attribute(alloc, input, depth),
         _ => Err(Refusal::Bad),
     }
@@ -85,6 +86,17 @@ fn map(alloc: Global, input: &mut Input<'_>, depth: usize) -> Result<Value, Refu
 {
     let n = forms::counted(0, MAX_COUNT, input)?;
     Ok(Value::Map(pairs(alloc, input, depth, n)?))
+}
+
+#[cycle(value)]
+fn push(alloc: Global, input: &mut Input<'_>, depth: usize) -> Result<Value, Refusal>
+    ensures { IsFound data_of (push_form (parse depth) input.old.left.now) result input.new.left.now }
+{
+    let n = forms::counted(1, MAX_COUNT, input)?;
+    let kind = forms::kind(alloc, input)?;
+    let parts = values(alloc, input, depth, n - 1)?;
+    let kind = PushKind::of_text(kind);
+    Ok(Value::Push { kind, parts })
 }
 
 #[cycle(value)]

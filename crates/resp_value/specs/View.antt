@@ -48,7 +48,7 @@ value_of (big t) = BigNumber t
 value_of (push k ds) = Push k (list_of ds)
 value_of (error e) = ServerError e
 
-list_of-items_of : (ds : List Data) → list_of (items_of ds) ≡ ds
+pub list_of-items_of : (ds : List Data) → list_of (items_of ds) ≡ ds
 list_of-items_of [] = refl
 list_of-items_of (d ∷ ds) = ap (λ es. d ∷ es) (list_of-items_of ds)
 

@@ -1,4 +1,5 @@
 ghost use Rattle.std.specs.Prelude.{◌≡◌, IfOk};
+ghost use Rattle.resp_value.specs.Kinds.{named_kind, kind_of, has_reply};
 
 use containers::Bytes;
 use std::alloc::{AllocError, Global};
@@ -21,6 +22,36 @@ pub enum PushKind {
 }
 
 impl PushKind {
+    /// The kind of this text.
+    pub fn of_text(text: Bytes) -> PushKind
+        ensures { result ≡ kind_of text }
+    {
+        match named(text.as_slice()) {
+            Some(kind) => kind,
+            None => PushKind::Other(text),
+        }
+    }
+
+    /// Whether a push of this kind is also a reply.
+    pub fn has_reply(&self) -> bool
+        ensures { result ≡ has_reply self.now }
+    {
+        match self {
+            PushKind::Subscribe => true,
+            PushKind::PSubscribe => true,
+            PushKind::SSubscribe => true,
+            PushKind::Unsubscribe => true,
+            PushKind::PUnsubscribe => true,
+            PushKind::SUnsubscribe => true,
+            PushKind::Invalidate => false,
+            PushKind::Message => false,
+            PushKind::PMessage => false,
+            PushKind::SMessage => false,
+            PushKind::Disconnection => false,
+            PushKind::Other(_) => false,
+        }
+    }
+
     /// An equal value of its own.
     pub fn clone(&self, alloc: Global) -> Result<PushKind, AllocError>
         ensures { IfOk result (λ k. k ≡ self.now) }
@@ -40,4 +71,41 @@ impl PushKind {
             PushKind::SSubscribe => Ok(PushKind::SSubscribe),
         }
     }
+}
+
+/// The kind that has this text for its own.
+fn named(text: &[u8]) -> Option<PushKind>
+    ensures { result ≡ named_kind text.now }
+{
+    if text == b"invalidate".as_slice() {
+        return Some(PushKind::Invalidate);
+    }
+    if text == b"message".as_slice() {
+        return Some(PushKind::Message);
+    }
+    if text == b"pmessage".as_slice() {
+        return Some(PushKind::PMessage);
+    }
+    if text == b"smessage".as_slice() {
+        return Some(PushKind::SMessage);
+    }
+    if text == b"unsubscribe".as_slice() {
+        return Some(PushKind::Unsubscribe);
+    }
+    if text == b"punsubscribe".as_slice() {
+        return Some(PushKind::PUnsubscribe);
+    }
+    if text == b"sunsubscribe".as_slice() {
+        return Some(PushKind::SUnsubscribe);
+    }
+    if text == b"subscribe".as_slice() {
+        return Some(PushKind::Subscribe);
+    }
+    if text == b"psubscribe".as_slice() {
+        return Some(PushKind::PSubscribe);
+    }
+    if text == b"ssubscribe".as_slice() {
+        return Some(PushKind::SSubscribe);
+    }
+    None
 }

@@ -2,7 +2,8 @@
 use Rattle.std.proofs.Common.{◌≡◌, inl, inr, ℕ, true, false, List, [], ◌∷◌, ◌++◌, length, Some, refl, sym, ap, ◌∙◌, subst, append_assoc}
 use Rattle.std.proofs.lemmas.List.{append-nil}
 use Rattle.resp_value.specs.Data.{Data}
-use Rattle.resp_read.specs.Values.{values, left_over, is_spoiled}
+use Rattle.resp_read.specs.Values.{left_over, is_spoiled}
+use Rattle.resp_read.specs.Items.{items}
 use Rattle.resp_read.proofs.ValueLaws.{left_over-settled}
 use Rattle.driver_model.specs.declared.action.Action.{Action}
 use Rattle.driver_model.specs.declared.action.Cause.TheVariants as cause
@@ -58,15 +59,15 @@ cuts_started a (s ∷ ss) n all (inr i) = cuts_started a ss n all.1 i
 
 -- what a link has read and dealt
 abbrev deals : LinkState → List ℕ → Dealing
-deals s piece = dealt_each (record { row = s.row; out = [] }) (values (s.rest ++ piece))
+deals s piece = dealt_each (record { row = s.row; out = [] }) (items (s.rest ++ piece))
 
 abbrev has_read : LinkState → List ℕ → LinkState
 has_read s piece = record (read_on s (s.rest ++ piece)) { row = (deals s piece).row }
 
 dealt_alike : (a : Account) (s : LinkState) (piece : List ℕ) → TiedLink a.link a.subs s → open_list s.row ≡ open_rows a.link.starts a.link.dealt → IsDealt a.link.starts (bytes_came a.link piece).dealt s.row (deals s piece)
 dealt_alike a s piece h row =
-    subst (λ vs. IsDealt a.link.starts (items_with (needs a.link.starts) a.link.dealt vs) s.row (deals s piece)) (ap (λ bs. values (bs ++ piece)) (sym h.rest))
-    (row_dealt a.link.starts a.link.dealt s.row (values (s.rest ++ piece)) h.needy row h.within)
+    subst (λ vs. IsDealt a.link.starts (items_with (needs a.link.starts) a.link.dealt vs) s.row (deals s piece)) (ap (λ bs. items (bs ++ piece)) (sym h.rest))
+    (row_dealt a.link.starts a.link.dealt s.row (items (s.rest ++ piece)) h.needy row h.within)
 
 read_link : (a : Account) (s : LinkState) (piece : List ℕ) → TiedLink a.link a.subs s → IsDealt a.link.starts (bytes_came a.link piece).dealt s.row (deals s piece) → TiedLink (bytes_came a.link piece) a.subs (has_read s piece)
 read_link a s piece h d = record {

@@ -244,6 +244,27 @@ outcome s1 err closed
     status: 0,
 };
 
+/// A push without reply before the answer.
+const PUSHED: Row = Row {
+    script: b"config single url=redis://h:6379 connect=none response=none lib=off
+connected 0
+submit cmd PING
+bytes 0 >2%0D%0A$7%0D%0Amessage%0D%0A:1%0D%0A+PONG%0D%0A
+end
+",
+    output: b"turn 0 config single url=redis://h:6379 connect=none response=none lib=off
+connect 0 h:6379
+turn 1 connected 0
+created ok
+turn 2 submit cmd PING
+start 0 0 s0.0 1 14
+write 0 *1%0D%0A$4%0D%0APING%0D%0A
+turn 3 bytes 0 >2%0D%0A$7%0D%0Amessage%0D%0A:1%0D%0A+PONG%0D%0A
+outcome s0 ok +PONG%0D%0A
+",
+    status: 0,
+};
+
 fn strings(alloc: Global, words: &[&str]) -> Result<Vec<String>, AllocError> {
     let mut all = Vec::new(alloc);
     for word in words {
@@ -289,6 +310,7 @@ fn scripts_are_replayed(rt: HostRuntime) -> Result<(), Fail> {
         WITHOUT_END,
         EMPTY_COMMAND,
         SHUT_DOWN,
+        PUSHED,
     ] {
         let (status, sink) = answer(rt.alloc(), &["replay"], row.script, None, None)?;
         assert_eq!(rt; status, row.status);

@@ -1,7 +1,8 @@
 -- What a trace says of one link, apart from any machine: a fold over its actions.
 use Rattle.std.specs.Prelude.{ℕ, ◌+◌, ◌-◌, ◌==◌, Bool, true, false, not, ◌&&◌, List, [], ◌∷◌, ◌++◌, length, take, if◌then◌else◌}
 use Rattle.resp_value.specs.Data.{Data}
-use Rattle.resp_read.specs.Values.{values, left_over}
+use Rattle.resp_read.specs.Values.{left_over}
+use Rattle.resp_read.specs.Items.{items}
 use Rattle.driver_model.specs.declared.action.Action.{Action}
 use Rattle.driver_model.specs.declared.action.Action.TheVariants as action
 use Rattle.driver_model.specs.declared.action.Cause.{Cause}
@@ -37,11 +38,11 @@ needs (s ∷ ss) = s.need + needs ss
 
 -- items come: as many are dealt as the starts before them still take, and the others are dropped
 abbrev pub items_came : LinkLedger → List Data → LinkLedger
-items_came l items = record l { dealt = l.dealt ++ take (needs l.starts - length l.dealt) items }
+items_came l more = record l { dealt = l.dealt ++ take (needs l.starts - length l.dealt) more }
 
--- bytes come: the values that are whole now are items
+-- bytes come: the values that are whole now are items, but for pushes without reply
 abbrev pub bytes_came : LinkLedger → List ℕ → LinkLedger
-bytes_came l piece = items_came (record l { rest = left_over (l.rest ++ piece) }) (values (l.rest ++ piece))
+bytes_came l piece = items_came (record l { rest = left_over (l.rest ++ piece) }) (items (l.rest ++ piece))
 
 -- a link is up from its first successful connect until its end
 abbrev pub noted_event : LinkLedger → ℕ → EventKind → LinkLedger

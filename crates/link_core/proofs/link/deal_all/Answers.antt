@@ -3,9 +3,12 @@ use Rattle.resp_value.specs.Data.{Data}
 use Rattle.resp_value.specs.View.{data_of}
 use Rattle.resp_read.specs.State.{ReaderState}
 use Rattle.resp_read.specs.Values.{values}
+use Rattle.resp_read.specs.Items.{items}
 use Rattle.resp_read.proofs.ReadLaws.{reads-shorter}
 use Rattle.resp_read.proofs.ValueLaws.{values-read, values-short, values-bad}
+use Rattle.resp_read.proofs.ItemLaws.{items-read, items-none}
 use Rattle.link_core.specs.Dealing.{Dealing, dealt_each}
+use Rattle.link_core.proofs.PushLemmas.{dealt_more, pushed_more, pushed_all}
 use Rattle.link_core.proofs.link.deal_all.Goals as goal
 
 pub values-smaller : goal.values-smaller
@@ -16,11 +19,16 @@ values-smaller c =
 pub values-preserved : goal.values-preserved
 values-preserved c =
     let h = rw c.in-Ok-Some.field-0-is at c.in-Ok-Some.ensures in
-    let law = values-read c.values.reader.rest (data_of c.in-Ok-Some.value) c.next_value.new.self.rest h.found in
+    let v = data_of c.in-Ok-Some.value in
+    let before = c.values.reader.rest in
+    let after = c.next_value.new.self.rest in
+    let law = values-read before v after h.found in
     let s : Dealing = record { row = c.values.row; out = c.values.out.items } in
+    let t : Dealing = record { row = c.deal_value.new.row; out = c.deal_value.new.out.items } in
     record {
       sound = h.value.2;
-      dealt = ap (λ (d : Dealing). dealt_each d (values c.next_value.new.self.rest)) c.in-Ok.ensures ∙ sym (ap (λ (vs : List Data). dealt_each s vs) law.0) ∙ c.values.invariant.dealt;
+      dealt = dealt_more s t v (items before) (items after) c.in-Ok.ensures.dealt (items-read before v after h.found) ∙ c.values.invariant.dealt;
+      pushed = pushed_more s t v c.values.pushes.items c.deal_value.new.pushes.items (values before) (values after) c.in-Ok.ensures.dealt c.in-Ok.ensures.pushed law.0 ∙ c.values.invariant.pushed;
       rest = sym law.1 ∙ c.values.invariant.rest;
       spoiled = sym law.2 ∙ c.values.invariant.spoiled;
     }
@@ -28,10 +36,12 @@ values-preserved c =
 pub returns-in-Ok-None : goal.returns-in-Ok-None
 returns-in-Ok-None c =
     let h = rw c.in-Ok-None.field-0-is at c.in-Ok-None.ensures in
-    let law = values-short c.values.reader.rest h.found in
+    let before = c.values.reader.rest in
+    let law = values-short before h.found in
     let s : Dealing = record { row = c.values.row; out = c.values.out.items } in
     record {
-      dealt = sym (ap (λ (vs : List Data). dealt_each s vs) law.0) ∙ c.values.invariant.dealt;
+      dealt = sym (ap (λ (vs : List Data). dealt_each s vs) (items-none before law.0)) ∙ c.values.invariant.dealt;
+      pushed = pushed_all s c.values.pushes.items (values before) law.0 ∙ c.values.invariant.pushed;
       rest = ap (λ (r : ReaderState). r.rest) h.value.2 ∙ sym law.1 ∙ c.values.invariant.rest;
       spoiled = sym law.2 ∙ c.values.invariant.spoiled;
       sound = λ _. ap (λ (r : ReaderState). r.health) h.value.2 ∙ c.values.invariant.sound;
@@ -40,10 +50,12 @@ returns-in-Ok-None c =
 pub returns-in-Err-Parse : goal.returns-in-Err-Parse
 returns-in-Err-Parse c =
     let h = rw c.in-Err-Parse.field-0-is at c.in-Err-Parse.ensures in
-    let law = values-bad c.values.reader.rest (h.found c.values.invariant.sound) in
+    let before = c.values.reader.rest in
+    let law = values-bad before (h.found c.values.invariant.sound) in
     let s : Dealing = record { row = c.values.row; out = c.values.out.items } in
     record {
-      dealt = sym (ap (λ (vs : List Data). dealt_each s vs) law.0) ∙ c.values.invariant.dealt;
+      dealt = sym (ap (λ (vs : List Data). dealt_each s vs) (items-none before law.0)) ∙ c.values.invariant.dealt;
+      pushed = pushed_all s c.values.pushes.items (values before) law.0 ∙ c.values.invariant.pushed;
       rest = ap (λ (r : ReaderState). r.rest) h.value.1 ∙ sym law.1 ∙ c.values.invariant.rest;
       spoiled = sym law.2 ∙ c.values.invariant.spoiled;
       sound = λ e. cc;

@@ -18,6 +18,9 @@ decreases-set l = 5 * l.depth + 3
 abbrev pub decreases-map : goal.decreases-map
 decreases-map l = 5 * l.depth + 3
 
+abbrev pub decreases-push : goal.decreases-push
+decreases-push l = 5 * l.depth + 3
+
 abbrev pub decreases-attribute : goal.decreases-attribute
 decreases-attribute l = 5 * l.depth + 3
 
