@@ -2,3 +2,4 @@ pub mod Lengths
 pub mod Commands
 pub mod Pipelines
 pub mod Texts
+pub mod Pieces

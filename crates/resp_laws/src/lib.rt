@@ -1,4 +1,5 @@
-//! The laws of packing and reading: packed commands are read back, and a text begins with one value at most.
+//! The laws of packing and reading: packed commands are read back, a text begins with one value at most, and a cut
+//! changes no value.
 #![tactic(auto)]
 
 ghost use Rattle.std.specs.Prelude.{◌≡◌, ◌⊎◌, ◌<◌, ℕ, List, [], ◌∷◌, ◌++◌, length};
@@ -8,6 +9,7 @@ ghost use Rattle.resp_read.specs.Reads.{Reads, IsProperPrefix, IsMalformed};
 ghost use Rattle.resp_read.specs.Values.{values, left_over, is_spoiled};
 ghost use Rattle.resp_write.specs.Pack.{pack};
 ghost use Rattle.resp_laws.specs.Commands.{IsWithinLimits, request, packed, requests};
+ghost use Rattle.resp_laws.specs.Pieces.{joined, piecewise};
 
 /// Does nothing. Its contract: whatever follows a packed command, the array of its name and arguments stands at the
 /// front, and what follows is left.
@@ -42,4 +44,9 @@ pub fn a_text_begins_with_one_value()
 pub fn more_bytes_change_no_value()
     ensures value { (bytes more : List ℕ) (v : Data) (rest : List ℕ) → Reads bytes v rest → Reads (bytes ++ more) v (rest ++ more) }
     ensures malformed { (bytes more : List ℕ) → IsMalformed bytes → IsMalformed (bytes ++ more) }
+{}
+
+/// Does nothing. Its contract: however a text is cut into pieces, the values read from it are those of the whole.
+pub fn a_cut_changes_no_value()
+    ensures { (pieces : List (List ℕ)) → piecewise [] pieces ≡ values (joined pieces) }
 {}
