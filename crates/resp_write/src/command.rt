@@ -1,10 +1,12 @@
 ghost use Rattle.std.specs.Prelude.{◌≡◌, ◌++◌, ◌∷◌, [], OnOk, OnErr, IfOk, false};
+ghost use Rattle.std.specs.Iterator.{YieldsFirstRef, item_count};
 ghost use Rattle.resp_write.specs.Pack.{pack};
 
-use crate::pack::pack_names;
+use crate::pack::{pack_names, push_command};
 use containers::{Bytes, Names};
 use std::alloc::{AllocError, Global};
 use std::marker::Model;
+use std::slice::Iter;
 
 /// A command: its name and its arguments, and whether its reply is left out.
 #[derive(Drop)]
@@ -55,6 +57,22 @@ impl Cmd {
         self.no_response
     }
 
+    /// The arguments in order.
+    pub fn args_iter(&self) -> ArgsIter<'_>
+        ensures { result ≡ self.now.args }
+    {
+        ArgsIter {
+            names: self.args.as_slice().iter(),
+        }
+    }
+
+    /// Appends the bytes of the command.
+    pub(crate) fn append_packed(&self, out: &mut Bytes) -> Result<(), AllocError>
+        ensures { OnOk result (out.new ≡ out.old ++ pack self.now.args) }
+    {
+        push_command(out, self.args.as_slice())
+    }
+
     /// The bytes of the command. Without a name there are none.
     pub fn get_packed_command(&self, alloc: Global) -> Result<Bytes, AllocError>
         ensures { IfOk result (λ packed. packed ≡ pack self.now.args) }
@@ -71,5 +89,33 @@ impl Cmd {
             args,
             no_response: self.no_response,
         })
+    }
+}
+
+/// The arguments of a command that are left.
+#[derive(Drop)]
+pub struct ArgsIter<'a> {
+    names: Iter<'a, Bytes>,
+}
+
+impl<'a> Model for ArgsIter<'a> {
+    ghost use Rattle.std.specs.Prelude.{List, ℕ};
+    ghost use Rattle.std.specs.Slice.Iter.{iter_rest};
+
+    ghost Value = { List (List ℕ) };
+
+    ghost view = { λ a. iter_rest a.names };
+}
+
+impl<'a> Iterator for ArgsIter<'a> {
+    type Item = &'a [u8];
+
+    ghost next_gives = { YieldsFirstRef (λ s. s) };
+
+    ghost remaining = { item_count (λ s. s) };
+
+    fn next(&mut self) -> Option<&'a [u8]> {
+        let name = self.names.next()?;
+        Some(name.as_slice())
     }
 }
