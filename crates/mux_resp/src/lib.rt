@@ -3,7 +3,10 @@
 
 pub use containers::{Bytes, Names};
 pub use resp_read::{ReadError, Reader};
-pub use resp_value::{Inner, Pairs, PushKind, RedisError, ServerError, Value, Values};
+pub use resp_value::{
+    ErrorKind, Inner, Pairs, PushKind, Redirection, RedisError, RetryMethod, ServerError,
+    ServerErrorKind, Value, Values,
+};
 pub use resp_write::{ArgsIter, Cmd, CmdIter, Pipeline, ToRedisArgs, cmd, pipe};
 
 #[cfg(test)]

@@ -1,5 +1,11 @@
-ghost use Rattle.std.specs.Prelude.{◌≡◌, IfOk};
+ghost use Rattle.std.specs.Prelude.{◌≡◌, IfOk, MatchOption, None, Some};
+ghost use Rattle.resp_value.specs.ErrorTable.{kind_of, method_of};
+ghost use Rattle.resp_value.specs.Redirect.{redirection as redirection_of};
 
+use crate::error_kind::ServerErrorKind;
+use crate::redirect::{Redirection, read_redirection};
+use crate::retry_method::RetryMethod;
+use crate::server_code;
 use containers::Bytes;
 use std::alloc::{AllocError, Global};
 
@@ -23,5 +29,26 @@ impl ServerError {
             }
             None => Ok(ServerError { code, detail: None }),
         }
+    }
+
+    /// What it is about.
+    pub fn kind(&self) -> ServerErrorKind
+        ensures { result ≡ kind_of self.now.code }
+    {
+        server_code::kind(self.code.as_slice())
+    }
+
+    /// How the command is tried again.
+    pub fn retry_method(&self) -> RetryMethod
+        ensures { result ≡ method_of self.now.code }
+    {
+        server_code::method(self.code.as_slice())
+    }
+
+    /// Where it leads, if it is a redirect.
+    pub fn redirect_node(&self) -> Option<Redirection<'_>>
+        ensures { MatchOption result (redirection_of self.now ≡ None) (λ r. redirection_of self.now ≡ Some (r.slot, r.address.now, r.ask)) }
+    {
+        read_redirection(self)
     }
 }
