@@ -4,4 +4,4 @@
 pub use containers::{Bytes, Names};
 pub use resp_read::{ReadError, Reader};
 pub use resp_value::{Inner, Pairs, PushKind, RedisError, ServerError, Value, Values};
-pub use resp_write::{ArgsIter, Cmd, CmdIter, Pipeline, cmd, pipe};
+pub use resp_write::{ArgsIter, Cmd, CmdIter, Pipeline, SubscriptionAction, cmd, pipe};

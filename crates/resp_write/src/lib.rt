@@ -7,12 +7,14 @@ mod named;
 mod pack;
 mod parts;
 mod pipeline;
+mod subscription;
 mod value_text;
 
 pub use command::{ArgsIter, Cmd};
 pub use named::cmd;
 pub use pack::pack_names;
 pub use pipeline::{CmdIter, Pipeline, pipe};
+pub use subscription::SubscriptionAction;
 pub use value_text::{canonical_text, write_value};
 
 #[cfg(test)]
