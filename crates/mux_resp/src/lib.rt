@@ -7,7 +7,9 @@ pub use resp_value::{
     ErrorKind, Inner, Pairs, PushKind, Redirection, RedisError, RetryMethod, ServerError,
     ServerErrorKind, Value, Values,
 };
-pub use resp_write::{ArgsIter, Cmd, CmdIter, Pipeline, ToRedisArgs, cmd, pipe};
+pub use resp_write::{
+    ArgsIter, Cmd, CmdIter, Pipeline, SubscriptionAction, ToRedisArgs, cmd, pipe,
+};
 
 #[cfg(test)]
 mod tests;

@@ -2,3 +2,4 @@ pub mod Command
 pub mod Pack
 pub mod Canonical
 pub mod Lent
+pub mod Subscription

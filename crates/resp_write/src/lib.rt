@@ -8,6 +8,7 @@ mod named;
 mod pack;
 mod parts;
 mod pipeline;
+mod subscription;
 mod value_text;
 
 pub use arguments::ToRedisArgs;
@@ -15,6 +16,7 @@ pub use command::{ArgsIter, Cmd};
 pub use named::cmd;
 pub use pack::pack_names;
 pub use pipeline::{CmdIter, Pipeline, pipe};
+pub use subscription::SubscriptionAction;
 pub use value_text::{canonical_text, write_value};
 
 #[cfg(test)]

@@ -1,0 +1,4 @@
+pub mod Subscribed
+pub mod Held
+pub mod Pipeline
+pub mod Texts
