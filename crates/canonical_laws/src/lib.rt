@@ -21,3 +21,11 @@ pub fn different_values_have_different_texts()
     ensures same { (v w : Data) → IsReadable max_depth v → IsReadable max_depth w → canonical v ≡ canonical w → v ≡ w }
     ensures followed { (v w : Data) (rest others : List ℕ) → IsReadable max_depth v → IsReadable max_depth w → canonical v ++ rest ≡ canonical w ++ others → (v ≡ w) × (rest ≡ others) }
 {}
+
+/// Does nothing. Its contract: what was read is a value within the limits, and readable where none of its errors outgrows
+/// a line; so what was read, shown and read again is the same value.
+pub fn a_value_that_was_read_is_readable()
+    ensures value { (bytes : List ℕ) (v : Data) (rest : List ℕ) → Reads bytes v rest → IsValue max_depth v }
+    ensures readable { (bytes : List ℕ) (v : Data) (rest : List ℕ) → Reads bytes v rest → HasShortErrors v → IsReadable max_depth v }
+    ensures read_again { (bytes : List ℕ) (v : Data) (rest more : List ℕ) → Reads bytes v rest → HasShortErrors v → Reads (canonical v ++ more) v more }
+{}
