@@ -7,35 +7,36 @@ use Rattle.resp_value.specs.Data.{Data, bulk, array, items_of, Items, no_items, 
 use Rattle.resp_read.specs.Grammar.{Found, read, found_and_then, found_map, body, bulk_of, bulk_string as bulk_form, repeated, array_of, array_form, parse, max_depth, max_bulk, max_count}
 use Rattle.resp_read.specs.Reads.{Reads}
 use Rattle.resp_read.proofs.Bodies.{body_is, lawful_body}
-use Rattle.resp_write.specs.Pack.{crlf, bulk_string, number_line, pack}
+use Rattle.resp_write.specs.Pack.{crlf, sized_text, bulk_string, number_line, pack}
 use Rattle.resp_laws.specs.Commands.{FitsBulk, IsWithinLimits, request}
 use Rattle.resp_laws.proofs.Lengths.{length_read}
 
 -- a line of a number, with what follows
-line_shape : (first n : ℕ) (rest : List ℕ) → number_line first n ++ rest ≡ first ∷ (decimal n ++ 13 ∷ 10 ∷ rest)
+pub line_shape : (first n : ℕ) (rest : List ℕ) → number_line first n ++ rest ≡ first ∷ (decimal n ++ 13 ∷ 10 ∷ rest)
 line_shape first n rest = ap (λ x. first ∷ x) (append_assoc (decimal n) crlf rest)
 
-text_read : (text rest : List ℕ) → body (length text) ((text ++ crlf) ++ rest) ≡ read text rest
+pub text_read : (text rest : List ℕ) → body (length text) ((text ++ crlf) ++ rest) ≡ read text rest
 text_read text rest = (lawful_body (length text) (text ++ crlf)).grows rest text [] (body_is (length text) text refl)
 
 parse_bulk : (n : ℕ) (bs : List ℕ) → parse n (36 ∷ bs) ≡ bulk_form bs
 parse_bulk zero bs = refl
 parse_bulk (suc n) bs = refl
 
-bulk_shape : (text rest : List ℕ) → bulk_string text ++ rest ≡ 36 ∷ (decimal (length text) ++ 13 ∷ 10 ∷ ((text ++ crlf) ++ rest))
-bulk_shape text rest =
-    let head = number_line 36 (length text) in
-    ap (λ x. x ++ rest) (append_assoc head text crlf) ∙ append_assoc head (text ++ crlf) rest ∙ line_shape 36 (length text) ((text ++ crlf) ++ rest)
+-- a text with its length before it, with what follows
+pub sized_shape : (first : ℕ) (text rest : List ℕ) → sized_text first text ++ rest ≡ first ∷ (decimal (length text) ++ 13 ∷ 10 ∷ ((text ++ crlf) ++ rest))
+sized_shape first text rest =
+    let head = number_line first (length text) in
+    ap (λ x. x ++ rest) (append_assoc head text crlf) ∙ append_assoc head (text ++ crlf) rest ∙ line_shape first (length text) ((text ++ crlf) ++ rest)
 
 -- one argument
 bulk_read : (n : ℕ) (text rest : List ℕ) → length text ≤ max_bulk → parse n (bulk_string text ++ rest) ≡ read (bulk text) rest
 bulk_read n text rest fit =
-    ap (parse n) (bulk_shape text rest) ∙ parse_bulk n (decimal (length text) ++ 13 ∷ 10 ∷ ((text ++ crlf) ++ rest))
+    ap (parse n) (sized_shape 36 text rest) ∙ parse_bulk n (decimal (length text) ++ 13 ∷ 10 ∷ ((text ++ crlf) ++ rest))
     ∙ ap (found_and_then bulk_of) (length_read max_bulk (length text) ((text ++ crlf) ++ rest) (omega arith) fit)
     ∙ ap (found_map bulk) (text_read text rest)
 
 -- what was found first, and then the others
-first_then : (inside : List ℕ → Found Data) (k : ℕ) (bs rest end : List ℕ) (v : Data) (vs : List Data) → inside bs ≡ read v rest → repeated inside k rest ≡ read vs end → repeated inside (suc k) bs ≡ read (v ∷ vs) end
+pub first_then : {A : Type 0} (inside : List ℕ → Found A) (k : ℕ) (bs rest end : List ℕ) (v : A) (vs : List A) → inside bs ≡ read v rest → repeated inside k rest ≡ read vs end → repeated inside (suc k) bs ≡ read (v ∷ vs) end
 first_then inside k bs rest end v vs e f = ap (found_and_then (λ a r. found_map (λ others. a ∷ others) (repeated inside k r))) e ∙ ap (found_map (λ others. v ∷ others)) f
 
 args_read : (n : ℕ) (args : List (List ℕ)) (rest : List ℕ) → All FitsBulk args → repeated (parse n) (length args) (flat_map bulk_string args ++ rest) ≡ read (map bulk args) rest
@@ -57,7 +58,7 @@ command_read n args rest h =
     ∙ ap (found_map (λ ds. array (items_of ds))) (args_read n args rest h.0)
 
 -- an array may stand in others
-is_deep : (n : ℕ) × (max_depth ≡ suc n)
+pub is_deep : (n : ℕ) × (max_depth ≡ suc n)
 unfolding max_depth
 is_deep = (99, refl)
 
@@ -78,7 +79,7 @@ args_back : (args : List (List ℕ)) → texts_of (items_of (map bulk args)) ≡
 args_back [] = refl
 args_back (a ∷ args) = ap (λ x. a ∷ x) (args_back args)
 
-one_found : (v w : Data) (r s : List ℕ) → ◌≡◌ {A = Found Data} (read v r) (read w s) → v ≡ w
+pub one_found : (v w : Data) (r s : List ℕ) → ◌≡◌ {A = Found Data} (read v r) (read w s) → v ≡ w
 one_found v w r s e = cc
 
 same_list : (x y : List ℕ) (xs ys : List (List ℕ)) → ◌≡◌ {A = List (List ℕ)} (x ∷ xs) (y ∷ ys) → (x ≡ y) × (xs ≡ ys)

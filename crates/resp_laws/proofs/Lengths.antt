@@ -37,10 +37,10 @@ digits_read n (c ∷ ds) h = digit_read n c ds h.0 ∙ digits_read (n * 10 + dig
 within : (most n : ℕ) → n ≤ most → at_most most (Some n) ≡ Some n
 within most n h = let c : nat_le n most ≡ true = grind (arith, nat_tests) in rw c refl
 
-no_minus : (c : ℕ) → digit_value c < 10 → (c == 45) ≡ false
+pub no_minus : (c : ℕ) → digit_value c < 10 → (c == 45) ≡ false
 no_minus c d = let k = digit_from_value c d in grind (arith, nat_tests)
 
-natural_read : (most : ℕ) (c : ℕ) (ds : List ℕ) → AllDigits 10 (c ∷ ds) → digits_value 10 (c ∷ ds) ≤ most → natural most (c ∷ ds) ≡ Some (digits_value 10 (c ∷ ds))
+pub natural_read : (most : ℕ) (c : ℕ) (ds : List ℕ) → AllDigits 10 (c ∷ ds) → digits_value 10 (c ∷ ds) ≤ most → natural most (c ∷ ds) ≡ Some (digits_value 10 (c ∷ ds))
 natural_read most c ds h fit = ap (at_most most) (digits_read 0 (c ∷ ds) h) ∙ within most (digits_value 10 (c ∷ ds)) fit
 
 size_read : (most : ℕ) (ds : List ℕ) → 0 < length ds → AllDigits 10 ds → digits_value 10 ds ≤ most → size most ds ≡ Some (Some (digits_value 10 ds))
@@ -49,12 +49,12 @@ size_read most (c ∷ ds) some h fit =
     let e = other_start c ds (no_minus c h.0) in
     rw e (ap (option_map Some) (natural_read most c ds h fit))
 
-decimal_size : (most n : ℕ) → n < 2 ^ 64 → n ≤ most → size most (decimal n) ≡ Some (Some n)
+pub decimal_size : (most n : ℕ) → n < 2 ^ 64 → n ≤ most → size most (decimal n) ≡ Some (Some n)
 decimal_size most n small fit =
     let k = decimal_is_IsNumeral n small in
     size_read most (decimal n) k.0.0 k.0.1 (subst (λ m. m ≤ most) (sym k.1) fit) ∙ ap (λ m. Some (Some m)) k.1
 
-decimal_fits : (n : ℕ) → n < 2 ^ 64 → fits (decimal n) ≡ true
+pub decimal_fits : (n : ℕ) → n < 2 ^ 64 → fits (decimal n) ≡ true
 decimal_fits n small = fits_is (decimal n) (omega (arith, length-decimal-le 20 n (omega arith) (omega arith) small))
 
 -- the line of a length within the limit

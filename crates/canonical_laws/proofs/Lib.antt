@@ -1,0 +1,7 @@
+pub mod Lines
+pub mod Plain
+pub mod Whole
+pub mod Same
+pub mod Held
+pub mod GivenPlain
+pub mod Given

@@ -1,0 +1,59 @@
+-- A whole line is read as what its form makes of it.
+use Rattle.std.proofs.Common.{◌≡◌, ℕ, ◌≤◌, ◌<◌, ◌^◌, List, [], ◌∷◌, ◌++◌, length, Option, Some, Bool, true, false, cond, refl, ap, ◌∙◌, subst, sym, append_assoc, arith}
+use Rattle.std.proofs.lemmas.Bool.Decides.{nat_tests}
+use Rattle.std.proofs.lemmas.Fmt.{decimal_is_IsNumeral, length-decimal-le}
+use Rattle.std.proofs.lemmas.Str.Parse.{digit_from_value}
+use Rattle.std.specs.Prelude.{decimal, nat_le, ◌==◌}
+use Rattle.std.specs.Str.Parse.{AllDigits, digits_value}
+use Rattle.resp_read.specs.Grammar.{read, bad, ended, byte_before, line, LineForm, fits, line_found, line_as, natural, at_least, count_line, found}
+use Rattle.resp_read.proofs.Numbers.{neither}
+use Rattle.resp_read.proofs.Counts.{fits_is}
+use Rattle.resp_write.specs.Pack.{crlf}
+use Rattle.resp_laws.proofs.Lengths.{natural_read}
+use Rattle.canonical_laws.specs.Readable.{has_return, IsLine}
+
+line_step : (b : ℕ) (bs : List ℕ) → (b == 13) ≡ false → line (b ∷ bs) ≡ byte_before b (line bs)
+line_step b bs e = rw e refl
+
+line_whole : (l rest : List ℕ) → has_return l ≡ false → line (l ++ 13 ∷ 10 ∷ rest) ≡ ended l rest
+line_whole [] rest h = refl
+line_whole (b ∷ l) rest h =
+    let n = neither (b == 13) (has_return l) h in
+    line_step b (l ++ 13 ∷ 10 ∷ rest) n.0 ∙ ap (byte_before b) (line_whole l rest n.1)
+
+module _ {A : Type 0} (form : LineForm A) where
+  judged : (l rest : List ℕ) (a : A) (c : Bool) (o : Option A) → c ≡ true → o ≡ Some a → cond c (found o rest) bad ≡ read a rest
+  judged l rest a c o e f = rw (e, f) refl
+
+  pub line_read : (l rest : List ℕ) (a : A) → IsLine l → form.whole l ≡ Some a → line_as form (l ++ 13 ∷ 10 ∷ rest) ≡ read a rest
+  line_read l rest a h whole = ap (line_found form) (line_whole l rest h.0) ∙ judged l rest a (fits l) (form.whole l) (fits_is l h.1) whole
+
+  pub text_line_read : (l rest : List ℕ) (a : A) → IsLine l → form.whole l ≡ Some a → line_as form ((l ++ crlf) ++ rest) ≡ read a rest
+  text_line_read l rest a h whole = ap (line_as form) (append_assoc l crlf rest) ∙ line_read l rest a h whole
+
+pub digits_no_return : (ds : List ℕ) → AllDigits 10 ds → has_return ds ≡ false
+digits_no_return [] h = refl
+digits_no_return (c ∷ ds) h =
+    let k = digit_from_value c h.0 in
+    let e : (c == 13) ≡ false = grind (arith, nat_tests) in
+    rw e (digits_no_return ds h.1)
+
+pub decimal_line : (n : ℕ) → n < 2 ^ 64 → IsLine (decimal n)
+decimal_line n small = (digits_no_return (decimal n) (decimal_is_IsNumeral n small).0.1, omega (arith, length-decimal-le 20 n (omega arith) (omega arith) small))
+
+natural_digits : (most : ℕ) (ds : List ℕ) → 0 < length ds → AllDigits 10 ds → digits_value 10 ds ≤ most → natural most ds ≡ Some (digits_value 10 ds)
+natural_digits most [] some h fit = absurd (omega (arith, some))
+natural_digits most (c ∷ ds) some h fit = natural_read most c ds h fit
+
+pub decimal_natural : (most n : ℕ) → n < 2 ^ 64 → n ≤ most → natural most (decimal n) ≡ Some n
+decimal_natural most n small fit =
+    let k = decimal_is_IsNumeral n small in
+    natural_digits most (decimal n) k.0.0 k.0.1 (subst (λ m. m ≤ most) (sym k.1) fit) ∙ ap Some k.1
+
+enough : (least n : ℕ) → least ≤ n → at_least least (Some n) ≡ Some n
+enough least n h = let c : nat_le least n ≡ true = grind (arith, nat_tests) in rw c refl
+
+-- the line of a length
+pub count_read : (least most n : ℕ) (rest : List ℕ) → n < 2 ^ 64 → least ≤ n → n ≤ most → line_as (count_line least most) (decimal n ++ 13 ∷ 10 ∷ rest) ≡ read n rest
+count_read least most n rest small low fit =
+    line_read (count_line least most) (decimal n) rest n (decimal_line n small) (ap (at_least least) (decimal_natural most n small fit) ∙ enough least n low)

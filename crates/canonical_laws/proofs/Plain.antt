@@ -1,0 +1,146 @@
+-- A value that holds no others is read back from its canonical text.
+use Rattle.std.proofs.Common.{◌≡◌, ℕ, suc, ◌+◌, ◌-◌, ◌≤◌, ◌<◌, ◌^◌, List, [], ◌∷◌, ◌++◌, length, drop, take, Option, Some, None, Bool, true, false, cond, refl, sym, ap, ◌∙◌, subst, append_assoc, arith, length-append}
+use Rattle.std.proofs.lemmas.Bool.Decides.{nat_tests}
+use Rattle.std.proofs.lemmas.Fmt.{decimal_is_IsNumeral, length-decimal-le}
+use Rattle.std.proofs.lemmas.Str.Parse.{digit_from_value}
+use Rattle.std.specs.Char.{digit_value}
+use Rattle.std.specs.Fmt.{signed_decimal}
+use Rattle.std.specs.Prelude.{ℤ, pos, negsuc, neg_ℤ, decimal, nat_lt, ◌==◌, ◌||◌, option_map, bytes_eq}
+use Rattle.std.specs.Str.Parse.{AllDigits, digits_value}
+use Rattle.resp_value.specs.declared.server_error.ServerError.{ServerError}
+use Rattle.resp_value.specs.Data.{Data, nil, int, bulk, array, simple, okay, dict, attribute, set, double, boolean, verbatim, big, push, error}
+use Rattle.resp_read.specs.Grammar.{Found, read, short, found_and_then, found_map, Table, form, max_line, max_bulk, number, is_double, is_big, body, before_space, after_space, error_of, simple_line, error_line, number_line, double_line, big_line, bulk_of, error_body, format, colon, text_of, verbatim_of}
+use Rattle.resp_read.proofs.Numbers.{neither}
+use Rattle.resp_write.specs.Canonical.{canonical, detail_text, breaks_line, error_line as written_error}
+use Rattle.resp_write.specs.Pack.{crlf, text_line, sized_text}
+use Rattle.resp_laws.proofs.Lengths.{natural_read, no_minus, length_read}
+use Rattle.resp_laws.proofs.Commands.{text_read, sized_shape}
+use Rattle.canonical_laws.specs.Readable.{has_return, has_space, IsLine, IsLong, error_words, IsPlain, HasShortErrors}
+use Rattle.canonical_laws.proofs.Lines.{text_line_read, decimal_line, digits_no_return, decimal_natural, count_read}
+
+no_plus : (c : ℕ) → digit_value c < 10 → (c == 43) ≡ false
+no_plus c d = let k = digit_from_value c d in grind (arith, nat_tests)
+
+number_of : (ds : List ℕ) → 0 < length ds → AllDigits 10 ds → digits_value 10 ds ≤ 9_223_372_036_854_775_807 → number ds ≡ Some (pos (digits_value 10 ds))
+number_of [] some h fit = absurd (omega (arith, some))
+number_of (c ∷ ds) some h fit = rw (no_minus c h.0, no_plus c h.0) (ap (option_map pos) (natural_read 9_223_372_036_854_775_807 c ds h fit))
+
+number_read : (z : ℤ) → IsLong z → number (signed_decimal z) ≡ Some z
+number_read (pos n) h =
+    let k = decimal_is_IsNumeral n (omega (arith, h)) in
+    number_of (decimal n) k.0.0 k.0.1 (subst (λ m. m ≤ 9_223_372_036_854_775_807) (sym k.1) h) ∙ ap (λ m. Some (pos m)) k.1
+number_read (negsuc n) h = ap (option_map (λ m. neg_ℤ (pos m))) (decimal_natural 9_223_372_036_854_775_808 (suc n) (omega (arith, h)) (omega (arith, h)))
+
+signed_line : (z : ℤ) → IsLong z → IsLine (signed_decimal z)
+signed_line (pos n) h = decimal_line n (omega (arith, h))
+signed_line (negsuc n) h =
+    let small : suc n < 2 ^ 64 = omega (arith, h) in
+    (digits_no_return (decimal (suc n)) (decimal_is_IsNumeral (suc n) small).0.1, omega (arith, length-decimal-le 20 (suc n) (omega arith) (omega arith) small))
+
+simple_back : (text : List ℕ) (c : Bool) → c ≡ false → cond c okay (simple text) ≡ simple text
+simple_back text c e = rw e refl
+
+where_true : {A : Type 0} (c : Bool) (a : A) → c ≡ true → cond c (Some a) None ≡ Some a
+where_true c a e = rw e refl
+
+-- an error's code and detail
+code_step : (b : ℕ) (bs : List ℕ) → (b == 32) ≡ false → before_space (b ∷ bs) ≡ b ∷ before_space bs
+code_step b bs e = rw e refl
+
+detail_step : (b : ℕ) (bs : List ℕ) → (b == 32) ≡ false → after_space (b ∷ bs) ≡ after_space bs
+detail_step b bs e = rw e refl
+
+code_back : (code : List ℕ) (detail : Option (List ℕ)) → has_space code ≡ false → before_space (code ++ detail_text detail) ≡ code
+code_back [] None h = refl
+code_back [] (Some detail) h = refl
+code_back (b ∷ code) detail h =
+    let n = neither (b == 32) (has_space code) h in
+    code_step b (code ++ detail_text detail) n.0 ∙ ap (λ x. b ∷ x) (code_back code detail n.1)
+
+detail_back : (code : List ℕ) (detail : Option (List ℕ)) → has_space code ≡ false → after_space (code ++ detail_text detail) ≡ detail
+detail_back [] None h = refl
+detail_back [] (Some detail) h = refl
+detail_back (b ∷ code) detail h =
+    let n = neither (b == 32) (has_space code) h in
+    detail_step b (code ++ detail_text detail) n.0 ∙ detail_back code detail n.1
+
+error_back : (e : ServerError) → has_space e.code ≡ false → error_of (error_words e) ≡ error e
+error_back e h = λ i. error (record { code = code_back e.code e.detail h i; detail = detail_back e.code e.detail h i })
+
+no_return_by : (x y z w : Bool) → (x || y || z) ≡ false → (z ≡ false → w ≡ false) → (x || w) ≡ false
+no_return_by true y z w h k = cc
+no_return_by false true z w h k = cc
+no_return_by false false z w h k = k h
+
+no_return : (text : List ℕ) → breaks_line text ≡ false → has_return text ≡ false
+no_return [] h = refl
+no_return (b ∷ bs) h = no_return_by (b == 13) (b == 10) (breaks_line bs) (has_return bs) h (no_return bs)
+
+module _ (more : Table) (rest : List ℕ) where
+  -- a first byte and a line
+  on_line : (first : ℕ) (text : List ℕ) (v : Data) (reader : List ℕ → Found Data) → ((bs : List ℕ) → form more (first ∷ bs) ≡ reader bs) → reader ((text ++ crlf) ++ rest) ≡ read v rest → form more (text_line first text ++ rest) ≡ read v rest
+  on_line first text v reader is h = is ((text ++ crlf) ++ rest) ∙ h
+
+  bulk_back : (text : List ℕ) → length text ≤ max_bulk → form more (sized_text 36 text ++ rest) ≡ read (bulk text) rest
+  bulk_back text fit =
+      ap (form more) (sized_shape 36 text rest)
+      ∙ ap (found_and_then bulk_of) (length_read max_bulk (length text) ((text ++ crlf) ++ rest) (omega (arith, fit)) fit)
+      ∙ ap (found_map bulk) (text_read text rest)
+
+  bulk_error_back : (text : List ℕ) → length text ≤ max_bulk → form more (sized_text 33 text ++ rest) ≡ read (error_of text) rest
+  bulk_error_back text fit =
+      ap (form more) (sized_shape 33 text rest)
+      ∙ ap (found_and_then error_body) (count_read 0 max_bulk (length text) ((text ++ crlf) ++ rest) (omega (arith, fit)) (omega arith) fit)
+      ∙ ap (found_map error_of) (text_read text rest)
+
+  line_error_back : (text : List ℕ) → IsLine text → form more (text_line 45 text ++ rest) ≡ read (error_of text) rest
+  line_error_back text h = text_line_read error_line text rest (error_of text) h refl
+
+  error_by : (text : List ℕ) (c : Bool) → breaks_line text ≡ c → length text ≤ max_bulk → (breaks_line text ≡ false → length text ≤ max_line) → form more (cond c (sized_text 33 text) (text_line 45 text) ++ rest) ≡ read (error_of text) rest
+  error_by text true is fit short_line = bulk_error_back text fit
+  error_by text false is fit short_line = line_error_back text (no_return text is, short_line is)
+
+  error_read : (text : List ℕ) → length text ≤ max_bulk → (breaks_line text ≡ false → length text ≤ max_line) → form more (written_error text ++ rest) ≡ read (error_of text) rest
+  error_read text fit short_line = error_by text (breaks_line text) refl fit short_line
+
+-- a format and its text
+format_read : (f text rest : List ℕ) → length f ≡ 3 → format ((f ++ 58 ∷ text) ++ rest) ≡ read f (text ++ rest)
+format_read (a ∷ b ∷ c ∷ []) text rest h =
+    let bs = (a ∷ b ∷ c ∷ 58 ∷ text) ++ rest in
+    let enough : nat_lt (length bs) 3 ≡ false = grind (arith, nat_tests) in
+    ap (λ x. found_and_then colon (cond x short (read (take 3 bs) (drop 3 bs)))) enough
+format_read [] text rest h = absurd (omega (arith, h))
+format_read (a ∷ []) text rest h = absurd (omega (arith, h))
+format_read (a ∷ b ∷ []) text rest h = absurd (omega (arith, h))
+format_read (a ∷ b ∷ c ∷ d ∷ f) text rest h = absurd (omega (arith, h))
+
+verbatim_back : (more : Table) (rest f text : List ℕ) → length f ≡ 3 → length text + 4 ≤ max_bulk → form more (sized_text 61 (f ++ 58 ∷ text) ++ rest) ≡ read (verbatim f text) rest
+verbatim_back more rest f text h fit =
+    let whole = f ++ 58 ∷ text in
+    let n : length whole ≡ length text + 4 = omega (arith, h, length-append f (58 ∷ text)) in
+    let left : length whole - 4 ≡ length text = omega (arith, n) in
+    ap (form more) (sized_shape 61 whole rest)
+    ∙ ap (found_and_then verbatim_of) (count_read 4 max_bulk (length whole) ((whole ++ crlf) ++ rest) (omega (arith, n, fit)) (omega (arith, n)) (omega (arith, n, fit)))
+    ∙ ap (verbatim_of (length whole)) (append_assoc whole crlf rest)
+    ∙ ap (found_and_then (text_of (length whole))) (format_read f text (crlf ++ rest) h)
+    ∙ ap (λ k. found_map (verbatim f) (body k (text ++ (crlf ++ rest)))) left
+    ∙ ap (λ x. found_map (verbatim f) (body (length text) x)) (sym (append_assoc text crlf rest))
+    ∙ ap (found_map (verbatim f)) (text_read text rest)
+
+pub plain_read : (more : Table) (v : Data) → IsPlain v → HasShortErrors v → (rest : List ℕ) → form more (canonical v ++ rest) ≡ read v rest
+plain_read more nil h k rest = refl
+plain_read more (int n) h k rest = text_line_read number_line (signed_decimal n) rest (int n) (signed_line n h) (ap (option_map int) (number_read n h))
+plain_read more (bulk text) h k rest = bulk_back more rest text h
+plain_read more (simple text) h k rest = text_line_read simple_line text rest (simple text) h.0 (ap Some (simple_back text (bytes_eq text (79 ∷ 75 ∷ [])) h.1))
+plain_read more okay h k rest = refl
+plain_read more (double text) h k rest = text_line_read double_line text rest (double text) h.0 (where_true (is_double text) (double text) h.1)
+plain_read more (boolean true) h k rest = refl
+plain_read more (boolean false) h k rest = refl
+plain_read more (verbatim f text) h k rest = verbatim_back more rest f text h.0 h.1
+plain_read more (big text) h k rest = text_line_read big_line text rest (big text) h.0 (where_true (is_big text) (big text) h.1)
+plain_read more (error e) h k rest = error_read more rest (error_words e) h.1 k ∙ ap (λ d. read d rest) (error_back e h.0)
+plain_read more (array ds) h k rest = absurd h
+plain_read more (set ds) h k rest = absurd h
+plain_read more (dict ms) h k rest = absurd h
+plain_read more (attribute d ms) h k rest = absurd h
+plain_read more (push kind ds) h k rest = absurd h

@@ -1,0 +1,137 @@
+-- A value that holds values is read back, where those that it holds are.
+use Rattle.std.proofs.Common.{◌≡◌, ℕ, zero, suc, ◌-◌, ◌≤◌, List, ◌∷◌, ◌++◌, length, refl, ap, ◌∙◌, append_assoc, arith}
+use Rattle.std.specs.Prelude.{decimal}
+use Rattle.resp_value.specs.declared.push_kind.PushKind.{PushKind}
+use Rattle.resp_value.specs.declared.push_kind.PushKind.TheVariants.{Disconnection, Other, Invalidate, Message, PMessage, SMessage, Unsubscribe, PUnsubscribe, SUnsubscribe, Subscribe, PSubscribe, SSubscribe}
+use Rattle.resp_value.specs.Data.{Data, array, dict, attribute, set, push, Items, no_items, item, items_of, list_of, Members, no_members, member, members_of, pairs_of}
+use Rattle.resp_value.specs.Kinds.{kind_or, kind_of}
+use Rattle.resp_value.specs.View.{data_of-value_of}
+use Rattle.resp_read.specs.Grammar.{Found, read, found_and_then, found_map, form, innermost, nested, parse, max_bulk, max_count, repeated, pair, body, array_of, set_of, map_of, attributed, attribute_of, kind, push_with, push_of}
+use Rattle.resp_write.specs.Canonical.{canonical, each_item, each_member, kind_text}
+use Rattle.resp_write.specs.Pack.{crlf, number_line, bulk_string}
+use Rattle.resp_laws.proofs.Lengths.{length_read}
+use Rattle.resp_laws.proofs.Commands.{line_shape, sized_shape, text_read, first_then}
+use Rattle.canonical_laws.specs.Readable.{IsReadKind, EachItem, EachMember, IsOver, IsValue, HasShortErrors, EachShort, EachPairShort}
+use Rattle.canonical_laws.proofs.Lines.{count_read}
+use Rattle.canonical_laws.proofs.Plain.{plain_read}
+
+-- the kind of a push
+kind_back : (k : PushKind) → IsReadKind k → kind_of (kind_text k) ≡ k
+unfolding kind_of
+kind_back (Other text) h = ap (λ o. kind_or o text) h.0
+kind_back Invalidate h = refl
+kind_back Message h = refl
+kind_back PMessage h = refl
+kind_back SMessage h = refl
+kind_back Unsubscribe h = refl
+kind_back PUnsubscribe h = refl
+kind_back SUnsubscribe h = refl
+kind_back Subscribe h = refl
+kind_back PSubscribe h = refl
+kind_back SSubscribe h = refl
+kind_back Disconnection h = absurd h
+
+kind_fits : (k : PushKind) → IsReadKind k → length (kind_text k) ≤ max_bulk
+kind_fits (Other text) h = h.1
+kind_fits Invalidate h = omega arith
+kind_fits Message h = omega arith
+kind_fits PMessage h = omega arith
+kind_fits SMessage h = omega arith
+kind_fits Unsubscribe h = omega arith
+kind_fits PUnsubscribe h = omega arith
+kind_fits SUnsubscribe h = omega arith
+kind_fits Subscribe h = omega arith
+kind_fits PSubscribe h = omega arith
+kind_fits SSubscribe h = omega arith
+kind_fits Disconnection h = absurd h
+
+kind_read : (text rest : List ℕ) → length text ≤ max_bulk → kind (bulk_string text ++ rest) ≡ read text rest
+kind_read text rest fit =
+    ap kind (sized_shape 36 text rest)
+    ∙ ap (found_and_then body) (count_read 0 max_bulk (length text) ((text ++ crlf) ++ rest) (omega (arith, fit)) (omega arith) fit)
+    ∙ text_read text rest
+
+-- a line of a number, and then more
+line_first : (first n : ℕ) (more rest : List ℕ) → (number_line first n ++ more) ++ rest ≡ first ∷ (decimal n ++ 13 ∷ 10 ∷ (more ++ rest))
+line_first first n more rest = append_assoc (number_line first n) more rest ∙ line_shape first n (more ++ rest)
+
+module _ (inside : List ℕ → Found Data) (P : Data → Type 0) (back : (v : Data) → P v → HasShortErrors v → (rest : List ℕ) → inside (canonical v ++ rest) ≡ read v rest) where
+  items_read : (ds : Items) → EachItem P ds → EachShort ds → (rest : List ℕ) → repeated inside (length (list_of ds)) (each_item ds ++ rest) ≡ read (list_of ds) rest
+  items_read no_items h k rest = refl
+  items_read (item d ds) h k rest =
+      let others = each_item ds ++ rest in
+      ap (repeated inside (suc (length (list_of ds)))) (append_assoc (canonical d) (each_item ds) rest)
+      ∙ first_then inside (length (list_of ds)) (canonical d ++ others) others rest d (list_of ds) (back d h.0 k.0 others) (items_read ds h.1 k.1 rest)
+
+  pair_read : (key d : Data) (rest : List ℕ) → P key → P d → HasShortErrors key → HasShortErrors d → pair inside (canonical key ++ (canonical d ++ rest)) ≡ read (key, d) rest
+  pair_read key d rest h k s t =
+      ap (found_and_then (λ a r. found_map (λ v. (a, v)) (inside r))) (back key h s (canonical d ++ rest)) ∙ ap (found_map (λ v. (key, v))) (back d k t rest)
+
+  members_read : (ms : Members) → EachMember P ms → EachPairShort ms → (rest : List ℕ) → repeated (pair inside) (length (pairs_of ms)) (each_member ms ++ rest) ≡ read (pairs_of ms) rest
+  members_read no_members h k rest = refl
+  members_read (member key d ms) h k rest =
+      let others = each_member ms ++ rest in
+      let shape : ((canonical key ++ canonical d) ++ each_member ms) ++ rest ≡ canonical key ++ (canonical d ++ others) =
+      append_assoc (canonical key ++ canonical d) (each_member ms) rest ∙ append_assoc (canonical key) (canonical d) others in
+      ap (repeated (pair inside) (suc (length (pairs_of ms)))) shape
+      ∙ first_then (pair inside) (length (pairs_of ms)) (canonical key ++ (canonical d ++ others)) others rest (key, d) (pairs_of ms) (pair_read key d others h.0 h.1 k.0 k.1) (members_read ms h.2 k.2 rest)
+
+  array_read : (ds : Items) → length (list_of ds) ≤ max_count → EachItem P ds → EachShort ds → (rest : List ℕ) → form (nested inside) (canonical (array ds) ++ rest) ≡ read (array ds) rest
+  array_read ds fit h k rest =
+      let n = length (list_of ds) in
+      ap (form (nested inside)) (line_first 42 n (each_item ds) rest)
+      ∙ ap (found_and_then (array_of inside)) (length_read max_count n (each_item ds ++ rest) (omega (arith, fit)) fit)
+      ∙ ap (found_map (λ es. array (items_of es))) (items_read ds h k rest)
+      ∙ ap (λ d. read d rest) (data_of-value_of (array ds))
+
+  set_read : (ds : Items) → length (list_of ds) ≤ max_count → EachItem P ds → EachShort ds → (rest : List ℕ) → form (nested inside) (canonical (set ds) ++ rest) ≡ read (set ds) rest
+  set_read ds fit h k rest =
+      let n = length (list_of ds) in
+      ap (form (nested inside)) (line_first 126 n (each_item ds) rest)
+      ∙ ap (found_and_then (set_of inside)) (count_read 0 max_count n (each_item ds ++ rest) (omega (arith, fit)) (omega arith) fit)
+      ∙ ap (found_map (λ es. set (items_of es))) (items_read ds h k rest)
+      ∙ ap (λ d. read d rest) (data_of-value_of (set ds))
+
+  dict_read : (ms : Members) → length (pairs_of ms) ≤ max_count → EachMember P ms → EachPairShort ms → (rest : List ℕ) → form (nested inside) (canonical (dict ms) ++ rest) ≡ read (dict ms) rest
+  dict_read ms fit h k rest =
+      let n = length (pairs_of ms) in
+      ap (form (nested inside)) (line_first 37 n (each_member ms) rest)
+      ∙ ap (found_and_then (map_of inside)) (count_read 0 max_count n (each_member ms ++ rest) (omega (arith, fit)) (omega arith) fit)
+      ∙ ap (found_map (λ ps. dict (members_of ps))) (members_read ms h k rest)
+      ∙ ap (λ d. read d rest) (data_of-value_of (dict ms))
+
+  attribute_read : (d : Data) (ms : Members) → P d → length (pairs_of ms) ≤ max_count → EachMember P ms → HasShortErrors d → EachPairShort ms → (rest : List ℕ) → form (nested inside) (canonical (attribute d ms) ++ rest) ≡ read (attribute d ms) rest
+  attribute_read d ms one fit h s k rest =
+      let n = length (pairs_of ms) in
+      let held = canonical d ++ rest in
+      ap (form (nested inside)) (append_assoc (number_line 124 n ++ each_member ms) (canonical d) rest ∙ line_first 124 n (each_member ms) held)
+      ∙ ap (found_and_then (attribute_of inside)) (count_read 0 max_count n (each_member ms ++ held) (omega (arith, fit)) (omega arith) fit)
+      ∙ ap (found_and_then (attributed inside)) (members_read ms h k held)
+      ∙ ap (found_map (λ v. attribute v (members_of (pairs_of ms)))) (back d one s rest)
+      ∙ ap (λ v. read v rest) (data_of-value_of (attribute d ms))
+
+  push_read : (k : PushKind) (ds : Items) → IsReadKind k → suc (length (list_of ds)) ≤ max_count → EachItem P ds → EachShort ds → (rest : List ℕ) → form (nested inside) (canonical (push k ds) ++ rest) ≡ read (push k ds) rest
+  push_read k ds is fit h s rest =
+      let n = length (list_of ds) in
+      let text = kind_text k in
+      let others = each_item ds ++ rest in
+      let one : suc n - 1 ≡ n = omega arith in
+      ap (form (nested inside)) (append_assoc (number_line 62 (suc n) ++ bulk_string text) (each_item ds) rest ∙ line_first 62 (suc n) (bulk_string text) others)
+      ∙ ap (found_and_then (push_of inside)) (count_read 1 max_count (suc n) (bulk_string text ++ others) (omega (arith, fit)) (omega arith) fit)
+      ∙ ap (found_and_then (push_with inside (suc n))) (kind_read text others (kind_fits k is))
+      ∙ ap (λ m. found_map (λ es. push (kind_of text) (items_of es)) (repeated inside m others)) one
+      ∙ ap (found_map (λ es. push (kind_of text) (items_of es))) (items_read ds h s rest)
+      ∙ ap (λ x. read (push x (items_of (list_of ds))) rest) (kind_back k is)
+      ∙ ap (λ v. read v rest) (data_of-value_of (push k ds))
+
+  over_read : (v : Data) → IsOver P v → HasShortErrors v → (rest : List ℕ) → form (nested inside) (canonical v ++ rest) ≡ read v rest
+  over_read (array ds) h k rest = array_read ds h.0 h.1 k rest
+  over_read (set ds) h k rest = set_read ds h.0 h.1 k rest
+  over_read (dict ms) h k rest = dict_read ms h.0 h.1 k rest
+  over_read (attribute d ms) h k rest = attribute_read d ms h.0 h.1 h.2 k.0 k.1 rest
+  over_read (push kind ds) h k rest = push_read kind ds h.0 h.1 h.2 k rest
+  over_read v h k rest = plain_read (nested inside) v h k rest
+
+pub value_read : (depth : ℕ) (v : Data) → IsValue depth v → HasShortErrors v → (rest : List ℕ) → parse depth (canonical v ++ rest) ≡ read v rest
+value_read zero v h k rest = plain_read innermost v h k rest
+value_read (suc n) v h k rest = over_read (parse n) (IsValue n) (value_read n) v h k rest
