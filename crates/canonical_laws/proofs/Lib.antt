@@ -5,3 +5,4 @@ pub mod Same
 pub mod Held
 pub mod GivenPlain
 pub mod Given
+pub mod Exact

@@ -72,7 +72,7 @@ no_return_by true y z w h k = cc
 no_return_by false true z w h k = cc
 no_return_by false false z w h k = k h
 
-no_return : (text : List ℕ) → breaks_line text ≡ false → has_return text ≡ false
+pub no_return : (text : List ℕ) → breaks_line text ≡ false → has_return text ≡ false
 no_return [] h = refl
 no_return (b ∷ bs) h = no_return_by (b == 13) (b == 10) (breaks_line bs) (has_return bs) h (no_return bs)
 

@@ -9,10 +9,11 @@ ghost use Rattle.resp_write.specs.Canonical.{canonical};
 ghost use Rattle.canonical_laws.specs.Readable.{IsValue, HasShortErrors, IsReadable};
 
 /// Does nothing. Its contract: whatever follows the canonical text of a readable value, that value stands at the front,
-/// and what follows is left.
+/// and what follows is left; and no other value is read back.
 pub fn a_canonical_text_is_read_back()
     ensures at_depth { (depth : ℕ) (v : Data) (rest : List ℕ) → IsReadable depth v → parse depth (canonical v ++ rest) ≡ read v rest }
     ensures reads { (v : Data) (rest : List ℕ) → IsReadable max_depth v → Reads (canonical v ++ rest) v rest }
+    ensures no_other { (v : Data) (rest left : List ℕ) → Reads (canonical v ++ rest) v left → IsReadable max_depth v }
 {}
 
 /// Does nothing. Its contract: values that are not the same have not the same canonical text, not even where other bytes
