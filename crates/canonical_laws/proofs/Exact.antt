@@ -96,18 +96,18 @@ module _ (inside : List ℕ → Found Data) (P : Data → Type 0) (back : (v : D
 
   over_short : (v : Data) → IsOver P v → (rest : List ℕ) (w : Data) (end : List ℕ) → form (nested inside) (canonical v ++ rest) ≡ read w end → HasShortErrors v
   over_short (array ds) h rest w end e =
-      let one = first_read (λ es r. read (array (items_of es)) r) (repeated inside (length (list_of ds)) (each_item ds ++ rest)) w end (sym (array_steps inside ds rest h.0) ∙ e) in
+      let one = first_read (λ es r. read (array (items_of es)) r) (repeated inside (length (list_of ds)) (each_item ds ++ rest)) w end (sym (array_steps inside (length (list_of ds)) (each_item ds) rest h.0) ∙ e) in
       items_short ds h.1 rest one.0 one.1 one.2
   over_short (set ds) h rest w end e =
-      let one = first_read (λ es r. read (set (items_of es)) r) (repeated inside (length (list_of ds)) (each_item ds ++ rest)) w end (sym (set_steps inside ds rest h.0) ∙ e) in
+      let one = first_read (λ es r. read (set (items_of es)) r) (repeated inside (length (list_of ds)) (each_item ds ++ rest)) w end (sym (set_steps inside (length (list_of ds)) (each_item ds) rest h.0) ∙ e) in
       items_short ds h.1 rest one.0 one.1 one.2
   over_short (dict ms) h rest w end e =
-      let one = first_read (λ ps r. read (dict (members_of ps)) r) (repeated (pair inside) (length (pairs_of ms)) (each_member ms ++ rest)) w end (sym (dict_steps inside ms rest h.0) ∙ e) in
+      let one = first_read (λ ps r. read (dict (members_of ps)) r) (repeated (pair inside) (length (pairs_of ms)) (each_member ms ++ rest)) w end (sym (dict_steps inside (length (pairs_of ms)) (each_member ms) rest h.0) ∙ e) in
       members_short ms h.1 rest one.0 one.1 one.2
-  over_short (attribute d ms) h rest w end e = attribute_short d ms h.0 h.2 rest w end (sym (attribute_steps inside d ms rest h.1) ∙ e)
+  over_short (attribute d ms) h rest w end e = attribute_short d ms h.0 h.2 rest w end (sym (attribute_steps inside (length (pairs_of ms)) (each_member ms) rest (canonical d) h.1) ∙ e)
   over_short (push kind ds) h rest w end e =
       let made : List Data → List ℕ → Found Data = λ es r. read (push (kind_of (kind_text kind)) (items_of es)) r in
-      let one = first_read made (repeated inside (length (list_of ds)) (each_item ds ++ rest)) w end (sym (push_steps inside kind ds rest h.0 h.1) ∙ e) in
+      let one = first_read made (repeated inside (length (list_of ds)) (each_item ds ++ rest)) w end (sym (push_steps inside (length (list_of ds)) (each_item ds) rest kind h.0 h.1) ∙ e) in
       items_short ds h.2 rest one.0 one.1 one.2
   over_short v h rest w end e = plain_short (nested inside) rest w end v h e
 

@@ -6,3 +6,4 @@ pub mod Held
 pub mod GivenPlain
 pub mod Given
 pub mod Exact
+pub mod Spelled

@@ -16,7 +16,7 @@ use Rattle.canonical_laws.proofs.Lines.{count_read}
 use Rattle.canonical_laws.proofs.Plain.{plain_read}
 
 -- the kind of a push
-kind_back : (k : PushKind) → IsReadKind k → kind_of (kind_text k) ≡ k
+pub kind_back : (k : PushKind) → IsReadKind k → kind_of (kind_text k) ≡ k
 unfolding kind_of
 kind_back (Other text) h = ap (λ o. kind_or o text) h.0
 kind_back Invalidate h = refl
@@ -55,40 +55,28 @@ kind_read text rest fit =
 line_first : (first n : ℕ) (more rest : List ℕ) → (number_line first n ++ more) ++ rest ≡ first ∷ (decimal n ++ 13 ∷ 10 ∷ (more ++ rest))
 line_first first n more rest = append_assoc (number_line first n) more rest ∙ line_shape first n (more ++ rest)
 
-module _ (inside : List ℕ → Found Data) where
-  -- what is read behind the line of a count
-  pub array_steps : (ds : Items) (rest : List ℕ) → length (list_of ds) ≤ max_count → form (nested inside) (canonical (array ds) ++ rest) ≡ found_map (λ es. array (items_of es)) (repeated inside (length (list_of ds)) (each_item ds ++ rest))
-  array_steps ds rest fit =
-      let n = length (list_of ds) in
-      ap (form (nested inside)) (line_first 42 n (each_item ds) rest)
-      ∙ ap (found_and_then (array_of inside)) (length_read max_count n (each_item ds ++ rest) (omega (arith, fit)) fit)
+-- what is read behind the line of a count, where these bytes follow it
+module _ (inside : List ℕ → Found Data) (n : ℕ) (more rest : List ℕ) where
+  pub array_steps : n ≤ max_count → form (nested inside) ((number_line 42 n ++ more) ++ rest) ≡ found_map (λ es. array (items_of es)) (repeated inside n (more ++ rest))
+  array_steps fit = ap (form (nested inside)) (line_first 42 n more rest) ∙ ap (found_and_then (array_of inside)) (length_read max_count n (more ++ rest) (omega (arith, fit)) fit)
 
-  pub set_steps : (ds : Items) (rest : List ℕ) → length (list_of ds) ≤ max_count → form (nested inside) (canonical (set ds) ++ rest) ≡ found_map (λ es. set (items_of es)) (repeated inside (length (list_of ds)) (each_item ds ++ rest))
-  set_steps ds rest fit =
-      let n = length (list_of ds) in
-      ap (form (nested inside)) (line_first 126 n (each_item ds) rest)
-      ∙ ap (found_and_then (set_of inside)) (count_read 0 max_count n (each_item ds ++ rest) (omega (arith, fit)) (omega arith) fit)
+  pub set_steps : n ≤ max_count → form (nested inside) ((number_line 126 n ++ more) ++ rest) ≡ found_map (λ es. set (items_of es)) (repeated inside n (more ++ rest))
+  set_steps fit = ap (form (nested inside)) (line_first 126 n more rest) ∙ ap (found_and_then (set_of inside)) (count_read 0 max_count n (more ++ rest) (omega (arith, fit)) (omega arith) fit)
 
-  pub dict_steps : (ms : Members) (rest : List ℕ) → length (pairs_of ms) ≤ max_count → form (nested inside) (canonical (dict ms) ++ rest) ≡ found_map (λ ps. dict (members_of ps)) (repeated (pair inside) (length (pairs_of ms)) (each_member ms ++ rest))
-  dict_steps ms rest fit =
-      let n = length (pairs_of ms) in
-      ap (form (nested inside)) (line_first 37 n (each_member ms) rest)
-      ∙ ap (found_and_then (map_of inside)) (count_read 0 max_count n (each_member ms ++ rest) (omega (arith, fit)) (omega arith) fit)
+  pub dict_steps : n ≤ max_count → form (nested inside) ((number_line 37 n ++ more) ++ rest) ≡ found_map (λ ps. dict (members_of ps)) (repeated (pair inside) n (more ++ rest))
+  dict_steps fit = ap (form (nested inside)) (line_first 37 n more rest) ∙ ap (found_and_then (map_of inside)) (count_read 0 max_count n (more ++ rest) (omega (arith, fit)) (omega arith) fit)
 
-  pub attribute_steps : (d : Data) (ms : Members) (rest : List ℕ) → length (pairs_of ms) ≤ max_count → form (nested inside) (canonical (attribute d ms) ++ rest) ≡ found_and_then (attributed inside) (repeated (pair inside) (length (pairs_of ms)) (each_member ms ++ (canonical d ++ rest)))
-  attribute_steps d ms rest fit =
-      let n = length (pairs_of ms) in
-      let held = canonical d ++ rest in
-      ap (form (nested inside)) (append_assoc (number_line 124 n ++ each_member ms) (canonical d) rest ∙ line_first 124 n (each_member ms) held)
-      ∙ ap (found_and_then (attribute_of inside)) (count_read 0 max_count n (each_member ms ++ held) (omega (arith, fit)) (omega arith) fit)
+  pub attribute_steps : (held : List ℕ) → n ≤ max_count → form (nested inside) (((number_line 124 n ++ more) ++ held) ++ rest) ≡ found_and_then (attributed inside) (repeated (pair inside) n (more ++ (held ++ rest)))
+  attribute_steps held fit =
+      ap (form (nested inside)) (append_assoc (number_line 124 n ++ more) held rest ∙ line_first 124 n more (held ++ rest))
+      ∙ ap (found_and_then (attribute_of inside)) (count_read 0 max_count n (more ++ (held ++ rest)) (omega (arith, fit)) (omega arith) fit)
 
-  pub push_steps : (k : PushKind) (ds : Items) (rest : List ℕ) → IsReadKind k → suc (length (list_of ds)) ≤ max_count → form (nested inside) (canonical (push k ds) ++ rest) ≡ found_map (λ es. push (kind_of (kind_text k)) (items_of es)) (repeated inside (length (list_of ds)) (each_item ds ++ rest))
-  push_steps k ds rest is fit =
-      let n = length (list_of ds) in
+  pub push_steps : (k : PushKind) → IsReadKind k → suc n ≤ max_count → form (nested inside) (((number_line 62 (suc n) ++ bulk_string (kind_text k)) ++ more) ++ rest) ≡ found_map (λ es. push (kind_of (kind_text k)) (items_of es)) (repeated inside n (more ++ rest))
+  push_steps k is fit =
       let text = kind_text k in
-      let others = each_item ds ++ rest in
+      let others = more ++ rest in
       let one : suc n - 1 ≡ n = omega arith in
-      ap (form (nested inside)) (append_assoc (number_line 62 (suc n) ++ bulk_string text) (each_item ds) rest ∙ line_first 62 (suc n) (bulk_string text) others)
+      ap (form (nested inside)) (append_assoc (number_line 62 (suc n) ++ bulk_string text) more rest ∙ line_first 62 (suc n) (bulk_string text) others)
       ∙ ap (found_and_then (push_of inside)) (count_read 1 max_count (suc n) (bulk_string text ++ others) (omega (arith, fit)) (omega arith) fit)
       ∙ ap (found_and_then (push_with inside (suc n))) (kind_read text others (kind_fits k is))
       ∙ ap (λ m. found_map (λ es. push (kind_of text) (items_of es)) (repeated inside m others)) one
@@ -115,16 +103,16 @@ module _ (inside : List ℕ → Found Data) (P : Data → Type 0) (back : (v : D
       ∙ first_then (pair inside) (length (pairs_of ms)) (canonical key ++ (canonical d ++ others)) others rest (key, d) (pairs_of ms) (pair_read key d others h.0 h.1 k.0 k.1) (members_read ms h.2 k.2 rest)
 
   over_read : (v : Data) → IsOver P v → HasShortErrors v → (rest : List ℕ) → form (nested inside) (canonical v ++ rest) ≡ read v rest
-  over_read (array ds) h k rest = array_steps inside ds rest h.0 ∙ ap (found_map (λ es. array (items_of es))) (items_read ds h.1 k rest) ∙ ap (λ d. read d rest) (data_of-value_of (array ds))
-  over_read (set ds) h k rest = set_steps inside ds rest h.0 ∙ ap (found_map (λ es. set (items_of es))) (items_read ds h.1 k rest) ∙ ap (λ d. read d rest) (data_of-value_of (set ds))
-  over_read (dict ms) h k rest = dict_steps inside ms rest h.0 ∙ ap (found_map (λ ps. dict (members_of ps))) (members_read ms h.1 k rest) ∙ ap (λ d. read d rest) (data_of-value_of (dict ms))
+  over_read (array ds) h k rest = array_steps inside (length (list_of ds)) (each_item ds) rest h.0 ∙ ap (found_map (λ es. array (items_of es))) (items_read ds h.1 k rest) ∙ ap (λ d. read d rest) (data_of-value_of (array ds))
+  over_read (set ds) h k rest = set_steps inside (length (list_of ds)) (each_item ds) rest h.0 ∙ ap (found_map (λ es. set (items_of es))) (items_read ds h.1 k rest) ∙ ap (λ d. read d rest) (data_of-value_of (set ds))
+  over_read (dict ms) h k rest = dict_steps inside (length (pairs_of ms)) (each_member ms) rest h.0 ∙ ap (found_map (λ ps. dict (members_of ps))) (members_read ms h.1 k rest) ∙ ap (λ d. read d rest) (data_of-value_of (dict ms))
   over_read (attribute d ms) h k rest =
-      attribute_steps inside d ms rest h.1
+      attribute_steps inside (length (pairs_of ms)) (each_member ms) rest (canonical d) h.1
       ∙ ap (found_and_then (attributed inside)) (members_read ms h.2 k.1 (canonical d ++ rest))
       ∙ ap (found_map (λ v. attribute v (members_of (pairs_of ms)))) (back d h.0 k.0 rest)
       ∙ ap (λ v. read v rest) (data_of-value_of (attribute d ms))
   over_read (push kind ds) h k rest =
-      push_steps inside kind ds rest h.0 h.1
+      push_steps inside (length (list_of ds)) (each_item ds) rest kind h.0 h.1
       ∙ ap (found_map (λ es. push (kind_of (kind_text kind)) (items_of es))) (items_read ds h.2 k rest)
       ∙ ap (λ x. read (push x (items_of (list_of ds))) rest) (kind_back kind h.0)
       ∙ ap (λ v. read v rest) (data_of-value_of (push kind ds))
