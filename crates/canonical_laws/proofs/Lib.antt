@@ -7,3 +7,4 @@ pub mod GivenPlain
 pub mod Given
 pub mod Exact
 pub mod Spelled
+pub mod ShortTexts

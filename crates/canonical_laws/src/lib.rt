@@ -1,9 +1,9 @@
 //! The laws of canonical texts: a value's text is read back as that value.
 #![tactic(auto)]
 
-ghost use Rattle.std.specs.Prelude.{◌≡◌, ℕ, List, [], ◌++◌};
+ghost use Rattle.std.specs.Prelude.{◌≡◌, ℕ, ◌≤◌, List, [], ◌++◌, length};
 ghost use Rattle.resp_value.specs.Data.{Data};
-ghost use Rattle.resp_read.specs.Grammar.{read, parse, max_depth};
+ghost use Rattle.resp_read.specs.Grammar.{read, parse, max_line, max_depth};
 ghost use Rattle.resp_read.specs.Reads.{Reads};
 ghost use Rattle.resp_write.specs.Canonical.{canonical};
 ghost use Rattle.canonical_laws.specs.Readable.{IsValue, HasShortErrors, IsReadable};
@@ -24,10 +24,12 @@ pub fn different_values_have_different_texts()
 {}
 
 /// Does nothing. Its contract: what is read from some text is exactly a value within the limits, and it is readable where
-/// none of its errors outgrows a line; so what was read, shown and read again is the same value.
+/// none of its errors outgrows a line; so what was read, shown and read again is the same value. A text that is
+/// no longer than a line has no such error.
 pub fn a_value_that_was_read_is_readable()
     ensures value { (bytes : List ℕ) (v : Data) (rest : List ℕ) → Reads bytes v rest → IsValue max_depth v }
     ensures from_some_text { (v : Data) → IsValue max_depth v → (bytes : List ℕ) × Reads bytes v [] }
     ensures readable { (bytes : List ℕ) (v : Data) (rest : List ℕ) → Reads bytes v rest → HasShortErrors v → IsReadable max_depth v }
     ensures read_again { (bytes : List ℕ) (v : Data) (rest more : List ℕ) → Reads bytes v rest → HasShortErrors v → Reads (canonical v ++ more) v more }
+    ensures short_text { (bytes : List ℕ) (v : Data) (rest more : List ℕ) → length bytes ≤ max_line → Reads bytes v rest → Reads (canonical v ++ more) v more }
 {}
