@@ -5,7 +5,7 @@ use Rattle.std.proofs.lemmas.Bool.Decides.{nat_tests}
 use Rattle.std.specs.Prelude.{◌==◌, nat_lt, bytes_eq}
 use Rattle.resp_value.specs.Data.{Data, nil, int, bulk, array, simple, okay, dict, attribute, set, double, boolean, verbatim, big, push, error, items_of, members_of}
 use Rattle.resp_value.specs.Kinds.{kind_of}
-use Rattle.resp_read.specs.Grammar.{Found, read, short, bad, found_and_then, found_map, LineForm, line_as, size_line, count_line, is_end, is_double, is_big, number, truth, simple_of, error_of, simple_line, error_line, number_line, null_line, boolean_line, double_line, big_line, no_array_line, max_line, max_bulk, max_count, closed, body, bulk_of, bulk_string, error_body, bulk_error, colon, format, text_of, verbatim_of, verbatim_string, repeated, pair, array_of, array_form, set_of, set_form, map_of, map_form, attributed, attribute_of, attribute_form, kind, push_with, push_of, push_form, Table, plain, nested, innermost, chosen, form, parse, max_depth}
+use Rattle.resp_read.specs.Grammar.{Found, read, short, bad, found_and_then, found_map, line_as, size_line, count_line, is_end, is_double, is_big, number, truth, simple_of, error_of, simple_line, error_line, number_line, null_line, boolean_line, double_line, big_line, no_array_line, max_line, max_bulk, max_count, closed, body, bulk_of, bulk_string, error_body, bulk_error, format, text_of, verbatim_of, verbatim_string, repeated, pair, array_of, array_form, set_of, set_form, map_of, map_form, attributed, attribute_of, attribute_form, kind, push_with, push_of, push_form, Table, plain, nested, innermost, chosen, form, parse, max_depth}
 use Rattle.resp_read.specs.Reads.{Reads}
 use Rattle.resp_read.proofs.Laws.{Lawful, Possible, lawful_then, lawful_map, possible_map, possible_then}
 use Rattle.resp_read.proofs.LineLaws.{lawful_line}
@@ -14,8 +14,8 @@ use Rattle.resp_read.proofs.Bodies.{lawful_counted, lawful_kind}
 use Rattle.resp_read.proofs.Repeats.{lawful_repeated}
 use Rattle.resp_read.proofs.ParseLaws.{lawful_parse}
 use Rattle.resp_write.specs.Canonical.{canonical}
-use Rattle.canonical_laws.specs.Readable.{error_words, HasShortErrors, EachShort, EachPairShort}
-use Rattle.canonical_laws.proofs.Held.{IfRead, was_read, held_if, held_then, held_map, held_line, some_is, HasLength, held_closed}
+use Rattle.canonical_laws.specs.Readable.{HasShortErrors, EachShort, EachPairShort}
+use Rattle.canonical_laws.proofs.Held.{IfRead, was_read, held_if, held_then, held_map, held_line, some_is, held_closed}
 use Rattle.canonical_laws.proofs.GivenPlain.{mapped, where_test, words_back}
 use Rattle.canonical_laws.proofs.Given.{read_again}
 
@@ -95,7 +95,6 @@ body_by n bs false fit is =
 
 bulk_error_gives : GivesShort bulk_error
 bulk_error_gives bs fit =
-    let counted = line_as (count_line 0 max_bulk) in
     short_then (line_as (count_line 0 max_bulk)) error_body Any HasShortErrors (lawful_counted 0 max_bulk (lit≤ tt) (lit≤ tt)) bs fit
     (λ n rest k h. held_map IsShort HasShortErrors error_of (body n rest) (body_by n rest (nat_lt (length rest) n) k refl) (λ t is. error_short t is)) (any_read (line_as (count_line 0 max_bulk) bs))
 
@@ -115,7 +114,7 @@ AllShort (f ∷ fs) = GivesShort f.1 × AllShort fs
 plain_short : AllShort plain
 plain_short = (
   simple_gives,
-  (error_gives, (number_gives, (bulk_gives, (null_gives, (boolean_gives, (double_gives, (big_gives, (bulk_error_gives, (verbatim_gives, tt)))))))))
+  (error_gives, (number_gives, (bulk_gives, (null_gives, (boolean_gives, (double_gives, (big_gives, (bulk_error_gives, (verbatim_gives, tt))))))))),
 )
 
 chosen_short : (fs : Table) → AllShort fs → (b : ℕ) → GivesShort (chosen fs b)
