@@ -116,12 +116,9 @@ impl SubscriptionTracker {
         ensures { IfOk result (λ p. p ≡ resubscription self.now.held) }
     {
         let mut pipeline = Pipeline::new(alloc);
-        self.plain
-            .append_command(alloc, b"SUBSCRIBE", &mut pipeline)?;
-        self.sharded
-            .append_command(alloc, b"SSUBSCRIBE", &mut pipeline)?;
-        self.pattern
-            .append_command(alloc, b"PSUBSCRIBE", &mut pipeline)?;
+        self.plain.append_to(alloc, b"SUBSCRIBE", &mut pipeline)?;
+        self.sharded.append_to(alloc, b"SSUBSCRIBE", &mut pipeline)?;
+        self.pattern.append_to(alloc, b"PSUBSCRIBE", &mut pipeline)?;
         Ok(pipeline)
     }
 
