@@ -55,6 +55,13 @@ impl Cmd {
         self.no_response
     }
 
+    /// The arguments in order, the first of which is the name.
+    pub fn args(&self) -> &[Bytes]
+        ensures { result.now ≡ self.now.args }
+    {
+        self.args.as_slice()
+    }
+
     /// The bytes of the command. Without a name there are none.
     pub fn get_packed_command(&self, alloc: Global) -> Result<Bytes, AllocError>
         ensures { IfOk result (λ packed. packed ≡ pack self.now.args) }

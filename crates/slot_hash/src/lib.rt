@@ -1,0 +1,12 @@
+//! The slot of a key, and the addresses of nodes.
+#![tactic(auto)]
+
+mod address;
+mod reading;
+mod slot;
+mod table;
+#[cfg(test)]
+mod tests;
+
+pub use address::{AddressError, NodeAddress};
+pub use slot::key_slot;
