@@ -1,3 +1,4 @@
 pub mod Command
 pub mod Pack
 pub mod Canonical
+pub mod Lent

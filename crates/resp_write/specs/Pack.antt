@@ -1,6 +1,7 @@
 -- Commands as bytes, as a server reads them.
-use Rattle.std.specs.Prelude.{ℕ, List, [], ◌∷◌, ◌++◌, length, decimal, flat_map}
+use Rattle.std.specs.Prelude.{ℕ, Bool, true, false, List, [], ◌∷◌, ◌++◌, length, decimal, flat_map, codes}
 use Rattle.std.specs.Str.{byte}
+use Rattle.resp_write.specs.Command.{Command, CommandList}
 
 -- what ends a line: CR LF
 abbrev pub crlf : List ℕ
@@ -26,3 +27,21 @@ bulk_string text = sized_text (byte "$") text
 abbrev pub pack : List (List ℕ) → List ℕ
 pack [] = []
 pack (name ∷ rest) = number_line (byte "*") (length (name ∷ rest)) ++ flat_map bulk_string (name ∷ rest)
+
+-- commands one after another
+abbrev pub pack_each : List Command → List ℕ
+pack_each [] = []
+pack_each (c ∷ cs) = pack c.args ++ pack_each cs
+
+-- the same as a transaction, or not: with MULTI before them and EXEC after
+abbrev pub pack_framed : Bool → List Command → List ℕ
+pack_framed false cs = pack_each cs
+pack_framed true cs = pack (codes "MULTI" ∷ []) ++ (pack_each cs ++ pack (codes "EXEC" ∷ []))
+
+-- a pipeline; without commands, no bytes, atomic or not
+abbrev pub pack_commands : Bool → List Command → List ℕ
+pack_commands atomic [] = []
+pack_commands atomic (c ∷ cs) = pack_framed atomic (c ∷ cs)
+
+abbrev pub pack_pipeline : CommandList → List ℕ
+pack_pipeline p = pack_commands p.atomic p.commands

@@ -1,17 +1,25 @@
 //! Commands as bytes, and the canonical text of values.
 #![tactic(auto)]
 
+mod arguments;
 mod command;
 mod lines;
 mod named;
 mod pack;
 mod parts;
+mod pipeline;
 mod value_text;
 
-pub use command::Cmd;
+pub use arguments::ToRedisArgs;
+pub use command::{ArgsIter, Cmd};
 pub use named::cmd;
 pub use pack::pack_names;
+pub use pipeline::{CmdIter, Pipeline, pipe};
 pub use value_text::{canonical_text, write_value};
 
+#[cfg(test)]
+mod arguments_tests;
+#[cfg(test)]
+mod pipeline_tests;
 #[cfg(test)]
 mod tests;

@@ -1,12 +1,13 @@
-ghost use Rattle.std.specs.Prelude.{◌≡◌, ◌++◌, OnOk, IfOk};
-ghost use Rattle.resp_write.specs.Pack.{pack};
+ghost use Rattle.std.specs.Prelude.{◌≡◌, ◌++◌, ◌∷◌, [], OnOk, IfOk};
+ghost use Rattle.resp_write.specs.Pack.{pack, pack_commands, pack_each};
 
+use crate::command::Cmd;
 use crate::lines::{push_bulk_string, push_number_line};
 use containers::{Bytes, Names};
 use std::alloc::{AllocError, Global};
 
 /// Appends a command of these arguments.
-fn push_command(out: &mut Bytes, args: &[Bytes]) -> Result<(), AllocError>
+pub fn push_command(out: &mut Bytes, args: &[Bytes]) -> Result<(), AllocError>
     ensures { OnOk result (out.new ≡ out.old ++ pack args.now) }
 {
     if args.is_empty() {
@@ -26,4 +27,37 @@ pub fn pack_names(alloc: Global, args: &Names) -> Result<Bytes, AllocError>
     let mut out = Bytes::new(alloc);
     push_command(&mut out, args.as_slice())?;
     Ok(out)
+}
+
+/// Appends a command of one word.
+fn push_word(out: &mut Bytes, word: &[u8]) -> Result<(), AllocError>
+    ensures { OnOk result (out.new ≡ out.old ++ pack (word.now ∷ [])) }
+{
+    push_number_line(out, b'*', 1)?;
+    push_bulk_string(out, word)
+}
+
+/// Appends commands one after another.
+fn push_each(out: &mut Bytes, commands: &[Cmd]) -> Result<(), AllocError>
+    ensures { OnOk result (out.new ≡ out.old ++ pack_each commands.now) }
+{
+    for command in commands {
+        command.append_packed(out)?;
+    }
+    Ok(())
+}
+
+/// Appends a pipeline of these commands, as a transaction or not.
+pub fn push_commands(out: &mut Bytes, atomic: bool, commands: &[Cmd]) -> Result<(), AllocError>
+    ensures { OnOk result (out.new ≡ out.old ++ pack_commands atomic commands.now) }
+{
+    if commands.is_empty() {
+        return Ok(());
+    }
+    if !atomic {
+        return push_each(out, commands);
+    }
+    push_word(out, b"MULTI")?;
+    push_each(out, commands)?;
+    push_word(out, b"EXEC")
 }

@@ -1,0 +1,55 @@
+ghost use Rattle.std.specs.Prelude.{◌≡◌, ◌∷◌, [], ℕ, List, OnOk, OnErr};
+ghost use Rattle.std.specs.Fmt.{signed_decimal};
+ghost use Rattle.resp_write.specs.Command.{with_args};
+
+use crate::command::Cmd;
+use containers::Names;
+use itoa::Buffer;
+use std::alloc::{AllocError, Global};
+
+/// What becomes arguments of a command.
+pub trait ToRedisArgs {
+    ghost args_of: { Self → List (List ℕ) };
+
+    /// Appends the arguments. An error leaves the command as it was.
+    fn write_redis_args(&self, alloc: Global, cmd: &mut Cmd) -> Result<(), AllocError>
+        ensures ok { OnOk result (cmd.new ≡ with_args cmd.old (args_of self.now)) }
+        ensures err { OnErr result (cmd.new ≡ cmd.old) };
+}
+
+/// The bytes are one argument.
+impl<'a> ToRedisArgs for &'a [u8] {
+    ghost args_of = { λ bytes. bytes.now ∷ [] };
+
+    fn write_redis_args(&self, alloc: Global, cmd: &mut Cmd) -> Result<(), AllocError> {
+        cmd.arg(alloc, self)
+    }
+}
+
+/// The text is one argument.
+impl<'a> ToRedisArgs for &'a str {
+    ghost args_of = { λ text. text.now ∷ [] };
+
+    fn write_redis_args(&self, alloc: Global, cmd: &mut Cmd) -> Result<(), AllocError> {
+        cmd.arg(alloc, self.as_bytes())
+    }
+}
+
+/// A number is one argument, its decimal digits, with a sign where it is below 0.
+impl ToRedisArgs for i64 {
+    ghost args_of = { λ number. signed_decimal number ∷ [] };
+
+    fn write_redis_args(&self, alloc: Global, cmd: &mut Cmd) -> Result<(), AllocError> {
+        let mut digits = Buffer::new();
+        cmd.arg(alloc, digits.format(*self).as_bytes())
+    }
+}
+
+/// Each name is an argument, in order.
+impl ToRedisArgs for Names {
+    ghost args_of = { λ names. names };
+
+    fn write_redis_args(&self, alloc: Global, cmd: &mut Cmd) -> Result<(), AllocError> {
+        cmd.append_args(alloc, self.as_slice())
+    }
+}
