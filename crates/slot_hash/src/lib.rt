@@ -9,4 +9,5 @@ mod table;
 mod tests;
 
 pub use address::{AddressError, NodeAddress};
+pub use reading::is_text;
 pub use slot::key_slot;

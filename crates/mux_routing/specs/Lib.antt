@@ -1,0 +1,4 @@
+pub mod Reply
+pub mod Routes
+pub mod Shards
+pub mod Strategies

@@ -1,0 +1,17 @@
+//! Where a cluster's commands go: addresses, slots and the routes of commands, and the map of a server's slots.
+#![tactic(auto)]
+
+mod parsing;
+mod pipeline;
+mod rows;
+mod strategy;
+
+pub use command_table::{
+    KeyIndices, MultipleNodeRoutingInfo, ResponsePolicy, Route, RoutingInfo, SingleNodeRoutingInfo,
+    SlotAddr, SlotParts, command_for_multi_slot_indices,
+};
+pub use parsing::parse_slots;
+pub use pipeline::{RouteError, route_for_pipeline};
+pub use rows::{SlotRow, SlotRows, SlotsError};
+pub use slot_hash::{AddressError, NodeAddress, key_slot};
+pub use strategy::{ReadRoutingStrategy, ReadStrategy};
