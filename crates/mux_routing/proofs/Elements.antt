@@ -1,7 +1,7 @@
 -- What is told by the elements of an array, one after another.
 use Rattle.std.proofs.Common.{◌≡◌, List, [], ◌∷◌, ◌++◌, Option, Some, None, refl, ap, append_assoc}
 use Rattle.resp_value.specs.Data.{Data, items_of, list_of}
-use Rattle.mux_routing.specs.Reply.{added, all_told}
+use Rattle.mux_routing.specs.Reply.{added}
 
 pub of_array : (ds : List Data) → list_of (items_of ds) ≡ ds
 of_array [] = refl

@@ -1,3 +1,4 @@
+pub mod Entries
 pub mod Reply
 pub mod Routes
 pub mod Shards

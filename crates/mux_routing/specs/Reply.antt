@@ -1,7 +1,7 @@
 -- The rows of slots in a reply to CLUSTER SLOTS.
-use Rattle.std.specs.Prelude.{ℕ, ◌+◌, ◌==◌, ◌||◌, ◌&&◌, nat_le, nat_lt, pos, negsuc, Bool, true, List, [], ◌∷◌, length, Option, Some, None, option_map, codes, if◌then◌else◌}
+use Rattle.std.specs.Prelude.{ℕ, ◌+◌, ◌==◌, ◌||◌, ◌&&◌, nat_le, nat_lt, pos, Bool, true, List, [], ◌∷◌, length, Option, Some, None, option_map, codes, if◌then◌else◌}
 use Rattle.std.specs.Str.{is_utf8, bytes_eq}
-use Rattle.resp_value.specs.Data.{Data, nil, int, bulk, array, simple, okay, dict, attribute, set, double, boolean, verbatim, big, push, error, list_of}
+use Rattle.resp_value.specs.Data.{Data, nil, int, bulk, array, simple, okay, list_of}
 use Rattle.slot_hash.specs.declared.address.NodeAddress.{NodeAddress}
 use Rattle.mux_routing.specs.declared.rows.SlotRow.{SlotRow}
 

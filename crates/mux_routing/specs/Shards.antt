@@ -1,5 +1,5 @@
 -- What a map of slots answers, by the rows that it was made from.
-use Rattle.std.specs.Prelude.{ℕ, zero, suc, ◌-◌, ◌==◌, ◌||◌, ◌&&◌, nat_le, nat_lt, Bool, true, false, List, [], ◌∷◌, ◌++◌, map, length, Option, Some, None, option_map, unwrap_or, slice_get, if◌then◌else◌}
+use Rattle.std.specs.Prelude.{ℕ, zero, suc, ◌==◌, ◌||◌, ◌&&◌, nat_le, nat_lt, Bool, true, false, List, [], ◌∷◌, ◌++◌, map, length, Option, Some, None, option_map, unwrap_or, slice_get, if◌then◌else◌}
 use Rattle.std.specs.Str.{bytes_eq}
 use Rattle.slot_hash.specs.declared.address.NodeAddress.{NodeAddress}
 use Rattle.command_table.specs.declared.routing.SlotAddr.{SlotAddr}
@@ -87,6 +87,10 @@ may_pick ReplicaRequired = true
 abbrev pub asks : SlotAddr → Option Shard → Bool
 asks addr None = false
 asks addr (Some shard) = may_pick addr && nat_lt 0 (length shard.replicas)
+
+abbrev pub replica_count : Option Shard → ℕ
+replica_count None = 0
+replica_count (Some shard) = length shard.replicas
 
 -- the other nodes of a shard that may stand in
 abbrev pub fallbacks_in : SlotAddr → Option Shard → List ℕ

@@ -1,3 +1,5 @@
+ghost use Rattle.std.specs.Prelude.{◌≡◌, IfOk};
+
 use containers::Seq;
 use slot_hash::NodeAddress;
 use std::alloc::{AllocError, Global};
@@ -34,8 +36,6 @@ impl From<AllocError> for SlotsError {
 }
 
 impl SlotRow {
-    ghost use Rattle.std.specs.Prelude.{◌≡◌, IfOk};
-
     /// An equal value of its own.
     pub fn clone(&self, alloc: Global) -> Result<SlotRow, AllocError>
         ensures { IfOk result (λ r. r ≡ self.now) }
@@ -52,4 +52,15 @@ impl SlotRow {
             replicas,
         })
     }
+}
+
+/// Copies of rows.
+pub fn copies_of(alloc: Global, rows: &[SlotRow]) -> Result<SlotRows, AllocError>
+    ensures { IfOk result (λ copies. copies ≡ rows.now) }
+{
+    let mut copies = Seq::new(alloc);
+    for row in rows {
+        copies.push(row.clone(alloc)?)?;
+    }
+    Ok(copies)
 }
