@@ -1,3 +1,0 @@
-mod Placing
-mod Choosing
-mod Rows

@@ -1,5 +1,0 @@
-pub mod Commands
-pub mod Lookup
-pub mod Parts
-pub mod Routing
-pub mod Selection

@@ -1,5 +1,0 @@
-mod Agreeing
-mod Elements
-mod Inserting
-mod Owning
-mod Ranges

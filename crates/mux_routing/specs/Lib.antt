@@ -1,5 +1,0 @@
-pub mod Entries
-pub mod Reply
-pub mod Routes
-pub mod Shards
-pub mod Strategies

@@ -1,3 +1,0 @@
-mod Register
-mod Entries
-mod Text
