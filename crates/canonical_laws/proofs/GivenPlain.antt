@@ -10,11 +10,11 @@ use Rattle.canonical_laws.specs.Readable.{has_space, IsLine, IsLong, IsPlain}
 use Rattle.canonical_laws.proofs.Held.{IfRead, held_if, held_then, held_map, held_line, some_is, natural_fits, IsBetween, held_count, HasLength, held_body}
 
 -- what an option is made into
-mapped : {A B : Type 0} (P : B → Type 0) (f : A → B) (o : Option A) (b : B) → ((a : A) → o ≡ Some a → P (f a)) → option_map f o ≡ Some b → P b
+pub mapped : {A B : Type 0} (P : B → Type 0) (f : A → B) (o : Option A) (b : B) → ((a : A) → o ≡ Some a → P (f a)) → option_map f o ≡ Some b → P b
 mapped P f (Some a) b h e = subst P (some_is (f a) b e) (h a refl)
 mapped P f None b h e = cc
 
-where_test : {A : Type 0} (P : A → Type 0) (c : Bool) (a b : A) → (c ≡ true → P a) → cond c (Some a) None ≡ Some b → P b
+pub where_test : {A : Type 0} (P : A → Type 0) (c : Bool) (a b : A) → (c ≡ true → P a) → cond c (Some a) None ≡ Some b → P b
 where_test P true a b h e = subst P (some_is a b e) (h refl)
 where_test P false a b h e = cc
 
@@ -31,7 +31,7 @@ words_by : (c : Bool) (b : ℕ) (bs : List ℕ) → (b == 32) ≡ c → before_s
 words_by true b bs is h = let e : b ≡ 32 = grind (arith, nat_tests) in ap (λ x. x ∷ bs) (sym e)
 words_by false b bs is h = ap (λ x. b ∷ x) h
 
-words_back : (l : List ℕ) → before_space l ++ detail_text (after_space l) ≡ l
+pub words_back : (l : List ℕ) → before_space l ++ detail_text (after_space l) ≡ l
 words_back [] = refl
 words_back (b ∷ bs) = words_by (b == 32) b bs refl (words_back bs)
 

@@ -118,7 +118,7 @@ module _ (P : List ℕ → Type 0) (t : List ℕ) (h : P t) where
   held_fed [] = tt
   held_fed (b ∷ bs) = held_if P (b == 10) (read t bs) bad h tt
 
-  held_closed : (bs : List ℕ) → IfRead P (closed t bs)
+  pub held_closed : (bs : List ℕ) → IfRead P (closed t bs)
   held_closed [] = tt
   held_closed (b ∷ bs) = held_if P (b == 13) (fed t bs) bad (held_fed bs) tt
 

@@ -5,3 +5,6 @@ pub mod Same
 pub mod Held
 pub mod GivenPlain
 pub mod Given
+pub mod Exact
+pub mod Spelled
+pub mod ShortTexts

@@ -15,7 +15,7 @@ use Rattle.canonical_laws.specs.Readable.{has_return, IsLine}
 line_step : (b : ℕ) (bs : List ℕ) → (b == 13) ≡ false → line (b ∷ bs) ≡ byte_before b (line bs)
 line_step b bs e = rw e refl
 
-line_whole : (l rest : List ℕ) → has_return l ≡ false → line (l ++ 13 ∷ 10 ∷ rest) ≡ ended l rest
+pub line_whole : (l rest : List ℕ) → has_return l ≡ false → line (l ++ 13 ∷ 10 ∷ rest) ≡ ended l rest
 line_whole [] rest h = refl
 line_whole (b ∷ l) rest h =
     let n = neither (b == 13) (has_return l) h in

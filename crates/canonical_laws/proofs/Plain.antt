@@ -64,7 +64,7 @@ detail_back (b ∷ code) detail h =
     let n = neither (b == 32) (has_space code) h in
     detail_step b (code ++ detail_text detail) n.0 ∙ detail_back code detail n.1
 
-error_back : (e : ServerError) → has_space e.code ≡ false → error_of (error_words e) ≡ error e
+pub error_back : (e : ServerError) → has_space e.code ≡ false → error_of (error_words e) ≡ error e
 error_back e h = λ i. error (record { code = code_back e.code e.detail h i; detail = detail_back e.code e.detail h i })
 
 no_return_by : (x y z w : Bool) → (x || y || z) ≡ false → (z ≡ false → w ≡ false) → (x || w) ≡ false
@@ -72,7 +72,7 @@ no_return_by true y z w h k = cc
 no_return_by false true z w h k = cc
 no_return_by false false z w h k = k h
 
-no_return : (text : List ℕ) → breaks_line text ≡ false → has_return text ≡ false
+pub no_return : (text : List ℕ) → breaks_line text ≡ false → has_return text ≡ false
 no_return [] h = refl
 no_return (b ∷ bs) h = no_return_by (b == 13) (b == 10) (breaks_line bs) (has_return bs) h (no_return bs)
 
@@ -87,7 +87,7 @@ module _ (more : Table) (rest : List ℕ) where
       ∙ ap (found_and_then bulk_of) (length_read max_bulk (length text) ((text ++ crlf) ++ rest) (omega (arith, fit)) fit)
       ∙ ap (found_map bulk) (text_read text rest)
 
-  bulk_error_back : (text : List ℕ) → length text ≤ max_bulk → form more (sized_text 33 text ++ rest) ≡ read (error_of text) rest
+  pub bulk_error_back : (text : List ℕ) → length text ≤ max_bulk → form more (sized_text 33 text ++ rest) ≡ read (error_of text) rest
   bulk_error_back text fit =
       ap (form more) (sized_shape 33 text rest)
       ∙ ap (found_and_then error_body) (count_read 0 max_bulk (length text) ((text ++ crlf) ++ rest) (omega (arith, fit)) (omega arith) fit)

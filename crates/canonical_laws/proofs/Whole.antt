@@ -16,7 +16,7 @@ use Rattle.canonical_laws.proofs.Lines.{count_read}
 use Rattle.canonical_laws.proofs.Plain.{plain_read}
 
 -- the kind of a push
-kind_back : (k : PushKind) → IsReadKind k → kind_of (kind_text k) ≡ k
+pub kind_back : (k : PushKind) → IsReadKind k → kind_of (kind_text k) ≡ k
 unfolding kind_of
 kind_back (Other text) h = ap (λ o. kind_or o text) h.0
 kind_back Invalidate h = refl
@@ -55,6 +55,32 @@ kind_read text rest fit =
 line_first : (first n : ℕ) (more rest : List ℕ) → (number_line first n ++ more) ++ rest ≡ first ∷ (decimal n ++ 13 ∷ 10 ∷ (more ++ rest))
 line_first first n more rest = append_assoc (number_line first n) more rest ∙ line_shape first n (more ++ rest)
 
+-- what is read behind the line of a count, where these bytes follow it
+module _ (inside : List ℕ → Found Data) (n : ℕ) (more rest : List ℕ) where
+  pub array_steps : n ≤ max_count → form (nested inside) ((number_line 42 n ++ more) ++ rest) ≡ found_map (λ es. array (items_of es)) (repeated inside n (more ++ rest))
+  array_steps fit = ap (form (nested inside)) (line_first 42 n more rest) ∙ ap (found_and_then (array_of inside)) (length_read max_count n (more ++ rest) (omega (arith, fit)) fit)
+
+  pub set_steps : n ≤ max_count → form (nested inside) ((number_line 126 n ++ more) ++ rest) ≡ found_map (λ es. set (items_of es)) (repeated inside n (more ++ rest))
+  set_steps fit = ap (form (nested inside)) (line_first 126 n more rest) ∙ ap (found_and_then (set_of inside)) (count_read 0 max_count n (more ++ rest) (omega (arith, fit)) (omega arith) fit)
+
+  pub dict_steps : n ≤ max_count → form (nested inside) ((number_line 37 n ++ more) ++ rest) ≡ found_map (λ ps. dict (members_of ps)) (repeated (pair inside) n (more ++ rest))
+  dict_steps fit = ap (form (nested inside)) (line_first 37 n more rest) ∙ ap (found_and_then (map_of inside)) (count_read 0 max_count n (more ++ rest) (omega (arith, fit)) (omega arith) fit)
+
+  pub attribute_steps : (held : List ℕ) → n ≤ max_count → form (nested inside) (((number_line 124 n ++ more) ++ held) ++ rest) ≡ found_and_then (attributed inside) (repeated (pair inside) n (more ++ (held ++ rest)))
+  attribute_steps held fit =
+      ap (form (nested inside)) (append_assoc (number_line 124 n ++ more) held rest ∙ line_first 124 n more (held ++ rest))
+      ∙ ap (found_and_then (attribute_of inside)) (count_read 0 max_count n (more ++ (held ++ rest)) (omega (arith, fit)) (omega arith) fit)
+
+  pub push_steps : (k : PushKind) → IsReadKind k → suc n ≤ max_count → form (nested inside) (((number_line 62 (suc n) ++ bulk_string (kind_text k)) ++ more) ++ rest) ≡ found_map (λ es. push (kind_of (kind_text k)) (items_of es)) (repeated inside n (more ++ rest))
+  push_steps k is fit =
+      let text = kind_text k in
+      let others = more ++ rest in
+      let one : suc n - 1 ≡ n = omega arith in
+      ap (form (nested inside)) (append_assoc (number_line 62 (suc n) ++ bulk_string text) more rest ∙ line_first 62 (suc n) (bulk_string text) others)
+      ∙ ap (found_and_then (push_of inside)) (count_read 1 max_count (suc n) (bulk_string text ++ others) (omega (arith, fit)) (omega arith) fit)
+      ∙ ap (found_and_then (push_with inside (suc n))) (kind_read text others (kind_fits k is))
+      ∙ ap (λ m. found_map (λ es. push (kind_of text) (items_of es)) (repeated inside m others)) one
+
 module _ (inside : List ℕ → Found Data) (P : Data → Type 0) (back : (v : Data) → P v → HasShortErrors v → (rest : List ℕ) → inside (canonical v ++ rest) ≡ read v rest) where
   items_read : (ds : Items) → EachItem P ds → EachShort ds → (rest : List ℕ) → repeated inside (length (list_of ds)) (each_item ds ++ rest) ≡ read (list_of ds) rest
   items_read no_items h k rest = refl
@@ -63,11 +89,11 @@ module _ (inside : List ℕ → Found Data) (P : Data → Type 0) (back : (v : D
       ap (repeated inside (suc (length (list_of ds)))) (append_assoc (canonical d) (each_item ds) rest)
       ∙ first_then inside (length (list_of ds)) (canonical d ++ others) others rest d (list_of ds) (back d h.0 k.0 others) (items_read ds h.1 k.1 rest)
 
-  pair_read : (key d : Data) (rest : List ℕ) → P key → P d → HasShortErrors key → HasShortErrors d → pair inside (canonical key ++ (canonical d ++ rest)) ≡ read (key, d) rest
+  pub pair_read : (key d : Data) (rest : List ℕ) → P key → P d → HasShortErrors key → HasShortErrors d → pair inside (canonical key ++ (canonical d ++ rest)) ≡ read (key, d) rest
   pair_read key d rest h k s t =
       ap (found_and_then (λ a r. found_map (λ v. (a, v)) (inside r))) (back key h s (canonical d ++ rest)) ∙ ap (found_map (λ v. (key, v))) (back d k t rest)
 
-  members_read : (ms : Members) → EachMember P ms → EachPairShort ms → (rest : List ℕ) → repeated (pair inside) (length (pairs_of ms)) (each_member ms ++ rest) ≡ read (pairs_of ms) rest
+  pub members_read : (ms : Members) → EachMember P ms → EachPairShort ms → (rest : List ℕ) → repeated (pair inside) (length (pairs_of ms)) (each_member ms ++ rest) ≡ read (pairs_of ms) rest
   members_read no_members h k rest = refl
   members_read (member key d ms) h k rest =
       let others = each_member ms ++ rest in
@@ -76,60 +102,20 @@ module _ (inside : List ℕ → Found Data) (P : Data → Type 0) (back : (v : D
       ap (repeated (pair inside) (suc (length (pairs_of ms)))) shape
       ∙ first_then (pair inside) (length (pairs_of ms)) (canonical key ++ (canonical d ++ others)) others rest (key, d) (pairs_of ms) (pair_read key d others h.0 h.1 k.0 k.1) (members_read ms h.2 k.2 rest)
 
-  array_read : (ds : Items) → length (list_of ds) ≤ max_count → EachItem P ds → EachShort ds → (rest : List ℕ) → form (nested inside) (canonical (array ds) ++ rest) ≡ read (array ds) rest
-  array_read ds fit h k rest =
-      let n = length (list_of ds) in
-      ap (form (nested inside)) (line_first 42 n (each_item ds) rest)
-      ∙ ap (found_and_then (array_of inside)) (length_read max_count n (each_item ds ++ rest) (omega (arith, fit)) fit)
-      ∙ ap (found_map (λ es. array (items_of es))) (items_read ds h k rest)
-      ∙ ap (λ d. read d rest) (data_of-value_of (array ds))
-
-  set_read : (ds : Items) → length (list_of ds) ≤ max_count → EachItem P ds → EachShort ds → (rest : List ℕ) → form (nested inside) (canonical (set ds) ++ rest) ≡ read (set ds) rest
-  set_read ds fit h k rest =
-      let n = length (list_of ds) in
-      ap (form (nested inside)) (line_first 126 n (each_item ds) rest)
-      ∙ ap (found_and_then (set_of inside)) (count_read 0 max_count n (each_item ds ++ rest) (omega (arith, fit)) (omega arith) fit)
-      ∙ ap (found_map (λ es. set (items_of es))) (items_read ds h k rest)
-      ∙ ap (λ d. read d rest) (data_of-value_of (set ds))
-
-  dict_read : (ms : Members) → length (pairs_of ms) ≤ max_count → EachMember P ms → EachPairShort ms → (rest : List ℕ) → form (nested inside) (canonical (dict ms) ++ rest) ≡ read (dict ms) rest
-  dict_read ms fit h k rest =
-      let n = length (pairs_of ms) in
-      ap (form (nested inside)) (line_first 37 n (each_member ms) rest)
-      ∙ ap (found_and_then (map_of inside)) (count_read 0 max_count n (each_member ms ++ rest) (omega (arith, fit)) (omega arith) fit)
-      ∙ ap (found_map (λ ps. dict (members_of ps))) (members_read ms h k rest)
-      ∙ ap (λ d. read d rest) (data_of-value_of (dict ms))
-
-  attribute_read : (d : Data) (ms : Members) → P d → length (pairs_of ms) ≤ max_count → EachMember P ms → HasShortErrors d → EachPairShort ms → (rest : List ℕ) → form (nested inside) (canonical (attribute d ms) ++ rest) ≡ read (attribute d ms) rest
-  attribute_read d ms one fit h s k rest =
-      let n = length (pairs_of ms) in
-      let held = canonical d ++ rest in
-      ap (form (nested inside)) (append_assoc (number_line 124 n ++ each_member ms) (canonical d) rest ∙ line_first 124 n (each_member ms) held)
-      ∙ ap (found_and_then (attribute_of inside)) (count_read 0 max_count n (each_member ms ++ held) (omega (arith, fit)) (omega arith) fit)
-      ∙ ap (found_and_then (attributed inside)) (members_read ms h k held)
-      ∙ ap (found_map (λ v. attribute v (members_of (pairs_of ms)))) (back d one s rest)
-      ∙ ap (λ v. read v rest) (data_of-value_of (attribute d ms))
-
-  push_read : (k : PushKind) (ds : Items) → IsReadKind k → suc (length (list_of ds)) ≤ max_count → EachItem P ds → EachShort ds → (rest : List ℕ) → form (nested inside) (canonical (push k ds) ++ rest) ≡ read (push k ds) rest
-  push_read k ds is fit h s rest =
-      let n = length (list_of ds) in
-      let text = kind_text k in
-      let others = each_item ds ++ rest in
-      let one : suc n - 1 ≡ n = omega arith in
-      ap (form (nested inside)) (append_assoc (number_line 62 (suc n) ++ bulk_string text) (each_item ds) rest ∙ line_first 62 (suc n) (bulk_string text) others)
-      ∙ ap (found_and_then (push_of inside)) (count_read 1 max_count (suc n) (bulk_string text ++ others) (omega (arith, fit)) (omega arith) fit)
-      ∙ ap (found_and_then (push_with inside (suc n))) (kind_read text others (kind_fits k is))
-      ∙ ap (λ m. found_map (λ es. push (kind_of text) (items_of es)) (repeated inside m others)) one
-      ∙ ap (found_map (λ es. push (kind_of text) (items_of es))) (items_read ds h s rest)
-      ∙ ap (λ x. read (push x (items_of (list_of ds))) rest) (kind_back k is)
-      ∙ ap (λ v. read v rest) (data_of-value_of (push k ds))
-
   over_read : (v : Data) → IsOver P v → HasShortErrors v → (rest : List ℕ) → form (nested inside) (canonical v ++ rest) ≡ read v rest
-  over_read (array ds) h k rest = array_read ds h.0 h.1 k rest
-  over_read (set ds) h k rest = set_read ds h.0 h.1 k rest
-  over_read (dict ms) h k rest = dict_read ms h.0 h.1 k rest
-  over_read (attribute d ms) h k rest = attribute_read d ms h.0 h.1 h.2 k.0 k.1 rest
-  over_read (push kind ds) h k rest = push_read kind ds h.0 h.1 h.2 k rest
+  over_read (array ds) h k rest = array_steps inside (length (list_of ds)) (each_item ds) rest h.0 ∙ ap (found_map (λ es. array (items_of es))) (items_read ds h.1 k rest) ∙ ap (λ d. read d rest) (data_of-value_of (array ds))
+  over_read (set ds) h k rest = set_steps inside (length (list_of ds)) (each_item ds) rest h.0 ∙ ap (found_map (λ es. set (items_of es))) (items_read ds h.1 k rest) ∙ ap (λ d. read d rest) (data_of-value_of (set ds))
+  over_read (dict ms) h k rest = dict_steps inside (length (pairs_of ms)) (each_member ms) rest h.0 ∙ ap (found_map (λ ps. dict (members_of ps))) (members_read ms h.1 k rest) ∙ ap (λ d. read d rest) (data_of-value_of (dict ms))
+  over_read (attribute d ms) h k rest =
+      attribute_steps inside (length (pairs_of ms)) (each_member ms) rest (canonical d) h.1
+      ∙ ap (found_and_then (attributed inside)) (members_read ms h.2 k.1 (canonical d ++ rest))
+      ∙ ap (found_map (λ v. attribute v (members_of (pairs_of ms)))) (back d h.0 k.0 rest)
+      ∙ ap (λ v. read v rest) (data_of-value_of (attribute d ms))
+  over_read (push kind ds) h k rest =
+      push_steps inside (length (list_of ds)) (each_item ds) rest kind h.0 h.1
+      ∙ ap (found_map (λ es. push (kind_of (kind_text kind)) (items_of es))) (items_read ds h.2 k rest)
+      ∙ ap (λ x. read (push x (items_of (list_of ds))) rest) (kind_back kind h.0)
+      ∙ ap (λ v. read v rest) (data_of-value_of (push kind ds))
   over_read v h k rest = plain_read (nested inside) v h k rest
 
 pub value_read : (depth : ℕ) (v : Data) → IsValue depth v → HasShortErrors v → (rest : List ℕ) → parse depth (canonical v ++ rest) ≡ read v rest

@@ -1,18 +1,19 @@
 //! The laws of canonical texts: a value's text is read back as that value.
 #![tactic(auto)]
 
-ghost use Rattle.std.specs.Prelude.{◌≡◌, ℕ, List, ◌++◌};
+ghost use Rattle.std.specs.Prelude.{◌≡◌, ℕ, ◌≤◌, List, [], ◌++◌, length};
 ghost use Rattle.resp_value.specs.Data.{Data};
-ghost use Rattle.resp_read.specs.Grammar.{read, parse, max_depth};
+ghost use Rattle.resp_read.specs.Grammar.{read, parse, max_line, max_depth};
 ghost use Rattle.resp_read.specs.Reads.{Reads};
 ghost use Rattle.resp_write.specs.Canonical.{canonical};
 ghost use Rattle.canonical_laws.specs.Readable.{IsValue, HasShortErrors, IsReadable};
 
 /// Does nothing. Its contract: whatever follows the canonical text of a readable value, that value stands at the front,
-/// and what follows is left.
+/// and what follows is left; and no other value is read back.
 pub fn a_canonical_text_is_read_back()
     ensures at_depth { (depth : ℕ) (v : Data) (rest : List ℕ) → IsReadable depth v → parse depth (canonical v ++ rest) ≡ read v rest }
     ensures reads { (v : Data) (rest : List ℕ) → IsReadable max_depth v → Reads (canonical v ++ rest) v rest }
+    ensures no_other { (v : Data) (rest left : List ℕ) → Reads (canonical v ++ rest) v left → IsReadable max_depth v }
 {}
 
 /// Does nothing. Its contract: values that are not the same have not the same canonical text, not even where other bytes
@@ -22,10 +23,13 @@ pub fn different_values_have_different_texts()
     ensures followed { (v w : Data) (rest others : List ℕ) → IsReadable max_depth v → IsReadable max_depth w → canonical v ++ rest ≡ canonical w ++ others → (v ≡ w) × (rest ≡ others) }
 {}
 
-/// Does nothing. Its contract: what was read is a value within the limits, and readable where none of its errors outgrows
-/// a line; so what was read, shown and read again is the same value.
+/// Does nothing. Its contract: what is read from some text is exactly a value within the limits, and it is readable where
+/// none of its errors outgrows a line; so what was read, shown and read again is the same value. A text that is
+/// no longer than a line has no such error.
 pub fn a_value_that_was_read_is_readable()
     ensures value { (bytes : List ℕ) (v : Data) (rest : List ℕ) → Reads bytes v rest → IsValue max_depth v }
+    ensures from_some_text { (v : Data) → IsValue max_depth v → (bytes : List ℕ) × Reads bytes v [] }
     ensures readable { (bytes : List ℕ) (v : Data) (rest : List ℕ) → Reads bytes v rest → HasShortErrors v → IsReadable max_depth v }
     ensures read_again { (bytes : List ℕ) (v : Data) (rest more : List ℕ) → Reads bytes v rest → HasShortErrors v → Reads (canonical v ++ more) v more }
+    ensures short_text { (bytes : List ℕ) (v : Data) (rest more : List ℕ) → length bytes ≤ max_line → Reads bytes v rest → Reads (canonical v ++ more) v more }
 {}

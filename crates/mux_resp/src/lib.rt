@@ -2,6 +2,7 @@
 #![tactic(auto)]
 
 pub use containers::{Bytes, Names};
+pub use resp_convert::{ConvertError, FromRedisValue};
 pub use resp_read::{ReadError, Reader};
 pub use resp_value::{
     ErrorKind, Inner, Pairs, PushKind, Redirection, RedisError, RetryMethod, ServerError,

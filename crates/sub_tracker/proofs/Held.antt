@@ -14,7 +14,7 @@ use Rattle.sub_tracker.specs.Pipeline.{resubscription, Resubscribes}
 use Rattle.sub_tracker.proofs.Order.{has, sorted_inserted, sorted_removed, has_inserted, has_removed}
 
 -- the two tests for equal names agree
-same_test : (name : List ℕ) (names : List (List ℕ)) → is_among name names ≡ has nat_list_cmp_total name names
+pub same_test : (name : List ℕ) (names : List (List ℕ)) → is_among name names ≡ has nat_list_cmp_total name names
 same_test name names = λ i. list_any (λ other. texts_ties name other i) names
 
 among_inserted : (name other : List ℕ) (held : List (List ℕ)) → is_among name (insert_key byte_order held other) ≡ (bytes_eq name other || is_among name held)

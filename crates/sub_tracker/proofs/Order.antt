@@ -1,5 +1,5 @@
 -- Ascending lists as sets: one more key, and one less.
-use Rattle.std.proofs.Common.{◌≡◌, Ordering, Less, Equal, Greater, Bool, true, false, ◌||◌, if◌then◌else◌, List, [], ◌∷◌, refl, sym, ap, ◌∙◌}
+use Rattle.std.proofs.Common.{◌≡◌, Ordering, Less, Equal, Greater, Bool, true, false, ◌||◌, if◌then◌else◌, List, [], ◌∷◌, refl, sym, ap, ap₂, ◌∙◌, true≢false}
 use Rattle.std.specs.Ordering.{ordering_reverse, is_eq, eq_by_cmp, match_ordering}
 use Rattle.std.specs.Cmp.{IsTotalOrder, alike_right, eq_by_cmp_equiv}
 use Rattle.std.specs.List.{AllByRecursion, list_any}
@@ -27,6 +27,12 @@ gone false h f = refl
 kept : (t k h : Bool) → (k ≡ true → t ≡ false) → (t || (if k then false else h)) ≡ (if k then false else (t || h))
 kept t true h f = ap (λ b. b || false) (f refl)
 kept t false h f = refl
+
+drop_first : (t u a b : Bool) → t ≡ u → (t ≡ true → a ≡ false) → (u ≡ true → b ≡ false) → (t || a) ≡ (u || b) → a ≡ b
+drop_first true true a b e f g h = f refl ∙ sym (g refl)
+drop_first true false a b e f g h = absurd (true≢false e)
+drop_first false true a b e f g h = absurd (true≢false (sym e))
+drop_first false false a b e f g h = h
 
 module _ {K : Type 0} {R : K → K → Ordering} (o : IsTotalOrder R) where
   abbrev Below : K → List K → Type 0
@@ -102,3 +108,27 @@ module _ {K : Type 0} {R : K → K → Ordering} (o : IsTotalOrder R) where
       by Less e h = ap (λ b. eq_by_cmp R q x || b) h ∙ kept (eq_by_cmp R q x) (eq_by_cmp R q k) (has q xs) (λ t. (eq_by_cmp_equiv o).congr q k x t ∙ ap is_eq e)
       by Equal e h = gone (eq_by_cmp R q x) (has q xs) (not_above q x xs s.0) ∙ ap (λ t. if is_eq t then false else has q (x ∷ xs)) (sym (alike_right o k x q e))
       by Greater e h = ap (λ b. eq_by_cmp R q x || b) h ∙ kept (eq_by_cmp R q x) (eq_by_cmp R q k) (has q xs) (λ t. (eq_by_cmp_equiv o).congr q k x t ∙ ap is_eq e)
+
+  none_above : (q : K) (ys : List K) → Below q ys → has q ys ≡ false
+  none_above q [] a = refl
+  none_above q (y ∷ ys) a = ap (λ r. is_eq r || has q ys) a.0 ∙ none_above q ys a.1
+
+  -- the first key of one list is not below that of the other
+  not_missing : (x y : K) (xs ys : List K) → IsStrictlySortedBy R (y ∷ ys) → ((q : K) → has q (x ∷ xs) ≡ has q (y ∷ ys)) → R x y ≡ Less → true ≡ false
+  unfolding IsStrictlySortedBy
+  not_missing x y xs ys t m e =
+      ap (λ b. b || has x xs) (sym ((eq_by_cmp_equiv o).refl x)) ∙ m x ∙ none_above x (y ∷ ys) (e, below_rest x y ys e t.0)
+
+  -- ascending lists with the same keys are the same
+  pub same_keys : ((x y : K) → eq_by_cmp R x y ≡ true → x ≡ y) → (xs ys : List K) → IsStrictlySortedBy R xs → IsStrictlySortedBy R ys → ((q : K) → has q xs ≡ has q ys) → xs ≡ ys
+  unfolding IsStrictlySortedBy
+  same_keys same [] [] s t m = refl
+  same_keys same [] (y ∷ ys) s t m = absurd (true≢false (ap (λ b. b || has y ys) (sym ((eq_by_cmp_equiv o).refl y)) ∙ sym (m y)))
+  same_keys same (x ∷ xs) [] s t m = absurd (true≢false (ap (λ b. b || has x xs) (sym ((eq_by_cmp_equiv o).refl x)) ∙ m x))
+  same_keys same (x ∷ xs) (y ∷ ys) s t m = by (R x y) refl (same_keys same xs ys s.1 t.1)
+    where
+      by : (r : Ordering) → R x y ≡ r → (((q : K) → has q xs ≡ has q ys) → xs ≡ ys) → (x ∷ xs) ≡ (y ∷ ys)
+      by Less e rest = absurd (true≢false (not_missing x y xs ys t m e))
+      by Equal e rest = ap₂ (λ z zs. z ∷ zs) (same x y (ap is_eq e))
+          (rest (λ q. drop_first (eq_by_cmp R q x) (eq_by_cmp R q y) (has q xs) (has q ys) (ap is_eq (alike_right o x y q e)) (not_above q x xs s.0) (not_above q y ys t.0) (m q)))
+      by Greater e rest = absurd (true≢false (not_missing y x ys xs s (λ q. sym (m q)) (o.antisymm y x ∙ ap ordering_reverse e)))

@@ -81,7 +81,7 @@ impl NameSet {
     }
 
     /// One more command for the names, if there are any.
-    pub fn append_command(
+    pub fn append_to(
         &self,
         alloc: Global,
         word: &[u8],

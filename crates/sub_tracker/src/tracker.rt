@@ -1,5 +1,5 @@
-ghost use Rattle.std.specs.Prelude.{◌≡◌, List, [], ◌∷◌, ◌++◌, true, false, OnOk, OnErr, IfOk, IsErr};
-ghost use Rattle.sub_tracker.specs.Subscribed.{Request};
+ghost use Rattle.std.specs.Prelude.{◌≡◌, List, [], ◌∷◌, ◌++◌, true, false, OnOk, OnErr, IfOk, IsOk, IsErr};
+ghost use Rattle.sub_tracker.specs.Subscribed.{Request, subscribes};
 ghost use Rattle.sub_tracker.specs.Held.{nothing, held_with, held_after};
 ghost use Rattle.sub_tracker.specs.Pipeline.{request_of, resubscription, Resubscribes};
 
@@ -66,7 +66,8 @@ impl SubscriptionTracker {
         action: SubscriptionAction,
         names: &Names,
     ) -> Result<(), AllocError>
-        ensures { OnOk result (self.new ≡ record { held = held_with self.old.held action names.now; failed = self.old.failed }) }
+        ensures ok { OnOk result (self.new ≡ record { held = held_with self.old.held action names.now; failed = self.old.failed }) }
+        ensures spared { subscribes action ≡ false → IsOk result }
     {
         match action {
             SubscriptionAction::Subscribe => self.plain.add_all(alloc, names),
@@ -98,6 +99,7 @@ impl SubscriptionTracker {
         ensures tracked { (history : List Request) → self.old.held ≡ held_after history → OnOk result (self.new.held ≡ held_after (history ++ (action, names.now) ∷ [])) }
         ensures err { OnErr result (self.new.failed ≡ true) }
         ensures failed { self.old.failed ≡ true → IsErr result }
+        ensures spared { subscribes action ≡ false → self.old.failed ≡ false → IsOk result }
     {
         if self.failed {
             return Err(AllocError);
@@ -116,12 +118,9 @@ impl SubscriptionTracker {
         ensures { IfOk result (λ p. p ≡ resubscription self.now.held) }
     {
         let mut pipeline = Pipeline::new(alloc);
-        self.plain
-            .append_command(alloc, b"SUBSCRIBE", &mut pipeline)?;
-        self.sharded
-            .append_command(alloc, b"SSUBSCRIBE", &mut pipeline)?;
-        self.pattern
-            .append_command(alloc, b"PSUBSCRIBE", &mut pipeline)?;
+        self.plain.append_to(alloc, b"SUBSCRIBE", &mut pipeline)?;
+        self.sharded.append_to(alloc, b"SSUBSCRIBE", &mut pipeline)?;
+        self.pattern.append_to(alloc, b"PSUBSCRIBE", &mut pipeline)?;
         Ok(pipeline)
     }
 
