@@ -1,5 +1,7 @@
 -- Where a redirect leads: its detail is a slot, one space, and an address.
-use Rattle.std.specs.Prelude.{ℕ, ◌+◌, ◌-◌, ◌*◌, Bool, true, false, ◌&&◌, ◌==◌, nat_le, nat_lt, List, [], ◌∷◌, Option, Some, None, option_and_then, codes, if◌then◌else◌}
+use Rattle.std.specs.Prelude.{◌≡◌, ℕ, ◌+◌, ◌-◌, ◌*◌, ◌<◌, Bool, true, false, ◌&&◌, ◌==◌, nat_le, nat_lt, List, [], ◌∷◌, ◌++◌, Option, Some, None, codes, if◌then◌else◌}
+use Rattle.std.specs.Str.{byte}
+use Rattle.std.specs.Str.Parse.{IsNumeral, digits_value}
 use Rattle.resp_value.specs.declared.server_error.ServerError.{ServerError}
 use Rattle.resp_value.specs.ErrorTable.{Table, by_code}
 
@@ -18,7 +20,7 @@ slots = 16_384
 abbrev pub is_digit : ℕ → Bool
 is_digit b = nat_le 48 b && nat_le b 57
 
--- the digits of a slot after those of n, and what stands behind the space after them
+-- how a place is read, byte by byte: the digits of a slot after those of n, and what stands behind the space after them
 abbrev pub slot_after : ℕ → List ℕ → Option (ℕ × List ℕ)
 slot_after n [] = None
 slot_after n (b ∷ bs) =
@@ -30,15 +32,17 @@ abbrev pub slot_and_address : List ℕ → Option (ℕ × List ℕ)
 slot_and_address [] = None
 slot_and_address (b ∷ bs) = if b == 32 then None else slot_after 0 (b ∷ bs)
 
--- the slot, the address, and whether the one command alone goes there
-abbrev pub Target : Type 0
-Target = ℕ × List ℕ × Bool
+-- a slot and the text of an address in a detail: the decimal digits of the slot, one at least, one space, and the address
+abbrev pub IsPlace : List ℕ → ℕ → List ℕ → Type 0
+IsPlace detail slot address = (digits : List ℕ) × (detail ≡ digits ++ byte " " ∷ address) × IsNumeral 10 digits × (digits_value 10 digits ≡ slot) × (slot < slots)
 
-abbrev pub target : Option Bool → Option (ℕ × List ℕ) → Option Target
-target (Some ask) (Some place) = Some (place.0, place.1, ask)
-target (Some ask) None = None
-target None place = None
+abbrev pub LacksPlace : List ℕ → Type 0
+LacksPlace detail = (slot : ℕ) (address : List ℕ) → IsPlace detail slot address → ⊥
 
--- where an error leads, if it is a redirect with such a detail
-abbrev pub redirection : ServerError → Option Target
-redirection e = target (is_for_one_command e.code) (option_and_then slot_and_address e.detail)
+-- an error leads to that slot at that address, for the one command alone or for all: its code is one of a redirect, and its detail has the place
+abbrev pub IsRedirect : ServerError → ℕ → List ℕ → Bool → Type 0
+IsRedirect e slot address ask = (is_for_one_command e.code ≡ Some ask) × ((detail : List ℕ) × (e.detail ≡ Some detail) × IsPlace detail slot address)
+
+-- it leads nowhere
+abbrev pub LeadsNowhere : ServerError → Type 0
+LeadsNowhere e = (slot : ℕ) (address : List ℕ) (ask : Bool) → IsRedirect e slot address ask → ⊥

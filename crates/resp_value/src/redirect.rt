@@ -1,5 +1,5 @@
 ghost use Rattle.std.specs.Prelude.{◌≡◌, MatchOption, None, Some};
-ghost use Rattle.resp_value.specs.Redirect.{is_for_one_command, redirection, slot_and_address};
+ghost use Rattle.resp_value.specs.Redirect.{IsPlace, IsRedirect, LacksPlace, LeadsNowhere, is_for_one_command, slot_and_address};
 
 use crate::server_error::ServerError;
 
@@ -52,14 +52,21 @@ fn slot_and_address(detail: &[u8]) -> Option<(u16, &[u8])>
     None
 }
 
+/// The same, by what stands in the detail.
+fn place(detail: &[u8]) -> Option<(u16, &[u8])>
+    ensures { MatchOption result (LacksPlace detail.now) (λ p. IsPlace detail.now p.0 p.1.now) }
+{
+    slot_and_address(detail)
+}
+
 /// Where an error leads, if it is a redirect.
 pub fn read_redirection(error: &ServerError) -> Option<Redirection<'_>>
-    ensures { MatchOption result (redirection error.now ≡ None) (λ r. redirection error.now ≡ Some (r.slot, r.address.now, r.ask)) }
+    ensures { MatchOption result (LeadsNowhere error.now) (λ r. IsRedirect error.now r.slot r.address.now r.ask) }
 {
     let ask = is_for_one_command(error.code.as_slice())?;
     let Some(detail) = &error.detail else {
         return None;
     };
-    let (slot, address) = slot_and_address(detail.as_slice())?;
+    let (slot, address) = place(detail.as_slice())?;
     Some(Redirection { slot, address, ask })
 }

@@ -1,6 +1,6 @@
-ghost use Rattle.std.specs.Prelude.{◌≡◌, IfOk, MatchOption, None, Some};
+ghost use Rattle.std.specs.Prelude.{◌≡◌, IfOk, MatchOption};
 ghost use Rattle.resp_value.specs.ErrorTable.{kind_of, method_of};
-ghost use Rattle.resp_value.specs.Redirect.{redirection as redirection_of};
+ghost use Rattle.resp_value.specs.Redirect.{IsRedirect, LeadsNowhere};
 
 use crate::error_kind::ServerErrorKind;
 use crate::redirect::{Redirection, read_redirection};
@@ -47,7 +47,7 @@ impl ServerError {
 
     /// Where it leads, if it is a redirect.
     pub fn redirect_node(&self) -> Option<Redirection<'_>>
-        ensures { MatchOption result (redirection_of self.now ≡ None) (λ r. redirection_of self.now ≡ Some (r.slot, r.address.now, r.ask)) }
+        ensures { MatchOption result (LeadsNowhere self.now) (λ r. IsRedirect self.now r.slot r.address.now r.ask) }
     {
         read_redirection(self)
     }

@@ -79,6 +79,13 @@ impl Cmd {
         self.no_response
     }
 
+    /// The arguments in order, the first of which is the name.
+    pub fn args(&self) -> &[Bytes]
+        ensures { result.now ≡ self.now.args }
+    {
+        self.args.as_slice()
+    }
+
     /// The arguments in order.
     pub fn args_iter(&self) -> ArgsIter<'_>
         ensures { result ≡ self.now.args }

@@ -1,0 +1,5 @@
+pub mod Commands
+pub mod Lookup
+pub mod Parts
+pub mod Routing
+pub mod Selection

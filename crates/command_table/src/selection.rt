@@ -1,0 +1,54 @@
+ghost use Rattle.std.specs.Prelude.{◌≡◌, ◌<◌, true, length, ◌++◌, IfOk, OnOk, EachIndex, slice_index};
+ghost use Rattle.command_table.specs.Selection.{may_be_several, key_count, part_of, width, chosen};
+
+use crate::commands::Form;
+use crate::lookup::form_of;
+use crate::routing::KeyIndices;
+use containers::Bytes;
+use resp_write::Cmd;
+use std::alloc::{AllocError, Global};
+
+/// How many arguments go with a key.
+fn width(form: Form) -> usize
+    ensures { result ≡ width form }
+{
+    match form {
+        Form::EachPair(_, _) => 2,
+        _ => 1,
+    }
+}
+
+/// More arguments at a command's end.
+fn push_args(alloc: Global, cmd: &mut Cmd, args: &[Bytes]) -> Result<(), AllocError>
+    ensures { OnOk result (cmd.new ≡ record { args = cmd.old.args ++ args.now; no_response = cmd.old.no_response }) }
+{
+    for arg in args {
+        cmd.arg(alloc, arg.as_slice())?;
+    }
+    Ok(())
+}
+
+/// The part of a command that has the keys of these places, for MSET each with its value, in order.
+#[tactic(auto, using(crate::proofs::Choosing::fits))]
+pub fn command_for_multi_slot_indices(
+    alloc: Global,
+    cmd: &Cmd,
+    indices: &KeyIndices,
+) -> Result<Cmd, AllocError>
+    requires several { may_be_several cmd.now.args ≡ true }
+    requires within { EachIndex indices.now (λ k. slice_index indices.now k < key_count cmd.now.args) }
+    ensures { IfOk result (λ part. part ≡ record { args = part_of cmd.now.args indices.now; no_response = cmd.now.no_response }) }
+{
+    let mut part = Cmd::new(alloc);
+    part.set_no_response(cmd.is_no_response());
+    let [name, args @ ..] = cmd.args() else {
+        return Ok(part);
+    };
+    part.arg(alloc, name.as_slice())?;
+    let width = width(form_of(name.as_slice(), args));
+    for index in indices.as_slice() {
+        let at = width * *index as usize;
+        push_args(alloc, &mut part, &args[at..at + width])?;
+    }
+    Ok(part)
+}

@@ -1,0 +1,5 @@
+mod Agreeing
+mod Elements
+mod Inserting
+mod Owning
+mod Ranges

@@ -1,0 +1,5 @@
+pub mod Entries
+pub mod Reply
+pub mod Routes
+pub mod Shards
+pub mod Strategies

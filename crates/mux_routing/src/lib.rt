@@ -1,0 +1,24 @@
+//! Where a cluster's commands go: addresses, slots and the routes of commands, and the map of a server's slots.
+#![tactic(auto)]
+
+mod addresses;
+mod entries;
+mod parsing;
+mod pipeline;
+mod rows;
+mod shard;
+mod slot_map;
+mod strategy;
+#[cfg(test)]
+mod tests;
+
+pub use command_table::{
+    KeyIndices, MultipleNodeRoutingInfo, ResponsePolicy, Route, RoutingInfo, SingleNodeRoutingInfo,
+    SlotAddr, SlotParts, command_for_multi_slot_indices,
+};
+pub use parsing::parse_slots;
+pub use pipeline::{RouteError, route_for_pipeline};
+pub use rows::{SlotRow, SlotRows, SlotsError};
+pub use slot_hash::{AddressError, NodeAddress, key_slot};
+pub use slot_map::{NodeIndex, SlotMap};
+pub use strategy::{ReadRoutingStrategy, ReadStrategy};

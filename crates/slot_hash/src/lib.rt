@@ -1,0 +1,13 @@
+//! The slot of a key, and the addresses of nodes.
+#![tactic(auto)]
+
+mod address;
+mod reading;
+mod slot;
+mod table;
+#[cfg(test)]
+mod tests;
+
+pub use address::{AddressError, NodeAddress};
+pub use reading::is_text;
+pub use slot::key_slot;
