@@ -8,12 +8,34 @@ use crate::retry_method::RetryMethod;
 use crate::server_code;
 use containers::Bytes;
 use std::alloc::{AllocError, Global};
+use std::fmt;
+use thiserror::Error;
 
 /// An error that a server answered: its code, and what stands after the first space, if there is one.
-#[derive(Drop)]
+#[derive(Drop, Error)]
+#[error("{}{}", .code.as_slice().escape_ascii(), Detail(.detail))]
 pub struct ServerError {
     pub code: Bytes,
     pub detail: Option<Bytes>,
+}
+
+/// The detail of an error as people see it, behind a space.
+#[derive(Clone, Copy)]
+struct Detail<'a>(&'a Option<Bytes>);
+
+impl fmt::Display for Detail<'_> {
+    fn fmt<W: fmt::Write>(&self, f: &mut fmt::Formatter<W>) -> fmt::Result {
+        match self.0 {
+            Some(detail) => write!(f, " {}", detail.as_slice().escape_ascii()),
+            None => Ok(()),
+        }
+    }
+}
+
+impl fmt::Debug for ServerError {
+    fn fmt<W: fmt::Write>(&self, f: &mut fmt::Formatter<W>) -> fmt::Result {
+        fmt::Display::fmt(self, f)
+    }
 }
 
 impl ServerError {
