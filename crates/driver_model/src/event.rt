@@ -1,6 +1,8 @@
 ghost use Rattle.std.specs.Prelude.{◌≡◌, IfOk};
 
+use crate::commands::Commands;
 use containers::{Bytes, Names};
+use resp_value::FaultKind;
 use std::alloc::{AllocError, Global};
 
 /// What a caller hands in.
@@ -8,6 +10,18 @@ use std::alloc::{AllocError, Global};
 pub enum Submission {
     /// One command: its name and its arguments.
     Cmd { args: Names },
+    /// One command whose reply nobody awaits.
+    NoReply { args: Names },
+    /// Commands that are sent together. Each has its reply.
+    Pipe { commands: Commands },
+    /// Commands that are sent together, as a transaction.
+    Multi { commands: Commands },
+    /// Commands that are sent together. The first `offset` replies are skipped, and the next `count` are kept.
+    Packed {
+        offset: u32,
+        count: u32,
+        commands: Commands,
+    },
 }
 
 /// What happened. Links and submissions go by their numbers, counted from 0.
@@ -25,6 +39,10 @@ pub enum EventKind {
     Bytes { link: u32, piece: Bytes },
     /// The peer closed the link.
     Ended { link: u32 },
+    /// A read from the link failed.
+    ReadFault { link: u32, fault: FaultKind },
+    /// A write to the link failed.
+    WriteFault { link: u32, fault: FaultKind },
     /// Everything is closed.
     Shutdown,
 }
@@ -45,6 +63,30 @@ impl Submission {
             Submission::Cmd { args } => {
                 let args = args.clone(alloc)?;
                 Ok(Submission::Cmd { args })
+            }
+            Submission::NoReply { args } => {
+                let args = args.clone(alloc)?;
+                Ok(Submission::NoReply { args })
+            }
+            Submission::Pipe { commands } => {
+                let commands = commands.clone(alloc)?;
+                Ok(Submission::Pipe { commands })
+            }
+            Submission::Multi { commands } => {
+                let commands = commands.clone(alloc)?;
+                Ok(Submission::Multi { commands })
+            }
+            Submission::Packed {
+                offset,
+                count,
+                commands,
+            } => {
+                let commands = commands.clone(alloc)?;
+                Ok(Submission::Packed {
+                    offset: *offset,
+                    count: *count,
+                    commands,
+                })
             }
         }
     }
@@ -73,6 +115,14 @@ impl EventKind {
                 Ok(EventKind::Bytes { link: *link, piece })
             }
             EventKind::Ended { link } => Ok(EventKind::Ended { link: *link }),
+            EventKind::ReadFault { link, fault } => Ok(EventKind::ReadFault {
+                link: *link,
+                fault: *fault,
+            }),
+            EventKind::WriteFault { link, fault } => Ok(EventKind::WriteFault {
+                link: *link,
+                fault: *fault,
+            }),
             EventKind::Shutdown => Ok(EventKind::Shutdown),
         }
     }

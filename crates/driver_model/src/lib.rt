@@ -2,13 +2,16 @@
 #![tactic(auto)]
 
 mod action;
+mod commands;
 mod config;
 mod event;
 mod outcome;
+mod request;
 #[cfg(test)]
 mod tests;
 
 pub use action::{Action, Cause, Owner, WaitKind};
+pub use commands::Commands;
 pub use config::Config;
 pub use event::{Event, EventKind, Submission};
 pub use outcome::{Outcome, Shape, Verdict};

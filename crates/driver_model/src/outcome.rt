@@ -1,6 +1,6 @@
 ghost use Rattle.std.specs.Prelude.{◌≡◌, IfOk};
 
-use resp_value::{RedisError, Value};
+use resp_value::{RedisError, Value, Values};
 use std::alloc::{AllocError, Global};
 
 /// How many items a message takes, and what they become.
@@ -8,6 +8,14 @@ use std::alloc::{AllocError, Global};
 pub enum Shape {
     /// One command: it takes one item, which is its reply.
     Single,
+    /// Commands that are sent together: the first `offset` items are skipped, and the next `count`, but one at least,
+    /// are kept. Of a transaction the skipped items are the reply to MULTI, and then those to its commands as they were
+    /// queued.
+    Pipeline {
+        offset: u32,
+        count: u32,
+        transaction: bool,
+    },
 }
 
 /// What a message of a link came to.
@@ -15,6 +23,8 @@ pub enum Shape {
 pub enum Verdict {
     /// The reply of a single command, also where it is a server error.
     One(Value),
+    /// The replies of a pipeline that are kept. Server errors among them are values.
+    Many(Values),
     /// Why there is no reply.
     Fault(RedisError),
 }
@@ -22,8 +32,10 @@ pub enum Verdict {
 /// What a submission came to.
 #[derive(Drop)]
 pub enum Outcome {
-    /// The reply of a single command, also where it is a server error.
+    /// The reply of a single command, also where it is a server error. Nil, where nobody awaits the reply.
     One(Value),
+    /// The replies of a pipeline that are kept. Server errors among them are values.
+    Many(Values),
     /// Why there is no reply.
     Fault(RedisError),
 }
@@ -35,6 +47,7 @@ impl Outcome {
     {
         match self {
             Outcome::One(value) => Ok(Outcome::One(value.clone(alloc)?)),
+            Outcome::Many(values) => Ok(Outcome::Many(values.clone(alloc)?)),
             Outcome::Fault(error) => Ok(Outcome::Fault(error.clone(alloc)?)),
         }
     }

@@ -3,7 +3,7 @@ use Rattle.std.specs.Prelude.{ℕ, Bool, List, [], ◌∷◌, ◌++◌, if◌the
 use Rattle.resp_value.specs.declared.redis_error.RedisError.{RedisError}
 use Rattle.resp_value.specs.declared.redis_error.RedisError.TheVariants as error
 use Rattle.driver_model.specs.declared.outcome.Shape.{Shape}
-use Rattle.driver_model.specs.declared.outcome.Shape.TheVariants.{Single}
+use Rattle.driver_model.specs.declared.outcome.Shape.TheVariants.{Single, Pipeline}
 use Rattle.driver_model.specs.declared.outcome.Verdict.TheVariants as verdict
 use Rattle.link_core.specs.declared.errors.LinkFault.{LinkFault}
 use Rattle.link_core.specs.declared.errors.LinkFault.TheVariants as fault
@@ -15,10 +15,16 @@ use Rattle.link_core.specs.declared.message.Settled.{Settled}
 abbrev pub failed_by : Bool → ℕ → RedisError → List Settled
 failed_by awaited id e = if awaited then record { id = id; verdict = verdict.Fault e } ∷ [] else []
 
--- the error of the message that a fault hits: a single command gets the fault itself
+-- the error that a fault is
+abbrev pub error_of : LinkFault → RedisError
+error_of fault.Ended = error.Closed
+error_of (fault.Io kind) = error.Io kind
+error_of fault.Parse = error.Parse
+
+-- the error of the message that a fault hits: a single command gets the fault itself, and a pipeline the closed connection
 abbrev pub hit_by : LinkFault → Shape → RedisError
-hit_by fault.Ended Single = error.Closed
-hit_by fault.Parse Single = error.Parse
+hit_by f Single = error_of f
+hit_by f (Pipeline offset count transaction) = error.Closed
 
 abbrev pub row_closed : List Entry → List Settled
 row_closed [] = []

@@ -1,3 +1,4 @@
+use resp_value::FaultKind;
 use std::alloc::AllocError;
 
 /// Why a message took no place in the queue.
@@ -21,6 +22,8 @@ pub enum StartError {
 pub enum LinkFault {
     /// The peer closed it.
     Ended,
+    /// A read or a write failed.
+    Io { fault: FaultKind },
     /// Bytes came that begin no value.
     Parse,
 }

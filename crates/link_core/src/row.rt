@@ -162,8 +162,14 @@ fn error_of(fault: LinkFault, shape: Shape) -> RedisError
     match shape {
         Shape::Single => match fault {
             LinkFault::Ended => RedisError::Closed,
+            LinkFault::Io { fault } => RedisError::Io { fault },
             LinkFault::Parse => RedisError::Parse,
         },
+        Shape::Pipeline {
+            offset: _,
+            count: _,
+            transaction: _,
+        } => RedisError::Closed,
     }
 }
 
@@ -192,6 +198,11 @@ pub fn need(shape: Shape) -> u64
 {
     match shape {
         Shape::Single => 1,
+        Shape::Pipeline {
+            offset,
+            count,
+            transaction: _,
+        } => u64::from(offset) + u64::from(count.max(1)),
     }
 }
 
@@ -203,18 +214,20 @@ fn lack(entry: &Entry) -> u64
 }
 
 /// What the items of a full message are.
-fn verdict(shape: Shape, got: Values) -> Verdict
-    ensures { result ≡ verdict_of shape got }
+fn verdict(alloc: Global, shape: Shape, got: Values) -> Result<Verdict, AllocError>
+    ensures { IfOk result (λ v. v ≡ verdict_of shape got) }
 {
-    let mut got = got;
     match shape {
-        Shape::Single => match got.pop_front() {
-            Some(value) => Verdict::One(value),
-            None => Verdict::One(Value::Nil),
-        },
+        Shape::Single => Ok(Verdict::One(first(got))),
+        Shape::Pipeline {
+            offset,
+            count: _,
+            transaction,
+        } => pipeline_verdict(alloc, offset as usize, transaction, got),
     }
 }
 
+// skeleton
 /// The verdict of a full message, if it is awaited.
 fn settle(entry: Entry, out: &mut Vec<Settled>) -> Result<(), AllocError>
     ensures { OnOk result (out.new.items ≡ out.old.items ++ settled_by entry) }

@@ -45,3 +45,8 @@ pack_commands atomic (c ∷ cs) = pack_framed atomic (c ∷ cs)
 
 abbrev pub pack_pipeline : CommandList → List ℕ
 pack_pipeline p = pack_commands p.atomic p.commands
+
+-- commands of these arguments, whose replies are awaited
+abbrev pub commands_of : List (List (List ℕ)) → List Command
+commands_of [] = []
+commands_of (args ∷ more) = record { args = args; no_response = false } ∷ commands_of more

@@ -14,7 +14,7 @@ mod value_text;
 pub use arguments::ToRedisArgs;
 pub use command::{ArgsIter, Cmd};
 pub use named::cmd;
-pub use pack::pack_names;
+pub use pack::{pack_lists, pack_names};
 pub use pipeline::{CmdIter, Pipeline, pipe};
 pub use subscription::SubscriptionAction;
 pub use value_text::{canonical_text, write_value};

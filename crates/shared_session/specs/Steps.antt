@@ -1,16 +1,16 @@
 -- What the parts of a turn do to a connection.
 use Rattle.std.specs.Prelude.{ℕ, ◌==◌, Bool, true, false, List, [], ◌∷◌, ◌++◌, length, slice_set, if◌then◌else◌}
 use Rattle.resp_value.specs.declared.redis_error.RedisError.TheVariants as error
-use Rattle.resp_write.specs.Pack.{pack}
+use Rattle.resp_value.specs.declared.value.Value.TheVariants.{Nil}
 use Rattle.driver_model.specs.declared.action.Action.{Action}
 use Rattle.driver_model.specs.declared.action.Action.TheVariants as action
 use Rattle.driver_model.specs.declared.action.Owner.TheVariants as owner
 use Rattle.driver_model.specs.declared.action.WaitKind.TheVariants as wait
+use Rattle.driver_model.specs.declared.event.Submission.{Submission}
 use Rattle.driver_model.specs.declared.outcome.Outcome.{Outcome}
 use Rattle.driver_model.specs.declared.outcome.Outcome.TheVariants as outcome
-use Rattle.driver_model.specs.declared.outcome.Shape.TheVariants.{Single}
-use Rattle.driver_model.specs.declared.outcome.Verdict.{Verdict}
-use Rattle.driver_model.specs.declared.outcome.Verdict.TheVariants as verdict
+use Rattle.driver_model.specs.Shape.{outcome_of}
+use Rattle.driver_model.specs.Request.{packed, shape_of, awaits_reply}
 use Rattle.link_core.specs.declared.errors.LinkFault.{LinkFault}
 use Rattle.link_core.specs.declared.errors.LinkFault.TheVariants as fault
 use Rattle.link_core.specs.declared.message.Queued.{Queued}
@@ -55,10 +55,6 @@ answered c n o =
     then acts (record (at_progress c n progress.Answered) { done = c.done ++ record { submission = n; outcome = o } ∷ [] }) (action.Outcome n o)
     else c
 
-abbrev pub outcome_of : Verdict → Outcome
-outcome_of (verdict.One v) = outcome.One v
-outcome_of (verdict.Fault e) = outcome.Fault e
-
 -- each message that the link has settled is answered, in order
 abbrev pub settled_each : Connection → List Settled → Connection
 settled_each c [] = c
@@ -82,16 +78,20 @@ ends c s = waiting_closed (settled_each (record (acts (record c { phase = phase.
 abbrev pub ended_by : Connection → LinkFault → Connection
 ended_by c f = ends c (faulted (record { link = c.link; out = [] }) f)
 
--- a submission is checked, and then waits for its place
-abbrev pub checked : Connection → ℕ → List (List ℕ) → Connection
-checked c n args =
-    if c.shut then answered c n closed
-    else if length args == 0 then answered c n (outcome.Fault error.EmptyCommand)
-    else if is_ended c.phase then answered c n closed
-    else record c { waiting = c.waiting ++ record { number = n; packed = pack args } ∷ []; fresh = c.fresh ++ n ∷ [] }
+-- a submission that waits for its place
+abbrev pub waiting_of : ℕ → Submission → Waiting
+waiting_of n s = record { number = n; packed = packed s; shape = shape_of s; awaited = awaits_reply s }
 
-abbrev pub submitted : Connection → List (List ℕ) → Connection
-submitted c args = checked (record c { requests = c.requests ++ progress.Waiting ∷ [] }) (length c.requests) args
+-- a submission is checked, and then waits for its place
+abbrev pub checked : Connection → ℕ → Submission → Connection
+checked c n s =
+    if c.shut then answered c n closed
+    else if length (packed s) == 0 then answered c n (outcome.Fault error.EmptyCommand)
+    else if is_ended c.phase then answered c n closed
+    else record c { waiting = c.waiting ++ waiting_of n s ∷ []; fresh = c.fresh ++ n ∷ [] }
+
+abbrev pub submitted : Connection → Submission → Connection
+submitted c s = checked (record c { requests = c.requests ++ progress.Waiting ∷ [] }) (length c.requests) s
 
 -- the caller has gone: its message leaves the queue, or is answered to nobody
 abbrev pub left : Connection → ℕ → Connection
@@ -114,8 +114,9 @@ read_to c s = ended_if s.link.broken (settled_each (record c { link = s.link }) 
 abbrev pub read : Connection → List ℕ → Connection
 read c piece = if is_up c.phase then read_to c (came (record { link = c.link; out = [] }) piece) else c
 
-abbrev pub peer_closed : Connection → Connection
-peer_closed c = if is_up c.phase then ended_by c fault.Ended else c
+-- the link ends where it is up: its peer closed it, or a read or a write failed
+abbrev pub faulted_by : Connection → LinkFault → Connection
+faulted_by c f = if is_up c.phase then ended_by c f else c
 
 -- everything is closed
 abbrev pub shut_down : Connection → Connection
@@ -136,14 +137,19 @@ abbrev pub started : Connection → Connection
 started c = starts_with c (started_all (record { link = c.link; out = [] }))
 
 abbrev pub message_of : Waiting → Queued
-message_of w = record { id = w.number; packed = w.packed; shape = Single; awaited = true }
+message_of w = record { id = w.number; packed = w.packed; shape = w.shape; awaited = w.awaited }
+
+-- a submission takes its place in the queue
+abbrev pub placed : Connection → Waiting → Connection
+placed c w = record (at_progress c w.number progress.Placed) { link = enqueued c.link (message_of w) }
+
+-- a command whose reply nobody awaits is answered with Nil at its place
+abbrev pub told_at_place : Connection → Waiting → Connection
+told_at_place c w = if w.awaited then c else answered c w.number (outcome.One Nil)
 
 -- a submission that still waits takes its place, and messages start
 abbrev pub advanced : Connection → Waiting → Connection
-advanced c w =
-    if is_waiting_at c.requests w.number
-    then started (record (at_progress c w.number progress.Placed) { link = enqueued c.link (message_of w) })
-    else c
+advanced c w = if is_waiting_at c.requests w.number then started (told_at_place (placed c w) w) else c
 
 -- the submissions that wait are moved in order, until the queue is full
 abbrev pub advanced_each : Connection → List Waiting → Connection

@@ -5,19 +5,21 @@ use Rattle.driver_model.specs.declared.action.Cause.TheVariants as cause
 use Rattle.driver_model.specs.declared.event.Event.{Event}
 use Rattle.driver_model.specs.declared.event.EventKind.{EventKind}
 use Rattle.driver_model.specs.declared.event.EventKind.TheVariants as event
-use Rattle.driver_model.specs.declared.event.Submission.TheVariants as submission
+use Rattle.link_core.specs.declared.errors.LinkFault.TheVariants as fault
 use Rattle.shared_session.specs.declared.connection.Connection.{Connection}
 use Rattle.shared_session.specs.declared.core_state.Core.{Core}
-use Rattle.shared_session.specs.Steps.{acts, is_ended, submitted, left, connected, wrote, read, peer_closed, shut_down, passes, flushed}
+use Rattle.shared_session.specs.Steps.{acts, is_ended, submitted, left, connected, wrote, read, faulted_by, shut_down, passes, flushed}
 
 -- the event's own effect
 abbrev pub applied : Connection → EventKind → Connection
-applied c (event.Submit (submission.Cmd args)) = submitted c args
+applied c (event.Submit s) = submitted c s
 applied c (event.Cancel n) = left c n
 applied c (event.Connected l) = connected c
 applied c (event.Wrote l n) = wrote c n
 applied c (event.Bytes l piece) = read c piece
-applied c (event.Ended l) = peer_closed c
+applied c (event.Ended l) = faulted_by c fault.Ended
+applied c (event.ReadFault l kind) = faulted_by c (fault.Io kind)
+applied c (event.WriteFault l kind) = faulted_by c (fault.Io kind)
 applied c event.Shutdown = shut_down c
 
 -- the event names a link or a submission that was never given out, or more written bytes than were offered
@@ -28,6 +30,8 @@ is_bad c (event.Connected l) = not (l == 0)
 is_bad c (event.Wrote l n) = not (l == 0) || (not (is_ended c.phase) && nat_lt c.link.outbox.offered n)
 is_bad c (event.Bytes l piece) = not (l == 0)
 is_bad c (event.Ended l) = not (l == 0)
+is_bad c (event.ReadFault l kind) = not (l == 0)
+is_bad c (event.WriteFault l kind) = not (l == 0)
 is_bad c event.Shutdown = false
 
 -- the actions and outcomes of the turn before are gone

@@ -1,7 +1,7 @@
 ghost use Rattle.std.specs.Prelude.{◌≡◌, ◌<◌, ◌≤◌, ◌^◌, length, OnOk, true};
 
 use containers::{Bytes, Queue, Seq};
-use driver_model::{Action, Outcome};
+use driver_model::{Action, Outcome, Shape};
 use link_core::LinkCore;
 use std::alloc::{AllocError, Global};
 
@@ -33,11 +33,14 @@ pub struct Done {
     pub outcome: Outcome,
 }
 
-/// A submission that waits for its place: its number and its packed bytes.
+/// A submission that waits for its place.
 #[derive(Drop)]
 pub struct Waiting {
     pub number: u32,
     pub packed: Bytes,
+    pub shape: Shape,
+    /// Whether its reply is awaited.
+    pub awaited: bool,
 }
 
 /// One multiplexed connection: its link, what was submitted, and the actions of the turn that runs.

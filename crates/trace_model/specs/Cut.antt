@@ -1,12 +1,10 @@
 -- Which items a message gets: by the sums of the needs before it, never by a queue.
 use Rattle.std.specs.Prelude.{◌≡◌, ℕ, List, length, take, drop, Some, slice_get}
 use Rattle.resp_value.specs.Data.{Data}
-use Rattle.driver_model.specs.declared.outcome.Shape.{Shape}
-use Rattle.driver_model.specs.declared.outcome.Shape.TheVariants.{Single}
 use Rattle.driver_model.specs.declared.outcome.Verdict.{Verdict}
 use Rattle.driver_model.specs.declared.event.Submission.{Submission}
-use Rattle.driver_model.specs.declared.event.Submission.TheVariants as submission
 use Rattle.driver_model.specs.Shape.{verdict}
+use Rattle.driver_model.specs.Request.{shape_of}
 use Rattle.trace_model.specs.LinkLedger.{LinkLedger, Start, needs}
 
 -- the items of the message that started as number k: those dealt from the sum of the needs before it on, as many as it
@@ -20,10 +18,6 @@ pub record IsFull (l : LinkLedger) (k : ℕ) (items : List Data) : Type 0 where
   pub stands : slice_get l.starts k ≡ Some start
   pub items_are : items ≡ cut l k start.need
   pub full : length items ≡ start.need
-
--- the shape of a submission's message
-abbrev pub shape_of : Submission → Shape
-shape_of (submission.Cmd args) = Single
 
 -- what a full cut is to its submission
 abbrev pub verdict_of : Submission → List Data → Verdict

@@ -1,6 +1,9 @@
 -- When a trace can be relied on: said of the trace alone, apart from any machine.
 use Rattle.std.specs.Prelude.{◌≡◌, ◌≢◌, ◌⊎◌, ℕ, ◌+◌, ◌<◌, ◌≤◌, true, false, List, [], ◌∷◌, ◌++◌, length, take, drop, flat_map, Option, Some, None, slice_get}
+use Rattle.resp_value.specs.declared.fault_kind.FaultKind.{FaultKind}
+use Rattle.resp_value.specs.declared.redis_error.RedisError.{RedisError}
 use Rattle.resp_value.specs.declared.redis_error.RedisError.TheVariants as error
+use Rattle.resp_value.specs.declared.value.Value.TheVariants.{Nil}
 use Rattle.resp_value.specs.Data.{Data}
 use Rattle.resp_read.specs.Values.{is_spoiled}
 use Rattle.driver_model.specs.declared.action.Action.{Action}
@@ -18,11 +21,11 @@ use Rattle.driver_model.specs.declared.event.EventKind.TheVariants as event
 use Rattle.driver_model.specs.declared.event.Submission.{Submission}
 use Rattle.driver_model.specs.declared.outcome.Outcome.{Outcome}
 use Rattle.driver_model.specs.declared.outcome.Outcome.TheVariants as outcome
-use Rattle.driver_model.specs.declared.outcome.Verdict.TheVariants as verdict
-use Rattle.driver_model.specs.Shape.{need}
-use Rattle.trace_model.specs.Submissions.{submissions, packed, bytes_of}
+use Rattle.driver_model.specs.Shape.{need, is_single, outcome_of}
+use Rattle.driver_model.specs.Request.{packed, shape_of, awaits_reply}
+use Rattle.trace_model.specs.Submissions.{submissions, bytes_of}
 use Rattle.trace_model.specs.LinkLedger.{LinkLedger, Start, needs, link_ledger, stream}
-use Rattle.trace_model.specs.Cut.{IsFull, shape_of, verdict_of}
+use Rattle.trace_model.specs.Cut.{IsFull, verdict_of}
 use Rattle.trace_model.specs.Story.{Story, story, is_open}
 use Rattle.trace_model.specs.Order.{AreInOrder, OutcomesAscend}
 use Rattle.trace_model.specs.Turns.{causes, running, is_shut, created_count}
@@ -66,32 +69,64 @@ pub record IsBroken (before : List Action) : Type 0 where
 abbrev pub WaitHolds : List Action → WaitKind → Type 0
 WaitHolds before wait.Connect = ((link_ledger 0 before).up ≡ false) × ((link_ledger 0 before).over ≡ false)
 
--- why a submission has this outcome at this place
-abbrev pub IsVerdictOf : List Action → ℕ → Submission → Outcome → Type 0
-IsVerdictOf before n s (outcome.One v) =
-    (k : ℕ) × (items : List Data) × StartedAs (link_ledger 0 before) n k × IsFull (link_ledger 0 before) k items × (verdict_of s items ≡ verdict.One v)
-IsVerdictOf before n s (outcome.Fault e) = ⊥
+-- the turn that runs is that of a read or a write that failed so
+abbrev pub IsFailedBy : List Action → FaultKind → Type 0
+IsFailedBy before kind =
+    (word : ℕ) × ((running before ≡ Some (cause.Event (record { word = word; kind = event.ReadFault 0 kind }))) ⊎ (running before ≡ Some (cause.Event (record { word = word; kind = event.WriteFault 0 kind }))))
 
--- its link has ended before its message was full, and not by bytes that begin no value while it was the oldest
-pub record IsCutOff (before : List Action) (n : ℕ) : Type 0 where
+-- the turn that runs is that of a fault of the link, which is this error
+abbrev pub IsFaultOf : List Action → RedisError → Type 0
+IsFaultOf before error.Parse = IsBroken before
+IsFaultOf before (error.Io kind) = IsFailedBy before kind
+IsFaultOf before _ = ⊥
+
+-- a message of the submission has all its items, and they are this outcome
+pub record IsVerdictOf (before : List Action) (n : ℕ) (s : Submission) (o : Outcome) : Type 0 where
+  pub awaited : awaits_reply s ≡ true
+  pub number : ℕ
+  pub items : List Data
+  pub started : StartedAs (link_ledger 0 before) n number
+  pub full : IsFull (link_ledger 0 before) number items
+  pub verdict : outcome_of (verdict_of s items) ≡ o
+
+-- a command whose reply nobody awaits takes its place on a link that is up: its outcome is Nil
+pub record IsAtPlace (before : List Action) (st : Story) (s : Submission) (o : Outcome) : Type 0 where
+  pub unawaited : awaits_reply s ≡ false
+  pub up : (link_ledger 0 before).up ≡ true
+  pub once : st.starts ≡ 0
+  pub has_bytes : packed s ≢ []
+  pub nil : o ≡ outcome.One Nil
+
+-- its link has ended before its message was full, and not by a fault while it was a single command and the oldest
+pub record IsCutOff (before : List Action) (n : ℕ) (s : Submission) : Type 0 where
   pub over : (link_ledger 0 before).over ≡ true
   pub not_full : (k : ℕ) → StartedAs (link_ledger 0 before) n k → length (link_ledger 0 before).dealt < needs (take (k + 1) (link_ledger 0 before).starts)
-  pub not_hit : IsBroken before → (k : ℕ) → StartedAs (link_ledger 0 before) n k → IsOldest (link_ledger 0 before) k → ⊥
+  pub not_hit : is_single (shape_of s) ≡ true → (e : RedisError) → IsFaultOf before e → (k : ℕ) → StartedAs (link_ledger 0 before) n k → IsOldest (link_ledger 0 before) k → ⊥
 
--- the bytes that ended its link begin no value, and it was the oldest message that takes items
-pub record IsHit (before : List Action) (n : ℕ) : Type 0 where
+-- the fault that ended its link is this error, and it was a single command and the oldest message that takes items
+pub record IsHit (before : List Action) (n : ℕ) (s : Submission) (e : RedisError) : Type 0 where
   pub over : (link_ledger 0 before).over ≡ true
-  pub broken : IsBroken before
+  pub single : is_single (shape_of s) ≡ true
+  pub fault : IsFaultOf before e
   pub number : ℕ
   pub started : StartedAs (link_ledger 0 before) n number
   pub oldest : IsOldest (link_ledger 0 before) number
 
+-- the cause of each error
+abbrev pub FailsBy : List Action → ℕ → Story → Submission → RedisError → Type 0
+FailsBy before n st s error.EmptyCommand = (packed s ≡ []) × (st.late ≡ false)
+FailsBy before n st s error.Closed = (st.late ≡ true) ⊎ ((packed s ≢ []) × ((is_shut before ≡ true) ⊎ IsCutOff before n s))
+FailsBy before n st s error.Parse = IsHit before n s error.Parse
+FailsBy before n st s (error.Io kind) = IsHit before n s (error.Io kind)
+FailsBy before n st s (error.Server e) = IsVerdictOf before n s (outcome.Fault (error.Server e))
+FailsBy before n st s (error.Aborted errors) = IsVerdictOf before n s (outcome.Fault (error.Aborted errors))
+FailsBy before n st s _ = ⊥
+
 -- the cause of each outcome
 abbrev pub CausedBy : List Action → ℕ → Story → Submission → Outcome → Type 0
-CausedBy before n st s (outcome.One v) = IsVerdictOf before n s (outcome.One v)
-CausedBy before n st s (outcome.Fault error.EmptyCommand) = (packed s ≡ []) × (st.late ≡ false)
-CausedBy before n st s (outcome.Fault error.Closed) = (st.late ≡ true) ⊎ ((packed s ≢ []) × ((is_shut before ≡ true) ⊎ IsCutOff before n))
-CausedBy before n st s (outcome.Fault error.Parse) = IsHit before n
+CausedBy before n st s (outcome.One v) = IsVerdictOf before n s (outcome.One v) ⊎ IsAtPlace before st s (outcome.One v)
+CausedBy before n st s (outcome.Many vs) = IsVerdictOf before n s (outcome.Many vs)
+CausedBy before n st s (outcome.Fault e) = FailsBy before n st s e
 
 -- a submission that is handed in, and neither answered nor cancelled
 pub record IsOpen (before : List Action) (n : ℕ) : Type 0 where
@@ -112,9 +147,22 @@ abbrev pub AllBelow : ℕ → List Start → Type 0
 AllBelow n [] = Unit {0}
 AllBelow n (s ∷ ss) = IsBelow n s.owner × AllBelow n ss
 
+-- a submission that was answered with Nil at its place, since nobody awaits its reply
+pub record IsToldAtPlace (before : List Action) (n : ℕ) : Type 0 where
+  pub submission : Submission
+  pub handed_in : (story n before).submission ≡ Some submission
+  pub unawaited : awaits_reply submission ≡ false
+  pub told : (story n before).outcomes ≡ outcome.One Nil ∷ []
+
+-- a submission whose message may start: it is open, or it was answered at its place
+pub record IsAsked (before : List Action) (n : ℕ) : Type 0 where
+  pub submission : Submission
+  pub handed_in : (story n before).submission ≡ Some submission
+  pub wanted : (is_open (story n before) ≡ true) ⊎ IsToldAtPlace before n
+
 -- a message starts on a link that is up: once for its submission, in the order of submissions, with its need and length
 pub record MayStart (before : List Action) (number n count len : ℕ) : Type 0 where
-  pub asked : IsOpen before n
+  pub asked : IsAsked before n
   pub up : (link_ledger 0 before).up ≡ true
   pub once : (story n before).starts ≡ 0
   pub next : number ≡ length (link_ledger 0 before).starts
@@ -138,9 +186,12 @@ pub record MayWait (before : List Action) (n : ℕ) (kind : WaitKind) : Type 0 w
   pub has_bytes : packed asked.submission ≢ []
   pub holds : WaitHolds before kind
 
--- an event that ends the link: its peer closed it, its bytes begin no value, or everything is shut down
+-- an event that ends the link: its peer closed it, a read or a write failed, its bytes begin no value, or everything is
+-- shut down
 abbrev pub EndsLink : List Action → EventKind → Type 0
 EndsLink before (event.Ended l) = (l ≡ 0) × ((link_ledger 0 before).up ≡ true)
+EndsLink before (event.ReadFault l kind) = (l ≡ 0) × ((link_ledger 0 before).up ≡ true)
+EndsLink before (event.WriteFault l kind) = (l ≡ 0) × ((link_ledger 0 before).up ≡ true)
 EndsLink before (event.Bytes l piece) = (l ≡ 0) × ((link_ledger 0 before).up ≡ true) × (is_spoiled (link_ledger 0 before).rest ≡ true)
 EndsLink before event.Shutdown = Unit {0}
 EndsLink before (event.Submit s) = ⊥
@@ -165,6 +216,8 @@ ConnectsLink (event.Cancel n) = ⊥
 ConnectsLink (event.Wrote l n) = ⊥
 ConnectsLink (event.Bytes l piece) = ⊥
 ConnectsLink (event.Ended l) = ⊥
+ConnectsLink (event.ReadFault l kind) = ⊥
+ConnectsLink (event.WriteFault l kind) = ⊥
 ConnectsLink event.Shutdown = ⊥
 
 abbrev pub ConnectedBy : Option Cause → Type 0
@@ -187,9 +240,11 @@ Goes before n =
 -- what holds after each turn
 pub record IsSettled (before : List Action) : Type 0 where
   pub goes : (n : ℕ) → IsOpen before n → Goes before n
+  pub told : (n : ℕ) → IsToldAtPlace before n → (link_ledger 0 before).up ≡ true → (k : ℕ) × StartedAs (link_ledger 0 before) n k
   pub offered : (link_ledger 0 before).up ≡ true → IsOffered 0 before
   pub whole : (link_ledger 0 before).up ≡ true → is_spoiled (link_ledger 0 before).rest ≡ false
   pub peer : (word : ℕ) → running before ≡ Some (cause.Event (record { word = word; kind = event.Ended 0 })) → (link_ledger 0 before).up ≡ false
+  pub failed : (kind : FaultKind) → IsFailedBy before kind → (link_ledger 0 before).up ≡ false
   pub created : (link_ledger 0 before).up ≡ true → created_count before ≡ 1
   pub shut : is_shut before ≡ true → (link_ledger 0 before).over ≡ true
 

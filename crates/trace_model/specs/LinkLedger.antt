@@ -52,6 +52,8 @@ noted_event l n (event.Bytes m piece) = if (n == m) && l.up then bytes_came l pi
 noted_event l n (event.Submit s) = l
 noted_event l n (event.Cancel s) = l
 noted_event l n (event.Ended m) = l
+noted_event l n (event.ReadFault m kind) = l
+noted_event l n (event.WriteFault m kind) = l
 noted_event l n event.Shutdown = l
 
 abbrev pub noted_cause : LinkLedger → ℕ → Cause → LinkLedger

@@ -1,19 +1,28 @@
 -- In which order the actions of a turn stand.
-use Rattle.std.specs.Prelude.{ℕ, ◌<◌, ◌≤◌, List, [], ◌∷◌, Option, Some, None}
+use Rattle.std.specs.Prelude.{ℕ, ◌<◌, ◌≤◌, nat_le, List, [], ◌∷◌, Option, Some, None, if◌then◌else◌}
+use Rattle.resp_value.specs.declared.value.Value.TheVariants.{Nil}
 use Rattle.driver_model.specs.declared.action.Action.{Action}
 use Rattle.driver_model.specs.declared.action.Action.TheVariants as action
+use Rattle.driver_model.specs.declared.outcome.Outcome.{Outcome}
+use Rattle.driver_model.specs.declared.outcome.Outcome.TheVariants as outcome
 
--- the step of its turn that an action belongs to: the announcement, the event's own effect, the starts, the write, and
--- the waits that began
-abbrev pub step_of : Action → ℕ
-step_of (action.Turn k c) = 0
-step_of (action.Connect l host port) = 1
-step_of (action.Close l) = 1
-step_of action.Created = 1
-step_of (action.Outcome n o) = 1
-step_of (action.Start l k who need len) = 2
-step_of (action.Write l bytes) = 3
-step_of (action.Wait who kind) = 4
+-- the step of its turn that stands after an action: the announcement, the event's own effect, the starts, the write, and
+-- the waits that began. An outcome belongs to the event's own effect, or to the starts, where a command whose reply nobody
+-- awaits takes its place
+abbrev pub step_after : ℕ → Action → ℕ
+step_after step (action.Turn k c) = 0
+step_after step (action.Connect l host port) = 1
+step_after step (action.Close l) = 1
+step_after step action.Created = 1
+step_after step (action.Outcome n o) = if nat_le 2 step then 2 else 1
+step_after step (action.Start l k who need len) = 2
+step_after step (action.Write l bytes) = 3
+step_after step (action.Wait who kind) = 4
+
+-- the last step in which an outcome may stand: Nil is told among the starts too
+abbrev pub last_step : Outcome → ℕ
+last_step (outcome.One Nil) = 2
+last_step _ = 1
 
 -- an action may come after one of that step: no step comes again after a later one, and only one write in a turn
 abbrev pub MayCome : ℕ → Action → Type 0
@@ -21,7 +30,7 @@ MayCome step (action.Turn k c) = Unit {0}
 MayCome step (action.Connect l host port) = step ≤ 1
 MayCome step (action.Close l) = step ≤ 1
 MayCome step action.Created = step ≤ 1
-MayCome step (action.Outcome n o) = step ≤ 1
+MayCome step (action.Outcome n o) = step ≤ last_step o
 MayCome step (action.Start l k who need len) = step ≤ 2
 MayCome step (action.Write l bytes) = step < 3
 MayCome step (action.Wait who kind) = step ≤ 4
@@ -29,7 +38,7 @@ MayCome step (action.Wait who kind) = step ≤ 4
 -- the actions of each turn stand in the order of its steps, after one of that step
 abbrev pub AreInOrder : ℕ → List Action → Type 0
 AreInOrder step [] = Unit {0}
-AreInOrder step (a ∷ more) = MayCome step a × AreInOrder (step_of a) more
+AreInOrder step (a ∷ more) = MayCome step a × AreInOrder (step_after step a) more
 
 -- the submission that was answered last in the turn that runs, if there is one
 abbrev pub last_answered : Option ℕ → Action → Option ℕ

@@ -39,6 +39,8 @@ told_event s n (event.Connected l) = s
 told_event s n (event.Wrote l count) = s
 told_event s n (event.Bytes l piece) = s
 told_event s n (event.Ended l) = s
+told_event s n (event.ReadFault l kind) = s
+told_event s n (event.WriteFault l kind) = s
 
 abbrev pub told_cause : Story → ℕ → Cause → Story
 told_cause s n (cause.Opening config word) = s

@@ -1,6 +1,5 @@
 -- What was submitted, read off a trace.
 use Rattle.std.specs.Prelude.{ℕ, List, [], ◌∷◌, ◌++◌, Option, Some, None, slice_get}
-use Rattle.resp_write.specs.Pack.{pack}
 use Rattle.driver_model.specs.declared.action.Action.{Action}
 use Rattle.driver_model.specs.declared.action.Action.TheVariants as action
 use Rattle.driver_model.specs.declared.action.Cause.{Cause}
@@ -10,7 +9,7 @@ use Rattle.driver_model.specs.declared.action.Owner.TheVariants as owner
 use Rattle.driver_model.specs.declared.event.EventKind.{EventKind}
 use Rattle.driver_model.specs.declared.event.EventKind.TheVariants as event
 use Rattle.driver_model.specs.declared.event.Submission.{Submission}
-use Rattle.driver_model.specs.declared.event.Submission.TheVariants as submission
+use Rattle.driver_model.specs.Request.{packed}
 
 abbrev pub submitted_by : EventKind → List Submission
 submitted_by (event.Submit s) = s ∷ []
@@ -19,6 +18,8 @@ submitted_by (event.Connected l) = []
 submitted_by (event.Wrote l n) = []
 submitted_by (event.Bytes l piece) = []
 submitted_by (event.Ended l) = []
+submitted_by (event.ReadFault l kind) = []
+submitted_by (event.WriteFault l kind) = []
 submitted_by event.Shutdown = []
 
 abbrev pub submitted_in : Cause → List Submission
@@ -30,10 +31,6 @@ abbrev pub submissions : List Action → List Submission
 submissions [] = []
 submissions (action.Turn k c ∷ more) = submitted_in c ++ submissions more
 submissions (_ ∷ more) = submissions more
-
--- the bytes of a submission: its command, packed
-abbrev pub packed : Submission → List ℕ
-packed (submission.Cmd args) = pack args
 
 abbrev pub packed_if : Option Submission → List ℕ
 packed_if None = []

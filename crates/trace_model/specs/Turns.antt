@@ -29,6 +29,8 @@ is_shutdown (event.Connected l) = false
 is_shutdown (event.Wrote l n) = false
 is_shutdown (event.Bytes l piece) = false
 is_shutdown (event.Ended l) = false
+is_shutdown (event.ReadFault l kind) = false
+is_shutdown (event.WriteFault l kind) = false
 
 abbrev pub shuts : Cause → Bool
 shuts (cause.Opening config word) = false

@@ -1,0 +1,73 @@
+ghost use Rattle.std.specs.Prelude.{◌≡◌, true, false, IfOk};
+ghost use Rattle.driver_model.specs.Request.{packed as packed_of, shape_of, awaits_reply as awaits_reply_of};
+
+use crate::event::Submission;
+use crate::outcome::Shape;
+use containers::Bytes;
+use resp_write::{pack_lists, pack_names};
+use std::alloc::{AllocError, Global};
+
+impl Submission {
+    /// The bytes that a server gets of it. Without a name and arguments there are none.
+    pub fn packed(&self, alloc: Global) -> Result<Bytes, AllocError>
+        ensures { IfOk result (λ bytes. bytes ≡ packed_of self.now) }
+    {
+        match self {
+            Submission::Cmd { args } => pack_names(alloc, args),
+            Submission::NoReply { args } => pack_names(alloc, args),
+            Submission::Pipe { commands } => pack_lists(alloc, false, commands.as_slice()),
+            Submission::Multi { commands } => pack_lists(alloc, true, commands.as_slice()),
+            Submission::Packed {
+                offset: _,
+                count: _,
+                commands,
+            } => pack_lists(alloc, false, commands.as_slice()),
+        }
+    }
+
+    /// How many items it takes, and what they become.
+    pub fn shape(&self) -> Shape
+        ensures { result ≡ shape_of self.now }
+    {
+        match self {
+            Submission::Cmd { args: _ } => Shape::Single,
+            Submission::NoReply { args: _ } => Shape::Single,
+            Submission::Pipe { commands } => Shape::Pipeline {
+                offset: 0,
+                count: commands.len() as u32,
+                transaction: false,
+            },
+            Submission::Multi { commands } => Shape::Pipeline {
+                offset: commands.len() as u32 + 1,
+                count: 1,
+                transaction: true,
+            },
+            Submission::Packed {
+                offset,
+                count,
+                commands: _,
+            } => Shape::Pipeline {
+                offset: *offset,
+                count: *count,
+                transaction: false,
+            },
+        }
+    }
+
+    /// Whether somebody awaits its reply.
+    pub fn awaits_reply(&self) -> bool
+        ensures { result ≡ awaits_reply_of self.now }
+    {
+        match self {
+            Submission::NoReply { args: _ } => false,
+            Submission::Cmd { args: _ } => true,
+            Submission::Pipe { commands: _ } => true,
+            Submission::Multi { commands: _ } => true,
+            Submission::Packed {
+                offset: _,
+                count: _,
+                commands: _,
+            } => true,
+        }
+    }
+}

@@ -1,0 +1,7 @@
+-- A pipeline that has commands.
+use Rattle.std.proofs.Common.{◌≡◌, refl, Bool, true, false, List, [], ◌∷◌, ℕ, length, ◌==◌, absurd}
+use Rattle.resp_write.specs.Pack.{pack_commands, pack_framed, commands_of}
+
+-- commands that are some are framed
+pub framed_lists : (atomic : Bool) (lists : List (List (List ℕ))) → (length lists == 0) ≡ false → pack_commands atomic (commands_of lists) ≡ pack_framed atomic (commands_of lists)
+framed_lists atomic (l ∷ ls) some = refl
