@@ -1,3 +1,4 @@
 mod Placing
 mod Choosing
 mod Rows
+mod Splitting

@@ -3,3 +3,4 @@ pub mod Lookup
 pub mod Parts
 pub mod Routing
 pub mod Selection
+pub mod Splitting

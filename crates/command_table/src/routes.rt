@@ -1,5 +1,6 @@
-ghost use Rattle.std.specs.Prelude.{◌≡◌, ◌==◌, true, IfOk, option_copied};
+ghost use Rattle.std.specs.Prelude.{◌≡◌, ◌==◌, true, IfOk, IfSome, option_copied};
 ghost use Rattle.command_table.specs.Routing.{random, to_slot, by_key, by_count, after_streams, is_number, routing_by, routing_of};
+ghost use Rattle.command_table.specs.Splitting.{can_be_split};
 ghost use Rattle.std.specs.Str.Parse.{digits_value};
 
 use crate::commands::Form;
@@ -124,15 +125,24 @@ fn routing_by(alloc: Global, form: Form, args: &[Bytes]) -> Result<RoutingInfo, 
     }
 }
 
+/// Of a command, if it has a name.
+fn routing_of(alloc: Global, words: &[Bytes]) -> Result<Option<RoutingInfo>, AllocError>
+    ensures { IfOk result (λ r. r ≡ routing_of words.now) }
+{
+    let [name, args @ ..] = words else {
+        return Ok(None);
+    };
+    let routing = routing_by(alloc, form_of(name.as_slice(), args), args)?;
+    Ok(Some(routing))
+}
+
 impl RoutingInfo {
-    /// Where a command goes, if it has a name.
+    /// Where a command goes, if it has a name. Where that is to several slots, `command_for_multi_slot_indices` makes
+    /// the command of each part.
     pub fn for_routable(alloc: Global, cmd: &Cmd) -> Result<Option<RoutingInfo>, AllocError>
-        ensures { IfOk result (λ r. r ≡ routing_of cmd.now.args) }
+        ensures is { IfOk result (λ r. r ≡ routing_of cmd.now.args) }
+        ensures parts { IfOk result (λ r. IfSome r (λ to. can_be_split cmd.now.args to ≡ true)) }
     {
-        let [name, args @ ..] = cmd.args() else {
-            return Ok(None);
-        };
-        let routing = routing_by(alloc, form_of(name.as_slice(), args), args)?;
-        Ok(Some(routing))
+        routing_of(alloc, cmd.args())
     }
 }

@@ -1,5 +1,6 @@
-ghost use Rattle.std.specs.Prelude.{◌≡◌, ◌<◌, true, length, ◌++◌, IfOk, OnOk, EachIndex, slice_index};
-ghost use Rattle.command_table.specs.Selection.{may_be_several, key_count, part_of, width, chosen};
+ghost use Rattle.std.specs.Prelude.{◌≡◌, true, ◌++◌, IfOk, OnOk};
+ghost use Rattle.command_table.specs.Selection.{may_be_several, key_count, part_of, width};
+ghost use Rattle.command_table.specs.Splitting.{are_within};
 
 use crate::commands::Form;
 use crate::lookup::form_of;
@@ -29,14 +30,14 @@ fn push_args(alloc: Global, cmd: &mut Cmd, args: &[Bytes]) -> Result<(), AllocEr
 }
 
 /// The part of a command that has the keys of these places, for MSET each with its value, in order.
-#[tactic(auto, using(crate::proofs::Choosing::fits))]
+#[tactic(auto, using(crate::proofs::Choosing::fits, crate::proofs::Choosing::others_fit))]
 pub fn command_for_multi_slot_indices(
     alloc: Global,
     cmd: &Cmd,
     indices: &KeyIndices,
 ) -> Result<Cmd, AllocError>
     requires several { may_be_several cmd.now.args ≡ true }
-    requires within { EachIndex indices.now (λ k. slice_index indices.now k < key_count cmd.now.args) }
+    requires within { are_within (key_count cmd.now.args) indices.now ≡ true }
     ensures { IfOk result (λ part. part ≡ record { args = part_of cmd.now.args indices.now; no_response = cmd.now.no_response }) }
 {
     let mut part = Cmd::new(alloc);

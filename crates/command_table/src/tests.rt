@@ -1,6 +1,12 @@
+ghost use Rattle.std.specs.Prelude.{◌≡◌, ◌<◌, length, true, None};
+ghost use Rattle.command_table.specs.declared.routing.MultipleNodeRoutingInfo.TheVariants.{MultiSlot};
+ghost use Rattle.command_table.specs.declared.routing.RoutingInfo.TheVariants.{MultiNode};
+ghost use Rattle.command_table.specs.Selection.{is_several, key_count, may_be_several, width};
+ghost use Rattle.command_table.specs.Splitting.{are_within, can_be_split};
+
 use crate::{
-    KeyIndices, MultipleNodeRoutingInfo, ResponsePolicy, Route, RoutingInfo, SingleNodeRoutingInfo,
-    SlotAddr, SlotParts,
+    Form, KeyIndices, MultipleNodeRoutingInfo, ResponsePolicy, Route, RoutingInfo,
+    SingleNodeRoutingInfo, SlotAddr, SlotParts, command_for_multi_slot_indices, form_of,
 };
 use resp_write::Cmd;
 use std::alloc::{AllocError, Global};
@@ -287,5 +293,121 @@ fn keys_are_split_by_their_slots(rt: HostRuntime) -> Result<(), AllocError> {
     let cmd = command(alloc, "MSET foo 1 baz 2 {foo}bar 3 {baz}x 4")?;
     let got = RoutingInfo::for_routable(alloc, &cmd)?;
     assert!(rt; is_split(&got));
+    Ok(())
+}
+
+/// Commands with places of keys, and the command of these keys.
+const SELECTIONS: [(&str, &[u32], &str); 10] = [
+    ("MGET a b c", &[0], "MGET a"),
+    ("MGET a b c", &[2, 0], "MGET c a"),
+    ("EXISTS a b", &[1, 1], "EXISTS b b"),
+    ("DEL foo bar baz {bar}vaz", &[1, 3], "DEL bar {bar}vaz"),
+    ("UNLINK a b", &[], "UNLINK"),
+    ("mset a 1", &[0], "mset a 1"),
+    ("MSET a 1 b 2 c 3", &[0, 2], "MSET a 1 c 3"),
+    ("MSET a 1 b 2 c 3", &[2, 1, 0], "MSET c 3 b 2 a 1"),
+    ("MSET a 1 b 2 c", &[1, 0], "MSET b 2 a 1"),
+    ("MSET a", &[], "MSET"),
+];
+
+fn is_several(form: Form) -> bool
+    ensures { result ≡ is_several form }
+{
+    matches!(form, Form::EachKey(_, _) | Form::EachPair(_, _))
+}
+
+fn may_be_several(cmd: &Cmd) -> bool
+    ensures { result ≡ may_be_several cmd.now.args }
+{
+    match cmd.args() {
+        [name, args @ ..] => is_several(form_of(name.as_slice(), args)),
+        [] => false,
+    }
+}
+
+fn width(form: Form) -> usize
+    ensures { result ≡ width form }
+{
+    if matches!(form, Form::EachPair(_, _)) { 2 } else { 1 }
+}
+
+fn key_count(cmd: &Cmd) -> usize
+    ensures { result ≡ key_count cmd.now.args }
+{
+    match cmd.args() {
+        [name, args @ ..] => args.len() / width(form_of(name.as_slice(), args)),
+        [] => 0,
+    }
+}
+
+fn are_within(count: usize, indices: &[u32]) -> bool
+    ensures { result ≡ are_within count indices.now }
+{
+    indices.iter().all(|i| (*i as usize) < count)
+}
+
+fn is_command(alloc: Global, cmd: &Cmd, text: &str) -> Result<bool, AllocError> {
+    let wanted = command(alloc, text)?;
+    Ok(cmd.get_packed_command(alloc)?.as_slice() == wanted.get_packed_command(alloc)?.as_slice())
+}
+
+/// Whether the command of these keys is that one.
+fn is_selected(alloc: Global, row: &(&str, &[u32], &str)) -> Result<bool, AllocError> {
+    let cmd = command(alloc, row.0)?;
+    let indices = KeyIndices::from_vec(Vec::from_slice(alloc, row.1)?);
+    if !may_be_several(&cmd) || !are_within(key_count(&cmd), indices.as_slice()) {
+        return Ok(false);
+    }
+    let part = command_for_multi_slot_indices(alloc, &cmd, &indices)?;
+    is_command(alloc, &part, row.2)
+}
+
+#[test]
+fn keys_go_into_a_part(rt: HostRuntime) -> Result<(), AllocError> {
+    for row in &SELECTIONS {
+        assert!(rt; is_selected(rt.alloc(), row)?, "{}", row.0);
+    }
+    Ok(())
+}
+
+/// The command of a part.
+#[tactic(auto, using(crate::proofs::Splitting::each_is_within), unfolding(crate::specs::Splitting::can_be_split))]
+fn command_of_part(
+    alloc: Global,
+    cmd: &Cmd,
+    parts: &SlotParts,
+    k: usize,
+) -> Result<Cmd, AllocError>
+    requires parts { can_be_split cmd.now.args (MultiNode (MultiSlot parts.now) None) ≡ true }
+    requires place { k < length parts.now }
+{
+    command_for_multi_slot_indices(alloc, cmd, &parts.as_slice()[k].1)
+}
+
+/// Whether a command has two parts, with these commands.
+#[tactic(auto, unfolding(crate::specs::Splitting::can_be_split))]
+fn are_parts_of(
+    alloc: Global,
+    text: &str,
+    first: &str,
+    second: &str,
+) -> Result<bool, AllocError> {
+    let cmd = command(alloc, text)?;
+    let routing = RoutingInfo::for_routable(alloc, &cmd)?;
+    let Some(RoutingInfo::MultiNode(MultipleNodeRoutingInfo::MultiSlot(parts), _)) = &routing else {
+        return Ok(false);
+    };
+    if parts.len() != 2 {
+        return Ok(false);
+    }
+    let one = command_of_part(alloc, &cmd, parts, 0)?;
+    let two = command_of_part(alloc, &cmd, parts, 1)?;
+    Ok(is_command(alloc, &one, first)? && is_command(alloc, &two, second)?)
+}
+
+#[test]
+fn the_parts_of_a_route_have_commands(rt: HostRuntime) -> Result<(), AllocError> {
+    let text = "MSET foo 1 baz 2 {foo}bar 3";
+    assert!(rt; are_parts_of(rt.alloc(), text, "MSET foo 1 {foo}bar 3", "MSET baz 2")?);
     Ok(())
 }
