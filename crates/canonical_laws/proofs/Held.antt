@@ -3,7 +3,7 @@ use Rattle.std.proofs.Common.{◌≡◌, ℕ, ◌≤◌, List, [], ◌∷◌, le
 use Rattle.std.proofs.lemmas.List.{length-take-le}
 use Rattle.std.proofs.lemmas.Bool.Decides.{nat_tests}
 use Rattle.std.specs.Prelude.{◌==◌, ◌&&◌, nat_le, nat_lt, is_some}
-use Rattle.resp_read.specs.Grammar.{Found, read, short, bad, found_and_then, found_map, Line, ended, held, unended, broken, after_return, byte_before, line, LineForm, fits, line_found, line_as, found, natural, at_most, at_least, count_line, digits_after, fed, closed, body}
+use Rattle.resp_read.specs.Grammar.{Found, read, short, bad, found_and_then, found_map, Line, ended, held, unended, broken, after_return, byte_before, line, LineForm, fits, line_found, line_as, found, natural, at_most, at_least, count_line, digits_after, fed, closed, body, reader_limits}
 use Rattle.resp_read.proofs.Counts.{fits_within}
 use Rattle.canonical_laws.specs.Readable.{has_return, IsLine}
 
@@ -62,22 +62,22 @@ line_ends [] = tt
 line_ends (b ∷ bs) = line_by (b == 13) b bs refl (line_ends bs)
 
 -- what the form makes of a line
-module _ {A : Type 0} (form : LineForm A) (P : A → Type 0) (made : (l : List ℕ) (a : A) → IsLine l → form.whole l ≡ Some a → P a) where
-  found_by : (l rest : List ℕ) (o : Option A) → IsLine l → form.whole l ≡ o → IfRead P (found o rest)
+module _ {A : Type 0} (form : LineForm A) (P : A → Type 0) (made : (l : List ℕ) (a : A) → IsLine reader_limits l → form.whole l ≡ Some a → P a) where
+  found_by : (l rest : List ℕ) (o : Option A) → IsLine reader_limits l → form.whole l ≡ o → IfRead P (found o rest)
   found_by l rest (Some a) h is = made l a h is
   found_by l rest None h is = tt
 
-  fits_by : (l rest : List ℕ) (c : Bool) → has_return l ≡ false → fits l ≡ c → IfRead P (cond c (found (form.whole l) rest) bad)
+  fits_by : (l rest : List ℕ) (c : Bool) → has_return l ≡ false → fits reader_limits l ≡ c → IfRead P (cond c (found (form.whole l) rest) bad)
   fits_by l rest true h fit = found_by l rest (form.whole l) (h, fits_within l fit) refl
   fits_by l rest false h fit = tt
 
-  line_made : (x : Line) → HasNoReturn x → IfRead P (line_found form x)
-  line_made (ended l rest) h = fits_by l rest (fits l) h refl
-  line_made (held l) h = held_if P (fits l && is_some (form.whole l)) short bad tt tt
-  line_made (unended l) h = held_if P (fits l && form.begun l) short bad tt tt
+  line_made : (x : Line) → HasNoReturn x → IfRead P (line_found reader_limits form x)
+  line_made (ended l rest) h = fits_by l rest (fits reader_limits l) h refl
+  line_made (held l) h = held_if P (fits reader_limits l && is_some (form.whole l)) short bad tt tt
+  line_made (unended l) h = held_if P (fits reader_limits l && form.begun l) short bad tt tt
   line_made broken h = tt
 
-  pub held_line : (bs : List ℕ) → IfRead P (line_as form bs)
+  pub held_line : (bs : List ℕ) → IfRead P (line_as reader_limits form bs)
   held_line bs = line_made (line bs) (line_ends bs)
 
 -- a length is within its limits
@@ -88,11 +88,11 @@ at_most_by : (most k n : ℕ) (c : Bool) → nat_le k most ≡ c → cond c (Som
 at_most_by most k n true is e = let same = some_is k n e in subst (λ m. m ≤ most) same (grind (arith, nat_tests))
 at_most_by most k n false is e = cc
 
-no_more : (most n : ℕ) (o : Option ℕ) → at_most most o ≡ Some n → n ≤ most
+no_more : (most n : ℕ) (o : Option ℕ) → at_most (Some most) o ≡ Some n → n ≤ most
 no_more most n None e = cc
 no_more most n (Some k) e = at_most_by most k n (nat_le k most) refl e
 
-pub natural_fits : (most n : ℕ) (l : List ℕ) → natural most l ≡ Some n → n ≤ most
+pub natural_fits : (most n : ℕ) (l : List ℕ) → natural (Some most) l ≡ Some n → n ≤ most
 natural_fits most n [] e = cc
 natural_fits most n (b ∷ bs) e = no_more most n (digits_after 0 (b ∷ bs)) e
 
@@ -100,7 +100,7 @@ at_least_by : (least k n : ℕ) (c : Bool) → nat_le least k ≡ c → cond c (
 at_least_by least k n true is e = let same = some_is k n e in (subst (λ m. least ≤ m) same (grind (arith, nat_tests)), same)
 at_least_by least k n false is e = cc
 
-no_fewer : (least most n : ℕ) (l : List ℕ) (o : Option ℕ) → natural most l ≡ o → at_least least o ≡ Some n → (least ≤ n) × (n ≤ most)
+no_fewer : (least most n : ℕ) (l : List ℕ) (o : Option ℕ) → natural (Some most) l ≡ o → at_least least o ≡ Some n → (least ≤ n) × (n ≤ most)
 no_fewer least most n l None is e = cc
 no_fewer least most n l (Some k) is e =
     let b = at_least_by least k n (nat_le least k) refl e in
@@ -109,8 +109,8 @@ no_fewer least most n l (Some k) is e =
 abbrev pub IsBetween : ℕ → ℕ → ℕ → Type 0
 IsBetween least most n = (least ≤ n) × (n ≤ most)
 
-pub held_count : (least most : ℕ) (bs : List ℕ) → IfRead (IsBetween least most) (line_as (count_line least most) bs)
-held_count least most bs = held_line (count_line least most) (IsBetween least most) (λ l n h is. no_fewer least most n l (natural most l) refl is) bs
+pub held_count : (least most : ℕ) (bs : List ℕ) → IfRead (IsBetween least most) (line_as reader_limits (count_line reader_limits least (Some most)) bs)
+held_count least most bs = held_line (count_line reader_limits least (Some most)) (IsBetween least most) (λ l n h is. no_fewer least most n l (natural (Some most) l) refl is) bs
 
 -- a body has as many bytes as were announced
 module _ (P : List ℕ → Type 0) (t : List ℕ) (h : P t) where

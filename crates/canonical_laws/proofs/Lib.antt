@@ -1,10 +1,13 @@
+pub mod Limits
 pub mod Lines
 pub mod Plain
 pub mod Whole
 pub mod Same
+pub mod Wider
 pub mod Held
 pub mod GivenPlain
 pub mod Given
+pub mod Unlimited
 pub mod Exact
 pub mod Spelled
 pub mod ShortTexts

@@ -3,9 +3,9 @@ use Rattle.std.proofs.Common.{◌≡◌, ℕ, zero, suc, ◌+◌, ◌-◌, ◌�
 use Rattle.std.proofs.lemmas.List.{length-take-le}
 use Rattle.std.proofs.lemmas.Bool.Decides.{nat_tests}
 use Rattle.std.specs.Prelude.{◌==◌, nat_lt, bytes_eq}
-use Rattle.resp_value.specs.Data.{Data, nil, int, bulk, array, simple, okay, dict, attribute, set, double, boolean, verbatim, big, push, error, items_of, members_of}
+use Rattle.resp_value.specs.Data.{Data, nil, int, bulk, array, simple, okay, dict, attribute, set, double, boolean, verbatim, big, push, items_of, members_of}
 use Rattle.resp_value.specs.Kinds.{kind_of}
-use Rattle.resp_read.specs.Grammar.{Found, read, short, bad, found_and_then, found_map, line_as, size_line, count_line, is_end, is_double, is_big, number, truth, simple_of, error_of, simple_line, error_line, number_line, null_line, boolean_line, double_line, big_line, no_array_line, max_line, max_bulk, max_count, closed, body, bulk_of, bulk_string, error_body, bulk_error, format, text_of, verbatim_of, verbatim_string, repeated, pair, array_of, array_form, set_of, set_form, map_of, map_form, attributed, attribute_of, attribute_form, kind, push_with, push_of, push_form, Table, plain, nested, innermost, chosen, form, parse, max_depth}
+use Rattle.resp_read.specs.Grammar.{Found, read, short, bad, found_and_then, found_map, line_as, size_line, count_line, is_end, is_double, is_big, number, truth, simple_of, error_of, simple_line, error_line, number_line, null_line, boolean_line, double_line, big_line, no_array_line, max_line, max_bulk, max_count, closed, body, bulk_of, bulk_string, error_body, bulk_error, format, text_of, verbatim_of, verbatim_string, repeated, pair, array_of, array_form, set_of, set_form, map_of, map_form, attributed, attribute_of, attribute_form, kind, push_with, push_of, push_form, Table, plain, nested, innermost, chosen, form, parse, max_depth, reader_limits}
 use Rattle.resp_read.specs.Reads.{Reads}
 use Rattle.resp_read.proofs.Laws.{Lawful, Possible, lawful_then, lawful_map, possible_map, possible_then}
 use Rattle.resp_read.proofs.LineLaws.{lawful_line}
@@ -45,47 +45,47 @@ module _ {A B : Type 0} (f : List ℕ → Found A) (g : A → List ℕ → Found
   short_then h = then_by (f bs) refl h
 
 -- forms that hold no values
-error_short : (l : List ℕ) → length l ≤ max_line → HasShortErrors (error_of l)
+error_short : (l : List ℕ) → length l ≤ max_line → HasShortErrors reader_limits (error_of l)
 error_short l fit not = subst (λ x. length x ≤ max_line) (sym (words_back l)) fit
 
-simple_short : (l : List ℕ) (c : Bool) → HasShortErrors (cond c okay (simple l))
+simple_short : (l : List ℕ) (c : Bool) → HasShortErrors reader_limits (cond c okay (simple l))
 simple_short l true = tt
 simple_short l false = tt
 
 -- a form gives only values whose errors are short, where it is given a short text
 abbrev GivesShort : (List ℕ → Found Data) → Type 0
-GivesShort f = (bs : List ℕ) → IsShort bs → IfRead HasShortErrors (f bs)
+GivesShort f = (bs : List ℕ) → IsShort bs → IfRead (HasShortErrors reader_limits) (f bs)
 
-simple_gives : GivesShort (line_as simple_line)
-simple_gives bs fit = held_line simple_line HasShortErrors (λ l v h e. subst HasShortErrors (some_is (simple_of l) v e) (simple_short l (bytes_eq l (79 ∷ 75 ∷ [])))) bs
+simple_gives : GivesShort (line_as reader_limits simple_line)
+simple_gives bs fit = held_line simple_line (HasShortErrors reader_limits) (λ l v h e. subst (HasShortErrors reader_limits) (some_is (simple_of l) v e) (simple_short l (bytes_eq l (79 ∷ 75 ∷ [])))) bs
 
-error_gives : GivesShort (line_as error_line)
-error_gives bs fit = held_line error_line HasShortErrors (λ l v h e. subst HasShortErrors (some_is (error_of l) v e) (error_short l h.1)) bs
+error_gives : GivesShort (line_as reader_limits error_line)
+error_gives bs fit = held_line error_line (HasShortErrors reader_limits) (λ l v h e. subst (HasShortErrors reader_limits) (some_is (error_of l) v e) (error_short l h.1)) bs
 
-number_gives : GivesShort (line_as number_line)
-number_gives bs fit = held_line number_line HasShortErrors (λ l v h e. mapped HasShortErrors int (number l) v (λ n is. tt) e) bs
+number_gives : GivesShort (line_as reader_limits number_line)
+number_gives bs fit = held_line number_line (HasShortErrors reader_limits) (λ l v h e. mapped (HasShortErrors reader_limits) int (number l) v (λ n is. tt) e) bs
 
-null_gives : GivesShort (line_as null_line)
-null_gives bs fit = held_line null_line HasShortErrors (λ l v h e. where_test HasShortErrors (is_end l) nil v (λ is. tt) e) bs
+null_gives : GivesShort (line_as reader_limits null_line)
+null_gives bs fit = held_line null_line (HasShortErrors reader_limits) (λ l v h e. where_test (HasShortErrors reader_limits) (is_end l) nil v (λ is. tt) e) bs
 
-boolean_gives : GivesShort (line_as boolean_line)
-boolean_gives bs fit = held_line boolean_line HasShortErrors (λ l v h e. mapped HasShortErrors boolean (truth l) v (λ b is. tt) e) bs
+boolean_gives : GivesShort (line_as reader_limits boolean_line)
+boolean_gives bs fit = held_line boolean_line (HasShortErrors reader_limits) (λ l v h e. mapped (HasShortErrors reader_limits) boolean (truth l) v (λ b is. tt) e) bs
 
-double_gives : GivesShort (line_as double_line)
-double_gives bs fit = held_line double_line HasShortErrors (λ l v h e. where_test HasShortErrors (is_double l) (double l) v (λ is. tt) e) bs
+double_gives : GivesShort (line_as reader_limits (double_line reader_limits))
+double_gives bs fit = held_line (double_line reader_limits) (HasShortErrors reader_limits) (λ l v h e. where_test (HasShortErrors reader_limits) (is_double l) (double l) v (λ is. tt) e) bs
 
-big_gives : GivesShort (line_as big_line)
-big_gives bs fit = held_line big_line HasShortErrors (λ l v h e. where_test HasShortErrors (is_big l) (big l) v (λ is. tt) e) bs
+big_gives : GivesShort (line_as reader_limits big_line)
+big_gives bs fit = held_line big_line (HasShortErrors reader_limits) (λ l v h e. where_test (HasShortErrors reader_limits) (is_big l) (big l) v (λ is. tt) e) bs
 
-no_array_gives : GivesShort (line_as no_array_line)
-no_array_gives bs fit = held_line no_array_line HasShortErrors (λ l v h e. where_test HasShortErrors (bytes_eq l (45 ∷ 49 ∷ [])) nil v (λ is. tt) e) bs
+no_array_gives : GivesShort (line_as reader_limits no_array_line)
+no_array_gives bs fit = held_line no_array_line (HasShortErrors reader_limits) (λ l v h e. where_test (HasShortErrors reader_limits) (bytes_eq l (45 ∷ 49 ∷ [])) nil v (λ is. tt) e) bs
 
-bulk_by : (o : Option ℕ) (bs : List ℕ) → IfRead HasShortErrors (bulk_of o bs)
+bulk_by : (o : Option ℕ) (bs : List ℕ) → IfRead (HasShortErrors reader_limits) (bulk_of o bs)
 bulk_by None bs = tt
-bulk_by (Some n) bs = held_map Any HasShortErrors bulk (body n bs) (any_read (body n bs)) (λ t h. tt)
+bulk_by (Some n) bs = held_map Any (HasShortErrors reader_limits) bulk (body n bs) (any_read (body n bs)) (λ t h. tt)
 
-bulk_gives : GivesShort bulk_string
-bulk_gives bs fit = held_then Any HasShortErrors bulk_of (line_as (size_line max_bulk) bs) (any_read (line_as (size_line max_bulk) bs)) (λ o rest h. bulk_by o rest)
+bulk_gives : GivesShort (bulk_string reader_limits)
+bulk_gives bs fit = held_then Any (HasShortErrors reader_limits) bulk_of (line_as reader_limits (size_line (Some max_bulk)) bs) (any_read (line_as reader_limits (size_line (Some max_bulk)) bs)) (λ o rest h. bulk_by o rest)
 
 body_by : (n : ℕ) (bs : List ℕ) (c : Bool) → IsShort bs → nat_lt (length bs) n ≡ c → IfRead IsShort (cond c short (closed (take n bs) (drop n bs)))
 body_by n bs true fit is = tt
@@ -93,25 +93,25 @@ body_by n bs false fit is =
     let some : n ≤ length bs = grind (arith, nat_tests) in
     held_closed IsShort (take n bs) (omega (arith, some, fit, length-take-le n bs some)) (drop n bs)
 
-bulk_error_gives : GivesShort bulk_error
+bulk_error_gives : GivesShort (bulk_error reader_limits)
 bulk_error_gives bs fit =
-    short_then (line_as (count_line 0 max_bulk)) error_body Any HasShortErrors (lawful_counted 0 max_bulk (lit≤ tt) (lit≤ tt)) bs fit
-    (λ n rest k h. held_map IsShort HasShortErrors error_of (body n rest) (body_by n rest (nat_lt (length rest) n) k refl) (λ t is. error_short t is)) (any_read (line_as (count_line 0 max_bulk) bs))
+    short_then (line_as reader_limits (count_line reader_limits 0 (Some max_bulk))) error_body Any (HasShortErrors reader_limits) (lawful_counted 0 max_bulk (lit≤ tt) (lit≤ tt)) bs fit
+    (λ n rest k h. held_map IsShort (HasShortErrors reader_limits) error_of (body n rest) (body_by n rest (nat_lt (length rest) n) k refl) (λ t is. error_short t is)) (any_read (line_as reader_limits (count_line reader_limits 0 (Some max_bulk)) bs))
 
-text_by : (n : ℕ) (f bs : List ℕ) → IfRead HasShortErrors (text_of n f bs)
-text_by n f bs = held_map Any HasShortErrors (verbatim f) (body (n - 4) bs) (any_read (body (n - 4) bs)) (λ t h. tt)
+text_by : (n : ℕ) (f bs : List ℕ) → IfRead (HasShortErrors reader_limits) (text_of n f bs)
+text_by n f bs = held_map Any (HasShortErrors reader_limits) (verbatim f) (body (n - 4) bs) (any_read (body (n - 4) bs)) (λ t h. tt)
 
-verbatim_gives : GivesShort verbatim_string
+verbatim_gives : GivesShort (verbatim_string reader_limits)
 verbatim_gives bs fit =
-    held_then Any HasShortErrors verbatim_of (line_as (count_line 4 max_bulk) bs) (any_read (line_as (count_line 4 max_bulk) bs))
-    (λ n rest h. held_then Any HasShortErrors (text_of n) (format rest) (any_read (format rest)) (λ f others k. text_by n f others))
+    held_then Any (HasShortErrors reader_limits) verbatim_of (line_as reader_limits (count_line reader_limits 4 (Some max_bulk)) bs) (any_read (line_as reader_limits (count_line reader_limits 4 (Some max_bulk)) bs))
+    (λ n rest h. held_then Any (HasShortErrors reader_limits) (text_of n) (format rest) (any_read (format rest)) (λ f others k. text_by n f others))
 
 -- each form of a table does
 abbrev AllShort : Table → Type 0
 AllShort [] = Unit {0}
 AllShort (f ∷ fs) = GivesShort f.1 × AllShort fs
 
-plain_short : AllShort plain
+plain_short : AllShort (plain reader_limits)
 plain_short = (
   simple_gives,
   (error_gives, (number_gives, (bulk_gives, (null_gives, (boolean_gives, (double_gives, (big_gives, (bulk_error_gives, (verbatim_gives, tt))))))))),
@@ -119,25 +119,25 @@ plain_short = (
 
 chosen_short : (fs : Table) → AllShort fs → (b : ℕ) → GivesShort (chosen fs b)
 chosen_short [] h b bs fit = tt
-chosen_short (f ∷ fs) h b bs fit = held_if HasShortErrors (b == f.0) (f.1 bs) (chosen fs b bs) (h.0 bs fit) (chosen_short fs h.1 b bs fit)
+chosen_short (f ∷ fs) h b bs fit = held_if (HasShortErrors reader_limits) (b == f.0) (f.1 bs) (chosen fs b bs) (h.0 bs fit) (chosen_short fs h.1 b bs fit)
 
 more_short : (fs gs : Table) → AllShort fs → AllShort gs → AllShort (fs ++ gs)
 more_short [] gs h k = k
 more_short (f ∷ fs) gs h k = (h.0, more_short fs gs h.1 k)
 
-form_short : (more : Table) → AllShort more → GivesShort (form more)
+form_short : (more : Table) → AllShort more → GivesShort (form reader_limits more)
 form_short more k [] fit = tt
-form_short more k (b ∷ bs) fit = chosen_short (plain ++ more) (more_short plain more plain_short k) b bs (omega (arith, fit))
+form_short more k (b ∷ bs) fit = chosen_short (plain reader_limits ++ more) (more_short (plain reader_limits) more plain_short k) b bs (omega (arith, fit))
 
 module _ (inside : List ℕ → Found Data) (lawful : Lawful inside) (some : Possible inside) (gives : GivesShort inside) where
   abbrev ItemsShort : List Data → Type 0
-  ItemsShort ds = EachShort (items_of ds)
+  ItemsShort ds = EachShort reader_limits (items_of ds)
 
   abbrev PairShort : Data × Data → Type 0
-  PairShort p = HasShortErrors p.0 × HasShortErrors p.1
+  PairShort p = HasShortErrors reader_limits p.0 × HasShortErrors reader_limits p.1
 
   abbrev PairsShort : List (Data × Data) → Type 0
-  PairsShort ps = EachPairShort (members_of ps)
+  PairsShort ps = EachPairShort reader_limits (members_of ps)
 
   abbrev second : Data → List ℕ → Found (Data × Data)
   second k rest = found_map (λ v. (k, v)) (inside rest)
@@ -151,13 +151,13 @@ module _ (inside : List ℕ → Found Data) (lawful : Lawful inside) (some : Pos
   items_gives : (n : ℕ) (bs : List ℕ) → IsShort bs → IfRead ItemsShort (repeated inside n bs)
   items_gives zero bs fit = tt
   items_gives (suc n) bs fit =
-      short_then inside (λ a rest. found_map (λ others. a ∷ others) (repeated inside n rest)) HasShortErrors ItemsShort lawful bs fit
+      short_then inside (λ a rest. found_map (λ others. a ∷ others) (repeated inside n rest)) (HasShortErrors reader_limits) ItemsShort lawful bs fit
       (λ a rest k h. held_map ItemsShort ItemsShort (λ others. a ∷ others) (repeated inside n rest) (items_gives n rest k) (λ others s. (h, s))) (gives bs fit)
 
   pair_gives : (bs : List ℕ) → IsShort bs → IfRead PairShort (pair inside bs)
   pair_gives bs fit =
-      short_then inside second HasShortErrors PairShort lawful bs fit
-      (λ a rest k h. held_map HasShortErrors PairShort (λ v. (a, v)) (inside rest) (gives rest k) (λ v s. (h, s))) (gives bs fit)
+      short_then inside second (HasShortErrors reader_limits) PairShort lawful bs fit
+      (λ a rest k h. held_map (HasShortErrors reader_limits) PairShort (λ v. (a, v)) (inside rest) (gives rest k) (λ v s. (h, s))) (gives bs fit)
 
   pairs_gives : (n : ℕ) (bs : List ℕ) → IsShort bs → IfRead PairsShort (repeated (pair inside) n bs)
   pairs_gives zero bs fit = tt
@@ -165,38 +165,38 @@ module _ (inside : List ℕ → Found Data) (lawful : Lawful inside) (some : Pos
       short_then (pair inside) (λ a rest. found_map (λ others. a ∷ others) (repeated (pair inside) n rest)) PairShort PairsShort pair_lawful bs fit
       (λ a rest k h. held_map PairsShort PairsShort (λ others. a ∷ others) (repeated (pair inside) n rest) (pairs_gives n rest k) (λ others s. (h.0, h.1, s))) (pair_gives bs fit)
 
-  counted : (g : ℕ → List ℕ → Found Data) → ((n : ℕ) → GivesShort (g n)) → GivesShort (λ bs. found_and_then g (line_as (count_line 0 max_count) bs))
+  counted : (g : ℕ → List ℕ → Found Data) → ((n : ℕ) → GivesShort (g n)) → GivesShort (λ bs. found_and_then g (line_as reader_limits (count_line reader_limits 0 (Some max_count)) bs))
   counted g h bs fit =
-      short_then (line_as (count_line 0 max_count)) g Any HasShortErrors (lawful_counted 0 max_count (lit≤ tt) (lit≤ tt)) bs fit (λ n rest k s. h n rest k) (any_read (line_as (count_line 0 max_count) bs))
+      short_then (line_as reader_limits (count_line reader_limits 0 (Some max_count))) g Any (HasShortErrors reader_limits) (lawful_counted 0 max_count (lit≤ tt) (lit≤ tt)) bs fit (λ n rest k s. h n rest k) (any_read (line_as reader_limits (count_line reader_limits 0 (Some max_count)) bs))
 
   array_by : (o : Option ℕ) → GivesShort (array_of inside o)
   array_by None bs fit = tt
-  array_by (Some n) bs fit = held_map ItemsShort HasShortErrors (λ ds. array (items_of ds)) (repeated inside n bs) (items_gives n bs fit) (λ ds s. s)
+  array_by (Some n) bs fit = held_map ItemsShort (HasShortErrors reader_limits) (λ ds. array (items_of ds)) (repeated inside n bs) (items_gives n bs fit) (λ ds s. s)
 
-  array_gives : GivesShort (array_form inside)
+  array_gives : GivesShort (array_form reader_limits inside)
   array_gives bs fit =
-      short_then (line_as (size_line max_count)) (array_of inside) Any HasShortErrors (lawful_line (size_line max_count) (lawful_size max_count)) bs fit (λ o rest k s. array_by o rest k) (any_read (line_as (size_line max_count) bs))
+      short_then (line_as reader_limits (size_line (Some max_count))) (array_of inside) Any (HasShortErrors reader_limits) (lawful_line (size_line (Some max_count)) (lawful_size max_count)) bs fit (λ o rest k s. array_by o rest k) (any_read (line_as reader_limits (size_line (Some max_count)) bs))
 
-  set_gives : GivesShort (set_form inside)
-  set_gives = counted (set_of inside) (λ n bs fit. held_map ItemsShort HasShortErrors (λ ds. set (items_of ds)) (repeated inside n bs) (items_gives n bs fit) (λ ds s. s))
+  set_gives : GivesShort (set_form reader_limits inside)
+  set_gives = counted (set_of inside) (λ n bs fit. held_map ItemsShort (HasShortErrors reader_limits) (λ ds. set (items_of ds)) (repeated inside n bs) (items_gives n bs fit) (λ ds s. s))
 
-  dict_gives : GivesShort (map_form inside)
-  dict_gives = counted (map_of inside) (λ n bs fit. held_map PairsShort HasShortErrors (λ ps. dict (members_of ps)) (repeated (pair inside) n bs) (pairs_gives n bs fit) (λ ps s. s))
+  dict_gives : GivesShort (map_form reader_limits inside)
+  dict_gives = counted (map_of inside) (λ n bs fit. held_map PairsShort (HasShortErrors reader_limits) (λ ps. dict (members_of ps)) (repeated (pair inside) n bs) (pairs_gives n bs fit) (λ ps s. s))
 
-  attribute_gives : GivesShort (attribute_form inside)
+  attribute_gives : GivesShort (attribute_form reader_limits inside)
   attribute_gives =
       counted (attribute_of inside)
-      (λ n bs fit. short_then (repeated (pair inside) n) (attributed inside) PairsShort HasShortErrors (lawful_repeated (pair inside) pair_lawful pair_possible n) bs fit
-      (λ ps rest k s. held_map HasShortErrors HasShortErrors (λ v. attribute v (members_of ps)) (inside rest) (gives rest k) (λ v t. (t, s))) (pairs_gives n bs fit))
+      (λ n bs fit. short_then (repeated (pair inside) n) (attributed inside) PairsShort (HasShortErrors reader_limits) (lawful_repeated (pair inside) pair_lawful pair_possible n) bs fit
+      (λ ps rest k s. held_map (HasShortErrors reader_limits) (HasShortErrors reader_limits) (λ v. attribute v (members_of ps)) (inside rest) (gives rest k) (λ v t. (t, s))) (pairs_gives n bs fit))
 
-  push_gives : GivesShort (push_form inside)
+  push_gives : GivesShort (push_form reader_limits inside)
   push_gives bs fit =
-      short_then (line_as (count_line 1 max_count)) (push_of inside) Any HasShortErrors (lawful_counted 1 max_count (lit≤ tt) (lit≤ tt)) bs fit
-      (λ n rest k s. short_then kind (push_with inside n) Any HasShortErrors lawful_kind rest k
-      (λ text others m t. held_map ItemsShort HasShortErrors (λ ds. push (kind_of text) (items_of ds)) (repeated inside (n - 1) others) (items_gives (n - 1) others m) (λ ds u. u)) (any_read (kind rest)))
-      (any_read (line_as (count_line 1 max_count) bs))
+      short_then (line_as reader_limits (count_line reader_limits 1 (Some max_count))) (push_of reader_limits inside) Any (HasShortErrors reader_limits) (lawful_counted 1 max_count (lit≤ tt) (lit≤ tt)) bs fit
+      (λ n rest k s. short_then (kind reader_limits) (push_with inside n) Any (HasShortErrors reader_limits) lawful_kind rest k
+      (λ text others m t. held_map ItemsShort (HasShortErrors reader_limits) (λ ds. push (kind_of text) (items_of ds)) (repeated inside (n - 1) others) (items_gives (n - 1) others m) (λ ds u. u)) (any_read (kind reader_limits rest)))
+      (any_read (line_as reader_limits (count_line reader_limits 1 (Some max_count)) bs))
 
-  nested_short : AllShort (nested inside)
+  nested_short : AllShort (nested reader_limits inside)
   nested_short = (array_gives, (set_gives, (dict_gives, (push_gives, (attribute_gives, tt)))))
 
 parse_some : (n : ℕ) → Possible (parse n)
@@ -204,11 +204,11 @@ parse_some zero = (95 ∷ 13 ∷ 10 ∷ [], nil, refl)
 parse_some (suc n) = (95 ∷ 13 ∷ 10 ∷ [], nil, refl)
 
 parse_short : (n : ℕ) → GivesShort (parse n)
-parse_short zero = form_short innermost (no_array_gives, tt)
-parse_short (suc n) = form_short (nested (parse n)) (nested_short (parse n) (lawful_parse n) (parse_some n) (parse_short n))
+parse_short zero = form_short (innermost reader_limits) (no_array_gives, tt)
+parse_short (suc n) = form_short (nested reader_limits (parse n)) (nested_short (parse n) (lawful_parse n) (parse_some n) (parse_short n))
 
-pub short_errors : (bytes : List ℕ) (v : Data) (rest : List ℕ) → length bytes ≤ max_line → Reads bytes v rest → HasShortErrors v
-short_errors bytes v rest fit e = was_read HasShortErrors (parse max_depth bytes) v rest (parse_short max_depth bytes fit) e
+pub short_errors : (bytes : List ℕ) (v : Data) (rest : List ℕ) → length bytes ≤ max_line → Reads bytes v rest → HasShortErrors reader_limits v
+short_errors bytes v rest fit e = was_read (HasShortErrors reader_limits) (parse max_depth bytes) v rest (parse_short max_depth bytes fit) e
 
 pub short_text_again : (bytes : List ℕ) (v : Data) (rest more : List ℕ) → length bytes ≤ max_line → Reads bytes v rest → Reads (canonical v ++ more) v more
 short_text_again bytes v rest more fit e = read_again bytes v rest more e (short_errors bytes v rest fit e)

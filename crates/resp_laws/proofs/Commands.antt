@@ -1,15 +1,15 @@
 -- A packed command is read as the array of its arguments.
-use Rattle.std.proofs.Common.{◌≡◌, ℕ, zero, suc, ◌≤◌, List, [], ◌∷◌, ◌++◌, length, map, refl, sym, ap, ◌∙◌, append_assoc, arith}
+use Rattle.std.proofs.Common.{◌≡◌, ℕ, zero, suc, ◌≤◌, List, [], ◌∷◌, ◌++◌, length, map, Some, refl, sym, ap, ◌∙◌, append_assoc, arith}
 use Rattle.std.proofs.lemmas.List.Elements.{All-head, All-tail}
 use Rattle.std.specs.List.{All}
 use Rattle.std.specs.Prelude.{decimal, flat_map}
 use Rattle.resp_value.specs.Data.{Data, bulk, array, items_of, Items, no_items, item}
-use Rattle.resp_read.specs.Grammar.{Found, read, found_and_then, found_map, body, bulk_of, bulk_string as bulk_form, repeated, array_of, array_form, parse, max_depth, max_bulk, max_count}
+use Rattle.resp_read.specs.Grammar.{Found, read, found_and_then, found_map, body, bulk_of, bulk_string as bulk_form, repeated, array_of, array_form, reader_limits, parse, max_depth, max_bulk, max_count}
 use Rattle.resp_read.specs.Reads.{Reads}
 use Rattle.resp_read.proofs.Bodies.{body_is, lawful_body}
 use Rattle.resp_write.specs.Pack.{crlf, sized_text, bulk_string, number_line, pack}
 use Rattle.resp_laws.specs.Commands.{FitsBulk, IsWithinLimits, request}
-use Rattle.resp_laws.proofs.Lengths.{length_read}
+use Rattle.resp_laws.proofs.Lengths.{no_more, reader_takes, length_read}
 
 -- a line of a number, with what follows
 pub line_shape : (first n : ℕ) (rest : List ℕ) → number_line first n ++ rest ≡ first ∷ (decimal n ++ 13 ∷ 10 ∷ rest)
@@ -18,7 +18,7 @@ line_shape first n rest = ap (λ x. first ∷ x) (append_assoc (decimal n) crlf 
 pub text_read : (text rest : List ℕ) → body (length text) ((text ++ crlf) ++ rest) ≡ read text rest
 text_read text rest = (lawful_body (length text) (text ++ crlf)).grows rest text [] (body_is (length text) text refl)
 
-parse_bulk : (n : ℕ) (bs : List ℕ) → parse n (36 ∷ bs) ≡ bulk_form bs
+parse_bulk : (n : ℕ) (bs : List ℕ) → parse n (36 ∷ bs) ≡ bulk_form reader_limits bs
 parse_bulk zero bs = refl
 parse_bulk (suc n) bs = refl
 
@@ -32,7 +32,7 @@ sized_shape first text rest =
 bulk_read : (n : ℕ) (text rest : List ℕ) → length text ≤ max_bulk → parse n (bulk_string text ++ rest) ≡ read (bulk text) rest
 bulk_read n text rest fit =
     ap (parse n) (sized_shape 36 text rest) ∙ parse_bulk n (decimal (length text) ++ 13 ∷ 10 ∷ ((text ++ crlf) ++ rest))
-    ∙ ap (found_and_then bulk_of) (length_read max_bulk (length text) ((text ++ crlf) ++ rest) (omega arith) fit)
+    ∙ ap (found_and_then bulk_of) (length_read reader_limits (Some max_bulk) (length text) ((text ++ crlf) ++ rest) reader_takes (omega arith) (no_more max_bulk (length text) fit))
     ∙ ap (found_map bulk) (text_read text rest)
 
 -- what was found first, and then the others
@@ -46,7 +46,7 @@ args_read n (a ∷ args) rest h =
     ap (repeated (parse n) (suc (length args))) (append_assoc (bulk_string a) (flat_map bulk_string args) rest)
     ∙ first_then (parse n) (length args) (bulk_string a ++ others) others rest (bulk a) (map bulk args) (bulk_read n a others (All-head FitsBulk a args h)) (args_read n args rest (All-tail FitsBulk a args h))
 
-parse_array : (d n : ℕ) (bs : List ℕ) → d ≡ suc n → parse d (42 ∷ bs) ≡ array_form (parse n) bs
+parse_array : (d n : ℕ) (bs : List ℕ) → d ≡ suc n → parse d (42 ∷ bs) ≡ array_form reader_limits (parse n) bs
 parse_array d n bs e = ap (λ k. parse k (42 ∷ bs)) e
 
 command_read : (n : ℕ) (args : List (List ℕ)) (rest : List ℕ) → IsWithinLimits args → parse (suc n) ((number_line 42 (length args) ++ flat_map bulk_string args) ++ rest) ≡ read (request args) rest
@@ -54,7 +54,7 @@ command_read n args rest h =
     let others = flat_map bulk_string args ++ rest in
     ap (parse (suc n)) (append_assoc (number_line 42 (length args)) (flat_map bulk_string args) rest ∙ line_shape 42 (length args) others)
     ∙ parse_array (suc n) n (decimal (length args) ++ 13 ∷ 10 ∷ others) refl
-    ∙ ap (found_and_then (array_of (parse n))) (length_read max_count (length args) others (omega (arith, h.1)) h.1)
+    ∙ ap (found_and_then (array_of (parse n))) (length_read reader_limits (Some max_count) (length args) others reader_takes (omega (arith, h.1)) (no_more max_count (length args) h.1))
     ∙ ap (found_map (λ ds. array (items_of ds))) (args_read n args rest h.0)
 
 -- an array may stand in others

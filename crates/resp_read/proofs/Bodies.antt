@@ -4,7 +4,7 @@ use Rattle.std.proofs.lemmas.List.{length-replicate, take-append-drop, take-appe
 use Rattle.std.proofs.lemmas.Bool.Decides.{nat_tests}
 use Rattle.std.specs.Prelude.{◌==◌, nat_lt, Option, Some, None}
 use Rattle.resp_value.specs.Data.{nil, bulk, verbatim}
-use Rattle.resp_read.specs.Grammar.{read, short, bad, fed, closed, body, bulk_of, bulk_string, line_as, size_line, count_line, max_bulk, error_of, error_body, bulk_error, some_bytes, colon, format, text_of, verbatim_of, verbatim_string, text_line, bulk_text, kind}
+use Rattle.resp_read.specs.Grammar.{read, short, bad, fed, closed, body, bulk_of, bulk_string, line_as, size_line, count_line, max_bulk, error_of, error_body, bulk_error, some_bytes, colon, format, text_of, verbatim_of, verbatim_string, text_line, bulk_text, kind, reader_limits}
 use Rattle.resp_read.proofs.Laws.{LawfulAt, Lawful, Possible, lawful_where_read, lawful_where_short, lawful_bad, lawful_read, lawful_if, lawful_cons, lawful_nil, lawful_then, lawful_map, possible_map, possible_then}
 use Rattle.resp_read.proofs.LineLaws.{lawful_line}
 use Rattle.resp_read.proofs.Numbers.{lawful_size, lawful_text_line}
@@ -70,15 +70,15 @@ bulk_of_possible : (n : Option ℕ) → Possible (bulk_of n)
 bulk_of_possible None = ([], nil, refl)
 bulk_of_possible (Some n) = possible_map bulk (body n) (body_possible n)
 
-pub lawful_bulk_string : Lawful bulk_string
-lawful_bulk_string = lawful_then (line_as (size_line max_bulk)) bulk_of (lawful_line (size_line max_bulk) (lawful_size max_bulk)) lawful_bulk_of bulk_of_possible
+pub lawful_bulk_string : Lawful (bulk_string reader_limits)
+lawful_bulk_string = lawful_then (line_as reader_limits (size_line (Some max_bulk))) bulk_of (lawful_line (size_line (Some max_bulk)) (lawful_size max_bulk)) lawful_bulk_of bulk_of_possible
 
-pub lawful_counted : (least most : ℕ) → least ≤ 9 → 11 * least ≤ most → Lawful (line_as (count_line least most))
-lawful_counted least most digit room = lawful_line (count_line least most) (lawful_count least most digit room)
+pub lawful_counted : (least most : ℕ) → least ≤ 9 → 11 * least ≤ most → Lawful (line_as reader_limits (count_line reader_limits least (Some most)))
+lawful_counted least most digit room = lawful_line (count_line reader_limits least (Some most)) (lawful_count least most digit room)
 
-pub lawful_bulk_error : Lawful bulk_error
+pub lawful_bulk_error : Lawful (bulk_error reader_limits)
 lawful_bulk_error =
-    lawful_then (line_as (count_line 0 max_bulk)) error_body (lawful_counted 0 max_bulk (lit≤ tt) (lit≤ tt))
+    lawful_then (line_as reader_limits (count_line reader_limits 0 (Some max_bulk))) error_body (lawful_counted 0 max_bulk (lit≤ tt) (lit≤ tt))
     (λ n. lawful_map error_of (body n) (lawful_body n)) (λ n. possible_map error_of (body n) (body_possible n))
 
 -- n bytes
@@ -132,21 +132,21 @@ lawful_verbatim_of n = lawful_then format (text_of n) lawful_format (lawful_text
 verbatim_possible : (n : ℕ) → Possible (verbatim_of n)
 verbatim_possible n = possible_then format (text_of n) lawful_format format_possible (text_possible n)
 
-pub lawful_verbatim_string : Lawful verbatim_string
-lawful_verbatim_string = lawful_then (line_as (count_line 4 max_bulk)) verbatim_of (lawful_counted 4 max_bulk (lit≤ tt) (lit≤ tt)) lawful_verbatim_of verbatim_possible
+pub lawful_verbatim_string : Lawful (verbatim_string reader_limits)
+lawful_verbatim_string = lawful_then (line_as reader_limits (count_line reader_limits 4 (Some max_bulk))) verbatim_of (lawful_counted 4 max_bulk (lit≤ tt) (lit≤ tt)) lawful_verbatim_of verbatim_possible
 
 -- the kind of a push
-kind_line : Lawful (line_as text_line)
+kind_line : Lawful (line_as reader_limits text_line)
 kind_line = lawful_line text_line lawful_text_line
 
-kind_text : Lawful bulk_text
-kind_text = lawful_then (line_as (count_line 0 max_bulk)) body (lawful_counted 0 max_bulk (lit≤ tt) (lit≤ tt)) lawful_body body_possible
+kind_text : Lawful (bulk_text reader_limits)
+kind_text = lawful_then (line_as reader_limits (count_line reader_limits 0 (Some max_bulk))) body (lawful_counted 0 max_bulk (lit≤ tt) (lit≤ tt)) lawful_body body_possible
 
-pub kind_possible : Possible kind
+pub kind_possible : Possible (kind reader_limits)
 kind_possible = (43 ∷ 13 ∷ 10 ∷ [], [], refl)
 
-pub lawful_kind : Lawful kind
-lawful_kind [] = lawful_nil kind refl kind_possible
+pub lawful_kind : Lawful (kind reader_limits)
+lawful_kind [] = lawful_nil (kind reader_limits) refl kind_possible
 lawful_kind (b ∷ bs) =
-    lawful_cons kind (λ x. cond (b == 43) (line_as text_line x) (cond (b == 36) (bulk_text x) bad)) b bs (λ x. refl)
-    (lawful_if (b == 43) (line_as text_line) (λ x. cond (b == 36) (bulk_text x) bad) bs (kind_line bs) (lawful_if (b == 36) bulk_text (λ x. bad) bs (kind_text bs) (lawful_bad bs)))
+    lawful_cons (kind reader_limits) (λ x. cond (b == 43) (line_as reader_limits text_line x) (cond (b == 36) (bulk_text reader_limits x) bad)) b bs (λ x. refl)
+    (lawful_if (b == 43) (line_as reader_limits text_line) (λ x. cond (b == 36) (bulk_text reader_limits x) bad) bs (kind_line bs) (lawful_if (b == 36) (bulk_text reader_limits) (λ x. bad) bs (kind_text bs) (lawful_bad bs)))

@@ -3,7 +3,7 @@ use Rattle.std.proofs.Common.{◌≡◌, ℕ, ◌+◌, ◌-◌, ◌*◌, ◌≤�
 use Rattle.std.proofs.lemmas.List.{append-nil}
 use Rattle.std.proofs.lemmas.Bool.Decides.{nat_tests}
 use Rattle.std.specs.Prelude.{◌&&◌, ◌||◌, ◌==◌, nat_le, nat_lt, is_some}
-use Rattle.resp_read.specs.Grammar.{max_line, fits, is_digit, digits_after, at_most, natural, at_least, count, made_by, count_begun, count_line}
+use Rattle.resp_read.specs.Grammar.{max_line, fits, is_digit, digits_after, at_most, natural, at_least, count, made_by, count_begun, count_line, reader_limits}
 use Rattle.resp_read.proofs.LineLaws.{IsOneLine, LawfulLine}
 use Rattle.resp_read.proofs.Numbers.{Begins, natural_stays, one_of_two, neither}
 
@@ -15,10 +15,10 @@ not_both : (c d : Bool) → (c && d) ≡ false → c ≡ true → d ≡ false
 not_both true d h e = h
 not_both false d h e = cc
 
-pub fits_is : (l : List ℕ) → length l ≤ max_line → fits l ≡ true
+pub fits_is : (l : List ℕ) → length l ≤ max_line → fits reader_limits l ≡ true
 fits_is l h = grind (arith, nat_tests)
 
-pub fits_within : (l : List ℕ) → fits l ≡ true → length l ≤ max_line
+pub fits_within : (l : List ℕ) → fits reader_limits l ≡ true → length l ≤ max_line
 fits_within l h = grind (arith, nat_tests)
 
 -- each of these is a line by itself
@@ -31,10 +31,10 @@ module _ (f : List ℕ → Bool) where
   abbrev pub Made : List ℕ → Type 0
   Made l = (q : List ℕ) × (f (l ++ q) ≡ true) × (length (l ++ q) ≤ max_line) × IsOneLine q
 
-  pub made_can : (qs : List (List ℕ)) (l : List ℕ) → AllLines qs → made_by f qs l ≡ true → Made l
+  pub made_can : (qs : List (List ℕ)) (l : List ℕ) → AllLines qs → made_by reader_limits f qs l ≡ true → Made l
   made_can [] l lines h = cc
-  made_can (q ∷ qs) l lines h = elim (one_of_two (fits (l ++ q) && f (l ++ q)) (made_by f qs l) h) [
-    | inl one ↦ let b = both_true (fits (l ++ q)) (f (l ++ q)) one in (q, b.1, fits_within (l ++ q) b.0, lines.0)
+  made_can (q ∷ qs) l lines h = elim (one_of_two (fits reader_limits (l ++ q) && f (l ++ q)) (made_by reader_limits f qs l) h) [
+    | inl one ↦ let b = both_true (fits reader_limits (l ++ q)) (f (l ++ q)) one in (q, b.1, fits_within (l ++ q) b.0, lines.0)
     | inr other ↦ made_can qs l lines.1 other
   ]
 
@@ -67,11 +67,11 @@ limited : (c : Bool) (k n : ℕ) → cond c (Some k) None ≡ Some n → ◌≡�
 limited true k n h = h
 limited false k n h = cc
 
-unlimited : (most n : ℕ) (o : Option ℕ) → at_most most o ≡ Some n → o ≡ Some n
+unlimited : (most n : ℕ) (o : Option ℕ) → at_most (Some most) o ≡ Some n → o ≡ Some n
 unlimited most n None h = cc
 unlimited most n (Some k) h = limited (nat_le k most) k n h
 
-within : (most n : ℕ) → n ≤ most → at_most most (Some n) ≡ Some n
+within : (most n : ℕ) → n ≤ most → at_most (Some most) (Some n) ≡ Some n
 within most n h = let c : nat_le n most ≡ true = grind (arith, nat_tests) in rw c refl
 
 enough : (least n : ℕ) → least ≤ n → at_least least (Some n) ≡ Some n
@@ -102,117 +102,117 @@ no_tail false false false false h k = refl
 no_tail x true z w h k = cc
 no_tail x false z true h k = cc
 
-fits_more : (l : List ℕ) (b : ℕ) → fits (l ++ b ∷ []) ≡ nat_lt (length l) max_line
+fits_more : (l : List ℕ) (b : ℕ) → fits reader_limits (l ++ b ∷ []) ≡ nat_lt (length l) max_line
 fits_more l b = let e = length-append l (b ∷ []) in grind (arith, nat_tests)
 
 module _ (least most : ℕ) (digit : least ≤ 9) (room : 11 * least ≤ most) where
   -- a length that is too small, with one digit more
-  pub next_digit : (n b : ℕ) (l : List ℕ) → natural most (b ∷ l) ≡ Some n → n < least → count least most ((b ∷ l) ++ digit_for least) ≡ Some (10 * n + least)
+  pub next_digit : (n b : ℕ) (l : List ℕ) → natural (Some most) (b ∷ l) ≡ Some n → n < least → count least (Some most) ((b ∷ l) ++ digit_for least) ≡ Some (10 * n + least)
   next_digit n b l h few =
       let all : digits_after 0 ((b ∷ l) ++ digit_for least) ≡ Some (10 * n + least) = digits_append 0 n (b ∷ l) (digit_for least) (unlimited most n (digits_after 0 (b ∷ l)) h) ∙ one_digit_more least n digit in
-      ap (λ o. at_least least (at_most most o)) all ∙ ap (at_least least) (within most (10 * n + least) (omega arith)) ∙ enough least (10 * n + least) (omega arith)
+      ap (λ o. at_least least (at_most (Some most) o)) all ∙ ap (at_least least) (within most (10 * n + least) (omega arith)) ∙ enough least (10 * n + least) (omega arith)
 
-  pub first_digit : count least most (digit_for least) ≡ Some least
+  pub first_digit : count least (Some most) (digit_for least) ≡ Some least
   first_digit =
       let e : 10 * 0 + least ≡ least = omega arith in
       let all : digits_after 0 (digit_for least) ≡ Some least = one_digit_more least 0 digit ∙ ap Some e in
-      ap (λ o. at_least least (at_most most o)) all ∙ ap (at_least least) (within most least (omega arith)) ∙ enough least least (omega arith)
+      ap (λ o. at_least least (at_most (Some most) o)) all ∙ ap (at_least least) (within most least (omega arith)) ∙ enough least least (omega arith)
 
   line_of_digit : IsOneLine (digit_for least)
   line_of_digit = let c : (48 + least == 13) ≡ false = grind (arith, nat_tests) in rw c refl
 
   abbrev is_count : List ℕ → Bool
-  is_count x = is_some (count least most x)
+  is_count x = is_some (count least (Some most) x)
 
-  some_count : (l : List ℕ) (o : Option ℕ) → count least most l ≡ o → is_some o ≡ true → (n : ℕ) × (count least most l ≡ Some n)
+  some_count : (l : List ℕ) (o : Option ℕ) → count least (Some most) l ≡ o → is_some o ≡ true → (n : ℕ) × (count least (Some most) l ≡ Some n)
   some_count l None is h = cc
   some_count l (Some n) is h = (n, is)
 
-  count_can : (l : List ℕ) → length l ≤ max_line → count_begun least most l ≡ true → Begins (count least most) l
+  count_can : (l : List ℕ) → length l ≤ max_line → count_begun reader_limits least (Some most) l ≡ true → Begins (count least (Some most)) l
   count_can l fit h =
       let m = made_can is_count ([] ∷ digit_for least ∷ []) l (refl, (line_of_digit, tt)) h in
-      let n = some_count (l ++ m.0) (count least most (l ++ m.0)) refl m.1 in
+      let n = some_count (l ++ m.0) (count least (Some most) (l ++ m.0)) refl m.1 in
       (m.0, n.0, n.1, m.2, m.3)
 
   -- neither the front nor the front with one digit more is one
   abbrev Stuck : List ℕ → Type 0
-  Stuck l = (fits (l ++ []) ≡ true → is_count (l ++ []) ≡ false) × (fits (l ++ digit_for least) ≡ true → is_count (l ++ digit_for least) ≡ false)
+  Stuck l = (fits reader_limits (l ++ []) ≡ true → is_count (l ++ []) ≡ false) × (fits reader_limits (l ++ digit_for least) ≡ true → is_count (l ++ digit_for least) ≡ false)
 
-  stuck : (l : List ℕ) → count_begun least most l ≡ false → Stuck l
+  stuck : (l : List ℕ) → count_begun reader_limits least (Some most) l ≡ false → Stuck l
   stuck l h =
-      let first = neither (fits (l ++ []) && is_count (l ++ [])) (made_by is_count (digit_for least ∷ []) l) h in
-      let second = neither (fits (l ++ digit_for least) && is_count (l ++ digit_for least)) false first.1 in
-      (not_both (fits (l ++ [])) (is_count (l ++ [])) first.0, not_both (fits (l ++ digit_for least)) (is_count (l ++ digit_for least)) second.0)
+      let first = neither (fits reader_limits (l ++ []) && is_count (l ++ [])) (made_by reader_limits is_count (digit_for least ∷ []) l) h in
+      let second = neither (fits reader_limits (l ++ digit_for least) && is_count (l ++ digit_for least)) false first.1 in
+      (not_both (fits reader_limits (l ++ [])) (is_count (l ++ [])) first.0, not_both (fits reader_limits (l ++ digit_for least)) (is_count (l ++ digit_for least)) second.0)
 
-  fits_shorter : (l p q : List ℕ) → length p ≤ length q → length (l ++ q) ≤ max_line → fits (l ++ p) ≡ true
+  fits_shorter : (l p q : List ℕ) → length p ≤ length q → length (l ++ q) ≤ max_line → fits reader_limits (l ++ p) ≡ true
   fits_shorter l p q h k = fits_is (l ++ p) (omega (arith, h, k, length-append l p, length-append l q))
 
-  counted_none : (l : List ℕ) → natural most l ≡ None → count least most l ≡ None
+  counted_none : (l : List ℕ) → natural (Some most) l ≡ None → count least (Some most) l ≡ None
   counted_none l h = ap (at_least least) h
 
   -- a front that is a number, and is stuck, is too small; and then nothing may follow
-  cannot_by : (n b : ℕ) (l q : List ℕ) → natural most (b ∷ l) ≡ Some n → Stuck (b ∷ l) → length ((b ∷ l) ++ q) ≤ max_line → (c : Bool) → nat_le least n ≡ c → count least most ((b ∷ l) ++ q) ≡ None
+  cannot_by : (n b : ℕ) (l q : List ℕ) → natural (Some most) (b ∷ l) ≡ Some n → Stuck (b ∷ l) → length ((b ∷ l) ++ q) ≤ max_line → (c : Bool) → nat_le least n ≡ c → count least (Some most) ((b ∷ l) ++ q) ≡ None
   cannot_by n b l q is h fit true enough_for =
-      let whole : count least most (b ∷ l) ≡ Some n = ap (at_least least) is ∙ enough least n (grind (arith, nat_tests)) in
+      let whole : count least (Some most) (b ∷ l) ≡ Some n = ap (at_least least) is ∙ enough least n (grind (arith, nat_tests)) in
       let not : is_count ((b ∷ l) ++ []) ≡ false = h.0 (fits_shorter (b ∷ l) [] q (omega arith) fit) in
-      let yes : is_count ((b ∷ l) ++ []) ≡ true = ap is_some (ap (count least most) (append-nil (b ∷ l)) ∙ whole) in
+      let yes : is_count ((b ∷ l) ++ []) ≡ true = ap is_some (ap (count least (Some most)) (append-nil (b ∷ l)) ∙ whole) in
       cc
-  cannot_by n b l [] is h fit false few = ap (count least most) (append-nil (b ∷ l)) ∙ ap (at_least least) is ∙ too_few least n (grind (arith, nat_tests))
+  cannot_by n b l [] is h fit false few = ap (count least (Some most)) (append-nil (b ∷ l)) ∙ ap (at_least least) is ∙ too_few least n (grind (arith, nat_tests))
   cannot_by n b l (d ∷ q) is h fit false few =
-      let whole : count least most ((b ∷ l) ++ digit_for least) ≡ Some (10 * n + least) = next_digit n b l is (grind (arith, nat_tests)) in
+      let whole : count least (Some most) ((b ∷ l) ++ digit_for least) ≡ Some (10 * n + least) = next_digit n b l is (grind (arith, nat_tests)) in
       let not : is_count ((b ∷ l) ++ digit_for least) ≡ false = h.1 (fits_shorter (b ∷ l) (digit_for least) (d ∷ q) (omega arith) fit) in
       let yes : is_count ((b ∷ l) ++ digit_for least) ≡ true = ap is_some whole in
       cc
 
-  cannot_at : (b : ℕ) (l q : List ℕ) (o : Option ℕ) → natural most (b ∷ l) ≡ o → Stuck (b ∷ l) → length ((b ∷ l) ++ q) ≤ max_line → count least most ((b ∷ l) ++ q) ≡ None
+  cannot_at : (b : ℕ) (l q : List ℕ) (o : Option ℕ) → natural (Some most) (b ∷ l) ≡ o → Stuck (b ∷ l) → length ((b ∷ l) ++ q) ≤ max_line → count least (Some most) ((b ∷ l) ++ q) ≡ None
   cannot_at b l q None is h fit = counted_none ((b ∷ l) ++ q) (natural_stays most b l q is)
   cannot_at b l q (Some n) is h fit = cannot_by n b l q is h fit (nat_le least n) refl
 
-  count_cannot : (l q : List ℕ) → length (l ++ q) ≤ max_line → count_begun least most l ≡ false → count least most (l ++ q) ≡ None
+  count_cannot : (l q : List ℕ) → length (l ++ q) ≤ max_line → count_begun reader_limits least (Some most) l ≡ false → count least (Some most) (l ++ q) ≡ None
   count_cannot [] [] fit h = refl
   count_cannot [] (d ∷ q) fit h =
       let not : is_count (digit_for least) ≡ false = (stuck [] h).1 (fits_shorter [] (digit_for least) (d ∷ q) (omega arith) fit) in
       let yes : is_count (digit_for least) ≡ true = ap is_some first_digit in
       cc
-  count_cannot (b ∷ l) q fit h = cannot_at b l q (natural most (b ∷ l)) refl (stuck (b ∷ l) h) fit
+  count_cannot (b ∷ l) q fit h = cannot_at b l q (natural (Some most) (b ∷ l)) refl (stuck (b ∷ l) h) fit
 
-  pub lawful_count : LawfulLine (count_line least most)
+  pub lawful_count : LawfulLine (count_line reader_limits least (Some most))
   lawful_count = record { can = count_can; cannot = count_cannot }
 
   -- what the code looks at: the front alone
-  pub begun_empty : (l : List ℕ) → length l ≡ 0 → count_begun least most l ≡ true
+  pub begun_empty : (l : List ℕ) → length l ≡ 0 → count_begun reader_limits least (Some most) l ≡ true
   begun_empty (b ∷ l) h = absurd (omega (arith, h))
   begun_empty [] h =
       let yes : is_count (digit_for least) ≡ true = ap is_some first_digit in
-      let fit : fits (digit_for least) ≡ true = fits_is (digit_for least) (omega arith) in
-      only_second (fits []) false (fits (digit_for least)) (is_count (digit_for least)) refl yes ∙ fit
+      let fit : fits reader_limits (digit_for least) ≡ true = fits_is (digit_for least) (omega arith) in
+      only_second (fits reader_limits []) false (fits reader_limits (digit_for least)) (is_count (digit_for least)) refl yes ∙ fit
 
-  begun_few : (n b : ℕ) (l : List ℕ) → natural most (b ∷ l) ≡ Some n → n < least → count_begun least most (b ∷ l) ≡ nat_lt (length (b ∷ l)) max_line
+  begun_few : (n b : ℕ) (l : List ℕ) → natural (Some most) (b ∷ l) ≡ Some n → n < least → count_begun reader_limits least (Some most) (b ∷ l) ≡ nat_lt (length (b ∷ l)) max_line
   begun_few n b l is few =
-      let no : is_count ((b ∷ l) ++ []) ≡ false = ap is_some (ap (count least most) (append-nil (b ∷ l)) ∙ ap (at_least least) is ∙ too_few least n few) in
+      let no : is_count ((b ∷ l) ++ []) ≡ false = ap is_some (ap (count least (Some most)) (append-nil (b ∷ l)) ∙ ap (at_least least) is ∙ too_few least n few) in
       let yes : is_count ((b ∷ l) ++ digit_for least) ≡ true = ap is_some (next_digit n b l is few) in
-      only_second (fits ((b ∷ l) ++ [])) (is_count ((b ∷ l) ++ [])) (fits ((b ∷ l) ++ digit_for least)) (is_count ((b ∷ l) ++ digit_for least)) no yes ∙ fits_more (b ∷ l) (48 + least)
+      only_second (fits reader_limits ((b ∷ l) ++ [])) (is_count ((b ∷ l) ++ [])) (fits reader_limits ((b ∷ l) ++ digit_for least)) (is_count ((b ∷ l) ++ digit_for least)) no yes ∙ fits_more (b ∷ l) (48 + least)
 
-  begun_many : (n b : ℕ) (l : List ℕ) → natural most (b ∷ l) ≡ Some n → least ≤ n → count_begun least most (b ∷ l) ≡ fits (b ∷ l)
+  begun_many : (n b : ℕ) (l : List ℕ) → natural (Some most) (b ∷ l) ≡ Some n → least ≤ n → count_begun reader_limits least (Some most) (b ∷ l) ≡ fits reader_limits (b ∷ l)
   begun_many n b l is many =
-      let yes : is_count ((b ∷ l) ++ []) ≡ true = ap is_some (ap (count least most) (append-nil (b ∷ l)) ∙ ap (at_least least) is ∙ enough least n many) in
-      first_already (fits ((b ∷ l) ++ [])) (is_count ((b ∷ l) ++ [])) (fits ((b ∷ l) ++ digit_for least)) (is_count ((b ∷ l) ++ digit_for least)) yes
-      (λ h. fits_shorter (b ∷ l) [] (digit_for least) (omega arith) (fits_within ((b ∷ l) ++ digit_for least) h)) ∙ ap fits (append-nil (b ∷ l))
+      let yes : is_count ((b ∷ l) ++ []) ≡ true = ap is_some (ap (count least (Some most)) (append-nil (b ∷ l)) ∙ ap (at_least least) is ∙ enough least n many) in
+      first_already (fits reader_limits ((b ∷ l) ++ [])) (is_count ((b ∷ l) ++ [])) (fits reader_limits ((b ∷ l) ++ digit_for least)) (is_count ((b ∷ l) ++ digit_for least)) yes
+      (λ h. fits_shorter (b ∷ l) [] (digit_for least) (omega arith) (fits_within ((b ∷ l) ++ digit_for least) h)) ∙ ap (fits reader_limits) (append-nil (b ∷ l))
 
-  begun_none : (b : ℕ) (l : List ℕ) → natural most (b ∷ l) ≡ None → count_begun least most (b ∷ l) ≡ false
+  begun_none : (b : ℕ) (l : List ℕ) → natural (Some most) (b ∷ l) ≡ None → count_begun reader_limits least (Some most) (b ∷ l) ≡ false
   begun_none b l is =
       let no : is_count ((b ∷ l) ++ []) ≡ false = ap is_some (counted_none ((b ∷ l) ++ []) (natural_stays most b l [] is)) in
       let nor : is_count ((b ∷ l) ++ digit_for least) ≡ false = ap is_some (counted_none ((b ∷ l) ++ digit_for least) (natural_stays most b l (digit_for least) is)) in
-      no_tail (fits ((b ∷ l) ++ [])) (is_count ((b ∷ l) ++ [])) (fits ((b ∷ l) ++ digit_for least)) (is_count ((b ∷ l) ++ digit_for least)) no nor
+      no_tail (fits reader_limits ((b ∷ l) ++ [])) (is_count ((b ∷ l) ++ [])) (fits reader_limits ((b ∷ l) ++ digit_for least)) (is_count ((b ∷ l) ++ digit_for least)) no nor
 
-  pub front_few : (n : ℕ) (l : List ℕ) → 0 < length l → natural most l ≡ Some n → n < least → count_begun least most l ≡ nat_lt (length l) max_line
+  pub front_few : (n : ℕ) (l : List ℕ) → 0 < length l → natural (Some most) l ≡ Some n → n < least → count_begun reader_limits least (Some most) l ≡ nat_lt (length l) max_line
   front_few n [] some is few = absurd (omega (arith, some))
   front_few n (b ∷ l) some is few = begun_few n b l is few
 
-  pub front_many : (n : ℕ) (l : List ℕ) → 0 < length l → natural most l ≡ Some n → least ≤ n → count_begun least most l ≡ fits l
+  pub front_many : (n : ℕ) (l : List ℕ) → 0 < length l → natural (Some most) l ≡ Some n → least ≤ n → count_begun reader_limits least (Some most) l ≡ fits reader_limits l
   front_many n [] some is many = absurd (omega (arith, some))
   front_many n (b ∷ l) some is many = begun_many n b l is many
 
-  pub front_none : (l : List ℕ) → 0 < length l → natural most l ≡ None → count_begun least most l ≡ false
+  pub front_none : (l : List ℕ) → 0 < length l → natural (Some most) l ≡ None → count_begun reader_limits least (Some most) l ≡ false
   front_none [] some is = absurd (omega (arith, some))
   front_none (b ∷ l) some is = begun_none b l is

@@ -4,7 +4,7 @@ use Rattle.std.proofs.lemmas.Bool.Decides.{nat_tests}
 use Rattle.std.proofs.Math.Bool.{or-true, or-false, and-false}
 use Rattle.std.specs.Prelude.{◌==◌, ◌&&◌, ◌||◌, ◌⊎◌, nat_le, nat_eq, bytes_eq}
 use Rattle.resp_value.specs.Data.{double}
-use Rattle.resp_read.specs.Grammar.{max_line, fits, is_digit, is_end, unsigned, after_digits, digits_and, is_exponent, is_fraction, is_double, made_by, double_tails, double_line}
+use Rattle.resp_read.specs.Grammar.{max_line, fits, is_digit, is_end, unsigned, after_digits, digits_and, is_exponent, is_fraction, is_double, made_by, double_tails, double_line, reader_limits}
 use Rattle.resp_read.specs.Doubles.{digit_to, exponent_to, step, run, missing}
 use Rattle.resp_read.specs.declared.decimals.Seen.{Seen}
 use Rattle.resp_read.specs.declared.decimals.Seen.TheVariants.{Nothing, Minus, Plus, I, In, Inf, N, Na, Nan, Whole, Point, Fraction, Exponent, Sign, Power, Never}
@@ -229,29 +229,29 @@ completes Power = (refl, refl, inl refl)
 completes Never = tt
 
 module _ (f : List ℕ → Bool) where
-  made_among : (qs : List (List ℕ)) (l q : List ℕ) → Among q qs → fits (l ++ q) ≡ true → f (l ++ q) ≡ true → made_by f qs l ≡ true
+  made_among : (qs : List (List ℕ)) (l q : List ℕ) → Among q qs → fits reader_limits (l ++ q) ≡ true → f (l ++ q) ≡ true → made_by reader_limits f qs l ≡ true
   made_among [] l q h fit is = absurd h
   made_among (p ∷ ps) l q (inl e) fit is =
       let same : l ++ q ≡ l ++ p = ap (λ x. l ++ x) e in
-      let a : fits (l ++ p) ≡ true = ap fits (sym same) ∙ fit in
+      let a : fits reader_limits (l ++ p) ≡ true = ap (fits reader_limits) (sym same) ∙ fit in
       let b : f (l ++ p) ≡ true = ap f (sym same) ∙ is in
       rw (a, b) refl
   made_among (p ∷ ps) l q (inr h) fit is =
-      ap (λ c. (fits (l ++ p) && f (l ++ p)) || c) (made_among ps l q h fit is) ∙ or-true (fits (l ++ p) && f (l ++ p))
+      ap (λ c. (fits reader_limits (l ++ p) && f (l ++ p)) || c) (made_among ps l q h fit is) ∙ or-true (fits reader_limits (l ++ p) && f (l ++ p))
 
   no_by : (c d e : Bool) → (c ≡ true → d ≡ false) → e ≡ false → ((c && d) || e) ≡ false
   no_by true d e h k = let n = h refl in rw (n, k) refl
   no_by false d e h k = k
 
-  none_made : (qs : List (List ℕ)) (l : List ℕ) → ((q : List ℕ) → fits (l ++ q) ≡ true → f (l ++ q) ≡ false) → made_by f qs l ≡ false
+  none_made : (qs : List (List ℕ)) (l : List ℕ) → ((q : List ℕ) → fits reader_limits (l ++ q) ≡ true → f (l ++ q) ≡ false) → made_by reader_limits f qs l ≡ false
   none_made [] l h = refl
-  none_made (q ∷ qs) l h = no_by (fits (l ++ q)) (f (l ++ q)) (made_by f qs l) (h q) (none_made qs l h)
+  none_made (q ∷ qs) l h = no_by (fits reader_limits (l ++ q)) (f (l ++ q)) (made_by reader_limits f qs l) (h q) (none_made qs l h)
 
 module _ (l : List ℕ) where
   no_double : (q : List ℕ) → TooFew (missing (run Nothing l)) (length q) → is_double (l ++ q) ≡ false
   no_double q h = double_on l q ∙ few (run Nothing l) q h
 
-  pub begun_fits : (n : ℕ) → missing (run Nothing l) ≡ Some n → length l + n ≤ max_line → made_by is_double double_tails l ≡ true
+  pub begun_fits : (n : ℕ) → missing (run Nothing l) ≡ Some n → length l + n ≤ max_line → made_by reader_limits is_double double_tails l ≡ true
   begun_fits n is fit =
       let s = run Nothing l in
       let c : Completes s (Some n) = subst (Completes s) is (completes s) in
@@ -263,29 +263,29 @@ module _ (l : List ℕ) where
       let k : length q < n = omega (arith, length-append l q, long, fit) in
       no_double q (subst (λ o. TooFew o (length q)) (sym is) k)
 
-  pub begun_long : (n : ℕ) → missing (run Nothing l) ≡ Some n → max_line < length l + n → made_by is_double double_tails l ≡ false
+  pub begun_long : (n : ℕ) → missing (run Nothing l) ≡ Some n → max_line < length l + n → made_by reader_limits is_double double_tails l ≡ false
   begun_long n is long = none_made is_double double_tails l (λ q fit. too_few n is long q (fits_within (l ++ q) fit))
 
   never_double : missing (run Nothing l) ≡ None → (q : List ℕ) → is_double (l ++ q) ≡ false
   never_double is q = no_double q (subst (λ o. TooFew o (length q)) (sym is) tt)
 
-  pub begun_never : missing (run Nothing l) ≡ None → made_by is_double double_tails l ≡ false
+  pub begun_never : missing (run Nothing l) ≡ None → made_by reader_limits is_double double_tails l ≡ false
   begun_never is = none_made is_double double_tails l (λ q fit. never_double is q)
 
-  long_by : (n : ℕ) → missing (run Nothing l) ≡ Some n → made_by is_double double_tails l ≡ false → (c : Bool) → nat_le (length l + n) max_line ≡ c → max_line < length l + n
+  long_by : (n : ℕ) → missing (run Nothing l) ≡ Some n → made_by reader_limits is_double double_tails l ≡ false → (c : Bool) → nat_le (length l + n) max_line ≡ c → max_line < length l + n
   long_by n is h true fit = let e = begun_fits n is (grind (arith, nat_tests)) in cc
   long_by n is h false long = grind (arith, nat_tests)
 
-  none_by : (o : Option ℕ) → missing (run Nothing l) ≡ o → made_by is_double double_tails l ≡ false → (q : List ℕ) → length (l ++ q) ≤ max_line → is_double (l ++ q) ≡ false
+  none_by : (o : Option ℕ) → missing (run Nothing l) ≡ o → made_by reader_limits is_double double_tails l ≡ false → (q : List ℕ) → length (l ++ q) ≤ max_line → is_double (l ++ q) ≡ false
   none_by None is h q fit = never_double is q
   none_by (Some n) is h q fit = too_few n is (long_by n is h (nat_le (length l + n) max_line) refl) q fit
 
-  begun_by : (n : ℕ) → missing (run Nothing l) ≡ Some n → length l ≤ max_line → (c : Bool) → nat_le n (max_line - length l) ≡ c → c ≡ made_by is_double double_tails l
+  begun_by : (n : ℕ) → missing (run Nothing l) ≡ Some n → length l ≤ max_line → (c : Bool) → nat_le n (max_line - length l) ≡ c → c ≡ made_by reader_limits is_double double_tails l
   begun_by n is h true fit = sym (begun_fits n is (grind (arith, nat_tests)))
   begun_by n is h false long = sym (begun_long n is (grind (arith, nat_tests)))
 
   -- what the code looks at
-  pub begun_is : (n : ℕ) → missing (run Nothing l) ≡ Some n → length l ≤ max_line → nat_le n (max_line - length l) ≡ made_by is_double double_tails l
+  pub begun_is : (n : ℕ) → missing (run Nothing l) ≡ Some n → length l ≤ max_line → nat_le n (max_line - length l) ≡ made_by reader_limits is_double double_tails l
   begun_is n is h = begun_by n is h (nat_le n (max_line - length l)) refl
 
   pub double_whole : (n : ℕ) → missing (run Nothing l) ≡ Some n → is_double l ≡ nat_eq n 0
@@ -294,12 +294,12 @@ module _ (l : List ℕ) where
   pub double_never : missing (run Nothing l) ≡ None → is_double l ≡ false
   double_never is = double_is l ∙ ap is_whole is
 
-double_can : (l : List ℕ) → length l ≤ max_line → made_by is_double double_tails l ≡ true → Begins (λ x. cond (is_double x) (Some (double x)) None) l
+double_can : (l : List ℕ) → length l ≤ max_line → made_by reader_limits is_double double_tails l ≡ true → Begins (λ x. cond (is_double x) (Some (double x)) None) l
 double_can l fit h =
     let m = made_can is_double double_tails l (refl, (refl, (refl, (refl, (refl, (refl, tt)))))) h in
     (m.0, double (l ++ m.0), ap (λ c. cond c (Some (double (l ++ m.0))) None) m.1, m.2, m.3)
 
-pub lawful_double : LawfulLine double_line
+pub lawful_double : LawfulLine (double_line reader_limits)
 lawful_double = record {
   can = double_can;
   cannot = λ l q fit h. ap (λ c. cond c (Some (double (l ++ q))) None) (none_by l (missing (run Nothing l)) refl h q fit);

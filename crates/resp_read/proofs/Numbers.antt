@@ -41,7 +41,7 @@ lawful_text_line = any_line (λ l. l)
 pub lawful_error : LawfulLine error_line
 lawful_error = any_line error_of
 
-none_still : (c : Bool) (most : ℕ) (x y : Option ℕ) → (at_most most x ≡ None → at_most most y ≡ None) → at_most most (cond c x None) ≡ None → at_most most (cond c y None) ≡ None
+none_still : (c : Bool) (most : ℕ) (x y : Option ℕ) → (at_most (Some most) x ≡ None → at_most (Some most) y ≡ None) → at_most (Some most) (cond c x None) ≡ None → at_most (Some most) (cond c y None) ≡ None
 none_still true most x y f h = f h
 none_still false most x y f h = refl
 
@@ -50,12 +50,12 @@ above most n true is h = cc
 above most n false is h = grind (arith, nat_tests)
 
 -- digits of no number within the limit stay so when bytes follow
-digits_stay : (most n : ℕ) (ds q : List ℕ) → at_most most (digits_after n ds) ≡ None → at_most most (digits_after n (ds ++ q)) ≡ None
+digits_stay : (most n : ℕ) (ds q : List ℕ) → at_most (Some most) (digits_after n ds) ≡ None → at_most (Some most) (digits_after n (ds ++ q)) ≡ None
 digits_stay most n [] q h = stays_above most n q (above most n (nat_le n most) refl h)
 digits_stay most n (b ∷ ds) q h =
     none_still (is_digit b) most (digits_after (10 * n + (b - 48)) ds) (digits_after (10 * n + (b - 48)) (ds ++ q)) (digits_stay most (10 * n + (b - 48)) ds q) h
 
-pub natural_stays : (most b : ℕ) (ds q : List ℕ) → natural most (b ∷ ds) ≡ None → natural most ((b ∷ ds) ++ q) ≡ None
+pub natural_stays : (most b : ℕ) (ds q : List ℕ) → natural (Some most) (b ∷ ds) ≡ None → natural (Some most) ((b ∷ ds) ++ q) ≡ None
 natural_stays most b ds q h = digits_stay most 0 (b ∷ ds) q h
 
 module _ {A B : Type 0} (h : A → B) where
@@ -63,8 +63,8 @@ module _ {A B : Type 0} (h : A → B) where
   none_under None e = refl
   none_under (Some x) e = cc
 
-seen_stays : {B : Type 0} (h : ℕ → B) (most b : ℕ) (ds q : List ℕ) → option_map h (natural most (b ∷ ds)) ≡ None → option_map h (natural most ((b ∷ ds) ++ q)) ≡ None
-seen_stays h most b ds q e = ap (option_map h) (natural_stays most b ds q (none_under h (natural most (b ∷ ds)) e))
+seen_stays : {B : Type 0} (h : ℕ → B) (most b : ℕ) (ds q : List ℕ) → option_map h (natural (Some most) (b ∷ ds)) ≡ None → option_map h (natural (Some most) ((b ∷ ds) ++ q)) ≡ None
+seen_stays h most b ds q e = ap (option_map h) (natural_stays most b ds q (none_under h (natural (Some most) (b ∷ ds)) e))
 
 number_by : (c d : Bool) (x y z x' y' z' : Option ℤ) → (c ≡ true → x ≡ None → x' ≡ None) → (d ≡ true → y ≡ None → y' ≡ None) → (z ≡ None → z' ≡ None) → cond c x (cond d y z) ≡ None → cond c x' (cond d y' z') ≡ None
 number_by true d x y z x' y' z' f g k h = f refl h
@@ -140,18 +140,18 @@ not_minus_one : (c : Bool) (x : Option (Option ℕ)) → c ≡ false → x ≡ N
 not_minus_one true x h k = cc
 not_minus_one false x h k = k
 
-size_stays : (most b c : ℕ) (ds q : List ℕ) → size most (b ∷ c ∷ ds) ≡ None → size most ((b ∷ c ∷ ds) ++ q) ≡ None
+size_stays : (most b c : ℕ) (ds q : List ℕ) → size (Some most) (b ∷ c ∷ ds) ≡ None → size (Some most) ((b ∷ c ∷ ds) ++ q) ≡ None
 size_stays most b c ds q e =
-    let was = was_other (bytes_eq (b ∷ c ∷ ds) (45 ∷ 49 ∷ [])) (option_map Some (natural most (b ∷ c ∷ ds))) e in
-    not_minus_one (bytes_eq ((b ∷ c ∷ ds) ++ q) (45 ∷ 49 ∷ [])) (option_map Some (natural most ((b ∷ c ∷ ds) ++ q))) (longer_other b c ds q was.0) (seen_stays Some most b (c ∷ ds) q was.1)
+    let was = was_other (bytes_eq (b ∷ c ∷ ds) (45 ∷ 49 ∷ [])) (option_map Some (natural (Some most) (b ∷ c ∷ ds))) e in
+    not_minus_one (bytes_eq ((b ∷ c ∷ ds) ++ q) (45 ∷ 49 ∷ [])) (option_map Some (natural (Some most) ((b ∷ c ∷ ds) ++ q))) (longer_other b c ds q was.0) (seen_stays Some most b (c ∷ ds) q was.1)
 
 pub other_start : (b : ℕ) (q : List ℕ) → (b == 45) ≡ false → bytes_eq (b ∷ q) (45 ∷ 49 ∷ []) ≡ false
 other_start b q h = rw h refl
 
-size_stays_one : (most b : ℕ) (q : List ℕ) → (b == 45) ≡ false → size most (b ∷ []) ≡ None → size most (b ∷ q) ≡ None
+size_stays_one : (most b : ℕ) (q : List ℕ) → (b == 45) ≡ false → size (Some most) (b ∷ []) ≡ None → size (Some most) (b ∷ q) ≡ None
 size_stays_one most b q minus e =
-    let was = was_other (bytes_eq (b ∷ []) (45 ∷ 49 ∷ [])) (option_map Some (natural most (b ∷ []))) e in
-    not_minus_one (bytes_eq (b ∷ q) (45 ∷ 49 ∷ [])) (option_map Some (natural most (b ∷ q))) (other_start b q minus) (seen_stays Some most b [] q was.1)
+    let was = was_other (bytes_eq (b ∷ []) (45 ∷ 49 ∷ [])) (option_map Some (natural (Some most) (b ∷ []))) e in
+    not_minus_one (bytes_eq (b ∷ q) (45 ∷ 49 ∷ [])) (option_map Some (natural (Some most) (b ∷ q))) (other_start b q minus) (seen_stays Some most b [] q was.1)
 
 pub one_of_two : (x y : Bool) → (x || y) ≡ true → (x ≡ true) ⊎ (y ≡ true)
 one_of_two true y h = inl refl
@@ -161,21 +161,21 @@ pub neither : (x y : Bool) → (x || y) ≡ false → (x ≡ false) × (y ≡ fa
 neither true y h = cc
 neither false y h = (refl, h)
 
-minus_begins : (most : ℕ) → Begins (size most) (45 ∷ [])
+minus_begins : (most : ℕ) → Begins (size (Some most)) (45 ∷ [])
 minus_begins most = (49 ∷ [], None, refl, lit≤ tt, refl)
 
-size_can : (most : ℕ) (l : List ℕ) → length l ≤ max_line → size_begun most l ≡ true → Begins (size most) l
+size_can : (most : ℕ) (l : List ℕ) → length l ≤ max_line → size_begun (Some most) l ≡ true → Begins (size (Some most)) l
 size_can most [] fit h = (45 ∷ 49 ∷ [], None, refl, lit≤ tt, refl)
-size_can most (b ∷ []) fit h = elim (one_of_two (b == 45) (is_some (size most (b ∷ []))) h) [
-  | inl minus ↦ let e : b ≡ 45 = grind (arith, nat_tests) in subst (λ x. Begins (size most) (x ∷ [])) (sym e) (minus_begins most)
-  | inr whole ↦ whole_already (size most) (b ∷ []) (size most (b ∷ [])) refl fit whole
+size_can most (b ∷ []) fit h = elim (one_of_two (b == 45) (is_some (size (Some most) (b ∷ []))) h) [
+  | inl minus ↦ let e : b ≡ 45 = grind (arith, nat_tests) in subst (λ x. Begins (size (Some most)) (x ∷ [])) (sym e) (minus_begins most)
+  | inr whole ↦ whole_already (size (Some most)) (b ∷ []) (size (Some most) (b ∷ [])) refl fit whole
 ]
-size_can most (b ∷ c ∷ ds) fit h = whole_already (size most) (b ∷ c ∷ ds) (size most (b ∷ c ∷ ds)) refl fit h
+size_can most (b ∷ c ∷ ds) fit h = whole_already (size (Some most)) (b ∷ c ∷ ds) (size (Some most) (b ∷ c ∷ ds)) refl fit h
 
-size_cannot : (most : ℕ) (l q : List ℕ) → size_begun most l ≡ false → size most (l ++ q) ≡ None
+size_cannot : (most : ℕ) (l q : List ℕ) → size_begun (Some most) l ≡ false → size (Some most) (l ++ q) ≡ None
 size_cannot most [] q h = cc
-size_cannot most (b ∷ []) q h = let n = neither (b == 45) (is_some (size most (b ∷ []))) h in size_stays_one most b q n.0 (is_none (size most (b ∷ [])) n.1)
-size_cannot most (b ∷ c ∷ ds) q h = size_stays most b c ds q (is_none (size most (b ∷ c ∷ ds)) h)
+size_cannot most (b ∷ []) q h = let n = neither (b == 45) (is_some (size (Some most) (b ∷ []))) h in size_stays_one most b q n.0 (is_none (size (Some most) (b ∷ [])) n.1)
+size_cannot most (b ∷ c ∷ ds) q h = size_stays most b c ds q (is_none (size (Some most) (b ∷ c ∷ ds)) h)
 
-pub lawful_size : (most : ℕ) → LawfulLine (size_line most)
+pub lawful_size : (most : ℕ) → LawfulLine (size_line (Some most))
 lawful_size most = record { can = size_can most; cannot = λ l q fit h. size_cannot most l q h }

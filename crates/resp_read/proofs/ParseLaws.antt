@@ -2,7 +2,7 @@
 use Rattle.std.proofs.Common.{◌≡◌, ℕ, zero, suc, ◌<◌, List, [], ◌∷◌, ◌++◌, length, get_or, drop, Bool, true, false, cond, refl, sym, ap, ◌∙◌, subst, arith, length-append}
 use Rattle.std.specs.Prelude.{◌==◌, ◌||◌, Result}
 use Rattle.resp_value.specs.Data.{Data, simple}
-use Rattle.resp_read.specs.Grammar.{Found, read, short, Table, plain, nested, innermost, chosen, form, parse, simple_line, error_line, number_line, null_line, boolean_line, double_line, big_line, no_array_line}
+use Rattle.resp_read.specs.Grammar.{Found, read, short, Table, plain, nested, innermost, chosen, form, parse, simple_line, error_line, number_line, null_line, boolean_line, double_line, big_line, no_array_line, reader_limits}
 use Rattle.resp_read.specs.Parts.{has, IsFound}
 use Rattle.resp_read.specs.declared.forms.Refusal.{Refusal}
 use Rattle.resp_read.proofs.Laws.{Lawful, Possible, lawful_bad, lawful_if, lawful_cons, lawful_nil}
@@ -25,7 +25,7 @@ lawful_more : (fs gs : Table) → AllLawful fs → AllLawful gs → AllLawful (f
 lawful_more [] gs h k = k
 lawful_more (f ∷ fs) gs h k = (h.0, lawful_more fs gs h.1 k)
 
-lawful_plain : AllLawful plain
+lawful_plain : AllLawful (plain reader_limits)
 lawful_plain = (
   lawful_line simple_line lawful_simple,
   (
@@ -38,7 +38,7 @@ lawful_plain = (
           lawful_line null_line lawful_null,
           (
             lawful_line boolean_line lawful_boolean,
-            (lawful_line double_line lawful_double, (lawful_line big_line lawful_big, (lawful_bulk_error, (lawful_verbatim_string, tt)))),
+            (lawful_line (double_line reader_limits) lawful_double, (lawful_line big_line lawful_big, (lawful_bulk_error, (lawful_verbatim_string, tt)))),
           ),
         ),
       ),
@@ -47,38 +47,38 @@ lawful_plain = (
 )
 
 -- the empty simple string
-shortest : (more : Table) (m : List ℕ) → form more (43 ∷ 13 ∷ 10 ∷ m) ≡ read (simple []) m
+shortest : (more : Table) (m : List ℕ) → form reader_limits more (43 ∷ 13 ∷ 10 ∷ m) ≡ read (simple []) m
 shortest more m = refl
 
-lawful_form : (more : Table) → AllLawful more → Lawful (form more)
-lawful_form more h [] = lawful_nil (form more) refl (43 ∷ 13 ∷ 10 ∷ [], simple [], shortest more [])
-lawful_form more h (b ∷ bs) = lawful_cons (form more) (chosen (plain ++ more) b) b bs (λ x. refl) (lawful_chosen (plain ++ more) (lawful_more plain more lawful_plain h) b bs)
+lawful_form : (more : Table) → AllLawful more → Lawful (form reader_limits more)
+lawful_form more h [] = lawful_nil (form reader_limits more) refl (43 ∷ 13 ∷ 10 ∷ [], simple [], shortest more [])
+lawful_form more h (b ∷ bs) = lawful_cons (form reader_limits more) (chosen (plain reader_limits ++ more) b) b bs (λ x. refl) (lawful_chosen (plain reader_limits ++ more) (lawful_more (plain reader_limits) more lawful_plain h) b bs)
 
-lawful_nested : (inside : List ℕ → Found Data) → Lawful inside → Possible inside → AllLawful (nested inside)
+lawful_nested : (inside : List ℕ → Found Data) → Lawful inside → Possible inside → AllLawful (nested reader_limits inside)
 lawful_nested inside h p = (lawful_array inside h p, (lawful_set inside h p, (lawful_dict inside h p, (lawful_push inside h p, (lawful_attribute inside h p, tt)))))
 
-lawful_innermost : AllLawful innermost
+lawful_innermost : AllLawful (innermost reader_limits)
 lawful_innermost = (lawful_line no_array_line lawful_no_array, tt)
 
 parse_possible : (n : ℕ) → Possible (parse n)
-parse_possible zero = (43 ∷ 13 ∷ 10 ∷ [], simple [], shortest innermost [])
-parse_possible (suc n) = (43 ∷ 13 ∷ 10 ∷ [], simple [], shortest (nested (parse n)) [])
+parse_possible zero = (43 ∷ 13 ∷ 10 ∷ [], simple [], shortest (innermost reader_limits) [])
+parse_possible (suc n) = (43 ∷ 13 ∷ 10 ∷ [], simple [], shortest (nested reader_limits (parse n)) [])
 
 pub lawful_parse : (n : ℕ) → Lawful (parse n)
-lawful_parse zero = lawful_form innermost lawful_innermost
-lawful_parse (suc n) = lawful_form (nested (parse n)) (lawful_nested (parse n) (lawful_parse n) (parse_possible n))
+lawful_parse zero = lawful_form (innermost reader_limits) lawful_innermost
+lawful_parse (suc n) = lawful_form (nested reader_limits (parse n)) (lawful_nested (parse n) (lawful_parse n) (parse_possible n))
 
-takes_by : (more : Table) → AllLawful more → (bs : List ℕ) (v : Data) (r : List ℕ) → form more bs ≡ read v r → length r < length bs
+takes_by : (more : Table) → AllLawful more → (bs : List ℕ) (v : Data) (r : List ℕ) → form reader_limits more bs ≡ read v r → length r < length bs
 takes_by more h [] v r e = cc
 takes_by more h (b ∷ bs) v r e =
-    let p = (lawful_chosen (plain ++ more) (lawful_more plain more lawful_plain h) b bs).ends v r e in
+    let p = (lawful_chosen (plain reader_limits ++ more) (lawful_more (plain reader_limits) more lawful_plain h) b bs).ends v r e in
     let n : length bs ≡ length (p.0 ++ r) = ap length p.1 in
     omega (arith, n, length-append p.0 r)
 
 -- a value takes one byte at least
 pub takes_a_byte : (n : ℕ) (bs : List ℕ) (v : Data) (r : List ℕ) → parse n bs ≡ read v r → length r < length bs
-takes_a_byte zero bs v r e = takes_by innermost lawful_innermost bs v r e
-takes_a_byte (suc n) bs v r e = takes_by (nested (parse n)) (lawful_nested (parse n) (lawful_parse n) (parse_possible n)) bs v r e
+takes_a_byte zero bs v r e = takes_by (innermost reader_limits) lawful_innermost bs v r e
+takes_a_byte (suc n) bs v r e = takes_by (nested reader_limits (parse n)) (lawful_nested (parse n) (lawful_parse n) (parse_possible n)) bs v r e
 
 pub empty_short : (n : ℕ) → parse n [] ≡ short
 empty_short zero = refl
@@ -97,15 +97,15 @@ chosen_more : (fs gs : Table) (b : ℕ) (bs : List ℕ) → chosen (fs ++ gs) b 
 chosen_more [] gs b bs = refl
 chosen_more (f ∷ fs) gs b bs = step_by (b == f.0) (has fs b) (f.1 bs) (chosen fs b bs) (chosen (fs ++ gs) b bs) (chosen gs b bs) (chosen_more fs gs b bs)
 
-form_plain : (more : Table) (b : ℕ) (bs : List ℕ) → has plain b ≡ true → form more (b ∷ bs) ≡ chosen plain b bs
-form_plain more b bs h = chosen_more plain more b bs ∙ ap (λ c. cond c (chosen plain b bs) (chosen more b bs)) h
+form_plain : (more : Table) (b : ℕ) (bs : List ℕ) → has (plain reader_limits) b ≡ true → form reader_limits more (b ∷ bs) ≡ chosen (plain reader_limits) b bs
+form_plain more b bs h = chosen_more (plain reader_limits) more b bs ∙ ap (λ c. cond c (chosen (plain reader_limits) b bs) (chosen more b bs)) h
 
-form_more : (more : Table) (b : ℕ) (bs : List ℕ) → has plain b ≡ false → form more (b ∷ bs) ≡ chosen more b bs
-form_more more b bs h = chosen_more plain more b bs ∙ ap (λ c. cond c (chosen plain b bs) (chosen more b bs)) h
+form_more : (more : Table) (b : ℕ) (bs : List ℕ) → has (plain reader_limits) b ≡ false → form reader_limits more (b ∷ bs) ≡ chosen more b bs
+form_more more b bs h = chosen_more (plain reader_limits) more b bs ∙ ap (λ c. cond c (chosen (plain reader_limits) b bs) (chosen more b bs)) h
 
-parse_plain : (depth b : ℕ) (bs : List ℕ) → has plain b ≡ true → parse depth (b ∷ bs) ≡ chosen plain b bs
-parse_plain zero b bs h = form_plain innermost b bs h
-parse_plain (suc n) b bs h = form_plain (nested (parse n)) b bs h
+parse_plain : (depth b : ℕ) (bs : List ℕ) → has (plain reader_limits) b ≡ true → parse depth (b ∷ bs) ≡ chosen (plain reader_limits) b bs
+parse_plain zero b bs h = form_plain (innermost reader_limits) b bs h
+parse_plain (suc n) b bs h = form_plain (nested reader_limits (parse n)) b bs h
 
 -- what was found behind the first byte is found at the front
 module _ {X : Type 0} (view : X → Data) (left rest : List ℕ) (b : ℕ) (r : Result X Refusal) (new : List ℕ) (some : 0 < length left) (first : get_or left 0 0 ≡ b) (behind : rest ≡ drop 1 left) where
@@ -114,11 +114,11 @@ module _ {X : Type 0} (view : X → Data) (left rest : List ℕ) (b : ℕ) (r : 
       let e : f left ≡ g rest = ap f (same_first left b some first) ∙ same (drop 1 left) ∙ ap g (sym behind) in
       subst (λ x. IsFound view x r new) (sym e) found
 
-  pub at_plain : (depth : ℕ) → has plain b ≡ true → IsFound view (chosen plain b rest) r new → IsFound view (parse depth left) r new
-  at_plain depth h found = at_first (parse depth) (chosen plain b) (λ bs. parse_plain depth b bs h) found
+  pub at_plain : (depth : ℕ) → has (plain reader_limits) b ≡ true → IsFound view (chosen (plain reader_limits) b rest) r new → IsFound view (parse depth left) r new
+  at_plain depth h found = at_first (parse depth) (chosen (plain reader_limits) b) (λ bs. parse_plain depth b bs h) found
 
-  pub at_innermost : (depth : ℕ) → depth ≡ 0 → has plain b ≡ false → IsFound view (chosen innermost b rest) r new → IsFound view (parse depth left) r new
-  at_innermost depth is h found = at_first (parse depth) (chosen innermost b) (λ bs. ap (λ d. parse d (b ∷ bs)) is ∙ form_more innermost b bs h) found
+  pub at_innermost : (depth : ℕ) → depth ≡ 0 → has (plain reader_limits) b ≡ false → IsFound view (chosen (innermost reader_limits) b rest) r new → IsFound view (parse depth left) r new
+  at_innermost depth is h found = at_first (parse depth) (chosen (innermost reader_limits) b) (λ bs. ap (λ d. parse d (b ∷ bs)) is ∙ form_more (innermost reader_limits) b bs h) found
 
-  pub at_nested : (depth n : ℕ) → depth ≡ suc n → has plain b ≡ false → IsFound view (chosen (nested (parse n)) b rest) r new → IsFound view (parse depth left) r new
-  at_nested depth n is h found = at_first (parse depth) (chosen (nested (parse n)) b) (λ bs. ap (λ d. parse d (b ∷ bs)) is ∙ form_more (nested (parse n)) b bs h) found
+  pub at_nested : (depth n : ℕ) → depth ≡ suc n → has (plain reader_limits) b ≡ false → IsFound view (chosen (nested reader_limits (parse n)) b rest) r new → IsFound view (parse depth left) r new
+  at_nested depth n is h found = at_first (parse depth) (chosen (nested reader_limits (parse n)) b) (λ bs. ap (λ d. parse d (b ∷ bs)) is ∙ form_more (nested reader_limits (parse n)) b bs h) found

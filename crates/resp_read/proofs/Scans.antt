@@ -50,7 +50,7 @@ clear_more i bs h clear other =
 
 -- the number of all the digits, by those that are left
 abbrev pub IsSoFar : ℕ → List ℕ → ℕ → ℕ → Type 0
-IsSoFar most ds n i = natural most ds ≡ at_most most (digits_after n (drop i ds))
+IsSoFar most ds n i = natural (Some most) ds ≡ at_most (Some most) (digits_after n (drop i ds))
 
 pub so_far_first : (most : ℕ) (ds : List ℕ) → (length ds ≡ 0 → ⊥) → IsSoFar most ds 0 0
 so_far_first most [] h = absurd (h refl)
@@ -74,30 +74,30 @@ above_digits n b ds high = let h : nat_le b 57 ≡ false = grind (arith, nat_tes
 
 pub so_far_more : (most n i b : ℕ) (ds : List ℕ) → i < length ds → IsSoFar most ds n i → get_or ds i 0 ≡ b → 48 ≤ b → b ≤ 57 → IsSoFar most ds (10 * n + (b - 48)) (i + 1)
 so_far_more most n i b ds h so_far is low high =
-    so_far ∙ ap (λ d. at_most most (digits_after n d)) (drop_more ds i 0 h ∙ ap (λ x. x ∷ drop (i + 1) ds) is) ∙ ap (at_most most) (digit_first n b (drop (i + 1) ds) low high)
+    so_far ∙ ap (λ d. at_most (Some most) (digits_after n d)) (drop_more ds i 0 h ∙ ap (λ x. x ∷ drop (i + 1) ds) is) ∙ ap (at_most (Some most)) (digit_first n b (drop (i + 1) ds) low high)
 
-pub so_far_other : (most n i b : ℕ) (ds : List ℕ) → i < length ds → IsSoFar most ds n i → get_or ds i 0 ≡ b → (b < 48) ⊎ (57 < b) → natural most ds ≡ None
+pub so_far_other : (most n i b : ℕ) (ds : List ℕ) → i < length ds → IsSoFar most ds n i → get_or ds i 0 ≡ b → (b < 48) ⊎ (57 < b) → natural (Some most) ds ≡ None
 so_far_other most n i b ds h so_far is (inl low) =
-    so_far ∙ ap (λ d. at_most most (digits_after n d)) (drop_more ds i 0 h ∙ ap (λ x. x ∷ drop (i + 1) ds) is) ∙ ap (at_most most) (below_digits n b (drop (i + 1) ds) low)
+    so_far ∙ ap (λ d. at_most (Some most) (digits_after n d)) (drop_more ds i 0 h ∙ ap (λ x. x ∷ drop (i + 1) ds) is) ∙ ap (at_most (Some most)) (below_digits n b (drop (i + 1) ds) low)
 so_far_other most n i b ds h so_far is (inr high) =
-    so_far ∙ ap (λ d. at_most most (digits_after n d)) (drop_more ds i 0 h ∙ ap (λ x. x ∷ drop (i + 1) ds) is) ∙ ap (at_most most) (above_digits n b (drop (i + 1) ds) high)
+    so_far ∙ ap (λ d. at_most (Some most) (digits_after n d)) (drop_more ds i 0 h ∙ ap (λ x. x ∷ drop (i + 1) ds) is) ∙ ap (at_most (Some most)) (above_digits n b (drop (i + 1) ds) high)
 
-none_by : (c : Bool) (most : ℕ) (x : Option ℕ) → at_most most x ≡ None → at_most most (cond c x None) ≡ None
+none_by : (c : Bool) (most : ℕ) (x : Option ℕ) → at_most (Some most) x ≡ None → at_most (Some most) (cond c x None) ≡ None
 none_by true most x h = h
 none_by false most x h = refl
 
 -- a number that is too large stays so
-pub stays_above : (most n : ℕ) (ds : List ℕ) → most < n → at_most most (digits_after n ds) ≡ None
+pub stays_above : (most n : ℕ) (ds : List ℕ) → most < n → at_most (Some most) (digits_after n ds) ≡ None
 stays_above most n [] h = let c : nat_le n most ≡ false = grind (arith, nat_tests) in rw c refl
 stays_above most n (b ∷ ds) h = none_by (is_digit b) most (digits_after (10 * n + (b - 48)) ds) (stays_above most (10 * n + (b - 48)) ds (omega arith))
 
-pub so_far_above : (most n i b : ℕ) (ds : List ℕ) → i < length ds → IsSoFar most ds n i → get_or ds i 0 ≡ b → 48 ≤ b → b ≤ 57 → most < 10 * n + (b - 48) → natural most ds ≡ None
+pub so_far_above : (most n i b : ℕ) (ds : List ℕ) → i < length ds → IsSoFar most ds n i → get_or ds i 0 ≡ b → 48 ≤ b → b ≤ 57 → most < 10 * n + (b - 48) → natural (Some most) ds ≡ None
 so_far_above most n i b ds h so_far is low high above = so_far_more most n i b ds h so_far is low high ∙ stays_above most (10 * n + (b - 48)) (drop (i + 1) ds) above
 
-pub so_far_all : (most n i : ℕ) (ds : List ℕ) → length ds ≤ i → n ≤ most → IsSoFar most ds n i → natural most ds ≡ Some n
+pub so_far_all : (most n i : ℕ) (ds : List ℕ) → length ds ≤ i → n ≤ most → IsSoFar most ds n i → natural (Some most) ds ≡ Some n
 so_far_all most n i ds h below so_far =
     let c : nat_le n most ≡ true = grind (arith, nat_tests) in
-    so_far ∙ ap (λ d. at_most most (digits_after n d)) (drop_all i ds h) ∙ ap (λ t. cond t (Some n) None) c
+    so_far ∙ ap (λ d. at_most (Some most) (digits_after n d)) (drop_all i ds h) ∙ ap (λ t. cond t (Some n) None) c
 
 -- no space stands in the first i bytes
 abbrev pub IsSpaceless : ℕ → List ℕ → Type 0

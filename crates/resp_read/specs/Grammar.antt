@@ -31,6 +31,25 @@ max_bulk = 536_870_912
 abbrev pub max_count : ℕ
 max_count = 2_147_483_647
 
+-- the most bytes of a line, the most bytes of a bulk string, and the most values or pairs of an aggregate; none where there is no limit
+pub record Limits : Type 0 where
+  pub line : Option ℕ
+  pub bulk : Option ℕ
+  pub count : Option ℕ
+
+-- the limits of this reader
+abbrev pub reader_limits : Limits
+reader_limits = record { line = Some max_line; bulk = Some max_bulk; count = Some max_count }
+
+-- the grammar alone, for texts of any length
+abbrev pub no_limits : Limits
+no_limits = record { line = None; bulk = None; count = None }
+
+-- whether so many are within a limit
+abbrev pub allows : Option ℕ → ℕ → Bool
+allows None n = true
+allows (Some most) n = nat_le n most
+
 -- the first line of a text: all of it with the bytes after its CR LF, all of it where the LF is still to come, its front where no CR has come, or none because no LF follows the CR
 pub data Line : Type 0 where
   ended : List ℕ → List ℕ → Line
@@ -61,8 +80,8 @@ pub record LineForm (A : Type 0) : Type 0 where
   pub begun : List ℕ → Bool
 
 -- whether a line is within the limit
-abbrev pub fits : List ℕ → Bool
-fits l = nat_le (length l) max_line
+abbrev pub fits : Limits → List ℕ → Bool
+fits limits l = allows limits.line (length l)
 
 -- what a whole line stands for, and the bytes after it
 abbrev pub found : {A : Type 0} → Option A → List ℕ → Found A
@@ -70,15 +89,15 @@ found (Some a) rest = read a rest
 found None rest = bad
 
 -- what the first line of a text is, by its form
-abbrev pub line_found : {A : Type 0} → LineForm A → Line → Found A
-line_found form (ended l rest) = if fits l then found (form.whole l) rest else bad
-line_found form (held l) = if fits l && is_some (form.whole l) then short else bad
-line_found form (unended l) = if fits l && form.begun l then short else bad
-line_found form broken = bad
+abbrev pub line_found : {A : Type 0} → Limits → LineForm A → Line → Found A
+line_found limits form (ended l rest) = if fits limits l then found (form.whole l) rest else bad
+line_found limits form (held l) = if fits limits l && is_some (form.whole l) then short else bad
+line_found limits form (unended l) = if fits limits l && form.begun l then short else bad
+line_found limits form broken = bad
 
 -- a line of this form, and CR LF
-abbrev pub line_as : {A : Type 0} → LineForm A → List ℕ → Found A
-line_as form bs = line_found form (line bs)
+abbrev pub line_as : {A : Type 0} → Limits → LineForm A → List ℕ → Found A
+line_as limits form bs = line_found limits form (line bs)
 
 -- `0` to `9`
 abbrev pub is_digit : ℕ → Bool
@@ -90,12 +109,12 @@ digits_after n [] = Some n
 digits_after n (b ∷ bs) = if is_digit b then digits_after (10 * n + (b - 48)) bs else None
 
 -- a number within the limit
-abbrev pub at_most : ℕ → Option ℕ → Option ℕ
+abbrev pub at_most : Option ℕ → Option ℕ → Option ℕ
 at_most most None = None
-at_most most (Some n) = if nat_le n most then Some n else None
+at_most most (Some n) = if allows most n then Some n else None
 
--- the number of these decimal digits, one at least, if it is at most that
-abbrev pub natural : ℕ → List ℕ → Option ℕ
+-- the number of these decimal digits, one at least, if it is within the limit
+abbrev pub natural : Option ℕ → List ℕ → Option ℕ
 natural most [] = None
 natural most (b ∷ bs) = at_most most (digits_after 0 (b ∷ bs))
 
@@ -103,9 +122,9 @@ natural most (b ∷ bs) = at_most most (digits_after 0 (b ∷ bs))
 abbrev pub number : List ℕ → Option ℤ
 number [] = None
 number (b ∷ bs) =
-    if b == 45 then option_map (λ n. neg_ℤ (pos n)) (natural 9_223_372_036_854_775_808 bs)
-    else if b == 43 then option_map pos (natural 9_223_372_036_854_775_807 bs)
-    else option_map pos (natural 9_223_372_036_854_775_807 (b ∷ bs))
+    if b == 45 then option_map (λ n. neg_ℤ (pos n)) (natural (Some 9_223_372_036_854_775_808) bs)
+    else if b == 43 then option_map pos (natural (Some 9_223_372_036_854_775_807) bs)
+    else option_map pos (natural (Some 9_223_372_036_854_775_807) (b ∷ bs))
 
 -- the front of a number: nothing, a sign, or a number
 abbrev pub number_begun : List ℕ → Bool
@@ -113,12 +132,12 @@ number_begun [] = true
 number_begun (b ∷ []) = (b == 45) || (b == 43) || is_some (number (b ∷ []))
 number_begun (b ∷ c ∷ bs) = is_some (number (b ∷ c ∷ bs))
 
--- a length that is at most that, or none for `-1`, which stands for Nil
-abbrev pub size : ℕ → List ℕ → Option (Option ℕ)
+-- a length within the limit, or none for `-1`, which stands for Nil
+abbrev pub size : Option ℕ → List ℕ → Option (Option ℕ)
 size most l = if bytes_eq l (45 ∷ 49 ∷ []) then Some None else option_map Some (natural most l)
 
 -- the front of a length: nothing, `-`, or a length
-abbrev pub size_begun : ℕ → List ℕ → Bool
+abbrev pub size_begun : Option ℕ → List ℕ → Bool
 size_begun most [] = true
 size_begun most (b ∷ []) = (b == 45) || is_some (size most (b ∷ []))
 size_begun most (b ∷ c ∷ bs) = is_some (size most (b ∷ c ∷ bs))
@@ -128,18 +147,18 @@ abbrev pub at_least : ℕ → Option ℕ → Option ℕ
 at_least least None = None
 at_least least (Some n) = if nat_le least n then Some n else None
 
--- a length between these two
-abbrev pub count : ℕ → ℕ → List ℕ → Option ℕ
+-- a length that is at least that, within the limit
+abbrev pub count : ℕ → Option ℕ → List ℕ → Option ℕ
 count least most l = at_least least (natural most l)
 
 -- one of these tails makes a front one of the lines that f takes, within the limit
-abbrev pub made_by : (List ℕ → Bool) → List (List ℕ) → List ℕ → Bool
-made_by f [] l = false
-made_by f (q ∷ qs) l = (fits (l ++ q) && f (l ++ q)) || made_by f qs l
+abbrev pub made_by : Limits → (List ℕ → Bool) → List (List ℕ) → List ℕ → Bool
+made_by limits f [] l = false
+made_by limits f (q ∷ qs) l = (fits limits (l ++ q) && f (l ++ q)) || made_by limits f qs l
 
 -- the front of a length: it is one, or one more digit makes it one
-abbrev pub count_begun : ℕ → ℕ → List ℕ → Bool
-count_begun least most l = made_by (λ x. is_some (count least most x)) ([] ∷ ((48 + least) ∷ []) ∷ []) l
+abbrev pub count_begun : Limits → ℕ → Option ℕ → List ℕ → Bool
+count_begun limits least most l = made_by limits (λ x. is_some (count least most x)) ([] ∷ ((48 + least) ∷ []) ∷ []) l
 
 -- without its sign, if there is one
 abbrev pub unsigned : List ℕ → List ℕ
@@ -244,20 +263,20 @@ abbrev pub boolean_line : LineForm Data
 boolean_line = record { whole = λ l. option_map boolean (truth l); begun = λ l. is_end l || is_some (truth l) }
 
 -- `,`: a double, whose text is kept
-abbrev pub double_line : LineForm Data
-double_line = record { whole = λ l. if is_double l then Some (double l) else None; begun = made_by is_double double_tails }
+abbrev pub double_line : Limits → LineForm Data
+double_line limits = record { whole = λ l. if is_double l then Some (double l) else None; begun = made_by limits is_double double_tails }
 
 -- `(`: a big number, whose text is kept
 abbrev pub big_line : LineForm Data
 big_line = record { whole = λ l. if is_big l then Some (big l) else None; begun = big_begun }
 
 -- the line that announces a length, or `-1`
-abbrev pub size_line : ℕ → LineForm (Option ℕ)
+abbrev pub size_line : Option ℕ → LineForm (Option ℕ)
 size_line most = record { whole = size most; begun = size_begun most }
 
--- the line that announces a length between these two
-abbrev pub count_line : ℕ → ℕ → LineForm ℕ
-count_line least most = record { whole = count least most; begun = count_begun least most }
+-- the line that announces a length of at least that
+abbrev pub count_line : Limits → ℕ → Option ℕ → LineForm ℕ
+count_line limits least most = record { whole = count least most; begun = count_begun limits least most }
 
 -- Nil, or a bulk string of that length
 abbrev pub bulk_of : Option ℕ → List ℕ → Found Data
@@ -265,16 +284,16 @@ bulk_of None bs = read nil bs
 bulk_of (Some n) bs = found_map bulk (body n bs)
 
 -- `$`: a length, and so many bytes
-abbrev pub bulk_string : List ℕ → Found Data
-bulk_string bs = found_and_then bulk_of (line_as (size_line max_bulk) bs)
+abbrev pub bulk_string : Limits → List ℕ → Found Data
+bulk_string limits bs = found_and_then bulk_of (line_as limits (size_line limits.bulk) bs)
 
 -- an error of that length
 abbrev pub error_body : ℕ → List ℕ → Found Data
 error_body n bs = found_map error_of (body n bs)
 
 -- `!`: an error in so many bytes
-abbrev pub bulk_error : List ℕ → Found Data
-bulk_error bs = found_and_then error_body (line_as (count_line 0 max_bulk) bs)
+abbrev pub bulk_error : Limits → List ℕ → Found Data
+bulk_error limits bs = found_and_then error_body (line_as limits (count_line limits 0 limits.bulk) bs)
 
 -- n bytes
 abbrev pub some_bytes : ℕ → List ℕ → Found (List ℕ)
@@ -298,8 +317,8 @@ abbrev pub verbatim_of : ℕ → List ℕ → Found Data
 verbatim_of n bs = found_and_then (text_of n) (format bs)
 
 -- `=`: a text with its format
-abbrev pub verbatim_string : List ℕ → Found Data
-verbatim_string bs = found_and_then verbatim_of (line_as (count_line 4 max_bulk) bs)
+abbrev pub verbatim_string : Limits → List ℕ → Found Data
+verbatim_string limits bs = found_and_then verbatim_of (line_as limits (count_line limits 4 limits.bulk) bs)
 
 -- n of what inside reads, one after another
 abbrev pub repeated : {A : Type 0} → (List ℕ → Found A) → ℕ → List ℕ → Found (List A)
@@ -316,24 +335,24 @@ array_of inside None bs = read nil bs
 array_of inside (Some n) bs = found_map (λ ds. array (items_of ds)) (repeated inside n bs)
 
 -- `*`: a count, and so many values
-abbrev pub array_form : (List ℕ → Found Data) → List ℕ → Found Data
-array_form inside bs = found_and_then (array_of inside) (line_as (size_line max_count) bs)
+abbrev pub array_form : Limits → (List ℕ → Found Data) → List ℕ → Found Data
+array_form limits inside bs = found_and_then (array_of inside) (line_as limits (size_line limits.count) bs)
 
 -- a set of n values
 abbrev pub set_of : (List ℕ → Found Data) → ℕ → List ℕ → Found Data
 set_of inside n bs = found_map (λ ds. set (items_of ds)) (repeated inside n bs)
 
 -- `~`: a count, and so many values
-abbrev pub set_form : (List ℕ → Found Data) → List ℕ → Found Data
-set_form inside bs = found_and_then (set_of inside) (line_as (count_line 0 max_count) bs)
+abbrev pub set_form : Limits → (List ℕ → Found Data) → List ℕ → Found Data
+set_form limits inside bs = found_and_then (set_of inside) (line_as limits (count_line limits 0 limits.count) bs)
 
 -- a map of n pairs
 abbrev pub map_of : (List ℕ → Found Data) → ℕ → List ℕ → Found Data
 map_of inside n bs = found_map (λ ps. dict (members_of ps)) (repeated (pair inside) n bs)
 
 -- `%`: a count, and so many pairs
-abbrev pub map_form : (List ℕ → Found Data) → List ℕ → Found Data
-map_form inside bs = found_and_then (map_of inside) (line_as (count_line 0 max_count) bs)
+abbrev pub map_form : Limits → (List ℕ → Found Data) → List ℕ → Found Data
+map_form limits inside bs = found_and_then (map_of inside) (line_as limits (count_line limits 0 limits.count) bs)
 
 -- a value with these attributes
 abbrev pub attributed : (List ℕ → Found Data) → List (Data × Data) → List ℕ → Found Data
@@ -344,33 +363,33 @@ abbrev pub attribute_of : (List ℕ → Found Data) → ℕ → List ℕ → Fou
 attribute_of inside n bs = found_and_then (attributed inside) (repeated (pair inside) n bs)
 
 -- `|`: a count, so many pairs, and a value
-abbrev pub attribute_form : (List ℕ → Found Data) → List ℕ → Found Data
-attribute_form inside bs = found_and_then (attribute_of inside) (line_as (count_line 0 max_count) bs)
+abbrev pub attribute_form : Limits → (List ℕ → Found Data) → List ℕ → Found Data
+attribute_form limits inside bs = found_and_then (attribute_of inside) (line_as limits (count_line limits 0 limits.count) bs)
 
 -- a line that is a text
 abbrev pub text_line : LineForm (List ℕ)
 text_line = record { whole = λ l. Some l; begun = λ l. true }
 
 -- a length, and a text of so many bytes
-abbrev pub bulk_text : List ℕ → Found (List ℕ)
-bulk_text bs = found_and_then body (line_as (count_line 0 max_bulk) bs)
+abbrev pub bulk_text : Limits → List ℕ → Found (List ℕ)
+bulk_text limits bs = found_and_then body (line_as limits (count_line limits 0 limits.bulk) bs)
 
 -- the kind of a push: a simple or a bulk string
-abbrev pub kind : List ℕ → Found (List ℕ)
-kind [] = short
-kind (b ∷ bs) = if b == 43 then line_as text_line bs else if b == 36 then bulk_text bs else bad
+abbrev pub kind : Limits → List ℕ → Found (List ℕ)
+kind limits [] = short
+kind limits (b ∷ bs) = if b == 43 then line_as limits text_line bs else if b == 36 then bulk_text limits bs else bad
 
 -- n values with their kind among them
 abbrev pub push_with : (List ℕ → Found Data) → ℕ → List ℕ → List ℕ → Found Data
 push_with inside n k bs = found_map (λ ds. push (kind_of k) (items_of ds)) (repeated inside (n - 1) bs)
 
 -- a kind, and the others of n values
-abbrev pub push_of : (List ℕ → Found Data) → ℕ → List ℕ → Found Data
-push_of inside n bs = found_and_then (push_with inside n) (kind bs)
+abbrev pub push_of : Limits → (List ℕ → Found Data) → ℕ → List ℕ → Found Data
+push_of limits inside n bs = found_and_then (push_with inside n) (kind limits bs)
 
 -- `>`: a count of one at least, a kind, and the other values
-abbrev pub push_form : (List ℕ → Found Data) → List ℕ → Found Data
-push_form inside bs = found_and_then (push_of inside) (line_as (count_line 1 max_count) bs)
+abbrev pub push_form : Limits → (List ℕ → Found Data) → List ℕ → Found Data
+push_form limits inside bs = found_and_then (push_of limits inside) (line_as limits (count_line limits 1 limits.count) bs)
 
 -- the front of `-1`
 abbrev pub no_array_begun : List ℕ → Bool
@@ -387,33 +406,33 @@ abbrev pub Table : Type 0
 Table = List (ℕ × (List ℕ → Found Data))
 
 -- the forms that hold no values
-abbrev pub plain : Table
-plain =
-    (43, line_as simple_line)
-    ∷ (45, line_as error_line)
-    ∷ (58, line_as number_line)
-    ∷ (36, bulk_string)
-    ∷ (95, line_as null_line)
-    ∷ (35, line_as boolean_line)
-    ∷ (44, line_as double_line)
-    ∷ (40, line_as big_line)
-    ∷ (33, bulk_error)
-    ∷ (61, verbatim_string)
+abbrev pub plain : Limits → Table
+plain limits =
+    (43, line_as limits simple_line)
+    ∷ (45, line_as limits error_line)
+    ∷ (58, line_as limits number_line)
+    ∷ (36, bulk_string limits)
+    ∷ (95, line_as limits null_line)
+    ∷ (35, line_as limits boolean_line)
+    ∷ (44, line_as limits (double_line limits))
+    ∷ (40, line_as limits big_line)
+    ∷ (33, bulk_error limits)
+    ∷ (61, verbatim_string limits)
     ∷ []
 
 -- the forms that hold values, which inside reads
-abbrev pub nested : (List ℕ → Found Data) → Table
-nested inside =
-    (42, array_form inside)
-    ∷ (126, set_form inside)
-    ∷ (37, map_form inside)
-    ∷ (62, push_form inside)
-    ∷ (124, attribute_form inside)
+abbrev pub nested : Limits → (List ℕ → Found Data) → Table
+nested limits inside =
+    (42, array_form limits inside)
+    ∷ (126, set_form limits inside)
+    ∷ (37, map_form limits inside)
+    ∷ (62, push_form limits inside)
+    ∷ (124, attribute_form limits inside)
     ∷ []
 
 -- where no more may be nested an array is still Nil, since that holds nothing
-abbrev pub innermost : Table
-innermost = (42, line_as no_array_line) ∷ []
+abbrev pub innermost : Limits → Table
+innermost limits = (42, line_as limits no_array_line) ∷ []
 
 -- by its first byte b, the form of the bytes after it; any other byte begins no value
 abbrev pub chosen : Table → ℕ → List ℕ → Found Data
@@ -421,14 +440,18 @@ chosen [] b bs = bad
 chosen (f ∷ fs) b bs = if b == f.0 then f.1 bs else chosen fs b bs
 
 -- a value of the plain forms or of these
-abbrev pub form : Table → List ℕ → Found Data
-form more [] = short
-form more (b ∷ bs) = chosen (plain ++ more) b bs
+abbrev pub form : Limits → Table → List ℕ → Found Data
+form limits more [] = short
+form limits more (b ∷ bs) = chosen (plain limits ++ more) b bs
 
--- the value at the front of a text, where nested forms stand in one another up to that number
+-- the value at the front of a text within these limits, where nested forms stand in one another up to that number
+abbrev pub parse_within : Limits → ℕ → List ℕ → Found Data
+parse_within limits zero bs = form limits (innermost limits) bs
+parse_within limits (suc n) bs = form limits (nested limits (parse_within limits n)) bs
+
+-- the same within the limits of this reader
 abbrev pub parse : ℕ → List ℕ → Found Data
-parse zero bs = form innermost bs
-parse (suc n) bs = form (nested (parse n)) bs
+parse = parse_within reader_limits
 
 -- a nested form stands in at most 99 others
 unfoldable pub max_depth : ℕ

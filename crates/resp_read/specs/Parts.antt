@@ -1,7 +1,7 @@
 -- What the parts of the reader answer.
 use Rattle.std.specs.Prelude.{◌≡◌, ℕ, ◌+◌, ◌≤◌, Bool, false, ◌||◌, ◌==◌, List, [], ◌∷◌, length, take, drop, Result, Ok, Err}
 use Rattle.resp_value.specs.Data.{Data}
-use Rattle.resp_read.specs.Grammar.{Found, read, short, bad, Line, ended, held, unended, broken, LineForm, simple_line, error_line, number_line, null_line, boolean_line, double_line, big_line, no_array_line, Table}
+use Rattle.resp_read.specs.Grammar.{Found, read, short, bad, Line, ended, held, unended, broken, LineForm, simple_line, error_line, number_line, null_line, boolean_line, double_line, big_line, no_array_line, reader_limits, Table}
 use Rattle.resp_read.specs.declared.lines.LineEnd.{LineEnd}
 use Rattle.resp_read.specs.declared.lines.LineEnd.TheVariants.{Ended, Held, Unended, Broken}
 use Rattle.resp_read.specs.declared.forms.OneLine.{OneLine}
@@ -30,7 +30,7 @@ line_form Error = error_line
 line_form Number = number_line
 line_form Null = null_line
 line_form Boolean = boolean_line
-line_form Double = double_line
+line_form Double = double_line reader_limits
 line_form Big = big_line
 line_form NoArray = no_array_line
 

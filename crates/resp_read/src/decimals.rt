@@ -1,5 +1,5 @@
 ghost use Rattle.std.specs.Prelude.{◌≡◌};
-ghost use Rattle.resp_read.specs.Grammar.{is_digit as is_digit_of, is_end, after_digits, unsigned as unsigned_of, is_big as is_big_of, big_begun, is_double as is_double_of, made_by, double_tails};
+ghost use Rattle.resp_read.specs.Grammar.{is_digit as is_digit_of, is_end, after_digits, unsigned as unsigned_of, is_big as is_big_of, big_begun, is_double as is_double_of, made_by, double_tails, reader_limits};
 ghost use Rattle.resp_read.specs.Doubles.{digit_to as digit_to_of, byte_to as byte_to_of, exponent_to as exponent_to_of, step as step_of, run, missing as missing_of};
 ghost use Rattle.resp_read.specs.declared.decimals.Seen.TheVariants.{Nothing, Whole, Fraction, Exponent};
 
@@ -211,7 +211,7 @@ pub fn is_double(line: &[u8]) -> bool
 
 /// Whether a line that starts so can become a double within the limit of a line.
 pub fn is_double_begun(front: &[u8]) -> bool
-    ensures { result ≡ made_by is_double_of double_tails front.now }
+    ensures { result ≡ made_by reader_limits is_double_of double_tails front.now }
 {
     match missing(read_all(front)) {
         Some(n) => {

@@ -1,5 +1,5 @@
-ghost use Rattle.std.specs.Prelude.{◌≡◌, ◌≤◌, ◌+◌, ◌*◌, ◌||◌, [], ◌∷◌, length, neg_ℤ, pos, is_some, IfSome, bytes_eq};
-ghost use Rattle.resp_read.specs.Grammar.{line, fits as fits_of, digits_after, at_most, natural as natural_of, number as number_of, number_begun, size as size_of, size_begun, count as count_of, count_begun, truth as truth_of, is_end, no_array_begun};
+ghost use Rattle.std.specs.Prelude.{◌≡◌, ◌≤◌, ◌+◌, ◌*◌, ◌||◌, [], ◌∷◌, length, neg_ℤ, pos, is_some, Some, IfSome, bytes_eq};
+ghost use Rattle.resp_read.specs.Grammar.{line, fits as fits_of, digits_after, at_most, natural as natural_of, number as number_of, number_begun, size as size_of, size_begun, count as count_of, count_begun, truth as truth_of, is_end, no_array_begun, reader_limits};
 ghost use Rattle.resp_read.specs.Parts.{line_at, IsWithin};
 
 /// Where the first line of some bytes ends: at a CR LF, at a CR that is the last byte, not yet, or never, because a CR stands before another byte.
@@ -33,7 +33,7 @@ pub fn find_line(bytes: &[u8]) -> LineEnd
 }
 
 pub fn fits(line: &[u8]) -> bool
-    ensures { result ≡ fits_of line.now }
+    ensures { result ≡ fits_of reader_limits line.now }
 {
     line.len() <= MAX_LINE
 }
@@ -41,7 +41,7 @@ pub fn fits(line: &[u8]) -> bool
 /// The number of these decimal digits, one at least, if it is at most `most`.
 fn natural(most: u64, digits: &[u8]) -> Option<u64>
     requires { most ≤ 9_223_372_036_854_775_808 }
-    ensures is { result ≡ natural_of most digits.now }
+    ensures is { result ≡ natural_of (Some most) digits.now }
     ensures fits { IfSome result (λ n. n ≤ most) }
 {
     if digits.is_empty() {
@@ -112,7 +112,7 @@ pub fn is_number_begun(front: &[u8]) -> bool
 /// A length that is at most `most`, or none for `-1`.
 pub fn size(most: u64, line: &[u8]) -> Option<Option<u64>>
     requires { most ≤ 9_223_372_036_854_775_808 }
-    ensures is { result ≡ size_of most line.now }
+    ensures is { result ≡ size_of (Some most) line.now }
     ensures fits { IfSome result (λ s. IfSome s (λ n. n ≤ most)) }
 {
     if line == b"-1".as_slice() {
@@ -127,7 +127,7 @@ pub fn size(most: u64, line: &[u8]) -> Option<Option<u64>>
 /// Whether a line that starts so can become such a length.
 pub fn is_size_begun(most: u64, front: &[u8]) -> bool
     requires { most ≤ 9_223_372_036_854_775_808 }
-    ensures { result ≡ size_begun most front.now }
+    ensures { result ≡ size_begun (Some most) front.now }
 {
     match front {
         [] => true,
@@ -139,7 +139,7 @@ pub fn is_size_begun(most: u64, front: &[u8]) -> bool
 /// A length between these two.
 pub fn count(least: u64, most: u64, line: &[u8]) -> Option<u64>
     requires { most ≤ 9_223_372_036_854_775_808 }
-    ensures is { result ≡ count_of least most line.now }
+    ensures is { result ≡ count_of least (Some most) line.now }
     ensures fits { IfSome result (λ n. n ≤ most) }
     ensures enough { IfSome result (λ n. least ≤ n) }
 {
@@ -159,7 +159,7 @@ pub fn is_count_begun(least: u64, most: u64, front: &[u8]) -> bool
     requires most { most ≤ 9_223_372_036_854_775_808 }
     requires digit { least ≤ 9 }
     requires room { 11 * least ≤ most }
-    ensures { result ≡ count_begun least most front.now }
+    ensures { result ≡ count_begun reader_limits least (Some most) front.now }
 {
     if front.is_empty() {
         return true;

@@ -1,6 +1,6 @@
 ghost use Rattle.std.specs.Prelude.{◌≡◌};
 ghost use Rattle.resp_value.specs.View.{data_of, pair_of};
-ghost use Rattle.resp_read.specs.Grammar.{chosen, parse, nested as nested_forms, array_form, set_form, map_form, push_form, attribute_form, repeated, pair as pair_found, max_depth as depth_limit};
+ghost use Rattle.resp_read.specs.Grammar.{chosen, parse, nested as nested_forms, array_form, set_form, map_form, push_form, attribute_form, repeated, pair as pair_found, max_depth as depth_limit, reader_limits};
 ghost use Rattle.resp_read.specs.Parts.{IsFound};
 
 use crate::forms;
@@ -50,7 +50,7 @@ fn value(alloc: Global, input: &mut Input<'_>, depth: usize) -> Result<Value, Re
 /// A form that holds values, by its first byte.
 #[cycle(value)]
 fn nested(alloc: Global, first: u8, input: &mut Input<'_>, depth: usize) -> Result<Value, Refusal>
-    ensures { IsFound data_of (chosen (nested_forms (parse depth)) first input.old.left.now) result input.new.left.now }
+    ensures { IsFound data_of (chosen (nested_forms reader_limits (parse depth)) first input.old.left.now) result input.new.left.now }
 {
     match first {
         b'*' => array(alloc, input, depth),
@@ -64,7 +64,7 @@ fn nested(alloc: Global, first: u8, input: &mut Input<'_>, depth: usize) -> Resu
 
 #[cycle(value)]
 fn array(alloc: Global, input: &mut Input<'_>, depth: usize) -> Result<Value, Refusal>
-    ensures { IsFound data_of (array_form (parse depth) input.old.left.now) result input.new.left.now }
+    ensures { IsFound data_of (array_form reader_limits (parse depth) input.old.left.now) result input.new.left.now }
 {
     match forms::announced(MAX_COUNT, input)? {
         None => Ok(Value::Nil),
@@ -74,7 +74,7 @@ fn array(alloc: Global, input: &mut Input<'_>, depth: usize) -> Result<Value, Re
 
 #[cycle(value)]
 fn set(alloc: Global, input: &mut Input<'_>, depth: usize) -> Result<Value, Refusal>
-    ensures { IsFound data_of (set_form (parse depth) input.old.left.now) result input.new.left.now }
+    ensures { IsFound data_of (set_form reader_limits (parse depth) input.old.left.now) result input.new.left.now }
 {
     let n = forms::counted(0, MAX_COUNT, input)?;
     Ok(Value::Set(values(alloc, input, depth, n)?))
@@ -82,7 +82,7 @@ fn set(alloc: Global, input: &mut Input<'_>, depth: usize) -> Result<Value, Refu
 
 #[cycle(value)]
 fn map(alloc: Global, input: &mut Input<'_>, depth: usize) -> Result<Value, Refusal>
-    ensures { IsFound data_of (map_form (parse depth) input.old.left.now) result input.new.left.now }
+    ensures { IsFound data_of (map_form reader_limits (parse depth) input.old.left.now) result input.new.left.now }
 {
     let n = forms::counted(0, MAX_COUNT, input)?;
     Ok(Value::Map(pairs(alloc, input, depth, n)?))
@@ -90,7 +90,7 @@ fn map(alloc: Global, input: &mut Input<'_>, depth: usize) -> Result<Value, Refu
 
 #[cycle(value)]
 fn push(alloc: Global, input: &mut Input<'_>, depth: usize) -> Result<Value, Refusal>
-    ensures { IsFound data_of (push_form (parse depth) input.old.left.now) result input.new.left.now }
+    ensures { IsFound data_of (push_form reader_limits (parse depth) input.old.left.now) result input.new.left.now }
 {
     let n = forms::counted(1, MAX_COUNT, input)?;
     let kind = forms::kind(alloc, input)?;
@@ -101,7 +101,7 @@ fn push(alloc: Global, input: &mut Input<'_>, depth: usize) -> Result<Value, Ref
 
 #[cycle(value)]
 fn attribute(alloc: Global, input: &mut Input<'_>, depth: usize) -> Result<Value, Refusal>
-    ensures { IsFound data_of (attribute_form (parse depth) input.old.left.now) result input.new.left.now }
+    ensures { IsFound data_of (attribute_form reader_limits (parse depth) input.old.left.now) result input.new.left.now }
 {
     let n = forms::counted(0, MAX_COUNT, input)?;
     let attributes = pairs(alloc, input, depth, n)?;
