@@ -49,14 +49,27 @@ fn is_read(
     Ok(early && late && end)
 }
 
-/// Whether the text is read so, cut at every place.
-fn is_read_cut(alloc: Global, text: &str, at: usize, want: &str) -> Result<bool, AllocError> {
-    for cut in 0..text.len() + 1 {
-        if !is_read(alloc, text.as_bytes(), cut, at, want)? {
+/// Feeds the text byte by byte. The answer comes at the last one, and none before.
+fn is_read_by_bytes(alloc: Global, text: &[u8], want: &str) -> Result<bool, AllocError> {
+    let mut reader = Reader::new(alloc);
+    for (i, byte) in text.iter().enumerate() {
+        reader.feed([*byte].as_slice())?;
+        let due = if i + 1 == text.len() { want } else { "none" };
+        if !answers(alloc, &mut reader, due)? {
             return Ok(false);
         }
     }
     Ok(true)
+}
+
+/// Whether the text is read so, cut at every place, and byte by byte. The answer comes at its last byte.
+fn is_read_cut(alloc: Global, text: &str, want: &str) -> Result<bool, AllocError> {
+    for cut in 0..text.len() + 1 {
+        if !is_read(alloc, text.as_bytes(), cut, text.len(), want)? {
+            return Ok(false);
+        }
+    }
+    is_read_by_bytes(alloc, text.as_bytes(), want)
 }
 
 /// Texts of the public page of the protocol, each its own canonical text.
@@ -111,11 +124,11 @@ const OTHER_SPELLINGS: [(&str, &str); 5] = [
 #[test]
 fn reads_the_examples_of_the_protocol_page(rt: HostRuntime) -> Result<(), Fail> {
     for text in EXAMPLES {
-        let is_so = is_read_cut(rt.alloc(), text, text.len(), text)?;
+        let is_so = is_read_cut(rt.alloc(), text, text)?;
         assert!(rt; is_so, "{text:?}");
     }
     for (text, want) in OTHER_SPELLINGS {
-        let is_so = is_read_cut(rt.alloc(), text, text.len(), want)?;
+        let is_so = is_read_cut(rt.alloc(), text, want)?;
         assert!(rt; is_so, "{text:?}");
     }
     Ok(())
@@ -169,8 +182,7 @@ const FORMS: [(&str, &str); 32] = [
 #[test]
 fn reads_each_form_cut_anywhere(rt: HostRuntime) -> Result<(), Fail> {
     for (text, want) in FORMS {
-        let is_so = is_read_cut(rt.alloc(), text, text.len(), want)?
-            && is_read_cut(rt.alloc(), want, want.len(), want)?;
+        let is_so = is_read_cut(rt.alloc(), text, want)? && is_read_cut(rt.alloc(), want, want)?;
         assert!(rt; is_so, "{text:?}");
     }
     Ok(())
@@ -271,7 +283,7 @@ const REFUSED: [&str; 88] = [
 #[test]
 fn refuses_at_the_first_byte_that_shows_it(rt: HostRuntime) -> Result<(), Fail> {
     for text in REFUSED {
-        let is_so = is_read_cut(rt.alloc(), text, text.len(), "parse")?;
+        let is_so = is_read_cut(rt.alloc(), text, "parse")?;
         assert!(rt; is_so, "{text:?}");
     }
     Ok(())
@@ -297,7 +309,7 @@ const SHORT: [&str; 13] = [
 #[test]
 fn waits_for_what_was_announced(rt: HostRuntime) -> Result<(), Fail> {
     for text in SHORT {
-        let is_so = is_read_cut(rt.alloc(), text, text.len(), "none")?;
+        let is_so = is_read_cut(rt.alloc(), text, "none")?;
         assert!(rt; is_so, "{text:?}");
     }
     Ok(())

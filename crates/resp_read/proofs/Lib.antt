@@ -12,3 +12,4 @@ pub mod ParseLaws
 pub mod ReadLaws
 pub mod ValueLaws
 pub mod ItemLaws
+pub mod FrameLaws

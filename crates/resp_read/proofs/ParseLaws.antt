@@ -84,7 +84,7 @@ pub empty_short : (n : ℕ) → parse n [] ≡ short
 empty_short zero = refl
 empty_short (suc n) = refl
 
-same_first : (bs : List ℕ) (b : ℕ) → 0 < length bs → get_or bs 0 0 ≡ b → bs ≡ b ∷ drop 1 bs
+pub same_first : (bs : List ℕ) (b : ℕ) → 0 < length bs → get_or bs 0 0 ≡ b → bs ≡ b ∷ drop 1 bs
 same_first [] b h is = absurd (omega arith)
 same_first (c ∷ bs) b h is = ap (λ x. x ∷ bs) is
 
@@ -100,7 +100,7 @@ chosen_more (f ∷ fs) gs b bs = step_by (b == f.0) (has fs b) (f.1 bs) (chosen 
 form_plain : (more : Table) (b : ℕ) (bs : List ℕ) → has (plain reader_limits) b ≡ true → form reader_limits more (b ∷ bs) ≡ chosen (plain reader_limits) b bs
 form_plain more b bs h = chosen_more (plain reader_limits) more b bs ∙ ap (λ c. cond c (chosen (plain reader_limits) b bs) (chosen more b bs)) h
 
-form_more : (more : Table) (b : ℕ) (bs : List ℕ) → has (plain reader_limits) b ≡ false → form reader_limits more (b ∷ bs) ≡ chosen more b bs
+pub form_more : (more : Table) (b : ℕ) (bs : List ℕ) → has (plain reader_limits) b ≡ false → form reader_limits more (b ∷ bs) ≡ chosen more b bs
 form_more more b bs h = chosen_more (plain reader_limits) more b bs ∙ ap (λ c. cond c (chosen (plain reader_limits) b bs) (chosen more b bs)) h
 
 parse_plain : (depth b : ℕ) (bs : List ℕ) → has (plain reader_limits) b ≡ true → parse depth (b ∷ bs) ≡ chosen (plain reader_limits) b bs
@@ -119,6 +119,3 @@ module _ {X : Type 0} (view : X → Data) (left rest : List ℕ) (b : ℕ) (r : 
 
   pub at_innermost : (depth : ℕ) → depth ≡ 0 → has (plain reader_limits) b ≡ false → IsFound view (chosen (innermost reader_limits) b rest) r new → IsFound view (parse depth left) r new
   at_innermost depth is h found = at_first (parse depth) (chosen (innermost reader_limits) b) (λ bs. ap (λ d. parse d (b ∷ bs)) is ∙ form_more (innermost reader_limits) b bs h) found
-
-  pub at_nested : (depth n : ℕ) → depth ≡ suc n → has (plain reader_limits) b ≡ false → IsFound view (chosen (nested reader_limits (parse n)) b rest) r new → IsFound view (parse depth left) r new
-  at_nested depth n is h found = at_first (parse depth) (chosen (nested reader_limits (parse n)) b) (λ bs. ap (λ d. parse d (b ∷ bs)) is ∙ form_more (nested reader_limits (parse n)) b bs h) found

@@ -1,6 +1,5 @@
 -- What is found at the front of a text is what the words of contracts say of it.
-use Rattle.std.proofs.Common.{◌≡◌, ℕ, ◌+◌, ◌-◌, ◌≤◌, ◌<◌, List, [], ◌++◌, length, take, drop, refl, sym, ap, ◌∙◌, append_assoc, arith, length-append}
-use Rattle.std.proofs.lemmas.List.{take-append-drop, drop_at}
+use Rattle.std.proofs.Common.{◌≡◌, ℕ, ◌<◌, List, [], ◌++◌, length, refl}
 use Rattle.std.specs.Prelude.{◌↔◌}
 use Rattle.resp_value.specs.Data.{Data}
 use Rattle.resp_read.specs.Grammar.{Found, read, short, bad, parse, max_depth}
@@ -59,12 +58,3 @@ short-prefix bs = (prefix_from_short bs, short_from_prefix bs)
 
 pub bad-malformed : (bs : List ℕ) → (parse max_depth bs ≡ bad) ↔ IsMalformed bs
 bad-malformed bs = (malformed_from_bad bs, bad_from_malformed bs)
-
--- what is left of a value at a place, seen from the whole text
-pub left_at : (place : ℕ) (bytes : List ℕ) (v : Data) (rest : List ℕ) → place ≤ length bytes → Reads (drop place bytes) v rest → (length rest ≤ length bytes) × (drop (length bytes - length rest) bytes ≡ rest)
-left_at place bytes v rest h e =
-    let end = reads-ends (drop place bytes) v rest e in
-    let front = take place bytes ++ end.0 in
-    let whole : bytes ≡ front ++ rest = sym (take-append-drop place bytes) ∙ ap (λ x. take place bytes ++ x) end.1 ∙ sym (append_assoc (take place bytes) end.0 rest) in
-    let n : length bytes ≡ length front + length rest = ap length whole ∙ length-append front rest in
-    (omega arith, ap (drop (length bytes - length rest)) whole ∙ drop_at front rest (length bytes - length rest) (omega arith))

@@ -1,9 +1,8 @@
 -- Values that hold values are lawful, where those that they hold are.
-use Rattle.std.proofs.Common.{◌≡◌, ℕ, zero, suc, ◌-◌, List, [], ◌∷◌, ◌++◌, Option, Some, None, lit≤, refl, sym, ap, ◌∙◌, append_assoc}
-use Rattle.std.proofs.lemmas.List.{append-nil}
+use Rattle.std.proofs.Common.{ℕ, zero, suc, ◌-◌, List, [], ◌∷◌, Option, Some, None, lit≤, refl}
 use Rattle.resp_value.specs.Data.{Data, nil, array, set, dict, attribute, push, items_of, members_of}
 use Rattle.resp_value.specs.Kinds.{kind_of}
-use Rattle.resp_read.specs.Grammar.{Found, read, short, bad, found_and_then, found_map, line_as, size_line, count_line, max_count, repeated, pair, array_of, array_form, set_of, set_form, map_of, map_form, attributed, attribute_of, attribute_form, kind, push_with, push_of, push_form, reader_limits}
+use Rattle.resp_read.specs.Grammar.{Found, found_map, line_as, size_line, count_line, max_count, repeated, pair, array_of, array_form, set_of, set_form, map_of, map_form, attributed, attribute_of, attribute_form, kind, push_with, push_of, push_form, reader_limits}
 use Rattle.resp_read.proofs.Laws.{Lawful, Possible, lawful_read, lawful_then, lawful_map, possible_map, possible_then}
 use Rattle.resp_read.proofs.LineLaws.{lawful_line}
 use Rattle.resp_read.proofs.Numbers.{lawful_size}
@@ -22,28 +21,6 @@ module _ {A : Type 0} (inside : List ℕ → Found A) where
   lawful_repeated h p (suc n) =
       lawful_then inside (next n) h (λ a. lawful_map (λ others. a ∷ others) (repeated inside n) (lawful_repeated h p n))
       (λ a. possible_map (λ others. a ∷ others) (repeated inside n) (possible_repeated h p n))
-
-  -- what was found before, and then these
-  abbrev pub behind : List A → Found (List A) → Found (List A)
-  behind found x = found_map (λ others. found ++ others) x
-
-  pub behind_none : (x : Found (List A)) → x ≡ behind [] x
-  behind_none (read others rest) = refl
-  behind_none short = refl
-  behind_none bad = refl
-
-  one_behind : (found : List A) (a : A) (x : Found (List A)) → behind found (found_map (λ others. a ∷ others) x) ≡ behind (found ++ a ∷ []) x
-  one_behind found a (read others rest) = ap (λ o. read o rest) (sym (append_assoc found (a ∷ []) others))
-  one_behind found a short = refl
-  one_behind found a bad = refl
-
-  -- one more was read
-  pub behind_one : (k : ℕ) (found : List A) (a : A) (left rest : List ℕ) → inside left ≡ read a rest → behind found (repeated inside (suc k) left) ≡ behind (found ++ a ∷ []) (repeated inside k rest)
-  behind_one k found a left rest is = ap (λ x. behind found (found_and_then (next k) x)) is ∙ one_behind found a (repeated inside k rest)
-
-  -- all were read
-  pub behind_all : (found : List A) (left : List ℕ) → behind found (repeated inside 0 left) ≡ read found left
-  behind_all found left = ap (λ o. read o left) (append-nil found)
 
 module _ (inside : List ℕ → Found Data) (h : Lawful inside) (p : Possible inside) where
   abbrev pub second : Data → List ℕ → Found (Data × Data)

@@ -6,3 +6,4 @@ pub mod Reading
 pub mod Parts
 pub mod Doubles
 pub mod Items
+pub mod Frames

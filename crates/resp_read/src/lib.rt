@@ -3,8 +3,10 @@
 
 mod decimals;
 mod forms;
+mod frames;
+mod heads;
 mod lines;
-mod nested;
 mod reader;
+mod underway;
 
 pub use reader::{Health, ReadError, Reader};

@@ -3,7 +3,8 @@ ghost use Rattle.resp_read.specs.declared.reader.Health.TheVariants.{Sound, Malf
 ghost use Rattle.resp_read.specs.Reading.{NextValue, NextFound};
 
 use crate::forms::{Input, Refusal};
-use crate::nested;
+use crate::frames::Frame;
+use crate::underway;
 use containers::Bytes;
 use resp_value::Value;
 use std::alloc::{AllocError, Global};
@@ -43,19 +44,26 @@ impl From<AllocError> for ReadError {
 #[derive(Drop)]
 pub struct Reader {
     bytes: Bytes,
+    /// Where the value that is being read begins.
     at: usize,
+    /// Where the next value within it begins.
+    next: usize,
+    /// The aggregates that it stands in, the outermost first.
+    frames: Vec<Frame>,
     health: Health,
 }
 
 impl Model for Reader {
-    ghost use Rattle.std.specs.Prelude.{drop, length, ◌≤◌};
+    ghost use Rattle.std.specs.Prelude.{drop};
     ghost use Rattle.resp_read.specs.State.{ReaderState};
 
     ghost Value = { ReaderState };
 
     ghost view = { λ r. record { health = r.health; rest = drop r.at r.bytes } };
 
-    ghost invariant = { λ r. r.at ≤ length r.bytes };
+    ghost use Rattle.resp_read.specs.Frames.{IsUnderway};
+
+    ghost invariant = { λ r. IsUnderway r.bytes r.at r.next r.frames.items r.health };
 }
 
 impl Reader {
@@ -66,7 +74,21 @@ impl Reader {
         Reader {
             bytes: Bytes::new(alloc),
             at: 0,
+            next: 0,
+            frames: Vec::new(alloc),
             health: Health::Sound,
+        }
+    }
+
+    /// Forgets the bytes of the values given, where they are no fewer than the others: so no more bytes are ever moved than
+    /// are forgotten.
+    fn forget_given(&mut self)
+        ensures { self.new ≡ self.old }
+    {
+        if self.at >= self.bytes.len() - self.at {
+            self.bytes.drop_front(self.at);
+            self.next -= self.at;
+            self.at = 0;
         }
     }
 
@@ -79,8 +101,7 @@ impl Reader {
         match self.health {
             Health::NoMemory => Err(AllocError),
             Health::Sound | Health::Malformed => {
-                self.bytes.drop_front(self.at);
-                self.at = 0;
+                self.forget_given();
                 match self.bytes.extend_from_slice(piece) {
                     Ok(()) => Ok(()),
                     Err(error) => {
@@ -102,14 +123,18 @@ impl Reader {
             Health::Malformed => Err(ReadError::Parse),
             Health::Sound => {
                 let mut input = Input {
-                    left: &self.bytes.as_slice()[self.at..],
+                    left: &self.bytes.as_slice()[self.next..],
                 };
-                match nested::front_value(alloc, &mut input) {
+                match underway::read_on(alloc, &mut self.frames, &mut input) {
                     Ok(value) => {
                         self.at = self.bytes.len() - input.left.len();
+                        self.next = self.at;
                         Ok(Some(value))
                     }
-                    Err(Refusal::Short) => Ok(None),
+                    Err(Refusal::Short) => {
+                        self.next = self.bytes.len() - input.left.len();
+                        Ok(None)
+                    }
                     Err(Refusal::Bad) => {
                         self.health = Health::Malformed;
                         Err(ReadError::Parse)

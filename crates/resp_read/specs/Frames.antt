@@ -1,0 +1,93 @@
+-- Aggregates that are begun and not whole, and what a value becomes that stands in them.
+use Rattle.std.specs.Prelude.{◌≡◌, ◌≤◌, ℕ, ◌-◌, List, [], ◌∷◌, ◌++◌, length, drop, Option, Some, None, Result, Ok, Err}
+use Rattle.resp_value.specs.Data.{Data, array, set, push, dict, attribute, items_of, members_of}
+use Rattle.resp_value.specs.View.{data_of}
+use Rattle.resp_value.specs.declared.value.Value.{Value}
+use Rattle.resp_read.specs.declared.forms.Refusal.{Refusal}
+use Rattle.resp_read.specs.declared.forms.Refusal.TheVariants.{Short, Bad, NoMemory}
+use Rattle.resp_read.specs.declared.frames.Sequence.{Sequence}
+use Rattle.resp_read.specs.declared.frames.Sequence.TheVariants.{Array, Set, Push}
+use Rattle.resp_read.specs.declared.frames.Pairing.{Pairing}
+use Rattle.resp_read.specs.declared.frames.Pairing.TheVariants.{Map, Attributes}
+use Rattle.resp_read.specs.declared.frames.Frame.{Frame}
+use Rattle.resp_read.specs.declared.frames.Frame.TheVariants.{Item, Key, Entry, Attributed}
+use Rattle.resp_read.specs.declared.frames.Begun.{Begun}
+use Rattle.resp_read.specs.declared.frames.Begun.TheVariants.{Whole, Within}
+use Rattle.resp_read.specs.declared.reader.Health.{Health}
+use Rattle.resp_read.specs.declared.reader.Health.TheVariants.{Sound}
+use Rattle.resp_read.specs.Grammar.{Found, read, short, bad, found_and_then, found_map, repeated, pair, attributed, parse, max_depth}
+
+-- what these values make
+abbrev pub made : Sequence → List Data → Data
+made Array ds = array (items_of ds)
+made Set ds = set (items_of ds)
+made (Push kind) ds = push kind (items_of ds)
+
+-- what these pairs make, with the value behind them where they are attributes
+abbrev pub paired : (List ℕ → Found Data) → Pairing → List (Data × Data) → List ℕ → Found Data
+paired inside Map ps bs = read (dict (members_of ps)) bs
+paired inside Attributes ps bs = attributed inside ps bs
+
+-- what the values found and n more make
+abbrev pub with_values : (List ℕ → Found Data) → Sequence → List Data → ℕ → List ℕ → Found Data
+with_values inside of found n bs = found_map (λ ds. made of (found ++ ds)) (repeated inside n bs)
+
+-- what the pairs found and n more make
+abbrev pub with_pairs : (List ℕ → Found Data) → Pairing → List (Data × Data) → ℕ → List ℕ → Found Data
+with_pairs inside of found n bs = found_and_then (λ ps. paired inside of (found ++ ps)) (repeated (pair inside) n bs)
+
+-- what an aggregate is, where the value that it waits for is v, and these bytes follow
+abbrev pub with_value : (List ℕ → Found Data) → Frame → Data → List ℕ → Found Data
+with_value inside (Item of found more) v bs = with_values inside of (found ++ v ∷ []) more bs
+with_value inside (Key of found more) k bs = found_and_then (λ v rest. with_pairs inside of (found ++ (k, v) ∷ []) more rest) (inside bs)
+with_value inside (Entry of found k more) v bs = with_pairs inside of (found ++ (data_of k, v) ∷ []) more bs
+with_value inside (Attributed ps) v bs = read (attribute v (members_of ps)) bs
+
+-- what was begun is, where these bytes follow
+abbrev pub begun : (List ℕ → Found Data) → Begun → List ℕ → Found Data
+begun inside (Whole v) bs = read (data_of v) bs
+begun inside (Within frame) bs = found_and_then (with_value inside frame) (inside bs)
+
+-- a value that was read is whole
+abbrev pub whole_of : Result Value Refusal → Result Begun Refusal
+whole_of (Ok v) = Ok (Whole v)
+whole_of (Err e) = Err e
+
+-- what the outermost of these aggregates is, where x is found in the innermost; n may still be nested
+abbrev pub within : ℕ → List Frame → Found Data → Found Data
+within n [] x = x
+within n (frame ∷ frames) x = found_and_then (with_value (parse (n - 1)) frame) (within (n - 1) frames x)
+
+-- what it is, where these bytes follow
+abbrev pub resumed : List Frame → List ℕ → Found Data
+resumed frames bs = within max_depth frames (parse (max_depth - length frames) bs)
+
+-- the one text is the end of the other
+abbrev pub IsEnd : List ℕ → List ℕ → Type 0
+IsEnd end bs = (p : List ℕ) × (bs ≡ p ++ end)
+
+-- what a form is that begins so, whatever bytes follow
+abbrev pub Begins : (List ℕ → Found Data) → (List ℕ → Found Data) → List ℕ → Result Begun Refusal → List ℕ → Type 0
+Begins form inside bs (Ok b) left = IsEnd left bs × ((m : List ℕ) → form (bs ++ m) ≡ begun inside b (left ++ m))
+Begins form inside bs (Err Short) left = form bs ≡ short
+Begins form inside bs (Err Bad) left = form bs ≡ bad
+Begins form inside bs (Err NoMemory) left = Unit {0}
+
+-- what becomes of a value in these aggregates: the outermost is whole by it, or it waits on
+abbrev pub IsPut : {E : Type 0} → List Frame → Value → Result (Option Value) E → List Frame → Type 0
+IsPut old v (Ok (Some w)) new = (new ≡ []) × ((bs : List ℕ) → within max_depth old (read (data_of v) bs) ≡ read (data_of w) bs)
+IsPut old v (Ok None) new = (bs : List ℕ) → within max_depth old (read (data_of v) bs) ≡ resumed new bs
+IsPut old v (Err e) new = Unit {0}
+
+-- what was read on, whatever bytes follow
+abbrev pub ReadsOn : List Frame → List ℕ → Result Value Refusal → List Frame → List ℕ → Type 0
+ReadsOn old bs (Ok v) new left = (new ≡ []) × IsEnd left bs × ((m : List ℕ) → resumed old (bs ++ m) ≡ read (data_of v) (left ++ m))
+ReadsOn old bs (Err Short) new left = IsEnd left bs × (resumed old bs ≡ short) × ((m : List ℕ) → resumed old (bs ++ m) ≡ resumed new (left ++ m))
+ReadsOn old bs (Err Bad) new left = resumed old bs ≡ bad
+ReadsOn old bs (Err NoMemory) new left = Unit {0}
+
+-- the value that begins at the one place is what the aggregates are with the bytes from the other place on, whatever bytes follow
+pub record IsUnderway (bytes : List ℕ) (at next : ℕ) (frames : List Frame) (health : Health) : Type 0 where
+  pub in_order : at ≤ next
+  pub fits : next ≤ length bytes
+  pub resumes : health ≡ Sound → (m : List ℕ) → parse max_depth (drop at bytes ++ m) ≡ resumed frames (drop next bytes ++ m)

@@ -1,0 +1,138 @@
+ghost use Rattle.std.specs.Prelude.{◌≡◌, ℕ, List, IfOk};
+ghost use Rattle.resp_value.specs.Data.{Data};
+ghost use Rattle.resp_value.specs.View.{data_of};
+ghost use Rattle.resp_read.specs.Grammar.{Found};
+ghost use Rattle.resp_read.specs.Frames.{made as made_of, with_values as values_make, with_pairs as pairs_make, with_value as value_makes, begun as begun_is};
+
+use resp_value::{Inner, Pairs, PushKind, Value, Values};
+use std::alloc::{AllocError, Global};
+
+/// What values one after another make.
+#[derive(Drop)]
+pub enum Sequence {
+    Array,
+    Set,
+    Push(PushKind),
+}
+
+/// What pairs one after another make.
+#[derive(Clone, Copy)]
+pub enum Pairing {
+    Map,
+    /// The attributes of the value behind them.
+    Attributes,
+}
+
+/// An aggregate begun and not whole: what it holds so far, and how many values or pairs follow the one that it waits for.
+#[derive(Drop)]
+pub enum Frame {
+    Item {
+        of: Sequence,
+        found: Values,
+        more: u64,
+    },
+    Key {
+        of: Pairing,
+        found: Pairs,
+        more: u64,
+    },
+    /// The value of a key.
+    Entry {
+        of: Pairing,
+        found: Pairs,
+        key: Value,
+        more: u64,
+    },
+    /// The value that has these attributes.
+    Attributed {
+        attributes: Pairs,
+    },
+}
+
+/// A value, or an aggregate that waits for its next value.
+#[derive(Drop)]
+pub enum Begun {
+    Whole(Value),
+    Within(Frame),
+}
+
+fn made(of: Sequence, values: Values) -> Value
+    ensures { data_of result ≡ made_of of values }
+{
+    match of {
+        Sequence::Array => Value::Array(values),
+        Sequence::Set => Value::Set(values),
+        Sequence::Push(kind) => Value::Push {
+            kind,
+            parts: values,
+        },
+    }
+}
+
+/// Where these values were found, and so many are to come.
+pub fn with_values(of: Sequence, found: Values, count: u64) -> Begun
+    ensures { (inside : List ℕ → Found Data) (bs : List ℕ) → values_make inside of found count bs ≡ begun_is inside result bs }
+{
+    if count == 0 {
+        return Begun::Whole(made(of, found));
+    }
+    Begun::Within(Frame::Item {
+        of,
+        found,
+        more: count - 1,
+    })
+}
+
+/// Where these pairs were found, and so many are to come.
+pub fn with_pairs(of: Pairing, found: Pairs, count: u64) -> Begun
+    ensures { (inside : List ℕ → Found Data) (bs : List ℕ) → pairs_make inside of found count bs ≡ begun_is inside result bs }
+{
+    if count > 0 {
+        return Begun::Within(Frame::Key {
+            of,
+            found,
+            more: count - 1,
+        });
+    }
+    match of {
+        Pairing::Map => Begun::Whole(Value::Map(found)),
+        Pairing::Attributes => Begun::Within(Frame::Attributed { attributes: found }),
+    }
+}
+
+impl Frame {
+    /// With the value that it waits for.
+    pub fn put(self, alloc: Global, value: Value) -> Result<Begun, AllocError>
+        ensures { IfOk result (λ b. (inside : List ℕ → Found Data) (bs : List ℕ) → value_makes inside self (data_of value) bs ≡ begun_is inside b bs) }
+    {
+        match self {
+            Frame::Item {
+                of,
+                mut found,
+                more,
+            } => {
+                found.push(value)?;
+                Ok(with_values(of, found, more))
+            }
+            Frame::Key { of, found, more } => Ok(Begun::Within(Frame::Entry {
+                of,
+                found,
+                key: value,
+                more,
+            })),
+            Frame::Entry {
+                of,
+                mut found,
+                key,
+                more,
+            } => {
+                found.push(key, value)?;
+                Ok(with_pairs(of, found, more))
+            }
+            Frame::Attributed { attributes } => Ok(Begun::Whole(Value::Attribute {
+                inner: Inner::new(alloc, value)?,
+                attributes,
+            })),
+        }
+    }
+}
