@@ -2,15 +2,18 @@
 use Rattle.std.proofs.Common.{◌≡◌, ◌≢◌, ℕ, zero, suc, ◌<◌, ◌==◌, Bool, true, false, List, [], ◌∷◌, ◌++◌, length, slice_set, if◌then◌else◌, refl, sym, ap, ◌∙◌, append_assoc, length-set}
 use Rattle.std.proofs.lemmas.List.{append-nil}
 use Rattle.resp_value.specs.declared.redis_error.RedisError.TheVariants as error
+use Rattle.resp_value.specs.declared.value.Value.TheVariants.{Nil}
 use Rattle.driver_model.specs.declared.action.Action.{Action}
 use Rattle.driver_model.specs.declared.action.Action.TheVariants as action
 use Rattle.driver_model.specs.declared.action.Owner.TheVariants as owner
 use Rattle.driver_model.specs.declared.action.WaitKind.TheVariants as wait
 use Rattle.driver_model.specs.declared.event.EventKind.{EventKind}
 use Rattle.driver_model.specs.declared.event.EventKind.TheVariants as event
-use Rattle.driver_model.specs.declared.event.Submission.TheVariants as submission
+use Rattle.driver_model.specs.declared.event.Submission.{Submission}
 use Rattle.driver_model.specs.declared.outcome.Outcome.{Outcome}
 use Rattle.driver_model.specs.declared.outcome.Outcome.TheVariants as outcome
+use Rattle.driver_model.specs.Shape.{outcome_of}
+use Rattle.driver_model.specs.Request.{packed}
 use Rattle.link_core.specs.declared.errors.LinkFault.{LinkFault}
 use Rattle.link_core.specs.declared.errors.LinkFault.TheVariants as fault
 use Rattle.link_core.specs.declared.message.Queued.{Queued}
@@ -27,13 +30,13 @@ use Rattle.shared_session.specs.declared.connection.Progress.{Progress}
 use Rattle.shared_session.specs.declared.connection.Progress.TheVariants as progress
 use Rattle.shared_session.specs.declared.connection.Waiting.{Waiting}
 use Rattle.shared_session.specs.Requests.{if_there, is_open, is_waiting, is_open_at, is_waiting_at}
-use Rattle.shared_session.specs.Steps.{acts, at_progress, is_dialing, is_up, is_ended, answered, outcome_of, settled_each, closed, closed_each, waiting_closed, ends, ended_by, checked, submitted, left, read_to, shown_each, starts_with, started, message_of, advanced, advanced_each, advanced_all, passes, offers, writes, waits_shown, waits_each, waits, flushed}
+use Rattle.shared_session.specs.Steps.{acts, at_progress, is_dialing, is_up, is_ended, answered, settled_each, closed, closed_each, waiting_closed, ends, ended_by, checked, submitted, left, read_to, faulted_by, shown_each, starts_with, started, message_of, placed, told_at_place, advanced, advanced_each, advanced_all, passes, offers, writes, waits_shown, waits_each, waits, flushed}
 use Rattle.shared_session.specs.Turn.{applied}
 use Rattle.cancel_laws.specs.ButFor.{shown_of, but_for, hushed_link}
 use Rattle.cancel_laws.proofs.Choices.{by_test, either, either_by, taken_if, left_if, eq_from, ne_from, eq_test}
 use Rattle.cancel_laws.proofs.Lists.{set_twice, set_apart, set_push, get_set_other}
 use Rattle.cancel_laws.proofs.Links.{NoneOf, hushed_settling, hushed_came, hushed_close, hushed_fault, hushed_started, hushed_cancelled, own_cancelled}
-use Rattle.cancel_laws.proofs.Kept.{At, There, settled_kept, started_kept, advanced_kept, writes_kept, waits_shown_kept}
+use Rattle.cancel_laws.proofs.Kept.{At, There, settled_kept, started_kept, told_kept, advanced_kept, writes_kept, waits_shown_kept}
 use Rattle.cancel_laws.proofs.Gone.{IsGone, gone_kept, other_number}
 
 -- the outcomes of a turn, but for those of submission n
@@ -173,17 +176,17 @@ bare_ended n c f h =
 
 -- events
 --
-bare_checked : (n : ℕ) (c : Connection) (m : ℕ) (args : List (List ℕ)) → bare n (checked c m args) ≡ checked (bare n c) m args
-bare_checked n c m args =
+bare_checked : (n : ℕ) (c : Connection) (m : ℕ) (s : Submission) → bare n (checked c m s) ≡ checked (bare n c) m s
+bare_checked n c m s =
     either (bare n) c.shut _ _ _ _ (λ t. bare_answered n c m closed)
-    (λ f. either (bare n) (length args == 0) _ _ _ _ (λ t. bare_answered n c m (outcome.Fault error.EmptyCommand))
+    (λ f. either (bare n) (length (packed s) == 0) _ _ _ _ (λ t. bare_answered n c m (outcome.Fault error.EmptyCommand))
     (λ g. either (bare n) (is_ended c.phase) _ _ _ _ (λ t. bare_answered n c m closed) (λ e. refl)))
 
-bare_submitted : (n : ℕ) (c : Connection) (args : List (List ℕ)) → n < length c.requests → bare n (submitted c args) ≡ submitted (bare n c) args
-bare_submitted n c args l =
-    bare_checked n (record c { requests = c.requests ++ progress.Waiting ∷ [] }) (length c.requests) args
-    ∙ ap (λ (r : List Progress). checked (record (bare n c) { requests = r }) (length c.requests) args) (set_push c.requests n progress.Cancelled progress.Waiting l)
-    ∙ ap (λ (k : ℕ). checked (record (bare n c) { requests = slice_set c.requests n progress.Cancelled ++ progress.Waiting ∷ [] }) k args) (sym (length-set c.requests n progress.Cancelled))
+bare_submitted : (n : ℕ) (c : Connection) (s : Submission) → n < length c.requests → bare n (submitted c s) ≡ submitted (bare n c) s
+bare_submitted n c s l =
+    bare_checked n (record c { requests = c.requests ++ progress.Waiting ∷ [] }) (length c.requests) s
+    ∙ ap (λ (r : List Progress). checked (record (bare n c) { requests = r }) (length c.requests) s) (set_push c.requests n progress.Cancelled progress.Waiting l)
+    ∙ ap (λ (k : ℕ). checked (record (bare n c) { requests = slice_set c.requests n progress.Cancelled ++ progress.Waiting ∷ [] }) k s) (sym (length-set c.requests n progress.Cancelled))
 
 -- the cancel of submission n itself
 pub own_left : (n : ℕ) (c : Connection) → without c.link.queue n ≡ c.link.queue → bare n (left c n) ≡ bare n c
@@ -226,8 +229,11 @@ bare_read n c s h =
     (λ t. bare_ended n e fault.Parse (settled_kept (gone_kept n) d s.out h) ∙ ap (λ x. ended_by x fault.Parse) (bare_settled n d s.out))
     (λ f. bare_settled n d s.out)
 
+bare_faulted : (n : ℕ) (c : Connection) (f : LinkFault) → At (There (IsGone n)) c → bare n (faulted_by c f) ≡ faulted_by (bare n c) f
+bare_faulted n c f h = either (bare n) (is_up c.phase) (ended_by c f) c (ended_by (bare n c) f) (bare n c) (λ t. bare_ended n c f h) (λ g. refl)
+
 pub bare_applied : (n : ℕ) (c : Connection) (kind : EventKind) → At (There (IsGone n)) c → bare n (applied c kind) ≡ applied (bare n c) kind
-bare_applied n c (event.Submit (submission.Cmd args)) h = bare_submitted n c args h.there
+bare_applied n c (event.Submit s) h = bare_submitted n c s h.there
 bare_applied n c (event.Cancel m) h = bare_left n m c h
 bare_applied n c (event.Connected l) h =
     either (bare n) (is_dialing c.phase) _ c _ (bare n c) (λ t. ap (λ (xs : List Action). record (bare n c) { phase = phase.Up; acts = xs }) (but_for-more n c.acts action.Created)) (λ f. refl)
@@ -237,7 +243,9 @@ bare_applied n c (event.Bytes l piece) h =
     either (bare n) (is_up c.phase) _ c _ (bare n c)
     (λ t. bare_read n c (came s piece) ((gone_kept n).come c.requests c.link c.done c.acts piece h) ∙ ap (read_to (bare n c)) (hushed_came n s piece))
     (λ f. refl)
-bare_applied n c (event.Ended l) h = either (bare n) (is_up c.phase) _ c _ (bare n c) (λ t. bare_ended n c fault.Ended h) (λ f. refl)
+bare_applied n c (event.Ended l) h = bare_faulted n c fault.Ended h
+bare_applied n c (event.ReadFault l kind) h = bare_faulted n c (fault.Io kind) h
+bare_applied n c (event.WriteFault l kind) h = bare_faulted n c (fault.Io kind) h
 bare_applied n c event.Shutdown h =
     let s : Settling = record { link = c.link; out = [] } in
     let d = record c { shut = true } in
@@ -257,13 +265,20 @@ bare_started n c h =
     let t = started_all s in
     bare_shown n (record c { link = t.link }) t.out ∙ ap (starts_with (bare n c)) (hushed_started n s h.none)
 
+bare_placed : (n : ℕ) (c : Connection) (w : Waiting) → w.number ≢ n → bare n (placed c w) ≡ placed (bare n c) w
+bare_placed n c w o = ap (λ (r : List Progress). record (bare n c) { requests = r; link = enqueued (hushed_link n c.link) (message_of w) }) (set_apart c.requests w.number n progress.Placed progress.Cancelled o)
+
+bare_told : (n : ℕ) (c : Connection) (w : Waiting) → bare n (told_at_place c w) ≡ told_at_place (bare n c) w
+bare_told n c w = either (bare n) w.awaited c (answered c w.number (outcome.One Nil)) (bare n c) (answered (bare n c) w.number (outcome.One Nil)) (λ t. refl) (λ f. bare_answered n c w.number (outcome.One Nil))
+
 bare_advanced : (n : ℕ) (c : Connection) (w : Waiting) → At (There (IsGone n)) c → bare n (advanced c w) ≡ advanced (bare n c) w
 bare_advanced n c w h =
-    let d = record (at_progress c w.number progress.Placed) { link = enqueued c.link (message_of w) } in
-    either_by (bare n) (is_waiting_at c.requests w.number) (is_waiting_at (slice_set c.requests n progress.Cancelled) w.number) (started d) c _ (bare n c) (waiting_same c.requests n w.number h.past)
+    let d = placed c w in
+    either_by (bare n) (is_waiting_at c.requests w.number) (is_waiting_at (slice_set c.requests n progress.Cancelled) w.number) (started (told_at_place d w)) c _ (bare n c) (waiting_same c.requests n w.number h.past)
     (λ t.
-    bare_started n d ((gone_kept n).place c.requests c.link c.done c.acts w t h)
-    ∙ ap (λ (r : List Progress). started (record (bare n c) { requests = r; link = enqueued (hushed_link n c.link) (message_of w) })) (set_apart c.requests w.number n progress.Placed progress.Cancelled (other_number c.requests n w.number t h.past)))
+    bare_started n (told_at_place d w) (told_kept (gone_kept n) d w ((gone_kept n).place c.requests c.link c.done c.acts w t h))
+    ∙ ap started (bare_told n d w)
+    ∙ ap (λ (x : Connection). started (told_at_place x w)) (bare_placed n c w (other_number c.requests n w.number t h.past)))
     (λ f. refl)
 
 bare_advanced_each : (n : ℕ) (c : Connection) (ws : List Waiting) → At (There (IsGone n)) c → bare n (advanced_each c ws) ≡ advanced_each (bare n c) ws

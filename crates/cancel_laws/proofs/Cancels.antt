@@ -301,6 +301,8 @@ bare_bad n c (event.Connected l) = refl
 bare_bad n c (event.Wrote l k) = refl
 bare_bad n c (event.Bytes l piece) = refl
 bare_bad n c (event.Ended l) = refl
+bare_bad n c (event.ReadFault l fault) = refl
+bare_bad n c (event.WriteFault l fault) = refl
 bare_bad n c event.Shutdown = refl
 
 pub same_bad : (config : Config) (word draw n : ℕ) (before after : List Event) (e : Event) → HasStarted n (state_after config word before).connection

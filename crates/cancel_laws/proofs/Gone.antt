@@ -62,8 +62,8 @@ within_set r n m p l = omega (arith, length-set r m p)
 pub other_number : (r : List Progress) (n m : ℕ) → is_waiting_at r m ≡ true → is_waiting_at r n ≡ false → m ≢ n
 other_number r n m t f = λ e. let same : is_waiting_at r m ≡ is_waiting_at r n = ap (is_waiting_at r) e in cc
 
-not_awaited : (n m : ℕ) → m ≢ n → ((m == n) && true) ≡ false
-not_awaited n m o = ap (λ b. b && true) (ne_test m n o)
+not_awaited : (n m : ℕ) (awaited : Bool) → m ≢ n → ((m == n) && awaited) ≡ false
+not_awaited n m awaited o = ap (λ b. b && awaited) (ne_test m n o)
 
 pub gone_there : (n : ℕ) → IsKeptThere (IsGone n)
 gone_there n = record {
@@ -72,7 +72,7 @@ gone_there n = record {
   place = λ r l w t h. record {
     there = within_set r n w.number progress.Placed h.there;
     past = past_set r n w.number progress.Placed refl h.past;
-    none = none_push n l.queue (message_of w) h.none (not_awaited n w.number (other_number r n w.number t h.past));
+    none = none_push n l.queue (message_of w) h.none (not_awaited n w.number w.awaited (other_number r n w.number t h.past));
   };
   start = λ r l h. record { there = h.there; past = h.past; none = none_started n (record { link = l; out = [] }) l.queue h.none };
   offer = λ r l h. record { there = h.there; past = h.past; none = h.none };
@@ -93,4 +93,6 @@ gone_handed_in n (event.Connected m) r l h = h
 gone_handed_in n (event.Wrote m k) r l h = h
 gone_handed_in n (event.Bytes m piece) r l h = h
 gone_handed_in n (event.Ended m) r l h = h
+gone_handed_in n (event.ReadFault m kind) r l h = h
+gone_handed_in n (event.WriteFault m kind) r l h = h
 gone_handed_in n event.Shutdown r l h = h

@@ -1,6 +1,7 @@
 -- What each part of a turn keeps: a fact of the submissions' progress, of the link, and of what the turn has shown.
 use Rattle.std.proofs.Common.{◌≡◌, ℕ, ◌==◌, true, List, [], ◌∷◌, ◌++◌, length, slice_set, refl}
 use Rattle.resp_value.specs.declared.redis_error.RedisError.TheVariants as error
+use Rattle.resp_value.specs.declared.value.Value.TheVariants.{Nil}
 use Rattle.driver_model.specs.declared.action.Action.{Action}
 use Rattle.driver_model.specs.declared.action.Action.TheVariants as action
 use Rattle.driver_model.specs.declared.action.Cause.TheVariants as cause
@@ -9,9 +10,11 @@ use Rattle.driver_model.specs.declared.action.WaitKind.TheVariants as wait
 use Rattle.driver_model.specs.declared.event.Event.{Event}
 use Rattle.driver_model.specs.declared.event.EventKind.{EventKind}
 use Rattle.driver_model.specs.declared.event.EventKind.TheVariants as event
-use Rattle.driver_model.specs.declared.event.Submission.TheVariants as submission
+use Rattle.driver_model.specs.declared.event.Submission.{Submission}
 use Rattle.driver_model.specs.declared.outcome.Outcome.{Outcome}
 use Rattle.driver_model.specs.declared.outcome.Outcome.TheVariants as outcome
+use Rattle.driver_model.specs.Shape.{outcome_of}
+use Rattle.driver_model.specs.Request.{packed}
 use Rattle.link_core.specs.declared.errors.LinkFault.{LinkFault}
 use Rattle.link_core.specs.declared.errors.LinkFault.TheVariants as fault
 use Rattle.link_core.specs.declared.message.Settled.{Settled}
@@ -26,7 +29,7 @@ use Rattle.shared_session.specs.declared.connection.Progress.TheVariants as prog
 use Rattle.shared_session.specs.declared.connection.Waiting.{Waiting}
 use Rattle.shared_session.specs.declared.core_state.Core.{Core}
 use Rattle.shared_session.specs.Requests.{is_open_at, is_waiting_at}
-use Rattle.shared_session.specs.Steps.{acts, at_progress, is_dialing, is_up, is_ended, answered, outcome_of, settled_each, closed, closed_each, ends, ended_by, checked, read_to, shown_each, started, message_of, advanced, advanced_each, advanced_all, passes, offers, writes, waits_shown, waits_each, flushed}
+use Rattle.shared_session.specs.Steps.{acts, is_dialing, is_up, is_ended, answered, settled_each, closed, closed_each, ends, ended_by, checked, read_to, faulted_by, shown_each, started, message_of, placed, told_at_place, advanced, advanced_each, advanced_all, passes, offers, writes, waits_shown, waits_each, flushed}
 use Rattle.shared_session.specs.Turn.{applied, turn}
 use Rattle.cancel_laws.specs.ButFor.{unnumbered, shown_of}
 use Rattle.cancel_laws.proofs.Choices.{chosen}
@@ -87,6 +90,8 @@ handed_in (event.Connected l) r = r
 handed_in (event.Wrote l n) r = r
 handed_in (event.Bytes l piece) r = r
 handed_in (event.Ended l) r = r
+handed_in (event.ReadFault l kind) r = r
+handed_in (event.WriteFault l kind) r = r
 handed_in event.Shutdown r = r
 
 abbrev pub At : (List Progress → LinkState → List Done → List Action → Type 0) → Connection → Type 0
@@ -112,10 +117,13 @@ ends_kept k c s h =
 ended_kept : {P : List Progress → LinkState → List Done → List Action → Type 0} → IsKept P → (c : Connection) (f : LinkFault) → At P c → At P (ended_by c f)
 ended_kept k c f h = ends_kept k c (faulted (record { link = c.link; out = [] }) f) (k.fail c.requests c.link c.done c.acts f h)
 
-checked_kept : {P : List Progress → LinkState → List Done → List Action → Type 0} → IsKept P → (c : Connection) (n : ℕ) (args : List (List ℕ)) → At P c → At P (checked c n args)
-checked_kept {P = P} k c n args h =
+faulted_kept : {P : List Progress → LinkState → List Done → List Action → Type 0} → IsKept P → (c : Connection) (f : LinkFault) → At P c → At P (faulted_by c f)
+faulted_kept {P = P} k c f h = chosen (At P) (is_up c.phase) (ended_by c f) c (λ t. ended_kept k c f h) (λ g. h)
+
+checked_kept : {P : List Progress → LinkState → List Done → List Action → Type 0} → IsKept P → (c : Connection) (n : ℕ) (s : Submission) → At P c → At P (checked c n s)
+checked_kept {P = P} k c n s h =
     chosen (At P) c.shut _ _ (λ t. answered_kept k c n closed h)
-    (λ f. chosen (At P) (length args == 0) _ _ (λ t. answered_kept k c n (outcome.Fault error.EmptyCommand) h)
+    (λ f. chosen (At P) (length (packed s) == 0) _ _ (λ t. answered_kept k c n (outcome.Fault error.EmptyCommand) h)
     (λ g. chosen (At P) (is_ended c.phase) _ _ (λ t. answered_kept k c n closed h) (λ e. h)))
 
 read_kept : {P : List Progress → LinkState → List Done → List Action → Type 0} → IsKept P → (c : Connection) (s : Settling) → P c.requests s.link c.done c.acts → At P (read_to c s)
@@ -125,14 +133,16 @@ read_kept {P = P} k c s h =
     chosen (At P) s.link.broken (ended_by e fault.Parse) e (λ t. ended_kept k e fault.Parse (settled_kept k d s.out h)) (λ f. settled_kept k d s.out h)
 
 applied_kept : {P : List Progress → LinkState → List Done → List Action → Type 0} → IsKept P → (c : Connection) (kind : EventKind) → P (handed_in kind c.requests) c.link c.done c.acts → At P (applied c kind)
-applied_kept k c (event.Submit (submission.Cmd args)) h = checked_kept k (record c { requests = c.requests ++ progress.Waiting ∷ [] }) (length c.requests) args h
+applied_kept k c (event.Submit s) h = checked_kept k (record c { requests = c.requests ++ progress.Waiting ∷ [] }) (length c.requests) s h
 applied_kept {P = P} k c (event.Cancel n) h = chosen (At P) (is_open_at c.requests n) _ c (λ t. k.cancel c.requests c.link c.done c.acts n t h) (λ f. h)
 applied_kept {P = P} k c (event.Connected l) h = chosen (At P) (is_dialing c.phase) _ c (λ t. k.show c.requests c.link c.done c.acts action.Created (record { shown = λ n. refl; numberless = refl }) h) (λ f. h)
 applied_kept {P = P} k c (event.Wrote l n) h = chosen (At P) (is_up c.phase) _ c (λ t. k.write c.requests c.link c.done c.acts n h) (λ f. h)
 applied_kept {P = P} k c (event.Bytes l piece) h =
     let s = came (record { link = c.link; out = [] }) piece in
     chosen (At P) (is_up c.phase) (read_to c s) c (λ t. read_kept k c s (k.come c.requests c.link c.done c.acts piece h)) (λ f. h)
-applied_kept {P = P} k c (event.Ended l) h = chosen (At P) (is_up c.phase) _ c (λ t. ended_kept k c fault.Ended h) (λ f. h)
+applied_kept k c (event.Ended l) h = faulted_kept k c fault.Ended h
+applied_kept k c (event.ReadFault l kind) h = faulted_kept k c (fault.Io kind) h
+applied_kept k c (event.WriteFault l kind) h = faulted_kept k c (fault.Io kind) h
 applied_kept {P = P} k c event.Shutdown h =
     let d = record c { shut = true } in
     let s = closed_all (record { link = c.link; out = [] }) in
@@ -147,10 +157,13 @@ shown_kept k c (s ∷ ss) h =
 pub started_kept : {P : List Progress → LinkState → List Done → List Action → Type 0} → IsKept P → (c : Connection) → At P c → At P (started c)
 started_kept k c h = let s = started_all (record { link = c.link; out = [] }) in shown_kept k (record c { link = s.link }) s.out (k.start c.requests c.link c.done c.acts h)
 
+pub told_kept : {P : List Progress → LinkState → List Done → List Action → Type 0} → IsKept P → (c : Connection) (w : Waiting) → At P c → At P (told_at_place c w)
+told_kept {P = P} k c w h = chosen (At P) w.awaited c (answered c w.number (outcome.One Nil)) (λ t. h) (λ f. answered_kept k c w.number (outcome.One Nil) h)
+
 pub advanced_kept : {P : List Progress → LinkState → List Done → List Action → Type 0} → IsKept P → (c : Connection) (w : Waiting) → At P c → At P (advanced c w)
 advanced_kept {P = P} k c w h =
-    let d = record (at_progress c w.number progress.Placed) { link = enqueued c.link (message_of w) } in
-    chosen (At P) (is_waiting_at c.requests w.number) (started d) c (λ t. started_kept k d (k.place c.requests c.link c.done c.acts w t h)) (λ f. h)
+    let d = placed c w in
+    chosen (At P) (is_waiting_at c.requests w.number) (started (told_at_place d w)) c (λ t. started_kept k (told_at_place d w) (told_kept k d w (k.place c.requests c.link c.done c.acts w t h))) (λ f. h)
 
 advanced_each_kept : {P : List Progress → LinkState → List Done → List Action → Type 0} → IsKept P → (c : Connection) (ws : List Waiting) → At P c → At P (advanced_each c ws)
 advanced_each_kept k c [] h = h

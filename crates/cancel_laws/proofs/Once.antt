@@ -153,6 +153,8 @@ once_handed_in n (event.Connected m) r l h = h
 once_handed_in n (event.Wrote m k) r l h = h
 once_handed_in n (event.Bytes m piece) r l h = h
 once_handed_in n (event.Ended m) r l h = h
+once_handed_in n (event.ReadFault m kind) r l h = h
+once_handed_in n (event.WriteFault m kind) r l h = h
 once_handed_in n event.Shutdown r l h = h
 
 pub none_yet : (n : ℕ) (r : List Progress) (l : LinkState) → l.row ≡ [] → l.queue ≡ [] → IsOnce n r l

@@ -11,7 +11,7 @@ use Rattle.driver_model.specs.declared.event.EventKind.TheVariants as event
 use Rattle.driver_model.specs.declared.outcome.Outcome.{Outcome}
 use Rattle.link_core.specs.declared.message.Queued.{Queued}
 use Rattle.link_core.specs.declared.message.Started.{Started}
-use Rattle.link_core.specs.Link.{LinkState, Starting, Settling, is_full, no_boundary, is_held_back, enqueued, started_one, started_each, started_all}
+use Rattle.link_core.specs.Link.{LinkState, Starting, Settling, is_full, no_boundary, is_held_back, started_one, started_each, started_all}
 use Rattle.link_core.specs.Outbox.{can_offer}
 use Rattle.link_core.specs.Waiting.{without}
 use Rattle.shared_session.specs.declared.connection.Connection.{Connection}
@@ -21,13 +21,13 @@ use Rattle.shared_session.specs.declared.connection.Progress.TheVariants as prog
 use Rattle.shared_session.specs.declared.connection.Waiting.{Waiting}
 use Rattle.shared_session.specs.declared.core_state.Core.{Core}
 use Rattle.shared_session.specs.Requests.{is_open_at, is_waiting_at}
-use Rattle.shared_session.specs.Steps.{acts, at_progress, is_dialing, is_up, left, shown_each, starts_with, started, message_of, advanced, advanced_each, advanced_all, passes, offers, writes, waits_shown, waits_each, waits, flushed}
+use Rattle.shared_session.specs.Steps.{acts, is_dialing, is_up, left, shown_each, starts_with, started, placed, told_at_place, advanced, advanced_each, advanced_all, passes, offers, writes, waits_shown, waits_each, waits, flushed}
 use Rattle.shared_session.specs.Turn.{applied, quiet, turn}
 use Rattle.shared_session.specs.Replay.{opening, run_on, put_each, with_room, outcomes_with, outcomes_on}
 use Rattle.cancel_laws.specs.Cancels.{cancel_of}
 use Rattle.cancel_laws.proofs.Choices.{chosen}
 use Rattle.cancel_laws.proofs.Once.{IsOnce, once_kept, once_handed_in, none_yet}
-use Rattle.cancel_laws.proofs.Kept.{IsKept, IsKeptThere, There, kept_there, handed_in, advanced_kept, started_kept, effect_kept, turn_kept}
+use Rattle.cancel_laws.proofs.Kept.{IsKept, IsKeptThere, There, kept_there, handed_in, told_kept, advanced_kept, started_kept, effect_kept, turn_kept}
 
 -- a queue with room, and nothing that holds messages back
 pub record IsWide (r : List Progress) (l : LinkState) : Type 0 where
@@ -106,8 +106,8 @@ all_started c h =
 
 one_advanced : (c : Connection) (w : Waiting) → IsWide c.requests c.link → c.link.queue ≡ [] → (advanced c w).link.queue ≡ []
 one_advanced c w h e =
-    let d = record (at_progress c w.number progress.Placed) { link = enqueued c.link (message_of w) } in
-    chosen (λ (x : Connection). x.link.queue ≡ []) (is_waiting_at c.requests w.number) (started d) c (λ t. all_started d (record { size = h.size; free = h.free })) (λ f. e)
+    let d = told_at_place (placed c w) w in
+    chosen (λ (x : Connection). x.link.queue ≡ []) (is_waiting_at c.requests w.number) (started d) c (λ t. all_started d (told_kept wide_kept (placed c w) w (record { size = h.size; free = h.free }))) (λ f. e)
 
 not_full : (l : LinkState) → 0 < l.size → l.queue ≡ [] → is_full l ≡ false
 not_full l s e = ap (λ (q : List Queued). nat_le l.size (length q)) e ∙ above l.size s
@@ -242,6 +242,8 @@ count_handed_in (event.Connected l) r = inl refl
 count_handed_in (event.Wrote l n) r = inl refl
 count_handed_in (event.Bytes l piece) r = inl refl
 count_handed_in (event.Ended l) r = inl refl
+count_handed_in (event.ReadFault l kind) r = inl refl
+count_handed_in (event.WriteFault l kind) r = inl refl
 count_handed_in event.Shutdown r = inl refl
 
 -- where a history leads

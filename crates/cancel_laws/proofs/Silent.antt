@@ -86,6 +86,8 @@ still_handed_in n (event.Connected l) r e = e
 still_handed_in n (event.Wrote l k) r e = e
 still_handed_in n (event.Bytes l piece) r e = e
 still_handed_in n (event.Ended l) r e = e
+still_handed_in n (event.ReadFault l kind) r e = e
+still_handed_in n (event.WriteFault l kind) r e = e
 still_handed_in n event.Shutdown r e = e
 
 -- whole turns

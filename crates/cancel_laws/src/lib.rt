@@ -1,12 +1,15 @@
 //! The law of cancels: over whole histories, the cancel of a started request changes nothing but its own outcome.
 #![tactic(auto)]
 
-ghost use Rattle.std.specs.Prelude.{◌≡◌, ◌≢◌, ℕ, false, List, [], ◌∷◌, ◌++◌};
+ghost use Rattle.std.specs.Prelude.{◌≡◌, ◌≢◌, ℕ, true, false, List, [], ◌∷◌, ◌++◌};
 ghost use Rattle.driver_model.specs.declared.config.Config.{Config};
 ghost use Rattle.driver_model.specs.declared.event.Event.{Event};
+ghost use Rattle.driver_model.specs.declared.event.Submission.{Submission};
+ghost use Rattle.driver_model.specs.declared.event.Submission.TheVariants.{Cmd, Pipe, Multi};
+ghost use Rattle.driver_model.specs.Request.{packed, awaits_reply};
 ghost use Rattle.shared_session.specs.Replay.{state_after, outcomes_after, outcome_at, is_bad_after};
 ghost use Rattle.cancel_laws.specs.ButFor.{hushed_link};
-ghost use Rattle.cancel_laws.specs.Cancels.{cancel_of, connected_at, handed_in_at, HasStarted, GoesOn};
+ghost use Rattle.cancel_laws.specs.Cancels.{cancel_of, handed_in_after_connect, HasStarted, GoesOn};
 
 /// Does nothing. Its contract: where submission n has started and is open after a history, its cancel there changes
 /// nothing of what comes later but n's own outcome, which it never gets. All other submissions have the same outcomes;
@@ -21,7 +24,11 @@ pub fn a_cancel_changes_one_outcome()
     ensures bad { (config : Config) (word draw n : ℕ) (before after : List Event) (e : Event) → HasStarted n (state_after config word before).connection → is_bad_after config word (before ++ after) e ≡ is_bad_after config word (before ++ cancel_of draw n ∷ after) e }
 {}
 
-/// Does nothing. Its contract: such submissions exist. A command that is handed in after the link's connect has started.
-pub fn a_command_on_a_link_that_is_up_has_started()
-    ensures { (config : Config) (word draw later : ℕ) (name : List ℕ) (args : List (List ℕ)) → HasStarted 0 (state_after config word (connected_at draw ∷ handed_in_at later (name ∷ args) ∷ [])).connection }
+/// Does nothing. Its contract: such submissions exist. Any that has bytes, and whose reply is awaited, has started where
+/// it is handed in after the link's connect: so a command, a pipeline whose first command has a name, and a transaction.
+pub fn a_submission_on_a_link_that_is_up_has_started()
+    ensures any { (config : Config) (word draw later : ℕ) (s : Submission) → packed s ≢ [] → awaits_reply s ≡ true → HasStarted 0 (handed_in_after_connect config word draw later s) }
+    ensures command { (config : Config) (word draw later : ℕ) (name : List ℕ) (args : List (List ℕ)) → HasStarted 0 (handed_in_after_connect config word draw later (Cmd (name ∷ args))) }
+    ensures pipeline { (config : Config) (word draw later : ℕ) (name : List ℕ) (args : List (List ℕ)) (more : List (List (List ℕ))) → HasStarted 0 (handed_in_after_connect config word draw later (Pipe ((name ∷ args) ∷ more))) }
+    ensures transaction { (config : Config) (word draw later : ℕ) (args : List (List ℕ)) (more : List (List (List ℕ))) → HasStarted 0 (handed_in_after_connect config word draw later (Multi (args ∷ more))) }
 {}

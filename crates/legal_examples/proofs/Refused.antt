@@ -1,11 +1,11 @@
 -- Traces that can't be relied on: whatever comes after these fronts, no trace that begins so is legal.
-use Rattle.std.proofs.Common.{◌≡◌, ℕ, ◌+◌, ◌<◌, zero, suc, false, List, [], ◌∷◌, ◌++◌, Option, Some, None, slice_get, refl, sym, ap, ◌∙◌, subst, append_assoc, inl, inr, take, arith, drop, length}
+use Rattle.std.proofs.Common.{◌≡◌, ℕ, ◌+◌, ◌<◌, zero, suc, Bool, true, false, List, [], ◌∷◌, ◌++◌, Option, Some, None, slice_get, refl, sym, ap, ◌∙◌, subst, append_assoc, inl, inr, take, arith, drop, length}
 use Rattle.std.proofs.lemmas.List.{append-nil}
 use Rattle.resp_value.specs.declared.redis_error.RedisError.TheVariants as error
 use Rattle.resp_value.specs.Data.{Data, simple}
-use Rattle.resp_value.specs.View.{value_of}
 use Rattle.resp_value.specs.Kinds.{kind_of}
 use Rattle.resp_value.specs.declared.value.Value.{Value}
+use Rattle.resp_value.specs.declared.value.Value.TheVariants.{Nil}
 use Rattle.resp_read.specs.Grammar.{max_depth}
 use Rattle.resp_read.specs.Values.{values}
 use Rattle.resp_read.specs.Items.{items}
@@ -16,9 +16,9 @@ use Rattle.driver_model.specs.declared.action.Owner.TheVariants as owner
 use Rattle.driver_model.specs.declared.config.Config.{Config}
 use Rattle.driver_model.specs.declared.event.Event.{Event}
 use Rattle.driver_model.specs.declared.event.Submission.{Submission}
-use Rattle.driver_model.specs.declared.event.Submission.TheVariants as submission
 use Rattle.driver_model.specs.declared.outcome.Outcome.TheVariants as outcome
-use Rattle.driver_model.specs.declared.outcome.Verdict.TheVariants as verdict
+use Rattle.driver_model.specs.Shape.{outcome_of}
+use Rattle.driver_model.specs.Request.{awaits_reply}
 use Rattle.trace_model.specs.LinkLedger.{LinkLedger, Start, needs, link_ledger}
 use Rattle.trace_model.specs.Cut.{IsFull, verdict_of}
 use Rattle.trace_model.specs.Story.{story, is_open}
@@ -31,7 +31,7 @@ stood : (before front after : List Action) (a : Action) → AllStand before (fro
 stood before [] after a all = subst (λ b. MayStand b a) (sym (append-nil before)) all.0
 stood before (b ∷ front) after a all = subst (λ t. MayStand t a) (append_assoc before (b ∷ []) front) (stood (before ++ b ∷ []) front after a all.1)
 
-may_stand : (config : Config) (word : ℕ) (events : List Event) (front after : List Action) (a : Action) → Legal config word events (front ++ a ∷ after) → MayStand front a
+pub may_stand : (config : Config) (word : ℕ) (events : List Event) (front after : List Action) (a : Action) → Legal config word events (front ++ a ∷ after) → MayStand front a
 may_stand config word events front after a h = stood [] front after a h.each
 
 ledger_answered : (config : Config) (word : ℕ) → (link_ledger 0 (answered_both config word)).dealt ≡ simple (120 ∷ []) ∷ simple (121 ∷ []) ∷ []
@@ -62,25 +62,43 @@ first_item l items starts dealt full =
     let one : full.start.need ≡ 1 = ap (λ (s : Start). s.need) same in
     full.items_are ∙ ap (λ n. take n l.dealt) one ∙ ap (take 1) dealt
 
-verdict_is : (s : Submission) (items : List Data) (letter : ℕ) → items ≡ simple (letter ∷ []) ∷ [] → verdict_of s items ≡ verdict.One (value_of (simple (letter ∷ [])))
-verdict_is (submission.Cmd args) items letter e = ap (λ ds. verdict_of (submission.Cmd args) ds) e
-
-same_letter : (x y : ℕ) → verdict.One (value_of (simple (x ∷ []))) ≡ verdict.One (value_of (simple (y ∷ []))) → x ≡ y
+same_letter : (x y : ℕ) → reply x ≡ reply y → x ≡ y
 same_letter x y e = cc e
 
-apart : (x y : ℕ) → y ≡ x + 1 → x ≡ y → ⊥
+-- what a command's one item is to it
+pub letter_is : (s : Submission) (items : List Data) (letter x y : ℕ) → command letter ≡ s → items ≡ simple (x ∷ []) ∷ [] → outcome_of (verdict_of s items) ≡ reply y → x ≡ y
+letter_is s items letter x y same one e =
+    same_letter x y (ap (λ ds. outcome_of (verdict_of (command letter) ds)) (sym one) ∙ ap (λ what. outcome_of (verdict_of what items)) same ∙ e)
+
+pub asked_same : (s what : Submission) → Some s ≡ Some what → s ≡ what
+asked_same s what e = cc e
+
+-- a reply is not Nil
+pub not_nil : (x : ℕ) → reply x ≡ outcome.One Nil → ⊥
+not_nil x e = cc e
+
+-- and a command's reply is awaited
+awaited : (what : Submission) (letter : ℕ) → command letter ≡ what → awaits_reply what ≡ false → ⊥
+awaited what letter same none = let t : awaits_reply what ≡ true = ap awaits_reply (sym same) in let no : ◌≡◌ {A = Bool} true false = sym t ∙ none in cc
+
+pub apart : (x y : ℕ) → y ≡ x + 1 → x ≡ y → ⊥
 apart x y next same = omega (arith, next, same)
 
 -- two replies swapped
 pub swapped : (config : Config) (word : ℕ) (events : List Event) (after : List Action) → Legal config word events (answered_both config word ++ action.Outcome 0 (reply 121) ∷ after) → ⊥
-unfolding link_ledger
+unfolding link_ledger story
 swapped config word events after h =
-    let m : MayAnswer (answered_both config word) 0 (reply 121) = may_stand config word events (answered_both config word) after (action.Outcome 0 (reply 121)) h in
-    let k : ℕ = m.cause.0 in
-    let e : k ≡ 0 = first_only k m.cause.2.0 m.cause.2.1 m.cause.2.2 in
-    let full : IsFull (link_ledger 0 (answered_both config word)) 0 m.cause.1 = subst (λ j. IsFull (link_ledger 0 (answered_both config word)) j m.cause.1) e m.cause.3 in
-    let items = first_item (link_ledger 0 (answered_both config word)) m.cause.1 refl (ledger_answered config word) full in
-    apart 120 121 refl (same_letter 120 121 (sym (verdict_is m.asked.submission m.cause.1 120 items) ∙ m.cause.4))
+    let front = answered_both config word in
+    let m : MayAnswer front 0 (reply 121) = may_stand config word events front after (action.Outcome 0 (reply 121)) h in
+    let same : command 71 ≡ m.asked.submission = asked_same (command 71) m.asked.submission m.asked.handed_in in
+    elim m.cause [
+      | inl v ↦
+          let e : v.number ≡ 0 = first_only v.number v.started.0 v.started.1 v.started.2 in
+          let full : IsFull (link_ledger 0 front) 0 v.items = subst (λ j. IsFull (link_ledger 0 front) j v.items) e v.full in
+          let items = first_item (link_ledger 0 front) v.items refl (ledger_answered config word) full in
+          apart 120 121 refl (letter_is m.asked.submission v.items 71 120 121 same items v.verdict)
+      | inr p ↦ not_nil 121 p.nil
+    ]
 
 -- the submission that was answered last
 abbrev answered_by : Option ℕ → List Action → Option ℕ
@@ -132,10 +150,14 @@ nothing_full l k got starts dealt full =
 
 -- a push without reply as an answer
 pub push_as_answer : (config : Config) (word : ℕ) (events : List Event) (after : List Action) (value : Value) → Legal config word events (pushed config word ++ action.Outcome 0 (outcome.One value) ∷ after) → ⊥
-unfolding link_ledger
+unfolding link_ledger story
 push_as_answer config word events after value h =
-    let m : MayAnswer (pushed config word) 0 (outcome.One value) = may_stand config word events (pushed config word) after (action.Outcome 0 (outcome.One value)) h in
-    nothing_full (link_ledger 0 (pushed config word)) m.cause.0 m.cause.1 refl (ledger_pushed config word) m.cause.3
+    let front = pushed config word in
+    let m : MayAnswer front 0 (outcome.One value) = may_stand config word events front after (action.Outcome 0 (outcome.One value)) h in
+    elim m.cause [
+      | inl v ↦ nothing_full (link_ledger 0 front) v.number v.items refl (ledger_pushed config word) v.full
+      | inr p ↦ awaited m.asked.submission 71 (asked_same (command 71) m.asked.submission m.asked.handed_in) p.unawaited
+    ]
 
 -- an outcome whose cause is missing
 pub causeless : (config : Config) (word : ℕ) (events : List Event) (after : List Action) → Legal config word events (started_one config word ++ action.Outcome 0 (outcome.Fault error.Closed) ∷ after) → ⊥

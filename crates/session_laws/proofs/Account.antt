@@ -41,6 +41,8 @@ subs_with subs (event.Connected l) = subs
 subs_with subs (event.Wrote l n) = subs
 subs_with subs (event.Bytes l piece) = subs
 subs_with subs (event.Ended l) = subs
+subs_with subs (event.ReadFault l kind) = subs
+subs_with subs (event.WriteFault l kind) = subs
 subs_with subs event.Shutdown = subs
 
 abbrev pub shut_with : Bool → EventKind → Bool
@@ -51,6 +53,8 @@ shut_with b (event.Connected l) = b
 shut_with b (event.Wrote l n) = b
 shut_with b (event.Bytes l piece) = b
 shut_with b (event.Ended l) = b
+shut_with b (event.ReadFault l kind) = b
+shut_with b (event.WriteFault l kind) = b
 
 abbrev pub begun : Account → Cause → Account
 begun a (cause.Opening config word) = record a { running = Some (cause.Opening config word); turns = a.turns + 1 }
@@ -199,9 +203,6 @@ plain_action t a b none unsent l s u _ r h k c =
     account_is (account (t ++ a ∷ [])) b (link-append 0 t a ∙ l) (none_submitted t a unsent ∙ u) (λ n. story-append n t a ∙ s n)
     (ap (last_of None) cs ∙ r) (ap any_shuts cs ∙ h) (ap length cs ∙ k) (created-append t a ∙ c)
 
-shut_with_is : (b : Bool) (e : EventKind) (c : Cause) → (d : Bool) → (b || d) ≡ shut_with b e → (b || d) ≡ shut_with b e
-shut_with_is b e c d h = h
-
 or_true : (b : Bool) → (b || true) ≡ true
 or_true true = refl
 or_true false = refl
@@ -225,6 +226,8 @@ begun-append t k word (event.Connected l) = turn_action t k _ _ refl (λ n. refl
 begun-append t k word (event.Wrote l m) = turn_action t k _ _ refl (λ n. refl) (append-nil (submissions t)) refl (or_false (is_shut t)) refl refl
 begun-append t k word (event.Bytes l piece) = turn_action t k _ _ refl (λ n. refl) (append-nil (submissions t)) refl (or_false (is_shut t)) refl refl
 begun-append t k word (event.Ended l) = turn_action t k _ _ refl (λ n. refl) (append-nil (submissions t)) refl (or_false (is_shut t)) refl refl
+begun-append t k word (event.ReadFault l kind) = turn_action t k _ _ refl (λ n. refl) (append-nil (submissions t)) refl (or_false (is_shut t)) refl refl
+begun-append t k word (event.WriteFault l kind) = turn_action t k _ _ refl (λ n. refl) (append-nil (submissions t)) refl (or_false (is_shut t)) refl refl
 begun-append t k word event.Shutdown = turn_action t k _ _ refl (λ n. refl) (append-nil (submissions t)) refl (or_true (is_shut t)) refl refl
 
 -- one more action of a trace

@@ -6,22 +6,25 @@ use Rattle.driver_model.specs.declared.action.Owner.TheVariants as owner
 use Rattle.driver_model.specs.declared.action.WaitKind.TheVariants as wait
 use Rattle.driver_model.specs.declared.event.EventKind.{EventKind}
 use Rattle.driver_model.specs.declared.event.EventKind.TheVariants as event
-use Rattle.driver_model.specs.declared.event.Submission.TheVariants as submission
+use Rattle.driver_model.specs.declared.event.Submission.{Submission}
+use Rattle.driver_model.specs.Request.{packed}
+use Rattle.driver_model.specs.Shape.{outcome_of}
 use Rattle.driver_model.specs.declared.outcome.Outcome.{Outcome}
 use Rattle.resp_value.specs.declared.redis_error.RedisError.TheVariants as error
+use Rattle.resp_value.specs.declared.value.Value.TheVariants.{Nil}
 use Rattle.driver_model.specs.declared.outcome.Outcome.TheVariants as outcome
 use Rattle.link_core.specs.declared.errors.LinkFault.{LinkFault}
 use Rattle.link_core.specs.declared.errors.LinkFault.TheVariants as fault
 use Rattle.link_core.specs.declared.message.Settled.{Settled}
 use Rattle.link_core.specs.declared.message.Started.{Started}
-use Rattle.link_core.specs.Link.{Settling, is_full, enqueued, started_all, came, faulted, closed_all}
+use Rattle.link_core.specs.Link.{Settling, is_full, started_all, came, faulted, closed_all}
 use Rattle.link_core.specs.Outbox.{can_offer}
 use Rattle.shared_session.specs.declared.connection.Connection.{Connection}
 use Rattle.shared_session.specs.declared.connection.Phase.TheVariants as phase
 use Rattle.shared_session.specs.declared.connection.Progress.TheVariants as progress
 use Rattle.shared_session.specs.declared.connection.Waiting.{Waiting}
 use Rattle.shared_session.specs.Requests.{is_open_at, is_waiting_at}
-use Rattle.shared_session.specs.Steps.{acts, at_progress, is_dialing, is_up, is_ended, answered, outcome_of, settled_each, closed, closed_each, ends, ended_by, checked, read_to, shown_each, started, message_of, advanced, advanced_each, advanced_all, passes, offers, writes, waits_shown, waits_each, flushed}
+use Rattle.shared_session.specs.Steps.{acts, is_dialing, is_up, is_ended, answered, settled_each, closed, closed_each, ends, ended_by, checked, read_to, shown_each, started, placed, told_at_place, advanced, advanced_each, advanced_all, passes, offers, writes, waits_shown, waits_each, flushed}
 use Rattle.shared_session.specs.Turn.{applied}
 use Rattle.trace_model.specs.Turns.{causes}
 use Rattle.session_laws.proofs.Account.{caused_by, none_caused}
@@ -53,10 +56,10 @@ ends_same c s =
 ended_by_same : (c : Connection) (f : LinkFault) → Same c (ended_by c f)
 ended_by_same c f = ends_same c (faulted (record { link = c.link; out = [] }) f)
 
-checked_same : (c : Connection) (n : ℕ) (args : List (List ℕ)) → Same c (checked c n args)
-checked_same c n args =
+checked_same : (c : Connection) (n : ℕ) (what : Submission) → Same c (checked c n what)
+checked_same c n what =
     chosen (Same c) c.shut _ _ (λ t. answered_same c n closed)
-    (λ f. chosen (Same c) (length args == 0) _ _ (λ t. answered_same c n (outcome.Fault error.EmptyCommand))
+    (λ f. chosen (Same c) (length (packed what) == 0) _ _ (λ t. answered_same c n (outcome.Fault error.EmptyCommand))
     (λ g. chosen (Same c) (is_ended c.phase) _ _ (λ t. answered_same c n closed) (λ k. refl)))
 
 read_to_same : (c : Connection) (s : Settling) → Same c (read_to c s)
@@ -74,8 +77,11 @@ shown_same c (s ∷ ss) =
 started_same : (c : Connection) → Same c (started c)
 started_same c = let s = started_all (record { link = c.link; out = [] }) in shown_same (record c { link = s.link }) s.out
 
+told_same : (c : Connection) (w : Waiting) → Same c (told_at_place c w)
+told_same c w = chosen (Same c) w.awaited c _ (λ t. refl) (λ f. answered_same c w.number (outcome.One Nil))
+
 advanced_same : (c : Connection) (w : Waiting) → Same c (advanced c w)
-advanced_same c w = chosen (Same c) (is_waiting_at c.requests w.number) _ c (λ t. started_same (record (at_progress c w.number progress.Placed) { link = enqueued c.link (message_of w) })) (λ f. refl)
+advanced_same c w = chosen (Same c) (is_waiting_at c.requests w.number) _ c (λ t. started_same (told_at_place (placed c w) w) ∙ told_same (placed c w) w) (λ f. refl)
 
 advanced_each_same : (c : Connection) (ws : List Waiting) → Same c (advanced_each c ws)
 advanced_each_same c [] = refl
@@ -104,12 +110,14 @@ flushed_same : (c : Connection) → Same c (flushed c)
 flushed_same c = let d = writes c in waits_each_same (record d { fresh = [] }) d.fresh ∙ writes_same c
 
 applied_same : (c : Connection) (kind : EventKind) → Same c (applied c kind)
-applied_same c (event.Submit (submission.Cmd args)) = checked_same (record c { requests = c.requests ++ progress.Waiting ∷ [] }) (length c.requests) args
+applied_same c (event.Submit what) = checked_same (record c { requests = c.requests ++ progress.Waiting ∷ [] }) (length c.requests) what
 applied_same c (event.Cancel n) = chosen (Same c) (is_open_at c.requests n) _ c (λ t. refl) (λ f. refl)
 applied_same c (event.Connected l) = chosen (Same c) (is_dialing c.phase) _ c (λ t. acted_same (record c { phase = phase.Up }) action.Created refl) (λ f. refl)
 applied_same c (event.Wrote l n) = chosen (Same c) (is_up c.phase) _ c (λ t. refl) (λ f. refl)
 applied_same c (event.Bytes l piece) = chosen (Same c) (is_up c.phase) _ c (λ t. read_to_same c (came (record { link = c.link; out = [] }) piece)) (λ f. refl)
 applied_same c (event.Ended l) = chosen (Same c) (is_up c.phase) _ c (λ t. ended_by_same c fault.Ended) (λ f. refl)
+applied_same c (event.ReadFault l kind) = chosen (Same c) (is_up c.phase) _ c (λ t. ended_by_same c (fault.Io kind)) (λ f. refl)
+applied_same c (event.WriteFault l kind) = chosen (Same c) (is_up c.phase) _ c (λ t. ended_by_same c (fault.Io kind)) (λ f. refl)
 applied_same c event.Shutdown = chosen (Same c) (is_ended c.phase) _ _ (λ t. refl) (λ f. ends_same (record c { shut = true }) (closed_all (record { link = c.link; out = [] })))
 
 -- what follows the announcement begins no turn

@@ -1,11 +1,14 @@
 -- A submission is answered.
 use Rattle.std.proofs.Common.{◌≡◌, ◌≢◌, inl, inr, ℕ, zero, suc, ◌<◌, ◌==◌, ◌&&◌, not, is_some, Bool, true, false, List, [], ◌∷◌, ◌++◌, length, Some, None, slice_get, slice_set, refl, sym, ap, ◌∙◌, arith, length-set, length-append}
 use Rattle.std.specs.List.{AllByRecursion}
+use Rattle.resp_value.specs.declared.value.Value.TheVariants.{Nil}
 use Rattle.driver_model.specs.declared.action.Action.{Action}
 use Rattle.driver_model.specs.declared.action.Action.TheVariants as action
 use Rattle.driver_model.specs.declared.action.WaitKind.TheVariants as wait
 use Rattle.driver_model.specs.declared.event.Submission.{Submission}
 use Rattle.driver_model.specs.declared.outcome.Outcome.{Outcome}
+use Rattle.driver_model.specs.declared.outcome.Outcome.TheVariants as outcome
+use Rattle.driver_model.specs.Request.{awaits_reply}
 use Rattle.link_core.specs.declared.message.Entry.{Entry}
 use Rattle.link_core.specs.declared.message.Queued.{Queued}
 use Rattle.shared_session.specs.declared.connection.Phase.{Phase}
@@ -19,9 +22,9 @@ use Rattle.trace_model.specs.Story.{Story, story, told, is_open}
 use Rattle.trace_model.specs.Submissions.{submissions}
 use Rattle.trace_model.specs.Legal.{IsOpen, CausedBy}
 use Rattle.session_laws.proofs.Account.{Account, account, entered}
-use Rattle.session_laws.proofs.Tests.{chosen, eq_from, ne_from, ne_test}
+use Rattle.session_laws.proofs.Tests.{chosen, by_test, if_true, eq_from, ne_from, ne_test}
 use Rattle.session_laws.proofs.Numbers.{IsIn, get_set_same, get_set_other}
-use Rattle.session_laws.proofs.Tied.{Inner, TiedStory, IsQueued, TiedLines, IsNew, TiedWaits, Tied, Sound, sound_more, queue_ids}
+use Rattle.session_laws.proofs.Tied.{Inner, TiedStory, IsQueued, TiedLines, IsTold, TiedTold, IsNew, TiedWaits, Tied, Sound, sound_more, queue_ids}
 
 pub open_within : (requests : List Progress) (n : ℕ) → is_open_at requests n ≡ true → n < length requests
 open_within [] n e = cc
@@ -66,7 +69,7 @@ waiting_then requests n m p h l e =
 pub queue_stays : (subs : List Submission) (requests : List Progress) (n : ℕ) (p : Progress) (queue : List Queued) → (IsIn n (queue_ids queue) → ⊥) → AllByRecursion (IsQueued subs requests) queue → AllByRecursion (IsQueued subs (slice_set requests n p)) queue
 queue_stays subs requests n p [] apart all = tt
 queue_stays subs requests n p (q ∷ qs) apart all = (
-  record { awaited = all.0.awaited; open_at = open_set_other requests n q.id p (λ e. apart (inl (sym e))) ∙ all.0.open_at; packs = all.0.packs; some = all.0.some },
+  record { asked = all.0.asked; open_at = λ t. open_set_other requests n q.id p (λ e. apart (inl (sym e))) ∙ all.0.open_at t },
   queue_stays subs requests n p qs (λ i. apart (inr i)) all.1,
 )
 
@@ -76,6 +79,7 @@ pub lines_closed : (starts : List Start) (subs : List Submission) (queue : List 
 lines_closed starts subs queue row requests waiting n pending p c l h = record {
   line = rw (length-set requests n p) h.line;
   queued = queue_stays subs requests n p queue (h.apart n (inl refl)) h.queued;
+  entries = h.entries;
   packs = h.packs;
   apart = λ m i. h.apart m (inr i);
   there = λ m e.
@@ -92,6 +96,7 @@ pub lines_skipped : (starts : List Start) (subs : List Submission) (queue : List
 lines_skipped starts subs queue row requests waiting n pending f h = record {
   line = h.line;
   queued = h.queued;
+  entries = h.entries;
   packs = h.packs;
   apart = λ m i. h.apart m (inr i);
   there = λ m e. elim (h.there m e) [
@@ -108,7 +113,7 @@ story_answered s o = let l : (length (s.outcomes ++ o ∷ []) == 0) ≡ false = 
     and_false true b = refl
     and_false false b = refl
 
-story_tied : (s : Story) (starts : List Start) (subs : List Submission) (down : Bool) (requests : List Progress) (n m : ℕ) (o : Outcome) → n < length requests → length requests ≡ length subs
+pub story_tied : (s : Story) (starts : List Start) (subs : List Submission) (down : Bool) (requests : List Progress) (n m : ℕ) (o : Outcome) → n < length requests → length requests ≡ length subs
     → TiedStory s starts subs down requests m → TiedStory (told s m (action.Outcome n o)) starts subs down (slice_set requests n progress.Answered) m
 story_tied s starts subs down requests n m o l count h =
     chosen (λ (x : Story). TiedStory x starts subs down (slice_set requests n progress.Answered) m) (m == n) _ s
@@ -139,7 +144,7 @@ still_none s n m o e = chosen (λ (x : Story). x.waiting ≡ None) (m == n) _ s 
 still_shown : (s : Story) (n m : ℕ) (o : Outcome) → n ≢ m → s.waiting ≡ Some wait.Connect → (told s m (action.Outcome n o)).waiting ≡ Some wait.Connect
 still_shown s n m o other e = chosen (λ (x : Story). x.waiting ≡ Some wait.Connect) (m == n) _ s (λ t. absurd (other (sym (eq_from m n t)))) (λ f. e)
 
-new_still : (story : ℕ → Story) (n : ℕ) (o : Outcome) (fresh : List ℕ) → IsNew story fresh → IsNew (λ m. told (story m) m (action.Outcome n o)) fresh
+pub new_still : (story : ℕ → Story) (n : ℕ) (o : Outcome) (fresh : List ℕ) → IsNew story fresh → IsNew (λ m. told (story m) m (action.Outcome n o)) fresh
 new_still story n o [] h = tt
 new_still story n o (m ∷ []) h = still_none (story m) n m o h
 new_still story n o (m ∷ k ∷ ms) h = h
@@ -153,9 +158,47 @@ waits_tied story requests phase fresh n o l h = record {
       elim (h.shown m k.1 d) [ inl e ↦ inl e | inr e ↦ inr (still_shown (story m) n m o k.0 e) ];
 }
 
-pub answer_tied : (a : Account) (p : Inner) (n : ℕ) (pending : List ℕ) (o : Outcome) → is_open_at p.requests n ≡ true → Tied a (record p { pending = n ∷ pending })
+-- what leaves the outcomes leaves who was told
+pub told_same : (f g : ℕ → List Outcome) (queue : List Queued) → ((n : ℕ) → f n ≡ g n) → AllByRecursion (IsTold f) queue → AllByRecursion (IsTold g) queue
+told_same f g [] same all = tt
+told_same f g (q ∷ qs) same all = ((λ u. sym (same q.id) ∙ all.0 u), told_same f g qs same all.1)
+
+pub tied_told_same : (f g : ℕ → List Outcome) (starts : List Start) (subs : List Submission) (queue : List Queued) → ((n : ℕ) → f n ≡ g n) → TiedTold f starts subs queue → TiedTold g starts subs queue
+tied_told_same f g starts subs queue same h = record { queued = told_same f g queue same h.queued; placed = λ n s i u e. h.placed n s i u (same n ∙ e) }
+
+-- an outcome that doesn't tell an unawaited submission that it has its place
+abbrev pub NotTold : List Submission → ℕ → Outcome → Type 0
+NotTold subs n o = (s : Submission) → slice_get subs n ≡ Some s → awaits_reply s ≡ false → o ≡ outcome.One Nil → ⊥
+
+pub outcomes_other : (s : Story) (n m : ℕ) (o : Outcome) → n ≢ m → (told s m (action.Outcome n o)).outcomes ≡ s.outcomes
+outcomes_other s n m o other = chosen (λ (x : Story). x.outcomes ≡ s.outcomes) (m == n) _ s (λ t. absurd (other (sym (eq_from m n t)))) (λ f. refl)
+
+pub outcomes_own : (s : Story) (n m : ℕ) (o : Outcome) → (m == n) ≡ true → (told s m (action.Outcome n o)).outcomes ≡ s.outcomes ++ o ∷ []
+outcomes_own s n m o t = if_true (λ (x : Story). x.outcomes ≡ s.outcomes ++ o ∷ []) (m == n) _ s t refl
+
+last_is : (os : List Outcome) (o p : Outcome) → os ++ o ∷ [] ≡ p ∷ [] → o ≡ p
+last_is [] o p e = cc
+last_is (x ∷ []) o p e = cc
+last_is (x ∷ y ∷ os) o p e = cc
+
+-- those in the queue that were told are others
+pub told_stays : (story : ℕ → Story) (n : ℕ) (o : Outcome) (queue : List Queued) → (IsIn n (queue_ids queue) → ⊥) → AllByRecursion (IsTold (λ m. (story m).outcomes)) queue
+    → AllByRecursion (IsTold (λ m. (told (story m) m (action.Outcome n o)).outcomes)) queue
+told_stays story n o [] apart all = tt
+told_stays story n o (q ∷ qs) apart all = ((λ f. outcomes_other (story q.id) n q.id o (λ e. apart (inl (sym e))) ∙ all.0 f), told_stays story n o qs (λ i. apart (inr i)) all.1)
+
+told_answered : (story : ℕ → Story) (starts : List Start) (subs : List Submission) (queue : List Queued) (n : ℕ) (o : Outcome) → (IsIn n (queue_ids queue) → ⊥) → NotTold subs n o → TiedTold (λ m. (story m).outcomes) starts subs queue
+    → TiedTold (λ m. (told (story m) m (action.Outcome n o)).outcomes) starts subs queue
+told_answered story starts subs queue n o apart none h = record {
+  queued = told_stays story n o queue apart h.queued;
+  placed = λ m s i u e. by_test (m == n) _
+      (λ t. absurd (none s (ap (slice_get subs) (sym (eq_from m n t)) ∙ i) u (last_is (story m).outcomes o (outcome.One Nil) (sym (outcomes_own (story m) n m o t) ∙ e))))
+      (λ f. h.placed m s i u (sym (outcomes_other (story m) n m o (λ x. ne_from m n f (sym x))) ∙ e));
+}
+
+pub answer_tied : (a : Account) (p : Inner) (n : ℕ) (pending : List ℕ) (o : Outcome) → is_open_at p.requests n ≡ true → NotTold a.subs n o → Tied a (record p { pending = n ∷ pending })
     → Tied (entered a (action.Outcome n o)) (record p { requests = slice_set p.requests n progress.Answered; pending = pending })
-answer_tied a p n pending o e h =
+answer_tied a p n pending o e none h =
     let l = open_within p.requests n e in
     record {
       phase = h.phase;
@@ -164,6 +207,7 @@ answer_tied a p n pending o e h =
       count = length-set p.requests n progress.Answered ∙ h.count;
       story = λ m. story_tied (a.story m) a.link.starts a.subs a.shut p.requests n m o l h.count (h.story m);
       lines = lines_closed a.link.starts a.subs p.link.queue p.link.row p.requests p.waiting n pending progress.Answered answered_closes l h.lines;
+      told = λ x. told_answered a.story a.link.starts a.subs p.link.queue n o (h.lines.apart n (inl refl)) none (h.told x);
       waits = waits_tied a.story p.requests p.phase p.fresh n o l h.waits;
       idle = h.idle;
       ended = h.ended;
@@ -185,12 +229,12 @@ open_in_trace t p n h e =
 
 -- an outcome whose cause stands
 pub answer_sound : (t : List Action) (p : Inner) (n : ℕ) (pending : List ℕ) (o : Outcome) → is_open_at p.requests n ≡ true
-    → ((s : Submission) → slice_get (submissions t) n ≡ Some s → CausedBy t n (story n t) s o) → Sound t (record p { pending = n ∷ pending })
+    → ((s : Submission) → slice_get (submissions t) n ≡ Some s → CausedBy t n (story n t) s o) → NotTold (submissions t) n o → Sound t (record p { pending = n ∷ pending })
     → Sound (t ++ action.Outcome n o ∷ []) (record p { requests = slice_set p.requests n progress.Answered; pending = pending })
-answer_sound t p n pending o e why h =
+answer_sound t p n pending o e why none h =
     let k = open_in_trace t (record p { pending = n ∷ pending }) n h.tied e in
     sound_more t (action.Outcome n o) (record p { requests = slice_set p.requests n progress.Answered; pending = pending }) h.stands
-    (record { asked = k.0; cause = why k.0.submission k.1 }) (answer_tied (account t) p n pending o e h.tied)
+    (record { asked = k.0; cause = why k.0.submission k.1 }) (answer_tied (account t) p n pending o e none h.tied)
 
 pub skip_sound : (t : List Action) (p : Inner) (n : ℕ) (pending : List ℕ) → is_open_at p.requests n ≡ false → Sound t (record p { pending = n ∷ pending }) → Sound t (record p { pending = pending })
 skip_sound t p n pending f h = let k = h.tied in record {
@@ -202,6 +246,7 @@ skip_sound t p n pending f h = let k = h.tied in record {
     count = k.count;
     story = k.story;
     lines = lines_skipped (account t).link.starts (account t).subs p.link.queue p.link.row p.requests p.waiting n pending f k.lines;
+    told = k.told;
     waits = k.waits;
     idle = k.idle;
     ended = k.ended;

@@ -1,7 +1,6 @@
 -- Bytes come from the peer.
 use Rattle.std.proofs.Common.{◌≡◌, inl, inr, ℕ, true, false, List, [], ◌∷◌, ◌++◌, length, Some, refl, sym, ap, ◌∙◌, subst, append_assoc}
 use Rattle.std.proofs.lemmas.List.{append-nil}
-use Rattle.resp_value.specs.Data.{Data}
 use Rattle.resp_read.specs.Values.{left_over, is_spoiled}
 use Rattle.resp_read.specs.Items.{items}
 use Rattle.resp_read.proofs.ValueLaws.{left_over-settled}
@@ -10,49 +9,49 @@ use Rattle.driver_model.specs.declared.action.Cause.TheVariants as cause
 use Rattle.driver_model.specs.declared.action.Owner.TheVariants as owner
 use Rattle.driver_model.specs.declared.event.EventKind.TheVariants as event
 use Rattle.driver_model.specs.declared.event.Submission.{Submission}
-use Rattle.driver_model.specs.declared.event.Submission.TheVariants as submission
-use Rattle.driver_model.specs.declared.outcome.Shape.{Shape}
-use Rattle.driver_model.specs.declared.outcome.Shape.TheVariants.{Single}
-use Rattle.driver_model.specs.declared.outcome.Verdict.{Verdict}
-use Rattle.driver_model.specs.Shape.{verdict}
+use Rattle.driver_model.specs.Shape.{outcome_of}
 use Rattle.link_core.specs.declared.errors.LinkFault.TheVariants as fault
 use Rattle.link_core.specs.declared.message.Settled.{Settled}
 use Rattle.link_core.specs.Dealing.{Dealing, dealt_each}
 use Rattle.link_core.specs.Link.{LinkState, Settling, read_on, came}
 use Rattle.shared_session.specs.declared.connection.Connection.{Connection}
-use Rattle.shared_session.specs.Steps.{is_up, is_ended, outcome_of, settled_each, ended_by, read_to, read}
+use Rattle.shared_session.specs.Steps.{is_up, is_ended, settled_each, ended_by, read_to, read}
 use Rattle.trace_model.specs.LinkLedger.{LinkLedger, needs, bytes_came}
-use Rattle.trace_model.specs.Cut.{IsFull}
 use Rattle.trace_model.specs.Turns.{running}
 use Rattle.session_laws.proofs.Account.{Account, account, begun}
-use Rattle.session_laws.proofs.Tests.{chosen, if_true, if_false}
+use Rattle.session_laws.proofs.Tests.{chosen, if_true, if_false, not_both}
 use Rattle.session_laws.proofs.Rows.{open_list, open_rows}
-use Rattle.session_laws.proofs.Dealt.{HasCut, IsCutOf, AreCuts, IsDealt, items_with, row_dealt, settled_ids, wanted}
+use Rattle.session_laws.proofs.Dealt.{AreEntries, IsCutOf, AreCuts, IsDealt, items_with, row_dealt, settled_ids, wanted}
 use Rattle.session_laws.proofs.Numbers.{IsIn, in_left, owners, started_in}
-use Rattle.session_laws.proofs.Tied.{Inner, TiedLink, Tied, Holds, seen, queue_ids, waiting_ids}
-use Rattle.session_laws.proofs.Causes.{Why, stands_started}
+use Rattle.session_laws.proofs.Tied.{Inner, TiedLink, Tied, Holds, seen, queue_ids, awaited_ids, waiting_ids}
+use Rattle.session_laws.proofs.Causes.{Filled, stands_started}
 use Rattle.session_laws.proofs.Settling.{IsReady, AllSettledReady, settled_keeps, settled_holds}
 use Rattle.session_laws.proofs.Closing.{line_apart}
-use Rattle.session_laws.proofs.Faults.{up_not_ended, broken_holds}
+use Rattle.session_laws.proofs.Faults.{up_not_ended, same_submission, broken_holds}
 use Rattle.session_laws.proofs.Settled.{HasApplied}
-use Rattle.session_laws.proofs.Events.{IsReadyFor, announced, announced_sound, announced_account, announced_runs, one_runs, not_both, ended_applied, fresh_holds, with_link}
+use Rattle.session_laws.proofs.Events.{IsReadyFor, announced, announced_sound, announced_account, announced_runs, no_fault, ended_applied, fresh_holds, with_link}
 
 -- an outcome that is a message's own cut
-cut_verdict : (a : Account) (n : ℕ) (v : Verdict) (shape : Shape) (got : List Data) (what : Submission) → v ≡ verdict shape got → HasCut a.link.starts a.link.dealt (owner.Try n 0) got → Why a.link a.running a.shut n what (outcome_of v)
-cut_verdict a n v Single got (submission.Cmd args) is h =
-    let full : IsFull a.link h.number got = record { start = h.place.start; stands = h.place.stands; items_are = h.cut_is; full = h.full } in
-    subst (λ (x : Verdict). Why a.link a.running a.shut n (submission.Cmd args) (outcome_of x)) (sym is) (h.number, got, stands_started a.link n h.number h.place, full, refl)
+cut_filled : (a : Account) (s : Settled) → (h : IsCutOf a.subs a.link.starts a.link.dealt s) → Filled a.link s.id h.what (outcome_of s.verdict)
+cut_filled a s h = record {
+  awaited = h.awaited;
+  number = h.cut.number;
+  items = h.got;
+  started = stands_started a.link s.id h.cut.number h.cut.place;
+  full = record { start = h.cut.place.start; stands = h.cut.place.stands; items_are = h.cut.cut_is; full = h.cut.full };
+  verdict_is = ap outcome_of (sym h.verdict_is);
+}
 
-cut_ready : (a : Account) (s : Settled) → IsCutOf a.link.starts a.link.dealt s → IsReady a s.id (outcome_of s.verdict)
-cut_ready a s h what e = cut_verdict a s.id s.verdict h.shape h.got what h.verdict_is h.cut
+cut_ready : (a : Account) (s : Settled) → IsCutOf a.subs a.link.starts a.link.dealt s → IsReady a s.id (outcome_of s.verdict)
+cut_ready a s h what e = inl (subst (λ (x : Submission). Filled a.link s.id x (outcome_of s.verdict)) (same_submission a.subs s.id h.what what h.handed_in e) (cut_filled a s h))
 
 -- all that a call settled
-cuts_ready : (a : Account) (out : List Settled) → AreCuts a.link.starts a.link.dealt out → AllSettledReady a out
+cuts_ready : (a : Account) (out : List Settled) → AreCuts a.subs a.link.starts a.link.dealt out → AllSettledReady a out
 cuts_ready a [] all = tt
 cuts_ready a (s ∷ ss) all = (cut_ready a s all.0, cuts_ready a ss all.1)
 
 -- who is settled has started
-cuts_started : (a : Account) (out : List Settled) (n : ℕ) → AreCuts a.link.starts a.link.dealt out → IsIn n (settled_ids out) → IsIn n (owners a.link.starts)
+cuts_started : (a : Account) (out : List Settled) (n : ℕ) → AreCuts a.subs a.link.starts a.link.dealt out → IsIn n (settled_ids out) → IsIn n (owners a.link.starts)
 cuts_started a [] n all i = absurd i
 cuts_started a (s ∷ ss) n all (inl e) = subst (λ m. IsIn m (owners a.link.starts)) e (started_in a.link.starts all.0.cut.number (owner.Try s.id 0) all.0.cut.place)
 cuts_started a (s ∷ ss) n all (inr i) = cuts_started a ss n all.1 i
@@ -64,12 +63,12 @@ deals s piece = dealt_each (record { row = s.row; out = [] }) (items (s.rest ++ 
 abbrev pub has_read : LinkState → List ℕ → LinkState
 has_read s piece = record (read_on s (s.rest ++ piece)) { row = (deals s piece).row }
 
-pub dealt_alike : (a : Account) (s : LinkState) (piece : List ℕ) → TiedLink a.link a.subs s → open_list s.row ≡ open_rows a.link.starts a.link.dealt → IsDealt a.link.starts (bytes_came a.link piece).dealt s.row (deals s piece)
-dealt_alike a s piece h row =
-    subst (λ vs. IsDealt a.link.starts (items_with (needs a.link.starts) a.link.dealt vs) s.row (deals s piece)) (ap (λ bs. items (bs ++ piece)) (sym h.rest))
-    (row_dealt a.link.starts a.link.dealt s.row (items (s.rest ++ piece)) h.needy row h.within)
+pub dealt_alike : (a : Account) (s : LinkState) (piece : List ℕ) → TiedLink a.link a.subs s → open_list s.row ≡ open_rows a.link.starts a.link.dealt → AreEntries a.subs s.row → IsDealt a.subs a.link.starts (bytes_came a.link piece).dealt s.row (deals s piece)
+dealt_alike a s piece h row entries =
+    subst (λ vs. IsDealt a.subs a.link.starts (items_with (needs a.link.starts) a.link.dealt vs) s.row (deals s piece)) (ap (λ bs. items (bs ++ piece)) (sym h.rest))
+    (row_dealt a.subs a.link.starts a.link.dealt s.row (items (s.rest ++ piece)) h.needy row h.within entries)
 
-read_link : (a : Account) (s : LinkState) (piece : List ℕ) → TiedLink a.link a.subs s → IsDealt a.link.starts (bytes_came a.link piece).dealt s.row (deals s piece) → TiedLink (bytes_came a.link piece) a.subs (has_read s piece)
+read_link : (a : Account) (s : LinkState) (piece : List ℕ) → TiedLink a.link a.subs s → IsDealt a.subs a.link.starts (bytes_came a.link piece).dealt s.row (deals s piece) → TiedLink (bytes_came a.link piece) a.subs (has_read s piece)
 read_link a s piece h d = record {
   sent = h.sent;
   offer = h.offer;
@@ -92,7 +91,7 @@ came_tied : (a : Account) (p : Inner) (word : ℕ) (piece : List ℕ) → is_up 
     → Tied (begun a (cause.Event (record { word = word; kind = event.Bytes 0 piece }))) (record p { link = has_read p.link piece; pending = settled_ids (deals p.link piece).out ++ [] })
 came_tied a p word piece up h =
     let d = deals p.link piece in
-    let k = dealt_alike a p.link piece h.link (h.row (up_not_ended p.phase up)) in
+    let k = dealt_alike a p.link piece h.link (h.row (up_not_ended p.phase up)) h.lines.entries in
     let q = record p { link = has_read p.link piece; pending = settled_ids d.out ++ [] } in
     let b : Account = with_link a (record { word = word; kind = event.Bytes 0 piece }) (bytes_came a.link piece) in
     if_true (λ (x : LinkLedger). Tied (with_link a (record { word = word; kind = event.Bytes 0 piece }) x) q) a.link.up (bytes_came a.link piece) a.link (h.phase.up_is ∙ up)
@@ -105,14 +104,16 @@ came_tied a p word piece up h =
       lines = record {
         line = h.lines.line;
         queued = h.lines.queued;
+        entries = k.rows;
         packs = h.lines.packs;
         apart = λ n i j. line_apart a.link.starts (queue_ids p.link.queue ++ waiting_ids p.waiting) (length p.requests) h.lines.line n
             (in_left n (queue_ids p.link.queue) (waiting_ids p.waiting) j) (cuts_started b d.out n k.cuts (subst (IsIn n) (append-nil (settled_ids d.out)) i));
         there = λ n e. elim (h.lines.there n e) [
-          | inl i ↦ inl (subst (IsIn n) (sym (moved (settled_ids d.out) (wanted d.row) (wanted p.link.row) (queue_ids p.link.queue) k.kept)) i)
+          | inl i ↦ inl (subst (IsIn n) (sym (moved (settled_ids d.out) (wanted d.row) (wanted p.link.row) (awaited_ids p.link.queue) k.kept)) i)
           | inr v ↦ inr v
         ];
       };
+      told = h.told;
       waits = h.waits;
       idle = λ f. absurd (not_both (is_up p.phase) f up);
       ended = h.ended;
@@ -121,7 +122,7 @@ came_tied a p word piece up h =
 stays_tied : (a : Account) (p : Inner) (word : ℕ) (piece : List ℕ) → is_up p.phase ≡ false → Tied a p → Tied (begun a (cause.Event (record { word = word; kind = event.Bytes 0 piece }))) p
 stays_tied a p word piece f h =
     if_false (λ (x : LinkLedger). Tied (with_link a (record { word = word; kind = event.Bytes 0 piece }) x) p) a.link.up (bytes_came a.link piece) a.link (h.phase.up_is ∙ f)
-    (record { phase = h.phase; link = h.link; row = h.row; count = h.count; story = h.story; lines = h.lines; waits = h.waits; idle = h.idle; ended = h.ended })
+    (record { phase = h.phase; link = h.link; row = h.row; count = h.count; story = h.story; lines = h.lines; told = h.told; waits = h.waits; idle = h.idle; ended = h.ended })
 
 -- a link that isn't broken reads
 pub reads_on : (s : LinkState) (piece : List ℕ) → s.broken ≡ false → came (record { link = s; out = [] }) piece ≡ record { link = has_read s piece; out = (deals s piece).out }
@@ -131,10 +132,7 @@ cuts_at : (a : Account) (p : Inner) (word : ℕ) (piece : List ℕ) → is_up p.
 cuts_at a p word piece up h =
     let b : Account = with_link a (record { word = word; kind = event.Bytes 0 piece }) (bytes_came a.link piece) in
     if_true (λ (x : LinkLedger). AllSettledReady (with_link a (record { word = word; kind = event.Bytes 0 piece }) x) (deals p.link piece).out) a.link.up (bytes_came a.link piece) a.link (h.phase.up_is ∙ up)
-    (cuts_ready b (deals p.link piece).out (dealt_alike a p.link piece h.link (h.row (up_not_ended p.phase up))).cuts)
-
-bytes_not_end : (t : List Action) (word w : ℕ) (piece : List ℕ) → running t ≡ Some (cause.Event (record { word = word; kind = event.Bytes 0 piece })) → running t ≡ Some (cause.Event (record { word = w; kind = event.Ended 0 })) → ⊥
-bytes_not_end t word w piece e f = let x : event.Bytes 0 piece ≡ event.Ended 0 = one_runs t word w (event.Bytes 0 piece) (event.Ended 0) e f in cc
+    (cuts_ready b (deals p.link piece).out (dealt_alike a p.link piece h.link (h.row (up_not_ended p.phase up)) h.lines.entries).cuts)
 
 -- the messages that the bytes fill are answered, and then a broken link ends
 read_applied : (b : List Action) (c : Connection) (k word : ℕ) (piece : List ℕ) → is_up c.phase ≡ true → IsReadyFor b c k
@@ -158,7 +156,7 @@ read_applied b c k word piece up h =
       holds = fresh_holds b f fresh held;
       unbroken = λ x. broken_is ∙ n;
       shut_ends = λ s. ap is_ended keeps.phase ∙ h.shut_ends (sym keeps.shut ∙ s);
-      peer = λ w r. absurd (bytes_not_end (b ++ f.acts) word w piece runs r);
+      faulty = λ w kind r x. absurd (no_fault (b ++ f.acts) word (event.Bytes 0 piece) runs (λ z. z) w kind r x);
     })
 
 pub bytes_applied : (b : List Action) (c : Connection) (k word : ℕ) (piece : List ℕ) → IsReadyFor b c k → HasApplied b (read (announced c k word (event.Bytes 0 piece)) piece)
@@ -171,5 +169,5 @@ bytes_applied b c k word piece h =
       holds = fresh_holds b d h.no_fresh (record { sound = announced_sound b c k word (event.Bytes 0 piece) _ h (stays_tied (account b) p word piece f h.tied) });
       unbroken = h.unbroken;
       shut_ends = h.shut_ends;
-      peer = λ w r. f;
+      faulty = λ w kind r x. f;
     })

@@ -26,17 +26,17 @@ use Rattle.trace_model.specs.Turns.{running}
 use Rattle.trace_model.specs.Legal.{MayClose, EndedBy}
 use Rattle.session_laws.proofs.Account.{Account, account, entered, account-append}
 use Rattle.session_laws.proofs.Rows.{open_list, open_rows, OwnedLater, IsFirst, StandsAs, rows_stand}
-use Rattle.session_laws.proofs.Dealt.{settled_ids, settled_ids-append, wanted}
+use Rattle.session_laws.proofs.Dealt.{settled_ids, settled_ids-append, wanted, IsEntry, AreEntries}
 use Rattle.session_laws.proofs.Numbers.{IsIn, in_left, in_right, Rising, owners, rising_left, rising_apart}
-use Rattle.session_laws.proofs.Tied.{Inner, HasBytes, IsQueued, IsPacked, Tied, sound_more, Holds, holds_more, seen, queue_ids, waiting_ids}
-use Rattle.session_laws.proofs.Causes.{CutOff, cut_unstarted, cut_later, packed_is}
+use Rattle.session_laws.proofs.Tied.{Inner, HasBytes, IsQueued, IsPacked, Tied, sound_more, Holds, holds_more, seen, queue_ids, awaited_ids, waiting_ids}
+use Rattle.session_laws.proofs.Causes.{CutOff, cut_unstarted, cut_later, packed_is, handed_bytes}
 use Rattle.session_laws.proofs.Settling.{IsReady, AllSettledReady, AllWaitingReady, settled_keeps, closed_keeps, settled_holds, waiting_still, closed_holds, running_more}
 
 -- a link with nothing in it
 abbrev pub bare : LinkState → LinkState
 bare s = record s { queue = []; row = [] }
 
-close_tied : (a : Account) (p : Inner) (out : List Settled) → Tied a (record p { pending = [] }) → settled_ids out ≡ wanted p.link.row ++ queue_ids p.link.queue
+close_tied : (a : Account) (p : Inner) (out : List Settled) → Tied a (record p { pending = [] }) → settled_ids out ≡ wanted p.link.row ++ awaited_ids p.link.queue
     → Tied (entered a (action.Close 0)) (record p { phase = phase.Ended; link = bare p.link; waiting = []; pending = settled_ids out ++ (waiting_ids p.waiting ++ []) })
 close_tied a p out h ids = record {
   phase = record { up_is = refl; over_is = refl; down_is = h.phase.down_is; uncreated = λ e. cc; created_is = λ e. cc };
@@ -59,6 +59,7 @@ close_tied a p out h ids = record {
   lines = record {
     line = subst (λ ns. Rising 0 ns (length p.requests)) (sym (append-nil (owners a.link.starts))) (rising_left 0 (owners a.link.starts) _ (length p.requests) h.lines.line);
     queued = tt;
+    entries = tt;
     packs = tt;
     apart = λ n i j. j;
     there = λ n e. elim (h.lines.there n e) [
@@ -66,6 +67,7 @@ close_tied a p out h ids = record {
       | inr w ↦ inl (in_left n (settled_ids out ++ (waiting_ids p.waiting ++ [])) [] (in_right n (settled_ids out) (waiting_ids p.waiting ++ []) (in_left n (waiting_ids p.waiting) [] w.1)))
     ];
   };
+  told = λ e. cc;
   waits = record { new = h.waits.new; shown = λ n w d. cc };
   idle = λ e. (refl, refl);
   ended = λ e. refl;
@@ -84,17 +86,15 @@ hit_ids : (f : LinkFault) (row : List Entry) → settled_ids (row_hit f row) ≡
 hit_ids f [] = refl
 hit_ids f (e ∷ es) = settled_ids-append (failed_by e.awaited e.id (hit_by f e.shape)) (row_closed es) ∙ ap (λ ns. ns ++ settled_ids (row_closed es)) (failed_ids e.awaited e.id (hit_by f e.shape)) ∙ ap (λ ns. (if e.awaited then e.id ∷ [] else []) ++ ns) (closed_ids es)
 
-queue_closed_ids : (subs : List Submission) (requests : List Progress) (queue : List Queued) → AllByRecursion (IsQueued subs requests) queue → settled_ids (queue_closed queue) ≡ queue_ids queue
-queue_closed_ids subs requests [] all = refl
-queue_closed_ids subs requests (q ∷ qs) all =
-    settled_ids-append (failed_by q.awaited q.id error.Closed) (queue_closed qs)
-    ∙ ap (λ ns. ns ++ settled_ids (queue_closed qs)) (failed_ids q.awaited q.id error.Closed ∙ ap (λ b. if b then q.id ∷ [] else []) all.0.awaited) ∙ ap (λ ns. q.id ∷ ns) (queue_closed_ids subs requests qs all.1)
+queue_closed_ids : (queue : List Queued) → settled_ids (queue_closed queue) ≡ awaited_ids queue
+queue_closed_ids [] = refl
+queue_closed_ids (q ∷ qs) = settled_ids-append (failed_by q.awaited q.id error.Closed) (queue_closed qs) ∙ ap (λ ns. ns ++ settled_ids (queue_closed qs)) (failed_ids q.awaited q.id error.Closed) ∙ ap (λ ns. (if q.awaited then q.id ∷ [] else []) ++ ns) (queue_closed_ids qs)
 
-pub closed_out_ids : (subs : List Submission) (requests : List Progress) (row : List Entry) (queue : List Queued) → AllByRecursion (IsQueued subs requests) queue → settled_ids (row_closed row ++ queue_closed queue) ≡ wanted row ++ queue_ids queue
-closed_out_ids subs requests row queue all = settled_ids-append (row_closed row) (queue_closed queue) ∙ (λ i. closed_ids row i ++ queue_closed_ids subs requests queue all i)
+pub closed_out_ids : (row : List Entry) (queue : List Queued) → settled_ids (row_closed row ++ queue_closed queue) ≡ wanted row ++ awaited_ids queue
+closed_out_ids row queue = settled_ids-append (row_closed row) (queue_closed queue) ∙ (λ i. closed_ids row i ++ queue_closed_ids queue i)
 
-pub hit_out_ids : (f : LinkFault) (subs : List Submission) (requests : List Progress) (row : List Entry) (queue : List Queued) → AllByRecursion (IsQueued subs requests) queue → settled_ids (row_hit f row ++ queue_closed queue) ≡ wanted row ++ queue_ids queue
-hit_out_ids f subs requests row queue all = settled_ids-append (row_hit f row) (queue_closed queue) ∙ (λ i. hit_ids f row i ++ queue_closed_ids subs requests queue all i)
+pub hit_out_ids : (f : LinkFault) (row : List Entry) (queue : List Queued) → settled_ids (row_hit f row ++ queue_closed queue) ≡ wanted row ++ awaited_ids queue
+hit_out_ids f row queue = settled_ids-append (row_hit f row) (queue_closed queue) ∙ (λ i. hit_ids f row i ++ queue_closed_ids queue i)
 
 -- the causes
 pub all_at : {X : Type 0} (P : X → Type 0) (xs : List X) (k : ℕ) (x : X) → AllByRecursion P xs → slice_get xs k ≡ Some x → P x
@@ -105,8 +105,8 @@ all_at P (y ∷ xs) (suc k) x all e = all_at P xs k x all.1 e
 pub stands_bytes : (subs : List Submission) (starts : List Start) (n k : ℕ) → AllByRecursion (HasBytes subs) starts → StandsAs starts (owner.Try n 0) k → bytes_of subs (owner.Try n 0) ≢ []
 stands_bytes subs starts n k all h e = all_at (HasBytes subs) starts k h.start all h.stands (ap (bytes_of subs) h.owned ∙ e)
 
-pub closed_ready : (a : Account) (n : ℕ) → bytes_of a.subs (owner.Try n 0) ≢ [] → (a.shut ≡ true) ⊎ CutOff a.link a.running n → IsReady a n closed
-closed_ready a n some why s e = ((λ z. some (packed_is a.subs n s e ∙ z)), why)
+pub closed_ready : (a : Account) (n : ℕ) → bytes_of a.subs (owner.Try n 0) ≢ [] → ((s : Submission) → slice_get a.subs n ≡ Some s → (a.shut ≡ true) ⊎ CutOff a.link a.running n s) → IsReady a n closed
+closed_ready a n some why s e = inr ((λ z. some (packed_is a.subs n s e ∙ z)), why s e)
 
 failed_ready : (a : Account) (b : Bool) (n : ℕ) (e : RedisError) → IsReady a n (outcome.Fault e) → AllSettledReady a (failed_by b n e)
 failed_ready a true n e h = (h, tt)
@@ -126,38 +126,38 @@ later_ready : (a : Account) (hi : ℕ) (es : List Entry) → AtEnd a hi → AllB
 later_ready a hi [] at all = tt
 later_ready a hi (e ∷ es) at all =
     ready_append a (failed_by e.awaited e.id error.Closed) (row_closed es)
-    (failed_ready a e.awaited e.id error.Closed (closed_ready a e.id (stands_bytes a.subs a.link.starts e.id all.0.number at.bytes all.0.place) (inr (cut_later a.link a.running e.id hi at.over at.rising all.0))))
+    (failed_ready a e.awaited e.id error.Closed (closed_ready a e.id (stands_bytes a.subs a.link.starts e.id all.0.number at.bytes all.0.place) (λ s i. inr (cut_later a.link a.running e.id s hi at.over at.rising all.0))))
     (later_ready a hi es at all.1)
 
 abbrev pub FirstReady : Account → (Entry → RedisError) → Type 0
-FirstReady a fails = (e : Entry) → IsFirst a.link.starts a.link.dealt (owner.Try e.id 0) → IsReady a e.id (outcome.Fault (fails e))
+FirstReady a fails = (e : Entry) → IsEntry a.subs e → IsFirst a.link.starts a.link.dealt (owner.Try e.id 0) → IsReady a e.id (outcome.Fault (fails e))
 
-pub closed_rows_ready : (a : Account) (hi : ℕ) (row : List Entry) → AtEnd a hi → open_list row ≡ open_rows a.link.starts a.link.dealt → FirstReady a (λ e. error.Closed) → AllSettledReady a (row_closed row)
-closed_rows_ready a hi [] at is first = tt
-closed_rows_ready a hi (e ∷ es) at is first =
+pub closed_rows_ready : (a : Account) (hi : ℕ) (row : List Entry) → AtEnd a hi → open_list row ≡ open_rows a.link.starts a.link.dealt → AreEntries a.subs row → FirstReady a (λ e. error.Closed) → AllSettledReady a (row_closed row)
+closed_rows_ready a hi [] at is owned first = tt
+closed_rows_ready a hi (e ∷ es) at is owned first =
     let h = rows_stand a.link.starts a.link.dealt _ (open_list es) (sym is) in
-    ready_append a (failed_by e.awaited e.id error.Closed) (row_closed es) (failed_ready a e.awaited e.id error.Closed (first e h.0)) (later_ready a hi es at h.1)
+    ready_append a (failed_by e.awaited e.id error.Closed) (row_closed es) (failed_ready a e.awaited e.id error.Closed (first e owned.0 h.0)) (later_ready a hi es at h.1)
 
-pub hit_rows_ready : (a : Account) (hi : ℕ) (f : LinkFault) (row : List Entry) → AtEnd a hi → open_list row ≡ open_rows a.link.starts a.link.dealt → FirstReady a (λ e. hit_by f e.shape) → AllSettledReady a (row_hit f row)
-hit_rows_ready a hi f [] at is first = tt
-hit_rows_ready a hi f (e ∷ es) at is first =
+pub hit_rows_ready : (a : Account) (hi : ℕ) (f : LinkFault) (row : List Entry) → AtEnd a hi → open_list row ≡ open_rows a.link.starts a.link.dealt → AreEntries a.subs row → FirstReady a (λ e. hit_by f e.shape) → AllSettledReady a (row_hit f row)
+hit_rows_ready a hi f [] at is owned first = tt
+hit_rows_ready a hi f (e ∷ es) at is owned first =
     let h = rows_stand a.link.starts a.link.dealt _ (open_list es) (sym is) in
-    ready_append a (failed_by e.awaited e.id (hit_by f e.shape)) (row_closed es) (failed_ready a e.awaited e.id (hit_by f e.shape) (first e h.0)) (later_ready a hi es at h.1)
+    ready_append a (failed_by e.awaited e.id (hit_by f e.shape)) (row_closed es) (failed_ready a e.awaited e.id (hit_by f e.shape) (first e owned.0 h.0)) (later_ready a hi es at h.1)
 
 unstarted_ready : (a : Account) (n : ℕ) → a.link.over ≡ true → (IsIn n (owners a.link.starts) → ⊥) → bytes_of a.subs (owner.Try n 0) ≢ [] → IsReady a n closed
-unstarted_ready a n over none some = closed_ready a n some (inr (cut_unstarted a.link a.running n over none))
+unstarted_ready a n over none some = closed_ready a n some (λ s e. inr (cut_unstarted a.link a.running n s over none))
 
 pub queue_ready : (a : Account) (requests : List Progress) (queue : List Queued) → a.link.over ≡ true → ((n : ℕ) → IsIn n (queue_ids queue) → IsIn n (owners a.link.starts) → ⊥) → AllByRecursion (IsQueued a.subs requests) queue → AllSettledReady a (queue_closed queue)
 queue_ready a requests [] over apart all = tt
 queue_ready a requests (q ∷ qs) over apart all =
     ready_append a (failed_by q.awaited q.id error.Closed) (queue_closed qs)
-    (failed_ready a q.awaited q.id error.Closed (unstarted_ready a q.id over (λ i. apart q.id (inl refl) i) (λ z. all.0.some (all.0.packs ∙ z))))
+    (failed_ready a q.awaited q.id error.Closed (unstarted_ready a q.id over (λ i. apart q.id (inl refl) i) (λ z. all.0.asked.some (handed_bytes a.subs q.id q.packed q.shape q.awaited all.0.asked ∙ z))))
     (queue_ready a requests qs over (λ n i j. apart n (inr i) j) all.1)
 
 pub waiting_ready : (a : Account) (ws : List Waiting) → a.link.over ≡ true → ((n : ℕ) → IsIn n (waiting_ids ws) → IsIn n (owners a.link.starts) → ⊥) → AllByRecursion (IsPacked a.subs) ws → AllWaitingReady a ws
 waiting_ready a [] over apart all = tt
 waiting_ready a (w ∷ ws) over apart all =
-    (unstarted_ready a w.number over (λ i. apart w.number (inl refl) i) (λ z. all.0.some (all.0.packs ∙ z)), waiting_ready a ws over (λ n i j. apart n (inr i) j) all.1)
+    (unstarted_ready a w.number over (λ i. apart w.number (inl refl) i) (λ z. all.0.some (handed_bytes a.subs w.number w.packed w.shape w.awaited all.0 ∙ z)), waiting_ready a ws over (λ n i j. apart n (inr i) j) all.1)
 
 not_below : (n : ℕ) → n < n → ⊥
 not_below n l = absurd (omega arith)
@@ -180,7 +180,7 @@ last_closed before d ws fresh e ready h =
     (subst (λ (xs : List Waiting). Holds before (record d { waiting = [] }) [] fresh (waiting_ids xs ++ [])) (sym e) (record { sound = h.sound }))
 
 pub close_holds : (before : List Action) (c : Connection) (out : List Settled) (fresh : List ℕ) → Holds before c c.waiting fresh [] → is_ended c.phase ≡ false → EndedBy (before ++ c.acts) (running (before ++ c.acts))
-    → settled_ids out ≡ wanted c.link.row ++ queue_ids c.link.queue → AllSettledReady (entered (account (before ++ c.acts)) (action.Close 0)) out
+    → settled_ids out ≡ wanted c.link.row ++ awaited_ids c.link.queue → AllSettledReady (entered (account (before ++ c.acts)) (action.Close 0)) out
     → Ended before c (ends c (record { link = bare c.link; out = out })) fresh
 close_holds before c out fresh h up cause ids ready =
     let t = before ++ c.acts in

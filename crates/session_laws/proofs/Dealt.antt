@@ -1,15 +1,18 @@
 -- Items that are dealt fill the started messages by the sums of their needs.
-use Rattle.std.proofs.Common.{◌≡◌, ℕ, zero, suc, ◌+◌, ◌-◌, ◌<◌, ◌≤◌, nat_le, nat_lt, min, Bool, true, false, if◌then◌else◌, List, [], ◌∷◌, ◌++◌, length, take, drop, refl, sym, ap, ◌∙◌, subst, append_assoc, arith, length-take, length-drop}
+use Rattle.std.proofs.Common.{◌≡◌, ℕ, zero, suc, ◌+◌, ◌-◌, ◌<◌, ◌≤◌, nat_le, nat_lt, min, Bool, true, false, if◌then◌else◌, List, [], ◌∷◌, ◌++◌, length, take, drop, Some, slice_get, refl, sym, ap, ◌∙◌, subst, append_assoc, arith, length-take, length-drop}
 use Rattle.std.specs.List.{AllByRecursion}
 use Rattle.std.proofs.lemmas.List.{append-nil, drop-append-le, take_all, take-append-le, length_push, drop-drop}
 use Rattle.resp_value.specs.Data.{Data}
 use Rattle.driver_model.specs.declared.action.Owner.{Owner}
 use Rattle.driver_model.specs.declared.action.Owner.TheVariants as owner
+use Rattle.driver_model.specs.declared.event.Submission.{Submission}
 use Rattle.driver_model.specs.declared.outcome.Shape.{Shape}
 use Rattle.driver_model.specs.Shape.{need, verdict}
+use Rattle.driver_model.specs.Request.{shape_of, awaits_reply}
 use Rattle.link_core.specs.declared.message.Entry.{Entry}
 use Rattle.link_core.specs.declared.message.Settled.{Settled}
 use Rattle.link_core.specs.Dealing.{Dealing, with_item, settled_by, given, dealt_to, dealt, dealt_each}
+use Rattle.trace_model.specs.Cut.{verdict_of}
 use Rattle.trace_model.specs.LinkLedger.{Start, needs}
 use Rattle.session_laws.proofs.Tests.{by_test, chosen, if_true, if_false, le_from, not_le_from, le_test, not_le_test, lt_from, not_lt_from}
 use Rattle.session_laws.proofs.Rows.{Open, open_rows, open_of, open_list, AreNeedy, StandsAs, open_rows-item, none_open}
@@ -68,27 +71,50 @@ cut_stays ss items more who got some h =
       cut_is = rw (drop-append-le m items more (omega arith), take-append-le h.place.start.need (drop m items) more (omega (arith, length-drop m items))) h.cut_is;
     }
 
+-- whose message it is: its shape is that of the submission, and where its verdict is wanted, so is the reply
+pub record IsOwned (subs : List Submission) (id : ℕ) (shape : Shape) (awaited : Bool) : Type 0 where
+  pub what : Submission
+  pub handed_in : slice_get subs id ≡ Some what
+  pub shape_is : shape ≡ shape_of what
+  pub awaited_is : awaited ≡ true → awaits_reply what ≡ true
+
+abbrev pub IsEntry : List Submission → Entry → Type 0
+IsEntry subs e = IsOwned subs e.id e.shape e.awaited
+
+abbrev pub AreEntries : List Submission → List Entry → Type 0
+AreEntries subs row = AllByRecursion (IsEntry subs) row
+
 -- the verdict of a settled message is that of its cut
-pub record IsCutOf (ss : List Start) (items : List Data) (s : Settled) : Type 0 where
-  pub shape : Shape
+pub record IsCutOf (subs : List Submission) (ss : List Start) (items : List Data) (s : Settled) : Type 0 where
+  pub what : Submission
+  pub handed_in : slice_get subs s.id ≡ Some what
+  pub awaited : awaits_reply what ≡ true
   pub got : List Data
   pub some : 0 < length got
   pub cut : HasCut ss items (owner.Try s.id 0) got
-  pub verdict_is : s.verdict ≡ verdict shape got
+  pub verdict_is : s.verdict ≡ verdict_of what got
 
-abbrev pub AreCuts : List Start → List Data → List Settled → Type 0
-AreCuts ss items out = AllByRecursion (IsCutOf ss items) out
+abbrev pub AreCuts : List Submission → List Start → List Data → List Settled → Type 0
+AreCuts subs ss items out = AllByRecursion (IsCutOf subs ss items) out
 
-cuts_stay : (ss : List Start) (items more : List Data) (out : List Settled) → AreCuts ss items out → AreCuts ss (items ++ more) out
-cuts_stay ss items more [] all = tt
-cuts_stay ss items more (s ∷ out) all = (
-  record { shape = all.0.shape; got = all.0.got; some = all.0.some; cut = cut_stays ss items more (owner.Try s.id 0) all.0.got all.0.some all.0.cut; verdict_is = all.0.verdict_is },
-  cuts_stay ss items more out all.1,
+cuts_stay : (subs : List Submission) (ss : List Start) (items more : List Data) (out : List Settled) → AreCuts subs ss items out → AreCuts subs ss (items ++ more) out
+cuts_stay subs ss items more [] all = tt
+cuts_stay subs ss items more (s ∷ out) all = (
+  record {
+    what = all.0.what;
+    handed_in = all.0.handed_in;
+    awaited = all.0.awaited;
+    got = all.0.got;
+    some = all.0.some;
+    cut = cut_stays ss items more (owner.Try s.id 0) all.0.got all.0.some all.0.cut;
+    verdict_is = all.0.verdict_is;
+  },
+  cuts_stay subs ss items more out all.1,
 )
 
-cuts_append : (ss : List Start) (items : List Data) (out more : List Settled) → AreCuts ss items out → AreCuts ss items more → AreCuts ss items (out ++ more)
-cuts_append ss items [] more all also = also
-cuts_append ss items (s ∷ out) more all also = (all.0, cuts_append ss items out more all.1 also)
+cuts_append : (subs : List Submission) (ss : List Start) (items : List Data) (out more : List Settled) → AreCuts subs ss items out → AreCuts subs ss items more → AreCuts subs ss items (out ++ more)
+cuts_append subs ss items [] more all also = also
+cuts_append subs ss items (s ∷ out) more all also = (all.0, cuts_append subs ss items out more all.1 also)
 
 -- the messages of a row whose verdict is wanted
 abbrev pub wanted : List Entry → List ℕ
@@ -104,10 +130,11 @@ settled_ids-append [] ys = refl
 settled_ids-append (x ∷ xs) ys = ap (λ ns. x.id ∷ ns) (settled_ids-append xs ys)
 
 -- what a row has been dealt: the row is that of the ledger, and each settled message has its cut
-pub record IsDealt (ss : List Start) (items : List Data) (before : List Entry) (d : Dealing) : Type 0 where
+pub record IsDealt (subs : List Submission) (ss : List Start) (items : List Data) (before : List Entry) (d : Dealing) : Type 0 where
   pub row : open_list d.row ≡ open_rows ss items
   pub within : length items ≤ needs ss
-  pub cuts : AreCuts ss items d.out
+  pub rows : AreEntries subs d.row
+  pub cuts : AreCuts subs ss items d.out
   pub kept : settled_ids d.out ++ wanted d.row ≡ wanted before
 
 settled_by_id : (b : Bool) (e : Entry) → settled_ids (if b then record { id = e.id; verdict = verdict e.shape e.got } ∷ [] else []) ≡ (if b then e.id ∷ [] else [])
@@ -119,9 +146,14 @@ more_settled out e es before k =
     ap (λ ns. ns ++ wanted es) (settled_ids-append out (settled_by e) ∙ ap (λ ns. settled_ids out ++ ns) (settled_by_id e.awaited e))
     ∙ append_assoc (settled_ids out) (if e.awaited then e.id ∷ [] else []) (wanted es) ∙ k
 
-settled_cuts : (ss : List Start) (items : List Data) (e : Entry) → 0 < length e.got → HasCut ss items (owner.Try e.id 0) e.got → AreCuts ss items (settled_by e)
-settled_cuts ss items e some h =
-    chosen (AreCuts ss items) e.awaited _ _ (λ t. (record { shape = e.shape; got = e.got; some = some; cut = h; verdict_is = refl }, tt)) (λ f. tt)
+settled_cuts : (subs : List Submission) (ss : List Start) (items : List Data) (e : Entry) → IsEntry subs e → 0 < length e.got → HasCut ss items (owner.Try e.id 0) e.got → AreCuts subs ss items (settled_by e)
+settled_cuts subs ss items e owned some h =
+    chosen (AreCuts subs ss items) e.awaited _ _
+    (λ t. (
+      record { what = owned.what; handed_in = owned.handed_in; awaited = owned.awaited_is t; got = e.got; some = some; cut = h; verdict_is = ap (λ shape. verdict shape e.got) owned.shape_is },
+      tt,
+    ))
+    (λ f. tt)
 
 full_from : (e : Entry) (item : Data) → nat_lt (length (with_item e item).got) (need e.shape) ≡ false → nat_le (need e.shape) (length e.got + 1) ≡ true
 full_from e item f = le_test _ _ (omega (arith, not_lt_from _ _ f, length_push e.got item))
@@ -130,19 +162,21 @@ open_from : (e : Entry) (item : Data) → nat_lt (length (with_item e item).got)
 open_from e item t = not_le_test _ _ (omega (arith, lt_from _ _ t, length_push e.got item))
 
 -- the first row gets an item
-given_dealt : (ss : List Start) (items : List Data) (before : List Entry) (d : Dealing) (item : Data) (e : Entry) (es : List Entry) → AreNeedy ss → d.row ≡ e ∷ es → IsDealt ss items before d
-    → (length items < needs ss) × IsDealt ss (items ++ item ∷ []) before (given d (with_item e item) es)
-given_dealt ss items before d item e es needy is h =
+given_dealt : (subs : List Submission) (ss : List Start) (items : List Data) (before : List Entry) (d : Dealing) (item : Data) (e : Entry) (es : List Entry) → AreNeedy ss → d.row ≡ e ∷ es → IsDealt subs ss items before d
+    → (length items < needs ss) × IsDealt subs ss (items ++ item ∷ []) before (given d (with_item e item) es)
+given_dealt subs ss items before d item e es needy is h =
     let r : open_rows ss items ≡ open_of e ∷ open_list es = sym h.row ∙ ap open_list is in
     let k = open_rows-item ss items item (open_of e) (open_list es) needy r in
     let w : length (items ++ item ∷ []) ≤ needs ss = omega (arith, k.0, length_push items item) in
     let same : settled_ids d.out ++ wanted (e ∷ es) ≡ wanted before = ap (λ row. settled_ids d.out ++ wanted row) (sym is) ∙ h.kept in
-    let cuts = cuts_stay ss items (item ∷ []) d.out h.cuts in (
+    let owned : AreEntries subs (e ∷ es) = subst (AreEntries subs) is h.rows in
+    let cuts = cuts_stay subs ss items (item ∷ []) d.out h.cuts in (
       k.0,
-      chosen (IsDealt ss (items ++ item ∷ []) before) (nat_lt (length (with_item e item).got) (need e.shape)) _ _
+      chosen (IsDealt subs ss (items ++ item ∷ []) before) (nat_lt (length (with_item e item).got) (need e.shape)) _ _
           (λ t. record {
             row = sym (k.1 ∙ if_false (λ os. os ≡ open_of (with_item e item) ∷ open_list es) _ (open_list es) _ (open_from e item t) refl);
             within = w;
+            rows = owned;
             cuts = cuts;
             kept = same;
           })
@@ -152,7 +186,8 @@ given_dealt ss items before d item e es needy is h =
           record {
             row = sym (k.1 ∙ if_true (λ os. os ≡ open_list es) _ (open_list es) _ full refl);
             within = w;
-            cuts = cuts_append ss (items ++ item ∷ []) d.out (settled_by (with_item e item)) cuts (settled_cuts ss (items ++ item ∷ []) (with_item e item) (omega (arith, length_push e.got item)) cut);
+            rows = owned.1;
+            cuts = cuts_append subs ss (items ++ item ∷ []) d.out (settled_by (with_item e item)) cuts (settled_cuts subs ss (items ++ item ∷ []) (with_item e item) owned.0 (omega (arith, length_push e.got item)) cut);
             kept = more_settled d.out (with_item e item) es (wanted before) same;
           }),
     )
@@ -161,17 +196,17 @@ given_dealt ss items before d item e es needy is h =
 abbrev taken_item : ℕ → List Data → Data → List Data
 taken_item all items item = if nat_lt (length items) all then items ++ item ∷ [] else items
 
-one_dealt : (ss : List Start) (items : List Data) (before : List Entry) (d : Dealing) (item : Data) (row : List Entry) → AreNeedy ss → d.row ≡ row → IsDealt ss items before d
-    → IsDealt ss (taken_item (needs ss) items item) before (dealt_to d item row)
-one_dealt ss items before d item [] needy is h =
+one_dealt : (subs : List Submission) (ss : List Start) (items : List Data) (before : List Entry) (d : Dealing) (item : Data) (row : List Entry) → AreNeedy ss → d.row ≡ row → IsDealt subs ss items before d
+    → IsDealt subs ss (taken_item (needs ss) items item) before (dealt_to d item row)
+one_dealt subs ss items before d item [] needy is h =
     let n = none_open ss items (sym h.row ∙ ap open_list is) in
-    if_false (λ xs. IsDealt ss xs before d) (nat_lt (length items) (needs ss)) _ _ (not_lt_test _ _ n) h
+    if_false (λ xs. IsDealt subs ss xs before d) (nat_lt (length items) (needs ss)) _ _ (not_lt_test _ _ n) h
   where
     not_lt_test : (a b : ℕ) → b ≤ a → nat_lt a b ≡ false
     not_lt_test a b l = by_test (nat_lt a b) _ (λ t. absurd (let m = lt_from a b t in omega arith)) (λ f. f)
-one_dealt ss items before d item (e ∷ es) needy is h =
-    let g = given_dealt ss items before d item e es needy is h in
-    if_true (λ xs. IsDealt ss xs before (given d (with_item e item) es)) (nat_lt (length items) (needs ss)) _ _ (lt_test _ _ g.0) g.1
+one_dealt subs ss items before d item (e ∷ es) needy is h =
+    let g = given_dealt subs ss items before d item e es needy is h in
+    if_true (λ xs. IsDealt subs ss xs before (given d (with_item e item) es)) (nat_lt (length items) (needs ss)) _ _ (lt_test _ _ g.0) g.1
   where
     lt_test : (a b : ℕ) → a < b → nat_lt a b ≡ true
     lt_test a b l = by_test (nat_lt a b) _ (λ t. t) (λ f. absurd (let m = not_lt_from a b f in omega arith))
@@ -196,17 +231,17 @@ one_wanted all items item more =
     (λ f. if_false (λ xs. items_with all items (item ∷ more) ≡ items_with all xs more) _ _ _ f
     (let l = not_lt_from _ _ f in none_wanted all items (item ∷ more) l ∙ sym (none_wanted all items more l)))
 
-each_dealt : (ss : List Start) (items : List Data) (before : List Entry) (d : Dealing) (vs : List Data) → AreNeedy ss → IsDealt ss items before d → IsDealt ss (items_with (needs ss) items vs) before (dealt_each d vs)
-each_dealt ss items before d [] needy h = let z : items_with (needs ss) items [] ≡ items = ap (λ xs. items ++ xs) (take_none (needs ss - length items)) ∙ append-nil items in subst (λ xs. IsDealt ss xs before d) (sym z) h
+each_dealt : (subs : List Submission) (ss : List Start) (items : List Data) (before : List Entry) (d : Dealing) (vs : List Data) → AreNeedy ss → IsDealt subs ss items before d → IsDealt subs ss (items_with (needs ss) items vs) before (dealt_each d vs)
+each_dealt subs ss items before d [] needy h = let z : items_with (needs ss) items [] ≡ items = ap (λ xs. items ++ xs) (take_none (needs ss - length items)) ∙ append-nil items in subst (λ xs. IsDealt subs ss xs before d) (sym z) h
   where
     take_none : (n : ℕ) → take {A = Data} n [] ≡ []
     take_none zero = refl
     take_none (suc n) = refl
-each_dealt ss items before d (v ∷ vs) needy h =
-    subst (λ xs. IsDealt ss xs before (dealt_each (dealt d v) vs)) (sym (one_wanted (needs ss) items v vs))
-    (each_dealt ss (taken_item (needs ss) items v) before (dealt d v) vs needy (one_dealt ss items before d v d.row needy refl h))
+each_dealt subs ss items before d (v ∷ vs) needy h =
+    subst (λ xs. IsDealt subs ss xs before (dealt_each (dealt d v) vs)) (sym (one_wanted (needs ss) items v vs))
+    (each_dealt subs ss (taken_item (needs ss) items v) before (dealt d v) vs needy (one_dealt subs ss items before d v d.row needy refl h))
 
 -- all values that come are dealt alike in a row and in a ledger
-pub row_dealt : (ss : List Start) (items : List Data) (row : List Entry) (vs : List Data) → AreNeedy ss → open_list row ≡ open_rows ss items → length items ≤ needs ss
-    → IsDealt ss (items_with (needs ss) items vs) row (dealt_each (record { row = row; out = [] }) vs)
-row_dealt ss items row vs needy is within = each_dealt ss items row (record { row = row; out = [] }) vs needy (record { row = is; within = within; cuts = tt; kept = refl })
+pub row_dealt : (subs : List Submission) (ss : List Start) (items : List Data) (row : List Entry) (vs : List Data) → AreNeedy ss → open_list row ≡ open_rows ss items → length items ≤ needs ss → AreEntries subs row
+    → IsDealt subs ss (items_with (needs ss) items vs) row (dealt_each (record { row = row; out = [] }) vs)
+row_dealt subs ss items row vs needy is within rows = each_dealt subs ss items row (record { row = row; out = [] }) vs needy (record { row = is; within = within; rows = rows; cuts = tt; kept = refl })

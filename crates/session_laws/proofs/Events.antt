@@ -1,29 +1,32 @@
 -- Events that answer nobody, or end the link.
 use Rattle.std.proofs.Common.{◌≡◌, ◌⊎◌, inl, inr, ℕ, suc, ◌+◌, ◌≤◌, ◌==◌, not, Bool, true, false, List, [], ◌∷◌, ◌++◌, length, take, drop, Some, refl, sym, ap, ◌∙◌, subst, append_assoc, arith}
 use Rattle.std.proofs.lemmas.List.{take-take, take-append-drop}
+use Rattle.resp_value.specs.declared.fault_kind.FaultKind.{FaultKind}
 use Rattle.driver_model.specs.declared.action.Action.{Action}
 use Rattle.driver_model.specs.declared.action.Action.TheVariants as action
 use Rattle.driver_model.specs.declared.action.Cause.TheVariants as cause
 use Rattle.driver_model.specs.declared.event.Event.{Event}
 use Rattle.driver_model.specs.declared.event.EventKind.{EventKind}
 use Rattle.driver_model.specs.declared.event.EventKind.TheVariants as event
+use Rattle.link_core.specs.declared.errors.LinkFault.{LinkFault}
+use Rattle.link_core.specs.declared.errors.LinkFault.TheVariants as fault
 use Rattle.link_core.specs.Link.{LinkState, wrote_of}
 use Rattle.shared_session.specs.declared.connection.Connection.{Connection}
 use Rattle.shared_session.specs.declared.connection.Phase.{Phase}
 use Rattle.shared_session.specs.declared.connection.Phase.TheVariants as phase
-use Rattle.shared_session.specs.Steps.{acts, is_dialing, is_up, is_ended, connected, wrote, peer_closed, shut_down}
+use Rattle.shared_session.specs.Steps.{acts, is_dialing, is_up, is_ended, ended_by, connected, wrote, faulted_by, shut_down}
 use Rattle.trace_model.specs.LinkLedger.{LinkLedger}
 use Rattle.trace_model.specs.Story.{Story, told_event}
 use Rattle.trace_model.specs.Turns.{causes, running, is_shut}
 use Rattle.trace_model.specs.Legal.{AllStand, MayTurn, MayBeCreated, ConnectedBy, IsSettled}
 use Rattle.session_laws.proofs.Account.{Account, account, begun, entered, account-append}
 use Rattle.session_laws.proofs.Standing.{stand-more}
-use Rattle.session_laws.proofs.Tests.{chosen, by_test, if_true, if_false, eq_from}
+use Rattle.session_laws.proofs.Tests.{chosen, by_test, if_true, if_false, eq_from, not_both}
 use Rattle.session_laws.proofs.Tied.{Inner, TiedLink, IsNew, Tied, Sound, sound_more, Holds, holds_more, seen}
 use Rattle.session_laws.proofs.Settling.{running_more}
 use Rattle.session_laws.proofs.Closing.{Ended}
-use Rattle.session_laws.proofs.Faults.{kind_of, up_not_ended, dialing_not_ended, peer_holds, shut_holds}
-use Rattle.session_laws.proofs.Settled.{HasApplied}
+use Rattle.session_laws.proofs.Faults.{kind_of, up_not_ended, dialing_not_ended, peer_holds, read_fault_holds, write_fault_holds, shut_holds}
+use Rattle.session_laws.proofs.Settled.{IsFault, HasApplied}
 
 -- the end of a turn, before the next one
 pub record IsReadyFor (b : List Action) (c : Connection) (k : ℕ) : Type 0 where
@@ -65,8 +68,10 @@ announced_runs b c k word kind e = ap (λ (x : Account). x.running) (announced_a
 pub one_runs : (t : List Action) (word again : ℕ) (kind other : EventKind) → running t ≡ Some (cause.Event (record { word = word; kind = kind })) → running t ≡ Some (cause.Event (record { word = again; kind = other })) → kind ≡ other
 one_runs t word again kind other e f = ap kind_of (sym e ∙ f)
 
-pub not_both : (b : Bool) → b ≡ false → b ≡ true → ⊥
-not_both b f t = let no : ◌≡◌ {A = Bool} true false = sym t ∙ f in cc
+-- an event that is no fault
+pub no_fault : (t : List Action) (word : ℕ) (kind : EventKind) → running t ≡ Some (cause.Event (record { word = word; kind = kind })) → (IsFault kind → ⊥)
+    → (again : ℕ) (other : EventKind) → running t ≡ Some (cause.Event (record { word = again; kind = other })) → IsFault other → ⊥
+no_fault t word kind runs none again other r f = none (subst IsFault (sym (one_runs t word again kind other runs r)) f)
 
 -- an ended link is at rest
 pub ended_applied : (b : List Action) (c d : Connection) → c.fresh ≡ [] → Ended b c d [] → HasApplied b d
@@ -74,12 +79,8 @@ ended_applied b c d fresh h = record {
   holds = subst (λ ns. Holds b d d.waiting ns []) (sym (h.fresh_is ∙ fresh)) (subst (λ ws. Holds b d ws [] []) (sym h.waiting_is) h.holds);
   unbroken = λ e. absurd (not_both (is_ended d.phase) e (ap is_ended h.phase_is));
   shut_ends = λ s. ap is_ended h.phase_is;
-  peer = λ word e. ap is_up h.phase_is;
+  faulty = λ word kind e f. ap is_up h.phase_is;
 }
-
--- an event that leaves the link, and what is open
-plain_tied : (a : Account) (p : Inner) (word l : ℕ) → Tied a p → Tied (begun a (cause.Event (record { word = word; kind = event.Ended l }))) p
-plain_tied a p word l h = record { phase = h.phase; link = h.link; row = h.row; count = h.count; story = h.story; lines = h.lines; waits = h.waits; idle = h.idle; ended = h.ended }
 
 pub fresh_holds : (b : List Action) (d : Connection) → d.fresh ≡ [] → Holds b d d.waiting [] [] → Holds b d d.waiting d.fresh []
 fresh_holds b d e h = subst (λ ns. Holds b d d.waiting ns []) (sym e) h
@@ -87,14 +88,40 @@ fresh_holds b d e h = subst (λ ns. Holds b d d.waiting ns []) (sym e) h
 pub zero_from : (l : ℕ) → not (l == 0) ≡ false → l ≡ 0
 zero_from l e = by_test (l == 0) _ (λ t. eq_from l 0 t) (λ f. absurd (let no : ◌≡◌ {A = Bool} true false = ap not (sym f) ∙ e in cc))
 
-pub peer_applied : (b : List Action) (c : Connection) (k word : ℕ) → IsReadyFor b c k → HasApplied b (peer_closed (announced c k word (event.Ended 0)))
+-- a fault ends a link that is up, and leaves any other
+fault_applied : (b : List Action) (c : Connection) (k word : ℕ) (kind : EventKind) (f : LinkFault) → IsReadyFor b c k → Tied (begun (account b) (cause.Event (record { word = word; kind = kind }))) (seen c c.waiting [] [])
+    → (let d = announced c k word kind in Holds b d d.waiting [] [] → is_up c.phase ≡ true → running (b ++ d.acts) ≡ Some (cause.Event (record { word = word; kind = kind })) → Ended b d (ended_by d f) [])
+    → HasApplied b (faulted_by (announced c k word kind) f)
+fault_applied b c k word kind f h tied ends =
+    let d = announced c k word kind in
+    let holds : Holds b d d.waiting [] [] = record { sound = announced_sound b c k word kind _ h tied } in
+    chosen (HasApplied b) (is_up c.phase) (ended_by d f) d
+    (λ up. ended_applied b d _ h.no_fresh (ends holds up (announced_runs b c k word kind h.no_acts)))
+    (λ n. record { holds = fresh_holds b d h.no_fresh holds; unbroken = h.unbroken; shut_ends = h.shut_ends; faulty = λ w other r x. n })
+
+peer_tied : (a : Account) (p : Inner) (word l : ℕ) → Tied a p → Tied (begun a (cause.Event (record { word = word; kind = event.Ended l }))) p
+peer_tied a p word l h = record { phase = h.phase; link = h.link; row = h.row; count = h.count; story = h.story; lines = h.lines; told = h.told; waits = h.waits; idle = h.idle; ended = h.ended }
+
+read_tied : (a : Account) (p : Inner) (word l : ℕ) (kind : FaultKind) → Tied a p → Tied (begun a (cause.Event (record { word = word; kind = event.ReadFault l kind }))) p
+read_tied a p word l kind h = record { phase = h.phase; link = h.link; row = h.row; count = h.count; story = h.story; lines = h.lines; told = h.told; waits = h.waits; idle = h.idle; ended = h.ended }
+
+write_tied : (a : Account) (p : Inner) (word l : ℕ) (kind : FaultKind) → Tied a p → Tied (begun a (cause.Event (record { word = word; kind = event.WriteFault l kind }))) p
+write_tied a p word l kind h = record { phase = h.phase; link = h.link; row = h.row; count = h.count; story = h.story; lines = h.lines; told = h.told; waits = h.waits; idle = h.idle; ended = h.ended }
+
+pub peer_applied : (b : List Action) (c : Connection) (k word : ℕ) → IsReadyFor b c k → HasApplied b (faulted_by (announced c k word (event.Ended 0)) fault.Ended)
 peer_applied b c k word h =
-    let d = announced c k word (event.Ended 0) in
-    let holds : Holds b d d.waiting [] [] = record { sound = announced_sound b c k word (event.Ended 0) _ h (plain_tied (account b) (seen c c.waiting [] []) word 0 h.tied) } in
-    let runs = announced_runs b c k word (event.Ended 0) h.no_acts in
-    chosen (HasApplied b) (is_up c.phase) _ d
-    (λ up. ended_applied b d _ h.no_fresh (peer_holds b d [] word holds up runs))
-    (λ f. record { holds = fresh_holds b d h.no_fresh holds; unbroken = h.unbroken; shut_ends = h.shut_ends; peer = λ w e. f })
+    fault_applied b c k word (event.Ended 0) fault.Ended h (peer_tied (account b) (seen c c.waiting [] []) word 0 h.tied)
+    (λ holds up runs. peer_holds b (announced c k word (event.Ended 0)) [] word holds up runs)
+
+pub read_fault_applied : (b : List Action) (c : Connection) (k word : ℕ) (kind : FaultKind) → IsReadyFor b c k → HasApplied b (faulted_by (announced c k word (event.ReadFault 0 kind)) (fault.Io kind))
+read_fault_applied b c k word kind h =
+    fault_applied b c k word (event.ReadFault 0 kind) (fault.Io kind) h (read_tied (account b) (seen c c.waiting [] []) word 0 kind h.tied)
+    (λ holds up runs. read_fault_holds b (announced c k word (event.ReadFault 0 kind)) [] word kind holds up runs)
+
+pub write_fault_applied : (b : List Action) (c : Connection) (k word : ℕ) (kind : FaultKind) → IsReadyFor b c k → HasApplied b (faulted_by (announced c k word (event.WriteFault 0 kind)) (fault.Io kind))
+write_fault_applied b c k word kind h =
+    fault_applied b c k word (event.WriteFault 0 kind) (fault.Io kind) h (write_tied (account b) (seen c c.waiting [] []) word 0 kind h.tied)
+    (λ holds up runs. write_fault_holds b (announced c k word (event.WriteFault 0 kind)) [] word kind holds up runs)
 
 pub new_same : (f g : ℕ → Story) (fresh : List ℕ) → ((n : ℕ) → (f n).waiting ≡ (g n).waiting) → IsNew f fresh → IsNew g fresh
 new_same f g [] same h = tt
@@ -109,6 +136,7 @@ down_tied a p word h = record {
   count = h.count;
   story = λ n. let s = h.story n in record { count = s.count; submission = s.submission; shut = refl; open_is = s.open_is; once = s.once; untold = s.untold };
   lines = h.lines;
+  told = h.told;
   waits = record { new = new_same a.story (λ n. told_event (a.story n) n event.Shutdown) p.fresh (λ n. refl) h.waits.new; shown = h.waits.shown };
   idle = h.idle;
   ended = h.ended;
@@ -122,7 +150,7 @@ shut_applied b c k word h =
     let runs = announced_runs b c k word event.Shutdown h.no_acts in
     let down : is_shut (b ++ e.acts) ≡ true = ap (λ (x : Account). x.shut) (announced_account b c k word event.Shutdown h.no_acts) in
     chosen (HasApplied b) (is_ended c.phase) e _
-    (λ t. record { holds = fresh_holds b e h.no_fresh holds; unbroken = h.unbroken; shut_ends = λ s. t; peer = λ w r. absurd (let x = one_runs (b ++ e.acts) word w event.Shutdown (event.Ended 0) runs r in let no : event.Shutdown ≡ event.Ended 0 = x in cc) })
+    (λ t. record { holds = fresh_holds b e h.no_fresh holds; unbroken = h.unbroken; shut_ends = λ s. t; faulty = λ w kind r f. absurd (no_fault (b ++ e.acts) word event.Shutdown runs (λ x. x) w kind r f) })
     (λ f. ended_applied b e _ h.no_fresh (shut_holds b e [] word holds f runs down))
 
 -- bytes of the offer were taken
@@ -154,32 +182,32 @@ with_link a e l = record a { link = l; running = Some (cause.Event e); turns = a
 wrote_tied : (a : Account) (p : Inner) (word n : ℕ) → is_up p.phase ≡ true → n ≤ p.link.outbox.offered → Tied a p → Tied (begun a (cause.Event (record { word = word; kind = event.Wrote 0 n }))) (record p { link = wrote_of p.link n })
 wrote_tied a p word n up l h =
     if_true (λ (x : LinkLedger). Tied (with_link a (record { word = word; kind = event.Wrote 0 n }) x) (record p { link = wrote_of p.link n })) a.link.up _ a.link (h.phase.up_is ∙ up)
-    (record { phase = h.phase; link = wrote_link a p.link n l h.link; row = h.row; count = h.count; story = h.story; lines = h.lines; waits = h.waits; idle = h.idle; ended = h.ended })
+    (record { phase = h.phase; link = wrote_link a p.link n l h.link; row = h.row; count = h.count; story = h.story; lines = h.lines; told = h.told; waits = h.waits; idle = h.idle; ended = h.ended })
 
 unwrote_tied : (a : Account) (p : Inner) (word n : ℕ) → is_up p.phase ≡ false → Tied a p → Tied (begun a (cause.Event (record { word = word; kind = event.Wrote 0 n }))) p
 unwrote_tied a p word n f h =
     if_false (λ (x : LinkLedger). Tied (with_link a (record { word = word; kind = event.Wrote 0 n }) x) p) a.link.up _ a.link (h.phase.up_is ∙ f)
-    (record { phase = h.phase; link = h.link; row = h.row; count = h.count; story = h.story; lines = h.lines; waits = h.waits; idle = h.idle; ended = h.ended })
+    (record { phase = h.phase; link = h.link; row = h.row; count = h.count; story = h.story; lines = h.lines; told = h.told; waits = h.waits; idle = h.idle; ended = h.ended })
 
 pub wrote_applied : (b : List Action) (c : Connection) (k word n : ℕ) → (is_ended c.phase ≡ false → n ≤ c.link.outbox.offered) → IsReadyFor b c k → HasApplied b (wrote (announced c k word (event.Wrote 0 n)) n)
 wrote_applied b c k word n few h =
     let d = announced c k word (event.Wrote 0 n) in
     let p = seen c c.waiting [] [] in
     let runs = announced_runs b c k word (event.Wrote 0 n) h.no_acts in
-    let other : (w : ℕ) → running (b ++ d.acts) ≡ Some (cause.Event (record { word = w; kind = event.Ended 0 })) → is_up c.phase ≡ false =
-    λ w r. absurd (let x : event.Wrote 0 n ≡ event.Ended 0 = one_runs (b ++ d.acts) word w (event.Wrote 0 n) (event.Ended 0) runs r in cc) in
+    let other : (w : ℕ) (kind : EventKind) → running (b ++ d.acts) ≡ Some (cause.Event (record { word = w; kind = kind })) → IsFault kind → is_up c.phase ≡ false =
+    λ w kind r f. absurd (no_fault (b ++ d.acts) word (event.Wrote 0 n) runs (λ x. x) w kind r f) in
     chosen (HasApplied b) (is_up c.phase) (record d { link = wrote_of d.link n }) d
     (λ up. record {
       holds = fresh_holds b (record d { link = wrote_of d.link n }) h.no_fresh (record { sound = announced_sound b c k word (event.Wrote 0 n) _ h (wrote_tied (account b) p word n up (few (up_not_ended c.phase up)) h.tied) });
       unbroken = h.unbroken;
       shut_ends = h.shut_ends;
-      peer = other;
+      faulty = other;
     })
     (λ f. record {
       holds = fresh_holds b d h.no_fresh (record { sound = announced_sound b c k word (event.Wrote 0 n) _ h (unwrote_tied (account b) p word n f h.tied) });
       unbroken = h.unbroken;
       shut_ends = h.shut_ends;
-      peer = other;
+      faulty = other;
     })
 
 -- the first answer to the connect
@@ -199,6 +227,7 @@ up_tied a p word up h = connect_account a p word p (up_not_ended p.phase up) h (
   count = h.count;
   story = h.story;
   lines = h.lines;
+  told = h.told;
   waits = h.waits;
   idle = h.idle;
   ended = h.ended;
@@ -207,7 +236,7 @@ up_tied a p word up h = connect_account a p word p (up_not_ended p.phase up) h (
 over_tied : (a : Account) (p : Inner) (word : ℕ) → is_ended p.phase ≡ true → Tied a p → Tied (begun a (cause.Event (record { word = word; kind = event.Connected 0 }))) p
 over_tied a p word e h =
     if_false (λ (x : LinkLedger). Tied (with_link a (record { word = word; kind = event.Connected 0 }) x) p) (not a.link.over) (record a.link { up = true }) a.link (ap not (h.phase.over_is ∙ e))
-    (record { phase = h.phase; link = h.link; row = h.row; count = h.count; story = h.story; lines = h.lines; waits = h.waits; idle = h.idle; ended = h.ended })
+    (record { phase = h.phase; link = h.link; row = h.row; count = h.count; story = h.story; lines = h.lines; told = h.told; waits = h.waits; idle = h.idle; ended = h.ended })
 
 -- the account of the creation
 created_account : (a : Account) (p : Inner) (word : ℕ) → is_dialing p.phase ≡ true → Tied a p → Tied (entered (with_link a (record { word = word; kind = event.Connected 0 }) (record a.link { up = true })) action.Created) (record p { phase = phase.Up })
@@ -218,6 +247,7 @@ created_account a p word d h = record {
   count = h.count;
   story = h.story;
   lines = h.lines;
+  told = λ e. h.told (dialing_not_ended p.phase d);
   waits = record { new = h.waits.new; shown = λ n w e. cc };
   idle = λ e. cc;
   ended = λ e. cc;
@@ -262,7 +292,7 @@ connected_applied b c k word h =
       holds = fresh_holds b e h.no_fresh (record { sound = created_sound b c k word t h });
       unbroken = λ x. h.unbroken (dialing_not_ended c.phase t);
       shut_ends = λ s. absurd (not_both (is_ended c.phase) (dialing_not_ended c.phase t) (h.shut_ends s));
-      peer = λ w r. absurd (let x : event.Connected 0 ≡ event.Ended 0 = one_runs (b ++ d.acts) word w (event.Connected 0) (event.Ended 0) runs (sym again ∙ r) in cc);
+      faulty = λ w kind r f. absurd (no_fault (b ++ d.acts) word (event.Connected 0) runs (λ x. x) w kind (sym again ∙ r) f);
     })
     (λ f.
     let tied : Tied (begun (account b) (cause.Event (record { word = word; kind = event.Connected 0 }))) p =
@@ -271,5 +301,5 @@ connected_applied b c k word h =
       holds = fresh_holds b d h.no_fresh (record { sound = announced_sound b c k word (event.Connected 0) _ h tied });
       unbroken = h.unbroken;
       shut_ends = h.shut_ends;
-      peer = λ w r. absurd (let x : event.Connected 0 ≡ event.Ended 0 = one_runs (b ++ d.acts) word w (event.Connected 0) (event.Ended 0) runs r in cc);
+      faulty = λ w kind r f. absurd (no_fault (b ++ d.acts) word (event.Connected 0) runs (λ x. x) w kind r f);
     })

@@ -1,5 +1,7 @@
 -- Each event that ends a link.
-use Rattle.std.proofs.Common.{◌≡◌, inl, inr, ℕ, true, false, List, [], ◌++◌, Option, Some, None, refl, sym, ap, ◌∙◌, subst, length}
+use Rattle.std.proofs.Common.{◌≡◌, ◌≢◌, inl, inr, ℕ, Bool, true, false, List, [], ◌++◌, Option, Some, None, slice_get, refl, sym, ap, ◌∙◌, subst, length}
+use Rattle.resp_value.specs.declared.fault_kind.FaultKind.{FaultKind}
+use Rattle.resp_value.specs.declared.redis_error.RedisError.{RedisError}
 use Rattle.resp_value.specs.declared.redis_error.RedisError.TheVariants as error
 use Rattle.resp_read.specs.Values.{is_spoiled}
 use Rattle.driver_model.specs.declared.action.Action.{Action}
@@ -9,12 +11,16 @@ use Rattle.driver_model.specs.declared.action.Cause.TheVariants as cause
 use Rattle.driver_model.specs.declared.action.Owner.TheVariants as owner
 use Rattle.driver_model.specs.declared.event.EventKind.{EventKind}
 use Rattle.driver_model.specs.declared.event.EventKind.TheVariants as event
+use Rattle.driver_model.specs.declared.event.Submission.{Submission}
 use Rattle.driver_model.specs.declared.outcome.Outcome.TheVariants as outcome
 use Rattle.driver_model.specs.declared.outcome.Shape.{Shape}
-use Rattle.driver_model.specs.declared.outcome.Shape.TheVariants.{Single}
+use Rattle.driver_model.specs.declared.outcome.Shape.TheVariants.{Single, Pipeline}
+use Rattle.driver_model.specs.Request.{packed, shape_of}
+use Rattle.driver_model.specs.Shape.{is_single}
+use Rattle.link_core.specs.declared.errors.LinkFault.{LinkFault}
 use Rattle.link_core.specs.declared.errors.LinkFault.TheVariants as fault
 use Rattle.link_core.specs.declared.message.Settled.{Settled}
-use Rattle.link_core.specs.Ends.{hit_by, row_closed, row_hit, queue_closed}
+use Rattle.link_core.specs.Ends.{error_of, hit_by, row_closed, row_hit, queue_closed}
 use Rattle.link_core.specs.Link.{closed_all}
 use Rattle.shared_session.specs.declared.connection.Connection.{Connection}
 use Rattle.shared_session.specs.declared.connection.Phase.{Phase}
@@ -24,11 +30,12 @@ use Rattle.trace_model.specs.LinkLedger.{LinkLedger}
 use Rattle.trace_model.specs.Turns.{running, is_shut}
 use Rattle.trace_model.specs.Legal.{EndedBy}
 use Rattle.session_laws.proofs.Account.{Account, account, entered}
-use Rattle.session_laws.proofs.Rows.{unfilled_first}
+use Rattle.session_laws.proofs.Tests.{not_both}
+use Rattle.session_laws.proofs.Rows.{IsFirst, unfilled_first}
 use Rattle.session_laws.proofs.Numbers.{in_left, owners, rising_left}
 use Rattle.session_laws.proofs.Tied.{Tied, Holds, seen, queue_ids, waiting_ids}
-use Rattle.session_laws.proofs.Causes.{Breaks, cut_unfilled, hit_first}
-use Rattle.session_laws.proofs.Settling.{IsReady, AllSettledReady}
+use Rattle.session_laws.proofs.Causes.{FaultOf, Why, cut_unfilled, hit_first, packed_is}
+use Rattle.session_laws.proofs.Settling.{AllSettledReady}
 use Rattle.session_laws.proofs.Closing.{AtEnd, FirstReady, Ended, closed_ready, stands_bytes, ready_append, closed_rows_ready, hit_rows_ready, queue_ready, line_apart, close_holds, closed_out_ids, hit_out_ids}
 
 pub up_not_ended : (p : Phase) → is_up p ≡ true → is_ended p ≡ false
@@ -69,51 +76,87 @@ kind_of None = event.Shutdown
 kind_of (Some (cause.Opening config word)) = event.Shutdown
 kind_of (Some (cause.Event e)) = e.kind
 
--- the peer's end breaks nothing
-unbroken : (l : LinkLedger) (runs : Option Cause) (word : ℕ) → runs ≡ Some (cause.Event (record { word = word; kind = event.Ended 0 })) → Breaks l runs → ⊥
-unbroken l runs word e b = let k : event.Ended 0 ≡ event.Bytes 0 b.piece = ap kind_of (sym e ∙ b.runs_is) in cc
+-- the peer's end is no fault that hits a single command
+pub none_ended : (l : LinkLedger) (now : Option Cause) (word : ℕ) (e : RedisError) → now ≡ Some (cause.Event (record { word = word; kind = event.Ended 0 })) → FaultOf l now e → ⊥
+none_ended l now word error.Parse runs b = let k : event.Ended 0 ≡ event.Bytes 0 b.piece = ap kind_of (sym runs ∙ b.runs_is) in cc
+none_ended l now word (error.Io kind) runs b = elim b.1 [
+  | inl r ↦ (let k : event.Ended 0 ≡ event.ReadFault 0 kind = ap kind_of (sym runs ∙ r) in cc)
+  | inr r ↦ (let k : event.Ended 0 ≡ event.WriteFault 0 kind = ap kind_of (sym runs ∙ r) in cc)
+]
+none_ended l now word _ runs b = b
 
-closed_by : (s : Shape) → hit_by fault.Ended s ≡ error.Closed
-closed_by Single = refl
+-- what ends the link is this fault
+abbrev pub EndsBy : Account → LinkFault → Type 0
+EndsBy a fault.Ended = (e : RedisError) → FaultOf a.link a.running e → ⊥
+EndsBy a (fault.Io kind) = FaultOf a.link a.running (error.Io kind)
+EndsBy a fault.Parse = FaultOf a.link a.running error.Parse
 
-parse_by : (s : Shape) → hit_by fault.Parse s ≡ error.Parse
-parse_by Single = refl
+not_single : (s : Submission) (offset count : ℕ) (atomic : Bool) → Pipeline offset count atomic ≡ shape_of s → is_single (shape_of s) ≡ true → ⊥
+not_single s offset count atomic e single = not_both (is_single (shape_of s)) (sym (ap is_single e)) single
+
+-- a single command that is hit by the fault
+single_ready : (a : Account) (n : ℕ) (s : Submission) (hi : ℕ) (f : LinkFault) → AtEnd a hi → EndsBy a f → packed s ≢ [] → is_single (shape_of s) ≡ true → IsFirst a.link.starts a.link.dealt (owner.Try n 0)
+    → Why a.link a.running a.shut n s (outcome.Fault (error_of f))
+single_ready a n s hi fault.Ended at ends some single h = inr (some, inr (cut_unfilled a.link a.running n s hi at.over at.rising (λ k e b. ends e b) (unfilled_first a.link.starts a.link.dealt (owner.Try n 0) h)))
+single_ready a n s hi (fault.Io kind) at ends some single h = inr (hit_first a.link a.running n s (error.Io kind) at.over single ends h)
+single_ready a n s hi fault.Parse at ends some single h = inr (hit_first a.link a.running n s error.Parse at.over single ends h)
+
+-- the first message that takes items, by its shape
+shaped_ready : (a : Account) (n : ℕ) (s : Submission) (hi : ℕ) (f : LinkFault) (shape : Shape) → AtEnd a hi → EndsBy a f → packed s ≢ [] → shape ≡ shape_of s → IsFirst a.link.starts a.link.dealt (owner.Try n 0)
+    → Why a.link a.running a.shut n s (outcome.Fault (hit_by f shape))
+shaped_ready a n s hi f Single at ends some same h = single_ready a n s hi f at ends some (sym (ap is_single same)) h
+shaped_ready a n s hi f (Pipeline offset count atomic) at ends some same h =
+    inr (some, inr (cut_unfilled a.link a.running n s hi at.over at.rising (λ single e b. not_single s offset count atomic same single) (unfilled_first a.link.starts a.link.dealt (owner.Try n 0) h)))
+
+-- a number has one submission
+pub same_submission : (subs : List Submission) (n : ℕ) (what s : Submission) → slice_get subs n ≡ Some what → slice_get subs n ≡ Some s → what ≡ s
+same_submission subs n what s e f = let x = sym e ∙ f in cc
+
+first_ready : (a : Account) (hi : ℕ) (f : LinkFault) → AtEnd a hi → EndsBy a f → FirstReady a (λ e. hit_by f e.shape)
+first_ready a hi f at ends e owned h s i =
+    shaped_ready a e.id s hi f e.shape at ends (λ z. stands_bytes a.subs a.link.starts e.id h.number at.bytes h.place (packed_is a.subs e.id s i ∙ z))
+    (owned.shape_is ∙ ap shape_of (same_submission a.subs e.id owned.what s owned.handed_in i)) h
+
+-- a fault ends the link
+pub fault_holds : (before : List Action) (c : Connection) (fresh : List ℕ) (f : LinkFault) → Holds before c c.waiting fresh [] → is_up c.phase ≡ true → EndedBy (before ++ c.acts) (running (before ++ c.acts))
+    → EndsBy (over (account (before ++ c.acts))) f → Ended before c (ended_by c f) fresh
+fault_holds before c fresh f h up ended ends =
+    let t = before ++ c.acts in
+    let a = account t in
+    let k = h.sound.tied in
+    let not_ended = up_not_ended c.phase up in
+    let at = at_end a c fresh k in
+    close_holds before c (row_hit f c.link.row ++ queue_closed c.link.queue) fresh h not_ended ended
+    (hit_out_ids f c.link.row c.link.queue)
+    (all_ready a c fresh (row_hit f c.link.row) k (hit_rows_ready (over a) (length c.requests) f c.link.row at (k.row not_ended) k.lines.entries (first_ready (over a) (length c.requests) f at ends)))
 
 -- the peer closed the link
 pub peer_holds : (before : List Action) (c : Connection) (fresh : List ℕ) (word : ℕ) → Holds before c c.waiting fresh [] → is_up c.phase ≡ true
     → running (before ++ c.acts) ≡ Some (cause.Event (record { word = word; kind = event.Ended 0 })) → Ended before c (ended_by c fault.Ended) fresh
 peer_holds before c fresh word h up runs =
-    let t = before ++ c.acts in
-    let a = account t in
-    let k = h.sound.tied in
-    let not_ended = up_not_ended c.phase up in
-    let at = at_end a c fresh k in
-    let first : FirstReady (over a) (λ e. hit_by fault.Ended e.shape) = λ e f.
-    subst (λ x. IsReady (over a) e.id (outcome.Fault x)) (sym (closed_by e.shape))
-    (closed_ready (over a) e.id (stands_bytes a.subs a.link.starts e.id f.number at.bytes f.place)
-    (inr (cut_unfilled (over a).link a.running e.id (length c.requests) refl at.rising (unbroken (over a).link a.running word runs) (unfilled_first a.link.starts a.link.dealt (owner.Try e.id 0) f)))) in
-    close_holds before c (row_hit fault.Ended c.link.row ++ queue_closed c.link.queue) fresh h not_ended
-    (subst (EndedBy t) (sym runs) (refl, k.phase.up_is ∙ up))
-    (hit_out_ids fault.Ended a.subs c.requests c.link.row c.link.queue k.lines.queued)
-    (all_ready a c fresh (row_hit fault.Ended c.link.row) k (hit_rows_ready (over a) (length c.requests) fault.Ended c.link.row at (k.row not_ended) first))
+    let a = account (before ++ c.acts) in
+    fault_holds before c fresh fault.Ended h up (subst (EndedBy (before ++ c.acts)) (sym runs) (refl, h.sound.tied.phase.up_is ∙ up)) (λ e b. none_ended (over a).link a.running word e runs b)
+
+-- a read failed
+pub read_fault_holds : (before : List Action) (c : Connection) (fresh : List ℕ) (word : ℕ) (kind : FaultKind) → Holds before c c.waiting fresh [] → is_up c.phase ≡ true
+    → running (before ++ c.acts) ≡ Some (cause.Event (record { word = word; kind = event.ReadFault 0 kind })) → Ended before c (ended_by c (fault.Io kind)) fresh
+read_fault_holds before c fresh word kind h up runs =
+    fault_holds before c fresh (fault.Io kind) h up (subst (EndedBy (before ++ c.acts)) (sym runs) (refl, h.sound.tied.phase.up_is ∙ up)) (word, inl runs)
+
+-- a write failed
+pub write_fault_holds : (before : List Action) (c : Connection) (fresh : List ℕ) (word : ℕ) (kind : FaultKind) → Holds before c c.waiting fresh [] → is_up c.phase ≡ true
+    → running (before ++ c.acts) ≡ Some (cause.Event (record { word = word; kind = event.WriteFault 0 kind })) → Ended before c (ended_by c (fault.Io kind)) fresh
+write_fault_holds before c fresh word kind h up runs =
+    fault_holds before c fresh (fault.Io kind) h up (subst (EndedBy (before ++ c.acts)) (sym runs) (refl, h.sound.tied.phase.up_is ∙ up)) (word, inr runs)
 
 -- bytes that begin no value end the link
 pub broken_holds : (before : List Action) (c : Connection) (fresh : List ℕ) (word : ℕ) (piece : List ℕ) → Holds before c c.waiting fresh [] → is_up c.phase ≡ true
     → running (before ++ c.acts) ≡ Some (cause.Event (record { word = word; kind = event.Bytes 0 piece })) → c.link.broken ≡ true → Ended before c (ended_by c fault.Parse) fresh
 broken_holds before c fresh word piece h up runs broken =
-    let t = before ++ c.acts in
-    let a = account t in
+    let a = account (before ++ c.acts) in
     let k = h.sound.tied in
-    let not_ended = up_not_ended c.phase up in
-    let at = at_end a c fresh k in
     let spoiled : is_spoiled a.link.rest ≡ true = ap is_spoiled k.link.rest ∙ sym k.link.broken ∙ broken in
-    let first : FirstReady (over a) (λ e. hit_by fault.Parse e.shape) = λ e f.
-    subst (λ x. IsReady (over a) e.id (outcome.Fault x)) (sym (parse_by e.shape))
-    (λ s i. hit_first (over a).link a.running e.id refl (record { piece = piece; word = word; runs_is = runs; spoiled = spoiled }) f) in
-    close_holds before c (row_hit fault.Parse c.link.row ++ queue_closed c.link.queue) fresh h not_ended
-    (subst (EndedBy t) (sym runs) (refl, k.phase.up_is ∙ up, spoiled))
-    (hit_out_ids fault.Parse a.subs c.requests c.link.row c.link.queue k.lines.queued)
-    (all_ready a c fresh (row_hit fault.Parse c.link.row) k (hit_rows_ready (over a) (length c.requests) fault.Parse c.link.row at (k.row not_ended) first))
+    fault_holds before c fresh fault.Parse h up (subst (EndedBy (before ++ c.acts)) (sym runs) (refl, k.phase.up_is ∙ up, spoiled)) (record { piece = piece; word = word; runs_is = runs; spoiled = spoiled })
 
 -- everything is shut down
 pub shut_holds : (before : List Action) (c : Connection) (fresh : List ℕ) (word : ℕ) → Holds before c c.waiting fresh [] → is_ended c.phase ≡ false
@@ -123,8 +166,8 @@ shut_holds before c fresh word h not_ended runs down =
     let a = account t in
     let k = h.sound.tied in
     let at = at_end a c fresh k in
-    let first : FirstReady (over a) (λ e. error.Closed) = λ e f. closed_ready (over a) e.id (stands_bytes a.subs a.link.starts e.id f.number at.bytes f.place) (inl down) in
+    let first : FirstReady (over a) (λ e. error.Closed) = λ e owned f. closed_ready (over a) e.id (stands_bytes a.subs a.link.starts e.id f.number at.bytes f.place) (λ s i. inl down) in
     close_holds before c (row_closed c.link.row ++ queue_closed c.link.queue) fresh h not_ended
     (subst (EndedBy t) (sym runs) tt)
-    (closed_out_ids a.subs c.requests c.link.row c.link.queue k.lines.queued)
-    (all_ready a c fresh (row_closed c.link.row) k (closed_rows_ready (over a) (length c.requests) c.link.row at (k.row not_ended) first))
+    (closed_out_ids c.link.row c.link.queue)
+    (all_ready a c fresh (row_closed c.link.row) k (closed_rows_ready (over a) (length c.requests) c.link.row at (k.row not_ended) k.lines.entries first))

@@ -21,12 +21,12 @@ use Rattle.trace_model.specs.Submissions.{submissions, bytes_of}
 use Rattle.trace_model.specs.Turns.{running}
 use Rattle.trace_model.specs.Legal.{joined, AllBelow, MayWrite, MayWait}
 use Rattle.session_laws.proofs.Account.{Account, account, entered}
-use Rattle.session_laws.proofs.Tests.{chosen, by_test, eq_from, ne_from, ne_test}
+use Rattle.session_laws.proofs.Tests.{chosen, by_test, eq_from, ne_from, ne_test, both_left, both_right, not_both}
 use Rattle.session_laws.proofs.Dealt.{wanted}
 use Rattle.session_laws.proofs.Numbers.{IsIn, in_right, owners, rising_apart, all_below}
-use Rattle.session_laws.proofs.Tied.{Inner, TiedLink, TiedStory, IsPacked, Tied, Sound, sound_more, Holds, holds_more, seen, queue_ids, waiting_ids}
-use Rattle.session_laws.proofs.Answers.{open_in_trace, open_within}
-use Rattle.session_laws.proofs.Causes.{packed_is}
+use Rattle.session_laws.proofs.Tied.{Inner, TiedLink, TiedStory, IsPacked, Tied, Sound, sound_more, Holds, holds_more, seen, queue_ids, awaited_ids, waiting_ids}
+use Rattle.session_laws.proofs.Answers.{open_in_trace, open_within, tied_told_same}
+use Rattle.session_laws.proofs.Causes.{packed_is, handed_bytes}
 use Rattle.session_laws.proofs.Settling.{running_more}
 use Rattle.session_laws.proofs.Faults.{dialing_not_ended, dialing_not_up}
 use Rattle.session_laws.proofs.Advance.{waiting_open}
@@ -41,15 +41,6 @@ offers_none o bs e = ap (λ n. take n bs) e ∙ none bs
     none : (bs : List ℕ) → take 0 bs ≡ []
     none [] = refl
     none (b ∷ bs) = refl
-
--- what a test of two tells
-pub both_left : (a b : Bool) → (a && b) ≡ true → a ≡ true
-both_left true b e = refl
-both_left false b e = cc
-
-pub both_right : (a b : Bool) → (a && b) ≡ true → b ≡ true
-both_right true b e = e
-both_right false b e = cc
 
 can_some : (bs : List ℕ) (o : ℕ) → (not (length bs == 0) && (o == 0)) ≡ true → (bs ≢ []) × (o ≡ 0)
 can_some bs o e = (
@@ -85,6 +76,7 @@ offer_tied a p h = record {
   count = h.count;
   story = h.story;
   lines = h.lines;
+  told = h.told;
   waits = h.waits;
   idle = h.idle;
   ended = h.ended;
@@ -166,7 +158,7 @@ wait_action n = action.Wait (owner.Try n 0) wait.Connect
 
 packed_at : (subs : List Submission) (ws : List Waiting) (n : ℕ) → AllByRecursion (IsPacked subs) ws → IsIn n (waiting_ids ws) → bytes_of subs (owner.Try n 0) ≢ []
 packed_at subs [] n all i = absurd i
-packed_at subs (w ∷ ws) n all (inl e) = λ z. all.0.some (all.0.packs ∙ ap (λ m. bytes_of subs (owner.Try m 0)) e ∙ z)
+packed_at subs (w ∷ ws) n all (inl e) = λ z. all.0.some (handed_bytes subs w.number w.packed w.shape w.awaited all.0 ∙ ap (λ m. bytes_of subs (owner.Try m 0)) e ∙ z)
 packed_at subs (w ∷ ws) n all (inr i) = packed_at subs ws n all.1 i
 
 same_head : (n m : ℕ) → n ∷ [] ≡ m ∷ [] → n ≡ m
@@ -176,7 +168,7 @@ same_head n m e = cc
 pub waits_there : (a : Account) (p : Inner) (n : ℕ) → Tied a (record p { pending = [] }) → is_dialing p.phase ≡ true → is_waiting_at p.requests n ≡ true → IsIn n (waiting_ids p.waiting)
 waits_there a p n h d w =
     let idle = h.idle (dialing_not_up p.phase d) in
-    let none : wanted p.link.row ++ queue_ids p.link.queue ≡ [] = λ k. wanted (idle.1 k) ++ queue_ids (idle.0 k) in
+    let none : wanted p.link.row ++ awaited_ids p.link.queue ≡ [] = λ k. wanted (idle.1 k) ++ awaited_ids (idle.0 k) in
     elim (h.lines.there n (waiting_open p.requests n w)) [ inl i ↦ absurd (subst (IsIn n) none i) | inr v ↦ v.1 ]
 
 story_waits : (s : Story) (starts : List Start) (subs : List Submission) (down : Bool) (requests : List Progress) (n m : ℕ) → n < length subs → TiedStory s starts subs down requests m → TiedStory (told s m (wait_action n)) starts subs down requests m
@@ -191,6 +183,9 @@ story_waits s starts subs down requests n m l h =
       untold = λ k. absurd (let same = eq_from m n t in omega arith);
     })
     (λ f. h)
+
+wait_outcomes : (s : Story) (n m : ℕ) → (told s m (wait_action n)).outcomes ≡ s.outcomes
+wait_outcomes s n m = chosen (λ (x : Story). x.outcomes ≡ s.outcomes) (m == n) _ s (λ t. refl) (λ f. refl)
 
 shown_then : (s : Story) (n m : ℕ) → (n ∷ [] ≡ m ∷ []) ⊎ (s.waiting ≡ Some wait.Connect) → (told s m (wait_action n)).waiting ≡ Some wait.Connect
 shown_then s n m h =
@@ -208,6 +203,7 @@ wait_tied a p n w h =
       count = h.count;
       story = λ m. story_waits (a.story m) a.link.starts a.subs a.shut p.requests n m l (h.story m);
       lines = h.lines;
+      told = λ x. tied_told_same (λ m. (a.story m).outcomes) (λ m. (told (a.story m) m (wait_action n)).outcomes) a.link.starts a.subs p.link.queue (λ m. sym (wait_outcomes (a.story m) n m)) (h.told x);
       waits = record { new = tt; shown = λ m v d. inr (shown_then (a.story m) n m (h.waits.shown m v d)) };
       idle = h.idle;
       ended = h.ended;
@@ -238,6 +234,7 @@ unshown_tied a p n none h = record {
   count = h.count;
   story = h.story;
   lines = h.lines;
+  told = h.told;
   waits = record { new = tt; shown = λ m v d. elim (h.waits.shown m v d) [ inl e ↦ absurd (none (ap (is_waiting_at p.requests) (same_head n m e) ∙ v) d) | inr e ↦ inr e ] };
   idle = h.idle;
   ended = h.ended;
@@ -252,9 +249,6 @@ pub record HasWaited (before : List Action) (c d : Connection) : Type 0 where
   pub waiting_is : d.waiting ≡ c.waiting
   pub fresh_is : d.fresh ≡ c.fresh
   pub runs : running (before ++ d.acts) ≡ running (before ++ c.acts)
-
-not_both : (b : Bool) → b ≡ false → b ≡ true → ⊥
-not_both b f t = let no : ◌≡◌ {A = Bool} true false = sym t ∙ f in cc
 
 one_waits : (before : List Action) (c : Connection) (n : ℕ) → Holds before c c.waiting (n ∷ []) [] → HasWaited before c (waits_shown c n)
 one_waits before c n h =

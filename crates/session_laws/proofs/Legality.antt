@@ -1,5 +1,5 @@
 -- Every replay is legal.
-use Rattle.std.proofs.Common.{◌≡◌, inl, ℕ, ◌+◌, ◌≤◌, ◌==◌, nat_lt, ◌&&◌, ◌||◌, not, Bool, true, false, List, [], ◌∷◌, ◌++◌, length, drop, Option, None, refl, sym, ap, ◌∙◌, subst, append_assoc, arith}
+use Rattle.std.proofs.Common.{◌≡◌, inl, ℕ, ◌+◌, ◌≤◌, ◌==◌, nat_lt, ◌&&◌, ◌||◌, not, Bool, true, false, List, [], ◌∷◌, ◌++◌, length, drop, None, refl, sym, ap, ◌∙◌, subst, append_assoc, arith}
 use Rattle.std.proofs.lemmas.List.{append-nil, take-append-drop, length_push}
 use Rattle.resp_read.proofs.ValueLaws.{values-empty}
 use Rattle.driver_model.specs.declared.action.Action.{Action}
@@ -10,28 +10,28 @@ use Rattle.driver_model.specs.declared.config.Config.{Config}
 use Rattle.driver_model.specs.declared.event.Event.{Event}
 use Rattle.driver_model.specs.declared.event.EventKind.{EventKind}
 use Rattle.driver_model.specs.declared.event.EventKind.TheVariants as event
-use Rattle.driver_model.specs.declared.event.Submission.TheVariants as submission
+use Rattle.link_core.specs.declared.errors.LinkFault.TheVariants as fault
 use Rattle.shared_session.specs.declared.connection.Connection.{Connection}
 use Rattle.shared_session.specs.declared.core_state.Core.{Core}
-use Rattle.shared_session.specs.Steps.{is_ended, passes, flushed, connected, wrote, read, peer_closed}
+use Rattle.shared_session.specs.Steps.{is_ended, passes, flushed, connected, wrote, read, faulted_by}
 use Rattle.shared_session.specs.Turn.{applied, is_bad, quiet, turn}
 use Rattle.shared_session.specs.Replay.{opening, actions_of, turns_on, trace_of, AreGoodOn, AreGood}
 use Rattle.trace_model.specs.LinkLedger.{link_ledger, blank_ledger, stream}
 use Rattle.trace_model.specs.Story.{story, blank_story}
-use Rattle.trace_model.specs.Order.{AreInOrder, OutcomesAscend}
+use Rattle.trace_model.specs.Order.{AreInOrder}
 use Rattle.trace_model.specs.Turns.{causes}
 use Rattle.trace_model.specs.Legal.{IsPrefix, sent, AllStand, IsSettled, MayConnect, event_causes, Legal}
 use Rattle.session_laws.proofs.Account.{Account, account, begun, account-append, causes-append}
 use Rattle.session_laws.proofs.Tests.{not_lt_from}
 use Rattle.session_laws.proofs.Tied.{Tied, seen}
 use Rattle.session_laws.proofs.Settled.{HasApplied, AtRest, settled_at, turn_rests}
-use Rattle.session_laws.proofs.Events.{IsReadyFor, announced, zero_from, peer_applied, shut_applied, wrote_applied, connected_applied}
+use Rattle.session_laws.proofs.Events.{IsReadyFor, announced, zero_from, peer_applied, read_fault_applied, write_fault_applied, shut_applied, wrote_applied, connected_applied}
 use Rattle.session_laws.proofs.Bytes.{bytes_applied}
 use Rattle.session_laws.proofs.Cancels.{cancel_applied}
 use Rattle.session_laws.proofs.Submits.{submit_applied}
 use Rattle.session_laws.proofs.Announced.{rest_same}
 use Rattle.session_laws.proofs.Ordered.{turn_ordered, orders-append}
-use Rattle.session_laws.proofs.Ascending.{turn_ascends, ascends-append}
+use Rattle.session_laws.proofs.Ascending.{turns_ascend, opening_calm}
 
 or_left : (a b : Bool) → (a || b) ≡ false → a ≡ false
 or_left true b e = cc
@@ -48,14 +48,16 @@ few_from false offered n e f = not_lt_from offered n e
 -- the event's own effect
 applied_holds : (b : List Action) (c : Connection) (k word : ℕ) (kind : EventKind) → IsReadyFor b c k → is_bad c kind ≡ false → HasApplied b (applied (announced c k word kind) kind)
 unfolding is_bad
-applied_holds b c k word (event.Submit (submission.Cmd args)) h good = submit_applied b c k word args h
+applied_holds b c k word (event.Submit what) h good = submit_applied b c k word what h
 applied_holds b c k word (event.Cancel n) h good = cancel_applied b c k word n h
 applied_holds b c k word (event.Connected l) h good = subst (λ m. HasApplied b (connected (announced c k word (event.Connected m)))) (sym (zero_from l good)) (connected_applied b c k word h)
 applied_holds b c k word (event.Wrote l n) h good =
     let z = zero_from l (or_left _ _ good) in
     subst (λ m. HasApplied b (wrote (announced c k word (event.Wrote m n)) n)) (sym z) (wrote_applied b c k word n (few_from (is_ended c.phase) c.link.outbox.offered n (or_right (not (l == 0)) _ good)) h)
 applied_holds b c k word (event.Bytes l piece) h good = subst (λ m. HasApplied b (read (announced c k word (event.Bytes m piece)) piece)) (sym (zero_from l good)) (bytes_applied b c k word piece h)
-applied_holds b c k word (event.Ended l) h good = subst (λ m. HasApplied b (peer_closed (announced c k word (event.Ended m)))) (sym (zero_from l good)) (peer_applied b c k word h)
+applied_holds b c k word (event.Ended l) h good = subst (λ m. HasApplied b (faulted_by (announced c k word (event.Ended m)) fault.Ended)) (sym (zero_from l good)) (peer_applied b c k word h)
+applied_holds b c k word (event.ReadFault l kind) h good = subst (λ m. HasApplied b (faulted_by (announced c k word (event.ReadFault m kind)) (fault.Io kind))) (sym (zero_from l good)) (read_fault_applied b c k word kind h)
+applied_holds b c k word (event.WriteFault l kind) h good = subst (λ m. HasApplied b (faulted_by (announced c k word (event.WriteFault m kind)) (fault.Io kind))) (sym (zero_from l good)) (write_fault_applied b c k word kind h)
 applied_holds b c k word event.Shutdown h good = shut_applied b c k word h
 
 -- one turn
@@ -119,17 +121,6 @@ turns_in_order : (c : Core) (es : List Event) → c.connection.acts ≡ [] → (
 turns_in_order c [] none = λ step. tt
 turns_in_order c (e ∷ es) none = λ step. orders-append step (actions_of c e) (turns_on (quiet (turn c e)) es) (turn_in_order c e none step) (turns_in_order (quiet (turn c e)) es refl)
 
--- and its outcomes that of their submissions
-turn_outcomes : (b : List Action) (c : Core) (e : Event) → IsReadyFor b c.connection c.turns → (last : Option ℕ) → OutcomesAscend last (actions_of c e)
-unfolding turn
-turn_outcomes b c e h = turn_ascends b c.connection c.turns e.word e.kind h
-
-turns_outcomes : (b : List Action) (c : Core) (es : List Event) → IsReadyFor b c.connection c.turns → AreGoodOn c es → (last : Option ℕ) → OutcomesAscend last (turns_on c es)
-turns_outcomes b c [] h good = λ last. tt
-turns_outcomes b c (e ∷ es) h good = λ last.
-    ascends-append last (actions_of c e) (turns_on (quiet (turn c e)) es) (turn_outcomes b c e h last)
-    (turns_outcomes (b ++ actions_of c e) (quiet (turn c e)) es (turn_holds b c e h good.0).ready good.1)
-
 -- the opening
 blank_account : Account
 blank_account = record { link = blank_ledger; subs = []; story = λ n. blank_story; running = None; shut = false; turns = 0; created = 0 }
@@ -170,7 +161,8 @@ blank_tied config word = record {
   row = λ e. refl;
   count = refl;
   story = λ n. record { count = refl; submission = refl; shut = refl; open_is = refl; once = λ b. refl; untold = λ l. (refl, refl, refl) };
-  lines = record { line = omega arith; queued = tt; packs = tt; apart = λ n i j. i; there = λ n e. cc };
+  lines = record { line = omega arith; queued = tt; entries = tt; packs = tt; apart = λ n i j. i; there = λ n e. cc };
+  told = λ e. record { queued = tt; placed = λ n s i u v. cc };
   waits = record { new = tt; shown = λ n w d. cc };
   idle = λ e. (refl, refl);
   ended = λ e. refl;
@@ -192,7 +184,7 @@ opening_ready config word =
       tied = tied;
       unbroken = λ e. refl;
       shut_ends = λ e. cc;
-      peer = λ w e. refl;
+      faulty = λ w kind e f. refl;
       all = λ u. (refl, refl);
       offered = λ u. inl refl;
     } in
@@ -212,4 +204,4 @@ pub legal : (config : Config) (word : ℕ) (events : List Event) → AreGood con
 unfolding trace_of AreGood opened asked
 legal config word events good =
     let r = run_holds (opening config word).connection.acts (quiet (opening config word)) events (cause.Opening config word ∷ []) (opening_ready config word) refl good in
-    record { opens = (turns_on (quiet (opening config word)) events, refl); turns = r.turns; steps = (tt, (omega arith, turns_in_order (quiet (opening config word)) events refl 1)); outcomes = (tt, (tt, turns_outcomes (opening config word).connection.acts (quiet (opening config word)) events (opening_ready config word) good None)); in_order = r.in_order; each = r.each; settled = r.settled }
+    record { opens = (turns_on (quiet (opening config word)) events, refl); turns = r.turns; steps = (tt, (omega arith, turns_in_order (quiet (opening config word)) events refl 1)); outcomes = (tt, (tt, turns_ascend (quiet (opening config word)) events refl (opening_calm config word) None)); in_order = r.in_order; each = r.each; settled = r.settled }

@@ -1,11 +1,13 @@
 -- What holds at the end of a turn.
 use Rattle.std.proofs.Common.{◌≡◌, ◌≢◌, ◌⊎◌, inl, inr, ℕ, zero, suc, ◌<◌, ◌≤◌, Bool, true, false, if◌then◌else◌, List, [], ◌∷◌, ◌++◌, length, take, Some, refl, sym, ap, ◌∙◌, subst, arith}
 use Rattle.std.specs.List.{AllByRecursion}
+use Rattle.resp_value.specs.declared.fault_kind.FaultKind.{FaultKind}
 use Rattle.resp_read.specs.Values.{is_spoiled}
 use Rattle.driver_model.specs.declared.action.Action.{Action}
 use Rattle.driver_model.specs.declared.action.Cause.TheVariants as cause
 use Rattle.driver_model.specs.declared.action.Owner.TheVariants as owner
 use Rattle.driver_model.specs.declared.action.WaitKind.TheVariants as wait
+use Rattle.driver_model.specs.declared.event.EventKind.{EventKind}
 use Rattle.driver_model.specs.declared.event.EventKind.TheVariants as event
 use Rattle.link_core.specs.declared.message.Entry.{Entry}
 use Rattle.link_core.specs.declared.message.Queued.{Queued}
@@ -19,13 +21,13 @@ use Rattle.shared_session.specs.Steps.{is_dialing, is_up, is_ended, passes, writ
 use Rattle.trace_model.specs.LinkLedger.{LinkLedger, link_ledger}
 use Rattle.trace_model.specs.Submissions.{submissions}
 use Rattle.trace_model.specs.Turns.{running}
-use Rattle.trace_model.specs.Legal.{IsOffered, IsOpen, Goes, IsSettled}
+use Rattle.trace_model.specs.Legal.{StartedAs, IsFailedBy, IsToldAtPlace, IsOffered, IsOpen, Goes, IsSettled}
 use Rattle.session_laws.proofs.Account.{account}
 use Rattle.session_laws.proofs.Tests.{by_test}
 use Rattle.session_laws.proofs.Rows.{open_of, open_list, open_rows, OwnedLater, IsUnfilled, rows_stand, unfilled_first, unfilled_later}
 use Rattle.session_laws.proofs.Dealt.{wanted}
 use Rattle.session_laws.proofs.Numbers.{IsIn, in_either}
-use Rattle.session_laws.proofs.Tied.{Inner, Tied, Holds, seen, queue_ids, waiting_ids}
+use Rattle.session_laws.proofs.Tied.{Inner, Tied, Holds, seen, queue_ids, awaited_ids, waiting_ids}
 use Rattle.session_laws.proofs.Causes.{stands_started}
 use Rattle.session_laws.proofs.Faults.{up_not_ended, dialing_not_ended, dialing_not_up}
 use Rattle.session_laws.proofs.Advance.{passes_holds}
@@ -55,12 +57,19 @@ row_unfilled l n (e ∷ es) is i =
       | inr j ↦ later_unfilled l n es h.1 j
     ]
 
+-- a fault of the link, or its peer's end
+abbrev pub IsFault : EventKind → Type 0
+IsFault (event.Ended l) = Unit {0}
+IsFault (event.ReadFault l kind) = Unit {0}
+IsFault (event.WriteFault l kind) = Unit {0}
+IsFault _ = ⊥
+
 -- how the event's own effect leaves a connection
 pub record HasApplied (before : List Action) (d : Connection) : Type 0 where
   pub holds : Holds before d d.waiting d.fresh []
   pub unbroken : is_ended d.phase ≡ false → d.link.broken ≡ false
   pub shut_ends : d.shut ≡ true → is_ended d.phase ≡ true
-  pub peer : (word : ℕ) → running (before ++ d.acts) ≡ Some (cause.Event (record { word = word; kind = event.Ended 0 })) → is_up d.phase ≡ false
+  pub faulty : (word : ℕ) (kind : EventKind) → running (before ++ d.acts) ≡ Some (cause.Event (record { word = word; kind = kind })) → IsFault kind → is_up d.phase ≡ false
 
 -- how a turn leaves a connection
 pub record Rests (before : List Action) (d : Connection) : Type 0 where
@@ -75,7 +84,7 @@ pub record AtRest (t : List Action) (p : Inner) : Type 0 where
   pub tied : Tied (account t) (record p { fresh = []; pending = [] })
   pub unbroken : is_ended p.phase ≡ false → p.link.broken ≡ false
   pub shut_ends : p.shut ≡ true → is_ended p.phase ≡ true
-  pub peer : (word : ℕ) → running t ≡ Some (cause.Event (record { word = word; kind = event.Ended 0 })) → is_up p.phase ≡ false
+  pub faulty : (word : ℕ) (kind : EventKind) → running t ≡ Some (cause.Event (record { word = word; kind = kind })) → IsFault kind → is_up p.phase ≡ false
   pub all : is_up p.phase ≡ true → (p.link.queue ≡ []) × (p.waiting ≡ [])
   pub offered : is_up p.phase ≡ true → (p.link.outbox.unwritten ≡ []) ⊎ (0 < p.link.outbox.offered)
 
@@ -91,9 +100,6 @@ offered_at t p h up =
       | inl e ↦ inl (unwritten_is (link_ledger 0 t) (submissions t) p.link k ∙ e)
       | inr l ↦ inr (λ e. offer_some p.link.outbox.offered p.link.outbox.unwritten l k.bound (sym k.offer ∙ e))
     ]
-
-not_both : (b : Bool) → b ≡ false → b ≡ true → ⊥
-not_both b f t = let no : ◌≡◌ {A = Bool} true false = sym t ∙ f in cc
 
 none_fresh : (n : ℕ) → [] ≡ n ∷ [] → ⊥
 none_fresh n e = cc
@@ -116,11 +122,11 @@ started_goes t p n h i =
     (λ f. absurd (subst (λ (row : List Entry). IsIn n (wanted row)) (h.tied.idle f).1 i))
 
 -- none is left in the queue
-queued_goes : (t : List Action) (p : Inner) (n : ℕ) → AtRest t p → IsIn n (queue_ids p.link.queue) → Goes t n
+queued_goes : (t : List Action) (p : Inner) (n : ℕ) → AtRest t p → IsIn n (awaited_ids p.link.queue) → Goes t n
 queued_goes t p n h i =
     by_test (is_up p.phase) _
-    (λ up. absurd (subst (λ (q : List Queued). IsIn n (queue_ids q)) (h.all up).0 i))
-    (λ f. absurd (subst (λ (q : List Queued). IsIn n (queue_ids q)) (h.tied.idle f).0 i))
+    (λ up. absurd (subst (λ (q : List Queued). IsIn n (awaited_ids q)) (h.all up).0 i))
+    (λ f. absurd (subst (λ (q : List Queued). IsIn n (awaited_ids q)) (h.tied.idle f).0 i))
 
 -- one that waits
 waiting_goes : (t : List Action) (p : Inner) (n : ℕ) → AtRest t p → is_waiting_at p.requests n ≡ true → IsIn n (waiting_ids p.waiting) → Goes t n
@@ -136,9 +142,22 @@ waiting_goes t p n h w i =
 open_goes : (t : List Action) (p : Inner) (n : ℕ) → AtRest t p → IsOpen t n → Goes t n
 open_goes t p n h o =
     elim (h.tied.lines.there n ((h.tied.story n).open_is ∙ o.open_still)) [
-      | inl i ↦ elim (in_either n (wanted p.link.row) (queue_ids p.link.queue) i) [ inl j ↦ started_goes t p n h j | inr j ↦ queued_goes t p n h j ]
+      | inl i ↦ elim (in_either n (wanted p.link.row) (awaited_ids p.link.queue) i) [ inl j ↦ started_goes t p n h j | inr j ↦ queued_goes t p n h j ]
       | inr v ↦ waiting_goes t p n h v.0 v.1
     ]
+
+-- one that was answered at its place has started
+told_starts : (t : List Action) (p : Inner) (n : ℕ) → AtRest t p → is_up p.phase ≡ true → IsToldAtPlace t n → (k : ℕ) × StartedAs (link_ledger 0 t) n k
+told_starts t p n h up o =
+    let k = h.tied.told (up_not_ended p.phase up) in
+    elim (k.placed n o.submission (sym (h.tied.story n).submission ∙ o.handed_in) o.unawaited o.told) [
+      | inl st ↦ (st.0, stands_started (link_ledger 0 t) n st.0 st.1)
+      | inr i ↦ absurd (subst (λ (q : List Queued). IsIn n (queue_ids q)) (h.all up).0 i)
+    ]
+
+-- a fault has ended the link
+fault_downs : (t : List Action) (p : Inner) (kind : FaultKind) → AtRest t p → IsFailedBy t kind → is_up p.phase ≡ false
+fault_downs t p kind h f = elim f.1 [ inl r ↦ h.faulty f.0 (event.ReadFault 0 kind) r tt | inr r ↦ h.faulty f.0 (event.WriteFault 0 kind) r tt ]
 
 pub settled_at : (t : List Action) (p : Inner) → AtRest t p → IsSettled t
 settled_at t p h =
@@ -146,9 +165,11 @@ settled_at t p h =
     let up_of : (link_ledger 0 t).up ≡ true → is_up p.phase ≡ true = λ u. sym k.phase.up_is ∙ u in
     record {
       goes = λ n o. open_goes t p n h o;
+      told = λ n o u. told_starts t p n h (up_of u) o;
       offered = λ u. offered_at t p h (up_of u);
       whole = λ u. ap is_spoiled k.link.rest ∙ sym k.link.broken ∙ h.unbroken (up_not_ended p.phase (up_of u));
-      peer = λ word e. k.phase.up_is ∙ h.peer word e;
+      peer = λ word e. k.phase.up_is ∙ h.faulty word (event.Ended 0) e tt;
+      failed = λ kind f. k.phase.up_is ∙ fault_downs t p kind h f;
       created = λ u. k.phase.created_is (up_of u);
       shut = λ s. k.phase.over_is ∙ h.shut_ends (sym k.phase.down_is ∙ s);
     }
@@ -174,7 +195,7 @@ turn_rests before c h =
       tied = held.sound.tied;
       unbroken = unbroken;
       shut_ends = shut_ends;
-      peer = λ word x. up_is ∙ h.peer word (sym (g.runs ∙ b.runs ∙ a.runs) ∙ x);
+      faulty = λ word kind x f. up_is ∙ h.faulty word kind (sym (g.runs ∙ b.runs ∙ a.runs) ∙ x) f;
       all = λ u. let x = a.all (sym up_is ∙ u) in (ap (λ (y : LinkState). y.queue) g.link_is ∙ b.queue_is ∙ x.0, g.waiting_is ∙ b.waiting_is ∙ x.1);
       offered = λ u. elim (b.offered (ap is_up a.phase_is ∙ sym up_is ∙ u)) [
         | inl x ↦ inl (ap (λ (y : LinkState). y.outbox.unwritten) g.link_is ∙ x)

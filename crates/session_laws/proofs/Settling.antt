@@ -4,19 +4,20 @@ use Rattle.driver_model.specs.declared.action.Action.{Action}
 use Rattle.driver_model.specs.declared.action.Action.TheVariants as action
 use Rattle.driver_model.specs.declared.event.Submission.{Submission}
 use Rattle.driver_model.specs.declared.outcome.Outcome.{Outcome}
+use Rattle.driver_model.specs.Shape.{outcome_of}
 use Rattle.link_core.specs.declared.message.Settled.{Settled}
 use Rattle.shared_session.specs.declared.connection.Connection.{Connection}
 use Rattle.shared_session.specs.declared.connection.Progress.TheVariants as progress
 use Rattle.shared_session.specs.declared.connection.Waiting.{Waiting}
 use Rattle.shared_session.specs.Requests.{is_open_at}
-use Rattle.shared_session.specs.Steps.{acts, answered, outcome_of, settled_each, closed, closed_each}
+use Rattle.shared_session.specs.Steps.{acts, answered, settled_each, closed, closed_each}
 use Rattle.trace_model.specs.Turns.{running}
 use Rattle.session_laws.proofs.Account.{Account, account, entered, account-append}
 use Rattle.session_laws.proofs.Tests.{chosen}
 use Rattle.session_laws.proofs.Dealt.{settled_ids}
 use Rattle.session_laws.proofs.Tied.{Holds, holds_more, seen, waiting_ids}
 use Rattle.session_laws.proofs.Answers.{answer_sound, skip_sound}
-use Rattle.session_laws.proofs.Causes.{Why, why_caused}
+use Rattle.session_laws.proofs.Causes.{Why, why_caused, why_not_told}
 
 -- an action that is no turn leaves what runs
 pub running_more : (before acts : List Action) (a : Action) → (entered (account (before ++ acts)) a).running ≡ running (before ++ acts) → running (before ++ (acts ++ a ∷ [])) ≡ running (before ++ acts)
@@ -95,10 +96,11 @@ answered_holds : (before : List Action) (c : Connection) (n : ℕ) (o : Outcome)
     → Holds before (answered c n o) waiting fresh pending
 answered_holds before c n o waiting fresh pending ready h = chosen (λ (d : Connection). Holds before d waiting fresh pending) (is_open_at c.requests n) _ c
     (λ t.
+    let a = account (before ++ c.acts) in
     let p = seen c waiting fresh pending in
     record {
       sound = holds_more before c.acts (action.Outcome n o) (record p { requests = slice_set c.requests n progress.Answered })
-          (answer_sound (before ++ c.acts) p n pending o t (λ s e. why_caused (before ++ c.acts) n s o (ready s e)) h.sound);
+          (answer_sound (before ++ c.acts) p n pending o t (λ s e. why_caused (before ++ c.acts) n s o (ready s e)) (λ s e. why_not_told a.link a.running a.shut n s o (ready s e)) h.sound);
     })
     (λ f. record { sound = skip_sound (before ++ c.acts) (seen c waiting fresh pending) n pending f h.sound })
 

@@ -1,5 +1,5 @@
 -- Messages start.
-use Rattle.std.proofs.Common.{◌≡◌, inl, inr, ℕ, ◌<◌, ◌==◌, nat_lt, nat_le, ◌&&◌, Bool, true, false, if◌then◌else◌, List, [], ◌∷◌, ◌++◌, length, None, refl, sym, ap, ◌∙◌, subst, append_assoc, arith, length-append}
+use Rattle.std.proofs.Common.{◌≡◌, inl, inr, ℕ, ◌<◌, ◌==◌, nat_lt, nat_le, ◌&&◌, Bool, true, false, if◌then◌else◌, List, [], ◌∷◌, ◌++◌, length, Some, None, refl, sym, ap, ◌∙◌, subst, append_assoc, arith, length-append}
 use Rattle.std.specs.List.{AllByRecursion}
 use Rattle.std.proofs.lemmas.List.{append-nil, take-append-le, length_push}
 use Rattle.std.proofs.lemmas.List.Concat.{flat_map-cons}
@@ -8,10 +8,9 @@ use Rattle.driver_model.specs.declared.action.Action.{Action}
 use Rattle.driver_model.specs.declared.action.Action.TheVariants as action
 use Rattle.driver_model.specs.declared.action.Owner.TheVariants as owner
 use Rattle.driver_model.specs.declared.event.Submission.{Submission}
-use Rattle.driver_model.specs.declared.event.Submission.TheVariants as submission
 use Rattle.driver_model.specs.declared.outcome.Shape.{Shape}
-use Rattle.driver_model.specs.declared.outcome.Shape.TheVariants.{Single}
-use Rattle.driver_model.specs.Shape.{need}
+use Rattle.driver_model.specs.declared.outcome.Shape.TheVariants.{Single, Pipeline}
+use Rattle.driver_model.specs.Shape.{need, one_at_least}
 use Rattle.link_core.specs.declared.message.Entry.{Entry}
 use Rattle.link_core.specs.declared.message.Queued.{Queued}
 use Rattle.link_core.specs.declared.message.Started.{Started}
@@ -21,40 +20,40 @@ use Rattle.shared_session.specs.declared.connection.Progress.{Progress}
 use Rattle.shared_session.specs.declared.connection.Waiting.{Waiting}
 use Rattle.shared_session.specs.Steps.{acts, is_up, shown_each, started}
 use Rattle.trace_model.specs.LinkLedger.{LinkLedger, Start, link_ledger}
-use Rattle.trace_model.specs.Cut.{shape_of}
 use Rattle.trace_model.specs.Story.{Story, story, told}
-use Rattle.trace_model.specs.Submissions.{submissions, packed, bytes_of}
+use Rattle.trace_model.specs.Submissions.{bytes_of}
 use Rattle.trace_model.specs.Turns.{running}
-use Rattle.trace_model.specs.Legal.{joined, AllBelow, MayStart}
+use Rattle.trace_model.specs.Legal.{joined, AllBelow, IsAsked, MayStart}
 use Rattle.session_laws.proofs.Account.{Account, account, entered}
-use Rattle.session_laws.proofs.Tests.{chosen, if_false, eq_from}
+use Rattle.session_laws.proofs.Tests.{chosen, by_test, if_false, eq_from, ne_from}
 use Rattle.session_laws.proofs.Rows.{open_of, open_list-append, open_rows-start, needs-append, IsNeedy}
-use Rattle.session_laws.proofs.Dealt.{wanted}
-use Rattle.session_laws.proofs.Numbers.{IsIn, Rising, owners, owners-append, rising_apart, all_below, below_start}
-use Rattle.session_laws.proofs.Tied.{Inner, TiedLink, TiedStory, HasBytes, IsQueued, IsNew, TiedLines, Tied, Sound, sound_more, Holds, seen, queue_ids, waiting_ids}
-use Rattle.session_laws.proofs.Answers.{open_in_trace}
-use Rattle.session_laws.proofs.Causes.{packed_is}
+use Rattle.session_laws.proofs.Dealt.{wanted, IsEntry}
+use Rattle.session_laws.proofs.Numbers.{IsIn, Rising, owners, owners-append, rising_apart, all_below, below_start, get_before, get_last, get_within}
+use Rattle.session_laws.proofs.Tied.{Inner, TiedLink, TiedStory, HasBytes, IsQueued, IsNew, TiedLines, HasStart, TiedTold, Tied, Sound, sound_more, Holds, seen, queue_ids, awaited_ids, waiting_ids}
+use Rattle.session_laws.proofs.Answers.{told_same}
+use Rattle.session_laws.proofs.Causes.{handed_bytes}
 use Rattle.session_laws.proofs.Settling.{running_more}
-use Rattle.session_laws.proofs.Faults.{up_not_dialing}
+use Rattle.session_laws.proofs.Faults.{up_not_ended, up_not_dialing}
 
 pub all_push : {X : Type 0} (P : X → Type 0) (xs : List X) (x : X) → AllByRecursion P xs → P x → AllByRecursion P (xs ++ x ∷ [])
 all_push P [] x all p = (p, tt)
 all_push P (y ∷ xs) x all p = (all.0, all_push P xs x all.1 p)
 
+one_some : (count : ℕ) → 0 < one_at_least count
+one_some count = chosen (λ n. 0 < n) (count == 0) 1 count (λ t. omega arith) (λ f. let n = ne_from count 0 f in omega arith)
+
 need_some : (s : Shape) → 0 < need s
 need_some Single = omega arith
-
-need_is : (s : Shape) (what : Submission) → need s ≡ need (shape_of what)
-need_is Single (submission.Cmd args) = refl
+need_some (Pipeline offset count atomic) = omega (arith, one_some count)
 
 pub joined-append : (subs : List Submission) (starts : List Start) (s : Start) → joined subs (starts ++ s ∷ []) ≡ joined subs starts ++ bytes_of subs s.owner
 joined-append subs starts s =
     let f : Start → List ℕ = λ x. bytes_of subs x.owner in
     flat_map-append f starts (s ∷ []) ∙ ap (λ bs. joined subs starts ++ bs) (flat_map-cons f s [] ∙ append-nil (f s))
 
-wanted-append : (row : List Entry) (e : Entry) → e.awaited ≡ true → wanted (row ++ e ∷ []) ≡ wanted row ++ e.id ∷ []
-wanted-append [] e a = ap (λ b. (if b then e.id ∷ [] else []) ++ []) a
-wanted-append (x ∷ row) e a = ap (λ ns. (if x.awaited then x.id ∷ [] else []) ++ ns) (wanted-append row e a) ∙ sym (append_assoc (if x.awaited then x.id ∷ [] else []) (wanted row) (e.id ∷ []))
+wanted-append : (row : List Entry) (e : Entry) → wanted (row ++ e ∷ []) ≡ wanted row ++ (if e.awaited then e.id ∷ [] else [])
+wanted-append [] e = append-nil (if e.awaited then e.id ∷ [] else [])
+wanted-append (x ∷ row) e = ap (λ ns. (if x.awaited then x.id ∷ [] else []) ++ ns) (wanted-append row e) ∙ sym (append_assoc (if x.awaited then x.id ∷ [] else []) (wanted row) (if e.awaited then e.id ∷ [] else []))
 
 abbrev start_from : Queued → Start
 start_from q = record { owner = owner.Try q.id 0; need = need q.shape; len = length q.packed }
@@ -64,15 +63,15 @@ start_action k q = action.Start 0 k (owner.Try q.id 0) (need q.shape) (length q.
 
 link_started : (l : LinkLedger) (subs : List Submission) (requests : List Progress) (s : LinkState) (q : Queued) (qs : List Queued) (out : List Started) → IsQueued subs requests q → TiedLink l subs (record s { queue = q ∷ qs })
     → TiedLink (record l { starts = l.starts ++ start_from q ∷ [] }) subs (record (started_one (record { link = s; out = out }) q).link { queue = qs })
-link_started l subs requests s q qs out iq h = record {
-  sent = sym (append_assoc l.taken s.outbox.unwritten q.packed) ∙ (λ i. h.sent i ++ iq.packs i) ∙ sym (joined-append subs l.starts (start_from q));
+link_started l subs requests s q qs out iq h = let packs = handed_bytes subs q.id q.packed q.shape q.awaited iq.asked in record {
+  sent = sym (append_assoc l.taken s.outbox.unwritten q.packed) ∙ (λ i. h.sent i ++ packs i) ∙ sym (joined-append subs l.starts (start_from q));
   offer = h.offer ∙ sym (take-append-le s.outbox.offered s.outbox.unwritten q.packed h.bound);
   bound = omega (arith, h.bound, length-append s.outbox.unwritten q.packed);
   rest = h.rest;
   broken = h.broken;
   started = omega (arith, h.started, length_push l.starts (start_from q));
   needy = all_push IsNeedy l.starts (start_from q) h.needy (need_some q.shape);
-  bytes = all_push (HasBytes subs) l.starts (start_from q) h.bytes (λ e. iq.some (iq.packs ∙ e));
+  bytes = all_push (HasBytes subs) l.starts (start_from q) h.bytes (λ e. iq.asked.some (packs ∙ e));
   within = omega (arith, h.within, needs-append l.starts (start_from q));
   size = h.size;
   boundary = h.boundary;
@@ -107,15 +106,36 @@ started_new story k q [] h = tt
 started_new story k q (n ∷ []) h = started_none (story n) n k q h
 started_new story k q (n ∷ m ∷ ms) h = h
 
+started_outcomes : (s : Story) (n k : ℕ) (q : Queued) → (told s n (start_action k q)).outcomes ≡ s.outcomes
+started_outcomes s n k q = chosen (λ (x : Story). x.outcomes ≡ s.outcomes) (n == q.id) _ s (λ t. refl) (λ f. refl)
+
+-- who started stays started
+start_stays : (starts : List Start) (s : Start) (n : ℕ) → HasStart starts n → HasStart (starts ++ s ∷ []) n
+start_stays starts s n h = (h.0, record { start = h.1.start; stands = get_before starts (s ∷ []) h.0 (get_within starts h.0 h.1.start h.1.stands) ∙ h.1.stands; owned = h.1.owned })
+
+told_started : (story : ℕ → Story) (starts : List Start) (subs : List Submission) (k : ℕ) (q : Queued) (qs : List Queued) → TiedTold (λ n. (story n).outcomes) starts subs (q ∷ qs)
+    → TiedTold (λ n. (told (story n) n (start_action k q)).outcomes) (starts ++ start_from q ∷ []) subs qs
+told_started story starts subs k q qs h = record {
+  queued = told_same (λ n. (story n).outcomes) (λ n. (told (story n) n (start_action k q)).outcomes) qs (λ n. sym (started_outcomes (story n) n k q)) h.queued.1;
+  placed = λ n s i u e. elim (h.placed n s i u (sym (started_outcomes (story n) n k q) ∙ e)) [
+    | inl st ↦ inl (start_stays starts (start_from q) n st)
+    | inr j ↦ elim j [
+      | inl same ↦ inl (length starts, record { start = start_from q; stands = get_last starts (start_from q); owned = ap (λ m. owner.Try m 0) same })
+      | inr v ↦ inr v
+    ]
+  ];
+}
+
 lines_started : (starts : List Start) (subs : List Submission) (q : Queued) (qs : List Queued) (row : List Entry) (requests : List Progress) (waiting : List Waiting) (pending : List ℕ)
     → TiedLines starts subs (q ∷ qs) row requests waiting pending → TiedLines (starts ++ start_from q ∷ []) subs qs (row ++ entry_of q ∷ []) requests waiting pending
 lines_started starts subs q qs row requests waiting pending h = record {
   line = subst (λ ns. Rising 0 ns (length requests)) (sym (append_assoc (owners starts) (q.id ∷ []) (queue_ids qs ++ waiting_ids waiting)) ∙ ap (λ ns. ns ++ (queue_ids qs ++ waiting_ids waiting)) (sym (owners-append starts (start_from q)))) h.line;
   queued = h.queued.1;
+  entries = all_push (IsEntry subs) row (entry_of q) h.entries (let o = h.queued.0.asked in record { what = o.what; handed_in = o.handed_in; shape_is = o.shape_is; awaited_is = λ t. sym o.awaited_is ∙ t });
   packs = h.packs;
   apart = λ n i j. h.apart n i (inr j);
   there = λ n e. elim (h.there n e) [
-    | inl i ↦ inl (subst (λ ns. IsIn n (pending ++ ns)) (sym (append_assoc (wanted row) (q.id ∷ []) (queue_ids qs)) ∙ ap (λ ns. ns ++ queue_ids qs) (sym (wanted-append row (entry_of q) h.queued.0.awaited))) i)
+    | inl i ↦ inl (subst (λ ns. IsIn n (pending ++ ns)) (sym (append_assoc (wanted row) (if q.awaited then q.id ∷ [] else []) (awaited_ids qs)) ∙ ap (λ ns. ns ++ awaited_ids qs) (sym (wanted-append row (entry_of q)))) i)
     | inr w ↦ inr w
   ];
 }
@@ -129,6 +149,7 @@ start_tied a p q qs out up h = record {
   count = h.count;
   story = λ n. story_started (a.story n) a.link.starts a.subs a.shut p.requests n p.link.started q (h.story n);
   lines = lines_started a.link.starts a.subs q qs p.link.row p.requests p.waiting p.pending h.lines;
+  told = λ e. told_started a.story a.link.starts a.subs p.link.started q qs (h.told e);
   waits = record { new = started_new a.story p.link.started q p.fresh h.waits.new; shown = λ n w d. absurd (let f = up_not_dialing p.phase up in let no : ◌≡◌ {A = Bool} true false = sym d ∙ f in cc) };
   idle = λ f. absurd (let no : ◌≡◌ {A = Bool} true false = sym up ∙ f in cc);
   ended = h.ended;
@@ -140,20 +161,26 @@ pub start_sound : (t : List Action) (p : Inner) (q : Queued) (qs : List Queued) 
 start_sound t p q qs out up h =
     let k = h.tied in
     let iq = k.lines.queued.0 in
-    let open_there = open_in_trace t _ q.id k iq.open_at in
-    let what = open_there.0.submission in
-    let bytes : q.packed ≡ packed what = iq.packs ∙ packed_is (submissions t) q.id what open_there.1 in
+    let what = iq.asked.what in
+    let handed_in : (story q.id t).submission ≡ Some what = (k.story q.id).submission ∙ iq.asked.handed_in in
+    let asked : IsAsked t q.id = record {
+      submission = what;
+      handed_in = handed_in;
+      wanted = by_test q.awaited _
+          (λ y. inl (sym iq.asked.awaited_is ∙ y, sym (k.story q.id).open_is ∙ iq.open_at y))
+          (λ f. inr (record { submission = what; handed_in = handed_in; unawaited = sym iq.asked.awaited_is ∙ f; told = (k.told (up_not_ended p.phase up)).queued.0 f }));
+    } in
     let starts = (link_ledger 0 t).starts in
     let below : AllBelow q.id starts = all_below q.id starts (λ m i. rising_apart 0 (owners starts) _ (length p.requests) m q.id k.lines.line i (inl refl)) in
     let may : MayStart t p.link.started q.id (need q.shape) (length q.packed) = record {
-      asked = open_there.0;
+      asked = asked;
       up = k.phase.up_is ∙ up;
       once = (k.story q.id).once below;
       next = k.link.started;
       in_order = below;
-      needs_its_items = need_is q.shape what;
-      has_bytes = λ e. iq.some (bytes ∙ e);
-      long_as_its_bytes = ap length bytes;
+      needs_its_items = ap need iq.asked.shape_is;
+      has_bytes = λ e. iq.asked.some (iq.asked.packs ∙ e);
+      long_as_its_bytes = ap length iq.asked.packs;
     } in
     sound_more t (start_action p.link.started q) _ h.stands (refl, refl, may) (start_tied (account t) p q qs out up k)
 

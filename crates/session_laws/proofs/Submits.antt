@@ -3,8 +3,9 @@ use Rattle.std.proofs.Common.{◌≡◌, ◌≢◌, inl, inr, ℕ, zero, suc, �
 use Rattle.std.specs.List.{AllByRecursion}
 use Rattle.std.proofs.lemmas.List.{length_push}
 use Rattle.std.proofs.lemmas.List.Concat.{flat_map-cons}
+use Rattle.resp_value.specs.declared.redis_error.RedisError.{RedisError}
 use Rattle.resp_value.specs.declared.redis_error.RedisError.TheVariants as error
-use Rattle.resp_write.specs.Pack.{pack}
+use Rattle.resp_value.specs.declared.value.Value.TheVariants.{Nil}
 use Rattle.driver_model.specs.declared.action.Action.{Action}
 use Rattle.driver_model.specs.declared.action.Action.TheVariants as action
 use Rattle.driver_model.specs.declared.action.Cause.TheVariants as cause
@@ -12,9 +13,10 @@ use Rattle.driver_model.specs.declared.action.Owner.{Owner}
 use Rattle.driver_model.specs.declared.action.Owner.TheVariants as owner
 use Rattle.driver_model.specs.declared.event.EventKind.TheVariants as event
 use Rattle.driver_model.specs.declared.event.Submission.{Submission}
-use Rattle.driver_model.specs.declared.event.Submission.TheVariants as submission
 use Rattle.driver_model.specs.declared.outcome.Outcome.{Outcome}
 use Rattle.driver_model.specs.declared.outcome.Outcome.TheVariants as outcome
+use Rattle.driver_model.specs.declared.outcome.Shape.{Shape}
+use Rattle.driver_model.specs.Request.{packed}
 use Rattle.link_core.specs.declared.message.Entry.{Entry}
 use Rattle.link_core.specs.declared.message.Queued.{Queued}
 use Rattle.link_core.specs.Link.{LinkState}
@@ -24,23 +26,24 @@ use Rattle.shared_session.specs.declared.connection.Progress.TheVariants as prog
 use Rattle.shared_session.specs.declared.connection.Waiting.{Waiting}
 use Rattle.shared_session.specs.Requests.{is_open_at, is_waiting_at, if_there}
 use Rattle.shared_session.specs.Requests.{is_open as is_open_progress, is_waiting}
-use Rattle.shared_session.specs.Steps.{acts, at_progress, is_ended, answered, closed, submitted}
+use Rattle.shared_session.specs.Steps.{acts, at_progress, is_ended, answered, closed, waiting_of, submitted}
 use Rattle.trace_model.specs.LinkLedger.{LinkLedger, Start}
 use Rattle.trace_model.specs.Story.{Story, story, told_event, is_open}
-use Rattle.trace_model.specs.Submissions.{submissions, packed, packed_if, bytes_of}
+use Rattle.trace_model.specs.Submissions.{submissions, packed_if, bytes_of}
 use Rattle.trace_model.specs.Turns.{running}
 use Rattle.trace_model.specs.Legal.{joined, CausedBy}
 use Rattle.session_laws.proofs.Account.{Account, account, begun}
-use Rattle.session_laws.proofs.Tests.{chosen, by_test, if_true, eq_from, ne_from}
-use Rattle.session_laws.proofs.Numbers.{IsIn, in_left, in_right, Rising, rising_next, rising_in, rising_left, rising_right, owners, number_of, get_before, get_last}
-use Rattle.session_laws.proofs.Tied.{Inner, TiedLink, TiedStory, HasBytes, IsQueued, IsPacked, TiedLines, TiedWaits, Tied, Sound, Holds, holds_more, seen, queue_ids, waiting_ids}
-use Rattle.session_laws.proofs.Answers.{open_within, answer_sound, waiting_set_same}
+use Rattle.session_laws.proofs.Tests.{chosen, by_test, if_true, eq_from, ne_from, not_both}
+use Rattle.session_laws.proofs.Numbers.{IsIn, in_left, in_right, Rising, rising_next, rising_in, rising_left, rising_right, owners, number_of, get_before, get_last, get_within}
+use Rattle.session_laws.proofs.Dealt.{AreEntries}
+use Rattle.session_laws.proofs.Tied.{Inner, TiedLink, TiedStory, HasBytes, IsHandedIn, IsQueued, IsPacked, TiedLines, nil_only, TiedTold, TiedWaits, Tied, Sound, Holds, holds_more, seen, queue_ids, waiting_ids}
+use Rattle.session_laws.proofs.Answers.{open_within, answer_sound, waiting_set_same, told_same}
 use Rattle.session_laws.proofs.Causes.{CutOff, cut_unstarted, cut_off_is}
 use Rattle.session_laws.proofs.Settling.{running_more}
 use Rattle.session_laws.proofs.Starts.{all_push}
 use Rattle.session_laws.proofs.Flush.{unshown_tied}
 use Rattle.session_laws.proofs.Settled.{HasApplied}
-use Rattle.session_laws.proofs.Events.{IsReadyFor, announced, announced_sound, announced_account, announced_runs, one_runs, not_both, fresh_holds}
+use Rattle.session_laws.proofs.Events.{IsReadyFor, announced, announced_sound, announced_account, announced_runs, no_fault, fresh_holds}
 
 -- earlier submissions keep their bytes
 bytes_stay : (subs : List Submission) (what : Submission) (who : Owner) → number_of who < length subs → bytes_of (subs ++ what ∷ []) who ≡ bytes_of subs who
@@ -150,24 +153,56 @@ waits_submitted a p what h =
           elim (h.waits.shown m (sym (waiting_other p.requests m other) ∙ w) d) [ inl e ↦ absurd (no_fresh_one m e) | inr e ↦ inr (told_waiting (a.story m) m what ∙ e) ]);
     }
 
--- those in the queue and those that wait keep their bytes
-queue_submitted : (subs : List Submission) (what : Submission) (requests : List Progress) (queue : List Queued) → length requests ≡ length subs → AllByRecursion (IsQueued subs requests) queue → AllByRecursion (IsQueued (subs ++ what ∷ []) (requests ++ progress.Waiting ∷ [])) queue
-queue_submitted subs what requests [] count all = tt
-queue_submitted subs what requests (q ∷ qs) count all =
-    let l = open_within requests q.id all.0.open_at in (
-      record {
-        awaited = all.0.awaited;
-        open_at = open_other requests q.id (λ e. absurd (omega arith)) ∙ all.0.open_at;
-        packs = all.0.packs ∙ sym (bytes_stay subs what (owner.Try q.id 0) (omega arith));
-        some = all.0.some;
-      },
-      queue_submitted subs what requests qs count all.1,
-    )
+-- what was handed in before stays
+handed_stays : (subs : List Submission) (what : Submission) (n : ℕ) (bytes : List ℕ) (shape : Shape) (awaited : Bool) → IsHandedIn subs n bytes shape awaited → IsHandedIn (subs ++ what ∷ []) n bytes shape awaited
+handed_stays subs what n bytes shape awaited h = record {
+  what = h.what;
+  handed_in = get_before subs (what ∷ []) n (get_within subs n h.what h.handed_in) ∙ h.handed_in;
+  packs = h.packs;
+  shape_is = h.shape_is;
+  awaited_is = h.awaited_is;
+  some = h.some;
+}
 
-packs_submitted : (subs : List Submission) (what : Submission) (ws : List Waiting) → ((n : ℕ) → IsIn n (waiting_ids ws) → n < length subs) → AllByRecursion (IsPacked subs) ws → AllByRecursion (IsPacked (subs ++ what ∷ [])) ws
-packs_submitted subs what [] h all = tt
-packs_submitted subs what (w ∷ ws) h all =
-    (record { packs = all.0.packs ∙ sym (bytes_stay subs what (owner.Try w.number 0) (h w.number (inl refl))); some = all.0.some }, packs_submitted subs what ws (λ n i. h n (inr i)) all.1)
+queue_submitted : (subs : List Submission) (what : Submission) (requests : List Progress) (queue : List Queued) → AllByRecursion (IsQueued subs requests) queue → AllByRecursion (IsQueued (subs ++ what ∷ []) (requests ++ progress.Waiting ∷ [])) queue
+queue_submitted subs what requests [] all = tt
+queue_submitted subs what requests (q ∷ qs) all = (
+  record {
+    asked = handed_stays subs what q.id q.packed q.shape q.awaited all.0.asked;
+    open_at = λ t. let l = open_within requests q.id (all.0.open_at t) in open_other requests q.id (λ e. absurd (omega arith)) ∙ all.0.open_at t;
+  },
+  queue_submitted subs what requests qs all.1,
+)
+
+packs_submitted : (subs : List Submission) (what : Submission) (ws : List Waiting) → AllByRecursion (IsPacked subs) ws → AllByRecursion (IsPacked (subs ++ what ∷ [])) ws
+packs_submitted subs what [] all = tt
+packs_submitted subs what (w ∷ ws) all = (handed_stays subs what w.number w.packed w.shape w.awaited all.0, packs_submitted subs what ws all.1)
+
+entries_submitted : (subs : List Submission) (what : Submission) (row : List Entry) → AreEntries subs row → AreEntries (subs ++ what ∷ []) row
+entries_submitted subs what [] all = tt
+entries_submitted subs what (e ∷ es) all = (
+  record {
+    what = all.0.what;
+    handed_in = get_before subs (what ∷ []) e.id (get_within subs e.id all.0.what all.0.handed_in) ∙ all.0.handed_in;
+    shape_is = all.0.shape_is;
+    awaited_is = all.0.awaited_is;
+  },
+  entries_submitted subs what es all.1,
+)
+
+submitted_outcomes : (s : Story) (n : ℕ) (what : Submission) → (told_event s n (event.Submit what)).outcomes ≡ s.outcomes
+submitted_outcomes s n what = chosen (λ (x : Story). x.outcomes ≡ s.outcomes) (s.count == n) _ _ (λ t. refl) (λ f. refl)
+
+-- a new submission was not told anything
+told_submitted : (story : ℕ → Story) (starts : List Start) (subs : List Submission) (what : Submission) (queue : List Queued) → (story (length subs)).outcomes ≡ [] → TiedTold (λ n. (story n).outcomes) starts subs queue
+    → TiedTold (λ n. (told_event (story n) n (event.Submit what)).outcomes) starts (subs ++ what ∷ []) queue
+told_submitted story starts subs what queue none h = record {
+  queued = told_same (λ n. (story n).outcomes) (λ n. (told_event (story n) n (event.Submit what)).outcomes) queue (λ n. sym (submitted_outcomes (story n) n what)) h.queued;
+  placed = λ n s i u v.
+      let own = sym (submitted_outcomes (story n) n what) ∙ v in
+      let other : n ≢ length subs = λ same. (let no : [] ≡ nil_only = sym none ∙ ap (λ k. (story k).outcomes) (sym same) ∙ own in cc) in
+      h.placed n s (sym (get_other subs what n other) ∙ i) u own;
+}
 
 waiting_ids-append : (ws : List Waiting) (w : Waiting) → waiting_ids (ws ++ w ∷ []) ≡ waiting_ids ws ++ w.number ∷ []
 waiting_ids-append [] w = refl
@@ -188,8 +223,9 @@ lines_pending starts subs what queue row requests waiting count h =
     let queue_line = rising_right 0 (owners starts) (queue_ids queue ++ waiting_ids waiting) n h.line in
     record {
       line = subst (Rising 0 (owners starts ++ (queue_ids queue ++ waiting_ids waiting))) (sym (length_push requests progress.Waiting)) (rising_wider 0 (owners starts ++ (queue_ids queue ++ waiting_ids waiting)) n h.line);
-      queued = queue_submitted subs what requests queue count h.queued;
-      packs = packs_submitted subs what waiting (λ m i. let k = rising_in 0 (waiting_ids waiting) n m (rising_right 0 (queue_ids queue) (waiting_ids waiting) n queue_line) i in omega (arith, k.1)) h.packs;
+      queued = queue_submitted subs what requests queue h.queued;
+      entries = entries_submitted subs what row h.entries;
+      packs = packs_submitted subs what waiting h.packs;
       apart = λ m i j. elim i [ inl same ↦ absurd (let k = rising_in 0 (queue_ids queue) n m (rising_left 0 (queue_ids queue) (waiting_ids waiting) n queue_line) j in omega (arith, k.1)) | inr k ↦ k ];
       there = λ m e. by_test (n == m) _
           (λ t. inl (inl (eq_from n m t)))
@@ -200,10 +236,10 @@ lines_pending starts subs what queue row requests waiting count h =
 
 -- or it waits for its place
 lines_waiting : (starts : List Start) (subs : List Submission) (what : Submission) (queue : List Queued) (row : List Entry) (requests : List Progress) (waiting : List Waiting) → length requests ≡ length subs → packed what ≢ []
-    → TiedLines starts subs queue row requests waiting [] → TiedLines starts (subs ++ what ∷ []) queue row (requests ++ progress.Waiting ∷ []) (waiting ++ record { number = length requests; packed = packed what } ∷ []) []
+    → TiedLines starts subs queue row requests waiting [] → TiedLines starts (subs ++ what ∷ []) queue row (requests ++ progress.Waiting ∷ []) (waiting ++ waiting_of (length requests) what ∷ []) []
 lines_waiting starts subs what queue row requests waiting count some h =
     let n = length requests in
-    let w : Waiting = record { number = n; packed = packed what } in
+    let w = waiting_of n what in
     let p = lines_pending starts subs what queue row requests waiting count h in
     let ids = waiting_ids-append waiting w in
     let long : (owners starts ++ (queue_ids queue ++ waiting_ids waiting)) ++ n ∷ [] ≡ owners starts ++ (queue_ids queue ++ waiting_ids (waiting ++ w ∷ [])) =
@@ -212,7 +248,8 @@ lines_waiting starts subs what queue row requests waiting count some h =
       line = subst (Rising 0 (owners starts ++ (queue_ids queue ++ waiting_ids (waiting ++ w ∷ [])))) (sym (length_push requests progress.Waiting))
           (subst (λ ns. Rising 0 ns (n + 1)) long (rising_next 0 (owners starts ++ (queue_ids queue ++ waiting_ids waiting)) n h.line));
       queued = p.queued;
-      packs = all_push (IsPacked (subs ++ what ∷ [])) waiting w p.packs (record { packs = sym (ap packed_if (get_end subs what n count)); some = some });
+      entries = p.entries;
+      packs = all_push (IsPacked (subs ++ what ∷ [])) waiting w p.packs (record { what = what; handed_in = get_end subs what n count; packs = refl; shape_is = refl; awaited_is = refl; some = some });
       apart = λ m i j. i;
       there = λ m e. by_test (n == m) _
           (λ t.
@@ -236,6 +273,7 @@ submit_tied a p word what waiting pending h none lines =
       count = length_push p.requests progress.Waiting ∙ ap (λ n. n + 1) h.count ∙ sym (length_push a.subs what);
       story = λ n. story_submitted (a.story n) a.link.starts a.subs a.shut p.requests what n h.count (h.story n);
       lines = lines;
+      told = λ x. told_submitted a.story a.link.starts a.subs what p.link.queue ((h.story (length a.subs)).untold (omega arith)).0 (h.told x);
       waits = waits_submitted a p what h;
       idle = h.idle;
       ended = none;
@@ -245,21 +283,23 @@ submit_tied a p word what waiting pending h none lines =
 what_is : (subs : List Submission) (what s : Submission) (n : ℕ) → n ≡ length subs → slice_get (subs ++ what ∷ []) n ≡ Some s → what ≡ s
 what_is subs what s n e is = let x = sym (get_end subs what n e) ∙ is in cc
 
-pack_some : (args : List (List ℕ)) → (length args == 0) ≡ false → pack args ≢ []
-pack_some [] f e = cc
-pack_some (name ∷ rest) f e = cc
+some_bytes : (bytes : List ℕ) → (length bytes == 0) ≡ false → bytes ≢ []
+some_bytes bytes f e = ne_from (length bytes) 0 f (ap length e)
 
-pack_none : (args : List (List ℕ)) → (length args == 0) ≡ true → pack args ≡ []
-pack_none [] t = refl
-pack_none (name ∷ rest) t = absurd (let z = eq_from (length (name ∷ rest)) 0 t in omega arith)
+no_bytes : (bytes : List ℕ) → (length bytes == 0) ≡ true → bytes ≡ []
+no_bytes [] t = refl
+no_bytes (x ∷ bytes) t = absurd (let z = eq_from (length (x ∷ bytes)) 0 t in omega arith)
+
+fault_tells_none : (e : RedisError) → outcome.Fault e ≡ outcome.One Nil → ⊥
+fault_tells_none e same = cc
 
 -- one that is answered in its own turn
-answered_applied : (b : List Action) (c : Connection) (k word : ℕ) (args : List (List ℕ)) (o : Outcome) → IsReadyFor b c k
-    → (let t = b ++ (announced c k word (event.Submit (submission.Cmd args))).acts in (s : Submission) → slice_get (submissions t) (length c.requests) ≡ Some s → CausedBy t (length c.requests) (story (length c.requests) t) s o)
-    → HasApplied b (answered (record (announced c k word (event.Submit (submission.Cmd args))) { requests = c.requests ++ progress.Waiting ∷ [] }) (length c.requests) o)
-answered_applied b c k word args o h why =
-    let what = submission.Cmd args in
+answered_applied : (b : List Action) (c : Connection) (k word : ℕ) (what : Submission) (e : RedisError) → IsReadyFor b c k
+    → (let t = b ++ (announced c k word (event.Submit what)).acts in (s : Submission) → slice_get (submissions t) (length c.requests) ≡ Some s → CausedBy t (length c.requests) (story (length c.requests) t) s (outcome.Fault e))
+    → HasApplied b (answered (record (announced c k word (event.Submit what)) { requests = c.requests ++ progress.Waiting ∷ [] }) (length c.requests) (outcome.Fault e))
+answered_applied b c k word what error h why =
     let n = length c.requests in
+    let o : Outcome = outcome.Fault error in
     let d = record (announced c k word (event.Submit what)) { requests = c.requests ++ progress.Waiting ∷ [] } in
     let a = account b in
     let p = seen c c.waiting [] [] in
@@ -267,7 +307,7 @@ answered_applied b c k word args o h why =
     let lines = lines_pending a.link.starts a.subs what c.link.queue c.link.row c.requests c.waiting h.tied.count h.tied.lines in
     let first : Sound (b ++ d.acts) (record q { pending = n ∷ [] }) = announced_sound b c k word (event.Submit what) _ h (submit_tied a p word what c.waiting (n ∷ []) h.tied h.tied.ended lines) in
     let is_there = open_end c.requests n refl in
-    let answer = answer_sound (b ++ d.acts) q n [] o is_there why first in
+    let answer = answer_sound (b ++ d.acts) q n [] o is_there why (λ s i u same. fault_tells_none error same) first in
     let e = acts (record (at_progress d n progress.Answered) { done = d.done ++ record { submission = n; outcome = o } ∷ [] }) (action.Outcome n o) in
     let gone : is_waiting_at (slice_set d.requests n progress.Answered) n ≡ false = waiting_set_same d.requests n progress.Answered (open_within d.requests n is_there) in
     let last : Sound (b ++ d.acts ++ action.Outcome n o ∷ []) (seen e c.waiting [] []) = record {
@@ -279,22 +319,21 @@ answered_applied b c k word args o h why =
       holds = fresh_holds b e h.no_fresh (record { sound = holds_more b d.acts (action.Outcome n o) _ last });
       unbroken = h.unbroken;
       shut_ends = h.shut_ends;
-      peer = λ w r. absurd (let x : event.Submit what ≡ event.Ended 0 = one_runs (b ++ d.acts) word w (event.Submit what) (event.Ended 0) (announced_runs b c k word (event.Submit what) h.no_acts) (sym again ∙ r) in cc);
+      faulty = λ w kind r f. absurd (no_fault (b ++ d.acts) word (event.Submit what) (announced_runs b c k word (event.Submit what) h.no_acts) (λ x. x) w kind (sym again ∙ r) f);
     })
 
 -- one that waits
-waiting_applied : (b : List Action) (c : Connection) (k word : ℕ) (args : List (List ℕ)) → IsReadyFor b c k → (length args == 0) ≡ false → is_ended c.phase ≡ false
-    → (let d = record (announced c k word (event.Submit (submission.Cmd args))) { requests = c.requests ++ progress.Waiting ∷ [] } in
-    HasApplied b (record d { waiting = d.waiting ++ record { number = length c.requests; packed = pack args } ∷ []; fresh = d.fresh ++ length c.requests ∷ [] }))
-waiting_applied b c k word args h some up =
-    let what = submission.Cmd args in
+waiting_applied : (b : List Action) (c : Connection) (k word : ℕ) (what : Submission) → IsReadyFor b c k → packed what ≢ [] → is_ended c.phase ≡ false
+    → (let d = record (announced c k word (event.Submit what)) { requests = c.requests ++ progress.Waiting ∷ [] } in
+    HasApplied b (record d { waiting = d.waiting ++ waiting_of (length c.requests) what ∷ []; fresh = d.fresh ++ length c.requests ∷ [] }))
+waiting_applied b c k word what h some up =
     let n = length c.requests in
-    let w : Waiting = record { number = n; packed = pack args } in
+    let w = waiting_of n what in
     let d = record (announced c k word (event.Submit what)) { requests = c.requests ++ progress.Waiting ∷ [] } in
     let e = record d { waiting = d.waiting ++ w ∷ []; fresh = d.fresh ++ n ∷ [] } in
     let a = account b in
     let p = seen c c.waiting [] [] in
-    let lines = lines_waiting a.link.starts a.subs what c.link.queue c.link.row c.requests c.waiting h.tied.count (pack_some args some) h.tied.lines in
+    let lines = lines_waiting a.link.starts a.subs what c.link.queue c.link.row c.requests c.waiting h.tied.count some h.tied.lines in
     let first : Sound (b ++ d.acts) (record p { requests = d.requests; waiting = c.waiting ++ w ∷ []; fresh = n ∷ [] }) =
     announced_sound b c k word (event.Submit what) _ h (submit_tied a p word what (c.waiting ++ w ∷ []) [] h.tied (λ t. absurd (not_both (is_ended c.phase) up t)) lines) in
     let fresh : e.fresh ≡ n ∷ [] = ap (λ ns. ns ++ n ∷ []) h.no_fresh in
@@ -302,12 +341,11 @@ waiting_applied b c k word args h some up =
       holds = subst (λ ns. Holds b e e.waiting ns []) (sym fresh) (record { sound = first });
       unbroken = h.unbroken;
       shut_ends = h.shut_ends;
-      peer = λ v r. absurd (let x : event.Submit what ≡ event.Ended 0 = one_runs (b ++ d.acts) word v (event.Submit what) (event.Ended 0) (announced_runs b c k word (event.Submit what) h.no_acts) r in cc);
+      faulty = λ v kind r f. absurd (no_fault (b ++ d.acts) word (event.Submit what) (announced_runs b c k word (event.Submit what) h.no_acts) (λ x. x) v kind r f);
     }
 
-pub submit_applied : (b : List Action) (c : Connection) (k word : ℕ) (args : List (List ℕ)) → IsReadyFor b c k → HasApplied b (submitted (announced c k word (event.Submit (submission.Cmd args))) args)
-submit_applied b c k word args h =
-    let what = submission.Cmd args in
+pub submit_applied : (b : List Action) (c : Connection) (k word : ℕ) (what : Submission) → IsReadyFor b c k → HasApplied b (submitted (announced c k word (event.Submit what)) what)
+submit_applied b c k word what h =
     let n = length c.requests in
     let f = announced c k word (event.Submit what) in
     let d = record f { requests = c.requests ++ progress.Waiting ∷ [] } in
@@ -319,13 +357,13 @@ submit_applied b c k word args h =
     let late_is : (story n t).late ≡ c.shut = ap (λ (x : Account). (x.story n).late) same ∙ told_late (a.story n) n what (told.count ∙ sym count) ∙ told.shut ∙ h.tied.phase.down_is in
     let own : (s : Submission) → slice_get (submissions t) n ≡ Some s → what ≡ s = λ s e. what_is a.subs what s n count (ap (λ (x : Account). slice_get x.subs n) (sym same) ∙ e) in
     chosen (HasApplied b) c.shut (answered d n closed) _
-    (λ down. answered_applied b c k word args closed h (λ s e. inl (late_is ∙ down)))
-    (λ open_still. chosen (HasApplied b) (length args == 0) (answered d n (outcome.Fault error.EmptyCommand)) _
-    (λ none. answered_applied b c k word args (outcome.Fault error.EmptyCommand) h (λ s e. (ap packed (sym (own s e)) ∙ pack_none args none, late_is ∙ open_still)))
+    (λ down. answered_applied b c k word what error.Closed h (λ s e. inl (late_is ∙ down)))
+    (λ open_still. chosen (HasApplied b) (length (packed what) == 0) (answered d n (outcome.Fault error.EmptyCommand)) _
+    (λ none. answered_applied b c k word what error.EmptyCommand h (λ s e. (ap packed (sym (own s e)) ∙ no_bytes (packed what) none, late_is ∙ open_still)))
     (λ some. chosen (HasApplied b) (is_ended c.phase) (answered d n closed) _
     (λ over.
     let below : IsIn n (owners a.link.starts) → ⊥ = λ i. absurd (let r = rising_in 0 (owners a.link.starts) n n (rising_left 0 (owners a.link.starts) _ n h.tied.lines.line) i in omega (arith, r.1)) in
-    let cut : CutOff (begun a (cause.Event (record { word = word; kind = event.Submit what }))).link (begun a (cause.Event (record { word = word; kind = event.Submit what }))).running n =
-    cut_unstarted a.link _ n (h.tied.phase.over_is ∙ over) below in
-    answered_applied b c k word args closed h (λ s e. inr ((λ z. pack_some args some (ap packed (own s e) ∙ z)), inr (cut_off_is t n (subst (λ (x : Account). CutOff x.link x.running n) (sym same) cut)))))
-    (λ up. waiting_applied b c k word args h some up)))
+    let cut : (s : Submission) → CutOff (begun a (cause.Event (record { word = word; kind = event.Submit what }))).link (begun a (cause.Event (record { word = word; kind = event.Submit what }))).running n s =
+    λ s. cut_unstarted a.link _ n s (h.tied.phase.over_is ∙ over) below in
+    answered_applied b c k word what error.Closed h (λ s e. inr ((λ z. some_bytes (packed what) some (ap packed (own s e) ∙ z)), inr (cut_off_is t n s (subst (λ (x : Account). CutOff x.link x.running n s) (sym same) (cut s))))))
+    (λ up. waiting_applied b c k word what h (some_bytes (packed what) some) up)))

@@ -1,5 +1,5 @@
 -- What tests on numbers mean, and choices by a test.
-use Rattle.std.proofs.Common.{◌≡◌, ◌≢◌, ℕ, ◌<◌, ◌≤◌, ◌==◌, nat_lt, nat_le, Bool, true, false, if◌then◌else◌, refl, arith}
+use Rattle.std.proofs.Common.{◌≡◌, ◌≢◌, sym, ◌∙◌, ℕ, ◌<◌, ◌≤◌, ◌==◌, nat_lt, nat_le, ◌&&◌, Bool, true, false, if◌then◌else◌, refl, arith}
 use Rattle.std.proofs.lemmas.Bool.Decides.{nat_tests}
 
 pub by_test : (b : Bool) (P : Type 0) → (b ≡ true → P) → (b ≡ false → P) → P
@@ -48,3 +48,15 @@ eq_test a = grind (arith, nat_tests)
 
 pub ne_test : (a b : ℕ) → a ≢ b → (a == b) ≡ false
 ne_test a b n = grind (arith, nat_tests)
+
+-- what a test of two tells
+pub both_left : (a b : Bool) → (a && b) ≡ true → a ≡ true
+both_left true b e = refl
+both_left false b e = cc
+
+pub both_right : (a b : Bool) → (a && b) ≡ true → b ≡ true
+both_right true b e = e
+both_right false b e = cc
+
+pub not_both : (b : Bool) → b ≡ false → b ≡ true → ⊥
+not_both b f t = let no : ◌≡◌ {A = Bool} true false = sym t ∙ f in cc

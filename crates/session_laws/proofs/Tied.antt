@@ -1,11 +1,16 @@
 -- What ties a connection to the account of its trace.
-use Rattle.std.proofs.Common.{◌≡◌, ◌≢◌, ◌⊎◌, ℕ, ◌<◌, ◌≤◌, Bool, true, false, List, [], ◌∷◌, ◌++◌, length, take, Some, None, slice_get, sym, subst, append_assoc}
+use Rattle.std.proofs.Common.{◌≡◌, ◌≢◌, ◌⊎◌, ℕ, ◌<◌, ◌≤◌, Bool, true, false, List, [], ◌∷◌, ◌++◌, length, take, if◌then◌else◌, Some, None, slice_get, sym, subst, append_assoc}
 use Rattle.std.specs.List.{AllByRecursion}
+use Rattle.resp_value.specs.declared.value.Value.TheVariants.{Nil}
 use Rattle.resp_read.specs.Values.{is_spoiled}
 use Rattle.driver_model.specs.declared.action.Action.{Action}
 use Rattle.driver_model.specs.declared.action.Owner.TheVariants as owner
 use Rattle.driver_model.specs.declared.action.WaitKind.TheVariants as wait
 use Rattle.driver_model.specs.declared.event.Submission.{Submission}
+use Rattle.driver_model.specs.declared.outcome.Outcome.{Outcome}
+use Rattle.driver_model.specs.declared.outcome.Outcome.TheVariants as outcome
+use Rattle.driver_model.specs.declared.outcome.Shape.{Shape}
+use Rattle.driver_model.specs.Request.{packed, shape_of, awaits_reply}
 use Rattle.link_core.specs.declared.message.Entry.{Entry}
 use Rattle.link_core.specs.declared.message.Queued.{Queued}
 use Rattle.link_core.specs.Link.{LinkState, no_boundary}
@@ -21,8 +26,8 @@ use Rattle.trace_model.specs.Submissions.{bytes_of}
 use Rattle.trace_model.specs.Legal.{joined, AllBelow, MayStand, AllStand}
 use Rattle.session_laws.proofs.Account.{Account, account, entered, account-append}
 use Rattle.session_laws.proofs.Standing.{stand-more}
-use Rattle.session_laws.proofs.Rows.{open_list, open_rows, AreNeedy}
-use Rattle.session_laws.proofs.Dealt.{wanted}
+use Rattle.session_laws.proofs.Rows.{open_list, open_rows, AreNeedy, StandsAs}
+use Rattle.session_laws.proofs.Dealt.{wanted, AreEntries}
 use Rattle.session_laws.proofs.Numbers.{IsIn, Rising, owners}
 
 -- what counts of a connection, and the submissions that are settled and not answered yet
@@ -38,6 +43,11 @@ pub record Inner : Type 0 where
 abbrev pub queue_ids : List Queued → List ℕ
 queue_ids [] = []
 queue_ids (q ∷ qs) = q.id ∷ queue_ids qs
+
+-- the messages of a queue whose verdict is wanted
+abbrev pub awaited_ids : List Queued → List ℕ
+awaited_ids [] = []
+awaited_ids (q ∷ qs) = (if q.awaited then q.id ∷ [] else []) ++ awaited_ids qs
 
 abbrev pub waiting_ids : List Waiting → List ℕ
 waiting_ids [] = []
@@ -74,25 +84,47 @@ pub record TiedStory (s : Story) (starts : List Start) (subs : List Submission) 
   pub once : AllBelow n starts → s.starts ≡ 0
   pub untold : length subs ≤ n → (s.outcomes ≡ []) × (s.cancelled ≡ false) × (s.waiting ≡ None)
 
-pub record IsQueued (subs : List Submission) (requests : List Progress) (q : Queued) : Type 0 where
-  pub awaited : q.awaited ≡ true
-  pub open_at : is_open_at requests q.id ≡ true
-  pub packs : q.packed ≡ bytes_of subs (owner.Try q.id 0)
-  pub some : q.packed ≢ []
+-- these are the bytes and the shape of a submission, and whether its reply is awaited
+pub record IsHandedIn (subs : List Submission) (n : ℕ) (bytes : List ℕ) (shape : Shape) (awaited : Bool) : Type 0 where
+  pub what : Submission
+  pub handed_in : slice_get subs n ≡ Some what
+  pub packs : bytes ≡ packed what
+  pub shape_is : shape ≡ shape_of what
+  pub awaited_is : awaited ≡ awaits_reply what
+  pub some : bytes ≢ []
 
-pub record IsPacked (subs : List Submission) (w : Waiting) : Type 0 where
-  pub packs : w.packed ≡ bytes_of subs (owner.Try w.number 0)
-  pub some : w.packed ≢ []
+pub record IsQueued (subs : List Submission) (requests : List Progress) (q : Queued) : Type 0 where
+  pub asked : IsHandedIn subs q.id q.packed q.shape q.awaited
+  pub open_at : q.awaited ≡ true → is_open_at requests q.id ≡ true
+
+abbrev pub IsPacked : List Submission → Waiting → Type 0
+IsPacked subs w = IsHandedIn subs w.number w.packed w.shape w.awaited
 
 -- those that started, those that have a place in the queue, and those that wait for one, in the order of their numbers;
 -- and each open submission is somewhere
 pub record TiedLines (starts : List Start) (subs : List Submission) (queue : List Queued) (row : List Entry) (requests : List Progress) (waiting : List Waiting) (pending : List ℕ) : Type 0 where
   pub line : Rising 0 (owners starts ++ (queue_ids queue ++ waiting_ids waiting)) (length requests)
   pub queued : AllByRecursion (IsQueued subs requests) queue
+  pub entries : AreEntries subs row
   pub packs : AllByRecursion (IsPacked subs) waiting
   pub apart : (n : ℕ) → IsIn n pending → IsIn n (queue_ids queue) → ⊥
   pub there : (n : ℕ) → is_open_at requests n ≡ true
-      → IsIn n (pending ++ (wanted row ++ queue_ids queue)) ⊎ ((is_waiting_at requests n ≡ true) × IsIn n (waiting_ids waiting))
+      → IsIn n (pending ++ (wanted row ++ awaited_ids queue)) ⊎ ((is_waiting_at requests n ≡ true) × IsIn n (waiting_ids waiting))
+
+-- the outcomes of a submission that was answered at its place
+abbrev pub nil_only : List Outcome
+nil_only = outcome.One Nil ∷ []
+
+abbrev pub IsTold : (ℕ → List Outcome) → Queued → Type 0
+IsTold outcomes q = q.awaited ≡ false → outcomes q.id ≡ nil_only
+
+abbrev pub HasStart : List Start → ℕ → Type 0
+HasStart starts n = (k : ℕ) × StandsAs starts (owner.Try n 0) k
+
+-- what nobody awaits was answered when it took its place in the queue, and has started or is there still
+pub record TiedTold (outcomes : ℕ → List Outcome) (starts : List Start) (subs : List Submission) (queue : List Queued) : Type 0 where
+  pub queued : AllByRecursion (IsTold outcomes) queue
+  pub placed : (n : ℕ) (s : Submission) → slice_get subs n ≡ Some s → awaits_reply s ≡ false → outcomes n ≡ nil_only → HasStart starts n ⊎ IsIn n (queue_ids queue)
 
 -- at most one submission came in this turn
 abbrev pub IsNew : (ℕ → Story) → List ℕ → Type 0
@@ -111,6 +143,7 @@ pub record Tied (a : Account) (p : Inner) : Type 0 where
   pub count : length p.requests ≡ length a.subs
   pub story : (n : ℕ) → TiedStory (a.story n) a.link.starts a.subs a.shut p.requests n
   pub lines : TiedLines a.link.starts a.subs p.link.queue p.link.row p.requests p.waiting p.pending
+  pub told : is_ended p.phase ≡ false → TiedTold (λ n. (a.story n).outcomes) a.link.starts a.subs p.link.queue
   pub waits : TiedWaits a.story p.requests p.phase p.fresh
   pub idle : is_up p.phase ≡ false → (p.link.queue ≡ []) × (p.link.row ≡ [])
   pub ended : is_ended p.phase ≡ true → p.waiting ≡ []

@@ -37,6 +37,8 @@ event_answers_none s n (event.Connected l) = refl
 event_answers_none s n (event.Wrote l count) = refl
 event_answers_none s n (event.Bytes l piece) = refl
 event_answers_none s n (event.Ended l) = refl
+event_answers_none s n (event.ReadFault l kind) = refl
+event_answers_none s n (event.WriteFault l kind) = refl
 
 cause_answers_none : (s : Story) (n : ℕ) (c : Cause) → (told_cause s n c).outcomes ≡ s.outcomes
 cause_answers_none s n (cause.Opening config word) = refl

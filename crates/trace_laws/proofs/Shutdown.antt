@@ -38,6 +38,8 @@ event_keeps l n (event.Bytes m piece) h = either ((n == m) && l.up) (bytes_came 
 event_keeps l n (event.Submit s) h = h
 event_keeps l n (event.Cancel s) h = h
 event_keeps l n (event.Ended m) h = h
+event_keeps l n (event.ReadFault m kind) h = h
+event_keeps l n (event.WriteFault m kind) h = h
 event_keeps l n event.Shutdown h = h
 
 cause_keeps : (l : LinkLedger) (n : ℕ) (c : Cause) → NotBoth l → NotBoth (noted_cause l n c)

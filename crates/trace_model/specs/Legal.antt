@@ -154,11 +154,11 @@ pub record IsToldAtPlace (before : List Action) (n : ℕ) : Type 0 where
   pub unawaited : awaits_reply submission ≡ false
   pub told : (story n before).outcomes ≡ outcome.One Nil ∷ []
 
--- a submission whose message may start: it is open, or it was answered at its place
+-- a submission whose message may start: it is open and its reply is awaited, or it was answered at its place
 pub record IsAsked (before : List Action) (n : ℕ) : Type 0 where
   pub submission : Submission
   pub handed_in : (story n before).submission ≡ Some submission
-  pub wanted : (is_open (story n before) ≡ true) ⊎ IsToldAtPlace before n
+  pub wanted : ((awaits_reply submission ≡ true) × (is_open (story n before) ≡ true)) ⊎ IsToldAtPlace before n
 
 -- a message starts on a link that is up: once for its submission, in the order of submissions, with its need and length
 pub record MayStart (before : List Action) (number n count len : ℕ) : Type 0 where
