@@ -86,12 +86,13 @@ pub record IsHit (before : List Action) (n : ℕ) : Type 0 where
   pub started : StartedAs (link_ledger 0 before) n number
   pub oldest : IsOldest (link_ledger 0 before) number
 
--- the cause of each outcome
+-- the cause of each outcome; no other error is one
 abbrev pub CausedBy : List Action → ℕ → Story → Submission → Outcome → Type 0
 CausedBy before n st s (outcome.One v) = IsVerdictOf before n s (outcome.One v)
 CausedBy before n st s (outcome.Fault error.EmptyCommand) = (packed s ≡ []) × (st.late ≡ false)
 CausedBy before n st s (outcome.Fault error.Closed) = (st.late ≡ true) ⊎ ((packed s ≢ []) × ((is_shut before ≡ true) ⊎ IsCutOff before n))
 CausedBy before n st s (outcome.Fault error.Parse) = IsHit before n
+CausedBy before n st s (outcome.Fault other) = ⊥
 
 -- a submission that is handed in, and neither answered nor cancelled
 pub record IsOpen (before : List Action) (n : ℕ) : Type 0 where
