@@ -1,5 +1,6 @@
 -- What a map of slots answers, by the rows that it was made from.
 use Rattle.std.specs.Prelude.{ℕ, zero, suc, ◌==◌, ◌||◌, ◌&&◌, nat_le, nat_lt, Bool, true, false, List, [], ◌∷◌, ◌++◌, map, length, Option, Some, None, option_map, unwrap_or, slice_get, if◌then◌else◌}
+use Rattle.std.specs.List.{list_all}
 use Rattle.std.specs.Str.{bytes_eq}
 use Rattle.slot_hash.specs.declared.address.NodeAddress.{NodeAddress}
 use Rattle.command_table.specs.declared.routing.SlotAddr.{SlotAddr}
@@ -39,6 +40,11 @@ addresses_from nodes (r ∷ rs) = addresses_from (all_inserted (inserted r.prima
 abbrev pub addresses : List SlotRow → List NodeAddress
 addresses rows = addresses_from [] rows
 
+-- whether each address comes before all behind it
+abbrev pub in_order : List NodeAddress → Bool
+in_order [] = true
+in_order (a ∷ more) = list_all (address_less a) more && in_order more
+
 -- the place of an address: how many stand before it
 abbrev pub place_of : List NodeAddress → NodeAddress → ℕ
 place_of [] a = 0
@@ -67,16 +73,23 @@ unfoldable pub shard_at : ℕ → List SlotRow → Option Shard
 shard_at slot rows = option_map (shard_of (addresses rows)) (last_row slot rows)
 
 -- the replica that is picked; the primary where there is none
-abbrev pub replica_of : Shard → (ℕ → ℕ) → ℕ
-replica_of shard pick = unwrap_or (slice_get shard.replicas (pick (length shard.replicas))) shard.primary
+abbrev pub replica_of : {T : Type 0} → T → List T → (ℕ → ℕ) → T
+replica_of primary replicas pick = unwrap_or (slice_get replicas (pick (length replicas))) primary
 
--- the node of a shard, with a strategy that picks one of so many replicas, or without one
+-- of a primary and its replicas one, with a strategy that picks one of so many replicas, or without one
+abbrev pub chosen : {T : Type 0} → SlotAddr → Option (ℕ → ℕ) → T → List T → T
+chosen Master pick primary replicas = primary
+chosen ReplicaOptional None primary replicas = primary
+chosen ReplicaRequired None primary replicas = unwrap_or (slice_get replicas 0) primary
+chosen ReplicaOptional (Some pick) primary replicas = replica_of primary replicas pick
+chosen ReplicaRequired (Some pick) primary replicas = replica_of primary replicas pick
+
 abbrev pub node_in : SlotAddr → Option (ℕ → ℕ) → Shard → ℕ
-node_in Master pick shard = shard.primary
-node_in ReplicaOptional None shard = shard.primary
-node_in ReplicaRequired None shard = unwrap_or (slice_get shard.replicas 0) shard.primary
-node_in ReplicaOptional (Some pick) shard = replica_of shard pick
-node_in ReplicaRequired (Some pick) shard = replica_of shard pick
+node_in addr pick shard = chosen addr pick shard.primary shard.replicas
+
+-- the address to which a route to a row leads
+abbrev pub address_in : SlotAddr → Option (ℕ → ℕ) → SlotRow → NodeAddress
+address_in addr pick row = chosen addr pick row.primary row.replicas
 
 abbrev pub may_pick : SlotAddr → Bool
 may_pick Master = false
@@ -92,12 +105,20 @@ abbrev pub replica_count : Option Shard → ℕ
 replica_count None = 0
 replica_count (Some shard) = length shard.replicas
 
--- the other nodes of a shard that may stand in
+-- of a primary and its replicas those that may stand in
+abbrev pub stand_ins : {T : Type 0} → SlotAddr → T → List T → List T
+stand_ins Master primary replicas = []
+stand_ins ReplicaOptional primary replicas = replicas ++ primary ∷ []
+stand_ins ReplicaRequired primary replicas = replicas
+
 abbrev pub fallbacks_in : SlotAddr → Option Shard → List ℕ
 fallbacks_in addr None = []
-fallbacks_in Master (Some shard) = []
-fallbacks_in ReplicaOptional (Some shard) = shard.replicas ++ shard.primary ∷ []
-fallbacks_in ReplicaRequired (Some shard) = shard.replicas
+fallbacks_in addr (Some shard) = stand_ins addr shard.primary shard.replicas
+
+-- the addresses that may stand in for that of a route to a row
+abbrev pub fallback_addresses : SlotAddr → Option SlotRow → List NodeAddress
+fallback_addresses addr None = []
+fallback_addresses addr (Some row) = stand_ins addr row.primary row.replicas
 
 -- whether a node is the primary of a row, also of one whose slots all lie in later rows
 abbrev pub leads : ℕ → List Shard → Bool
@@ -119,3 +140,10 @@ first_numbers (suc n) = first_numbers n ++ n ∷ []
 -- all nodes of all rows, in the order of their addresses
 abbrev pub node_places : List SlotRow → List ℕ
 node_places rows = first_numbers (length (addresses rows))
+
+-- whether a number is the place of an address
+unfoldable pub is_place : List SlotRow → ℕ → Bool
+is_place rows i = nat_lt i (length (addresses rows))
+
+unfoldable pub are_places : List SlotRow → List ℕ → Bool
+are_places rows places = list_all (is_place rows) places

@@ -34,14 +34,16 @@ impl Model for SlotMap {
 }
 
 impl SlotMap {
-    ghost use Rattle.std.specs.Prelude.{◌≡◌, ◌<◌, ◌^◌, true, length, map, IfOk, Some, slice_get, option_copied, option_map, if◌then◌else◌};
+    ghost use Rattle.std.specs.Prelude.{◌≡◌, ◌<◌, ◌^◌, true, length, map, IfOk, IfSome, Some, slice_get, option_and_then, option_copied, option_map, if◌then◌else◌};
     ghost use Rattle.mux_routing.specs.Reply.{are_rows};
-    ghost use Rattle.mux_routing.specs.Shards.{addresses, asks, fallbacks_in, node_in, node_places, primaries, replica_count, shard_at};
+    ghost use Rattle.mux_routing.specs.Shards.{address_in, addresses, are_places, asks, fallback_addresses, fallbacks_in, in_order, is_place, last_row, node_in, node_places, primaries, replica_count, shard_at};
 
     /// The map of these rows.
+    #[tactic(auto, using(crate::proofs::Finding::are_in_order))]
     pub fn from_rows(alloc: Global, rows: &SlotRows) -> Result<SlotMap, AllocError>
         requires { are_rows rows.now ≡ true }
-        ensures { IfOk result (λ m. m ≡ rows.now) }
+        ensures is { IfOk result (λ m. m ≡ rows.now) }
+        ensures order { IfOk result (λ m. in_order (addresses m) ≡ true) }
     {
         let copies = copies_of(alloc, rows.as_slice())?;
         let nodes = addresses(alloc, rows.as_slice())?;
@@ -66,6 +68,7 @@ impl SlotMap {
 
     /// The node to which a route leads, if a row holds its slot. Without a read strategy an optional replica is the
     /// primary, and a required one the first replica; with one it picks among the replicas, if there are any.
+    #[tactic(auto, using(crate::proofs::Answering::leads_nowhere, crate::proofs::Answering::leads_to_address, crate::proofs::Answering::leads_to_place))]
     pub fn slot_addr_for_route<R: ReadRoutingStrategy>(
         &self,
         route: Route,
@@ -74,6 +77,8 @@ impl SlotMap {
     ) -> Option<NodeIndex>
         requires { route.slot < 2 ^ 14 }
         ensures index { result ≡ option_map (node_in route.addr (option_map (λ r n. R.pick_of r n draw) reads.old)) (shard_at route.slot self.now) }
+        ensures address { option_and_then (slice_get (addresses self.now)) result ≡ option_map (address_in route.addr (option_map (λ r n. R.pick_of r n draw) reads.old)) (last_row route.slot self.now) }
+        ensures place { IfSome result (λ i. is_place self.now i ≡ true) }
         ensures reads { reads.new ≡ (if asks route.addr (shard_at route.slot self.now) then option_map (λ r. R.picked r (replica_count (shard_at route.slot self.now)) draw) reads.old else reads.old) }
     {
         let shard = self.shard(route.slot)?;
@@ -81,13 +86,16 @@ impl SlotMap {
     }
 
     /// The nodes that may stand in where the node of a route isn't connected: none for the primary.
+    #[tactic(auto, using(crate::proofs::Answering::stand_in, crate::proofs::Answering::stand_within))]
     pub fn shard_fallback_addrs(
         &self,
         alloc: Global,
         route: Route,
     ) -> Result<Vec<NodeIndex>, AllocError>
         requires { route.slot < 2 ^ 14 }
-        ensures { IfOk result (λ v. v.items ≡ fallbacks_in route.addr (shard_at route.slot self.now)) }
+        ensures are { IfOk result (λ v. v.items ≡ fallbacks_in route.addr (shard_at route.slot self.now)) }
+        ensures addresses { IfOk result (λ v. map (slice_get (addresses self.now)) v.items ≡ map Some (fallback_addresses route.addr (last_row route.slot self.now))) }
+        ensures places { IfOk result (λ v. are_places self.now v.items ≡ true) }
     {
         let Some(shard) = self.shard(route.slot) else {
             return Ok(Vec::new(alloc));
@@ -99,28 +107,35 @@ impl SlotMap {
                 nodes.push(shard.primary)?;
                 Ok(nodes)
             }
-            SlotAddr::ReplicaRequired => Vec::from_slice(alloc, shard.replicas.as_slice()),
+            SlotAddr::ReplicaRequired => {
+                let nodes = Vec::from_slice(alloc, shard.replicas.as_slice())?;
+                Ok(nodes)
+            }
         }
     }
 
     /// The primaries of all rows, in the order of their addresses.
-    #[tactic(auto, unfolding(crate::specs::Shards::primaries))]
+    #[tactic(auto, unfolding(crate::specs::Shards::primaries), using(crate::proofs::Answering::primaries_within))]
     pub fn primaries(&self, alloc: Global) -> Result<Vec<NodeIndex>, AllocError>
-        ensures { IfOk result (λ v. v.items ≡ primaries self.now) }
+        ensures are { IfOk result (λ v. v.items ≡ primaries self.now) }
+        ensures places { IfOk result (λ v. are_places self.now v.items ≡ true) }
     {
         leading(alloc, self.nodes.len(), self.shards.as_slice())
     }
 
     /// All nodes of all rows, in the order of their addresses.
+    #[tactic(auto, using(crate::proofs::Answering::nodes_within))]
     pub fn nodes(&self, alloc: Global) -> Result<Vec<NodeIndex>, AllocError>
-        ensures { IfOk result (λ v. v.items ≡ node_places self.now) }
+        ensures are { IfOk result (λ v. v.items ≡ node_places self.now) }
+        ensures places { IfOk result (λ v. are_places self.now v.items ≡ true) }
     {
         first_numbers(alloc, self.nodes.len())
     }
 
     /// The address of a node of this map.
+    #[tactic(auto, unfolding(crate::specs::Shards::is_place))]
     pub fn address(&self, i: NodeIndex) -> &NodeAddress
-        requires { i < length (addresses self.now) }
+        requires { is_place self.now i ≡ true }
         ensures { Some result.now ≡ slice_get (addresses self.now) i }
     {
         &self.nodes[i as usize]

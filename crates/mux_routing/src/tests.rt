@@ -1,8 +1,8 @@
 ghost use Rattle.std.specs.Prelude.{◌≡◌, ◌<◌, ◌^◌};
 
 use crate::{
-    NodeAddress, ReadRoutingStrategy, ReadStrategy, Route, RouteError, SlotAddr, SlotMap, SlotRows,
-    SlotsError, parse_slots, route_for_pipeline,
+    ReadRoutingStrategy, ReadStrategy, Route, RouteError, SlotAddr, SlotMap, SlotRows, SlotsError,
+    parse_slots, route_for_pipeline,
 };
 use containers::Bytes;
 use resp_value::{Value, Values};
@@ -10,164 +10,182 @@ use resp_write::{Cmd, Pipeline};
 use std::alloc::{AllocError, Global};
 use std::test::Fail;
 
-fn array(alloc: Global, parts: Vec<Value>) -> Result<Value, AllocError> {
-    let mut values = Values::new(alloc);
-    for part in parts {
-        values.push(part)?;
+/// How a node tells its host.
+#[derive(Clone, Copy)]
+enum Host {
+    Nil,
+    Number,
+    Bulk(&'static [u8]),
+    Simple(&'static [u8]),
+}
+
+/// What a reply with one row of one node gives.
+#[derive(Clone, Copy)]
+enum Told {
+    Refused,
+    NoRow,
+    Primary(&'static [u8]),
+}
+
+/// Rows of one node: the first and the last slot, the host and the port, and what is told where `answer.host` answered.
+const ROWS: [(i64, i64, Host, i64, Told); 16] = [
+    (
+        0,
+        100,
+        Host::Bulk(b"0.0.0.0"),
+        7000,
+        Told::Primary(b"answer.host"),
+    ),
+    (
+        0,
+        100,
+        Host::Simple(b"::"),
+        7000,
+        Told::Primary(b"answer.host"),
+    ),
+    (0, 100, Host::Bulk(b""), 7000, Told::Primary(b"answer.host")),
+    (0, 100, Host::Nil, 7000, Told::Primary(b"answer.host")),
+    (
+        0,
+        100,
+        Host::Bulk(b"10.0.0.1"),
+        7000,
+        Told::Primary(b"10.0.0.1"),
+    ),
+    (0, 100, Host::Simple(b"h"), 7000, Told::Primary(b"h")),
+    (5, 5, Host::Bulk(b"h"), 0, Told::Primary(b"h")),
+    (0, 16_383, Host::Bulk(b"h"), 65_535, Told::Primary(b"h")),
+    (0, 100, Host::Bulk(b"?"), 7000, Told::NoRow),
+    (2, 1, Host::Bulk(b"h"), 1, Told::Refused),
+    (-1, 1, Host::Bulk(b"h"), 1, Told::Refused),
+    (0, 16_384, Host::Bulk(b"h"), 1, Told::Refused),
+    (0, 1, Host::Bulk(b"h"), -1, Told::Refused),
+    (0, 1, Host::Bulk(b"h"), 65_536, Told::Refused),
+    (0, 1, Host::Bulk(b"\xFF"), 1, Told::Refused),
+    (0, 1, Host::Number, 1, Told::Refused),
+];
+
+fn host_value(alloc: Global, host: Host) -> Result<Value, AllocError> {
+    match host {
+        Host::Nil => Ok(Value::Nil),
+        Host::Number => Ok(Value::Int(1)),
+        Host::Bulk(text) => Ok(Value::BulkString(Bytes::from_slice(alloc, text)?)),
+        Host::Simple(text) => Ok(Value::SimpleString(Bytes::from_slice(alloc, text)?)),
     }
-    Ok(Value::Array(values))
 }
 
-fn bulk(alloc: Global, text: &[u8]) -> Result<Value, AllocError> {
-    Ok(Value::BulkString(Bytes::from_slice(alloc, text)?))
+fn node(alloc: Global, host: Host, port: i64) -> Result<Value, AllocError> {
+    let mut parts = Values::new(alloc);
+    parts.push(host_value(alloc, host)?)?;
+    parts.push(Value::Int(port))?;
+    parts.push(Value::Nil)?;
+    Ok(Value::Array(parts))
 }
 
-fn node(alloc: Global, host: Value, port: i64) -> Result<Value, AllocError> {
-    array(alloc, vec![in alloc; host, Value::Int(port), Value::Nil]?)
-}
-
-fn named(alloc: Global, host: &[u8], port: i64) -> Result<Value, AllocError> {
-    let host = bulk(alloc, host)?;
-    node(alloc, host, port)
-}
-
-fn row(alloc: Global, start: i64, end: i64, nodes: Vec<Value>) -> Result<Value, AllocError> {
-    let mut parts = vec![in alloc; Value::Int(start), Value::Int(end)]?;
-    for node in nodes {
-        parts.push(node)?;
+fn row(
+    alloc: Global,
+    start: i64,
+    end: i64,
+    hosts: &[Host],
+    port: i64,
+) -> Result<Value, AllocError> {
+    let mut parts = Values::new(alloc);
+    parts.push(Value::Int(start))?;
+    parts.push(Value::Int(end))?;
+    for host in hosts {
+        parts.push(node(alloc, *host, port)?)?;
     }
-    array(alloc, parts)
+    Ok(Value::Array(parts))
 }
 
-fn one_row(alloc: Global, start: i64, end: i64, node: Value) -> Result<Value, AllocError> {
-    let nodes = vec![in alloc; node]?;
-    let only = row(alloc, start, end, nodes)?;
-    array(alloc, vec![in alloc; only]?)
+fn only(alloc: Global, part: Value) -> Result<Value, AllocError> {
+    let mut parts = Values::new(alloc);
+    parts.push(part)?;
+    Ok(Value::Array(parts))
 }
 
-fn is_address(address: &NodeAddress, host: &[u8], port: u16) -> bool {
-    address.host.as_slice() == host && address.port == port
-}
-
-fn has_primary(rows: &SlotRows, host: &[u8], port: u16) -> bool {
+fn has_primary(rows: &SlotRows, host: &[u8], port: i64) -> bool {
     match rows.as_slice() {
-        [row] => is_address(&row.primary, host, port),
+        [row] => row.primary.host.as_slice() == host && i64::from(row.primary.port) == port,
         _ => false,
     }
 }
 
-/// Hosts that a node may tell, with the host of its address where `answer.host` was asked.
-fn hosts(alloc: Global) -> Result<Vec<(Value, &'static [u8])>, AllocError> {
-    let hosts = vec![in alloc;
-        (bulk(alloc, b"0.0.0.0")?, b"answer.host".as_slice()),
-        (bulk(alloc, b"")?, b"answer.host".as_slice()),
-        (
-            Value::SimpleString(Bytes::from_slice(alloc, b"::")?),
-            b"answer.host".as_slice()
-        ),
-        (Value::Nil, b"answer.host".as_slice()),
-        (bulk(alloc, b"10.0.0.1")?, b"10.0.0.1".as_slice()),
-        (
-            Value::SimpleString(Bytes::from_slice(alloc, b"h")?),
-            b"h".as_slice()
-        ),
-    ]?;
-    Ok(hosts)
-}
-
-/// The rows of a reply with one row of one node.
-fn rows_of_node(alloc: Global, told: Value) -> Result<SlotRows, SlotsError> {
-    let reply = one_row(alloc, 0, 100, told)?;
-    parse_slots(alloc, &reply, b"answer.host")
+fn is_told(got: &Result<SlotRows, SlotsError>, port: i64, want: Told) -> bool {
+    match (got, want) {
+        (Err(SlotsError::Parse), Told::Refused) => true,
+        (Ok(rows), Told::NoRow) => rows.is_empty(),
+        (Ok(rows), Told::Primary(host)) => has_primary(rows, host, port),
+        _ => false,
+    }
 }
 
 #[test]
-fn hosts_are_told(rt: HostRuntime) -> Result<(), Fail> {
+fn rows_are_told(rt: HostRuntime) -> Result<(), Fail> {
     let alloc = rt.alloc();
-    for (host, wanted) in hosts(alloc)? {
-        let rows = rows_of_node(alloc, node(alloc, host, 7000)?)?;
-        assert!(rt; has_primary(&rows, wanted, 7000));
+    for case in &ROWS {
+        let reply = only(alloc, row(alloc, case.0, case.1, &[case.2], case.3)?)?;
+        let got = parse_slots(alloc, &reply, b"answer.host");
+        assert!(rt; is_told(&got, case.3, case.4));
     }
     Ok(())
 }
 
-#[test]
-fn a_row_without_a_known_primary_is_left_out(rt: HostRuntime) -> Result<(), Fail> {
-    let alloc = rt.alloc();
-    let rows = rows_of_node(alloc, named(alloc, b"?", 7000)?)?;
-    assert!(rt; rows.is_empty());
-    Ok(())
-}
-
-/// A reply whose row has a known primary and an unknown replica.
-fn unknown_replica(alloc: Global) -> Result<Value, AllocError> {
-    let known = named(alloc, b"a", 1)?;
-    let unknown = named(alloc, b"?", 2)?;
-    let nodes = vec![in alloc; known, unknown]?;
-    let only = row(alloc, 5, 5, nodes)?;
-    array(alloc, vec![in alloc; only]?)
-}
-
-#[test]
-fn an_unknown_replica_is_left_out(rt: HostRuntime) -> Result<(), Fail> {
-    let alloc = rt.alloc();
-    let rows = parse_slots(alloc, &unknown_replica(alloc)?, b"answer.host")?;
-    assert!(rt; has_primary(&rows, b"a", 1));
-    Ok(())
-}
-
-fn is_refused(alloc: Global, reply: &Value) -> bool {
-    match parse_slots(alloc, reply, b"answer.host") {
-        Err(SlotsError::Parse) => true,
-        Err(SlotsError::NoMemory) => false,
-        Ok(_) => false,
-    }
-}
-
-/// Replies of another shape.
-fn bad_replies(alloc: Global) -> Result<Vec<Value>, AllocError> {
-    let mut bad = vec![in alloc; Value::Nil, Value::Okay]?;
-    let numbers = vec![in alloc; Value::Int(0), Value::Int(1)]?;
-    bad.push(array(alloc, numbers)?)?;
-    let none = row(alloc, 0, 1, Vec::new(alloc))?;
-    bad.push(array(alloc, vec![in alloc; none]?)?)?;
-    let a = named(alloc, b"a", 1)?;
-    bad.push(one_row(alloc, 2, 1, a)?)?;
-    let a = named(alloc, b"a", 1)?;
-    bad.push(one_row(alloc, -1, 1, a)?)?;
-    let a = named(alloc, b"a", 1)?;
-    bad.push(one_row(alloc, 0, 16384, a)?)?;
-    let a = named(alloc, b"a", 65536)?;
-    bad.push(one_row(alloc, 0, 1, a)?)?;
-    let a = named(alloc, b"\xFF", 1)?;
-    bad.push(one_row(alloc, 0, 1, a)?)?;
-    let short = array(alloc, vec![in alloc; bulk(alloc, b"a")?]?)?;
-    bad.push(one_row(alloc, 0, 1, short)?)?;
-    Ok(bad)
+fn is_refused(alloc: Global, reply: Value) -> bool {
+    matches!(parse_slots(alloc, &reply, b"h"), Err(SlotsError::Parse))
 }
 
 #[test]
 fn other_shapes_are_refused(rt: HostRuntime) -> Result<(), Fail> {
     let alloc = rt.alloc();
-    for reply in &bad_replies(alloc)? {
-        assert!(rt; is_refused(alloc, reply));
-    }
-    let empty = array(alloc, Vec::new(alloc))?;
-    assert!(rt; parse_slots(alloc, &empty, b"h")?.is_empty());
+    assert!(rt; is_refused(alloc, Value::Nil));
+    assert!(rt; is_refused(alloc, Value::Okay));
+    assert!(rt; is_refused(alloc, only(alloc, Value::Int(0))?));
+    assert!(rt; is_refused(alloc, row(alloc, 0, 1, &[Host::Nil], 1)?));
+    assert!(rt; is_refused(alloc, only(alloc, row(alloc, 0, 1, &[], 1)?)?));
+    assert!(rt; parse_slots(alloc, &Value::Array(Values::new(alloc)), b"h")?.is_empty());
     Ok(())
 }
 
-/// Slots 1002 to 2000 of node2 with two replicas; slots 0 to 100 of a:1, of which 50 to 60 are of b:1.
+fn has_one_node(rows: &SlotRows) -> bool {
+    match rows.as_slice() {
+        [row] => row.replicas.is_empty(),
+        _ => false,
+    }
+}
+
+#[test]
+fn an_unknown_replica_is_left_out(rt: HostRuntime) -> Result<(), Fail> {
+    let alloc = rt.alloc();
+    let reply = only(
+        alloc,
+        row(alloc, 5, 5, &[Host::Bulk(b"h"), Host::Bulk(b"?")], 1)?,
+    )?;
+    assert!(rt; has_one_node(&parse_slots(alloc, &reply, b"answer.host")?));
+    Ok(())
+}
+
+/// Rows of slots with the hosts of their nodes.
+const SHARDS: [(i64, i64, &[Host]); 3] = [
+    (
+        1002,
+        2000,
+        &[
+            Host::Bulk(b"node2"),
+            Host::Bulk(b"replica2"),
+            Host::Bulk(b"replica3"),
+        ],
+    ),
+    (0, 100, &[Host::Bulk(b"a")]),
+    (50, 60, &[Host::Bulk(b"b")]),
+];
+
 fn map_reply(alloc: Global) -> Result<Value, AllocError> {
-    let first = named(alloc, b"node2", 1)?;
-    let second = named(alloc, b"replica2", 1)?;
-    let third = named(alloc, b"replica3", 1)?;
-    let shard = row(alloc, 1002, 2000, vec![in alloc; first, second, third]?)?;
-    let a = named(alloc, b"a", 1)?;
-    let whole = row(alloc, 0, 100, vec![in alloc; a]?)?;
-    let b = named(alloc, b"b", 1)?;
-    let part = row(alloc, 50, 60, vec![in alloc; b]?)?;
-    array(alloc, vec![in alloc; shard, whole, part]?)
+    let mut rows = Values::new(alloc);
+    for shard in &SHARDS {
+        rows.push(row(alloc, shard.0, shard.1, shard.2, 1)?)?;
+    }
+    Ok(Value::Array(rows))
 }
 
 fn map(alloc: Global) -> Result<SlotMap, SlotsError> {
@@ -177,23 +195,25 @@ fn map(alloc: Global) -> Result<SlotMap, SlotsError> {
     Ok(map)
 }
 
-/// Slots with the node of the primary: a, b, node2, replica2 and replica3 have the places 0 to 4.
-const PRIMARIES: [(u16, Option<u32>); 8] = [
-    (49, Some(0)),
-    (50, Some(1)),
-    (60, Some(1)),
-    (61, Some(0)),
+/// Slots with the host of the primary.
+const PRIMARIES: [(u16, Option<&[u8]>); 8] = [
+    (49, Some(b"a")),
+    (50, Some(b"b")),
+    (60, Some(b"b")),
+    (61, Some(b"a")),
     (101, None),
     (1001, None),
-    (1002, Some(2)),
+    (1002, Some(b"node2")),
     (2001, None),
 ];
 
-fn primary_route(slot: u16) -> Route
-    ensures { result.slot ≡ slot }
+/// The host of the primary of a slot.
+fn primary_host(map: &SlotMap, slot: u16) -> Option<&[u8]>
+    requires { slot < 2 ^ 14 }
 {
     let addr = SlotAddr::Master;
-    Route { slot, addr }
+    let i = map.slot_addr_for_route(Route { slot, addr }, &mut None::<ReadStrategy>, 7)?;
+    Some(map.address(i).host.as_slice())
 }
 
 #[test]
@@ -202,13 +222,28 @@ fn slots_are_of_the_last_row(rt: HostRuntime) -> Result<(), Fail> {
     let map = map(alloc)?;
     for row in &PRIMARIES {
         if row.0 < 16_384 {
-            let got = map.slot_addr_for_route(primary_route(row.0), &mut None::<ReadStrategy>, 7);
-            assert!(rt; got == row.1);
+            assert!(rt; primary_host(&map, row.0) == row.1);
         }
     }
     assert_eq!(rt; map.nodes(alloc)?.as_slice(), [0u32, 1, 2, 3, 4].as_slice());
     assert_eq!(rt; map.primaries(alloc)?.as_slice(), [0u32, 1, 2].as_slice());
     Ok(())
+}
+
+/// Picks the first replica.
+#[derive(Drop)]
+struct FirstReplica;
+
+impl ReadRoutingStrategy for FirstReplica {
+    ghost use Rattle.std.specs.Prelude.{ℕ};
+
+    ghost pick_of = { λ _ _ _. 0 };
+
+    ghost picked = { λ s _ _. s };
+
+    fn pick(&mut self, _replicas: u32, _draw: u64) -> u32 {
+        0
+    }
 }
 
 fn route(addr: SlotAddr) -> Route
@@ -217,6 +252,7 @@ fn route(addr: SlotAddr) -> Route
     Route { slot: 1500, addr }
 }
 
+/// The places 2 to 4 are those of node2, replica2 and replica3.
 #[test]
 fn replicas_are_picked(rt: HostRuntime) -> Result<(), Fail> {
     let alloc = rt.alloc();
@@ -226,6 +262,7 @@ fn replicas_are_picked(rt: HostRuntime) -> Result<(), Fail> {
     let mut none: Option<ReadStrategy> = None;
     assert!(rt; map.slot_addr_for_route(optional, &mut none, 0) == Some(2));
     assert!(rt; map.slot_addr_for_route(required, &mut none, 0) == Some(3));
+    assert!(rt; map.slot_addr_for_route(optional, &mut Some(FirstReplica), 1) == Some(3));
     let mut random = Some(ReadStrategy::Random);
     assert!(rt; map.slot_addr_for_route(optional, &mut random, 7) == Some(4));
     let mut turns = Some(ReadStrategy::RoundRobin { next: 0 });
@@ -233,11 +270,21 @@ fn replicas_are_picked(rt: HostRuntime) -> Result<(), Fail> {
     assert!(rt; map.slot_addr_for_route(route(SlotAddr::Master), &mut turns, 7) == Some(2));
     assert!(rt; map.slot_addr_for_route(required, &mut turns, 7) == Some(4));
     assert!(rt; map.slot_addr_for_route(required, &mut turns, 7) == Some(3));
-    let fallbacks = map.shard_fallback_addrs(alloc, optional)?;
+    Ok(())
+}
+
+#[test]
+fn replicas_stand_in(rt: HostRuntime) -> Result<(), Fail> {
+    let alloc = rt.alloc();
+    let map = map(alloc)?;
+    let fallbacks = map.shard_fallback_addrs(alloc, route(SlotAddr::ReplicaOptional))?;
     assert_eq!(rt; fallbacks.as_slice(), [3u32, 4, 2].as_slice());
-    let fallbacks = map.shard_fallback_addrs(alloc, required)?;
+    let fallbacks = map.shard_fallback_addrs(alloc, route(SlotAddr::ReplicaRequired))?;
     assert_eq!(rt; fallbacks.as_slice(), [3u32, 4].as_slice());
     let fallbacks = map.shard_fallback_addrs(alloc, route(SlotAddr::Master))?;
+    assert!(rt; fallbacks.is_empty());
+    let addr = SlotAddr::ReplicaOptional;
+    let fallbacks = map.shard_fallback_addrs(alloc, Route { slot: 1001, addr })?;
     assert!(rt; fallbacks.is_empty());
     Ok(())
 }
