@@ -198,7 +198,7 @@ sent_stands config word s count len h =
           refl,
           refl,
           record {
-            asked = record { submission = s; handed_in = refl; wanted = inl refl };
+            asked = record { submission = s; handed_in = refl; wanted = inl (h.awaited, refl) };
             up = refl;
             once = refl;
             next = refl;
@@ -223,7 +223,7 @@ cut_settled config word s count len o = record {
   whole = λ u. cc u;
   peer = λ w e. refl;
   failed = λ kind f. refl;
-  created = λ u. cc u;
+  created = λ u. refl;
   shut = λ d. refl;
 }
   where
@@ -470,7 +470,7 @@ told_at_its_place config word =
           refl,
           refl,
           record {
-            asked = record { submission = command 72; handed_in = refl; wanted = inl refl };
+            asked = record { submission = command 72; handed_in = refl; wanted = inl (refl, refl) };
             up = refl;
             once = refl;
             next = refl;

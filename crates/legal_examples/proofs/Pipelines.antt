@@ -15,12 +15,12 @@ use Rattle.driver_model.specs.declared.event.Event.{Event}
 use Rattle.driver_model.specs.declared.event.Submission.{Submission}
 use Rattle.driver_model.specs.declared.outcome.Outcome.TheVariants as outcome
 use Rattle.driver_model.specs.Shape.{is_single, outcome_of}
-use Rattle.driver_model.specs.Request.{shape_of}
+use Rattle.driver_model.specs.Request.{shape_of, awaits_reply}
 use Rattle.trace_model.specs.LinkLedger.{LinkLedger, Start, needs, link_ledger}
 use Rattle.trace_model.specs.Cut.{IsFull, verdict_of}
 use Rattle.trace_model.specs.Story.{story}
 use Rattle.trace_model.specs.Legal.{MayAnswer, Legal}
-use Rattle.legal_examples.specs.Traces.{command, reply, two_together, one_atomic, cut_off, server_error, refused, half_filled, told_first}
+use Rattle.legal_examples.specs.Traces.{command, unawaited, reply, two_together, one_atomic, cut_off, server_error, refused, half_filled, left_untold, told_first}
 use Rattle.legal_examples.proofs.Refused.{may_stand, sent_first, sent_second, letter_is, asked_same, not_nil, apart}
 
 not_single : (what : Submission) → two_together ≡ what → is_single (shape_of what) ≡ true → ⊥
@@ -141,3 +141,15 @@ values_of_the_refused config word events after kept h =
     let same : one_atomic ≡ m.asked.submission = asked_same one_atomic m.asked.submission m.asked.handed_in in
     let items = three_items (link_ledger 0 front) c.number c.items refl (ledger_refused config word) c.full in
     not_values kept (ap (λ ds. outcome_of (verdict_of one_atomic ds)) (sym items) ∙ ap (λ what. outcome_of (verdict_of what c.items)) same ∙ c.verdict)
+
+-- a message that starts, although nobody awaits its reply and its command wasn't told
+pub started_untold : (config : Config) (word : ℕ) (events : List Event) (after : List Action) → Legal config word events (left_untold config word ++ action.Start 0 0 (owner.Try 0 0) 1 11 ∷ after) → ⊥
+unfolding story
+started_untold config word events after h =
+    let front = left_untold config word in
+    let m = may_stand config word events front after (action.Start 0 0 (owner.Try 0 0) 1 11) h in
+    let asked = m.2.asked in
+    elim asked.wanted [ inl open_still ↦ not_awaited asked.submission (asked_same (unawaited 71) asked.submission asked.handed_in) open_still.0 | inr told ↦ cc told.told ]
+  where
+    not_awaited : (what : Submission) → unawaited 71 ≡ what → awaits_reply what ≡ true → ⊥
+    not_awaited what same t = let f : awaits_reply what ≡ false = ap awaits_reply (sym same) in let no : ◌≡◌ {A = Bool} true false = sym t ∙ f in cc

@@ -132,6 +132,10 @@ refused config word = sent config word one_atomic 3 40 ++ turn 3 (event.Bytes 0 
 abbrev pub half_filled : Config → ℕ → List Action
 half_filled config word = sent config word one_skipped 2 11 ++ turn 3 (event.Bytes 0 (43 ∷ 120 ∷ 13 ∷ 10 ∷ [])) ∷ []
 
+-- a command came whose reply nobody awaits, and wasn't answered
+abbrev pub left_untold : Config → ℕ → List Action
+left_untold config word = opening config word ++ turn 1 (event.Connected 0) ∷ action.Created ∷ turn 2 (event.Submit (unawaited 71)) ∷ []
+
 -- a command was answered at its place, since nobody awaits its reply, another started behind it, and both replies came
 abbrev pub told_first : Config → ℕ → List Action
 told_first config word =

@@ -11,12 +11,13 @@ ghost use Rattle.resp_value.specs.Data.{Data};
 ghost use Rattle.resp_write.specs.Pack.{pack};
 ghost use Rattle.driver_model.specs.declared.action.Action.{Action};
 ghost use Rattle.driver_model.specs.declared.action.Action.TheVariants as action;
+ghost use Rattle.driver_model.specs.declared.action.Owner.TheVariants as owner;
 ghost use Rattle.driver_model.specs.declared.config.Config.{Config};
 ghost use Rattle.driver_model.specs.declared.event.Event.{Event};
 ghost use Rattle.driver_model.specs.declared.event.EventKind.TheVariants as event;
 ghost use Rattle.driver_model.specs.declared.outcome.Outcome.TheVariants as outcome;
 ghost use Rattle.trace_model.specs.Legal.{Legal};
-ghost use Rattle.legal_examples.specs.Traces.{history, command, replies, reply, answered_both, answered_alike, started_one, pushed, left_out, started_unoffered, unawaited, two_together, one_atomic, one_skipped, cut_off, refusals, server_error, refused, half_filled, told_first};
+ghost use Rattle.legal_examples.specs.Traces.{history, command, replies, reply, answered_both, answered_alike, started_one, pushed, left_out, started_unoffered, unawaited, two_together, one_atomic, one_skipped, cut_off, refusals, server_error, refused, half_filled, left_untold, told_first};
 
 /// Does nothing. Its contract: these traces of three or four events are legal. A transaction is aborted by the error of
 /// its command; a command whose reply nobody awaits is answered at its place, and its item is not given to the next one;
@@ -44,6 +45,7 @@ pub fn nor_are_these()
     ensures fault_to_a_pipeline { (config : Config) (word : ℕ) (events : List Event) (after : List Action) (kind : FaultKind) → Legal config word events (cut_off config word two_together 2 22 ++ action.Outcome 0 (outcome.Fault (Io kind)) ∷ after) → ⊥ }
     ensures closed_to_the_oldest { (config : Config) (word : ℕ) (events : List Event) (after : List Action) → Legal config word events (cut_off config word (command 71) 1 11 ++ action.Outcome 0 (outcome.Fault Closed) ∷ after) → ⊥ }
     ensures reply_to_another { (config : Config) (word : ℕ) (events : List Event) (after : List Action) → Legal config word events (told_first config word ++ action.Outcome 1 (reply 120) ∷ after) → ⊥ }
+    ensures started_untold { (config : Config) (word : ℕ) (events : List Event) (after : List Action) → Legal config word events (left_untold config word ++ action.Start 0 0 (owner.Try 0 0) 1 11 ∷ after) → ⊥ }
     ensures before_its_need { (config : Config) (word : ℕ) (events : List Event) (after : List Action) (kept : List Data) → Legal config word events (half_filled config word ++ action.Outcome 0 (outcome.Many kept) ∷ after) → ⊥ }
     ensures values_of_the_refused { (config : Config) (word : ℕ) (events : List Event) (after : List Action) (kept : List Data) → Legal config word events (refused config word ++ action.Outcome 0 (outcome.Many kept) ∷ after) → ⊥ }
 {}

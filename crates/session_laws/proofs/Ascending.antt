@@ -2,7 +2,6 @@
 use Rattle.std.proofs.Common.{◌≡◌, ℕ, suc, ◌+◌, ◌<◌, ◌≤◌, ◌==◌, nat_lt, nat_le, ◌&&◌, Bool, true, false, if◌then◌else◌, List, [], ◌∷◌, ◌++◌, length, slice_set, Option, Some, None, refl, sym, ap, ◌∙◌, subst, append_assoc, arith, length-set}
 use Rattle.std.proofs.lemmas.List.{append-nil, length_push}
 use Rattle.resp_value.specs.Data.{Data}
-use Rattle.resp_value.specs.declared.redis_error.RedisError.{RedisError}
 use Rattle.resp_value.specs.declared.redis_error.RedisError.TheVariants as error
 use Rattle.resp_value.specs.declared.value.Value.TheVariants.{Nil}
 use Rattle.resp_read.specs.Items.{items}
@@ -28,7 +27,7 @@ use Rattle.link_core.specs.declared.message.Queued.{Queued}
 use Rattle.link_core.specs.declared.message.Settled.{Settled}
 use Rattle.link_core.specs.declared.message.Started.{Started}
 use Rattle.link_core.specs.Dealing.{Dealing, with_item, settled_by, given, dealt_to, dealt, dealt_each}
-use Rattle.link_core.specs.Ends.{failed_by, hit_by, row_closed, row_hit, queue_closed}
+use Rattle.link_core.specs.Ends.{row_closed, row_hit, queue_closed}
 use Rattle.link_core.specs.Link.{LinkState, Starting, Settling, no_boundary, is_full, is_held_back, entry_of, started_one, started_each, started_all, came, came_all, emptied, closed_all}
 use Rattle.link_core.specs.Outbox.{can_offer}
 use Rattle.link_core.specs.Row.{silent, is_entry_of, silenced}
@@ -46,8 +45,9 @@ use Rattle.trace_model.specs.Order.{last_answered, IsAfter, MayFollow, OutcomesA
 use Rattle.session_laws.proofs.Tests.{chosen, le_from}
 use Rattle.session_laws.proofs.Dealt.{settled_ids, settled_ids-append, wanted}
 use Rattle.session_laws.proofs.Numbers.{Rising, rising_from, rising_left, rising_next, rising_right, rising_without}
-use Rattle.session_laws.proofs.Tied.{queue_ids, waiting_ids}
+use Rattle.session_laws.proofs.Tied.{queue_ids, awaited_ids, waiting_ids}
 use Rattle.session_laws.proofs.Settling.{settled_keeps, closed_keeps}
+use Rattle.session_laws.proofs.Closing.{closed_out_ids, hit_out_ids}
 
 -- traces
 --
@@ -260,27 +260,14 @@ ends_applied c out size boundary h =
       next = λ up. k.line;
     }
 
--- whom the end of a link settles
-failed_ids : (b : Bool) (n : ℕ) (e : RedisError) → settled_ids (failed_by b n e) ≡ (if b then n ∷ [] else [])
-failed_ids true n e = refl
-failed_ids false n e = refl
-
-closed_ids : (row : List Entry) → settled_ids (row_closed row) ≡ wanted row
-closed_ids [] = refl
-closed_ids (e ∷ es) = settled_ids-append (failed_by e.awaited e.id error.Closed) (row_closed es) ∙ (λ i. failed_ids e.awaited e.id error.Closed i ++ closed_ids es i)
-
-hit_ids : (f : LinkFault) (row : List Entry) → settled_ids (row_hit f row) ≡ wanted row
-hit_ids f [] = refl
-hit_ids f (e ∷ es) = settled_ids-append (failed_by e.awaited e.id (hit_by f e.shape)) (row_closed es) ∙ (λ i. failed_ids e.awaited e.id (hit_by f e.shape) i ++ closed_ids es i)
-
 -- where nobody has a place in the queue
-row_only : (out : List Settled) (queue : List Queued) (row : List Entry) → queue ≡ [] → settled_ids out ≡ wanted row → settled_ids (out ++ queue_closed queue) ≡ wanted row
-row_only out queue row empty ids = ap (λ (qs : List Queued). settled_ids (out ++ queue_closed qs)) empty ∙ ap settled_ids (append-nil out) ∙ ids
+row_only : (queue : List Queued) (row : List Entry) → queue ≡ [] → wanted row ++ awaited_ids queue ≡ wanted row
+row_only queue row empty = ap (λ (qs : List Queued). wanted row ++ awaited_ids qs) empty ∙ append-nil (wanted row)
 
 ended_applied : (c : Connection) (f : LinkFault) → 0 < c.link.size → c.link.boundary ≡ no_boundary → c.link.queue ≡ [] → Ahead (wanted c.link.row) c → HasApplied (ended_by c f)
 ended_applied c f size boundary empty h =
     let out = row_hit f c.link.row ++ queue_closed c.link.queue in
-    ends_applied c out size boundary (subst (λ ns. Ahead ns c) (sym (row_only (row_hit f c.link.row) c.link.queue c.link.row empty (hit_ids f c.link.row))) h)
+    ends_applied c out size boundary (subst (λ ns. Ahead ns c) (sym (hit_out_ids f c.link.row c.link.queue ∙ row_only c.link.queue c.link.row empty)) h)
 
 faulted_applied : (c : Connection) (f : LinkFault) → IsLined c.link c.waiting (length c.requests) → HasAscended 0 c.acts → HasApplied (faulted_by c f)
 faulted_applied c f h held =
@@ -289,7 +276,7 @@ faulted_applied c f h held =
 shut_applied : (c : Connection) → IsLined c.link c.waiting (length c.requests) → HasAscended 0 c.acts → HasApplied (ends c (closed_all (record { link = c.link; out = [] })))
 shut_applied c h held =
     let out = row_closed c.link.row ++ queue_closed c.link.queue in
-    ends_applied c out h.size h.boundary (subst (λ ns. Ahead ns c) (sym (row_only (row_closed c.link.row) c.link.queue c.link.row h.empty (closed_ids c.link.row))) (ahead_of c h held))
+    ends_applied c out h.size h.boundary (subst (λ ns. Ahead ns c) (sym (closed_out_ids c.link.row c.link.queue ∙ row_only c.link.queue c.link.row h.empty)) (ahead_of c h held))
 
 -- a submission
 --
