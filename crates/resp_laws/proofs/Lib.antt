@@ -3,3 +3,4 @@ pub mod Commands
 pub mod Pipelines
 pub mod Texts
 pub mod Pieces
+pub mod Framed

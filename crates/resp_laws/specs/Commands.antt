@@ -1,8 +1,9 @@
 -- What packed commands are to a reader.
-use Rattle.std.specs.Prelude.{ℕ, ◌≤◌, List, [], ◌∷◌, ◌++◌, length, map}
+use Rattle.std.specs.Prelude.{ℕ, ◌≤◌, Bool, true, false, List, [], ◌∷◌, ◌++◌, length, map, codes}
 use Rattle.std.specs.List.{All}
 use Rattle.resp_value.specs.Data.{Data, bulk, array, items_of}
 use Rattle.resp_read.specs.Grammar.{max_bulk, max_count}
+use Rattle.resp_write.specs.Command.{Command}
 use Rattle.resp_write.specs.Pack.{pack}
 
 -- no longer than the longest bulk string that a reader takes
@@ -31,3 +32,18 @@ request_and (name ∷ args) others = request (name ∷ args) ∷ others
 abbrev pub requests : List (List (List ℕ)) → List Data
 requests [] = []
 requests (c ∷ cs) = request_and c (requests cs)
+
+-- each command's name and arguments
+abbrev pub words_of : List Command → List (List (List ℕ))
+words_of [] = []
+words_of (c ∷ cs) = c.args ∷ words_of cs
+
+-- the same as a transaction, or not: with MULTI before them and EXEC after
+abbrev pub framed : Bool → List (List (List ℕ)) → List (List (List ℕ))
+framed false commands = commands
+framed true commands = (codes "MULTI" ∷ []) ∷ (commands ++ (codes "EXEC" ∷ []) ∷ [])
+
+-- the commands that a pipeline sends; without any, none, atomic or not
+abbrev pub sent : Bool → List Command → List (List (List ℕ))
+sent atomic [] = []
+sent atomic (c ∷ cs) = framed atomic (words_of (c ∷ cs))

@@ -7,8 +7,9 @@ ghost use Rattle.std.specs.List.{All};
 ghost use Rattle.resp_value.specs.Data.{Data};
 ghost use Rattle.resp_read.specs.Reads.{Reads, IsProperPrefix, IsMalformed};
 ghost use Rattle.resp_read.specs.Values.{values, left_over, is_spoiled};
-ghost use Rattle.resp_write.specs.Pack.{pack};
-ghost use Rattle.resp_laws.specs.Commands.{IsWithinLimits, request, packed, requests};
+ghost use Rattle.resp_write.specs.Command.{CommandList};
+ghost use Rattle.resp_write.specs.Pack.{pack, pack_pipeline};
+ghost use Rattle.resp_laws.specs.Commands.{IsWithinLimits, request, packed, requests, words_of, sent};
 ghost use Rattle.resp_laws.specs.Pieces.{joined, piecewise};
 
 /// Does nothing. Its contract: whatever follows a packed command, the array of its name and arguments stands at the
@@ -25,6 +26,13 @@ pub fn packed_commands_are_read_back_in_order()
     ensures in_front { (commands : List (List (List ℕ))) (rest : List ℕ) → All IsWithinLimits commands → values (packed commands ++ rest) ≡ requests commands ++ values rest }
     ensures left { (commands : List (List (List ℕ))) (rest : List ℕ) → All IsWithinLimits commands → left_over (packed commands ++ rest) ≡ left_over rest }
     ensures spoiled { (commands : List (List (List ℕ))) (rest : List ℕ) → All IsWithinLimits commands → is_spoiled (packed commands ++ rest) ≡ is_spoiled rest }
+{}
+
+/// Does nothing. Its contract: of a packed pipeline exactly the requests of its commands are read, in order, with nothing
+/// left over: of a transaction MULTI before them and EXEC after, and of no commands none.
+pub fn a_packed_pipeline_is_read_back()
+    ensures exactly { (p : CommandList) → All IsWithinLimits (words_of p.commands) → values (pack_pipeline p) ≡ requests (sent p.atomic p.commands) }
+    ensures nothing_left { (p : CommandList) → All IsWithinLimits (words_of p.commands) → left_over (pack_pipeline p) ≡ [] }
 {}
 
 /// Does nothing. Its contract: commands that are not the same have not the same bytes.
