@@ -9,13 +9,21 @@ use std::alloc::{AllocError, Global};
 #[derive(Drop)]
 pub enum Submission {
     /// One command: its name and its arguments.
-    Cmd { args: Names },
+    Cmd {
+        args: Names,
+    },
     /// One command whose reply nobody awaits.
-    NoReply { args: Names },
+    NoReply {
+        args: Names,
+    },
     /// Commands that are sent together. Each has its reply.
-    Pipe { commands: Commands },
+    Pipe {
+        commands: Commands,
+    },
     /// Commands that are sent together, as a transaction.
-    Multi { commands: Commands },
+    Multi {
+        commands: Commands,
+    },
     /// Commands that are sent together. The first `offset` replies are skipped, and the next `count` are kept.
     Packed {
         offset: u32,

@@ -1,6 +1,6 @@
-use crate::{Action, Cause, Event, EventKind, Outcome, Submission};
+use crate::{Action, Cause, Commands, Event, EventKind, Outcome, Shape, Submission};
 use containers::{Bytes, Names};
-use resp_value::{RedisError, Value};
+use resp_value::{FaultKind, RedisError, Value, Values};
 use std::alloc::{AllocError, Global};
 use std::test::Fail;
 
@@ -19,6 +19,7 @@ fn is_get(event: &Event) -> bool {
     match &event.kind {
         EventKind::Submit { submission } => match submission {
             Submission::Cmd { args } => args.len() == 2 && event.word == 3,
+            _ => false,
         },
         _ => false,
     }
@@ -50,7 +51,149 @@ fn outcomes_are_copied(rt: HostRuntime) -> Result<(), Fail> {
     let alloc = rt.alloc();
     let one = Outcome::One(Value::Int(4)).clone(alloc)?;
     assert!(rt; matches!(one, Outcome::One(Value::Int(4))));
+    let mut values = Values::new(alloc);
+    values.push(Value::Okay)?;
+    match Outcome::Many(values).clone(alloc)? {
+        Outcome::Many(copies) => assert_eq!(rt; copies.len(), 1),
+        _ => return Err(Fail::from("no values")),
+    }
     let fault = Outcome::Fault(RedisError::Parse).clone(alloc)?;
     assert!(rt; matches!(fault, Outcome::Fault(RedisError::Parse)));
+    Ok(())
+}
+
+#[test]
+fn faults_are_copied(rt: HostRuntime) -> Result<(), AllocError> {
+    let alloc = rt.alloc();
+    let read = EventKind::ReadFault {
+        link: 1,
+        fault: FaultKind::Reset,
+    };
+    let write = EventKind::WriteFault {
+        link: 2,
+        fault: FaultKind::BrokenPipe,
+    };
+    assert!(rt;
+        matches!(
+            read.clone(alloc)?,
+            EventKind::ReadFault {
+                link: 1,
+                fault: FaultKind::Reset
+            }
+        )
+    );
+    assert!(rt;
+        matches!(
+            write.clone(alloc)?,
+            EventKind::WriteFault {
+                link: 2,
+                fault: FaultKind::BrokenPipe
+            }
+        )
+    );
+    Ok(())
+}
+
+fn word(alloc: Global, text: &[u8]) -> Result<Names, AllocError> {
+    let mut args = Names::new(alloc);
+    args.push(Bytes::from_slice(alloc, text)?)?;
+    Ok(args)
+}
+
+fn two_words(alloc: Global) -> Result<Commands, AllocError> {
+    let mut commands = Commands::new(alloc);
+    commands.push(word(alloc, b"GET")?)?;
+    commands.push(word(alloc, b"SET")?)?;
+    commands.clone(alloc)
+}
+
+/// One submission of each sort.
+fn submissions(alloc: Global) -> Result<Vec<Submission>, AllocError> {
+    let mut table = Vec::new(alloc);
+    table.push(Submission::Cmd {
+        args: word(alloc, b"GET")?,
+    })?;
+    table.push(Submission::NoReply {
+        args: word(alloc, b"SET")?,
+    })?;
+    table.push(Submission::Pipe {
+        commands: two_words(alloc)?,
+    })?;
+    table.push(Submission::Multi {
+        commands: two_words(alloc)?,
+    })?;
+    table.push(Submission::Packed {
+        offset: 3,
+        count: 0,
+        commands: two_words(alloc)?,
+    })?;
+    table.push(Submission::Multi {
+        commands: Commands::new(alloc),
+    })?;
+    Ok(table)
+}
+
+const GET: &[u8] = b"*1\r\n$3\r\nGET\r\n";
+
+const SET: &[u8] = b"*1\r\n$3\r\nSET\r\n";
+
+const BOTH: &[u8] = b"*1\r\n$3\r\nGET\r\n*1\r\n$3\r\nSET\r\n";
+
+const FRAMED: &[u8] =
+    b"*1\r\n$5\r\nMULTI\r\n*1\r\n$3\r\nGET\r\n*1\r\n$3\r\nSET\r\n*1\r\n$4\r\nEXEC\r\n";
+
+/// The bytes of each of them, its shape, and whether its reply is awaited.
+const WANTED: [(&[u8], Shape, bool); 6] = [
+    (GET, Shape::Single, true),
+    (SET, Shape::Single, false),
+    (
+        BOTH,
+        Shape::Pipeline {
+            offset: 0,
+            count: 2,
+            transaction: false,
+        },
+        true,
+    ),
+    (
+        FRAMED,
+        Shape::Pipeline {
+            offset: 3,
+            count: 1,
+            transaction: true,
+        },
+        true,
+    ),
+    (
+        BOTH,
+        Shape::Pipeline {
+            offset: 3,
+            count: 0,
+            transaction: false,
+        },
+        true,
+    ),
+    (
+        b"",
+        Shape::Pipeline {
+            offset: 1,
+            count: 1,
+            transaction: true,
+        },
+        true,
+    ),
+];
+
+#[test]
+fn submissions_have_bytes_and_shapes(rt: HostRuntime) -> Result<(), AllocError> {
+    let alloc = rt.alloc();
+    let table = submissions(alloc)?;
+    assert_eq!(rt; table.len(), WANTED.len());
+    for (submission, wanted) in table.iter().zip(WANTED.iter()) {
+        let copy = submission.clone(alloc)?;
+        assert_eq!(rt; copy.packed(alloc)?.as_slice(), wanted.0);
+        assert!(rt; copy.shape() == wanted.1);
+        assert_eq!(rt; copy.awaits_reply(), wanted.2);
+    }
     Ok(())
 }

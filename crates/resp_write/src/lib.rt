@@ -4,6 +4,7 @@
 mod arguments;
 mod command;
 mod lines;
+mod lists;
 mod named;
 mod pack;
 mod parts;
@@ -13,8 +14,9 @@ mod value_text;
 
 pub use arguments::ToRedisArgs;
 pub use command::{ArgsIter, Cmd};
+pub use lists::pack_lists;
 pub use named::cmd;
-pub use pack::{pack_lists, pack_names};
+pub use pack::pack_names;
 pub use pipeline::{CmdIter, Pipeline, pipe};
 pub use subscription::SubscriptionAction;
 pub use value_text::{canonical_text, write_value};

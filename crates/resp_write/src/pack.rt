@@ -1,5 +1,5 @@
 ghost use Rattle.std.specs.Prelude.{◌≡◌, ◌++◌, ◌∷◌, [], OnOk, IfOk};
-ghost use Rattle.resp_write.specs.Pack.{pack, pack_commands, pack_each, commands_of};
+ghost use Rattle.resp_write.specs.Pack.{pack, pack_commands, pack_each};
 
 use crate::command::Cmd;
 use crate::lines::{push_bulk_string, push_number_line};
@@ -30,7 +30,7 @@ pub fn pack_names(alloc: Global, args: &Names) -> Result<Bytes, AllocError>
 }
 
 /// Appends a command of one word.
-fn push_word(out: &mut Bytes, word: &[u8]) -> Result<(), AllocError>
+pub fn push_word(out: &mut Bytes, word: &[u8]) -> Result<(), AllocError>
     ensures { OnOk result (out.new ≡ out.old ++ pack (word.now ∷ [])) }
 {
     push_number_line(out, b'*', 1)?;
@@ -60,39 +60,4 @@ pub fn push_commands(out: &mut Bytes, atomic: bool, commands: &[Cmd]) -> Result<
     push_word(out, b"MULTI")?;
     push_each(out, commands)?;
     push_word(out, b"EXEC")
-}
-
-/// Appends commands of these arguments one after another.
-fn push_lists(out: &mut Bytes, lists: &[Names]) -> Result<(), AllocError>
-    ensures { OnOk result (out.new ≡ out.old ++ pack_each (commands_of lists.now)) }
-{
-    for args in lists {
-        push_command(out, args.as_slice())?;
-    }
-    Ok(())
-}
-
-/// Appends a pipeline of commands of these arguments, as a transaction or not.
-#[tactic(auto, using(crate::proofs::Framed::framed_lists))]
-fn push_framed_lists(out: &mut Bytes, atomic: bool, lists: &[Names]) -> Result<(), AllocError>
-    ensures { OnOk result (out.new ≡ out.old ++ pack_commands atomic (commands_of lists.now)) }
-{
-    if lists.is_empty() {
-        return Ok(());
-    }
-    if !atomic {
-        return push_lists(out, lists);
-    }
-    push_word(out, b"MULTI")?;
-    push_lists(out, lists)?;
-    push_word(out, b"EXEC")
-}
-
-/// The bytes of a pipeline of commands of these arguments, as a transaction or not. Without commands there are none.
-pub fn pack_lists(alloc: Global, atomic: bool, lists: &[Names]) -> Result<Bytes, AllocError>
-    ensures { IfOk result (λ packed. packed ≡ pack_commands atomic (commands_of lists.now)) }
-{
-    let mut out = Bytes::new(alloc);
-    push_framed_lists(&mut out, atomic, lists)?;
-    Ok(out)
 }

@@ -1,4 +1,4 @@
-use super::{Cmd, canonical_text, cmd, pack_names, write_value};
+use super::{Cmd, canonical_text, cmd, pack_lists, pack_names, write_value};
 use containers::{Bytes, Names};
 use resp_value::{Inner, Pairs, PushKind, ServerError, Value, Values};
 use std::alloc::{AllocError, Global};
@@ -133,5 +133,29 @@ fn commands_have_bytes(rt: HostRuntime) -> Result<(), AllocError> {
     let packed = pack_names(alloc, &names)?;
     let wanted: &[u8] = b"*1\r\n$4\r\nPING\r\n";
     assert_eq!(rt; packed.as_slice(), wanted);
+    Ok(())
+}
+
+#[test]
+fn lists_have_bytes(rt: HostRuntime) -> Result<(), AllocError> {
+    let alloc = rt.alloc();
+    let mut lists = Vec::new(alloc);
+    assert!(rt; pack_lists(alloc, true, lists.as_slice())?.is_empty());
+    for name in [b"GET", b"SET"] {
+        let mut names = Names::new(alloc);
+        names.push(bytes(alloc, name)?)?;
+        lists.push(names)?;
+    }
+    let each: &[u8] = b"*1\r\n$3\r\nGET\r\n*1\r\n$3\r\nSET\r\n";
+    assert_eq!(rt;
+        pack_lists(alloc, false, lists.as_slice())?.as_slice(),
+        each
+    );
+    let framed: &[u8] =
+        b"*1\r\n$5\r\nMULTI\r\n*1\r\n$3\r\nGET\r\n*1\r\n$3\r\nSET\r\n*1\r\n$4\r\nEXEC\r\n";
+    assert_eq!(rt;
+        pack_lists(alloc, true, lists.as_slice())?.as_slice(),
+        framed
+    );
     Ok(())
 }

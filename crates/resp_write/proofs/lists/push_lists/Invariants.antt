@@ -1,6 +1,6 @@
 use Rattle.std.proofs.Common.{◌≡◌, ◌++◌, drop}
 use Rattle.resp_write.specs.Pack.{pack_each, commands_of}
-use Rattle.resp_write.proofs.pack.push_lists.Given as goal
+use Rattle.resp_write.proofs.lists.push_lists.Given as goal
 
 -- what is written and what is left are the whole
 abbrev pub invariant-loop-args : goal.invariant-loop-args
