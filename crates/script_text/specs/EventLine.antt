@@ -80,11 +80,10 @@ submissions =
     ∷ (codes "packed", packed)
     ∷ []
 
--- what happens
-abbrev pub events : Forms EventKind
-events =
-    (codes "submit", λ words more. option_map Submit (by_first submissions words more))
-    ∷ (codes "cancel", whole (numbered Cancel))
+-- what happens besides
+unfoldable pub others : Forms EventKind
+others =
+    (codes "cancel", whole (numbered Cancel))
     ∷ (codes "connected", whole (numbered Connected))
     ∷ (codes "wrote", whole wrote)
     ∷ (codes "bytes", whole came)
@@ -93,6 +92,10 @@ events =
     ∷ (codes "write-fault", whole (failed WriteFault))
     ∷ (codes "shutdown", whole (alone Shutdown))
     ∷ []
+
+-- what happens
+abbrev pub events : Forms EventKind
+events = (codes "submit", λ words more. option_map Submit (by_first submissions words more)) ∷ others
 
 -- an event; its word is 0
 unfoldable pub event_of : LineWords → Option Event

@@ -24,10 +24,10 @@ abbrev pub is_well_escaped : List ℕ → Bool
 is_well_escaped [] = true
 is_well_escaped (b ∷ rest) = (not (b == 37) || begins_with_hex rest) && is_well_escaped rest
 
--- the bytes that a word stands for: no byte for `%-`, else each escape is its byte; nothing at all and `;` are no words
+-- the bytes that a word stands for: no byte for `%-`, else each escape is its byte; nothing at all is no word
 unfoldable pub unescaped : List ℕ → Option (List ℕ)
 unescaped raw =
-    if bytes_eq raw [] || bytes_eq raw (codes ";") then None else (
+    if bytes_eq raw [] then None else (
     if bytes_eq raw (codes "%-") then Some [] else (
     if is_well_escaped raw then Some (percent_decode raw) else None))
 
@@ -46,6 +46,7 @@ pub record LineWords : Type 0 where
   pub words : List (List ℕ)
   pub more : List (List (List ℕ))
 
+-- a line with these words between separators
 abbrev pub line_words : List (List (List ℕ)) → Option LineWords
 line_words [] = None
 line_words (words ∷ more) = Some (record { words = words; more = more })
