@@ -86,7 +86,7 @@ fn describe(alloc: Global, settled: &Settled, log: &mut Vec<u8>) -> Result<(), A
         Verdict::One(_) => log.extend_from_slice(b"other; ".as_slice()),
         Verdict::Fault(RedisError::Closed) => log.extend_from_slice(b"closed; ".as_slice()),
         Verdict::Fault(RedisError::Parse) => log.extend_from_slice(b"parse; ".as_slice()),
-        Verdict::Fault(RedisError::EmptyCommand) => log.extend_from_slice(b"empty; ".as_slice()),
+        Verdict::Fault(_) => log.extend_from_slice(b"another error; ".as_slice()),
     }
 }
 

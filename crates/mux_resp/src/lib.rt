@@ -5,8 +5,8 @@ pub use containers::{Bytes, Names};
 pub use resp_convert::{ConvertError, FromRedisValue};
 pub use resp_read::{ReadError, Reader};
 pub use resp_value::{
-    ErrorKind, Inner, Pairs, PushKind, Redirection, RedisError, RetryMethod, ServerError,
-    ServerErrorKind, Value, Values,
+    Aborts, ConfigName, ErrorKind, FaultKind, Inner, Pairs, PushKind, Redirection, RedisError,
+    RetryMethod, RouteNumbers, ServerError, ServerErrorKind, Value, Values,
 };
 pub use resp_write::{
     ArgsIter, Cmd, CmdIter, Pipeline, SubscriptionAction, ToRedisArgs, cmd, pipe,

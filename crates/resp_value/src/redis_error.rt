@@ -23,8 +23,8 @@ pub enum RedisError {
     /// The configuration is refused, for what it says of `name`.
     #[error("the configuration is refused: {}", .name.name())]
     Config { name: ConfigName },
-    /// The client doesn't serve a connection of this kind.
-    #[error("the client does not serve this connection")]
+    /// Automatic resubscription was asked for without a push sender.
+    #[error("automatic resubscription needs a push sender")]
     Client,
     /// A subscription call on a connection of RESP2.
     #[error("subscriptions need RESP3")]
@@ -41,10 +41,11 @@ pub enum RedisError {
     /// No initial node could be reached; `last` is the error of the last try.
     #[error("no initial node could be reached: {}", .last.as_slice().escape_ascii())]
     CreateFailed { last: Bytes },
-    /// The link ended by bytes that begin no value while this request was the oldest one that awaited an item.
-    #[error("the reply is no value")]
+    /// The link ended by bytes that begin no value while this request was the oldest one that awaited an item,
+    /// or the reply with the slots that it rests on has another shape.
+    #[error("the reply can not be read")]
     Parse,
-    /// A value isn't of the type that is wanted.
+    /// This value isn't of the type that is wanted.
     #[error("the value is of another type")]
     Convert { value: Value },
     /// No link serves the request.
@@ -56,19 +57,19 @@ pub enum RedisError {
     /// The server refused commands of a transaction, and so all of it.
     #[error("the transaction is aborted, {} of its commands are refused", .errors.len())]
     Aborted { errors: Aborts },
-    /// The server refused the credentials.
-    #[error("the server refused the credentials: {}", .text.as_slice().escape_ascii())]
+    /// The server refused the credentials, or their source ended before there were any.
+    #[error("authentication failed: {}", .text.as_slice().escape_ascii())]
     AuthFailed { text: Bytes },
-    /// The source of credentials failed.
+    /// The source of credentials gave this error before there were any.
     #[error("there are no credentials: {}", .text.as_slice().escape_ascii())]
     Credentials { text: Bytes },
-    /// Two commands of a pipeline have different slots.
+    /// Two commands of a pipeline go to these different slots.
     #[error("the pipeline has the slots {first} and {second}")]
     CrossSlot { first: u16, second: u16 },
-    /// Some routes of the request have no link.
+    /// These routes of the request have no link, while others have one.
     #[error("{} routes have no link", .routes.len())]
     RouteWithoutLink { routes: RouteNumbers },
-    /// A transaction was tried as often as was allowed.
+    /// A transaction had no answer in as many turns as were allowed.
     #[error("the transaction had no answer in {turns} turns")]
     TurnsSpent { turns: u32 },
 }

@@ -215,7 +215,7 @@ fn errors_without_fields_are_told_apart(rt: HostRuntime) -> Result<(), Fail> {
             plain(
                 ErrorKind::Client,
                 RetryMethod::NoRetry,
-                "the client does not serve this connection",
+                "automatic resubscription needs a push sender",
             ),
         ),
         (
@@ -239,7 +239,7 @@ fn errors_without_fields_are_told_apart(rt: HostRuntime) -> Result<(), Fail> {
             plain(
                 ErrorKind::Parse,
                 RetryMethod::Reconnect,
-                "the reply is no value",
+                "the reply can not be read",
             ),
         ),
         (
@@ -311,7 +311,7 @@ fn errors_with_texts_are_told_apart(rt: HostRuntime) -> Result<(), Fail> {
     let row = plain(
         ErrorKind::AuthenticationFailed,
         RetryMethod::Reconnect,
-        "the server refused the credentials: WRONGPASS\\n",
+        "authentication failed: WRONGPASS\\n",
     );
     assert!(rt; holds(alloc, RedisError::AuthFailed { text }, row)?);
     let text = Bytes::from_slice(alloc, b"gone")?;

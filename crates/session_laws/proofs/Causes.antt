@@ -43,9 +43,9 @@ pub record Hit (l : LinkLedger) (runs : Option Cause) (n : ℕ) : Type 0 where
 -- why a pending submission has this outcome
 abbrev pub Why : LinkLedger → Option Cause → Bool → ℕ → Submission → Outcome → Type 0
 Why l runs down n s (outcome.One v) = (k : ℕ) × (items : List Data) × StartedAs l n k × IsFull l k items × (verdict_of s items ≡ verdict.One v)
-Why l runs down n s (outcome.Fault error.EmptyCommand) = ⊥
 Why l runs down n s (outcome.Fault error.Closed) = (packed s ≢ []) × ((down ≡ true) ⊎ CutOff l runs n)
 Why l runs down n s (outcome.Fault error.Parse) = Hit l runs n
+Why l runs down n s (outcome.Fault other) = ⊥
 
 breaks_is : (t : List Action) → Breaks (link_ledger 0 t) (running t) → IsBroken t
 breaks_is t h = record { piece = h.piece; word = h.word; runs = h.runs_is; spoiled = h.spoiled }
@@ -58,9 +58,9 @@ cut_off_is t n h = record { over = h.over; not_full = h.not_full; not_hit = λ b
 
 pub why_caused : (t : List Action) (n : ℕ) (s : Submission) (o : Outcome) → Why (link_ledger 0 t) (running t) (is_shut t) n s o → CausedBy t n (story n t) s o
 why_caused t n s (outcome.One v) h = h
-why_caused t n s (outcome.Fault error.EmptyCommand) h = absurd h
 why_caused t n s (outcome.Fault error.Closed) h = inr (h.0, elim h.1 [ inl d ↦ inl d | inr c ↦ inr (cut_off_is t n c) ])
 why_caused t n s (outcome.Fault error.Parse) h = record { over = h.over; broken = breaks_is t h.broken; number = h.number; started = h.started; oldest = h.oldest }
+why_caused t n s (outcome.Fault other) h = absurd h
 
 pub started_stands : (l : LinkLedger) (n k : ℕ) → StartedAs l n k → StandsAs l.starts (owner.Try n 0) k
 started_stands l n k h = record { start = h.0; stands = h.1; owned = h.2 }

@@ -67,6 +67,7 @@ fn word_of(outcome: &Outcome) -> &'static str {
         Outcome::Fault(RedisError::Closed) => "closed",
         Outcome::Fault(RedisError::Parse) => "parse",
         Outcome::Fault(RedisError::EmptyCommand) => "empty",
+        Outcome::Fault(_) => "another error",
     }
 }
 

@@ -1,3 +1,4 @@
 pub mod Words
+pub mod Errors
 pub mod Show
 pub mod Writer

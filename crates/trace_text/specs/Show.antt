@@ -2,8 +2,6 @@
 use Rattle.std.specs.Prelude.{ℕ, ◌==◌, List, [], ◌∷◌, ◌++◌, codes, decimal, flat_map, if◌then◌else◌}
 use Rattle.std.specs.Str.{byte}
 use Rattle.resp_value.specs.View.{data_of}
-use Rattle.resp_value.specs.declared.redis_error.RedisError.{RedisError}
-use Rattle.resp_value.specs.declared.redis_error.RedisError.TheVariants as fault
 use Rattle.driver_model.specs.declared.config.Config.{Config}
 use Rattle.driver_model.specs.declared.event.Submission.{Submission}
 use Rattle.driver_model.specs.declared.event.Submission.TheVariants as submission
@@ -21,6 +19,7 @@ use Rattle.driver_model.specs.declared.outcome.Outcome.{Outcome}
 use Rattle.driver_model.specs.declared.outcome.Outcome.TheVariants.{One, Fault}
 use Rattle.resp_write.specs.Canonical.{canonical}
 use Rattle.trace_text.specs.Words.{line_of}
+use Rattle.trace_text.specs.Errors.{error_words}
 
 -- `HOST:PORT`
 abbrev pub address : List ℕ → ℕ → List ℕ
@@ -36,11 +35,6 @@ owner_word (Try s round) = submission_word s ++ byte "." ∷ decimal round
 
 abbrev pub wait_word : WaitKind → List ℕ
 wait_word wait.Connect = codes "connect"
-
-abbrev pub error_word : RedisError → List ℕ
-error_word fault.EmptyCommand = codes "empty"
-error_word fault.Closed = codes "closed"
-error_word fault.Parse = codes "parse"
 
 -- the word that random draws come from, where it isn't 0
 abbrev pub draw_words : ℕ → List (List ℕ)
@@ -77,7 +71,7 @@ cause_words (Event e) = draw_words e.word ++ event_words e.kind
 
 abbrev pub outcome_words : Outcome → List (List ℕ)
 outcome_words (One value) = codes "ok" ∷ canonical (data_of value) ∷ []
-outcome_words (Fault error) = codes "err" ∷ error_word error ∷ []
+outcome_words (Fault error) = codes "err" ∷ error_words error
 
 -- the words of an action, as they are before any escape
 abbrev pub words_of : Action → List (List ℕ)

@@ -3,6 +3,9 @@
 
 mod actions;
 mod causes;
+#[cfg(test)]
+mod error_tests;
+mod errors;
 mod names;
 mod outcomes;
 mod words;

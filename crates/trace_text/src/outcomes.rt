@@ -1,23 +1,12 @@
 ghost use Rattle.std.specs.Prelude.{◌≡◌, ◌++◌, OnOk};
 ghost use Rattle.trace_text.specs.Words.{following};
-ghost use Rattle.trace_text.specs.Show.{error_word, outcome_words};
+ghost use Rattle.trace_text.specs.Show.{outcome_words};
 
 use crate::writer::Writer;
 use driver_model::Outcome;
-use resp_value::{RedisError, Value};
+use resp_value::Value;
 use resp_write::canonical_text;
 use std::alloc::{AllocError, Global};
-
-/// The word of an error.
-fn error_word(error: &RedisError) -> &'static [u8]
-    ensures { result.now ≡ error_word error.now }
-{
-    match error {
-        RedisError::EmptyCommand => b"empty",
-        RedisError::Closed => b"closed",
-        RedisError::Parse => b"parse",
-    }
-}
 
 impl Writer {
     /// The words of what a submission came to.
@@ -29,7 +18,7 @@ impl Writer {
             Outcome::One(value) => self.reply(alloc, value),
             Outcome::Fault(error) => {
                 self.word(b"err")?;
-                self.word(error_word(error))
+                self.error(alloc, error)
             }
         }
     }

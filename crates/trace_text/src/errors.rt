@@ -1,0 +1,139 @@
+ghost use Rattle.std.specs.Prelude.{◌≡◌, ◌++◌, ◌∷◌, [], OnOk, map, decimal};
+ghost use Rattle.trace_text.specs.Words.{following};
+ghost use Rattle.trace_text.specs.Errors.{abort_word, error_words, server_text};
+
+use crate::writer::Writer;
+use containers::Bytes;
+use itoa::Buffer;
+use resp_value::{RedisError, ServerError, Value};
+use resp_write::canonical_text;
+use std::alloc::{AllocError, Global};
+
+/// A server's error behind a text.
+fn append_server_text(text: &mut Bytes, error: &ServerError) -> Result<(), AllocError>
+    ensures { OnOk result (text.new ≡ text.old ++ server_text error.now) }
+{
+    text.extend_from_slice(error.code.as_slice())?;
+    if let Some(detail) = &error.detail {
+        text.push(b' ')?;
+        text.extend_from_slice(detail.as_slice())?;
+    }
+    Ok(())
+}
+
+impl Writer {
+    /// The words of why there is no reply.
+    pub fn error(&mut self, alloc: Global, error: &RedisError) -> Result<(), AllocError>
+        ensures before { self.new.before ≡ self.old.before }
+        ensures ok { OnOk result (self.new.line ≡ self.old.line ++ following (error_words error.now)) }
+    {
+        match error {
+            RedisError::Config { name } => self.word_and(b"config", name.name().as_bytes()),
+            RedisError::Client => self.word(b"client"),
+            RedisError::Resp3Required => self.word(b"resp3"),
+            RedisError::EmptyCommand => self.word(b"empty"),
+            RedisError::Closed => self.word(b"closed"),
+            RedisError::Io { fault } => self.word_and(b"io", fault.name().as_bytes()),
+            RedisError::CreateFailed { last } => self.word_and(b"create-failed", last.as_slice()),
+            RedisError::Parse => self.word(b"parse"),
+            RedisError::Convert { value } => self.convert(alloc, value),
+            RedisError::NotFound => self.word(b"not-found"),
+            RedisError::Server(error) => self.server(error),
+            RedisError::Aborted { errors } => self.aborted(alloc, errors.as_slice()),
+            RedisError::AuthFailed { text } => self.word_and(b"auth-failed", text.as_slice()),
+            RedisError::Credentials { text } => self.word_and(b"creds", text.as_slice()),
+            RedisError::CrossSlot { first, second } => self.cross_slot(*first, *second),
+            RedisError::RouteWithoutLink { routes } => self.no_link(routes.as_slice()),
+            RedisError::TurnsSpent { turns } => {
+                self.word(b"turns")?;
+                self.number(u64::from(*turns))
+            }
+        }
+    }
+
+    /// Two more words.
+    fn word_and(&mut self, word: &[u8], next: &[u8]) -> Result<(), AllocError>
+        ensures before { self.new.before ≡ self.old.before }
+        ensures ok { OnOk result (self.new.line ≡ self.old.line ++ following (word.now ∷ next.now ∷ [])) }
+    {
+        self.word(word)?;
+        self.word(next)
+    }
+
+    fn convert(&mut self, alloc: Global, value: &Value) -> Result<(), AllocError>
+        ensures before { self.new.before ≡ self.old.before }
+        ensures ok { OnOk result (self.new.line ≡ self.old.line ++ following (error_words (RedisError.Convert value.now))) }
+    {
+        let text = canonical_text(alloc, value)?;
+        self.word_and(b"convert", text.as_slice())
+    }
+
+    fn server(&mut self, error: &ServerError) -> Result<(), AllocError>
+        ensures before { self.new.before ≡ self.old.before }
+        ensures ok { OnOk result (self.new.line ≡ self.old.line ++ following (error_words (RedisError.Server error.now))) }
+    {
+        self.word_and(b"server", error.code.as_slice())?;
+        match &error.detail {
+            Some(detail) => self.word(detail.as_slice()),
+            None => Ok(()),
+        }
+    }
+
+    fn cross_slot(&mut self, first: u16, second: u16) -> Result<(), AllocError>
+        ensures before { self.new.before ≡ self.old.before }
+        ensures ok { OnOk result (self.new.line ≡ self.old.line ++ following (error_words (RedisError.CrossSlot first second))) }
+    {
+        self.word(b"cross-slot")?;
+        self.number(u64::from(first))?;
+        self.number(u64::from(second))
+    }
+
+    /// One more word: a position in a transaction and the server's error there.
+    fn abort(&mut self, alloc: Global, position: u32, error: &ServerError) -> Result<(), AllocError>
+        ensures before { self.new.before ≡ self.old.before }
+        ensures ok { OnOk result (self.new.line ≡ self.old.line ++ following (abort_word (position, error.now) ∷ [])) }
+    {
+        let mut digits = Buffer::new();
+        let mut word = Bytes::from_slice(alloc, digits.format(position).as_bytes())?;
+        word.push(b':')?;
+        append_server_text(&mut word, error)?;
+        self.word(word.as_slice())
+    }
+
+    fn aborted(&mut self, alloc: Global, errors: &[(u32, ServerError)]) -> Result<(), AllocError>
+        ensures before { self.new.before ≡ self.old.before }
+        ensures ok { OnOk result (self.new.line ≡ self.old.line ++ following (error_words (RedisError.Aborted errors.now))) }
+    {
+        self.word(b"aborted")?;
+        self.aborts(alloc, errors)
+    }
+
+    fn aborts(&mut self, alloc: Global, errors: &[(u32, ServerError)]) -> Result<(), AllocError>
+        ensures before { self.new.before ≡ self.old.before }
+        ensures ok { OnOk result (self.new.line ≡ self.old.line ++ following (map abort_word errors.now)) }
+    {
+        for item in errors {
+            self.abort(alloc, item.0, &item.1)?;
+        }
+        Ok(())
+    }
+
+    fn no_link(&mut self, routes: &[u32]) -> Result<(), AllocError>
+        ensures before { self.new.before ≡ self.old.before }
+        ensures ok { OnOk result (self.new.line ≡ self.old.line ++ following (error_words (RedisError.RouteWithoutLink routes.now))) }
+    {
+        self.word(b"no-link")?;
+        self.numbers(routes)
+    }
+
+    /// Each number as a word.
+    fn numbers(&mut self, numbers: &[u32]) -> Result<(), AllocError>
+        ensures before { self.new.before ≡ self.old.before }
+        ensures ok { OnOk result (self.new.line ≡ self.old.line ++ following (map decimal numbers.now)) }
+    {
+        for number in numbers {
+            self.number(u64::from(*number))?;
+        }
+        Ok(())
+    }
+}
