@@ -6,6 +6,7 @@ mod link;
 mod message;
 mod outbox;
 mod row;
+mod verdicts;
 
 pub use errors::{EnqueueError, LinkFault, StartError};
 pub use link::LinkCore;

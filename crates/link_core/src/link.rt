@@ -485,7 +485,7 @@ fn deal_value(
 {
     note_push(alloc, &value, out.len() as u64, pushes)?;
     if is_item(&value) {
-        return row.deal(value, out);
+        return row.deal(alloc, value, out);
     }
     Ok(())
 }

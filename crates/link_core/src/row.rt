@@ -1,11 +1,12 @@
 ghost use Rattle.std.specs.Prelude.{◌≡◌, [], ◌∷◌, ◌++◌, length, MatchOption, OnOk, OnErr};
-ghost use Rattle.driver_model.specs.Shape.{need as need_of, verdict as verdict_of};
+ghost use Rattle.driver_model.specs.Shape.{need as need_of};
 ghost use Rattle.link_core.specs.Dealing.{settled_by};
 ghost use Rattle.link_core.specs.Ends.{failed_by, hit_by};
 ghost use Rattle.link_core.specs.Row.{lack as lack_of};
 
 use crate::errors::LinkFault;
 use crate::message::{Entry, Settled};
+use crate::verdicts::verdict;
 use driver_model::{Shape, Verdict};
 use resp_value::{RedisError, Value, Values};
 use std::alloc::{AllocError, Global};
@@ -102,24 +103,34 @@ impl Row {
     }
 
     /// The oldest message, with one item more: it goes back to the front, or it is settled.
-    fn give(&mut self, entry: Entry, out: &mut Vec<Settled>) -> Result<(), AllocError>
+    fn give(
+        &mut self,
+        alloc: Global,
+        entry: Entry,
+        out: &mut Vec<Settled>,
+    ) -> Result<(), AllocError>
         ensures { OnOk result (record { row = self.new; out = out.new.items } ≡ given (record { row = self.old; out = out.old.items }) entry self.old) }
     {
         if (entry.got.len() as u64) < need(entry.shape) {
             self.push_front(entry)
         } else {
-            settle(entry, out)
+            settle(alloc, entry, out)
         }
     }
 
     /// Deals an item: it goes to the oldest message, and one that finds none is dropped.
-    pub fn deal(&mut self, item: Value, out: &mut Vec<Settled>) -> Result<(), AllocError>
+    pub fn deal(
+        &mut self,
+        alloc: Global,
+        item: Value,
+        out: &mut Vec<Settled>,
+    ) -> Result<(), AllocError>
         ensures { OnOk result (record { row = self.new; out = out.new.items } ≡ dealt (record { row = self.old; out = out.old.items }) (data_of item)) }
     {
         match self.pop_front() {
             Some(mut entry) => {
                 entry.got.push(item)?;
-                self.give(entry, out)
+                self.give(alloc, entry, out)
             }
             None => Ok(()),
         }
@@ -213,23 +224,8 @@ fn lack(entry: &Entry) -> u64
     need(entry.shape).saturating_sub(entry.got.len() as u64)
 }
 
-/// What the items of a full message are.
-fn verdict(alloc: Global, shape: Shape, got: Values) -> Result<Verdict, AllocError>
-    ensures { IfOk result (λ v. v ≡ verdict_of shape got) }
-{
-    match shape {
-        Shape::Single => Ok(Verdict::One(first(got))),
-        Shape::Pipeline {
-            offset,
-            count: _,
-            transaction,
-        } => pipeline_verdict(alloc, offset as usize, transaction, got),
-    }
-}
-
-// skeleton
 /// The verdict of a full message, if it is awaited.
-fn settle(entry: Entry, out: &mut Vec<Settled>) -> Result<(), AllocError>
+fn settle(alloc: Global, entry: Entry, out: &mut Vec<Settled>) -> Result<(), AllocError>
     ensures { OnOk result (out.new.items ≡ out.old.items ++ settled_by entry) }
 {
     let Entry {
@@ -241,7 +237,7 @@ fn settle(entry: Entry, out: &mut Vec<Settled>) -> Result<(), AllocError>
     if !awaited {
         return Ok(());
     }
-    let verdict = verdict(shape, got);
+    let verdict = verdict(alloc, shape, got)?;
     out.push(Settled { id, verdict })?;
     Ok(())
 }

@@ -1,7 +1,7 @@
 use crate::{EnqueueError, LinkCore, LinkFault, PushAt, Settled, StartError};
 use driver_model::{Shape, Verdict};
 use resp_read::ReadError;
-use resp_value::{RedisError, Value};
+use resp_value::{FaultKind, RedisError, Value};
 use std::alloc::{AllocError, Global};
 use std::process::Abort;
 
@@ -11,6 +11,10 @@ enum Call {
     Put(u64, &'static str),
     /// A message whose verdict is not wanted.
     PutAnswered(u64, &'static str),
+    /// A pipeline: how many items it skips, and how many it keeps.
+    PutPipe(u64, u32, u32),
+    /// A transaction of so many commands.
+    PutMulti(u64, u32),
     Start,
     Offer,
     Wrote(u64),
@@ -28,7 +32,29 @@ fn put(
     answered: bool,
     log: &mut Vec<u8>,
 ) -> Result<(), AllocError> {
-    let word: &str = match link.enqueue(alloc, id, text.as_bytes(), Shape::Single, answered) {
+    put_shape(alloc, link, id, text, Shape::Single, answered, log)
+}
+
+fn put_pipe(
+    alloc: Global,
+    link: &mut LinkCore,
+    id: u64,
+    shape: Shape,
+    log: &mut Vec<u8>,
+) -> Result<(), AllocError> {
+    put_shape(alloc, link, id, "pipe", shape, false, log)
+}
+
+fn put_shape(
+    alloc: Global,
+    link: &mut LinkCore,
+    id: u64,
+    text: &str,
+    shape: Shape,
+    answered: bool,
+    log: &mut Vec<u8>,
+) -> Result<(), AllocError> {
+    let word: &str = match link.enqueue(alloc, id, text.as_bytes(), shape, answered) {
         Ok(()) => if link.is_full() {
             "put, full; "
         } else {
@@ -75,19 +101,47 @@ fn wrote(
     log.extend_from_slice(format!(in alloc; "left {left}; ")?.as_bytes())
 }
 
+fn describe_value(alloc: Global, value: &Value, log: &mut Vec<u8>) -> Result<(), AllocError> {
+    match value {
+        Value::Int(n) => log.extend_from_slice(format!(in alloc; "{n}")?.as_bytes()),
+        Value::Okay => log.extend_from_slice(b"okay".as_slice()),
+        Value::ServerError(_) => log.extend_from_slice(b"error".as_slice()),
+        _ => log.extend_from_slice(b"other".as_slice()),
+    }
+}
+
+fn describe_fault(alloc: Global, error: &RedisError, log: &mut Vec<u8>) -> Result<(), AllocError> {
+    match error {
+        RedisError::Closed => log.extend_from_slice(b"closed".as_slice()),
+        RedisError::Parse => log.extend_from_slice(b"parse".as_slice()),
+        RedisError::Io { fault } => log.extend_from_slice(fault.name().as_bytes()),
+        RedisError::Server(_) => log.extend_from_slice(b"server".as_slice()),
+        RedisError::Aborted { errors } => {
+            log.extend_from_slice(b"aborted".as_slice())?;
+            for refused in errors.as_slice() {
+                let position = refused.0;
+                log.extend_from_slice(format!(in alloc; " {position}")?.as_bytes())?;
+            }
+            Ok(())
+        }
+        _ => log.extend_from_slice(b"fault".as_slice()),
+    }
+}
+
 fn describe(alloc: Global, settled: &Settled, log: &mut Vec<u8>) -> Result<(), AllocError> {
     let id = settled.id;
     log.extend_from_slice(format!(in alloc; "{id} ")?.as_bytes())?;
     match &settled.verdict {
-        Verdict::One(Value::Int(n)) => log.extend_from_slice(format!(in alloc;
-            "{n}; "
-        )?.as_bytes()),
-        Verdict::One(Value::Okay) => log.extend_from_slice(b"okay; ".as_slice()),
-        Verdict::One(_) => log.extend_from_slice(b"other; ".as_slice()),
-        Verdict::Fault(RedisError::Closed) => log.extend_from_slice(b"closed; ".as_slice()),
-        Verdict::Fault(RedisError::Parse) => log.extend_from_slice(b"parse; ".as_slice()),
-        Verdict::Fault(_) => log.extend_from_slice(b"another error; ".as_slice()),
+        Verdict::One(value) => describe_value(alloc, value, log)?,
+        Verdict::Many(values) => {
+            for value in values.as_slice() {
+                log.extend_from_slice(b"+".as_slice())?;
+                describe_value(alloc, value, log)?;
+            }
+        }
+        Verdict::Fault(error) => describe_fault(alloc, error, log)?,
     }
+    log.extend_from_slice(b"; ".as_slice())
 }
 
 fn describe_all(alloc: Global, settled: &[Settled], log: &mut Vec<u8>) -> Result<(), AllocError> {
@@ -150,6 +204,22 @@ fn make(
     match call {
         Call::Put(id, text) => put(alloc, link, *id, text, false, log),
         Call::PutAnswered(id, text) => put(alloc, link, *id, text, true, log),
+        Call::PutPipe(id, offset, count) => {
+            let shape = Shape::Pipeline {
+                offset: *offset,
+                count: *count,
+                transaction: false,
+            };
+            put_pipe(alloc, link, *id, shape, log)
+        }
+        Call::PutMulti(id, commands) => {
+            let shape = Shape::Pipeline {
+                offset: commands.saturating_add(1),
+                count: 1,
+                transaction: true,
+            };
+            put_pipe(alloc, link, *id, shape, log)
+        }
         Call::Start => start(alloc, link, log),
         Call::Offer => offer(link, log),
         Call::Wrote(count) => wrote(rt, alloc, link, *count, log),
@@ -270,5 +340,70 @@ fn ends_settle_each_message(rt: HostRuntime) -> Result<(), AllocError> {
     ];
     let wanted =
         "put; starts 1, open 1; 0 1 1 1; put; 1 closed; 2 closed; put; starts 1, open 1; 1 3 1 1; put; 4 closed; ";
+    run(&rt, alloc, 9, 1000, calls.as_slice(), wanted)
+}
+
+#[test]
+fn pipelines_take_their_items(rt: HostRuntime) -> Result<(), AllocError> {
+    let calls = [
+        Call::PutPipe(1, 0, 2),
+        Call::PutPipe(2, 1, 0),
+        Call::PutPipe(3, 0, 0),
+        Call::PutAnswered(4, "x"),
+        Call::Put(5, "y"),
+        Call::Start,
+        Call::Bytes(":1\r\n"),
+        Call::Bytes("-ERR x\r\n:3\r\n:4\r\n:5\r\n:6\r\n:7\r\n"),
+    ];
+    let wanted =
+        "put; put; put; put; put; starts 5, open 7; 0 1 2 4; 1 2 2 4; 2 3 1 4; 3 4 1 1; 4 5 1 1; \
+1 +1+error; 2 +4; 3 +5; 5 7; ";
+    run(&rt, rt.alloc(), 9, 1000, calls.as_slice(), wanted)
+}
+
+#[test]
+fn transactions_end_in_values_or_errors(rt: HostRuntime) -> Result<(), AllocError> {
+    let calls = [
+        Call::PutMulti(1, 2),
+        Call::PutMulti(2, 1),
+        Call::PutMulti(3, 1),
+        Call::PutMulti(4, 2),
+        Call::PutMulti(5, 1),
+        Call::Start,
+        Call::Bytes("+OK\r\n+QUEUED\r\n-ERR bad\r\n-EXECABORT x\r\n"),
+        Call::Bytes("-NOAUTH x\r\n-NOAUTH x\r\n-ERR y\r\n"),
+        Call::Bytes("+OK\r\n+QUEUED\r\n*1\r\n:1\r\n"),
+        Call::Bytes("+OK\r\n-ERR a\r\n-ERR b\r\n*0\r\n"),
+        Call::Bytes("+OK\r\n+QUEUED\r\n-ERR z\r\n"),
+    ];
+    let wanted =
+        "put; put; put; put; put; starts 5, open 17; 0 1 4 4; 1 2 3 4; 2 3 3 4; 3 4 4 4; 4 5 3 4; \
+1 aborted 1; 2 server; 3 +other; 4 aborted 0 1; 5 +error; ";
+    run(&rt, rt.alloc(), 9, 1000, calls.as_slice(), wanted)
+}
+
+#[test]
+fn faults_hit_single_commands(rt: HostRuntime) -> Result<(), AllocError> {
+    let alloc = rt.alloc();
+    let reset = LinkFault::Io {
+        fault: FaultKind::Reset,
+    };
+    let calls = [
+        Call::Put(1, "a"),
+        Call::PutPipe(2, 0, 2),
+        Call::Start,
+        Call::Put(3, "a"),
+        Call::Fault(reset),
+    ];
+    let wanted = "put; put; starts 2, open 3; 0 1 1 1; 1 2 2 4; put; 1 reset; 2 closed; 3 closed; ";
+    run(&rt, alloc, 9, 1000, calls.as_slice(), wanted)?;
+    let calls = [
+        Call::PutPipe(1, 0, 2),
+        Call::Put(2, "a"),
+        Call::Start,
+        Call::Bytes(":1\r\n"),
+        Call::Fault(reset),
+    ];
+    let wanted = "put; put; starts 2, open 3; 0 1 2 4; 1 2 1 1; 1 closed; 2 closed; ";
     run(&rt, alloc, 9, 1000, calls.as_slice(), wanted)
 }

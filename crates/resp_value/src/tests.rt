@@ -46,6 +46,10 @@ fn values_are_taken_from_the_front(rt: HostRuntime) -> Result<(), Fail> {
     let mut values = Values::new(alloc);
     values.push(Value::Int(1))?;
     values.push(Value::Boolean(true))?;
+    values.push(Value::Okay)?;
+    let mut moved = values.split_off(2)?;
+    assert!(rt; matches!(moved.pop_front(), Some(Value::Okay)));
+    assert!(rt; moved.pop_front().is_none());
     assert!(rt; matches!(values.pop_front(), Some(Value::Int(1))));
     assert!(rt; matches!(values.pop_front(), Some(Value::Boolean(true))));
     assert!(rt; values.pop_front().is_none());

@@ -102,7 +102,7 @@ pub enum Value {
 }
 
 impl Values {
-    ghost use Rattle.std.specs.Prelude.{◌≡◌, ◌∷◌, [], ◌++◌, length, IfOk, OnOk, OnErr, MatchOption};
+    ghost use Rattle.std.specs.Prelude.{◌≡◌, ◌≤◌, ◌∷◌, [], ◌++◌, length, take, drop, IfOk, OnOk, OnErr, MatchOption};
     ghost use Rattle.resp_value.specs.View.{data_of, list_view};
 
     pub fn new(alloc: Global) -> Values
@@ -142,6 +142,17 @@ impl Values {
         } else {
             Some(self.items.remove(0))
         }
+    }
+
+    /// Moves the values from `at` on into values of their own. An error leaves these as they were.
+    pub fn split_off(&mut self, at: usize) -> Result<Values, AllocError>
+        requires { at ≤ length self.old }
+        ensures front { OnOk result (self.new ≡ take at self.old) }
+        ensures back { IfOk result (λ moved. moved ≡ drop at self.old) }
+        ensures err { OnErr result (self.new ≡ self.old) }
+    {
+        let items = self.items.split_off(at)?;
+        Ok(Values { items })
     }
 
     #[cycle(copy)]

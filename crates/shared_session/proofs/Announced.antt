@@ -15,4 +15,6 @@ bad_announced c a (event.Connected l) = refl
 bad_announced c a (event.Wrote l n) = refl
 bad_announced c a (event.Bytes l piece) = refl
 bad_announced c a (event.Ended l) = refl
+bad_announced c a (event.ReadFault l kind) = refl
+bad_announced c a (event.WriteFault l kind) = refl
 bad_announced c a event.Shutdown = refl

@@ -6,19 +6,21 @@ use Rattle.std.specs.Prelude.{if◌then◌else◌, nat_le}
 use Rattle.driver_model.specs.declared.action.Action.TheVariants as action
 use Rattle.driver_model.specs.declared.action.Cause.TheVariants as cause
 use Rattle.driver_model.specs.declared.event.Event.{Event}
+use Rattle.driver_model.specs.declared.outcome.Outcome.{Outcome}
+use Rattle.driver_model.specs.declared.outcome.Outcome.TheVariants as outcome
+use Rattle.resp_value.specs.declared.value.Value.TheVariants.{Nil}
 use Rattle.link_core.specs.declared.message.Started.{Started}
-use Rattle.link_core.specs.Link.{is_full, enqueued, started_all}
+use Rattle.link_core.specs.Link.{is_full, started_all}
 use Rattle.link_core.specs.Link.{is_spent as is_link_spent}
 use Rattle.link_core.specs.Outbox.{can_offer}
 use Rattle.link_core.proofs.StartLemmas.{numbers_rise}
 use Rattle.shared_session.specs.declared.connection.Connection.{Connection}
 use Rattle.shared_session.specs.declared.connection.Phase.{Phase}
 use Rattle.shared_session.specs.declared.connection.Phase.TheVariants as phase
-use Rattle.shared_session.specs.declared.connection.Progress.TheVariants as progress
 use Rattle.shared_session.specs.declared.connection.Waiting.{Waiting}
 use Rattle.shared_session.specs.declared.core_state.Core.{Core}
-use Rattle.shared_session.specs.Requests.{is_waiting_at}
-use Rattle.shared_session.specs.Steps.{acts, at_progress, message_of, is_up, is_dialing, shown_each, started, advanced, advanced_each, advanced_all, passes, offers, writes, waits_shown, waits_each, flushed}
+use Rattle.shared_session.specs.Requests.{is_open_at, is_waiting_at}
+use Rattle.shared_session.specs.Steps.{acts, answered, placed, told_at_place, is_up, is_dialing, shown_each, started, advanced, advanced_each, advanced_all, passes, offers, writes, waits_shown, waits_each, flushed}
 use Rattle.shared_session.specs.Turn.{applied, turn, is_spent}
 
 -- how many messages have started
@@ -44,10 +46,21 @@ rises_either : (b : Bool) (n : ℕ) (c d : Connection) → n ≤ count c → n �
 rises_either true n c d h k = h
 rises_either false n c d h k = k
 
+count_either : (b : Bool) (c d e : Connection) → count d ≡ count c → count e ≡ count c → count (if b then d else e) ≡ count c
+count_either true c d e h k = h
+count_either false c d e h k = k
+
+answered_count : (c : Connection) (n : ℕ) (o : Outcome) → count (answered c n o) ≡ count c
+answered_count c n o = count_either (is_open_at c.requests n) c _ c refl refl
+
+told_count : (c : Connection) (w : Waiting) → count (told_at_place c w) ≡ count c
+told_count c w = count_either w.awaited c c (answered c w.number (outcome.One Nil)) refl (answered_count c w.number (outcome.One Nil))
+
 advanced_rises : (c : Connection) (w : Waiting) → count c ≤ count (advanced c w)
 advanced_rises c w =
-    let placed : Connection = record (at_progress c w.number progress.Placed) { link = enqueued c.link (message_of w) } in
-    rises_either (is_waiting_at c.requests w.number) (count c) (started placed) c (started_rises placed) (le_refl (count c))
+    let told = told_at_place (placed c w) w in
+    let same : count told ≡ count c = told_count (placed c w) w in
+    rises_either (is_waiting_at c.requests w.number) (count c) (started told) c (omega (arith, same, started_rises told)) (le_refl (count c))
 
 advanced_each_rises : (c : Connection) (ws : List Waiting) → count c ≤ count (advanced_each c ws)
 advanced_each_rises c [] = le_refl (count c)
@@ -93,10 +106,6 @@ spent_first c up h =
 -- or while they are moved
 pub spent_later : (c : Connection) → is_up c.phase ≡ true → is_link_spent (advanced_all (started c)).link ≡ true → is_link_spent (passes c).link ≡ true
 spent_later c up h = subst (λ (x : Connection). is_link_spent x.link ≡ true) (sym (moved (is_up c.phase) c (advanced_all (started c)) up)) h
-
-count_either : (b : Bool) (c d e : Connection) → count d ≡ count c → count e ≡ count c → count (if b then d else e) ≡ count c
-count_either true c d e h k = h
-count_either false c d e h k = k
 
 waits_shown_count : (c : Connection) (n : ℕ) → count (waits_shown c n) ≡ count c
 waits_shown_count c n = count_either (is_waiting_at c.requests n) c _ c (count_either (is_dialing c.phase) c _ c refl refl) refl

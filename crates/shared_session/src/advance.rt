@@ -1,15 +1,16 @@
-ghost use Rattle.std.specs.Prelude.{◌≡◌, ◌<◌, ◌^◌, length, OnOk, IfOk, IsErrOf, true, false};
+ghost use Rattle.std.specs.Prelude.{◌≡◌, ◌<◌, ◌≤◌, ◌^◌, length, OnOk, IfOk, IsErrOf, true, false};
 
 use crate::connection::{Connection, Phase, Progress, Waiting};
 use crate::errors::TurnError;
 use containers::Queue;
-use driver_model::{Action, Owner, Shape};
+use driver_model::{Action, Outcome, Owner};
 use link_core::{EnqueueError, StartError, Started};
+use resp_value::Value;
 use std::alloc::{AllocError, Global};
 
 impl Connection {
     ghost use Rattle.link_core.specs.Link.{is_full, is_spent};
-    ghost use Rattle.shared_session.specs.Steps.{shown_each, started, advanced, advanced_all, passes as passes_of};
+    ghost use Rattle.shared_session.specs.Steps.{shown_each, started, placed, told_at_place, advanced, advanced_all, passes as passes_of};
 
     /// Each start is shown.
     fn show_starts(&mut self, starts: Vec<Started>) -> Result<(), AllocError>
@@ -49,9 +50,43 @@ impl Connection {
         Ok(())
     }
 
+    /// A submission takes its place in the queue.
+    fn place(&mut self, alloc: Global, request: &Waiting) -> Result<(), AllocError>
+        requires free { is_full self.old.link ≡ false }
+        requires there { request.now.number < length self.old.requests }
+        ensures core { OnOk result (self.new ≡ placed self.old request.now) }
+        ensures count { length self.new.requests ≡ length self.old.requests }
+    {
+        self.requests.set(request.number as usize, Progress::Placed);
+        match self.link.enqueue(
+            alloc,
+            u64::from(request.number),
+            request.packed.as_slice(),
+            request.shape,
+            !request.awaited,
+        ) {
+            Ok(()) => Ok(()),
+            Err(EnqueueError::Full) => unreachable!(),
+            Err(EnqueueError::NoMemory) => Err(AllocError),
+        }
+    }
+
+    /// A command whose reply nobody awaits is answered at its place.
+    fn tell_at_place(&mut self, alloc: Global, request: &Waiting) -> Result<(), AllocError>
+        requires { length self.old.requests ≤ 2 ^ 32 }
+        ensures core { OnOk result (self.new ≡ told_at_place self.old request.now) }
+        ensures count { length self.new.requests ≡ length self.old.requests }
+    {
+        if request.awaited {
+            return Ok(());
+        }
+        self.answer(alloc, u64::from(request.number), Outcome::One(Value::Nil))
+    }
+
     /// One submission is moved as far as it can go: if it still waits, it takes its place, and messages start.
     fn advance(&mut self, alloc: Global, request: Waiting) -> Result<(), TurnError>
-        requires { is_full self.old.link ≡ false }
+        requires free { is_full self.old.link ≡ false }
+        requires few { length self.old.requests ≤ 2 ^ 32 }
         ensures core { OnOk result (self.new ≡ advanced self.old request) }
         ensures spent { IsErrOf result TurnError.Spent → is_spent (advanced self.old request).link ≡ true }
         ensures count { length self.new.requests ≡ length self.old.requests }
@@ -59,21 +94,14 @@ impl Connection {
         if !self.is_waiting(request.number) {
             return Ok(());
         }
-        self.requests.set(request.number as usize, Progress::Placed);
-        let id = u64::from(request.number);
-        match self
-            .link
-            .enqueue(alloc, id, request.packed.as_slice(), Shape::Single, false)
-        {
-            Ok(()) => {}
-            Err(EnqueueError::Full) => unreachable!(),
-            Err(EnqueueError::NoMemory) => return Err(TurnError::NoMemory),
-        }
+        self.place(alloc, &request)?;
+        self.tell_at_place(alloc, &request)?;
         self.start(alloc)
     }
 
     /// The submissions that wait are moved in order, until the queue is full.
     fn advance_waiting(&mut self, alloc: Global) -> Result<(), TurnError>
+        requires { length self.old.requests ≤ 2 ^ 32 }
         ensures core { OnOk result (self.new ≡ advanced_all self.old) }
         ensures spent { IsErrOf result TurnError.Spent → is_spent (advanced_all self.old).link ≡ true }
         ensures count { length self.new.requests ≡ length self.old.requests }
@@ -97,6 +125,7 @@ impl Connection {
 
     /// Every open submission is moved as far as it can go.
     pub fn advance_all(&mut self, alloc: Global) -> Result<(), TurnError>
+        requires { length self.old.requests ≤ 2 ^ 32 }
         ensures core { OnOk result (self.new ≡ passes_of self.old) }
         ensures spent { IsErrOf result TurnError.Spent → is_spent (passes_of self.old).link ≡ true }
         ensures count { length self.new.requests ≡ length self.old.requests }

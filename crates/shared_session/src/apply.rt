@@ -1,17 +1,17 @@
 ghost use Rattle.std.specs.Prelude.{◌≡◌, ◌<◌, ◌≤◌, ◌+◌, ◌^◌, [], ◌∷◌, ◌++◌, length, true, false, OnOk, OnErr};
-ghost use Rattle.shared_session.specs.Steps.{outcome_of, is_ended as is_ended_in};
+ghost use Rattle.driver_model.specs.Shape.{outcome_of};
+ghost use Rattle.shared_session.specs.Steps.{is_ended as is_ended_in};
 
 use crate::connection::{Connection, Phase, Progress, Waiting};
-use containers::{Names, Queue};
+use containers::Queue;
 use driver_model::{Action, EventKind, Outcome, Submission, Verdict};
 use link_core::{LinkFault, Settled};
 use resp_read::ReadError;
 use resp_value::RedisError;
-use resp_write::pack_names;
 use std::alloc::{AllocError, Global};
 
 impl Connection {
-    ghost use Rattle.shared_session.specs.Steps.{settled_each, waiting_closed, ended_by, checked, submitted, left, connected, wrote, read as read_of, peer_closed, shut_down as shut_down_of};
+    ghost use Rattle.shared_session.specs.Steps.{settled_each, waiting_closed, ended_by, checked, submitted, left, connected, wrote, read as read_of, faulted_by, shut_down as shut_down_of};
     ghost use Rattle.shared_session.specs.Turn.{applied, is_bad};
 
     /// What the link has settled is answered, in order.
@@ -58,27 +58,33 @@ impl Connection {
         self.close_waiting(alloc)
     }
 
-    /// A caller hands in a command.
-    fn submit(&mut self, alloc: Global, args: &Names) -> Result<(), AllocError>
+    /// A caller hands in a request.
+    fn submit(&mut self, alloc: Global, submission: &Submission) -> Result<(), AllocError>
         requires { length self.old.requests < 2 ^ 32 }
-        ensures core { OnOk result (self.new ≡ submitted self.old args.now) }
+        ensures core { OnOk result (self.new ≡ submitted self.old submission.now) }
         ensures count { length self.new.requests ≤ length self.old.requests + 1 }
     {
         let number = self.requests.len() as u32;
         self.requests.push(Progress::Waiting)?;
-        self.check(alloc, number, args)
+        self.check(alloc, number, submission)
     }
 
     /// A submission is refused, or waits for its place.
-    fn check(&mut self, alloc: Global, number: u32, args: &Names) -> Result<(), AllocError>
+    fn check(
+        &mut self,
+        alloc: Global,
+        number: u32,
+        submission: &Submission,
+    ) -> Result<(), AllocError>
         requires { length self.old.requests ≤ 2 ^ 32 }
-        ensures core { OnOk result (self.new ≡ checked self.old number args.now) }
+        ensures core { OnOk result (self.new ≡ checked self.old number submission.now) }
         ensures count { length self.new.requests ≡ length self.old.requests }
     {
         if self.shut {
             return self.answer(alloc, u64::from(number), Outcome::Fault(RedisError::Closed));
         }
-        if args.is_empty() {
+        let packed = submission.packed(alloc)?;
+        if packed.is_empty() {
             return self.answer(
                 alloc,
                 u64::from(number),
@@ -88,8 +94,12 @@ impl Connection {
         if self.phase == Phase::Ended {
             return self.answer(alloc, u64::from(number), Outcome::Fault(RedisError::Closed));
         }
-        let packed = pack_names(alloc, args)?;
-        self.waiting.push_back(Waiting { number, packed })?;
+        self.waiting.push_back(Waiting {
+            number,
+            packed,
+            shape: submission.shape(),
+            awaited: submission.awaits_reply(),
+        })?;
         self.fresh.push_back(number)?;
         Ok(())
     }
@@ -152,14 +162,14 @@ impl Connection {
         Ok(())
     }
 
-    /// The peer closed the link.
-    fn end_by_peer(&mut self, alloc: Global) -> Result<(), AllocError>
+    /// The peer closed the link, or a read or a write failed.
+    fn fault_link(&mut self, alloc: Global, fault: LinkFault) -> Result<(), AllocError>
         requires { length self.old.requests < 2 ^ 32 }
-        ensures core { OnOk result (self.new ≡ peer_closed self.old) }
+        ensures core { OnOk result (self.new ≡ faulted_by self.old fault) }
         ensures count { length self.new.requests ≡ length self.old.requests }
     {
         if self.phase == Phase::Up {
-            self.end(alloc, LinkFault::Ended)?;
+            self.end(alloc, fault)?;
         }
         Ok(())
     }
@@ -191,9 +201,7 @@ impl Connection {
         ensures count { length self.new.requests ≤ length self.old.requests + 1 }
     {
         match event {
-            EventKind::Submit { submission } => match submission {
-                Submission::Cmd { args } => self.submit(alloc, args),
-            },
+            EventKind::Submit { submission } => self.submit(alloc, submission),
             EventKind::Cancel { submission } => {
                 self.leave(*submission);
                 Ok(())
@@ -204,7 +212,13 @@ impl Connection {
                 Ok(())
             }
             EventKind::Bytes { link: _, piece } => self.read(alloc, piece.as_slice()),
-            EventKind::Ended { link: _ } => self.end_by_peer(alloc),
+            EventKind::Ended { link: _ } => self.fault_link(alloc, LinkFault::Ended),
+            EventKind::ReadFault { link: _, fault } => {
+                self.fault_link(alloc, LinkFault::Io { fault: *fault })
+            }
+            EventKind::WriteFault { link: _, fault } => {
+                self.fault_link(alloc, LinkFault::Io { fault: *fault })
+            }
             EventKind::Shutdown => self.shut_down(alloc),
         }
     }
@@ -223,6 +237,8 @@ impl Connection {
             }
             EventKind::Bytes { link, piece: _ } => *link != 0,
             EventKind::Ended { link } => *link != 0,
+            EventKind::ReadFault { link, fault: _ } => *link != 0,
+            EventKind::WriteFault { link, fault: _ } => *link != 0,
             EventKind::Shutdown => false,
         }
     }
@@ -233,6 +249,7 @@ fn outcome_from(verdict: Verdict) -> Outcome
 {
     match verdict {
         Verdict::One(value) => Outcome::One(value),
+        Verdict::Many(values) => Outcome::Many(values),
         Verdict::Fault(error) => Outcome::Fault(error),
     }
 }

@@ -1,19 +1,28 @@
 use crate::{MakeError, ReplayError, Session, StepError};
 use containers::{Bytes, Names};
-use driver_model::{Action, Config, Event, EventKind, Outcome, Owner, Submission};
-use resp_value::{RedisError, Value};
+use driver_model::{Action, Commands, Config, Event, EventKind, Outcome, Owner, Submission};
+use resp_value::{FaultKind, RedisError, Value};
 use std::alloc::{AllocError, Global};
+use std::process::Abort;
 
 /// One event.
 #[derive(Clone, Copy)]
 enum Told {
     Get(&'static str),
     EmptyCommand,
+    /// A command whose reply nobody awaits.
+    NoReply,
+    /// A transaction of commands of one word each.
+    Multi(&'static [&'static [u8]]),
+    /// A pipeline of one command: how many replies it skips, and how many it keeps.
+    Packed(u32, u32),
     Cancel(u32),
     Connected(u32),
     Wrote(u32, u64),
     Bytes(u32, &'static str),
     Ended(u32),
+    ReadFault(u32, FaultKind),
+    WriteFault(u32, FaultKind),
     Shutdown,
 }
 
@@ -30,9 +39,46 @@ fn get(alloc: Global, key: &str) -> Result<EventKind, AllocError> {
     Ok(EventKind::Submit { submission })
 }
 
+fn one_word(alloc: Global, word: &[u8]) -> Result<Names, AllocError> {
+    let mut args = Names::new(alloc);
+    args.push(Bytes::from_slice(alloc, word)?)?;
+    Ok(args)
+}
+
+fn multi(alloc: Global, words: &[&[u8]]) -> Result<Submission, AllocError> {
+    let mut commands = Commands::new(alloc);
+    for word in words {
+        commands.push(one_word(alloc, word)?)?;
+    }
+    Ok(Submission::Multi { commands })
+}
+
+fn packed(alloc: Global, offset: u32, count: u32) -> Result<Submission, AllocError> {
+    let mut commands = Commands::new(alloc);
+    commands.push(one_word(alloc, b"PING")?)?;
+    Ok(Submission::Packed {
+        offset,
+        count,
+        commands,
+    })
+}
+
 fn kind(alloc: Global, told: &Told) -> Result<EventKind, AllocError> {
     match told {
         Told::Get(key) => get(alloc, key),
+        Told::NoReply => {
+            let args = one_word(alloc, b"SAVE")?;
+            let submission = Submission::NoReply { args };
+            Ok(EventKind::Submit { submission })
+        }
+        Told::Multi(words) => {
+            let submission = multi(alloc, words)?;
+            Ok(EventKind::Submit { submission })
+        }
+        Told::Packed(offset, count) => {
+            let submission = packed(alloc, *offset, *count)?;
+            Ok(EventKind::Submit { submission })
+        }
         Told::EmptyCommand => {
             let args = Names::new(alloc);
             let submission = Submission::Cmd { args };
@@ -51,6 +97,14 @@ fn kind(alloc: Global, told: &Told) -> Result<EventKind, AllocError> {
             Ok(EventKind::Bytes { link: *link, piece })
         }
         Told::Ended(link) => Ok(EventKind::Ended { link: *link }),
+        Told::ReadFault(link, fault) => Ok(EventKind::ReadFault {
+            link: *link,
+            fault: *fault,
+        }),
+        Told::WriteFault(link, fault) => Ok(EventKind::WriteFault {
+            link: *link,
+            fault: *fault,
+        }),
         Told::Shutdown => Ok(EventKind::Shutdown),
     }
 }
@@ -63,11 +117,29 @@ fn event(alloc: Global, told: &Told) -> Result<Event, AllocError> {
 fn word_of(outcome: &Outcome) -> &'static str {
     match outcome {
         Outcome::One(Value::Okay) => "okay",
+        Outcome::One(Value::Nil) => "nil",
         Outcome::One(_) => "other",
-        Outcome::Fault(RedisError::Closed) => "closed",
-        Outcome::Fault(RedisError::Parse) => "parse",
-        Outcome::Fault(RedisError::EmptyCommand) => "empty",
-        Outcome::Fault(_) => "another error",
+        Outcome::Many(values) => if values.len() == 1 {
+            "one kept"
+        } else {
+            "some kept"
+        },
+        Outcome::Fault(error) => fault_word(error),
+    }
+}
+
+fn fault_word(error: &RedisError) -> &'static str {
+    match error {
+        RedisError::Closed => "closed",
+        RedisError::Parse => "parse",
+        RedisError::EmptyCommand => "empty",
+        RedisError::Io { fault } => fault.name(),
+        RedisError::Server(_) => "server",
+        RedisError::Aborted { errors } => match errors.as_slice() {
+            [(1, _)] => "aborted at 1",
+            _ => "aborted",
+        },
+        _ => "fault",
     }
 }
 
@@ -252,4 +324,86 @@ turn 2; created; start 0 0 1 20; write *2\r\n$3\r\nGET\r\n$1\r\na\r\n; turn 3; c
     assert_eq!(rt; replay(alloc, list.as_slice(), &mut actions)?, Some(2));
     assert_eq!(rt; actions.len(), 7);
     Ok(())
+}
+
+/// Replays a list of good events on a link that is up, and compares its trace after the opening.
+fn compare(rt: &impl Abort, alloc: Global, list: &[Told], wanted: &str) -> Result<(), AllocError> {
+    let mut actions = Vec::new(alloc);
+    assert_eq!(rt; replay(alloc, list, &mut actions)?, None);
+    let log = show_all(alloc, actions.as_slice())?;
+    assert_eq!(rt; log.as_slice(), wanted.as_bytes());
+    Ok(())
+}
+
+#[test]
+fn an_aborted_transaction_tells_its_command(rt: HostRuntime) -> Result<(), AllocError> {
+    let list = [
+        Told::Connected(0),
+        Told::Multi(&[b"SET", b"BAD"]),
+        Told::Bytes(0, "+OK\r\n+QUEUED\r\n-ERR bad\r\n-EXECABORT x\r\n"),
+    ];
+    let wanted = "turn 0; connect 0 6379; turn 1; created; turn 2; start 0 0 4 55; \
+write *1\r\n$5\r\nMULTI\r\n*1\r\n$3\r\nSET\r\n*1\r\n$3\r\nBAD\r\n*1\r\n$4\r\nEXEC\r\n; turn 3; 0 aborted at 1; ";
+    compare(&rt, rt.alloc(), list.as_slice(), wanted)
+}
+
+#[test]
+fn an_error_of_multi_is_the_outcome(rt: HostRuntime) -> Result<(), AllocError> {
+    let list = [
+        Told::Connected(0),
+        Told::Multi(&[b"SET"]),
+        Told::Bytes(0, "-NOAUTH x\r\n-NOAUTH x\r\n-ERR y\r\n"),
+    ];
+    let wanted = "turn 0; connect 0 6379; turn 1; created; turn 2; start 0 0 3 42; \
+write *1\r\n$5\r\nMULTI\r\n*1\r\n$3\r\nSET\r\n*1\r\n$4\r\nEXEC\r\n; turn 3; 0 server; ";
+    compare(&rt, rt.alloc(), list.as_slice(), wanted)
+}
+
+#[test]
+fn a_pipeline_of_no_kept_reply_keeps_one(rt: HostRuntime) -> Result<(), AllocError> {
+    let list = [
+        Told::Connected(0),
+        Told::Packed(0, 0),
+        Told::Bytes(0, "+PONG\r\n"),
+    ];
+    let wanted = "turn 0; connect 0 6379; turn 1; created; turn 2; start 0 0 1 14; \
+write *1\r\n$4\r\nPING\r\n; turn 3; 0 one kept; ";
+    compare(&rt, rt.alloc(), list.as_slice(), wanted)
+}
+
+#[test]
+fn a_command_without_reply_is_told_at_its_place(rt: HostRuntime) -> Result<(), AllocError> {
+    let list = [
+        Told::NoReply,
+        Told::Connected(0),
+        Told::Get("a"),
+        Told::Bytes(0, "+OK\r\n"),
+        Told::Bytes(0, "+x\r\n"),
+    ];
+    let wanted = "turn 0; connect 0 6379; turn 1; wait 0; turn 2; created; 0 nil; start 0 0 1 14; \
+write *1\r\n$4\r\nSAVE\r\n; turn 3; start 1 1 1 20; turn 4; turn 5; 1 other; ";
+    compare(&rt, rt.alloc(), list.as_slice(), wanted)
+}
+
+#[test]
+fn faults_are_told_to_single_commands(rt: HostRuntime) -> Result<(), AllocError> {
+    let alloc = rt.alloc();
+    let list = [
+        Told::Connected(0),
+        Told::Get("a"),
+        Told::Get("b"),
+        Told::ReadFault(0, FaultKind::Reset),
+        Told::WriteFault(0, FaultKind::Eof),
+    ];
+    let wanted = "turn 0; connect 0 6379; turn 1; created; turn 2; start 0 0 1 20; \
+write *2\r\n$3\r\nGET\r\n$1\r\na\r\n; turn 3; start 1 1 1 20; turn 4; close 0; 0 reset; 1 closed; turn 5; ";
+    compare(&rt, alloc, list.as_slice(), wanted)?;
+    let list = [
+        Told::Connected(0),
+        Told::Packed(1, 1),
+        Told::WriteFault(0, FaultKind::BrokenPipe),
+    ];
+    let wanted = "turn 0; connect 0 6379; turn 1; created; turn 2; start 0 0 2 14; \
+write *1\r\n$4\r\nPING\r\n; turn 3; close 0; 0 closed; ";
+    compare(&rt, alloc, list.as_slice(), wanted)
 }
