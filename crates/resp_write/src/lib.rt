@@ -19,7 +19,7 @@ pub use named::cmd;
 pub use pack::pack_names;
 pub use pipeline::{CmdIter, Pipeline, pipe};
 pub use subscription::SubscriptionAction;
-pub use value_text::{canonical_text, write_value};
+pub use value_text::{canonical_text, list_text, write_value};
 
 #[cfg(test)]
 mod arguments_tests;

@@ -1,4 +1,4 @@
-use super::{Cmd, canonical_text, cmd, pack_lists, pack_names, write_value};
+use super::{Cmd, canonical_text, cmd, list_text, pack_lists, pack_names, write_value};
 use containers::{Bytes, Names};
 use resp_value::{Inner, Pairs, PushKind, ServerError, Value, Values};
 use std::alloc::{AllocError, Global};
@@ -112,6 +112,16 @@ fn values_have_one_text(rt: HostRuntime) -> Result<(), AllocError> {
         write_value(alloc, &mut all, value)?;
         assert_eq!(rt; all.len(), wanted.len() + 1);
     }
+    Ok(())
+}
+
+#[test]
+fn lists_have_text(rt: HostRuntime) -> Result<(), AllocError> {
+    let alloc = rt.alloc();
+    let none = list_text(alloc, &Values::new(alloc))?;
+    assert_eq!(rt; none.as_slice(), b"*0\r\n".as_slice());
+    let some = list_text(alloc, &two(alloc)?)?;
+    assert_eq!(rt; some.as_slice(), b"*2\r\n:-7\r\n$3\r\na\r\n\r\n".as_slice());
     Ok(())
 }
 

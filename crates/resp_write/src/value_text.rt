@@ -1,5 +1,5 @@
 ghost use Rattle.std.specs.Prelude.{◌≡◌, ◌++◌, ◌<◌, ◌^◌, OnOk, OnErr, IfOk, length};
-ghost use Rattle.resp_value.specs.Data.{items_of, list_of, members_of, pairs_of};
+ghost use Rattle.resp_value.specs.Data.{array, items_of, list_of, members_of, pairs_of};
 ghost use Rattle.resp_value.specs.View.{data_of};
 ghost use Rattle.resp_write.specs.Canonical.{canonical, each_item, each_member};
 
@@ -30,6 +30,16 @@ pub fn canonical_text(alloc: Global, value: &Value) -> Result<Bytes, AllocError>
 {
     let mut text = Bytes::new(alloc);
     push_value(alloc, &mut text, value)?;
+    Ok(text)
+}
+
+/// The canonical text of an array of these values.
+pub fn list_text(alloc: Global, values: &Values) -> Result<Bytes, AllocError>
+    ensures { IfOk result (λ text. text ≡ canonical (array (items_of values.now))) }
+{
+    let mut text = Bytes::new(alloc);
+    push_number_line(&mut text, b'*', count_of(values))?;
+    push_values(alloc, &mut text, values)?;
     Ok(text)
 }
 

@@ -1,9 +1,11 @@
 -- The parts of a text by its first cut, and the words of a line.
-use Rattle.std.proofs.Common.{◌≡◌, ℕ, ◌<◌, Bool, true, false, cond, List, [], ◌∷◌, ◌++◌, length, Option, Some, None, option_map, refl, sym, ap, ◌∙◌, arith, append_assoc}
-use Rattle.std.specs.Prelude.{◌==◌, map}
-use Rattle.std.specs.List.{onto_first}
+use Rattle.std.proofs.Common.{◌≡◌, ℕ, ◌<◌, Bool, true, false, cond, List, [], ◌∷◌, length, Option, Some, None, option_map, refl, sym, ap, ◌∙◌, arith}
+use Rattle.std.specs.Prelude.{◌==◌, map, option_and_then}
+use Rattle.std.specs.List.{onto_first, slice_split}
 use Rattle.std.proofs.lemmas.List.Splits.{length-slice_split}
-use Rattle.script_text.specs.Words.{parts, cut_at, unescaped, all_of, words_of_line}
+use Rattle.script_text.specs.Words.{LineWords, parts, cut_at, is_separator, unescaped, all_of, group_of, line_words, words_of_line}
+use Rattle.script_text.specs.Pieces.{joined, one_word, separator, piece_of}
+use Rattle.script_text.proofs.Glue.{joined_nothing, joined_twice}
 
 abbrev by_cut : ℕ → List ℕ → Option (List ℕ × List ℕ) → List (List ℕ)
 by_cut b xs None = xs ∷ []
@@ -34,34 +36,85 @@ parts_whole b xs h = parts_cut b xs ∙ ap (by_cut b xs) h
 pub parts_first : (b : ℕ) (xs front rest : List ℕ) → cut_at b xs ≡ Some (front, rest) → parts b xs ≡ front ∷ parts b rest
 parts_first b xs front rest h = parts_cut b xs ∙ ap (by_cut b xs) h
 
-abbrev behind : List (List ℕ) → Option (List (List ℕ)) → Option (List (List ℕ))
-behind front o = option_map (λ more. front ++ more) o
+abbrev groups : List (List ℕ) → Option LineWords
+groups raws = option_and_then line_words (all_of (map group_of (slice_split is_separator raws)))
 
-behind_one : (ws : List (List ℕ)) (w : List ℕ) (o : Option (List (List ℕ))) → behind ws (option_map (λ more. w ∷ more) o) ≡ behind (ws ++ w ∷ []) o
-behind_one ws w None = refl
-behind_one ws w (Some more) = ap Some (sym (append_assoc ws (w ∷ []) more))
-
-cut_words : (line raw rest : List ℕ) → cut_at 32 line ≡ Some (raw, rest) → words_of_line line ≡ all_of (unescaped raw ∷ map unescaped (parts 32 rest))
-unfolding words_of_line
-cut_words line raw rest h = ap (λ ps. all_of (map unescaped ps)) (parts_first 32 line raw rest h)
-
-one_word : (line : List ℕ) → cut_at 32 line ≡ None → words_of_line line ≡ all_of (unescaped line ∷ [])
-unfolding words_of_line
-one_word line h = ap (λ ps. all_of (map unescaped ps)) (parts_whole 32 line h)
-
-words_are : (line : List ℕ) → words_of_line line ≡ all_of (map unescaped (parts 32 line))
+words_are : (line : List ℕ) → words_of_line line ≡ groups (parts 32 line)
 unfolding words_of_line
 words_are line = refl
 
-module _ (line : List ℕ) (ws : List (List ℕ)) (left : List ℕ) (so_far : words_of_line line ≡ behind ws (words_of_line left)) where
-  pub word_refused : (raw rest : List ℕ) → cut_at 32 left ≡ Some (raw, rest) → None ≡ unescaped raw → None ≡ words_of_line line
-  word_refused raw rest h none = sym (so_far ∙ ap (behind ws) (cut_words left raw rest h ∙ ap (λ o. all_of (o ∷ map unescaped (parts 32 rest))) (sym none)))
+-- a piece and what stands behind it
+abbrev pub joined_both : Option LineWords → Option LineWords → Option LineWords
+joined_both None rest = None
+joined_both (Some piece) rest = option_map (joined piece) rest
 
-  pub word_more : (raw rest w : List ℕ) → cut_at 32 left ≡ Some (raw, rest) → Some w ≡ unescaped raw → words_of_line line ≡ behind (ws ++ w ∷ []) (words_of_line rest)
-  word_more raw rest w h is = so_far ∙ ap (behind ws) (cut_words left raw rest h ∙ ap (λ o. all_of (o ∷ map unescaped (parts 32 rest))) (sym is) ∙ ap (option_map (λ xs. w ∷ xs)) (sym (words_are rest))) ∙ behind_one ws w (words_of_line rest)
+all-cons : {A : Type 0} (o : Option A) (os : List (Option A)) → all_of (o ∷ os) ≡ option_and_then (λ x. option_map (λ xs. x ∷ xs) (all_of os)) o
+all-cons None os = refl
+all-cons (Some x) os = refl
 
-  pub last_refused : cut_at 32 left ≡ None → None ≡ unescaped left → None ≡ words_of_line line
-  last_refused h none = sym (so_far ∙ ap (behind ws) (one_word left h ∙ ap (λ o. all_of (o ∷ [])) (sym none)))
+separated_by : (g : Option (List (List ℕ))) (gs : Option (List (List (List ℕ))))
+    → option_and_then line_words (option_map (λ xs. [] ∷ xs) (option_and_then (λ x. option_map (λ xs. x ∷ xs) gs) g)) ≡ option_map (joined separator) (option_and_then line_words (option_and_then (λ x. option_map (λ xs. x ∷ xs) gs) g))
+separated_by None gs = refl
+separated_by (Some g) None = refl
+separated_by (Some g) (Some gs) = refl
 
-  pub last_word : (w : List ℕ) → cut_at 32 left ≡ None → Some w ≡ unescaped left → Some (ws ++ w ∷ []) ≡ words_of_line line
-  last_word w h is = sym (so_far ∙ ap (behind ws) (one_word left h ∙ ap (λ o. all_of (o ∷ [])) (sym is)))
+after_separator : (ps : List (List (List ℕ))) → 0 < length ps → option_and_then line_words (all_of (map group_of ([] ∷ ps))) ≡ option_map (joined separator) (option_and_then line_words (all_of (map group_of ps)))
+after_separator [] h = absurd (omega arith)
+after_separator (p ∷ ps) h =
+    let first = all-cons (group_of p) (map group_of ps) in
+    ap (λ o. option_and_then line_words (option_map (λ xs. [] ∷ xs) o)) first
+    ∙ separated_by (group_of p) (all_of (map group_of ps))
+    ∙ sym (ap (λ o. option_map (joined separator) (option_and_then line_words o)) first)
+
+word_by : (w : Option (List ℕ)) (g : Option (List (List ℕ))) (gs : Option (List (List (List ℕ))))
+    → option_and_then line_words (option_and_then (λ x. option_map (λ xs. x ∷ xs) gs) (option_and_then (λ x. option_map (λ xs. x ∷ xs) g) w))
+    ≡ joined_both (option_map one_word w) (option_and_then line_words (option_and_then (λ x. option_map (λ xs. x ∷ xs) gs) g))
+word_by None g gs = refl
+word_by (Some w) None gs = refl
+word_by (Some w) (Some g) None = refl
+word_by (Some w) (Some g) (Some gs) = refl
+
+after_word : (raw : List ℕ) (ps : List (List (List ℕ))) → 0 < length ps
+    → option_and_then line_words (all_of (map group_of (onto_first raw ps))) ≡ joined_both (option_map one_word (unescaped raw)) (option_and_then line_words (all_of (map group_of ps)))
+after_word raw [] h = absurd (omega arith)
+after_word raw (p ∷ ps) h =
+    all-cons_twice (unescaped raw) (map unescaped p) (map group_of ps)
+    ∙ word_by (unescaped raw) (group_of p) (all_of (map group_of ps))
+    ∙ sym (ap (λ o. joined_both (option_map one_word (unescaped raw)) (option_and_then line_words o)) (all-cons (group_of p) (map group_of ps)))
+  where
+    all-cons_twice : (w : Option (List ℕ)) (ws : List (Option (List ℕ))) (gs : List (Option (List (List ℕ))))
+        → option_and_then line_words (all_of (all_of (w ∷ ws) ∷ gs)) ≡ option_and_then line_words (option_and_then (λ x. option_map (λ xs. x ∷ xs) (all_of gs)) (option_and_then (λ x. option_map (λ xs. x ∷ xs) (all_of ws)) w))
+    all-cons_twice w ws gs = ap (option_and_then line_words) (all-cons (all_of (w ∷ ws)) gs ∙ ap (option_and_then (λ x. option_map (λ xs. x ∷ xs) (all_of gs))) (all-cons w ws))
+
+piece_by : (here : Bool) (raw : List ℕ) (ps : List (List (List ℕ))) → 0 < length ps
+    → option_and_then line_words (all_of (map group_of (cond here ([] ∷ ps) (onto_first raw ps)))) ≡ joined_both (cond here (Some separator) (option_map one_word (unescaped raw))) (option_and_then line_words (all_of (map group_of ps)))
+piece_by true raw ps h = after_separator ps h
+piece_by false raw ps h = after_word raw ps h
+
+-- the first part between spaces is the first piece
+first_piece : (raw : List ℕ) (raws : List (List ℕ)) → groups (raw ∷ raws) ≡ joined_both (piece_of raw) (groups raws)
+first_piece raw raws = piece_by (is_separator raw) raw (slice_split is_separator raws) (omega (arith, length-slice_split is_separator raws))
+
+only_piece : (o : Option LineWords) → joined_both o (groups []) ≡ o
+only_piece None = refl
+only_piece (Some piece) = ap Some (joined_nothing piece)
+
+cut_words : (line raw rest : List ℕ) → cut_at 32 line ≡ Some (raw, rest) → words_of_line line ≡ joined_both (piece_of raw) (words_of_line rest)
+cut_words line raw rest h =
+    words_are line ∙ ap groups (parts_first 32 line raw rest h) ∙ first_piece raw (parts 32 rest) ∙ ap (joined_both (piece_of raw)) (sym (words_are rest))
+
+one_piece : (line : List ℕ) → cut_at 32 line ≡ None → words_of_line line ≡ piece_of line
+one_piece line h = words_are line ∙ ap groups (parts_whole 32 line h) ∙ first_piece line [] ∙ only_piece (piece_of line)
+
+module _ (line : List ℕ) (words : LineWords) (left : List ℕ) (so_far : words_of_line line ≡ option_map (joined words) (words_of_line left)) where
+  behind : (piece : Option LineWords) (o : Option LineWords) → option_map (joined words) (joined_both piece o) ≡ joined_both (option_map (joined words) piece) o
+  behind None o = refl
+  behind (Some piece) None = refl
+  behind (Some piece) (Some rest) = ap Some (sym (joined_twice words piece rest))
+
+  pub part_read : (raw rest : List ℕ) (more : Option LineWords) → cut_at 32 left ≡ Some (raw, rest) → more ≡ option_map (joined words) (piece_of raw) → words_of_line line ≡ joined_both more (words_of_line rest)
+  part_read raw rest more h is =
+      so_far ∙ ap (option_map (joined words)) (cut_words left raw rest h) ∙ behind (piece_of raw) (words_of_line rest) ∙ ap (λ o. joined_both o (words_of_line rest)) (sym is)
+
+  pub last_read : (all : Option LineWords) → cut_at 32 left ≡ None → all ≡ option_map (joined words) (piece_of left) → all ≡ words_of_line line
+  last_read all h is = is ∙ sym (so_far ∙ ap (option_map (joined words)) (one_piece left h))

@@ -7,7 +7,7 @@ use Rattle.std.proofs.lemmas.Bool.{both_ways}
 use Rattle.std.proofs.lemmas.Bool.Decides.{nat_tests}
 use Rattle.driver_model.specs.declared.config.Config.{Config}
 use Rattle.driver_model.specs.declared.event.Event.{Event}
-use Rattle.script_text.specs.Words.{parts, words_of_line}
+use Rattle.script_text.specs.Words.{LineWords, parts, words_of_line}
 use Rattle.script_text.specs.EventLine.{event_of}
 use Rattle.script_text.specs.ConfigLine.{config_of}
 use Rattle.script_text.specs.Script.{max_lines, max_line, max_text, line_at, is_end, is_nothing, event_then, line_then, events_from, config_then, script_from, script_of}
@@ -71,7 +71,7 @@ after_end : (number n : ℕ) (end : Bool) (o : Option Event) → (k : ℕ) × ((
 after_end number n true o = (number + 1, λ rest h. refl)
 after_end number n false o = after_event number n o
 
-after_line : (number n : ℕ) (o : Option (List (List ℕ))) → (k : ℕ) × ((rest : Result (List Event) ℕ) → rest ≡ Err n → line_then number o false rest ≡ Err k)
+after_line : (number n : ℕ) (o : Option LineWords) → (k : ℕ) × ((rest : Result (List Event) ℕ) → rest ≡ Err n → line_then number o false rest ≡ Err k)
 after_line number n None = (number, λ rest h. refl)
 after_line number n (Some words) = after_end number n (is_end words) (event_of words)
 

@@ -1,6 +1,8 @@
 pub mod Cutting
 pub mod Decided
 pub mod Digits
+pub mod Forms
+pub mod Glue
 pub mod Glued
 pub mod Late
 pub mod Limited

@@ -4,9 +4,9 @@ use Rattle.std.specs.Option.{option_to_list}
 use Rattle.std.specs.List.{list_all, list_any}
 use Rattle.std.specs.Char.{is_ascii_lowercase, is_ascii_digit}
 use Rattle.driver_model.specs.declared.config.Config.{Config}
-use Rattle.script_text.specs.Words.{cut_at}
+use Rattle.script_text.specs.Words.{LineWords, cut_at}
 use Rattle.script_text.specs.Numbers.{number, max_u16}
-use Rattle.script_text.specs.EventLine.{Forms, by_first}
+use Rattle.script_text.specs.EventLine.{Forms, by_first, whole}
 
 -- the key is one of these
 abbrev pub has_key : List (List ℕ) → Option (List ℕ × List ℕ) → Bool
@@ -69,8 +69,8 @@ single words =
 
 -- the kinds of sessions
 abbrev pub kinds : Forms Config
-kinds = (codes "single", single) ∷ []
+kinds = (codes "single", whole single) ∷ []
 
 -- a configuration; its word is 0
-unfoldable pub config_of : List (List ℕ) → Option Config
-config_of words = by_first ((codes "config", by_first kinds) ∷ []) words
+unfoldable pub config_of : LineWords → Option Config
+config_of line = by_first ((codes "config", by_first kinds) ∷ []) line.words line.more

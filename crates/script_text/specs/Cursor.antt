@@ -5,7 +5,7 @@ use Rattle.driver_model.specs.declared.event.Event.{Event}
 use Rattle.script_text.specs.declared.script.Cursor.{Cursor}
 use Rattle.script_text.specs.declared.script.ScriptError.{ScriptError}
 use Rattle.script_text.specs.declared.script.ScriptError.TheVariants.{Line, NoMemory}
-use Rattle.script_text.specs.Words.{parts}
+use Rattle.script_text.specs.Words.{LineWords, parts}
 use Rattle.script_text.specs.Script.{line_at, words_at, events_from}
 
 -- the lines that are left
@@ -17,7 +17,7 @@ abbrev pub line_left : Cursor → Option (List ℕ)
 line_left cursor = line_at cursor.number cursor.room (lines_left cursor)
 
 -- its words
-abbrev pub words_left : Cursor → Option (List (List ℕ))
+abbrev pub words_left : Cursor → Option LineWords
 words_left cursor = words_at cursor.number cursor.room (lines_left cursor)
 
 -- the events that are left

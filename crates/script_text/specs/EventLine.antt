@@ -2,20 +2,29 @@
 use Rattle.std.specs.Prelude.{ℕ, List, [], ◌∷◌, Option, Some, None, option_map, option_and_then, bytes_eq, codes, if◌then◌else◌}
 use Rattle.driver_model.specs.declared.event.Event.{Event}
 use Rattle.driver_model.specs.declared.event.EventKind.{EventKind}
-use Rattle.driver_model.specs.declared.event.EventKind.TheVariants.{Submit, Cancel, Connected, Wrote, Bytes, Ended, Shutdown}
+use Rattle.driver_model.specs.declared.event.EventKind.TheVariants.{Submit, Cancel, Connected, Wrote, Bytes, Ended, ReadFault, WriteFault, Shutdown}
 use Rattle.driver_model.specs.declared.event.Submission.{Submission}
-use Rattle.driver_model.specs.declared.event.Submission.TheVariants.{Cmd}
+use Rattle.driver_model.specs.declared.event.Submission.TheVariants.{Cmd, NoReply, Pipe, Multi, Packed}
+use Rattle.resp_value.specs.declared.fault_kind.FaultKind.{FaultKind}
+use Rattle.resp_value.specs.declared.fault_kind.FaultKind.TheVariants.{Refused, Reset, Aborted, NotConnected, BrokenPipe, Eof, TimedOut, Interrupted, Denied, Other}
+use Rattle.resp_value.specs.Names.{fault_name}
 use Rattle.script_text.specs.Numbers.{number, max_u32, max_u64}
+use Rattle.script_text.specs.Words.{LineWords}
 
--- first words, each with how the words behind it are read
+-- first words, each with how the words behind it are read, and those behind separators
 abbrev pub Forms : Type 0 → Type 0
-Forms A = List (List ℕ × (List (List ℕ) → Option A))
+Forms A = List (List ℕ × (List (List ℕ) → List (List (List ℕ)) → Option A))
 
 -- the words behind the first, read as that one tells
-abbrev pub by_first : {A : Type 0} → Forms A → List (List ℕ) → Option A
-by_first forms [] = None
-by_first [] (first ∷ rest) = None
-by_first (form ∷ forms) (first ∷ rest) = if bytes_eq first form.0 then form.1 rest else by_first forms (first ∷ rest)
+abbrev pub by_first : {A : Type 0} → Forms A → List (List ℕ) → List (List (List ℕ)) → Option A
+by_first forms [] more = None
+by_first [] (first ∷ rest) more = None
+by_first (form ∷ forms) (first ∷ rest) more = if bytes_eq first form.0 then form.1 rest more else by_first forms (first ∷ rest) more
+
+-- with no separator
+abbrev pub whole : {A : Type 0} → (List (List ℕ) → Option A) → List (List ℕ) → List (List (List ℕ)) → Option A
+whole f words [] = f words
+whole f words _ = None
 
 -- one number
 abbrev pub numbered : {A : Type 0} → (ℕ → A) → List (List ℕ) → Option A
@@ -37,22 +46,57 @@ abbrev pub alone : {A : Type 0} → A → List (List ℕ) → Option A
 alone a [] = Some a
 alone a _ = None
 
+-- the kinds of faults
+abbrev pub faults : List FaultKind
+faults = Refused ∷ Reset ∷ Aborted ∷ NotConnected ∷ BrokenPipe ∷ Eof ∷ TimedOut ∷ Interrupted ∷ Denied ∷ Other ∷ []
+
+-- the first of these kinds with that name
+abbrev pub fault_among : List FaultKind → List ℕ → Option FaultKind
+fault_among [] word = None
+fault_among (kind ∷ kinds) word = if bytes_eq word (fault_name kind) then Some kind else fault_among kinds word
+
+-- a link and the kind of its fault
+abbrev pub failed : (ℕ → FaultKind → EventKind) → List (List ℕ) → Option EventKind
+failed f (link ∷ kind ∷ []) = option_and_then (λ l. option_map (f l) (fault_among faults kind)) (number max_u32 link)
+failed f _ = None
+
+-- the commands between separators; where there is no word at all, none
+abbrev pub commands : List (List ℕ) → List (List (List ℕ)) → List (List (List ℕ))
+commands [] [] = []
+commands first more = first ∷ more
+
+-- how many replies are skipped, how many are kept, and the commands
+abbrev pub packed : List (List ℕ) → List (List (List ℕ)) → Option Submission
+packed (offset ∷ count ∷ first) more = option_and_then (λ o. option_map (λ c. Packed o c (commands first more)) (number max_u32 count)) (number max_u32 offset)
+packed _ more = None
+
 -- what is submitted
 abbrev pub submissions : Forms Submission
-submissions = (codes "cmd", λ args. Some (Cmd args)) ∷ []
+submissions =
+    (codes "cmd", whole (λ args. Some (Cmd args)))
+    ∷ (codes "noreply", whole (λ args. Some (NoReply args)))
+    ∷ (codes "pipe", λ first more. Some (Pipe (commands first more)))
+    ∷ (codes "multi", λ first more. Some (Multi (commands first more)))
+    ∷ (codes "packed", packed)
+    ∷ []
+
+-- what happens besides
+unfoldable pub others : Forms EventKind
+others =
+    (codes "cancel", whole (numbered Cancel))
+    ∷ (codes "connected", whole (numbered Connected))
+    ∷ (codes "wrote", whole wrote)
+    ∷ (codes "bytes", whole came)
+    ∷ (codes "ended", whole (numbered Ended))
+    ∷ (codes "read-fault", whole (failed ReadFault))
+    ∷ (codes "write-fault", whole (failed WriteFault))
+    ∷ (codes "shutdown", whole (alone Shutdown))
+    ∷ []
 
 -- what happens
 abbrev pub events : Forms EventKind
-events =
-    (codes "submit", λ words. option_map Submit (by_first submissions words))
-    ∷ (codes "cancel", numbered Cancel)
-    ∷ (codes "connected", numbered Connected)
-    ∷ (codes "wrote", wrote)
-    ∷ (codes "bytes", came)
-    ∷ (codes "ended", numbered Ended)
-    ∷ (codes "shutdown", alone Shutdown)
-    ∷ []
+events = (codes "submit", λ words more. option_map Submit (by_first submissions words more)) ∷ others
 
 -- an event; its word is 0
-unfoldable pub event_of : List (List ℕ) → Option Event
-event_of words = option_map (λ kind. record { word = 0; kind = kind }) (by_first events words)
+unfoldable pub event_of : LineWords → Option Event
+event_of line = option_map (λ kind. record { word = 0; kind = kind }) (by_first events line.words line.more)

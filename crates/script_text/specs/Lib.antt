@@ -3,5 +3,6 @@ pub mod Cursor
 pub mod EventLine
 pub mod Limits
 pub mod Numbers
+pub mod Pieces
 pub mod Script
 pub mod Words

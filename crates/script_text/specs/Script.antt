@@ -4,7 +4,7 @@ use Rattle.std.specs.Result.{result_map_both}
 use Rattle.driver_model.specs.declared.config.Config.{Config}
 use Rattle.driver_model.specs.declared.event.Event.{Event}
 use Rattle.script_text.specs.declared.script.Script.{Script}
-use Rattle.script_text.specs.Words.{parts, words_of_line}
+use Rattle.script_text.specs.Words.{LineWords, parts, words_of_line}
 use Rattle.script_text.specs.EventLine.{event_of}
 use Rattle.script_text.specs.ConfigLine.{config_of}
 
@@ -30,13 +30,16 @@ line_at number room (last ∷ []) = None
 line_at number room (line ∷ next ∷ rest) = if nat_le number max_lines && nat_le (length line) max_line && nat_lt (length line) room then Some line else None
 
 -- its words, if it is one
-abbrev pub words_at : ℕ → ℕ → List (List ℕ) → Option (List (List ℕ))
+abbrev pub words_at : ℕ → ℕ → List (List ℕ) → Option LineWords
 words_at number room lines = option_and_then words_of_line (line_at number room lines)
 
+abbrev pub is_end_word : List (List ℕ) → List (List (List ℕ)) → Bool
+is_end_word (word ∷ []) [] = bytes_eq word (codes "end")
+is_end_word _ more = false
+
 -- these are the words of the last line
-abbrev pub is_end : List (List ℕ) → Bool
-is_end (word ∷ []) = bytes_eq word (codes "end")
-is_end _ = false
+abbrev pub is_end : LineWords → Bool
+is_end line = is_end_word line.words line.more
 
 -- no byte is left
 abbrev pub is_nothing : List (List ℕ) → Bool
@@ -49,7 +52,7 @@ event_then number None rest = Err number
 event_then number (Some event) rest = result_map_both (λ events. event ∷ events) (λ n. n) rest
 
 -- a line with these words, or none: `end`, behind which no byte stands, or an event
-abbrev pub line_then : ℕ → Option (List (List ℕ)) → Bool → Result (List Event) ℕ → Result (List Event) ℕ
+abbrev pub line_then : ℕ → Option LineWords → Bool → Result (List Event) ℕ → Result (List Event) ℕ
 line_then number None nothing_behind rest = Err number
 line_then number (Some words) nothing_behind rest =
     if is_end words then (if nothing_behind then Ok [] else Err (number + 1)) else event_then number (event_of words) rest

@@ -2,6 +2,7 @@ ghost use Rattle.std.specs.Prelude.{◌≡◌, MatchOption, Some, None, IfOk};
 ghost use Rattle.std.specs.List.{list_all};
 ghost use Rattle.script_text.specs.ConfigLine.{keys, is_setting as is_setting_of, value_of, values, only, gives as gives_of, is_host as is_host_of, address as address_of, single as single_of, config_of};
 
+use crate::line::Line;
 use crate::number::number_u16;
 use crate::words::cut;
 use containers::Bytes;
@@ -118,10 +119,10 @@ fn single(alloc: Global, words: &[Bytes]) -> Result<Option<Config>, AllocError>
 
 /// The configuration that the words of a line are.
 #[tactic(auto, unfolding(crate::specs::ConfigLine::config_of))]
-pub fn config(alloc: Global, words: &[Bytes]) -> Result<Option<Config>, AllocError>
-    ensures { IfOk result (λ c. c ≡ config_of words.now) }
+pub fn config(alloc: Global, line: &Line) -> Result<Option<Config>, AllocError>
+    ensures { IfOk result (λ c. c ≡ config_of line.now) }
 {
-    let [name, kind, settings @ ..] = words else {
+    let ([name, kind, settings @ ..], []) = (line.words(), line.more()) else {
         return Ok(None);
     };
     if name.as_slice() != b"config".as_slice() || kind.as_slice() != b"single".as_slice() {

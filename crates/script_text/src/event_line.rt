@@ -1,10 +1,28 @@
-ghost use Rattle.std.specs.Prelude.{◌≡◌, ◌∷◌, [], drop, option_map, MatchOption};
-ghost use Rattle.driver_model.specs.declared.event.EventKind.TheVariants.{Submit, Cancel, Connected, Ended, Shutdown};
-ghost use Rattle.script_text.specs.EventLine.{by_first, numbered, wrote as wrote_of, came as came_of, alone, submissions, events, event_of};
+ghost use Rattle.std.specs.Prelude.{◌≡◌, ◌∷◌, [], ℕ, List, drop, option_map, MatchOption, IfOk, Some, None};
+ghost use Rattle.driver_model.specs.declared.event.EventKind.TheVariants.{Submit, Cancel, Connected, Ended, ReadFault, WriteFault, Shutdown};
+ghost use Rattle.driver_model.specs.declared.event.Submission.TheVariants.{Cmd, NoReply, Packed};
+ghost use Rattle.script_text.specs.EventLine.{by_first, whole, numbered, wrote as wrote_of, came as came_of, alone, faults, fault_among, failed, commands as commands_of, packed as packed_of, submissions, others, events, event_of};
 
+use crate::line::Line;
 use crate::number::{number_u32, number_u64};
 use containers::{Bytes, Names};
-use driver_model::{Event, EventKind, Submission};
+use driver_model::{Commands, Event, EventKind, Submission};
+use resp_value::FaultKind;
+use std::alloc::{AllocError, Global};
+
+/// The kinds of faults.
+const FAULTS: [FaultKind; 10] = [
+    FaultKind::Refused,
+    FaultKind::Reset,
+    FaultKind::Aborted,
+    FaultKind::NotConnected,
+    FaultKind::BrokenPipe,
+    FaultKind::Eof,
+    FaultKind::TimedOut,
+    FaultKind::Interrupted,
+    FaultKind::Denied,
+    FaultKind::Other,
+];
 
 /// The first word, taken out.
 fn first(words: &mut Vec<Bytes>) -> Option<Bytes>
@@ -48,24 +66,158 @@ fn came(mut words: Vec<Bytes>) -> Option<EventKind>
     Some(EventKind::Bytes { link, piece })
 }
 
-fn submission(mut words: Vec<Bytes>) -> Option<Submission>
-    ensures { result ≡ by_first submissions words.items }
+/// The first of these faults with that name.
+fn fault_among(faults: &[FaultKind], name: &[u8]) -> Option<FaultKind>
+    ensures { result ≡ fault_among faults.now name.now }
 {
-    let name = first(&mut words)?;
-    match name.as_slice() {
-        b"cmd" => Some(Submission::Cmd {
-            args: Names::from_vec(words),
+    for fault in faults {
+        if name == fault.name().as_bytes() {
+            return Some(*fault);
+        }
+    }
+    None
+}
+
+/// The fault with that name.
+fn fault(name: &[u8]) -> Option<FaultKind>
+    ensures { result ≡ fault_among faults name.now }
+{
+    fault_among(&FAULTS, name)
+}
+
+fn read_fault(words: &[Bytes]) -> Option<EventKind>
+    ensures { result ≡ failed ReadFault words.now }
+{
+    let [link, name] = words else {
+        return None;
+    };
+    let link = number_u32(link.as_slice())?;
+    let fault = fault(name.as_slice())?;
+    Some(EventKind::ReadFault { link, fault })
+}
+
+fn write_fault(words: &[Bytes]) -> Option<EventKind>
+    ensures { result ≡ failed WriteFault words.now }
+{
+    let [link, name] = words else {
+        return None;
+    };
+    let link = number_u32(link.as_slice())?;
+    let fault = fault(name.as_slice())?;
+    Some(EventKind::WriteFault { link, fault })
+}
+
+/// The commands between separators.
+fn commands(alloc: Global, first: Vec<Bytes>, more: Vec<Names>) -> Result<Commands, AllocError>
+    ensures { IfOk result (λ cs. cs ≡ commands_of first.items more.items) }
+{
+    let mut commands = Commands::new(alloc);
+    if first.is_empty() && more.is_empty() {
+        return Ok(commands);
+    }
+    commands.push(Names::from_vec(first))?;
+    for command in more {
+        commands.push(command)?;
+    }
+    Ok(commands)
+}
+
+fn cmd(args: Vec<Bytes>, more: &[Names]) -> Option<Submission>
+    ensures { result ≡ whole (λ ws. Some (Cmd ws)) args.items more.now }
+{
+    match more {
+        [] => Some(Submission::Cmd {
+            args: Names::from_vec(args),
         }),
         _ => None,
     }
 }
 
-fn submit(words: Vec<Bytes>) -> Option<EventKind>
-    ensures { result ≡ option_map Submit (by_first submissions words.items) }
+fn no_reply(args: Vec<Bytes>, more: &[Names]) -> Option<Submission>
+    ensures { result ≡ whole (λ ws. Some (NoReply ws)) args.items more.now }
 {
-    Some(EventKind::Submit {
-        submission: submission(words)?,
-    })
+    match more {
+        [] => Some(Submission::NoReply {
+            args: Names::from_vec(args),
+        }),
+        _ => None,
+    }
+}
+
+/// How many replies are skipped and how many are kept, the first two words, taken out.
+fn numbers(words: &mut Vec<Bytes>) -> Option<(u32, u32)>
+    ensures { MatchOption result ((more : List (List (List ℕ))) → packed_of words.old.items more ≡ None) (λ n. (more : List (List (List ℕ))) → packed_of words.old.items more ≡ Some (Packed n.0 n.1 (commands_of words.new.items more))) }
+{
+    let [offset, count, ..] = words.as_slice() else {
+        return None;
+    };
+    let offset = number_u32(offset.as_slice())?;
+    let count = number_u32(count.as_slice())?;
+    words.remove(0);
+    words.remove(0);
+    Some((offset, count))
+}
+
+fn packed(
+    alloc: Global,
+    mut words: Vec<Bytes>,
+    more: Vec<Names>,
+) -> Result<Option<Submission>, AllocError>
+    ensures { IfOk result (λ s. s ≡ packed_of words.items more.items) }
+{
+    let Some((offset, count)) = numbers(&mut words) else {
+        return Ok(None);
+    };
+    let commands = commands(alloc, words, more)?;
+    Ok(Some(Submission::Packed {
+        offset,
+        count,
+        commands,
+    }))
+}
+
+fn submission(
+    alloc: Global,
+    mut words: Vec<Bytes>,
+    more: Vec<Names>,
+) -> Result<Option<Submission>, AllocError>
+    ensures { IfOk result (λ s. s ≡ by_first submissions words.items more.items) }
+{
+    let Some(name) = first(&mut words) else {
+        return Ok(None);
+    };
+    let name = name.as_slice();
+    if name == b"cmd".as_slice() {
+        return Ok(cmd(words, more.as_slice()));
+    }
+    if name == b"noreply".as_slice() {
+        return Ok(no_reply(words, more.as_slice()));
+    }
+    if name == b"pipe".as_slice() {
+        let commands = commands(alloc, words, more)?;
+        return Ok(Some(Submission::Pipe { commands }));
+    }
+    if name == b"multi".as_slice() {
+        let commands = commands(alloc, words, more)?;
+        return Ok(Some(Submission::Multi { commands }));
+    }
+    if name == b"packed".as_slice() {
+        return packed(alloc, words, more);
+    }
+    Ok(None)
+}
+
+fn submit(
+    alloc: Global,
+    words: Vec<Bytes>,
+    more: Vec<Names>,
+) -> Result<Option<EventKind>, AllocError>
+    ensures { IfOk result (λ k. k ≡ option_map Submit (by_first submissions words.items more.items)) }
+{
+    match submission(alloc, words, more)? {
+        Some(submission) => Ok(Some(EventKind::Submit { submission })),
+        None => Ok(None),
+    }
 }
 
 fn cancel(words: &[Bytes]) -> Option<EventKind>
@@ -101,14 +253,11 @@ fn shutdown(words: &[Bytes]) -> Option<EventKind>
     }
 }
 
-fn kind(mut words: Vec<Bytes>) -> Option<EventKind>
-    ensures { result ≡ by_first events words.items }
+/// What happens besides submissions, by the name and the words behind it.
+#[tactic(auto, unfolding(crate::specs::EventLine::others))]
+fn other(name: &[u8], words: Vec<Bytes>) -> Option<EventKind>
+    ensures { result ≡ by_first others (name.now ∷ words.items) [] }
 {
-    let name = first(&mut words)?;
-    let name = name.as_slice();
-    if name == b"submit".as_slice() {
-        return submit(words);
-    }
     if name == b"cancel".as_slice() {
         return cancel(words.as_slice());
     }
@@ -124,19 +273,41 @@ fn kind(mut words: Vec<Bytes>) -> Option<EventKind>
     if name == b"ended".as_slice() {
         return ended(words.as_slice());
     }
+    if name == b"read-fault".as_slice() {
+        return read_fault(words.as_slice());
+    }
+    if name == b"write-fault".as_slice() {
+        return write_fault(words.as_slice());
+    }
     if name == b"shutdown".as_slice() {
         return shutdown(words.as_slice());
     }
     None
 }
 
+fn kind(alloc: Global, line: Line) -> Result<Option<EventKind>, AllocError>
+    ensures { IfOk result (λ k. k ≡ by_first events line.words line.more) }
+{
+    let (mut words, more) = line.into_parts();
+    let Some(name) = first(&mut words) else {
+        return Ok(None);
+    };
+    if name.as_slice() == b"submit".as_slice() {
+        return submit(alloc, words, more);
+    }
+    match more.as_slice() {
+        [] => Ok(other(name.as_slice(), words)),
+        _ => Ok(None),
+    }
+}
+
 /// The event that the words of a line are.
 #[tactic(auto, unfolding(crate::specs::EventLine::event_of))]
-pub fn event(words: Vec<Bytes>) -> Option<Event>
-    ensures { result ≡ event_of words.items }
+pub fn event(alloc: Global, line: Line) -> Result<Option<Event>, AllocError>
+    ensures { IfOk result (λ e. e ≡ event_of line) }
 {
-    Some(Event {
-        word: 0,
-        kind: kind(words)?,
-    })
+    match kind(alloc, line)? {
+        Some(kind) => Ok(Some(Event { word: 0, kind })),
+        None => Ok(None),
+    }
 }

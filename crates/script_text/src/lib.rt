@@ -1,12 +1,13 @@
 //! The text of scripts: a line with the configuration, a line for each event, and a last line `end`.
 //!
 //! Lines end with LF, and one space stands between two words. In a word `%` and two hexadecimal digits are a byte, and
-//! `%-` is the word of no bytes. Words are compared once they are read so.
+//! `%-` is the word of no bytes. Words are compared once they are read so. `;` as a word of its own separates commands.
 #![tactic(auto)]
 
 mod config_line;
 mod event_line;
 mod intake;
+mod line;
 mod number;
 mod script;
 mod words;
@@ -14,5 +15,7 @@ mod words;
 pub use intake::Intake;
 pub use script::{Script, ScriptError, read_script};
 
+#[cfg(test)]
+mod submission_tests;
 #[cfg(test)]
 mod tests;

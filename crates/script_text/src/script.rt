@@ -5,8 +5,9 @@ ghost use Rattle.script_text.specs.Script.{is_end as is_end_of, script_of};
 
 use crate::config_line::config;
 use crate::event_line::event;
+use crate::line::Line;
 use crate::words::{cut, words};
-use containers::{Bytes, Seq};
+use containers::Seq;
 use driver_model::{Config, Event};
 use std::alloc::{AllocError, Global};
 
@@ -69,8 +70,8 @@ fn next_line<'a>(cursor: &mut Cursor<'a>) -> Option<&'a [u8]>
 }
 
 /// The words of the next line.
-fn line_words(alloc: Global, cursor: &mut Cursor<'_>) -> Result<Vec<Bytes>, ScriptError>
-    ensures words { IfOk result (λ ws. words_left cursor.old ≡ Some ws.items) }
+fn line_words(alloc: Global, cursor: &mut Cursor<'_>) -> Result<Line, ScriptError>
+    ensures words { IfOk result (λ words. words_left cursor.old ≡ Some words) }
     ensures passed { IfOk result (λ _. Goes cursor.old cursor.new) }
     ensures fault { IfErr result (λ e. Refuses e cursor.old.number (words_left cursor.old)) }
 {
@@ -85,11 +86,11 @@ fn line_words(alloc: Global, cursor: &mut Cursor<'_>) -> Result<Vec<Bytes>, Scri
 }
 
 /// Whether these are the words of the last line.
-fn is_end(words: &[Bytes]) -> bool
+fn is_end(words: &Line) -> bool
     ensures { result ≡ is_end_of words.now }
 {
-    match words {
-        [word] => word.as_slice() == b"end".as_slice(),
+    match (words.words(), words.more()) {
+        ([word], []) => word.as_slice() == b"end".as_slice(),
         _ => false,
     }
 }
@@ -106,13 +107,13 @@ fn next_event(alloc: Global, cursor: &mut Cursor<'_>) -> Result<Option<Event>, S
         Ok(words) => words,
         Err(error) => return Err(error),
     };
-    if is_end(words.as_slice()) {
+    if is_end(&words) {
         if cursor.left.is_empty() {
             return Ok(None);
         }
         return Err(ScriptError::Line(cursor.number));
     }
-    match event(words) {
+    match event(alloc, words)? {
         Some(event) => Ok(Some(event)),
         None => Err(ScriptError::Line(number)),
     }
@@ -144,7 +145,7 @@ fn config_line(alloc: Global, cursor: &mut Cursor<'_>) -> Result<Config, ScriptE
         Ok(words) => words,
         Err(error) => return Err(error),
     };
-    match config(alloc, words.as_slice())? {
+    match config(alloc, &words)? {
         Some(config) => Ok(config),
         None => Err(ScriptError::Line(number)),
     }

@@ -24,7 +24,7 @@ fn fault_behind(alloc: Global, rest: &[u8]) -> Result<u32, ScriptError> {
 }
 
 /// Whole texts, each with its line at fault, or 0.
-const FIRST_LINES: [(&[u8], u32); 21] = [
+const FIRST_LINES: [(&[u8], u32); 22] = [
     (b"", 1),
     (b"\n", 1),
     (b"end\n", 1),
@@ -59,6 +59,10 @@ const FIRST_LINES: [(&[u8], u32); 21] = [
     ),
     (
         b"config single connect=none response=none lib=off\nend\n",
+        1,
+    ),
+    (
+        b"config single url=redis://h:6379 connect=none response=none lib=off ;\nend\n",
         1,
     ),
     (
@@ -162,7 +166,7 @@ const LATER_LINES: [(&[u8], u32); 47] = [
     (b"submit cmd %4g\nend\n", 2),
     (b"submit cmd a%-\nend\n", 2),
     (b"submit\nend\n", 2),
-    (b"submit pipe GET a\nend\n", 2),
+    (b"submit other GET a\nend\n", 2),
     (b"@0 shutdown\nend\n", 2),
     (b"shutdown 0\nend\n", 2),
     (b"config single\nend\n", 2),
@@ -181,7 +185,9 @@ fn is_get(event: &Event, argument: &[u8]) -> bool {
     let EventKind::Submit { submission } = &event.kind else {
         return false;
     };
-    let Submission::Cmd { args } = submission;
+    let Submission::Cmd { args } = submission else {
+        return false;
+    };
     let [name, given] = args.as_slice() else {
         return false;
     };

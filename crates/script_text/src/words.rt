@@ -1,6 +1,7 @@
-ghost use Rattle.std.specs.Prelude.{◌≡◌, ◌+◌, length, MatchOption, Some, None, IfSome, IfOk, option_map};
+ghost use Rattle.std.specs.Prelude.{◌≡◌, ◌+◌, length, MatchOption, Some, None, IfSome, IfOk};
 ghost use Rattle.script_text.specs.Words.{cut_at, is_well_escaped, begins_with_hex, unescaped, words_of_line};
 
+use crate::line::Line;
 use containers::Bytes;
 use percent_encoding::percent_decode;
 use std::alloc::{AllocError, Global};
@@ -42,10 +43,10 @@ fn is_escaped_well(raw: &[u8]) -> bool
 
 /// The bytes that a word stands for.
 #[tactic(auto, unfolding(crate::specs::Words::unescaped))]
-fn word(alloc: Global, raw: &[u8]) -> Result<Option<Bytes>, AllocError>
+pub fn word(alloc: Global, raw: &[u8]) -> Result<Option<Bytes>, AllocError>
     ensures { IfOk result (λ w. w ≡ unescaped raw.now) }
 {
-    if raw.is_empty() || raw == b";".as_slice() {
+    if raw.is_empty() {
         return Ok(None);
     }
     if raw == b"%-".as_slice() {
@@ -60,21 +61,17 @@ fn word(alloc: Global, raw: &[u8]) -> Result<Option<Bytes>, AllocError>
 }
 
 /// The words of a line.
-pub fn words(alloc: Global, line: &[u8]) -> Result<Option<Vec<Bytes>>, AllocError>
-    ensures { IfOk result (λ ws. option_map (λ v. v.items) ws ≡ words_of_line line.now) }
+pub fn words(alloc: Global, line: &[u8]) -> Result<Option<Line>, AllocError>
+    ensures { IfOk result (λ l. l ≡ words_of_line line.now) }
 {
-    let mut words = Vec::new(alloc);
+    let mut words = Line::new(alloc);
     let mut left = line;
     while let Some((raw, rest)) = cut(left, b' ') {
-        let Some(word) = word(alloc, raw)? else {
+        let Some(more) = words.with(alloc, raw)? else {
             return Ok(None);
         };
-        words.push(word)?;
+        words = more;
         left = rest;
     }
-    let Some(word) = word(alloc, left)? else {
-        return Ok(None);
-    };
-    words.push(word)?;
-    Ok(Some(words))
+    words.with(alloc, left)
 }

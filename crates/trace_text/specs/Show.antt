@@ -1,6 +1,8 @@
 -- The text of a trace: for each action the line of its words.
 use Rattle.std.specs.Prelude.{ℕ, ◌==◌, List, [], ◌∷◌, ◌++◌, codes, decimal, flat_map, if◌then◌else◌}
 use Rattle.std.specs.Str.{byte}
+use Rattle.resp_value.specs.Data.{array, items_of}
+use Rattle.resp_value.specs.Names.{fault_name}
 use Rattle.resp_value.specs.View.{data_of}
 use Rattle.driver_model.specs.declared.config.Config.{Config}
 use Rattle.driver_model.specs.declared.event.Submission.{Submission}
@@ -16,7 +18,7 @@ use Rattle.driver_model.specs.declared.action.Cause.TheVariants.{Opening, Event}
 use Rattle.driver_model.specs.declared.action.Action.{Action}
 use Rattle.driver_model.specs.declared.action.Action.TheVariants as action
 use Rattle.driver_model.specs.declared.outcome.Outcome.{Outcome}
-use Rattle.driver_model.specs.declared.outcome.Outcome.TheVariants.{One, Fault}
+use Rattle.driver_model.specs.declared.outcome.Outcome.TheVariants.{One, Many, Fault}
 use Rattle.resp_write.specs.Canonical.{canonical}
 use Rattle.trace_text.specs.Words.{line_of}
 use Rattle.trace_text.specs.Errors.{error_words}
@@ -52,8 +54,30 @@ url c = codes "url=redis://" ++ address c.host c.port
 abbrev pub config_words : Config → List (List ℕ)
 config_words c = codes "config" ∷ codes "single" ∷ url c ∷ bare_words
 
+-- the first of some commands, which has no words where there is none
+abbrev pub first_of : List (List (List ℕ)) → List (List ℕ)
+first_of [] = []
+first_of (command ∷ commands) = command
+
+-- the commands behind the first
+abbrev pub behind_first : List (List (List ℕ)) → List (List (List ℕ))
+behind_first [] = []
+behind_first (command ∷ commands) = commands
+
 abbrev pub submission_words : Submission → List (List ℕ)
 submission_words (submission.Cmd args) = codes "cmd" ∷ args
+submission_words (submission.NoReply args) = codes "noreply" ∷ args
+submission_words (submission.Pipe commands) = codes "pipe" ∷ first_of commands
+submission_words (submission.Multi commands) = codes "multi" ∷ first_of commands
+submission_words (submission.Packed offset count commands) = codes "packed" ∷ decimal offset ∷ decimal count ∷ first_of commands
+
+-- the words behind separators: the commands of a list but for the first
+abbrev pub submission_more : Submission → List (List (List ℕ))
+submission_more (submission.Cmd args) = []
+submission_more (submission.NoReply args) = []
+submission_more (submission.Pipe commands) = behind_first commands
+submission_more (submission.Multi commands) = behind_first commands
+submission_more (submission.Packed offset count commands) = behind_first commands
 
 abbrev pub event_words : EventKind → List (List ℕ)
 event_words (event.Submit s) = codes "submit" ∷ submission_words s
@@ -62,15 +86,26 @@ event_words (event.Connected link) = codes "connected" ∷ decimal link ∷ []
 event_words (event.Wrote link count) = codes "wrote" ∷ decimal link ∷ decimal count ∷ []
 event_words (event.Bytes link piece) = codes "bytes" ∷ decimal link ∷ piece ∷ []
 event_words (event.Ended link) = codes "ended" ∷ decimal link ∷ []
+event_words (event.ReadFault link kind) = codes "read-fault" ∷ decimal link ∷ fault_name kind ∷ []
+event_words (event.WriteFault link kind) = codes "write-fault" ∷ decimal link ∷ fault_name kind ∷ []
 event_words event.Shutdown = codes "shutdown" ∷ []
+
+abbrev pub event_more : EventKind → List (List (List ℕ))
+event_more (event.Submit s) = submission_more s
+event_more _ = []
 
 -- the opening is told by the config line, an event by its own
 abbrev pub cause_words : Cause → List (List ℕ)
 cause_words (Opening config w) = draw_words w ++ config_words config
 cause_words (Event e) = draw_words e.word ++ event_words e.kind
 
+abbrev pub cause_more : Cause → List (List (List ℕ))
+cause_more (Opening config w) = []
+cause_more (Event e) = event_more e.kind
+
 abbrev pub outcome_words : Outcome → List (List ℕ)
 outcome_words (One value) = codes "ok" ∷ canonical (data_of value) ∷ []
+outcome_words (Many values) = codes "many" ∷ canonical (array (items_of values)) ∷ []
 outcome_words (Fault error) = codes "err" ∷ error_words error
 
 -- the words of an action, as they are before any escape
@@ -84,6 +119,15 @@ words_of (action.Start link message owner need len) = codes "start" ∷ decimal 
 words_of action.Created = codes "created" ∷ codes "ok" ∷ []
 words_of (action.Outcome s outcome) = codes "outcome" ∷ submission_word s ∷ outcome_words outcome
 
+-- those behind separators
+abbrev pub more_of : Action → List (List (List ℕ))
+more_of (action.Turn number cause) = cause_more cause
+more_of _ = []
+
+-- the line of an action
+abbrev pub action_line : Action → List ℕ
+action_line a = line_of (words_of a) (more_of a)
+
 -- the text of a trace
 abbrev pub show : List Action → List ℕ
-show actions = flat_map (λ a. line_of (words_of a)) actions
+show actions = flat_map action_line actions

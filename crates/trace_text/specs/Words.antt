@@ -25,7 +25,15 @@ escaped (b ∷ bs) = if is_separator (b ∷ bs) then codes "%3B" else flat_map e
 abbrev pub following : List (List ℕ) → List ℕ
 following words = flat_map (λ word. byte " " ∷ escaped word) words
 
--- the line of words
-abbrev pub line_of : List (List ℕ) → List ℕ
-line_of [] = codes "\n"
-line_of (word ∷ words) = escaped word ++ following words ++ codes "\n"
+-- words behind separators: ` ;` before those of each
+abbrev pub separated : List (List (List ℕ)) → List ℕ
+separated more = flat_map (λ words. codes " ;" ++ following words) more
+
+-- the end of a line, with more words behind separators
+abbrev pub ending : List (List (List ℕ)) → List ℕ
+ending more = separated more ++ codes "\n"
+
+-- the line of words, and of more words behind separators
+abbrev pub line_of : List (List ℕ) → List (List (List ℕ)) → List ℕ
+line_of [] more = ending more
+line_of (word ∷ words) more = escaped word ++ following words ++ ending more

@@ -1,10 +1,12 @@
-ghost use Rattle.std.specs.Prelude.{◌≡◌, ◌++◌, ◌∷◌, [], OnOk};
-ghost use Rattle.trace_text.specs.Words.{following};
-ghost use Rattle.trace_text.specs.Show.{bare_words, cause_words, config_words, event_words, submission_words, url};
+ghost use Rattle.std.specs.Prelude.{◌≡◌, ◌++◌, ◌∷◌, [], OnOk, decimal};
+ghost use Rattle.resp_value.specs.Names.{fault_name};
+ghost use Rattle.trace_text.specs.Words.{following, separated};
+ghost use Rattle.trace_text.specs.Show.{bare_words, behind_first, cause_more, cause_words, config_words, event_more, event_words, first_of, submission_more, submission_words, url};
 
 use crate::writer::Writer;
-use containers::Bytes;
+use containers::{Bytes, Names};
 use driver_model::{Cause, Config, EventKind, Submission};
+use resp_value::FaultKind;
 use std::alloc::{AllocError, Global};
 
 impl Writer {
@@ -49,20 +51,78 @@ impl Writer {
         Ok(())
     }
 
+    /// More commands, each behind a separator.
+    fn separated(&mut self, more: &[Names]) -> Result<(), AllocError>
+        ensures before { self.new.before ≡ self.old.before }
+        ensures ok { OnOk result (self.new.line ≡ self.old.line ++ separated more.now) }
+    {
+        for command in more {
+            self.push(b" ;")?;
+            self.arguments(command.as_slice())?;
+        }
+        Ok(())
+    }
+
+    /// Commands with a separator between two.
+    fn commands(&mut self, commands: &[Names]) -> Result<(), AllocError>
+        ensures before { self.new.before ≡ self.old.before }
+        ensures ok { OnOk result (self.new.line ≡ self.old.line ++ following (first_of commands.now) ++ separated (behind_first commands.now)) }
+    {
+        let [first, more @ ..] = commands else {
+            return Ok(());
+        };
+        self.arguments(first.as_slice())?;
+        self.separated(more)
+    }
+
     /// The words of what a caller hands in.
     fn submitted(&mut self, submission: &Submission) -> Result<(), AllocError>
         ensures before { self.new.before ≡ self.old.before }
-        ensures ok { OnOk result (self.new.line ≡ self.old.line ++ following (submission_words submission.now)) }
+        ensures ok { OnOk result (self.new.line ≡ self.old.line ++ following (submission_words submission.now) ++ separated (submission_more submission.now)) }
     {
-        let Submission::Cmd { args } = submission;
-        self.word(b"cmd")?;
-        self.arguments(args.as_slice())
+        match submission {
+            Submission::Cmd { args } => {
+                self.word(b"cmd")?;
+                self.arguments(args.as_slice())
+            }
+            Submission::NoReply { args } => {
+                self.word(b"noreply")?;
+                self.arguments(args.as_slice())
+            }
+            Submission::Pipe { commands } => {
+                self.word(b"pipe")?;
+                self.commands(commands.as_slice())
+            }
+            Submission::Multi { commands } => {
+                self.word(b"multi")?;
+                self.commands(commands.as_slice())
+            }
+            Submission::Packed {
+                offset,
+                count,
+                commands,
+            } => {
+                self.word(b"packed")?;
+                self.number(u64::from(*offset))?;
+                self.number(u64::from(*count))?;
+                self.commands(commands.as_slice())
+            }
+        }
+    }
+
+    /// A link and its fault.
+    fn fault(&mut self, link: u32, fault: FaultKind) -> Result<(), AllocError>
+        ensures before { self.new.before ≡ self.old.before }
+        ensures ok { OnOk result (self.new.line ≡ self.old.line ++ following (decimal link ∷ fault_name fault ∷ [])) }
+    {
+        self.number(u64::from(link))?;
+        self.word(fault.name().as_bytes())
     }
 
     /// The words of an event.
     fn event(&mut self, kind: &EventKind) -> Result<(), AllocError>
         ensures before { self.new.before ≡ self.old.before }
-        ensures ok { OnOk result (self.new.line ≡ self.old.line ++ following (event_words kind.now)) }
+        ensures ok { OnOk result (self.new.line ≡ self.old.line ++ following (event_words kind.now) ++ separated (event_more kind.now)) }
     {
         match kind {
             EventKind::Submit { submission } => {
@@ -91,6 +151,14 @@ impl Writer {
                 self.word(b"ended")?;
                 self.number(u64::from(*link))
             }
+            EventKind::ReadFault { link, fault } => {
+                self.word(b"read-fault")?;
+                self.fault(*link, *fault)
+            }
+            EventKind::WriteFault { link, fault } => {
+                self.word(b"write-fault")?;
+                self.fault(*link, *fault)
+            }
             EventKind::Shutdown => self.word(b"shutdown"),
         }
     }
@@ -98,7 +166,7 @@ impl Writer {
     /// The words of what a turn is the turn of.
     pub fn cause(&mut self, alloc: Global, cause: &Cause) -> Result<(), AllocError>
         ensures before { self.new.before ≡ self.old.before }
-        ensures ok { OnOk result (self.new.line ≡ self.old.line ++ following (cause_words cause.now)) }
+        ensures ok { OnOk result (self.new.line ≡ self.old.line ++ following (cause_words cause.now) ++ separated (cause_more cause.now)) }
     {
         match cause {
             Cause::Opening { config, word } => {

@@ -4,8 +4,8 @@ ghost use Rattle.trace_text.specs.Show.{outcome_words};
 
 use crate::writer::Writer;
 use driver_model::Outcome;
-use resp_value::Value;
-use resp_write::canonical_text;
+use resp_value::{Value, Values};
+use resp_write::{canonical_text, list_text};
 use std::alloc::{AllocError, Global};
 
 impl Writer {
@@ -16,6 +16,7 @@ impl Writer {
     {
         match outcome {
             Outcome::One(value) => self.reply(alloc, value),
+            Outcome::Many(values) => self.replies(alloc, values),
             Outcome::Fault(error) => {
                 self.word(b"err")?;
                 self.error(alloc, error)
@@ -29,6 +30,15 @@ impl Writer {
     {
         let text = canonical_text(alloc, value)?;
         self.word(b"ok")?;
+        self.word(text.as_slice())
+    }
+
+    fn replies(&mut self, alloc: Global, values: &Values) -> Result<(), AllocError>
+        ensures before { self.new.before ≡ self.old.before }
+        ensures ok { OnOk result (self.new.line ≡ self.old.line ++ following (outcome_words (Outcome.Many values.now))) }
+    {
+        let text = list_text(alloc, values)?;
+        self.word(b"many")?;
         self.word(text.as_slice())
     }
 }

@@ -1,7 +1,9 @@
 use super::{append_action, show};
 use containers::{Bytes, Names, Seq};
-use driver_model::{Action, Cause, Config, Event, EventKind, Outcome, Owner, Submission, WaitKind};
-use resp_value::{RedisError, Value};
+use driver_model::{
+    Action, Cause, Commands, Config, Event, EventKind, Outcome, Owner, Submission, WaitKind,
+};
+use resp_value::{FaultKind, RedisError, ServerError, Value, Values};
 use std::alloc::{AllocError, Global};
 
 /// A request that is answered, and the same with a reply that is none.
@@ -60,11 +62,20 @@ fn turn(number: u32, word: u64, kind: EventKind) -> Action {
     Action::Turn { number, cause }
 }
 
-fn submit(alloc: Global, words: &[&[u8]]) -> Result<EventKind, AllocError> {
-    let mut args = Names::new(alloc);
+fn submitted(number: u32, word: u64, submission: Submission) -> Action {
+    turn(number, word, EventKind::Submit { submission })
+}
+
+fn names(alloc: Global, words: &[&[u8]]) -> Result<Names, AllocError> {
+    let mut names = Names::new(alloc);
     for word in words {
-        args.push(bytes(alloc, word)?)?;
+        names.push(bytes(alloc, word)?)?;
     }
+    Ok(names)
+}
+
+fn submit(alloc: Global, words: &[&[u8]]) -> Result<EventKind, AllocError> {
+    let args = names(alloc, words)?;
     let submission = Submission::Cmd { args };
     Ok(EventKind::Submit { submission })
 }
@@ -155,6 +166,114 @@ fn others(alloc: Global, actions: &mut Seq<Action>) -> Result<(), AllocError> {
     })
 }
 
+/// Lists of commands, faults and lists of replies.
+const LISTS: &[u8] = b"turn 1 submit noreply SET k v
+turn 2 submit noreply
+turn 3 submit pipe
+turn 4 @9 submit pipe GET a
+turn 5 submit pipe ; GET %3B
+turn 6 submit multi SET k 1 ; BAD
+turn 7 submit packed 0 0 PING
+turn 8 submit packed 4294967295 2 A ; ;
+turn 9 read-fault 3 reset
+turn 10 write-fault 4 not-connected
+outcome s0 many *0%0D%0A
+outcome s1 many *2%0D%0A:1%0D%0A-ERR%20bad%0D%0A
+";
+
+fn list(alloc: Global, commands: &[&[&[u8]]]) -> Result<Commands, AllocError> {
+    let mut list = Commands::new(alloc);
+    for words in commands {
+        list.push(names(alloc, words)?)?;
+    }
+    Ok(list)
+}
+
+fn single(alloc: Global, actions: &mut Seq<Action>) -> Result<(), AllocError> {
+    let args = names(alloc, &[b"SET", b"k", b"v"])?;
+    actions.push(submitted(1, 0, Submission::NoReply { args }))?;
+    let args = names(alloc, &[])?;
+    actions.push(submitted(2, 0, Submission::NoReply { args }))
+}
+
+fn pipes(alloc: Global, actions: &mut Seq<Action>) -> Result<(), AllocError> {
+    let commands = list(alloc, &[])?;
+    actions.push(submitted(3, 0, Submission::Pipe { commands }))?;
+    let commands = list(alloc, &[&[b"GET", b"a"]])?;
+    actions.push(submitted(4, 9, Submission::Pipe { commands }))?;
+    let commands = list(alloc, &[&[], &[b"GET", b";"]])?;
+    actions.push(submitted(5, 0, Submission::Pipe { commands }))
+}
+
+fn counted(alloc: Global, actions: &mut Seq<Action>) -> Result<(), AllocError> {
+    let commands = list(alloc, &[&[b"SET", b"k", b"1"], &[b"BAD"]])?;
+    actions.push(submitted(6, 0, Submission::Multi { commands }))?;
+    let commands = list(alloc, &[&[b"PING"]])?;
+    actions.push(submitted(
+        7,
+        0,
+        Submission::Packed {
+            offset: 0,
+            count: 0,
+            commands,
+        },
+    ))?;
+    let commands = list(alloc, &[&[b"A"], &[], &[]])?;
+    actions.push(submitted(
+        8,
+        0,
+        Submission::Packed {
+            offset: u32::MAX,
+            count: 2,
+            commands,
+        },
+    ))
+}
+
+fn faults(actions: &mut Seq<Action>) -> Result<(), AllocError> {
+    let kind = EventKind::ReadFault {
+        link: 3,
+        fault: FaultKind::Reset,
+    };
+    actions.push(turn(9, 0, kind))?;
+    let kind = EventKind::WriteFault {
+        link: 4,
+        fault: FaultKind::NotConnected,
+    };
+    actions.push(turn(10, 0, kind))
+}
+
+fn replies(alloc: Global, actions: &mut Seq<Action>) -> Result<(), AllocError> {
+    let outcome = Outcome::Many(Values::new(alloc));
+    actions.push(Action::Outcome {
+        submission: 0,
+        outcome,
+    })?;
+    let code = bytes(alloc, b"ERR")?;
+    let detail = Some(bytes(alloc, b"bad")?);
+    let mut values = Values::new(alloc);
+    values.push(Value::Int(1))?;
+    values.push(Value::ServerError(ServerError { code, detail }))?;
+    let outcome = Outcome::Many(values);
+    actions.push(Action::Outcome {
+        submission: 1,
+        outcome,
+    })
+}
+
+#[test]
+fn lists_have_text(rt: HostRuntime) -> Result<(), AllocError> {
+    let alloc = rt.alloc();
+    let mut actions = Seq::new(alloc);
+    single(alloc, &mut actions)?;
+    pipes(alloc, &mut actions)?;
+    counted(alloc, &mut actions)?;
+    faults(&mut actions)?;
+    replies(alloc, &mut actions)?;
+    assert_eq!(rt; show(alloc, actions.as_slice())?.as_slice(), LISTS);
+    Ok(())
+}
+
 #[test]
 fn traces_have_text(rt: HostRuntime) -> Result<(), AllocError> {
     let alloc = rt.alloc();
@@ -170,21 +289,20 @@ fn traces_have_text(rt: HostRuntime) -> Result<(), AllocError> {
     Ok(())
 }
 
+/// The line in which this byte is written.
+fn written(alloc: Global, byte: u8) -> Result<Bytes, AllocError> {
+    let bytes = bytes(alloc, &[byte])?;
+    let action = Action::Write { link: 9, bytes };
+    let mut text = Bytes::new(alloc);
+    append_action(alloc, &mut text, &action)?;
+    Ok(text)
+}
+
 #[test]
 fn each_byte_has_a_word(rt: HostRuntime) -> Result<(), AllocError> {
     let alloc = rt.alloc();
-    let mut text = Bytes::new(alloc);
     for byte in 0..=255u8 {
-        let written = bytes(alloc, &[byte])?;
-        text.clear();
-        append_action(
-            alloc,
-            &mut text,
-            &Action::Write {
-                link: 9,
-                bytes: written,
-            },
-        )?;
+        let text = written(alloc, byte)?;
         let visible = (0x21..=0x7E).contains(&byte) && byte != b'%' && byte != b';';
         let wanted = if visible {
             format!(in alloc; "write 9 {}\n", char::from(byte))?

@@ -1,19 +1,16 @@
 use Rattle.std.proofs.Common.{sym, ◌∙◌}
-use Rattle.script_text.proofs.Cutting.{word_refused, word_more, last_refused, last_word}
+use Rattle.std.proofs.lemmas.Result.{IfOk-weaker}
+use Rattle.script_text.proofs.Cutting.{part_read, last_read}
 use Rattle.script_text.proofs.words.words.Goals as goal
 
 pub returns-in_default-2 : goal.returns-in_default-2
 returns-in_default-2 c =
-    word_refused c.args.line.now c.loop-raw.words.items c.loop-raw.left.now c.loop-raw.invariant c.in-Some.raw.now c.in-Some.rest.now c.in-Some.ensures.parts (sym c.in_default-2.is ∙ c.in_ok-word.ensures)
+    sym (part_read c.args.line.now c.loop-raw.words c.loop-raw.left.now c.loop-raw.invariant c.in-Some.raw.now c.in-Some.rest.now _ c.in-Some.ensures.parts (sym c.in_default-2.is ∙ c.in_ok-more.ensures))
 
 pub loop-raw-preserved : goal.loop-raw-preserved
 loop-raw-preserved c =
-    rw c.in_ok-push.ensures.items (word_more c.args.line.now c.loop-raw.words.items c.loop-raw.left.now c.loop-raw.invariant c.in-Some.raw.now c.in-Some.rest.now c.in-Some-2.word c.in-Some.ensures.parts (sym c.in-Some-2.is ∙ c.in_ok-word.ensures))
-
-pub returns-in_default-3 : goal.returns-in_default-3
-returns-in_default-3 c =
-    last_refused c.args.line.now c.loop-raw.words.items c.loop-raw.left.now c.loop-raw.invariant c.in_default.ensures.parts (sym c.in_default-3.is ∙ c.in_ok-word-2.ensures)
+    part_read c.args.line.now c.loop-raw.words c.loop-raw.left.now c.loop-raw.invariant c.in-Some.raw.now c.in-Some.rest.now _ c.in-Some.ensures.parts (sym c.in-Some-2.is ∙ c.in_ok-more.ensures)
 
 pub returns : goal.returns
 returns c =
-    rw c.in_ok-push-2.ensures.items (last_word c.args.line.now c.loop-raw.words.items c.loop-raw.left.now c.loop-raw.invariant c.in-Some-3.word c.in_default.ensures.parts (sym c.in-Some-3.is ∙ c.in_ok-word-2.ensures))
+    IfOk-weaker c.with-2.result _ _ (λ all is. last_read c.args.line.now c.loop-raw.words c.loop-raw.left.now c.loop-raw.invariant all c.in_default.ensures.parts is) c.with-2.ensures

@@ -1,0 +1,194 @@
+use crate::script::{ScriptError, read_script};
+use containers::{Bytes, Names};
+use driver_model::{Commands, Event, EventKind, Submission};
+use std::alloc::{AllocError, Global};
+use std::test::Fail;
+
+const CONFIG: &[u8] = b"config single url=redis://h:6379 connect=none response=none lib=off\n";
+
+/// Lines, each with its submission: a list has each command in brackets, and a comma between two words.
+const SUBMISSIONS: [(&[u8], &[u8]); 21] = [
+    (b"submit cmd", b"cmd []"),
+    (b"submit cmd GET a", b"cmd [GET,a]"),
+    (b"submit cmd GET %3B", b"cmd [GET,;]"),
+    (b"submit noreply", b"noreply []"),
+    (b"submit noreply SET k 1", b"noreply [SET,k,1]"),
+    (b"submit pipe", b"pipe "),
+    (b"submit pipe GET a", b"pipe [GET,a]"),
+    (b"submit pipe GET a ; GET b", b"pipe [GET,a][GET,b]"),
+    (b"submit pipe ; GET b", b"pipe [][GET,b]"),
+    (b"submit pipe GET a ;", b"pipe [GET,a][]"),
+    (b"submit pipe ;", b"pipe [][]"),
+    (b"submit pipe %- ; %3b", b"pipe [][;]"),
+    (b"submit multi", b"multi "),
+    (b"submit multi SET k 1", b"multi [SET,k,1]"),
+    (b"submit multi SET k 1 ; BAD", b"multi [SET,k,1][BAD]"),
+    (b"submit packed 1 2", b"packed 1 2 "),
+    (b"submit packed 0 0 PING", b"packed 0 0 [PING]"),
+    (b"submit packed 0 1 PING", b"packed 0 1 [PING]"),
+    (b"submit packed 2 3 1 ; 4 5", b"packed 2 3 [1][4,5]"),
+    (
+        b"submit packed 4294967295 0 A ; B",
+        b"packed 4294967295 0 [A][B]",
+    ),
+    (b"submit packed 0 4294967295 ;", b"packed 0 4294967295 [][]"),
+];
+
+fn show_command(out: &mut Bytes, args: &[Bytes]) -> Result<(), AllocError> {
+    out.push(b'[')?;
+    for (i, arg) in args.iter().enumerate() {
+        if i > 0 {
+            out.push(b',')?;
+        }
+        out.extend_from_slice(arg.as_slice())?;
+    }
+    out.push(b']')
+}
+
+fn show_commands(out: &mut Bytes, commands: &[Names]) -> Result<(), AllocError> {
+    for command in commands {
+        show_command(out, command.as_slice())?;
+    }
+    Ok(())
+}
+
+fn show(alloc: Global, submission: &Submission) -> Result<Bytes, AllocError> {
+    let mut out = Bytes::new(alloc);
+    match submission {
+        Submission::Cmd { args } => {
+            out.extend_from_slice(b"cmd ")?;
+            show_command(&mut out, args.as_slice())?;
+        }
+        Submission::NoReply { args } => {
+            out.extend_from_slice(b"noreply ")?;
+            show_command(&mut out, args.as_slice())?;
+        }
+        Submission::Pipe { commands } => {
+            out.extend_from_slice(b"pipe ")?;
+            show_commands(&mut out, commands.as_slice())?;
+        }
+        Submission::Multi { commands } => {
+            out.extend_from_slice(b"multi ")?;
+            show_commands(&mut out, commands.as_slice())?;
+        }
+        Submission::Packed {
+            offset,
+            count,
+            commands,
+        } => {
+            let numbers = format!(in alloc; "packed {offset} {count} ")?;
+            out.extend_from_slice(numbers.as_bytes())?;
+            show_commands(&mut out, commands.as_slice())?;
+        }
+    }
+    Ok(out)
+}
+
+/// A script of this line alone.
+fn script_of(alloc: Global, line: &[u8]) -> Result<Bytes, AllocError> {
+    let mut text = Bytes::from_slice(alloc, CONFIG)?;
+    text.extend_from_slice(line)?;
+    text.extend_from_slice(b"\nend\n")?;
+    Ok(text)
+}
+
+fn is_shown(alloc: Global, events: &[Event], want: &[u8]) -> Result<bool, AllocError> {
+    let [event] = events else {
+        return Ok(false);
+    };
+    let EventKind::Submit { submission } = &event.kind else {
+        return Ok(false);
+    };
+    let shown = show(alloc, submission)?;
+    Ok(shown.as_slice() == want)
+}
+
+#[test]
+fn submissions_as_given(rt: HostRuntime) -> Result<(), Fail> {
+    for (line, want) in SUBMISSIONS {
+        let text = script_of(rt.alloc(), line)?;
+        let script = read_script(rt.alloc(), text.as_slice())?;
+        assert!(rt; is_shown(rt.alloc(), script.events.as_slice(), want)?);
+    }
+    Ok(())
+}
+
+/// Lines of faults, each with whether it is one of a read, and its name.
+const FAULTS: [(&[u8], bool, &[u8]); 12] = [
+    (b"read-fault 7 refused", true, b"refused"),
+    (b"read-fault 7 reset", true, b"reset"),
+    (b"read-fault 7 aborted", true, b"aborted"),
+    (b"read-fault 7 not-connected", true, b"not-connected"),
+    (b"read-fault 7 broken-pipe", true, b"broken-pipe"),
+    (b"read-fault 7 eof", true, b"eof"),
+    (b"read-fault 7 timed-out", true, b"timed-out"),
+    (b"read-fault 7 interrupted", true, b"interrupted"),
+    (b"read-fault 7 denied", true, b"denied"),
+    (b"read-fault 7 other", true, b"other"),
+    (b"write-fault 7 broken-pipe", false, b"broken-pipe"),
+    (b"write-fault 7 o%74her", false, b"other"),
+];
+
+fn is_fault(events: &[Event], of_read: bool, name: &[u8]) -> bool {
+    let [event] = events else {
+        return false;
+    };
+    match &event.kind {
+        EventKind::ReadFault { link: 7, fault } => of_read && fault.name().as_bytes() == name,
+        EventKind::WriteFault { link: 7, fault } => !of_read && fault.name().as_bytes() == name,
+        _ => false,
+    }
+}
+
+#[test]
+fn faults_as_given(rt: HostRuntime) -> Result<(), Fail> {
+    for (line, of_read, name) in FAULTS {
+        let text = script_of(rt.alloc(), line)?;
+        let script = read_script(rt.alloc(), text.as_slice())?;
+        assert!(rt; is_fault(script.events.as_slice(), of_read, name));
+    }
+    Ok(())
+}
+
+/// Lines that are refused.
+const REFUSED: [&[u8]; 26] = [
+    b"submit cmd GET a ; GET b",
+    b"submit cmd ;",
+    b"submit noreply GET a ; GET b",
+    b"submit ; cmd",
+    b"submit pipe GET a ;; GET b ; ",
+    b"submit pipe GET a ;  GET b",
+    b"submit packed",
+    b"submit packed 1",
+    b"submit packed 1 ; 2 GET a",
+    b"submit packed 4294967296 0 GET a",
+    b"submit packed 0 4294967296 GET a",
+    b"submit packed 01 1 GET a",
+    b"submit packed 1 GET a",
+    b"submit pack 0 1 GET a",
+    b"read-fault 0",
+    b"read-fault reset",
+    b"read-fault 0 Reset",
+    b"read-fault 0 unknown",
+    b"read-fault 0 reset x",
+    b"read-fault 0 reset ; x",
+    b"write-fault 4294967296 reset",
+    b"cancel 0 ; 1",
+    b"shutdown ;",
+    b"; shutdown",
+    b"end ;",
+    b";",
+];
+
+#[test]
+fn lines_refused(rt: HostRuntime) -> Result<(), Fail> {
+    for line in REFUSED {
+        let text = script_of(rt.alloc(), line)?;
+        let is_refused = matches!(
+            read_script(rt.alloc(), text.as_slice()),
+            Err(ScriptError::Line(2))
+        );
+        assert!(rt; is_refused);
+    }
+    Ok(())
+}
