@@ -41,7 +41,7 @@ unfolding can_be_split
 several args addr policy [] h le = refl
 several args addr policy (s ∷ slots) h le =
     either (all_are s slots) (can_be_split args) (to_slot addr s) (MultiNode (MultiSlot (parts_of addr (s ∷ slots))) (Some policy)) refl
-      (ap (λ b. b && parts_within (key_count args) (parts_of addr (s ∷ slots))) h ∙ all_within addr 0 (key_count args) (s ∷ slots) [] (omega arith) refl)
+    (ap (λ b. b && parts_within (key_count args) (parts_of addr (s ∷ slots))) h ∙ all_within addr 0 (key_count args) (s ∷ slots) [] (omega arith) refl)
 
 one_key : (args : List (List ℕ)) (addr : SlotAddr) (key : Option (List ℕ)) → can_be_split args (by_key addr key) ≡ true
 unfolding can_be_split
@@ -53,8 +53,8 @@ unfolding can_be_split
 counted args addr None key = refl
 counted args addr (Some count) key =
     either (is_number count) (can_be_split args) (if digits_value 10 count == 0 then SingleNode RandomPrimary else by_key addr key) random
-      (either (digits_value 10 count == 0) (can_be_split args) (SingleNode RandomPrimary) (by_key addr key) refl (one_key args addr key))
-      refl
+    (either (digits_value 10 count == 0) (can_be_split args) (SingleNode RandomPrimary) (by_key addr key) refl (one_key args addr key))
+    refl
 
 pairs : (args : List (List ℕ)) → length (keys_of_pairs args) ≡ length args / 2
 pairs [] = refl
@@ -71,8 +71,8 @@ by_form name args (EachKey addr policy) e =
 by_form name args (EachPair addr policy) e =
     let two : length args / width (form_of name args) ≡ length args / 2 = sym (ap (λ f. length args / width f) e) in
     either (length args % 2 == 1) (can_be_split (name ∷ args)) (by_key addr (slice_get args 0)) (by_slots addr policy (map slot_of (keys_of_pairs args)))
-      (one_key (name ∷ args) addr (slice_get args 0))
-      (several (name ∷ args) addr policy (map slot_of (keys_of_pairs args)) (sym (ap is_several e)) (omega (arith, length-map (keys_of_pairs args) slot_of, pairs args)))
+    (one_key (name ∷ args) addr (slice_get args 0))
+    (several (name ∷ args) addr policy (map slot_of (keys_of_pairs args)) (sym (ap is_several e)) (omega (arith, length-map (keys_of_pairs args) slot_of, pairs args)))
 by_form name args Random e = refl
 by_form name args (CountedKey addr) e = counted (name ∷ args) addr (slice_get args 1) (slice_get args 2)
 by_form name args (AfterStreams addr) e = one_key (name ∷ args) addr (after_streams args)

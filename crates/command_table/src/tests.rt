@@ -328,7 +328,11 @@ fn may_be_several(cmd: &Cmd) -> bool
 fn width(form: Form) -> usize
     ensures { result ≡ width form }
 {
-    if matches!(form, Form::EachPair(_, _)) { 2 } else { 1 }
+    if matches!(form, Form::EachPair(_, _)) {
+        2
+    } else {
+        1
+    }
 }
 
 fn key_count(cmd: &Cmd) -> usize
@@ -372,12 +376,7 @@ fn keys_go_into_a_part(rt: HostRuntime) -> Result<(), AllocError> {
 
 /// The command of a part.
 #[tactic(auto, using(crate::proofs::Splitting::each_is_within), unfolding(crate::specs::Splitting::can_be_split))]
-fn command_of_part(
-    alloc: Global,
-    cmd: &Cmd,
-    parts: &SlotParts,
-    k: usize,
-) -> Result<Cmd, AllocError>
+fn command_of_part(alloc: Global, cmd: &Cmd, parts: &SlotParts, k: usize) -> Result<Cmd, AllocError>
     requires parts { can_be_split cmd.now.args (MultiNode (MultiSlot parts.now) None) ≡ true }
     requires place { k < length parts.now }
 {
@@ -386,12 +385,7 @@ fn command_of_part(
 
 /// Whether a command has two parts, with these commands.
 #[tactic(auto, unfolding(crate::specs::Splitting::can_be_split))]
-fn are_parts_of(
-    alloc: Global,
-    text: &str,
-    first: &str,
-    second: &str,
-) -> Result<bool, AllocError> {
+fn are_parts_of(alloc: Global, text: &str, first: &str, second: &str) -> Result<bool, AllocError> {
     let cmd = command(alloc, text)?;
     let routing = RoutingInfo::for_routable(alloc, &cmd)?;
     let Some(RoutingInfo::MultiNode(MultipleNodeRoutingInfo::MultiSlot(parts), _)) = &routing else {
