@@ -6,16 +6,21 @@ use Rattle.driver_model.specs.declared.config.Config.{Config}
 use Rattle.driver_model.specs.declared.event.Event.{Event}
 use Rattle.driver_model.specs.declared.event.EventKind.{EventKind}
 use Rattle.driver_model.specs.declared.event.EventKind.TheVariants as event
+use Rattle.driver_model.specs.declared.event.Submission.{Submission}
 use Rattle.driver_model.specs.declared.event.Submission.TheVariants as submission
+use Rattle.resp_value.specs.declared.fault_kind.FaultKind.{FaultKind}
+use Rattle.resp_value.specs.declared.fault_kind.FaultKind.TheVariants as fault
+use Rattle.resp_value.specs.Names.{fault_name}
 use Rattle.script_text.specs.Numbers.{number, max_u16, max_u32, max_u64}
-use Rattle.script_text.specs.EventLine.{event_of}
-use Rattle.script_text.specs.Words.{all_of}
+use Rattle.script_text.specs.EventLine.{by_first, commands, submissions, faults, fault_among, failed, others, event_of}
+use Rattle.script_text.specs.Words.{LineWords, all_of}
 use Rattle.trace_model.specs.Legal.{event_causes}
-use Rattle.trace_text.specs.Show.{url, draw_words, config_words, event_words, cause_words}
+use Rattle.trace_text.specs.Show.{url, draw_words, config_words, first_of, behind_first, submission_words, submission_more, event_words, event_more}
 use Rattle.session_laws.proofs.Tests.{chosen, eq_from, eq_test, ne_test}
-use Rattle.text_laws.specs.Fits.{FitsKind, FitsEvent, FitsConfig, FitsHistory}
+use Rattle.text_laws.specs.Fits.{FitsSubmission, FitsKind, FitsEvent, FitsConfig, FitsHistory}
 use Rattle.text_laws.specs.History.{drawn, onto_cut, cut_at_last, config_from, config_in, opening_in, drawing, event_in, script_with, history_in}
 use Rattle.text_laws.proofs.Bytes.{number_back, decimal_no_colon}
+use Rattle.text_laws.proofs.Turns.{cause_line}
 
 small_number : (n : ℕ) → n < 2 ^ 32 → number max_u32 (decimal n) ≡ Some n
 small_number n fits = number_back max_u32 n (omega arith) (omega arith)
@@ -26,10 +31,46 @@ long_number n fits = number_back max_u64 n (omega arith) fits
 undrawn : EventKind → Event
 undrawn kind = record { word = 0; kind = kind }
 
+-- a list of commands that has a line
+commands_back : (all : List (List (List ℕ))) → all ≢ [] ∷ [] → commands (first_of all) (behind_first all) ≡ all
+commands_back [] line = refl
+commands_back ([] ∷ []) line = absurd (line refl)
+commands_back ([] ∷ command ∷ rest) line = refl
+commands_back ((word ∷ words) ∷ rest) line = refl
+
+submission_back : (s : Submission) → FitsSubmission s → by_first submissions (submission_words s) (submission_more s) ≡ Some s
+submission_back (submission.Cmd args) fits = refl
+submission_back (submission.NoReply args) fits = refl
+submission_back (submission.Pipe all) fits = ap (λ cs. Some (submission.Pipe cs)) (commands_back all fits.line)
+submission_back (submission.Multi all) fits = ap (λ cs. Some (submission.Multi cs)) (commands_back all fits.line)
+submission_back (submission.Packed offset count all) fits =
+    ap (option_and_then (λ o. option_map (λ c. submission.Packed o c (commands (first_of all) (behind_first all))) (number max_u32 (decimal count)))) (small_number offset fits.0)
+    ∙ ap (option_map (λ c. submission.Packed offset c (commands (first_of all) (behind_first all)))) (small_number count fits.1)
+    ∙ ap (λ cs. Some (submission.Packed offset count cs)) (commands_back all fits.2.line)
+
+fault_back : (kind : FaultKind) → fault_among faults (fault_name kind) ≡ Some kind
+fault_back fault.Refused = refl
+fault_back fault.Reset = refl
+fault_back fault.Aborted = refl
+fault_back fault.NotConnected = refl
+fault_back fault.BrokenPipe = refl
+fault_back fault.Eof = refl
+fault_back fault.TimedOut = refl
+fault_back fault.Interrupted = refl
+fault_back fault.Denied = refl
+fault_back fault.Other = refl
+
+failed_back : (f : ℕ → FaultKind → EventKind) (link : ℕ) (kind : FaultKind) → link < 2 ^ 32 → failed f (decimal link ∷ fault_name kind ∷ []) ≡ Some (f link kind)
+failed_back f link kind fits =
+    ap (option_and_then (λ l. option_map (f l) (fault_among faults (fault_name kind)))) (small_number link fits) ∙ ap (option_map (f link)) (fault_back kind)
+
 -- an event's own words
-kind_back : (kind : EventKind) → FitsKind kind → event_of (event_words kind) ≡ Some (record { word = 0; kind = kind })
-unfolding event_of undrawn
-kind_back (event.Submit (submission.Cmd args)) fits = refl
+abbrev kind_line : EventKind → LineWords
+kind_line kind = record { words = event_words kind; more = event_more kind }
+
+kind_back : (kind : EventKind) → FitsKind kind → event_of (kind_line kind) ≡ Some (record { word = 0; kind = kind })
+unfolding event_of others undrawn
+kind_back (event.Submit s) fits = ap (λ o. option_map undrawn (option_map event.Submit o)) (submission_back s fits)
 kind_back (event.Cancel s) fits = ap (λ o. option_map undrawn (option_map event.Cancel o)) (small_number s fits)
 kind_back (event.Connected link) fits = ap (λ o. option_map undrawn (option_map event.Connected o)) (small_number link fits)
 kind_back (event.Wrote link count) fits =
@@ -37,6 +78,8 @@ kind_back (event.Wrote link count) fits =
     ∙ ap (λ o. option_map undrawn (option_map (event.Wrote link) o)) (long_number count fits.1)
 kind_back (event.Bytes link piece) fits = ap (λ o. option_map undrawn (option_map (λ l. event.Bytes l piece) o)) (small_number link fits.0)
 kind_back (event.Ended link) fits = ap (λ o. option_map undrawn (option_map event.Ended o)) (small_number link fits)
+kind_back (event.ReadFault link kind) fits = ap (option_map undrawn) (failed_back event.ReadFault link kind fits)
+kind_back (event.WriteFault link kind) fits = ap (option_map undrawn) (failed_back event.WriteFault link kind fits)
 kind_back event.Shutdown fits = refl
 
 -- words that begin with no draw
@@ -50,6 +93,8 @@ kind_undrawn (event.Connected link) = refl
 kind_undrawn (event.Wrote link count) = refl
 kind_undrawn (event.Bytes link piece) = refl
 kind_undrawn (event.Ended link) = refl
+kind_undrawn (event.ReadFault link kind) = refl
+kind_undrawn (event.WriteFault link kind) = refl
 kind_undrawn event.Shutdown = refl
 
 -- a draw before them
@@ -59,9 +104,9 @@ drawn_back w words small none =
     (λ t. none ∙ ap (λ n. Some (n, words)) (sym (eq_from w 0 t)))
     (λ f. ap (option_map (λ n. (n, words))) (long_number w small))
 
-event_back : (e : Event) → FitsEvent e → event_in (cause_words (cause.Event e)) ≡ Some e
+event_back : (e : Event) → FitsEvent e → event_in (cause_line (cause.Event e)) ≡ Some e
 event_back e fits =
-    ap (option_and_then (λ d. option_map (drawing d.0) (event_of d.1))) (drawn_back e.word (event_words e.kind) fits.word (kind_undrawn e.kind))
+    ap (option_and_then (λ d. option_map (drawing d.0) (event_of (record { words = d.1; more = event_more e.kind })))) (drawn_back e.word (event_words e.kind) fits.word (kind_undrawn e.kind))
     ∙ ap (option_map (drawing e.word)) (kind_back e.kind fits.kind)
 
 -- the last of the bytes b is found
@@ -86,20 +131,20 @@ config_back config fits = address_back config fits
 config_undrawn : (config : Config) → IsUndrawn (config_words config)
 config_undrawn config = refl
 
-opening_back : (config : Config) (word : ℕ) → FitsConfig config → word < 2 ^ 64 → opening_in (cause_words (cause.Opening config word)) ≡ Some (config, word)
+opening_back : (config : Config) (word : ℕ) → FitsConfig config → word < 2 ^ 64 → opening_in (cause_line (cause.Opening config word)) ≡ Some (config, word)
 opening_back config word fits small =
     ap (option_and_then (λ d. option_map (λ c. (c, d.0)) (config_in d.1))) (drawn_back word (config_words config) small (config_undrawn config))
     ∙ ap (option_map (λ c. (c, word))) (config_back config fits)
 
-events_back : (events : List Event) → All FitsEvent events → all_of (map event_in (map cause_words (event_causes events))) ≡ Some events
+events_back : (events : List Event) → All FitsEvent events → all_of (map event_in (map cause_line (event_causes events))) ≡ Some events
 events_back [] fits = refl
 events_back (e ∷ es) fits =
-    ap (λ o. all_of (o ∷ map event_in (map cause_words (event_causes es)))) (event_back e (All-head FitsEvent e es fits))
+    ap (λ o. all_of (o ∷ map event_in (map cause_line (event_causes es)))) (event_back e (All-head FitsEvent e es fits))
     ∙ ap (option_map (λ xs. e ∷ xs)) (events_back es (All-tail FitsEvent e es fits))
 
 -- a history is read back from what the text says of its causes
 pub causes_back : (config : Config) (word : ℕ) (events : List Event) → FitsHistory config word events
-    → history_in (map cause_words (cause.Opening config word ∷ event_causes events)) ≡ Some (record { config = config; word = word; events = events })
+    → history_in (map cause_line (cause.Opening config word ∷ event_causes events)) ≡ Some (record { config = config; word = word; events = events })
 causes_back config word events fits =
-    ap (option_and_then (λ opening. option_map (script_with opening) (all_of (map event_in (map cause_words (event_causes events)))))) (opening_back config word fits.config fits.word)
+    ap (option_and_then (λ opening. option_map (script_with opening) (all_of (map event_in (map cause_line (event_causes events)))))) (opening_back config word fits.config fits.word)
     ∙ ap (option_map (script_with (config, word))) (events_back events fits.events)

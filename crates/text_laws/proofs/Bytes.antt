@@ -8,17 +8,21 @@ use Rattle.std.proofs.lemmas.Bool.{and_parts}
 use Rattle.std.proofs.lemmas.Bool.Decides.{nat_tests}
 use Rattle.std.proofs.lemmas.Fmt.{decimal_nonempty, first_decimal, digits_decimal, digits_value-decimal}
 use Rattle.std.proofs.lemmas.Str.Parse.{numerals_by_value, tells_all_ascii_digits}
-use Rattle.std.proofs.lemmas.List.Elements.{All-nil, All-cons, All-append, All-weaker}
+use Rattle.std.proofs.lemmas.List.Elements.{All-nil, All-cons, All-head, All-tail, All-append, All-weaker}
 use Rattle.driver_model.specs.declared.action.Cause.{Cause}
 use Rattle.driver_model.specs.declared.action.Cause.TheVariants.{Opening, Event}
 use Rattle.driver_model.specs.declared.config.Config.{Config}
 use Rattle.driver_model.specs.declared.event.EventKind.{EventKind}
 use Rattle.driver_model.specs.declared.event.EventKind.TheVariants as event
+use Rattle.driver_model.specs.declared.event.Submission.{Submission}
 use Rattle.driver_model.specs.declared.event.Submission.TheVariants as submission
+use Rattle.resp_value.specs.declared.fault_kind.FaultKind.{FaultKind}
+use Rattle.resp_value.specs.declared.fault_kind.FaultKind.TheVariants as fault
+use Rattle.resp_value.specs.Names.{fault_name}
 use Rattle.script_text.specs.Numbers.{is_decimal, number}
-use Rattle.trace_text.specs.Show.{address, url, bare_words, draw_words, config_words, event_words, cause_words}
+use Rattle.trace_text.specs.Show.{address, url, bare_words, draw_words, config_words, first_of, behind_first, submission_words, submission_more, event_words, event_more, cause_words, cause_more}
 use Rattle.session_laws.proofs.Tests.{chosen, lt_from, not_lt_from, le_test}
-use Rattle.text_laws.specs.Fits.{IsByte, AreBytes, FitsKind, FitsEvent, FitsConfig}
+use Rattle.text_laws.specs.Fits.{IsByte, AreBytes, FitsSubmission, FitsKind, FitsEvent, FitsConfig}
 
 -- a text whose bytes were looked at one by one
 pub looked : (bs : List ℕ) → list_all (λ b. nat_lt b 256) bs ≡ true → AreBytes bs
@@ -85,8 +89,48 @@ no_words = All-nil AreBytes
 one_number : (word : List ℕ) (n : ℕ) → AreBytes word → All AreBytes (word ∷ decimal n ∷ [])
 one_number word n small = word_and word (decimal n ∷ []) small (word_and (decimal n) [] (decimal_bytes n) no_words)
 
+fault_bytes : (kind : FaultKind) → AreBytes (fault_name kind)
+fault_bytes fault.Refused = looked (codes "refused") refl
+fault_bytes fault.Reset = looked (codes "reset") refl
+fault_bytes fault.Aborted = looked (codes "aborted") refl
+fault_bytes fault.NotConnected = looked (codes "not-connected") refl
+fault_bytes fault.BrokenPipe = looked (codes "broken-pipe") refl
+fault_bytes fault.Eof = looked (codes "eof") refl
+fault_bytes fault.TimedOut = looked (codes "timed-out") refl
+fault_bytes fault.Interrupted = looked (codes "interrupted") refl
+fault_bytes fault.Denied = looked (codes "denied") refl
+fault_bytes fault.Other = looked (codes "other") refl
+
+failed_bytes : (word : List ℕ) (link : ℕ) (kind : FaultKind) → AreBytes word → All AreBytes (word ∷ decimal link ∷ fault_name kind ∷ [])
+failed_bytes word link kind small =
+    word_and word (decimal link ∷ fault_name kind ∷ []) small (word_and (decimal link) (fault_name kind ∷ []) (decimal_bytes link) (word_and (fault_name kind) [] (fault_bytes kind) no_words))
+
+first_bytes : (commands : List (List (List ℕ))) → All (All AreBytes) commands → All AreBytes (first_of commands)
+first_bytes [] small = no_words
+first_bytes (command ∷ commands) small = All-head (All AreBytes) command commands small
+
+behind_bytes : (commands : List (List (List ℕ))) → All (All AreBytes) commands → All (All AreBytes) (behind_first commands)
+behind_bytes [] small = All-nil (All AreBytes)
+behind_bytes (command ∷ commands) small = All-tail (All AreBytes) command commands small
+
+submission_bytes : (s : Submission) → FitsSubmission s → All AreBytes (submission_words s)
+submission_bytes (submission.Cmd args) fits = word_and (codes "cmd") args (looked (codes "cmd") refl) fits
+submission_bytes (submission.NoReply args) fits = word_and (codes "noreply") args (looked (codes "noreply") refl) fits
+submission_bytes (submission.Pipe commands) fits = word_and (codes "pipe") (first_of commands) (looked (codes "pipe") refl) (first_bytes commands fits.bytes)
+submission_bytes (submission.Multi commands) fits = word_and (codes "multi") (first_of commands) (looked (codes "multi") refl) (first_bytes commands fits.bytes)
+submission_bytes (submission.Packed offset count commands) fits =
+    word_and (codes "packed") (decimal offset ∷ decimal count ∷ first_of commands) (looked (codes "packed") refl)
+    (word_and (decimal offset) (decimal count ∷ first_of commands) (decimal_bytes offset) (word_and (decimal count) (first_of commands) (decimal_bytes count) (first_bytes commands fits.2.bytes)))
+
+submission_more_bytes : (s : Submission) → FitsSubmission s → All (All AreBytes) (submission_more s)
+submission_more_bytes (submission.Cmd args) fits = All-nil (All AreBytes)
+submission_more_bytes (submission.NoReply args) fits = All-nil (All AreBytes)
+submission_more_bytes (submission.Pipe commands) fits = behind_bytes commands fits.bytes
+submission_more_bytes (submission.Multi commands) fits = behind_bytes commands fits.bytes
+submission_more_bytes (submission.Packed offset count commands) fits = behind_bytes commands fits.2.bytes
+
 kind_bytes : (kind : EventKind) → FitsKind kind → All AreBytes (event_words kind)
-kind_bytes (event.Submit (submission.Cmd args)) fits = word_and (codes "submit") (codes "cmd" ∷ args) (looked (codes "submit") refl) (word_and (codes "cmd") args (looked (codes "cmd") refl) fits)
+kind_bytes (event.Submit s) fits = word_and (codes "submit") (submission_words s) (looked (codes "submit") refl) (submission_bytes s fits)
 kind_bytes (event.Cancel s) fits = one_number (codes "cancel") s (looked (codes "cancel") refl)
 kind_bytes (event.Connected link) fits = one_number (codes "connected") link (looked (codes "connected") refl)
 kind_bytes (event.Wrote link count) fits =
@@ -94,7 +138,20 @@ kind_bytes (event.Wrote link count) fits =
 kind_bytes (event.Bytes link piece) fits =
     word_and (codes "bytes") (decimal link ∷ piece ∷ []) (looked (codes "bytes") refl) (word_and (decimal link) (piece ∷ []) (decimal_bytes link) (word_and piece [] fits.1 no_words))
 kind_bytes (event.Ended link) fits = one_number (codes "ended") link (looked (codes "ended") refl)
+kind_bytes (event.ReadFault link kind) fits = failed_bytes (codes "read-fault") link kind (looked (codes "read-fault") refl)
+kind_bytes (event.WriteFault link kind) fits = failed_bytes (codes "write-fault") link kind (looked (codes "write-fault") refl)
 kind_bytes event.Shutdown fits = word_and (codes "shutdown") [] (looked (codes "shutdown") refl) no_words
+
+kind_more_bytes : (kind : EventKind) → FitsKind kind → All (All AreBytes) (event_more kind)
+kind_more_bytes (event.Submit s) fits = submission_more_bytes s fits
+kind_more_bytes (event.Cancel s) fits = All-nil (All AreBytes)
+kind_more_bytes (event.Connected link) fits = All-nil (All AreBytes)
+kind_more_bytes (event.Wrote link count) fits = All-nil (All AreBytes)
+kind_more_bytes (event.Bytes link piece) fits = All-nil (All AreBytes)
+kind_more_bytes (event.Ended link) fits = All-nil (All AreBytes)
+kind_more_bytes (event.ReadFault link kind) fits = All-nil (All AreBytes)
+kind_more_bytes (event.WriteFault link kind) fits = All-nil (All AreBytes)
+kind_more_bytes event.Shutdown fits = All-nil (All AreBytes)
 
 draw_bytes : (w : ℕ) → All AreBytes (draw_words w)
 draw_bytes w = chosen (All AreBytes) (w == 0) [] ((64 ∷ decimal w) ∷ []) (λ t. no_words) (λ f. word_and (64 ∷ decimal w) [] (All-cons IsByte 64 (decimal w) (omega arith) (decimal_bytes w)) no_words)
@@ -123,3 +180,7 @@ FitsCause (Event e) = FitsEvent e
 pub cause_bytes : (c : Cause) → FitsCause c → All AreBytes (cause_words c)
 cause_bytes (Opening config word) fits = All-append AreBytes (draw_words word) (config_words config) (draw_bytes word) (config_bytes config fits.0)
 cause_bytes (Event e) fits = All-append AreBytes (draw_words e.word) (event_words e.kind) (draw_bytes e.word) (kind_bytes e.kind fits.kind)
+
+pub more_bytes : (c : Cause) → FitsCause c → All (All AreBytes) (cause_more c)
+more_bytes (Opening config word) fits = All-nil (All AreBytes)
+more_bytes (Event e) fits = kind_more_bytes e.kind fits.kind

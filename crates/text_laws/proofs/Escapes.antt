@@ -1,5 +1,5 @@
 -- The bytes that a word was escaped from are read back, and no LF and no space stands in it.
-use Rattle.std.proofs.Common.{◌≡◌, ◌≢◌, ℕ, ◌/◌, ◌%◌, ◌<◌, Bool, true, false, ◌&&◌, ◌||◌, List, [], ◌∷◌, ◌++◌, length, get_or, Some, None, flat_map, bytes_eq, codes, refl, sym, ap, ◌∙◌, arith}
+use Rattle.std.proofs.Common.{◌≡◌, ◌≢◌, ℕ, ◌/◌, ◌%◌, ◌<◌, Bool, true, false, ◌&&◌, List, [], ◌∷◌, ◌++◌, length, get_or, Some, None, flat_map, bytes_eq, codes, refl, sym, ap, ◌∙◌, arith}
 use Rattle.std.specs.Char.{is_digit}
 use Rattle.std.specs.Fmt.{digit_glyph}
 use Rattle.std.proofs.lemmas.Bool.{both_ways}
@@ -9,6 +9,7 @@ use Rattle.std.proofs.lemmas.Slice.Eq.{bytes_eq-Decides}
 use Rattle.percent_encoding.specs.Percent.{percent_encode_byte, percent_decode}
 use Rattle.percent_encoding.proofs.PercentLemmas.{percent_decode-nil, percent_decode_not_percent, percent_decode-percent_encode_byte}
 use Rattle.script_text.specs.Words.{begins_with_hex, is_well_escaped, unescaped}
+use Rattle.script_text.specs.Words.{is_separator as parts_commands}
 use Rattle.session_laws.proofs.Tests.{chosen}
 use Rattle.trace_text.specs.Words.{is_plain, escaped_byte, is_separator, escaped}
 use Rattle.text_laws.specs.Fits.{IsByte, AreBytes}
@@ -68,8 +69,8 @@ IsOrdinary raw = (raw ≢ []) × (raw ≢ codes ";") × (raw ≢ codes "%-")
 unescaped_is : (raw : List ℕ) → IsOrdinary raw → is_well_escaped raw ≡ true → unescaped raw ≡ Some (percent_decode raw)
 unfolding unescaped
 unescaped_is raw plain well =
-    chosen (λ o. o ≡ Some (percent_decode raw)) (bytes_eq raw [] || bytes_eq raw (codes ";")) None _
-    (λ t. absurd (both_ways _ (ap (λ b. b || bytes_eq raw (codes ";")) (not_eq raw [] plain.0) ∙ not_eq raw (codes ";") plain.1) t))
+    chosen (λ o. o ≡ Some (percent_decode raw)) (bytes_eq raw []) None _
+    (λ t. absurd (both_ways _ (not_eq raw [] plain.0) t))
     (λ f. chosen (λ o. o ≡ Some (percent_decode raw)) (bytes_eq raw (codes "%-")) (Some []) _
     (λ t. absurd (both_ways _ (not_eq raw (codes "%-") plain.2) t))
     (λ g. chosen (λ o. o ≡ Some (percent_decode raw)) (is_well_escaped raw) (Some (percent_decode raw)) None (λ t. refl) (λ n. absurd (both_ways _ n well))))
@@ -113,3 +114,10 @@ read_back (b ∷ bs) small =
     chosen (λ raw. unescaped raw ≡ Some (b ∷ bs)) (is_separator (b ∷ bs)) (codes "%3B") (all_escaped (b ∷ bs))
     (λ t. separator_back ∙ ap Some (sym (separator_is b bs t)))
     (λ f. unescaped_is (all_escaped (b ∷ bs)) (ordinary b bs f) (well_escaped (b ∷ bs)) ∙ ap Some (decoded (b ∷ bs) small))
+
+-- no word is written as a separator
+pub escaped_no_separator : (word : List ℕ) → parts_commands (escaped word) ≡ false
+unfolding escaped
+escaped_no_separator [] = refl
+escaped_no_separator (b ∷ bs) =
+    chosen (λ raw. parts_commands raw ≡ false) (is_separator (b ∷ bs)) (codes "%3B") (all_escaped (b ∷ bs)) (λ t. refl) (λ f. not_eq (all_escaped (b ∷ bs)) (codes ";") (ordinary b bs f).1)

@@ -1,16 +1,16 @@
 -- The configurations of scripts are configurations that their type holds.
-use Rattle.std.proofs.Common.{◌≡◌, ℕ, ◌≤◌, true, List, [], ◌∷◌, take, drop, IfSome, bytes_eq, option_map, option_and_then, codes, arith}
+use Rattle.std.proofs.Common.{◌≡◌, ℕ, ◌≤◌, true, List, [], ◌∷◌, take, drop, All, IfSome, bytes_eq, option_map, option_and_then, codes, arith}
 use Rattle.std.specs.List.{list_all}
 use Rattle.std.proofs.lemmas.Bool.{and_parts}
 use Rattle.std.proofs.lemmas.Bool.Decides.{nat_tests}
 use Rattle.std.proofs.lemmas.List.Elements.{All-nil, All-cons}
-use Rattle.script_text.specs.Words.{cut_at}
+use Rattle.script_text.specs.Words.{LineWords, cut_at}
 use Rattle.script_text.specs.Numbers.{number, max_u16}
 use Rattle.script_text.specs.EventLine.{by_first}
 use Rattle.script_text.specs.ConfigLine.{values, only, is_host_byte, is_host, host_and_port, address, single, kinds, config_of}
 use Rattle.text_laws.specs.Fits.{IsByte, AreBytes, FitsConfig}
 use Rattle.text_laws.proofs.Held.{mapped, then_read, any_read, if_read, number_within}
-use Rattle.text_laws.proofs.ScriptEvents.{Reads, by_form}
+use Rattle.text_laws.proofs.ScriptEvents.{IsByteLine, by_form, whole_fits}
 
 abbrev Anything : List ℕ → Type 0
 Anything word = Unit {0}
@@ -36,11 +36,12 @@ address_fits word =
     if_read FitsConfig (bytes_eq (take 8 word) (codes "redis://")) (option_and_then host_and_port (cut_at 58 (drop 8 word)))
     (λ t. then_read (λ _. Unit {0}) FitsConfig host_and_port (λ c any. sides_fit c) (cut_at 58 (drop 8 word)) (any_read (cut_at 58 (drop 8 word))))
 
-single_fits : Reads FitsConfig single
+single_fits : (words : List (List ℕ)) → All AreBytes words → IfSome (single words) FitsConfig
 single_fits words small =
     if_read FitsConfig _ (option_and_then address (only (values (codes "url") words)))
     (λ t. then_read Anything FitsConfig address (λ word any. address_fits word) (only (values (codes "url") words)) (any_read (only (values (codes "url") words))))
 
-pub config_fits : Reads FitsConfig config_of
+pub config_fits : (line : LineWords) → IsByteLine line → IfSome (config_of line) FitsConfig
 unfolding config_of
-config_fits = by_form FitsConfig ((codes "config", by_first kinds) ∷ []) (by_form FitsConfig kinds (single_fits, tt), tt)
+config_fits line small =
+    by_form FitsConfig ((codes "config", by_first kinds) ∷ []) (by_form FitsConfig kinds (whole_fits FitsConfig single single_fits, tt), tt) line.words line.more small.words small.more

@@ -1,28 +1,45 @@
--- The events of scripts are events that their types hold.
-use Rattle.std.proofs.Common.{ℕ, ◌<◌, ◌≤◌, ◌^◌, List, [], ◌∷◌, All, Option, IfSome, bytes_eq, option_map, arith}
-use Rattle.std.proofs.lemmas.List.Elements.{All-head, All-tail}
+-- The events of scripts are events that their types hold, and lists of commands among them have lines.
+use Rattle.std.proofs.Common.{◌≢◌, ℕ, ◌<◌, ◌≤◌, ◌^◌, List, [], ◌∷◌, length, All, Option, IfSome, bytes_eq, option_map, ap, arith}
+use Rattle.std.proofs.lemmas.List.Elements.{All-cons, All-head, All-tail}
 use Rattle.driver_model.specs.declared.event.EventKind.{EventKind}
-use Rattle.driver_model.specs.declared.event.EventKind.TheVariants.{Submit, Cancel, Connected, Wrote, Bytes, Ended, Shutdown}
+use Rattle.driver_model.specs.declared.event.EventKind.TheVariants.{Submit, Cancel, Connected, Wrote, Bytes, Ended, ReadFault, WriteFault, Shutdown}
+use Rattle.driver_model.specs.declared.event.Submission.TheVariants.{Packed}
+use Rattle.resp_value.specs.declared.fault_kind.FaultKind.{FaultKind}
 use Rattle.script_text.specs.Numbers.{number, max_u32, max_u64}
-use Rattle.script_text.specs.EventLine.{Forms, by_first, numbered, wrote, came, alone, submissions, events, event_of}
+use Rattle.script_text.specs.Words.{LineWords}
+use Rattle.script_text.specs.EventLine.{Forms, by_first, whole, numbered, wrote, came, alone, faults, fault_among, failed, commands, packed, submissions, others, events, event_of}
 use Rattle.session_laws.proofs.Tests.{chosen}
-use Rattle.text_laws.specs.Fits.{AreBytes, FitsSubmission, FitsKind, FitsEvent}
-use Rattle.text_laws.proofs.Held.{mapped, then_read, number_within}
+use Rattle.text_laws.specs.Fits.{AreBytes, FitsCommands, FitsSubmission, FitsKind, FitsEvent}
+use Rattle.text_laws.proofs.Held.{mapped, then_read, any_read, number_within}
+
+-- the words of a line are bytes
+pub record IsByteLine (line : LineWords) : Type 0 where
+  pub words : All AreBytes line.words
+  pub more : All (All AreBytes) line.more
 
 -- what is read of words that are bytes
 abbrev pub Reads : {A : Type 0} → (A → Type 0) → (List (List ℕ) → Option A) → Type 0
 Reads P read = (words : List (List ℕ)) → All AreBytes words → IfSome (read words) P
 
+-- what is read of them and of those behind separators
+abbrev pub ReadsAll : {A : Type 0} → (A → Type 0) → (List (List ℕ) → List (List (List ℕ)) → Option A) → Type 0
+ReadsAll P read = (words : List (List ℕ)) (more : List (List (List ℕ))) → All AreBytes words → All (All AreBytes) more → IfSome (read words more) P
+
 abbrev pub AllRead : {A : Type 0} → (A → Type 0) → Forms A → Type 0
 AllRead P [] = Unit {0}
-AllRead P (form ∷ forms) = Reads P form.1 × AllRead P forms
+AllRead P (form ∷ forms) = ReadsAll P form.1 × AllRead P forms
 
-pub by_form : {A : Type 0} (P : A → Type 0) (forms : Forms A) → AllRead P forms → Reads P (by_first forms)
-by_form P [] each [] small = tt
-by_form P [] each (first ∷ rest) small = tt
-by_form P (form ∷ forms) each [] small = tt
-by_form P (form ∷ forms) each (first ∷ rest) small =
-    chosen (λ o. IfSome o P) (bytes_eq first form.0) (form.1 rest) (by_first forms (first ∷ rest)) (λ t. each.0 rest (All-tail AreBytes first rest small)) (λ f. by_form P forms each.1 (first ∷ rest) small)
+pub by_form : {A : Type 0} (P : A → Type 0) (forms : Forms A) → AllRead P forms → ReadsAll P (by_first forms)
+by_form P [] each [] more small behind = tt
+by_form P [] each (first ∷ rest) more small behind = tt
+by_form P (form ∷ forms) each [] more small behind = tt
+by_form P (form ∷ forms) each (first ∷ rest) more small behind =
+    chosen (λ o. IfSome o P) (bytes_eq first form.0) (form.1 rest more) (by_first forms (first ∷ rest) more)
+    (λ t. each.0 rest more (All-tail AreBytes first rest small) behind) (λ f. by_form P forms each.1 (first ∷ rest) more small behind)
+
+pub whole_fits : {A : Type 0} (P : A → Type 0) (read : List (List ℕ) → Option A) → Reads P read → ReadsAll P (whole read)
+whole_fits P read each words [] small behind = each words small
+whole_fits P read each words (next ∷ more) small behind = tt
 
 small_number : (word : List ℕ) → IfSome (number max_u32 word) (λ n. n ≤ max_u32)
 small_number word = number_within max_u32 word
@@ -52,13 +69,69 @@ alone_fits : Reads FitsKind (alone Shutdown)
 alone_fits [] small = tt
 alone_fits (word ∷ words) small = tt
 
-submitted_fits : Reads FitsKind (λ words. option_map Submit (by_first submissions words))
-submitted_fits words small = mapped FitsSubmission FitsKind Submit (λ s fits. fits) (by_first submissions words) (by_form FitsSubmission submissions ((λ args each. each), tt) words small)
+failed_fits : (f : ℕ → FaultKind → EventKind) → ((l : ℕ) (kind : FaultKind) → l < 2 ^ 32 → FitsKind (f l kind)) → Reads FitsKind (failed f)
+failed_fits f fits [] small = tt
+failed_fits f fits (link ∷ []) small = tt
+failed_fits f fits (link ∷ kind ∷ []) small =
+    then_read (λ l. l ≤ max_u32) FitsKind (λ l. option_map (f l) (fault_among faults kind))
+    (λ l within. mapped (λ _. Unit {0}) FitsKind (f l) (λ k any. fits l k (omega arith)) (fault_among faults kind) (any_read (fault_among faults kind)))
+    (number max_u32 link) (small_number link)
+failed_fits f fits (link ∷ kind ∷ next ∷ rest) small = tt
 
-kinds_fit : AllRead FitsKind events
-kinds_fit = (submitted_fits, (one_number Cancel (λ n l. l), (one_number Connected (λ n l. l), (wrote_fits, (came_fits, (one_number Ended (λ n l. l), (alone_fits, tt)))))))
+not_one : (command : List (List ℕ)) (commands : List (List (List ℕ))) → [] ∷ command ∷ commands ≢ [] ∷ []
+not_one command commands e = omega (arith, ap length e)
 
-pub event_fits : Reads FitsEvent event_of
+-- a line of commands is one that their list has
+commands_fit : (first : List (List ℕ)) (more : List (List (List ℕ))) → All AreBytes first → All (All AreBytes) more → FitsCommands (commands first more)
+commands_fit [] [] small behind = record { bytes = behind; line = λ e. omega (arith, ap length e) }
+commands_fit [] (next ∷ more) small behind = record { bytes = All-cons (All AreBytes) [] (next ∷ more) small behind; line = not_one next more }
+commands_fit (word ∷ words) more small behind = record { bytes = All-cons (All AreBytes) (word ∷ words) more small behind; line = λ e. omega (arith, ap words_in_first e) }
+  where
+    words_in_first : List (List (List ℕ)) → ℕ
+    words_in_first [] = 0
+    words_in_first (command ∷ commands) = length command
+
+packed_fits : ReadsAll FitsSubmission packed
+packed_fits [] more small behind = tt
+packed_fits (offset ∷ []) more small behind = tt
+packed_fits (offset ∷ count ∷ first) more small behind =
+    let fits = commands_fit first more (All-tail AreBytes count first (All-tail AreBytes offset (count ∷ first) small)) behind in
+    then_read (λ o. o ≤ max_u32) FitsSubmission (λ o. option_map (λ c. Packed o c (commands first more)) (number max_u32 count))
+    (λ o within. mapped (λ c. c ≤ max_u32) FitsSubmission (λ c. Packed o c (commands first more)) (λ c few. (omega arith, omega arith, fits)) (number max_u32 count) (small_number count))
+    (number max_u32 offset) (small_number offset)
+
+submissions_fit : AllRead FitsSubmission submissions
+submissions_fit =
+    (whole_fits FitsSubmission _ (λ args each. each), (whole_fits FitsSubmission _ (λ args each. each), (commands_fit, (commands_fit, (packed_fits, tt)))))
+
+submitted_fits : ReadsAll FitsKind (λ words more. option_map Submit (by_first submissions words more))
+submitted_fits words more small behind =
+    mapped FitsSubmission FitsKind Submit (λ s fits. fits) (by_first submissions words more) (by_form FitsSubmission submissions submissions_fit words more small behind)
+
+plain : (read : List (List ℕ) → Option EventKind) → Reads FitsKind read → ReadsAll FitsKind (whole read)
+plain = whole_fits FitsKind
+
+others_fit : AllRead FitsKind others
+unfolding others
+others_fit = (
+  plain _ (one_number Cancel (λ n l. l)),
+  (
+    plain _ (one_number Connected (λ n l. l)),
+    (
+      plain _ wrote_fits,
+      (
+        plain _ came_fits,
+        (
+          plain _ (one_number Ended (λ n l. l)),
+          (plain _ (failed_fits ReadFault (λ l kind small. small)), (plain _ (failed_fits WriteFault (λ l kind small. small)), (plain _ alone_fits, tt))),
+        ),
+      ),
+    ),
+  ),
+)
+
+pub event_fits : (line : LineWords) → IsByteLine line → IfSome (event_of line) FitsEvent
 unfolding event_of
-event_fits words small =
-    mapped FitsKind FitsEvent (λ kind. record { word = 0; kind = kind }) (λ kind fits. record { word = omega arith; kind = fits }) (by_first events words) (by_form FitsKind events kinds_fit words small)
+event_fits line small =
+    mapped FitsKind FitsEvent (λ kind. record { word = 0; kind = kind }) (λ kind fits. record { word = omega arith; kind = fits }) (by_first events line.words line.more)
+    (by_form FitsKind events (submitted_fits, others_fit) line.words line.more small.words small.more)

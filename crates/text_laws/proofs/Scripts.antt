@@ -1,6 +1,6 @@
 -- The history that a script is has nothing but what its types hold.
-use Rattle.std.proofs.Common.{◌≡◌, ℕ, ◌+◌, ◌-◌, ◌<◌, ◌^◌, Bool, ◌&&◌, ◌||◌, ◌==◌, bytes_eq, codes, nat_le, nat_lt, List, [], ◌∷◌, length, All, Some, None, Option, IfSome, IfOk, Ok, Err, Result, map, option_and_then, if◌then◌else◌, arith}
-use Rattle.std.specs.List.{onto_first}
+use Rattle.std.proofs.Common.{◌≡◌, ℕ, ◌+◌, ◌-◌, Bool, ◌&&◌, ◌==◌, bytes_eq, codes, nat_le, nat_lt, List, [], ◌∷◌, length, All, Some, None, Option, IfSome, IfOk, Ok, Err, Result, map, option_and_then, if◌then◌else◌, arith}
+use Rattle.std.specs.List.{onto_first, slice_split}
 use Rattle.std.specs.Result.{result_map_both}
 use Rattle.std.proofs.lemmas.List.Elements.{All-nil, All-cons, All-head, All-tail, All-map, All-weaker}
 use Rattle.std.proofs.lemmas.Result.{IfOk-at_ok}
@@ -9,29 +9,34 @@ use Rattle.percent_encoding.proofs.PercentLemmas.{All-percent_decode}
 use Rattle.driver_model.specs.declared.config.Config.{Config}
 use Rattle.driver_model.specs.declared.event.Event.{Event}
 use Rattle.script_text.specs.declared.script.Script.{Script}
-use Rattle.script_text.specs.Words.{parts, is_well_escaped, unescaped, words_of_line}
+use Rattle.script_text.specs.Words.{LineWords, parts, is_well_escaped, unescaped, is_separator, all_of, group_of, line_words, words_of_line}
 use Rattle.script_text.specs.EventLine.{event_of}
 use Rattle.script_text.specs.ConfigLine.{config_of}
 use Rattle.script_text.specs.Script.{max_lines, max_line, max_text, line_at, words_at, is_end, is_nothing, event_then, line_then, events_from, config_then, script_from, script_of}
 use Rattle.session_laws.proofs.Tests.{chosen}
 use Rattle.text_laws.specs.Fits.{IsByte, AreBytes, FitsConfig, FitsEvent, FitsHistory}
 use Rattle.text_laws.proofs.Held.{then_read, if_read, all_read}
-use Rattle.text_laws.proofs.ScriptEvents.{event_fits}
+use Rattle.text_laws.proofs.ScriptEvents.{IsByteLine, event_fits}
 use Rattle.text_laws.proofs.ScriptConfigs.{config_fits}
 
 abbrev AllBytes : List (List ℕ) → Type 0
 AllBytes = All AreBytes
 
-onto_bytes : (x : ℕ) (ps : List (List ℕ)) → x < 2 ^ 8 → AllBytes ps → AllBytes (onto_first x ps)
-onto_bytes x [] small each = All-cons AreBytes (x ∷ []) [] (All-cons IsByte x [] small (All-nil IsByte)) (All-nil AreBytes)
-onto_bytes x (p ∷ ps) small each = All-cons AreBytes (x ∷ p) ps (All-cons IsByte x p small (All-head AreBytes p ps each)) (All-tail AreBytes p ps each)
+-- the parts of a list have what its elements have
+module _ {A : Type 0} (P : A → Type 0) where
+  onto_each : (x : A) (ps : List (List A)) → P x → All (All P) ps → All (All P) (onto_first x ps)
+  onto_each x [] here each = All-cons (All P) (x ∷ []) [] (All-cons P x [] here (All-nil P)) (All-nil (All P))
+  onto_each x (p ∷ ps) here each = All-cons (All P) (x ∷ p) ps (All-cons P x p here (All-head (All P) p ps each)) (All-tail (All P) p ps each)
 
--- the parts of bytes
+  split_each : (is : A → Bool) (xs : List A) → All P xs → All (All P) (slice_split is xs)
+  split_each is [] each = All-cons (All P) [] [] (All-nil P) (All-nil (All P))
+  split_each is (x ∷ xs) each =
+      let rest = split_each is xs (All-tail P x xs each) in
+      chosen (All (All P)) (is x) ([] ∷ slice_split is xs) (onto_first x (slice_split is xs)) (λ t. All-cons (All P) [] (slice_split is xs) (All-nil P) rest)
+      (λ f. onto_each x (slice_split is xs) (All-head P x xs each) rest)
+
 parts_bytes : (b : ℕ) (text : List ℕ) → AreBytes text → AllBytes (parts b text)
-parts_bytes b [] small = All-cons AreBytes [] [] (All-nil IsByte) (All-nil AreBytes)
-parts_bytes b (x ∷ xs) small =
-    let rest = parts_bytes b xs (All-tail IsByte x xs small) in
-    chosen AllBytes (x == b) ([] ∷ parts b xs) (onto_first x (parts b xs)) (λ t. All-cons AreBytes [] (parts b xs) (All-nil IsByte) rest) (λ f. onto_bytes x (parts b xs) (All-head IsByte x xs small) rest)
+parts_bytes b text small = split_each IsByte (λ x. x == b) text small
 
 -- the words of a line of bytes
 word_bytes : (raw : List ℕ) → AreBytes raw → IfSome (unescaped raw) AreBytes
@@ -39,13 +44,23 @@ unfolding unescaped
 word_bytes raw small =
     let decoded = if is_well_escaped raw then Some (percent_decode raw) else None in
     let read = if bytes_eq raw (codes "%-") then Some [] else decoded in
-    chosen (λ o. IfSome o AreBytes) (bytes_eq raw [] || bytes_eq raw (codes ";")) None read (λ t. tt)
+    chosen (λ o. IfSome o AreBytes) (bytes_eq raw []) None read (λ t. tt)
     (λ f. chosen (λ o. IfSome o AreBytes) (bytes_eq raw (codes "%-")) (Some []) decoded (λ t. All-nil IsByte) (λ g. if_read AreBytes (is_well_escaped raw) (Some (percent_decode raw)) (λ t. All-percent_decode raw small)))
 
-line_words : (line : List ℕ) → AreBytes line → IfSome (words_of_line line) AllBytes
+group_bytes : (raws : List (List ℕ)) → AllBytes raws → IfSome (group_of raws) AllBytes
+group_bytes raws small =
+    all_read AreBytes (map unescaped raws) (All-map (λ o. IfSome o AreBytes) unescaped raws (All-weaker AreBytes (λ raw. IfSome (unescaped raw) AreBytes) word_bytes raws small))
+
+groups_line : (groups : List (List (List ℕ))) → All AllBytes groups → IfSome (line_words groups) IsByteLine
+groups_line [] each = tt
+groups_line (words ∷ more) each = record { words = All-head AllBytes words more each; more = All-tail AllBytes words more each }
+
+byte_line : (line : List ℕ) → AreBytes line → IfSome (words_of_line line) IsByteLine
 unfolding words_of_line
-line_words line small =
-    all_read AreBytes (map unescaped (parts 32 line)) (All-map (λ o. IfSome o AreBytes) unescaped (parts 32 line) (All-weaker AreBytes (λ raw. IfSome (unescaped raw) AreBytes) word_bytes (parts 32 line) (parts_bytes 32 line small)))
+byte_line line small =
+    let groups = slice_split is_separator (parts 32 line) in
+    then_read (All AllBytes) IsByteLine line_words groups_line (all_of (map group_of groups))
+    (all_read AllBytes (map group_of groups) (All-map (λ o. IfSome o AllBytes) group_of groups (All-weaker AllBytes (λ raws. IfSome (group_of raws) AllBytes) group_bytes groups (split_each AreBytes is_separator (parts 32 line) (parts_bytes 32 line small)))))
 
 line_bytes : (number room : ℕ) (lines : List (List ℕ)) → AllBytes lines → IfSome (line_at number room lines) AreBytes
 line_bytes number room [] each = tt
@@ -53,8 +68,8 @@ line_bytes number room (last ∷ []) each = tt
 line_bytes number room (line ∷ next ∷ rest) each =
     if_read AreBytes (nat_le number max_lines && nat_le (length line) max_line && nat_lt (length line) room) (Some line) (λ t. All-head AreBytes line (next ∷ rest) each)
 
-words_bytes : (number room : ℕ) (lines : List (List ℕ)) → AllBytes lines → IfSome (words_at number room lines) AllBytes
-words_bytes number room lines each = then_read AreBytes AllBytes words_of_line line_words (line_at number room lines) (line_bytes number room lines each)
+words_bytes : (number room : ℕ) (lines : List (List ℕ)) → AllBytes lines → IfSome (words_at number room lines) IsByteLine
+words_bytes number room lines each = then_read AreBytes IsByteLine words_of_line byte_line (line_at number room lines) (line_bytes number room lines each)
 
 abbrev AllFit : List Event → Type 0
 AllFit = All FitsEvent
@@ -68,7 +83,7 @@ event_then_fits : (number : ℕ) (o : Option Event) → IfSome o FitsEvent → (
 event_then_fits number None fits rest each = tt
 event_then_fits number (Some e) fits rest each = event_before e fits rest each
 
-line_then_fits : (number : ℕ) (o : Option (List (List ℕ))) → IfSome o AllBytes → (nothing_behind : Bool) (rest : Result (List Event) ℕ) → IfOk rest AllFit → IfOk (line_then number o nothing_behind rest) AllFit
+line_then_fits : (number : ℕ) (o : Option LineWords) → IfSome o IsByteLine → (nothing_behind : Bool) (rest : Result (List Event) ℕ) → IfOk rest AllFit → IfOk (line_then number o nothing_behind rest) AllFit
 line_then_fits number None small nothing_behind rest each = tt
 line_then_fits number (Some words) small nothing_behind rest each =
     chosen (λ r. IfOk r AllFit) (is_end words) (if nothing_behind then Ok [] else Err (number + 1)) (event_then number (event_of words) rest)
@@ -96,7 +111,7 @@ lines_fit : (lines : List (List ℕ)) → AllBytes lines → IfOk (script_from l
 lines_fit [] each = tt
 lines_fit (first ∷ rest) each =
     config_then_fits (option_and_then config_of (words_at 1 max_text (first ∷ rest)))
-    (then_read AllBytes FitsConfig config_of config_fits (words_at 1 max_text (first ∷ rest)) (words_bytes 1 max_text (first ∷ rest) each))
+    (then_read IsByteLine FitsConfig config_of config_fits (words_at 1 max_text (first ∷ rest)) (words_bytes 1 max_text (first ∷ rest) each))
     (events_from 2 (max_text - (length first + 1)) rest) (events_fit 2 (max_text - (length first + 1)) rest (All-tail AreBytes first rest each))
 
 text_fits : (text : List ℕ) → AreBytes text → IfOk (script_of text) FitsScript

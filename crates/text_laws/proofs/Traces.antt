@@ -16,12 +16,12 @@ use Rattle.trace_model.specs.Turns.{causes}
 use Rattle.trace_model.specs.Legal.{event_causes}
 use Rattle.session_laws.proofs.Account.{causes-append}
 use Rattle.session_laws.proofs.Announced.{rest_same}
-use Rattle.trace_text.specs.Show.{cause_words, show}
+use Rattle.trace_text.specs.Show.{show}
 use Rattle.text_laws.specs.Fits.{FitsEvent, FitsHistory}
 use Rattle.text_laws.specs.History.{history_in, history_of}
 use Rattle.text_laws.proofs.Back.{causes_back}
 use Rattle.text_laws.proofs.Bytes.{FitsCause}
-use Rattle.text_laws.proofs.Turns.{turns_told}
+use Rattle.text_laws.proofs.Turns.{cause_line, turns_told}
 
 one_cause : (c : Core) (e : Event) → c.connection.acts ≡ [] → causes (actions_of c e) ≡ cause.Event e ∷ []
 unfolding turn
@@ -52,4 +52,4 @@ unfolding history_of
 history_back config word events fits =
     let turns = turns_of_history config word events in
     ap (option_and_then history_in) (turns_told (trace_of config word events) (All-same FitsCause _ _ turns (causes_fit config word events fits)))
-    ∙ ap (λ (cs : List Cause). history_in (map cause_words cs)) turns ∙ causes_back config word events fits
+    ∙ ap (λ (cs : List Cause). history_in (map cause_line cs)) turns ∙ causes_back config word events fits

@@ -1,22 +1,22 @@
 -- The lines of turns are picked out of a text, and what they say of their causes is read.
-use Rattle.std.proofs.Common.{◌≡◌, ℕ, Bool, true, false, cond, List, [], ◌∷◌, ◌++◌, All, Some, Option, map, filter, drop, option_map, codes, decimal, bytes_eq, refl, ap, ◌∙◌, if◌then◌else◌}
+use Rattle.std.proofs.Common.{◌≡◌, ℕ, Bool, true, false, cond, List, [], ◌∷◌, ◌++◌, All, Some, Option, map, filter, option_map, codes, decimal, bytes_eq, refl, ap, ◌∙◌, if◌then◌else◌}
 use Rattle.std.proofs.lemmas.List.Elements.{All-head, All-tail}
 use Rattle.driver_model.specs.declared.action.Action.{Action}
 use Rattle.driver_model.specs.declared.action.Action.TheVariants as action
 use Rattle.driver_model.specs.declared.action.Cause.{Cause}
-use Rattle.script_text.specs.Words.{parts, all_of}
+use Rattle.script_text.specs.Words.{LineWords, parts, all_of}
 use Rattle.trace_model.specs.Turns.{causes}
 use Rattle.trace_text.specs.Words.{escaped, line_of}
-use Rattle.trace_text.specs.Show.{address, owner_word, wait_word, submission_word, outcome_words, cause_words, words_of, show}
-use Rattle.text_laws.specs.History.{begins_turn, turn_lines, cause_in}
+use Rattle.trace_text.specs.Show.{address, owner_word, wait_word, submission_word, outcome_words, cause_words, cause_more, words_of, action_line, show}
+use Rattle.text_laws.specs.History.{begins_turn, turn_lines, without, cause_in}
 use Rattle.text_laws.proofs.Lines.{raw_of, parts_words, parts_line, line_back}
-use Rattle.text_laws.proofs.Bytes.{FitsCause, looked, decimal_bytes, word_and, cause_bytes}
+use Rattle.text_laws.proofs.Bytes.{FitsCause, looked, decimal_bytes, word_and, cause_bytes, more_bytes}
 
-picked : (here : Bool) (word : List ℕ) (words : List (List ℕ)) (rest : List ℕ) → bytes_eq (escaped word) (codes "turn") ≡ here
-    → turn_lines (line_of (word ∷ words) ++ rest) ≡ (if here then raw_of (word ∷ words) ∷ turn_lines rest else turn_lines rest)
-picked here word words rest is =
-    ap (filter (λ line. begins_turn (parts 32 line))) (parts_line (word ∷ words) rest)
-    ∙ ap (λ b. cond b (raw_of (word ∷ words) ∷ turn_lines rest) (turn_lines rest)) (ap begins_turn (parts_words word words) ∙ is)
+picked : (here : Bool) (word : List ℕ) (words : List (List ℕ)) (more : List (List (List ℕ))) (rest : List ℕ) → bytes_eq (escaped word) (codes "turn") ≡ here
+    → turn_lines (line_of (word ∷ words) more ++ rest) ≡ (if here then raw_of (word ∷ words) more ∷ turn_lines rest else turn_lines rest)
+picked here word words more rest is =
+    ap (filter (λ line. begins_turn (parts 32 line))) (parts_line (word ∷ words) more rest)
+    ∙ ap (λ b. cond b (raw_of (word ∷ words) more ∷ turn_lines rest) (turn_lines rest)) (ap begins_turn (parts_words word words more) ∙ is)
 
 turn_word : bytes_eq (escaped (codes "turn")) (codes "turn") ≡ true
 unfolding escaped
@@ -50,28 +50,35 @@ outcome_word : bytes_eq (escaped (codes "outcome")) (codes "turn") ≡ false
 unfolding escaped
 outcome_word = refl
 
--- the line of a turn tells its cause
-cause_back : (k : ℕ) (c : Cause) → FitsCause c → cause_in (raw_of (words_of (action.Turn k c))) ≡ Some (cause_words c)
-cause_back k c fits =
-    ap (option_map (drop 2)) (line_back (codes "turn") (decimal k ∷ cause_words c) (word_and (codes "turn") (decimal k ∷ cause_words c) (looked (codes "turn") refl) (word_and (decimal k) (cause_words c) (decimal_bytes k) (cause_bytes c fits))))
+-- the words of a cause
+abbrev pub cause_line : Cause → LineWords
+cause_line c = record { words = cause_words c; more = cause_more c }
 
-abbrev told : List ℕ → Option (List (List (List ℕ)))
+-- the line of a turn tells its cause
+cause_back : (k : ℕ) (c : Cause) → FitsCause c → cause_in (raw_of (words_of (action.Turn k c)) (cause_more c)) ≡ Some (cause_line c)
+cause_back k c fits =
+    ap (option_map (without 2))
+    (line_back (codes "turn") (decimal k ∷ cause_words c) (cause_more c)
+    (word_and (codes "turn") (decimal k ∷ cause_words c) (looked (codes "turn") refl) (word_and (decimal k) (cause_words c) (decimal_bytes k) (cause_bytes c fits)))
+    (more_bytes c fits))
+
+abbrev told : List ℕ → Option (List LineWords)
 told text = all_of (map cause_in (turn_lines text))
 
 -- a line that begins otherwise tells nothing
-untold : (word : List ℕ) (words : List (List ℕ)) (rest : List ℕ) → bytes_eq (escaped word) (codes "turn") ≡ false → told (line_of (word ∷ words) ++ rest) ≡ told rest
-untold word words rest other = ap (λ ls. all_of (map cause_in ls)) (picked false word words rest other)
+untold : (word : List ℕ) (words : List (List ℕ)) (rest : List ℕ) → bytes_eq (escaped word) (codes "turn") ≡ false → told (line_of (word ∷ words) [] ++ rest) ≡ told rest
+untold word words rest other = ap (λ ls. all_of (map cause_in ls)) (picked false word words [] rest other)
 
-a_turn : (k : ℕ) (c : Cause) (rest : List ℕ) → FitsCause c → told (line_of (words_of (action.Turn k c)) ++ rest) ≡ option_map (λ cs. cause_words c ∷ cs) (told rest)
+a_turn : (k : ℕ) (c : Cause) (rest : List ℕ) → FitsCause c → told (action_line (action.Turn k c) ++ rest) ≡ option_map (λ cs. cause_line c ∷ cs) (told rest)
 a_turn k c rest fits =
-    ap (λ ls. all_of (map cause_in ls)) (picked true (codes "turn") (decimal k ∷ cause_words c) rest turn_word)
+    ap (λ ls. all_of (map cause_in ls)) (picked true (codes "turn") (decimal k ∷ cause_words c) (cause_more c) rest turn_word)
     ∙ ap (λ o. all_of (o ∷ map cause_in (turn_lines rest))) (cause_back k c fits)
 
 -- the text of a trace tells the causes of its turns
-pub turns_told : (trace : List Action) → All FitsCause (causes trace) → told (show trace) ≡ Some (map cause_words (causes trace))
+pub turns_told : (trace : List Action) → All FitsCause (causes trace) → told (show trace) ≡ Some (map cause_line (causes trace))
 turns_told [] fits = refl
 turns_told (action.Turn k c ∷ more) fits =
-    a_turn k c (show more) (All-head FitsCause c (causes more) fits) ∙ ap (option_map (λ cs. cause_words c ∷ cs)) (turns_told more (All-tail FitsCause c (causes more) fits))
+    a_turn k c (show more) (All-head FitsCause c (causes more) fits) ∙ ap (option_map (λ cs. cause_line c ∷ cs)) (turns_told more (All-tail FitsCause c (causes more) fits))
 turns_told (action.Connect link host port ∷ more) fits = untold (codes "connect") (decimal link ∷ address host port ∷ []) (show more) connect_word ∙ turns_told more fits
 turns_told (action.Close link ∷ more) fits = untold (codes "close") (decimal link ∷ []) (show more) close_word ∙ turns_told more fits
 turns_told (action.Write link bytes ∷ more) fits = untold (codes "write") (decimal link ∷ bytes ∷ []) (show more) write_word ∙ turns_told more fits

@@ -1,5 +1,6 @@
--- What the types of a history hold: each number is in the range of its type, and each byte is one.
-use Rattle.std.specs.Prelude.{ℕ, ◌^◌, ◌<◌, List, All}
+-- What the types of a history hold and a script can say: each number is in the range of its type, each byte is one, and
+-- no list is that of just one command without arguments, which has no line.
+use Rattle.std.specs.Prelude.{ℕ, ◌^◌, ◌<◌, ◌≢◌, List, [], ◌∷◌, All}
 use Rattle.driver_model.specs.declared.config.Config.{Config}
 use Rattle.driver_model.specs.declared.event.Event.{Event}
 use Rattle.driver_model.specs.declared.event.EventKind.{EventKind}
@@ -15,9 +16,18 @@ IsByte b = b < 2 ^ 8
 abbrev pub AreBytes : List ℕ → Type 0
 AreBytes bytes = All IsByte bytes
 
--- a submission that its type holds
+-- a list of commands that has a line
+pub record FitsCommands (commands : List (List (List ℕ))) : Type 0 where
+  pub bytes : All (All AreBytes) commands
+  pub line : commands ≢ [] ∷ []
+
+-- a submission that its type holds and that has a line
 abbrev pub FitsSubmission : Submission → Type 0
 FitsSubmission (submission.Cmd args) = All AreBytes args
+FitsSubmission (submission.NoReply args) = All AreBytes args
+FitsSubmission (submission.Pipe commands) = FitsCommands commands
+FitsSubmission (submission.Multi commands) = FitsCommands commands
+FitsSubmission (submission.Packed offset count commands) = (offset < 2 ^ 32) × (count < 2 ^ 32) × FitsCommands commands
 
 -- a kind of event that its type holds
 abbrev pub FitsKind : EventKind → Type 0
@@ -27,6 +37,8 @@ FitsKind (event.Connected link) = link < 2 ^ 32
 FitsKind (event.Wrote link count) = (link < 2 ^ 32) × (count < 2 ^ 64)
 FitsKind (event.Bytes link piece) = (link < 2 ^ 32) × AreBytes piece
 FitsKind (event.Ended link) = link < 2 ^ 32
+FitsKind (event.ReadFault link kind) = link < 2 ^ 32
+FitsKind (event.WriteFault link kind) = link < 2 ^ 32
 FitsKind event.Shutdown = Unit {0}
 
 -- an event that its type holds

@@ -4,7 +4,7 @@ use Rattle.std.specs.Str.{byte}
 use Rattle.driver_model.specs.declared.config.Config.{Config}
 use Rattle.driver_model.specs.declared.event.Event.{Event}
 use Rattle.script_text.specs.declared.script.Script.{Script}
-use Rattle.script_text.specs.Words.{parts, all_of, words_of_line}
+use Rattle.script_text.specs.Words.{LineWords, parts, all_of, words_of_line}
 use Rattle.script_text.specs.Numbers.{number, max_u16, max_u64}
 use Rattle.script_text.specs.EventLine.{event_of}
 
@@ -17,9 +17,13 @@ begins_turn (word ∷ words) = bytes_eq word (codes "turn")
 abbrev pub turn_lines : List ℕ → List (List ℕ)
 turn_lines text = filter (λ line. begins_turn (parts 32 line)) (parts 10 text)
 
+-- the same line without so many of its first words
+abbrev pub without : ℕ → LineWords → LineWords
+without n line = record line { words = drop n line.words }
+
 -- the words behind `turn` and the turn's number
-abbrev pub cause_in : List ℕ → Option (List (List ℕ))
-cause_in line = option_map (drop 2) (words_of_line line)
+abbrev pub cause_in : List ℕ → Option LineWords
+cause_in line = option_map (without 2) (words_of_line line)
 
 -- the word begins with `@`
 abbrev pub is_draw : List ℕ → Bool
@@ -51,23 +55,23 @@ config_in (config ∷ single ∷ url ∷ settings) = option_and_then config_from
 config_in _ = None
 
 -- the configuration of the opening, and the word of its draws
-abbrev pub opening_in : List (List ℕ) → Option (Config × ℕ)
-opening_in words = option_and_then (λ d. option_map (λ config. (config, d.0)) (config_in d.1)) (drawn words)
+abbrev pub opening_in : LineWords → Option (Config × ℕ)
+opening_in line = option_and_then (λ d. option_map (λ config. (config, d.0)) (config_in d.1)) (drawn line.words)
 
 -- the event with that word
 abbrev pub drawing : ℕ → Event → Event
 drawing word e = record e { word = word }
 
 -- the event of a turn: its line goes on as a script's does
-abbrev pub event_in : List (List ℕ) → Option Event
-event_in words = option_and_then (λ d. option_map (drawing d.0) (event_of d.1)) (drawn words)
+abbrev pub event_in : LineWords → Option Event
+event_in line = option_and_then (λ d. option_map (drawing d.0) (event_of (record { words = d.1; more = line.more }))) (drawn line.words)
 
 -- a history as a script
 abbrev pub script_with : Config × ℕ → List Event → Script
 script_with opening events = record { config = opening.0; word = opening.1; events = events }
 
 -- the first turn is the opening, and each other one that of an event
-abbrev pub history_in : List (List (List ℕ)) → Option Script
+abbrev pub history_in : List LineWords → Option Script
 history_in [] = None
 history_in (first ∷ rest) = option_and_then (λ opening. option_map (script_with opening) (all_of (map event_in rest))) (opening_in first)
 

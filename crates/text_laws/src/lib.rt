@@ -17,7 +17,8 @@ pub fn a_text_tells_its_history()
 {}
 
 /// Does nothing. Its contract: traces of replays that have the same text are equal, of any histories that the types hold
-/// and so of any two scripts; and scripts whose traces have the same text are equal.
+/// but for lists of just one command without arguments, which have no line, and so of any two scripts; and scripts whose
+/// traces have the same text are equal.
 pub fn one_text_has_one_trace()
     ensures one_trace { (config config' : Config) (word word' : ℕ) (events events' : List Event) → FitsHistory config word events → FitsHistory config' word' events' → show (trace_of config word events) ≡ show (trace_of config' word' events') → trace_of config word events ≡ trace_of config' word' events' }
     ensures of_scripts { (a b : List ℕ) (s t : Script) → AreBytes a → AreBytes b → script_of a ≡ Ok s → script_of b ≡ Ok t → show (trace_of s.config s.word s.events) ≡ show (trace_of t.config t.word t.events) → trace_of s.config s.word s.events ≡ trace_of t.config t.word t.events }
