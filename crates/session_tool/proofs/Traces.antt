@@ -18,7 +18,7 @@ use Rattle.trace_text.specs.Show.{action_line, show}
 use Rattle.session_tool.specs.Streaming.{Sent}
 use Rattle.session_tool.specs.declared.replaying.Stop.{Stop}
 use Rattle.session_tool.specs.declared.replaying.Stop.TheVariants as stop
-use Rattle.session_tool.specs.Stops.{AreTaken, AreTurns, IsFirstBad, IsFirstSpent, EndsAt, EndsBadly, EndsSpent, ToldAt, IsToldBad, IsToldSpent, SentTurns, GainedTurns, GainedFront, Ends, Told, IsReplayText, EndsWith, turns_before, event_line, stop_line}
+use Rattle.session_tool.specs.Stops.{AreTaken, AreTurns, IsFirstBad, IsFirstSpent, EndsAt, EndsBadly, EndsSpent, ToldAt, SentTurns, GainedTurns, GainedFront, Ends, Told, IsReplayText, EndsWith, turns_before, event_line, stop_line}
 use Rattle.session_tool.specs.Lines.{numbered_line}
 
 -- the text of two lists of actions
