@@ -104,7 +104,11 @@ fn looked_up(alloc: Global, what: &str, times: u32) -> Result<Option<u64>, Alloc
 }
 
 /// What the words of the program ask for, if they ask for something.
-fn answer(alloc: Global, what: Option<&str>, times: Option<&str>) -> Result<Option<u64>, AllocError> {
+fn answer(
+    alloc: Global,
+    what: Option<&str>,
+    times: Option<&str>,
+) -> Result<Option<u64>, AllocError> {
     let (Some(what), Some(times)) = (what, times) else {
         return Ok(None);
     };
