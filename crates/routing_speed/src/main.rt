@@ -92,26 +92,41 @@ fn count_of_routes(alloc: Global, times: u32) -> Result<u64, AllocError> {
     Ok(count)
 }
 
-fn answer(alloc: Global, what: &str, times: u32) -> Result<u64, AllocError> {
+/// The number that depends on each answer, if something of this name is looked up.
+fn looked_up(alloc: Global, what: &str, times: u32) -> Result<Option<u64>, AllocError> {
     if what == "slots" {
-        return sum_of_slots(alloc, times);
+        return Ok(Some(sum_of_slots(alloc, times)?));
     }
-    count_of_routes(alloc, times)
+    if what == "routes" {
+        return Ok(Some(count_of_routes(alloc, times)?));
+    }
+    Ok(None)
+}
+
+/// What the words of the program ask for, if they ask for something.
+fn answer(
+    alloc: Global,
+    what: Option<&str>,
+    times: Option<&str>,
+) -> Result<Option<u64>, AllocError> {
+    let (Some(what), Some(times)) = (what, times) else {
+        return Ok(None);
+    };
+    match times.parse::<u32>() {
+        Ok(times) => looked_up(alloc, what, times),
+        Err(_) => Ok(None),
+    }
 }
 
 fn main(rt: HostRuntime) -> io::Result<()> {
     let alloc = rt.alloc();
     let mut words = env::args(&rt)?;
     words.next();
-    let (Some(what), Some(times)) = (words.next(), words.next()) else {
-        println!(rt; "usage: routing_speed slots|routes TIMES")?;
-        return Ok(());
-    };
-    let Ok(times) = times.as_str().parse::<u32>() else {
-        println!(rt; "usage: routing_speed slots|routes TIMES")?;
-        return Ok(());
-    };
-    let number = answer(alloc, what.as_str(), times)?;
-    println!(rt; "{number}")?;
+    let what = words.next();
+    let times = words.next();
+    match answer(alloc, what.as_deref(), times.as_deref())? {
+        Some(number) => println!(rt; "{number}")?,
+        None => println!(rt; "usage: routing_speed slots|routes TIMES")?,
+    }
     Ok(())
 }
