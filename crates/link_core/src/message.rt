@@ -1,6 +1,9 @@
+ghost use Rattle.std.specs.Prelude.{◌≡◌, IfOk};
+
 use containers::Bytes;
 use driver_model::{Shape, Verdict};
 use resp_value::{PushKind, Values};
+use std::alloc::{AllocError, Global};
 
 /// A message that has its place in the queue.
 #[derive(Drop)]
@@ -50,4 +53,15 @@ pub struct PushInfo {
 pub struct PushAt {
     pub settled: u64,
     pub info: PushInfo,
+}
+
+impl PushInfo {
+    /// An equal value of its own.
+    pub fn clone(&self, alloc: Global) -> Result<PushInfo, AllocError>
+        ensures { IfOk result (λ p. p ≡ self.now) }
+    {
+        let kind = self.kind.clone(alloc)?;
+        let parts = self.parts.clone(alloc)?;
+        Ok(PushInfo { kind, parts })
+    }
 }

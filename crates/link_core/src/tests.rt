@@ -153,7 +153,8 @@ fn describe_all(alloc: Global, settled: &[Settled], log: &mut Vec<u8>) -> Result
 
 fn describe_pushes(alloc: Global, pushes: &[PushAt], log: &mut Vec<u8>) -> Result<(), AllocError> {
     for push in pushes {
-        let (settled, parts) = (push.settled, push.info.parts.len());
+        let info = push.info.clone(alloc)?;
+        let (settled, parts) = (push.settled, info.parts.len());
         log.extend_from_slice(format!(in alloc; "push behind {settled} of {parts}; ")?.as_bytes())?;
     }
     Ok(())
