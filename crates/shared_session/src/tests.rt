@@ -407,3 +407,15 @@ write *2\r\n$3\r\nGET\r\n$1\r\na\r\n; turn 3; start 1 1 1 20; turn 4; close 0; 0
 write *1\r\n$4\r\nPING\r\n; turn 3; close 0; 0 closed; ";
     compare(&rt, alloc, list.as_slice(), wanted)
 }
+
+/// Takes what threads may hand to one another, and share.
+fn is_shared<T: Send + Sync>(_value: &T) {}
+
+#[test]
+fn threads_may_share_a_session(rt: HostRuntime) -> Result<(), AllocError> {
+    let alloc = rt.alloc();
+    let mut actions = Vec::new(alloc);
+    let session = begin(alloc, &mut actions)?;
+    is_shared(&session);
+    Ok(())
+}
