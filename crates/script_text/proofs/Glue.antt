@@ -1,7 +1,7 @@
 -- Pieces of a line, one behind the other.
-use Rattle.std.proofs.Common.{◌≡◌, ℕ, List, [], ◌∷◌, ◌++◌, refl, ap, ◌∙◌, append_assoc, append-nil}
+use Rattle.std.proofs.Common.{◌≡◌, ℕ, List, [], ◌∷◌, ◌++◌, refl, ap, append_assoc, append-nil}
 use Rattle.script_text.specs.Words.{LineWords}
-use Rattle.script_text.specs.Pieces.{before, glued, joined, one_word, separator}
+use Rattle.script_text.specs.Pieces.{before, glued, joined, separator}
 
 -- a piece goes on in the last words
 pub glued_last : (words last : List (List ℕ)) (front : List (List (List ℕ))) (piece : LineWords)
