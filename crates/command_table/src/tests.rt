@@ -358,7 +358,7 @@ fn is_command(alloc: Global, cmd: &Cmd, text: &str) -> Result<bool, AllocError> 
 /// Whether the command of these keys is that one.
 fn is_selected(alloc: Global, row: &(&str, &[u32], &str)) -> Result<bool, AllocError> {
     let cmd = command(alloc, row.0)?;
-    let indices = KeyIndices::from_vec(Vec::from_slice(alloc, row.1)?);
+    let indices = KeyIndices::from_vec(Vec::from_slice(alloc, row.1)?).clone(alloc)?;
     if !may_be_several(&cmd) || !are_within(key_count(&cmd), indices.as_slice()) {
         return Ok(false);
     }

@@ -139,6 +139,7 @@ emptied d more = record { link = record d.link { queue = []; row = [] }; out = d
 abbrev pub closed_all : Settling → Settling
 closed_all d = emptied d (row_closed d.link.row ++ queue_closed d.link.queue)
 
--- the link ends by a fault: the oldest message that takes items gets it, all others the closed connection
+-- the link ends by a fault: the oldest message that takes items gets it if it is a single command, all others the
+-- closed connection
 abbrev pub faulted : Settling → LinkFault → Settling
 faulted d f = emptied d (row_hit f d.link.row ++ queue_closed d.link.queue)

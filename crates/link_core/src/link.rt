@@ -280,8 +280,8 @@ impl LinkCore {
         self.row.silence(id);
     }
 
-    /// The link ends by a fault: the oldest message that takes items gets it, every other one the closed connection, and
-    /// `out` gains those that are awaited. After an error `out` is as it was, and the link has failed.
+    /// The link ends by a fault: the oldest message that takes items gets it if it is a single command, every other one the
+    /// closed connection, and `out` gains those that are awaited. After an error `out` is as it was, and the link has failed.
     pub fn fault(
         &mut self,
         alloc: Global,

@@ -151,7 +151,7 @@ impl Row {
         Ok(())
     }
 
-    /// The oldest message ends with the fault, and each other with the closed connection.
+    /// The oldest message ends with the fault if it is a single command, and each other with the closed connection.
     pub fn hit(&mut self, fault: LinkFault, out: &mut Vec<Settled>) -> Result<(), AllocError>
         ensures emptied { OnOk result (self.new ≡ []) }
         ensures settled { OnOk result (out.new.items ≡ out.old.items ++ row_hit fault self.old) }

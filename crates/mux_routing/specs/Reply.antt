@@ -101,10 +101,11 @@ rows_in host (Some ds) = few (all_told (row_of host) ds)
 abbrev pub rows_of : List ℕ → Data → Option (List SlotRow)
 rows_of host d = rows_in host (elements d)
 
--- rows from which a map is made: of slots that there are, and with fewer than 2^32 nodes
+-- rows of slots that there are
 abbrev pub in_range : List SlotRow → Bool
 in_range [] = true
 in_range (r ∷ rs) = nat_le r.start r.end && nat_lt r.end 16_384 && in_range rs
 
+-- rows from which a map is made: of slots that there are, and with fewer than 2^32 nodes
 abbrev pub are_rows : List SlotRow → Bool
 are_rows rows = in_range rows && nat_lt (node_count rows) 4_294_967_296

@@ -84,6 +84,7 @@ chosen ReplicaRequired None primary replicas = unwrap_or (slice_get replicas 0) 
 chosen ReplicaOptional (Some pick) primary replicas = replica_of primary replicas pick
 chosen ReplicaRequired (Some pick) primary replicas = replica_of primary replicas pick
 
+-- the place to which a route to a shard leads
 abbrev pub node_in : SlotAddr → Option (ℕ → ℕ) → Shard → ℕ
 node_in addr pick shard = chosen addr pick shard.primary shard.replicas
 
@@ -111,6 +112,7 @@ stand_ins Master primary replicas = []
 stand_ins ReplicaOptional primary replicas = replicas ++ primary ∷ []
 stand_ins ReplicaRequired primary replicas = replicas
 
+-- the places that may stand in for that of a route to a shard
 abbrev pub fallbacks_in : SlotAddr → Option Shard → List ℕ
 fallbacks_in addr None = []
 fallbacks_in addr (Some shard) = stand_ins addr shard.primary shard.replicas
@@ -145,5 +147,6 @@ node_places rows = first_numbers (length (addresses rows))
 unfoldable pub is_place : List SlotRow → ℕ → Bool
 is_place rows i = nat_lt i (length (addresses rows))
 
+-- whether each of these numbers is
 unfoldable pub are_places : List SlotRow → List ℕ → Bool
 are_places rows places = list_all (is_place rows) places

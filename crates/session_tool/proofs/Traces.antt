@@ -14,17 +14,16 @@ use Rattle.shared_session.specs.History.{History}
 use Rattle.shared_session.specs.Replay.{opening, state_after, actions_of, trace_of, is_bad_after, is_spent_after}
 use Rattle.shared_session.specs.Stops.{IsSpentAt, IsSpentBy}
 use Rattle.shared_session.proofs.Replays.{Kept, kept_none, kept_more, taken_count, spent_stops, trace_of-none, trace_of-more}
-use Rattle.trace_text.specs.Words.{line_of}
-use Rattle.trace_text.specs.Show.{show, words_of}
+use Rattle.trace_text.specs.Show.{action_line, show}
 use Rattle.session_tool.specs.Streaming.{Sent}
 use Rattle.session_tool.specs.declared.replaying.Stop.{Stop}
 use Rattle.session_tool.specs.declared.replaying.Stop.TheVariants as stop
-use Rattle.session_tool.specs.Stops.{AreTaken, AreTurns, IsFirstBad, IsFirstSpent, EndsAt, EndsBadly, EndsSpent, ToldAt, IsToldBad, IsToldSpent, SentTurns, GainedTurns, GainedFront, Ends, Told, IsReplayText, EndsWith, turns_before, event_line, stop_line}
+use Rattle.session_tool.specs.Stops.{AreTaken, AreTurns, IsFirstBad, IsFirstSpent, EndsAt, EndsBadly, EndsSpent, ToldAt, SentTurns, GainedTurns, GainedFront, Ends, Told, IsReplayText, EndsWith, turns_before, event_line, stop_line}
 use Rattle.session_tool.specs.Lines.{numbered_line}
 
 -- the text of two lists of actions
 pub show-append : (xs ys : List Action) → show (xs ++ ys) ≡ show xs ++ show ys
-show-append xs ys = flat_map-append (λ (a : Action). line_of (words_of a)) xs ys
+show-append xs ys = flat_map-append action_line xs ys
 
 -- a sink that gained one text and then another
 gained_more : {old mid new : Option (List ℕ)} (first second : List ℕ) → Gained old mid first → Gained mid new second → Gained old new (first ++ second)

@@ -283,6 +283,151 @@ outcome s0 ok +PONG%0D%0A
     status: 0,
 };
 
+/// A transaction with a command that is refused as it is queued.
+const ABORTED: Row = Row {
+    script: b"config single url=redis://h:6379 connect=none response=none lib=off
+connected 0
+submit multi SET k 1 ; BAD
+bytes 0 +OK%0D%0A+QUEUED%0D%0A-ERR%20bad%0D%0A-EXECABORT%20x%0D%0A
+end
+",
+    output: b"turn 0 config single url=redis://h:6379 connect=none response=none lib=off
+connect 0 h:6379
+turn 1 connected 0
+created ok
+turn 2 submit multi SET k 1 ; BAD
+start 0 0 s0.0 4 69
+write 0 *1%0D%0A$5%0D%0AMULTI%0D%0A*3%0D%0A$3%0D%0ASET%0D%0A$1%0D%0Ak%0D%0A$1%0D%0A1%0D%0A*1%0D%0A$3%0D%0ABAD%0D%0A*1%0D%0A$4%0D%0AEXEC%0D%0A
+turn 3 bytes 0 +OK%0D%0A+QUEUED%0D%0A-ERR%20bad%0D%0A-EXECABORT%20x%0D%0A
+outcome s0 err aborted 1:ERR%20bad
+",
+    status: 0,
+};
+
+/// A transaction that is refused at its start.
+const NO_TRANSACTION: Row = Row {
+    script: b"config single url=redis://h:6379 connect=none response=none lib=off
+connected 0
+submit multi SET k 1
+bytes 0 -NOAUTH%20x%0D%0A-NOAUTH%20x%0D%0A-ERR%20y%0D%0A
+end
+",
+    output: b"turn 0 config single url=redis://h:6379 connect=none response=none lib=off
+connect 0 h:6379
+turn 1 connected 0
+created ok
+turn 2 submit multi SET k 1
+start 0 0 s0.0 3 56
+write 0 *1%0D%0A$5%0D%0AMULTI%0D%0A*3%0D%0A$3%0D%0ASET%0D%0A$1%0D%0Ak%0D%0A$1%0D%0A1%0D%0A*1%0D%0A$4%0D%0AEXEC%0D%0A
+turn 3 bytes 0 -NOAUTH%20x%0D%0A-NOAUTH%20x%0D%0A-ERR%20y%0D%0A
+outcome s0 err server NOAUTH x
+",
+    status: 0,
+};
+
+/// A list of commands of which no reply is kept.
+const NONE_KEPT: Row = Row {
+    script: b"config single url=redis://h:6379 connect=none response=none lib=off
+connected 0
+submit packed 0 0 PING
+bytes 0 +PONG%0D%0A
+end
+",
+    output: b"turn 0 config single url=redis://h:6379 connect=none response=none lib=off
+connect 0 h:6379
+turn 1 connected 0
+created ok
+turn 2 submit packed 0 0 PING
+start 0 0 s0.0 1 14
+write 0 *1%0D%0A$4%0D%0APING%0D%0A
+turn 3 bytes 0 +PONG%0D%0A
+outcome s0 many *1%0D%0A+PONG%0D%0A
+",
+    status: 0,
+};
+
+/// A command whose reply nobody awaits.
+const NO_REPLY: Row = Row {
+    script: b"config single url=redis://h:6379 connect=none response=none lib=off
+connected 0
+submit noreply SET k v
+submit cmd GET a
+bytes 0 +OK%0D%0A
+bytes 0 +x%0D%0A
+end
+",
+    output: b"turn 0 config single url=redis://h:6379 connect=none response=none lib=off
+connect 0 h:6379
+turn 1 connected 0
+created ok
+turn 2 submit noreply SET k v
+outcome s0 ok _%0D%0A
+start 0 0 s0.0 1 27
+write 0 *3%0D%0A$3%0D%0ASET%0D%0A$1%0D%0Ak%0D%0A$1%0D%0Av%0D%0A
+turn 3 submit cmd GET a
+start 0 1 s1.0 1 20
+turn 4 bytes 0 +OK%0D%0A
+turn 5 bytes 0 +x%0D%0A
+outcome s1 ok +x%0D%0A
+",
+    status: 0,
+};
+
+/// A read that fails while a pipeline is the oldest.
+const READ_FAULT: Row = Row {
+    script: b"config single url=redis://h:6379 connect=none response=none lib=off
+connected 0
+submit pipe SET a 1 ; GET a
+submit cmd GET b
+read-fault 0 reset
+submit cmd GET c
+end
+",
+    output: b"turn 0 config single url=redis://h:6379 connect=none response=none lib=off
+connect 0 h:6379
+turn 1 connected 0
+created ok
+turn 2 submit pipe SET a 1 ; GET a
+start 0 0 s0.0 2 47
+write 0 *3%0D%0A$3%0D%0ASET%0D%0A$1%0D%0Aa%0D%0A$1%0D%0A1%0D%0A*2%0D%0A$3%0D%0AGET%0D%0A$1%0D%0Aa%0D%0A
+turn 3 submit cmd GET b
+start 0 1 s1.0 1 20
+turn 4 read-fault 0 reset
+close 0
+outcome s0 err closed
+outcome s1 err closed
+turn 5 submit cmd GET c
+outcome s2 err closed
+",
+    status: 0,
+};
+
+/// A write that fails while a command is the oldest.
+const WRITE_FAULT: Row = Row {
+    script: b"config single url=redis://h:6379 connect=none response=none lib=off
+connected 0
+submit cmd GET a
+submit pipe GET b ; GET c
+write-fault 0 broken-pipe
+end
+",
+    output: b"turn 0 config single url=redis://h:6379 connect=none response=none lib=off
+connect 0 h:6379
+turn 1 connected 0
+created ok
+turn 2 submit cmd GET a
+start 0 0 s0.0 1 20
+write 0 *2%0D%0A$3%0D%0AGET%0D%0A$1%0D%0Aa%0D%0A
+turn 3 submit pipe GET b ; GET c
+start 0 1 s1.0 2 40
+turn 4 write-fault 0 broken-pipe
+close 0
+outcome s0 err io broken-pipe
+outcome s1 err closed
+",
+    status: 0,
+};
+
 fn strings(alloc: Global, words: &[&str]) -> Result<Vec<String>, AllocError> {
     let mut all = Vec::new(alloc);
     for word in words {
@@ -350,6 +495,12 @@ fn scripts_are_replayed(rt: HostRuntime) -> Result<(), Fail> {
         EMPTY_COMMAND,
         SHUT_DOWN,
         PUSHED,
+        ABORTED,
+        NO_TRANSACTION,
+        NONE_KEPT,
+        NO_REPLY,
+        READ_FAULT,
+        WRITE_FAULT,
     ] {
         let (status, sink) = answer(rt.alloc(), &["replay"], row.script, None, None)?;
         assert_eq!(rt; status, row.status);

@@ -15,8 +15,6 @@ use Rattle.link_core.specs.Link.{is_spent as is_link_spent}
 use Rattle.link_core.specs.Outbox.{can_offer}
 use Rattle.link_core.proofs.StartLemmas.{numbers_rise}
 use Rattle.shared_session.specs.declared.connection.Connection.{Connection}
-use Rattle.shared_session.specs.declared.connection.Phase.{Phase}
-use Rattle.shared_session.specs.declared.connection.Phase.TheVariants as phase
 use Rattle.shared_session.specs.declared.connection.Waiting.{Waiting}
 use Rattle.shared_session.specs.declared.core_state.Core.{Core}
 use Rattle.shared_session.specs.Requests.{is_open_at, is_waiting_at}

@@ -1,5 +1,5 @@
-use Rattle.std.proofs.Common.{arith, refl, sym, ◌∙◌, ap, subst, ◌≡◌, ◌+◌, List, [], ◌∷◌, ◌++◌, length, take, Some, ℕ, Option, Err}
-use Rattle.std.specs.Prelude.{slice_get, Result}
+use Rattle.std.proofs.Common.{arith, refl, sym, ◌∙◌, ap, subst, ◌≡◌, ◌+◌, List, [], ◌∷◌, ◌++◌, length, take, Some, Err}
+use Rattle.std.specs.Prelude.{slice_get}
 use Rattle.std.proofs.lemmas.List.{take_more}
 use Rattle.std.proofs.lemmas.Option.{slice_get_read}
 use Rattle.driver_model.specs.declared.event.Event.{Event}

@@ -1,5 +1,4 @@
-use Rattle.std.proofs.Common.{◌∙◌, sym, subst, refl, List, [], append_assoc}
-use Rattle.std.proofs.lemmas.List.{append-nil}
+use Rattle.std.proofs.Common.{subst, List}
 use Rattle.driver_model.specs.declared.event.Event.{Event}
 use Rattle.session_tool.specs.Stops.{Ends}
 use Rattle.session_tool.proofs.Traces.{told_end, cut_whole}
