@@ -25,24 +25,35 @@ fn is_get(event: &Event) -> bool {
     }
 }
 
-#[test]
-fn turns_are_copied_whole(rt: HostRuntime) -> Result<(), Fail> {
-    let alloc = rt.alloc();
+/// A turn of that event.
+fn get_turn(alloc: Global) -> Result<Action, AllocError> {
     let event = get_event(alloc)?;
-    let turn = Action::Turn {
+    Ok(Action::Turn {
         number: 1,
         cause: Cause::Event { event },
-    };
-    match turn.clone(alloc)? {
-        Action::Turn { number, cause } => {
-            assert_eq!(rt; number, 1);
-            match &cause {
-                Cause::Event { event } => assert!(rt; is_get(event)),
-                Cause::Opening { config: _, word: _ } => return Err(Fail::from("an opening")),
-            }
-        }
-        _ => return Err(Fail::from("no turn")),
+    })
+}
+
+fn is_get_turn(action: &Action) -> bool {
+    match action {
+        Action::Turn { number, cause } => match cause {
+            Cause::Event { event } => *number == 1 && is_get(event),
+            Cause::Opening { config: _, word: _ } => false,
+        },
+        _ => false,
     }
+}
+
+fn copied(alloc: Global, action: &Action) -> Result<bool, AllocError> {
+    let copy = action.clone(alloc)?;
+    Ok(is_get_turn(&copy))
+}
+
+#[test]
+fn turns_are_copied_whole(rt: HostRuntime) -> Result<(), AllocError> {
+    let alloc = rt.alloc();
+    let turn = get_turn(alloc)?;
+    assert!(rt; copied(alloc, &turn)?);
     Ok(())
 }
 

@@ -1,7 +1,7 @@
 use crate::{MakeError, ReplayError, Session, StepError};
 use containers::{Bytes, Names};
 use driver_model::{Action, Commands, Config, Event, EventKind, Outcome, Owner, Submission};
-use resp_value::{FaultKind, RedisError, Value};
+use resp_value::{Aborts, FaultKind, RedisError, Value};
 use std::alloc::{AllocError, Global};
 use std::process::Abort;
 
@@ -135,11 +135,20 @@ fn fault_word(error: &RedisError) -> &'static str {
         RedisError::EmptyCommand => "empty",
         RedisError::Io { fault } => fault.name(),
         RedisError::Server(_) => "server",
-        RedisError::Aborted { errors } => match errors.as_slice() {
-            [(1, _)] => "aborted at 1",
-            _ => "aborted",
-        },
+        RedisError::Aborted { errors } => aborted_word(errors),
         _ => "fault",
+    }
+}
+
+fn aborted_word(errors: &Aborts) -> &'static str {
+    let [error] = errors.as_slice() else {
+        return "aborted";
+    };
+    let position = error.0;
+    if position == 1 {
+        "aborted at 1"
+    } else {
+        "aborted"
     }
 }
 
@@ -406,16 +415,4 @@ write *2\r\n$3\r\nGET\r\n$1\r\na\r\n; turn 3; start 1 1 1 20; turn 4; close 0; 0
     let wanted = "turn 0; connect 0 6379; turn 1; created; turn 2; start 0 0 2 14; \
 write *1\r\n$4\r\nPING\r\n; turn 3; close 0; 0 closed; ";
     compare(&rt, alloc, list.as_slice(), wanted)
-}
-
-/// Takes what threads may hand to one another, and share.
-fn is_shared<T: Send + Sync>(_value: &T) {}
-
-#[test]
-fn threads_may_share_a_session(rt: HostRuntime) -> Result<(), AllocError> {
-    let alloc = rt.alloc();
-    let mut actions = Vec::new(alloc);
-    let session = begin(alloc, &mut actions)?;
-    is_shared(&session);
-    Ok(())
 }
