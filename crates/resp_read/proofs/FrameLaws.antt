@@ -20,19 +20,19 @@ use Rattle.resp_read.specs.Parts.{IsFound}
 use Rattle.resp_read.proofs.Laws.{Lawful}
 use Rattle.resp_read.proofs.ParseLaws.{same_first, takes_a_byte}
 
--- what is found in one order of three is found in the other
+-- three, one after another, grouped either way
 then_then : {A B C : Type 0} (f : A → List ℕ → Found B) (g : B → List ℕ → Found C) (x : Found A) → found_and_then g (found_and_then f x) ≡ found_and_then (λ a rest. found_and_then g (f a rest)) x
 then_then f g (read a rest) = refl
 then_then f g short = refl
 then_then f g bad = refl
 
--- two that find the same after each find the same
+-- two that find the same after everything
 then_same : {A B : Type 0} (f g : A → List ℕ → Found B) → ((a : A) (rest : List ℕ) → f a rest ≡ g a rest) → (x : Found A) → found_and_then f x ≡ found_and_then g x
 then_same f g same (read a rest) = same a rest
 then_same f g same short = refl
 then_same f g same bad = refl
 
--- the items found, one more and others are the items found and one more, and others
+-- what was found, and one more, and others
 module _ {A B : Type 0} (inside : List ℕ → Found A) (end : List A → List ℕ → Found B) (found : List A) where
   one_more : (a : A) (x : Found (List A)) → found_and_then (λ ds. end (found ++ ds)) (found_map (λ ds. a ∷ ds) x) ≡ found_and_then (λ ds. end ((found ++ a ∷ []) ++ ds)) x
   one_more a (read ds rest) = ap (λ es. end es rest) (sym (append_assoc found (a ∷ []) ds))

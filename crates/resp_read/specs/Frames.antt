@@ -66,7 +66,7 @@ resumed frames bs = within max_depth frames (parse (max_depth - length frames) b
 abbrev pub IsEnd : List ℕ → List ℕ → Type 0
 IsEnd end bs = (p : List ℕ) × (bs ≡ p ++ end)
 
--- what a form is that begins so, whatever bytes follow
+-- what began is what the form is, whatever bytes follow; or the form is short or bad
 abbrev pub Begins : (List ℕ → Found Data) → (List ℕ → Found Data) → List ℕ → Result Begun Refusal → List ℕ → Type 0
 Begins form inside bs (Ok b) left = IsEnd left bs × ((m : List ℕ) → form (bs ++ m) ≡ begun inside b (left ++ m))
 Begins form inside bs (Err Short) left = form bs ≡ short
@@ -79,14 +79,14 @@ IsPut old v (Ok (Some w)) new = (new ≡ []) × ((bs : List ℕ) → within max_
 IsPut old v (Ok None) new = (bs : List ℕ) → within max_depth old (read (data_of v) bs) ≡ resumed new bs
 IsPut old v (Err e) new = Unit {0}
 
--- what was read on, whatever bytes follow
+-- what reading on makes of the aggregates: the outermost is whole, or more bytes are wanted, or none can help
 abbrev pub ReadsOn : List Frame → List ℕ → Result Value Refusal → List Frame → List ℕ → Type 0
 ReadsOn old bs (Ok v) new left = (new ≡ []) × IsEnd left bs × ((m : List ℕ) → resumed old (bs ++ m) ≡ read (data_of v) (left ++ m))
 ReadsOn old bs (Err Short) new left = IsEnd left bs × (resumed old bs ≡ short) × ((m : List ℕ) → resumed old (bs ++ m) ≡ resumed new (left ++ m))
 ReadsOn old bs (Err Bad) new left = resumed old bs ≡ bad
 ReadsOn old bs (Err NoMemory) new left = Unit {0}
 
--- the value that begins at the one place is what the aggregates are with the bytes from the other place on, whatever bytes follow
+-- where a reader is in its bytes: the value that begins at the one place is what the aggregates are with the bytes from the other place on, whatever bytes follow
 pub record IsUnderway (bytes : List ℕ) (at next : ℕ) (frames : List Frame) (health : Health) : Type 0 where
   pub in_order : at ≤ next
   pub fits : next ≤ length bytes

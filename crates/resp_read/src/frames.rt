@@ -26,17 +26,19 @@ pub enum Pairing {
 /// An aggregate begun and not whole: what it holds so far, and how many values or pairs follow the one that it waits for.
 #[derive(Drop)]
 pub enum Frame {
+    /// The next value of a sequence.
     Item {
         of: Sequence,
         found: Values,
         more: u64,
     },
+    /// The next key.
     Key {
         of: Pairing,
         found: Pairs,
         more: u64,
     },
-    /// The value of a key.
+    /// The value of that key.
     Entry {
         of: Pairing,
         found: Pairs,

@@ -21,6 +21,7 @@ fn max_depth() -> usize
     MAX_DEPTH
 }
 
+/// What was read, as a value that is whole.
 fn whole(found: Result<Value, Refusal>) -> Result<Begun, Refusal>
     ensures { result ≡ whole_of found }
 {
