@@ -53,7 +53,7 @@ sweep() {
 
 failed=0
 sweep version /dev/null --version || failed=1
-for script in two_callers_one_gone broken_reply; do
+for script in two_callers_one_gone broken_reply transactions; do
   sweep "$script" "$here/$script.script" replay || failed=1
 done
 exit "$failed"
