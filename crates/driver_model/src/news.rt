@@ -1,0 +1,62 @@
+ghost use Rattle.std.specs.Prelude.{◌≡◌};
+
+use crate::event::EventKind;
+use redis_error::FaultKind;
+
+/// How a link ended, where it wasn't closed by a shutdown.
+#[derive(Clone, Copy, PartialEq, Eq)]
+pub enum LinkFault {
+    /// The peer closed it.
+    Ended,
+    /// A read or a write failed.
+    Io { fault: FaultKind },
+    /// Bytes came that begin no value.
+    Parse,
+}
+
+/// What one link sees of an event.
+#[derive(Clone, Copy)]
+pub enum LinkNews<'a> {
+    /// Nothing: the event is another link's, or no link's.
+    Silence,
+    /// Its connect succeeded.
+    Connected,
+    /// So many of the offered bytes were taken.
+    Took { count: u64 },
+    /// Bytes came from the peer.
+    Came { piece: &'a [u8] },
+    /// The peer closed it, or a read or a write failed.
+    Failed { fault: LinkFault },
+    /// Everything is closed.
+    Shut,
+}
+
+impl EventKind {
+    ghost use Rattle.driver_model.specs.News.{news as news_of, told};
+
+    /// What the link of this number sees of the event.
+    pub fn news(&self, link: u32) -> LinkNews<'_>
+        ensures { told result ≡ news_of link self.now }
+    {
+        match self {
+            EventKind::Connected { link: named } if *named == link => LinkNews::Connected,
+            EventKind::Wrote { link: named, count } if *named == link => {
+                LinkNews::Took { count: *count }
+            }
+            EventKind::Bytes { link: named, piece } if *named == link => LinkNews::Came {
+                piece: piece.as_slice(),
+            },
+            EventKind::Ended { link: named } if *named == link => LinkNews::Failed {
+                fault: LinkFault::Ended,
+            },
+            EventKind::ReadFault { link: named, fault } if *named == link => LinkNews::Failed {
+                fault: LinkFault::Io { fault: *fault },
+            },
+            EventKind::WriteFault { link: named, fault } if *named == link => LinkNews::Failed {
+                fault: LinkFault::Io { fault: *fault },
+            },
+            EventKind::Shutdown => LinkNews::Shut,
+            _ => LinkNews::Silence,
+        }
+    }
+}

@@ -1,0 +1,133 @@
+-- The book of a trace: all that it says, by one fold over its actions. Links and submissions go by their numbers.
+use Rattle.std.specs.Prelude.{ℕ, ◌+◌, ◌-◌, ◌==◌, Bool, true, false, ◌||◌, List, [], ◌∷◌, ◌++◌, Option, Some, None, if◌then◌else◌}
+use Rattle.driver_model.specs.declared.action.Action.{Action}
+use Rattle.driver_model.specs.declared.action.Action.TheVariants as action
+use Rattle.driver_model.specs.declared.action.Cause.{Cause}
+use Rattle.driver_model.specs.declared.action.Cause.TheVariants as cause
+use Rattle.driver_model.specs.declared.action.Owner.{Owner}
+use Rattle.driver_model.specs.declared.action.Owner.TheVariants as owner
+use Rattle.driver_model.specs.declared.action.WaitKind.{WaitKind}
+use Rattle.driver_model.specs.declared.event.EventKind.{EventKind}
+use Rattle.driver_model.specs.declared.event.EventKind.TheVariants as event
+use Rattle.driver_model.specs.declared.outcome.Outcome.{Outcome}
+use Rattle.driver_model.specs.News.{news}
+use Rattle.legal_trace.specs.Ledger.{Ledger, Start, Line, asks, hears, starts, offers, ends, blank_ledger, noted_each}
+use Rattle.legal_trace.specs.Story.{Story, blank_story, bytes_of, shape, handed_in, left, tried, waits, answered}
+
+-- how many links were asked for, and the ledger of each; how many submissions were handed in, and the story of each;
+-- how often the creation was shown; whether everything was shut down; how many turns began, and what the turn that runs is
+-- the turn of
+pub record Book : Type 0 where
+  pub links : ℕ
+  pub link : ℕ → Ledger
+  pub submissions : ℕ
+  pub story : ℕ → Story
+  pub created : ℕ
+  pub shut : Bool
+  pub turns : ℕ
+  pub running : Option Cause
+
+abbrev pub blank_book : Book
+blank_book = record { links = 0; link = λ n. blank_ledger; submissions = 0; story = λ n. blank_story; created = 0; shut = false; turns = 0; running = None }
+
+-- a message as its owner has it: it carries the owner's bytes
+abbrev pub message_of : Book → Owner → Start
+message_of b (owner.Try n round) = record { owner = owner.Try n round; shape = shape (b.story n); bytes = bytes_of (b.story n) }
+
+-- a line of one link alone
+abbrev pub if_mine : Bool → Line → List Line
+if_mine mine line = if mine then line ∷ [] else []
+
+-- what an action tells of link n
+abbrev pub lines_of : Book → ℕ → Action → List Line
+lines_of b n (action.Turn number (cause.Opening config word)) = []
+lines_of b n (action.Turn number (cause.Event e)) = hears (news n e.kind) ∷ []
+lines_of b n (action.Connect l host port) = if_mine (l == n) asks
+lines_of b n (action.Close l) = if_mine (l == n) (ends (b.turns - 1))
+lines_of b n (action.Write l bytes) = if_mine (l == n) (offers bytes)
+lines_of b n (action.Start l message who count len) = if_mine (l == n) (starts (message_of b who))
+lines_of b n (action.Wait who kind) = []
+lines_of b n action.Created = []
+lines_of b n (action.Outcome m o) = []
+
+-- the link that submissions go to: the last that was asked for
+abbrev pub current : Book → ℕ
+current b = b.links - 1
+
+-- a change of one story alone
+abbrev pub if_own : Bool → Story → Story → Story
+if_own own changed s = if own then changed else s
+
+-- what an event is to submission n
+abbrev pub after_event : Book → ℕ → EventKind → Story
+after_event b n (event.Submit what) = if_own (b.submissions == n) (handed_in (b.story n) what b.shut (current b)) (b.story n)
+after_event b n (event.Cancel m) = if_own (m == n) (left (b.story n)) (b.story n)
+after_event b n (event.Connected l) = b.story n
+after_event b n (event.Wrote l count) = b.story n
+after_event b n (event.Bytes l piece) = b.story n
+after_event b n (event.Ended l) = b.story n
+after_event b n (event.ReadFault l kind) = b.story n
+after_event b n (event.WriteFault l kind) = b.story n
+after_event b n event.Shutdown = b.story n
+
+-- what an action is to submission n
+abbrev pub story_after : Book → ℕ → Action → Story
+story_after b n (action.Turn number (cause.Opening config word)) = b.story n
+story_after b n (action.Turn number (cause.Event e)) = after_event b n e.kind
+story_after b n (action.Start l message (owner.Try m round) count len) = if_own (m == n) (tried (b.story n) l message) (b.story n)
+story_after b n (action.Wait (owner.Try m round) kind) = if_own (m == n) (waits (b.story n) kind) (b.story n)
+story_after b n (action.Outcome m o) = if_own (m == n) (answered (b.story n) o) (b.story n)
+story_after b n (action.Connect l host port) = b.story n
+story_after b n (action.Close l) = b.story n
+story_after b n (action.Write l bytes) = b.story n
+story_after b n action.Created = b.story n
+
+-- how many submissions an event hands in, and whether it shuts everything down
+abbrev pub submitted_by : EventKind → ℕ
+submitted_by (event.Submit what) = 1
+submitted_by _ = 0
+
+abbrev pub shuts : EventKind → Bool
+shuts event.Shutdown = true
+shuts _ = false
+
+-- what a turn's cause is to the counts of a book
+abbrev pub begun : Book → Cause → Book
+begun b (cause.Opening config word) = record b { turns = b.turns + 1; running = Some (cause.Opening config word) }
+begun b (cause.Event e) = record b {
+  turns = b.turns + 1;
+  running = Some (cause.Event e);
+  submissions = b.submissions + submitted_by e.kind;
+  shut = b.shut || shuts e.kind;
+}
+
+-- what an action is to the counts of a book
+abbrev pub counted : Book → Action → Book
+counted b (action.Turn number c) = begun b c
+counted b (action.Connect l host port) = record b { links = b.links + 1 }
+counted b action.Created = record b { created = b.created + 1 }
+counted b (action.Close l) = b
+counted b (action.Write l bytes) = b
+counted b (action.Wait who kind) = b
+counted b (action.Start l message who count len) = b
+counted b (action.Outcome n o) = b
+
+-- what one more action adds
+abbrev pub entered : Book → Action → Book
+entered b a = record (counted b a) {
+  link = λ n. noted_each (b.link n) (lines_of b n a);
+  story = λ n. story_after b n a;
+}
+
+abbrev pub entered_each : Book → List Action → Book
+entered_each b [] = b
+entered_each b (a ∷ more) = entered_each (entered b a) more
+
+-- the book of a trace
+unfoldable pub book : List Action → Book
+book trace = entered_each blank_book trace
+
+-- what actions tell of link n, behind what is in a book
+abbrev pub lines_of_each : Book → ℕ → List Action → List Line
+lines_of_each b n [] = []
+lines_of_each b n (a ∷ more) = lines_of b n a ++ lines_of_each (entered b a) n more

@@ -1,0 +1,30 @@
+-- Which events are bad after what is in a book, and which numbers have run out.
+use Rattle.std.specs.Prelude.{◌⊎◌, ◌<◌, ◌≤◌, ℕ, ◌^◌, nat_lt, nat_le, Bool, true, false, ◌&&◌, ◌||◌, not, List, [], ◌∷◌, length}
+use Rattle.driver_model.specs.declared.event.EventKind.{EventKind}
+use Rattle.driver_model.specs.declared.event.EventKind.TheVariants as event
+use Rattle.driver_model.specs.declared.event.Submission.{Submission}
+use Rattle.driver_model.specs.declared.event.Submission.TheVariants as submission
+use Rattle.legal_trace.specs.Ledger.{is_over}
+use Rattle.legal_trace.specs.Book.{Book}
+
+-- no link of that number was asked for
+abbrev pub is_no_link : Book → ℕ → Bool
+is_no_link b l = nat_le b.links l
+
+-- the event names a link or a submission that was never given out, or more written bytes than were offered to a link that
+-- has not ended
+unfoldable pub is_bad_event : Book → EventKind → Bool
+is_bad_event b (event.Submit what) = false
+is_bad_event b (event.Cancel n) = nat_le b.submissions n
+is_bad_event b (event.Connected l) = is_no_link b l
+is_bad_event b (event.Wrote l count) = is_no_link b l || (not (is_over (b.link l)) && nat_lt (length (b.link l).offer) count)
+is_bad_event b (event.Bytes l piece) = is_no_link b l
+is_bad_event b (event.Ended l) = is_no_link b l
+is_bad_event b (event.ReadFault l kind) = is_no_link b l
+is_bad_event b (event.WriteFault l kind) = is_no_link b l
+is_bad_event b event.Shutdown = false
+
+-- more numbers of a sort were given out than there are: a turn after the number 2^32 - 1, or that number itself to a
+-- submission, to a link, or to a message of a link
+abbrev pub HasRunOut : Book → Type 0
+HasRunOut b = (2 ^ 32 < b.turns) ⊎ (2 ^ 32 ≤ b.submissions) ⊎ (2 ^ 32 ≤ b.links) ⊎ ((l : ℕ) × (2 ^ 32 ≤ length (b.link l).starts))

@@ -1,0 +1,179 @@
+-- What is told of one link, line by line, and what it comes to: the link's ledger. It knows neither its number nor whose
+-- messages it carries.
+use Rattle.std.specs.Prelude.{◌≡◌, ◌≢◌, ◌⊎◌, ◌≤◌, ℕ, suc, ◌+◌, ◌-◌, nat_le, Bool, true, false, ◌&&◌, not, List, [], ◌∷◌, ◌++◌, length, take, drop, flat_map, Option, Some, None, is_some, if◌then◌else◌}
+use Rattle.resp_value.specs.Data.{Data}
+use Rattle.resp_read.specs.Values.{left_over, is_spoiled}
+use Rattle.resp_read.specs.Items.{items}
+use Rattle.driver_model.specs.declared.action.Owner.{Owner}
+use Rattle.driver_model.specs.declared.news.LinkFault.{LinkFault}
+use Rattle.driver_model.specs.declared.news.LinkFault.TheVariants as fault
+use Rattle.driver_model.specs.declared.outcome.Shape.{Shape}
+use Rattle.driver_model.specs.News.{News, silence, connected, took, came, failed, shut}
+use Rattle.driver_model.specs.Shape.{need}
+
+-- a message that started: who owns it, how many items it takes and what they become, and its bytes
+pub record Start : Type 0 where
+  pub owner : Owner
+  pub shape : Shape
+  pub bytes : List ℕ
+
+-- why a link ends: everything is shut down, or a fault
+pub data Ending : Type 0 where
+  by_shutdown : Ending
+  by_fault : LinkFault → Ending
+
+-- how a link ended: in which turn, why, and how many of its messages, from the first on, were full then, which is the number
+-- of the oldest that was not
+pub record End : Type 0 where
+  pub turn : ℕ
+  pub why : Ending
+  pub oldest : ℕ
+
+-- whether its connect was asked for; whether the connect succeeded and it has not ended; how it ended; its starts in order;
+-- the bytes that were taken from it; the bytes of its unanswered offer; what came behind the last whole value; the items
+-- dealt; and what it was told by the turn that runs
+pub record Ledger : Type 0 where
+  pub asked : Bool
+  pub up : Bool
+  pub end : Option End
+  pub starts : List Start
+  pub taken : List ℕ
+  pub offer : List ℕ
+  pub rest : List ℕ
+  pub dealt : List Data
+  pub heard : News
+
+abbrev pub blank_ledger : Ledger
+blank_ledger = record { asked = false; up = false; end = None; starts = []; taken = []; offer = []; rest = []; dealt = []; heard = silence }
+
+abbrev pub is_over : Ledger → Bool
+is_over l = is_some l.end
+
+-- how many items a message of this shape takes, of those that are dealt from its first on
+abbrev pub need_in : Shape → List Data → ℕ
+need_in shape dealt = need shape
+
+-- how many of these items messages take that start one after another
+abbrev pub reach : List Start → List Data → ℕ
+reach [] dealt = 0
+reach (s ∷ ss) dealt = need_in s.shape dealt + reach ss (drop (need_in s.shape dealt) dealt)
+
+-- how many items the first k messages of a link take
+abbrev pub reached : Ledger → ℕ → ℕ
+reached l k = reach (take k l.starts) l.dealt
+
+-- items come: as many are dealt as the starts before them still take, and the others are dropped
+abbrev pub items_came : Ledger → List Data → Ledger
+items_came l more = record l { dealt = l.dealt ++ take (reach l.starts l.dealt - length l.dealt) more }
+
+-- bytes come: the values that are whole now are items, but for pushes without reply
+abbrev pub bytes_came : Ledger → List ℕ → Ledger
+bytes_came l piece = items_came (record l { rest = left_over (l.rest ++ piece) }) (items (l.rest ++ piece))
+
+-- what news makes of it: a link is up from its first successful connect until its end
+abbrev pub with_news : Ledger → News → Ledger
+with_news l connected = if is_over l then l else record l { up = true }
+with_news l (took count) = if l.up then record l { taken = l.taken ++ take count l.offer; offer = [] } else l
+with_news l (came piece) = if l.up then bytes_came l piece else l
+with_news l silence = l
+with_news l (failed f) = l
+with_news l shut = l
+
+-- what ends a link that is up: its peer, a read or a write that failed, bytes that begin no value, or the shutdown
+abbrev pub ending_up : Ledger → News → Option Ending
+ending_up l (came piece) = if is_spoiled l.rest then Some (by_fault fault.Parse) else None
+ending_up l (failed f) = Some (by_fault f)
+ending_up l shut = Some by_shutdown
+ending_up l silence = None
+ending_up l connected = None
+ending_up l (took count) = None
+
+-- what ends a link whose connect isn't answered: the shutdown alone
+abbrev pub ending_asked : News → Option Ending
+ending_asked shut = Some by_shutdown
+ending_asked silence = None
+ending_asked connected = None
+ending_asked (took count) = None
+ending_asked (came piece) = None
+ending_asked (failed f) = None
+
+-- what must end the link in the turn that runs, if anything does
+abbrev pub ending : Ledger → Option Ending
+ending l = if l.up then ending_up l l.heard else (if l.asked && not (is_over l) then ending_asked l.heard else None)
+
+abbrev pub ending_or_shutdown : Option Ending → Ending
+ending_or_shutdown None = by_shutdown
+ending_or_shutdown (Some why) = why
+
+-- how many of these messages, from the first on, these items fill
+abbrev pub full_count : List Start → List Data → ℕ
+full_count [] dealt = 0
+full_count (s ∷ ss) dealt = if nat_le (need_in s.shape dealt) (length dealt) then suc (full_count ss (drop (need_in s.shape dealt) dealt)) else 0
+
+-- the link ends
+abbrev pub ended : Ledger → ℕ → Ledger
+ended l turn = record l { up = false; end = Some (record { turn = turn; why = ending_or_shutdown (ending l); oldest = full_count l.starts l.dealt }) }
+
+-- a line of what is told of a link: its connect is asked for; a turn begins, with this news for it; a message starts; its
+-- unwritten bytes are offered; it ends, in that turn
+pub data Line : Type 0 where
+  asks : Line
+  hears : News → Line
+  starts : Start → Line
+  offers : List ℕ → Line
+  ends : ℕ → Line
+
+-- what one more line makes of it
+abbrev pub noted : Ledger → Line → Ledger
+noted l asks = record l { asked = true }
+noted l (hears news) = record (with_news l news) { heard = news }
+noted l (starts s) = record l { starts = l.starts ++ s ∷ [] }
+noted l (offers bytes) = record l { offer = bytes }
+noted l (ends turn) = ended l turn
+
+abbrev pub noted_each : Ledger → List Line → Ledger
+noted_each l [] = l
+noted_each l (x ∷ more) = noted_each (noted l x) more
+
+-- the ledger of a link of which this is told
+abbrev pub ledger : List Line → Ledger
+ledger lines = noted_each blank_ledger lines
+
+-- the bytes of messages, one after another
+abbrev pub joined : List Start → List ℕ
+joined starts = flat_map (λ s. s.bytes) starts
+
+-- the bytes that the link took, and then those that are offered to it
+abbrev pub stream : Ledger → List ℕ
+stream l = l.taken ++ l.offer
+
+-- the bytes of started messages that were not taken
+abbrev pub unwritten : Ledger → List ℕ
+unwritten l = drop (length l.taken) (joined l.starts)
+
+-- nothing is unwritten, or an offer is unanswered
+abbrev pub IsOffered : Ledger → Type 0
+IsOffered l = (unwritten l ≡ []) ⊎ (l.offer ≢ [])
+
+-- no more bytes are taken than were offered
+abbrev pub IsWithin : Ledger → News → Type 0
+IsWithin l (took count) = l.up ≡ true → count ≤ length l.offer
+IsWithin l _ = Unit {0}
+
+-- where a line may stand: a link is asked for once; its messages have bytes, and start while it is up; it is offered all
+-- its unwritten bytes at once, where no offer is unanswered; and it ends where something must end it
+abbrev pub MayNote : Ledger → Line → Type 0
+MayNote l asks = l.asked ≡ false
+MayNote l (hears news) = IsWithin l news
+MayNote l (starts s) = (l.up ≡ true) × (s.bytes ≢ [])
+MayNote l (offers bytes) = (l.up ≡ true) × (l.offer ≡ []) × (bytes ≡ unwritten l) × (bytes ≢ [])
+MayNote l (ends turn) = (why : Ending) × (ending l ≡ Some why)
+
+-- each of these lines stands where it may, behind what is in the ledger
+abbrev pub AllNoted : Ledger → List Line → Type 0
+AllNoted l [] = Unit {0}
+AllNoted l (x ∷ more) = MayNote l x × AllNoted (noted l x) more
+
+-- what is told of a link can be relied on
+abbrev pub LinkLegal : List Line → Type 0
+LinkLegal lines = AllNoted blank_ledger lines

@@ -1,0 +1,211 @@
+-- When a trace can be relied on: said of its book alone, apart from any machine. A turn has five segments: the event's own
+-- effect, the passes, the writes, the waits, and the closes of links that nothing uses any more, of which there are none on
+-- one connection. An action stands where it is the next that is due, once all before it are done.
+use Rattle.std.specs.Prelude.{◌≡◌, ◌≢◌, ◌⊎◌, ℕ, ◌+◌, ◌<◌, ◌≤◌, Bool, true, false, List, [], ◌∷◌, length, Option, Some, None}
+use Rattle.resp_value.specs.declared.value.Value.TheVariants.{Nil}
+use Rattle.driver_model.specs.declared.action.Action.{Action}
+use Rattle.driver_model.specs.declared.action.Action.TheVariants as action
+use Rattle.driver_model.specs.declared.action.Cause.{Cause}
+use Rattle.driver_model.specs.declared.action.Cause.TheVariants as cause
+use Rattle.driver_model.specs.declared.action.Owner.TheVariants as owner
+use Rattle.driver_model.specs.declared.action.WaitKind.{WaitKind}
+use Rattle.driver_model.specs.declared.action.WaitKind.TheVariants as wait
+use Rattle.driver_model.specs.declared.config.Config.{Config}
+use Rattle.driver_model.specs.declared.event.Event.{Event}
+use Rattle.driver_model.specs.declared.outcome.Outcome.{Outcome}
+use Rattle.driver_model.specs.declared.outcome.Outcome.TheVariants as outcome
+use Rattle.driver_model.specs.Shape.{need}
+use Rattle.legal_trace.specs.Ledger.{Ledger, Ending, IsOffered, is_over, ending, unwritten, starts, offers, MayNote}
+use Rattle.legal_trace.specs.Story.{Story, Try, last_of, is_open, is_awaited, bytes_of, shape}
+use Rattle.legal_trace.specs.Book.{Book, blank_book, book, entered}
+use Rattle.legal_trace.specs.Owed.{owed, is_full}
+use Rattle.legal_trace.specs.Events.{is_bad_event}
+
+-- submission n is handed in, and neither answered nor cancelled
+abbrev pub IsOpen : Book → ℕ → Type 0
+IsOpen b n = is_open (b.story n) ≡ true
+
+-- the link that it goes to
+abbrev pub link_of : Book → ℕ → Ledger
+link_of b n = b.link (b.story n).link
+
+-- no open submission is owed an outcome
+abbrev pub NoneIsOwed : Book → Type 0
+NoneIsOwed b = (n : ℕ) → IsOpen b n → owed b n ≡ None
+
+-- no link must end
+abbrev pub NoneEnds : Book → Type 0
+NoneEnds b = (l : ℕ) → ending (b.link l) ≡ None
+
+-- a link was asked for, and where the one that submissions go to is up, the creation was shown
+pub record IsCreated (b : Book) : Type 0 where
+  pub asked : b.links ≢ 0
+  pub shown : (l : ℕ) → (b.link l).up ≡ true → b.created ≢ 0
+
+-- the event has had its own effect
+pub record IsApplied (b : Book) : Type 0 where
+  pub answered : NoneIsOwed b
+  pub ended : NoneEnds b
+  pub created : IsCreated b
+
+-- a submission that was answered with Nil at its place, since nobody awaits its reply
+pub record IsTold (s : Story) : Type 0 where
+  pub unawaited : is_awaited s ≡ false
+  pub told : s.outcomes ≡ outcome.One Nil ∷ []
+
+-- a submission whose message has not started and may: it is open, or it was answered at its place, and its link is up
+pub record CanMove (b : Book) (n : ℕ) : Type 0 where
+  pub unstarted : (b.story n).tries ≡ []
+  pub wanted : IsOpen b n ⊎ IsTold (b.story n)
+  pub up : (link_of b n).up ≡ true
+
+-- all messages that may start have started
+pub record IsMoved (b : Book) : Type 0 where
+  pub applied : IsApplied b
+  pub moved : (n : ℕ) → CanMove b n → ⊥
+
+-- every link that is up is offered its bytes
+pub record IsWritten (b : Book) : Type 0 where
+  pub moved : IsMoved b
+  pub offered : (l : ℕ) → (b.link l).up ≡ true → IsOffered (b.link l)
+
+-- the wait that is true of a submission without a message: its link's connect isn't answered
+abbrev pub WaitHolds : Book → ℕ → WaitKind → Type 0
+WaitHolds b n wait.Connect = ((link_of b n).asked ≡ true) × ((link_of b n).up ≡ false) × ((link_of b n).end ≡ None)
+
+-- its message is started on a link that is up, takes more items, and is offered with all bytes of the link
+pub record IsStarted (b : Book) (n : ℕ) : Type 0 where
+  pub try : Try
+  pub last : last_of (b.story n).tries ≡ Some try
+  pub up : (b.link try.link).up ≡ true
+  pub takes_more : is_full (b.link try.link) try.message ≡ false
+  pub offered : IsOffered (b.link try.link)
+
+-- it has no message, and the wait that was shown is true
+pub record IsWaiting (b : Book) (n : ℕ) : Type 0 where
+  pub unstarted : (b.story n).tries ≡ []
+  pub kind : WaitKind
+  pub shown : (b.story n).waiting ≡ Some kind
+  pub holds : WaitHolds b n kind
+
+-- what holds after each turn: the event has had its effect, all messages that may start have started, all bytes are
+-- offered, and every open submission is started and offered, or truly in the wait that was shown
+pub record IsSettled (b : Book) : Type 0 where
+  pub written : IsWritten b
+  pub goes : (n : ℕ) → IsOpen b n → IsStarted b n ⊎ IsWaiting b n
+
+-- a turn is announced by its number, after a turn that is settled; the opening is the first, and an event isn't bad
+abbrev pub IsFor : Book → Cause → Type 0
+IsFor b (cause.Opening config word) = b.turns ≡ 0
+IsFor b (cause.Event e) = (b.turns ≢ 0) × IsSettled b × (is_bad_event b e.kind ≡ false)
+
+pub record MayTurn (b : Book) (number : ℕ) (c : Cause) : Type 0 where
+  pub next : number ≡ b.turns
+  pub is_for : IsFor b c
+
+-- the opening asks for the first link, at the configured address
+pub record MayConnect (b : Book) (l : ℕ) (host : List ℕ) (port : ℕ) : Type 0 where
+  pub config : Config
+  pub word : ℕ
+  pub opens : b.running ≡ Some (cause.Opening config word)
+  pub first : b.links ≡ 0
+  pub next : l ≡ b.links
+  pub address : (host ≡ config.host) × (port ≡ config.port)
+
+-- a link is closed by what must end it, in the order of their numbers, once the outcomes that its values gave are shown
+pub record MayClose (b : Book) (l : ℕ) : Type 0 where
+  pub why : Ending
+  pub ends : ending (b.link l) ≡ Some why
+  pub in_order : (m : ℕ) → m < l → ending (b.link m) ≡ None
+  pub answered : NoneIsOwed b
+
+-- the creation is shown once, when a link is up
+pub record MayBeCreated (b : Book) : Type 0 where
+  pub l : ℕ
+  pub up : (b.link l).up ≡ true
+  pub once : b.created ≡ 0
+  pub answered : NoneIsOwed b
+  pub ended : NoneEnds b
+
+-- an open submission is answered with what it is owed, in the order of their numbers; where its link has ended, once all
+-- links that must end have
+pub record MayAnswer (b : Book) (n : ℕ) (o : Outcome) : Type 0 where
+  pub asked : IsOpen b n
+  pub owes : owed b n ≡ Some o
+  pub in_order : (m : ℕ) → m < n → IsOpen b m → owed b m ≡ None
+  pub after_closes : is_over (link_of b n) ≡ true → NoneEnds b
+
+-- no submission before n has a message that may start
+abbrev pub IsFirstToMove : Book → ℕ → Type 0
+IsFirstToMove b n = (m : ℕ) → m < n → CanMove b m → ⊥
+
+-- a command whose reply nobody awaits is answered with Nil at its place
+pub record MayTell (b : Book) (n : ℕ) (o : Outcome) : Type 0 where
+  pub applied : IsApplied b
+  pub asked : IsOpen b n
+  pub unawaited : is_awaited (b.story n) ≡ false
+  pub moves : CanMove b n
+  pub in_order : IsFirstToMove b n
+  pub nil : o ≡ outcome.One Nil
+
+-- a message starts on the link of its submission, in the order of submissions, with its number there, its need and its
+-- length; where nobody awaits its reply, once this was told
+pub record MayStart (b : Book) (l message n count len : ℕ) : Type 0 where
+  pub applied : IsApplied b
+  pub wanted : (is_awaited (b.story n) ≡ true) ⊎ IsTold (b.story n)
+  pub moves : CanMove b n
+  pub in_order : IsFirstToMove b n
+  pub on_its_link : l ≡ (b.story n).link
+  pub next : message ≡ length (b.link l).starts
+  pub needs_its_items : count ≡ need (shape (b.story n))
+  pub long_as_its_bytes : len ≡ length (bytes_of (b.story n))
+
+-- all unwritten bytes of a link that is up are offered, and no offer was unanswered, in the order of the links
+pub record MayWrite (b : Book) (l : ℕ) (bytes : List ℕ) : Type 0 where
+  pub moved : IsMoved b
+  pub up : (b.link l).up ≡ true
+  pub answered : (b.link l).offer ≡ []
+  pub all : bytes ≡ unwritten (b.link l)
+  pub some : bytes ≢ []
+  pub in_order : (m : ℕ) → m < l → (b.link m).up ≡ true → IsOffered (b.link m)
+
+-- a wait that is true is shown once, in the order of submissions
+pub record MayWait (b : Book) (n : ℕ) (kind : WaitKind) : Type 0 where
+  pub written : IsWritten b
+  pub asked : IsOpen b n
+  pub unstarted : (b.story n).tries ≡ []
+  pub new : (b.story n).waiting ≡ None
+  pub holds : WaitHolds b n kind
+  pub in_order : (m : ℕ) → m < n → IsOpen b m → (b.story m).tries ≡ [] → (b.story m).waiting ≢ None
+
+-- where each action may stand
+abbrev pub MayStand : Book → Action → Type 0
+MayStand b (action.Turn number c) = MayTurn b number c
+MayStand b (action.Connect l host port) = MayConnect b l host port
+MayStand b (action.Close l) = MayClose b l
+MayStand b (action.Write l bytes) = MayWrite b l bytes
+MayStand b (action.Wait (owner.Try n round) kind) = (round ≡ 0) × MayWait b n kind
+MayStand b (action.Start l message (owner.Try n round) count len) = (round ≡ 0) × MayStart b l message n count len
+MayStand b action.Created = MayBeCreated b
+MayStand b (action.Outcome n o) = MayAnswer b n o ⊎ MayTell b n o
+
+-- each of these actions stands where it may, behind what is in the book
+abbrev pub AllStand : Book → List Action → Type 0
+AllStand b [] = Unit {0}
+AllStand b (a ∷ more) = MayStand b a × AllStand (entered b a) more
+
+abbrev pub causes : List Action → List Cause
+causes [] = []
+causes (action.Turn k c ∷ more) = c ∷ causes more
+causes (_ ∷ more) = causes more
+
+abbrev pub event_causes : List Event → List Cause
+event_causes [] = []
+event_causes (e ∷ es) = cause.Event e ∷ event_causes es
+
+-- a trace that can be relied on: it has the opening and then one turn for each event, each action stands where it may, and
+-- the last turn is settled
+pub record Legal (config : Config) (word : ℕ) (events : List Event) (trace : List Action) : Type 0 where
+  pub turns : causes trace ≡ cause.Opening config word ∷ event_causes events
+  pub each : AllStand blank_book trace
+  pub settled : IsSettled (book trace)

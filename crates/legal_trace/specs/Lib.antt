@@ -1,0 +1,6 @@
+pub mod Ledger
+pub mod Story
+pub mod Book
+pub mod Owed
+pub mod Events
+pub mod Legal

@@ -1,0 +1,68 @@
+-- What an open submission is owed: its outcome, with its cause.
+use Rattle.std.specs.Prelude.{◌≡◌, ◌≢◌, ◌⊎◌, ℕ, ◌==◌, nat_le, Bool, true, false, ◌&&◌, List, [], ◌∷◌, length, take, drop, Option, Some, None, slice_get, if◌then◌else◌}
+use Rattle.redis_error.specs.declared.redis_error.RedisError.{RedisError}
+use Rattle.redis_error.specs.declared.redis_error.RedisError.TheVariants as error
+use Rattle.resp_value.specs.declared.value.Value.TheVariants.{Nil}
+use Rattle.resp_value.specs.Data.{Data}
+use Rattle.driver_model.specs.declared.news.LinkFault.{LinkFault}
+use Rattle.driver_model.specs.declared.news.LinkFault.TheVariants as fault
+use Rattle.driver_model.specs.declared.outcome.Outcome.{Outcome}
+use Rattle.driver_model.specs.declared.outcome.Outcome.TheVariants as outcome
+use Rattle.driver_model.specs.declared.outcome.Shape.{Shape}
+use Rattle.driver_model.specs.declared.outcome.Shape.TheVariants.{Single, Pipeline}
+use Rattle.driver_model.specs.Shape.{verdict, outcome_of}
+use Rattle.legal_trace.specs.Ledger.{Ledger, Start, End, Ending, by_shutdown, by_fault, need_in, reached}
+use Rattle.legal_trace.specs.Story.{Story, Try, bytes_of, shape, last_of}
+use Rattle.legal_trace.specs.Book.{Book}
+
+-- the items of the message that started as number k: those dealt from what the messages before it take on, as many as it
+-- takes
+abbrev pub cut : Ledger → ℕ → Shape → List Data
+cut l k of_shape = let from = drop (reached l k) l.dealt in take (need_in of_shape from) from
+
+-- the message that started as number k has all its items
+abbrev pub is_full : Ledger → ℕ → Bool
+is_full l k = nat_le (reached l (k + 1)) (length l.dealt)
+
+-- the error that a fault is
+abbrev pub fault_error : LinkFault → RedisError
+fault_error fault.Ended = error.Closed
+fault_error (fault.Io kind) = error.Io kind
+fault_error fault.Parse = error.Parse
+
+-- the error of the oldest message that takes items: a single command gets the fault itself, and a pipeline the closed
+-- connection
+abbrev pub oldest_error : Ending → Shape → RedisError
+oldest_error (by_fault f) Single = fault_error f
+oldest_error (by_fault f) (Pipeline offset count transaction) = error.Closed
+oldest_error by_shutdown of_shape = error.Closed
+
+-- the error of a message that was not full when its link ended: every other one gets the closed connection
+abbrev pub cut_off : End → ℕ → Shape → RedisError
+cut_off end k of_shape = if k == end.oldest then oldest_error end.why of_shape else error.Closed
+
+-- what the message that started as number k comes to: the verdict of its cut, or why its link cut it off
+abbrev pub cut_off_if : Option End → ℕ → Shape → Option Outcome
+cut_off_if None k of_shape = None
+cut_off_if (Some end) k of_shape = Some (outcome.Fault (cut_off end k of_shape))
+
+abbrev pub owed_to_message : Ledger → ℕ → Shape → Option Outcome
+owed_to_message l k of_shape = if is_full l k then Some (outcome_of (verdict of_shape (cut l k of_shape))) else cut_off_if l.end k of_shape
+
+-- what a submission without a message comes to: the closed connection where its link has ended
+abbrev pub owed_unstarted : Option End → Option Outcome
+owed_unstarted None = None
+owed_unstarted (Some end) = Some (outcome.Fault error.Closed)
+
+-- what a submission comes to by its last try
+abbrev pub owed_to_try : Book → Story → Option Try → Option Outcome
+owed_to_try b s None = owed_unstarted (b.link s.link).end
+owed_to_try b s (Some t) = owed_to_message (b.link t.link) t.message (shape s)
+
+-- what an open submission is owed, if it is: where it came after the shutdown, the closed connection; without bytes, the
+-- empty command; else what its message comes to
+abbrev pub owed : Book → ℕ → Option Outcome
+owed b n =
+    if (b.story n).late then Some (outcome.Fault error.Closed)
+    else if length (bytes_of (b.story n)) == 0 then Some (outcome.Fault error.EmptyCommand)
+    else owed_to_try b (b.story n) (last_of (b.story n).tries)

@@ -1,0 +1,79 @@
+-- What a trace says of one submission.
+use Rattle.std.specs.Prelude.{ℕ, ◌==◌, Bool, true, false, ◌&&◌, not, List, [], ◌∷◌, ◌++◌, length, Option, Some, None, is_some, if◌then◌else◌}
+use Rattle.driver_model.specs.declared.action.WaitKind.{WaitKind}
+use Rattle.driver_model.specs.declared.event.Submission.{Submission}
+use Rattle.driver_model.specs.declared.outcome.Outcome.{Outcome}
+use Rattle.driver_model.specs.declared.outcome.Shape.{Shape}
+use Rattle.driver_model.specs.declared.outcome.Shape.TheVariants.{Single}
+use Rattle.driver_model.specs.Request.{packed, shape_of, awaits_reply}
+
+-- a message of the submission that started: on which link, and which of that link's messages it is
+pub record Try : Type 0 where
+  pub link : ℕ
+  pub message : ℕ
+
+-- the submission itself, and whether it came after everything was shut down; the link that it goes to; its messages that
+-- started, in order; the wait that was shown and stands; its outcomes; and whether its caller has gone
+pub record Story : Type 0 where
+  pub submission : Option Submission
+  pub late : Bool
+  pub link : ℕ
+  pub tries : List Try
+  pub waiting : Option WaitKind
+  pub outcomes : List Outcome
+  pub cancelled : Bool
+
+abbrev pub blank_story : Story
+blank_story = record { submission = None; late = false; link = 0; tries = []; waiting = None; outcomes = []; cancelled = false }
+
+-- handed in, and neither answered nor cancelled
+abbrev pub is_open : Story → Bool
+is_open s = is_some s.submission && (length s.outcomes == 0) && not s.cancelled
+
+abbrev pub packed_in : Option Submission → List ℕ
+packed_in None = []
+packed_in (Some what) = packed what
+
+abbrev pub shape_in : Option Submission → Shape
+shape_in None = Single
+shape_in (Some what) = shape_of what
+
+abbrev pub awaited_in : Option Submission → Bool
+awaited_in None = true
+awaited_in (Some what) = awaits_reply what
+
+-- the bytes of its message, how many items that takes and what they become, and whether its reply is awaited
+abbrev pub bytes_of : Story → List ℕ
+bytes_of s = packed_in s.submission
+
+abbrev pub shape : Story → Shape
+shape s = shape_in s.submission
+
+abbrev pub is_awaited : Story → Bool
+is_awaited s = awaited_in s.submission
+
+-- it is handed in
+abbrev pub handed_in : Story → Submission → Bool → ℕ → Story
+handed_in s what late link = record s { submission = Some what; late = late; link = link }
+
+-- its caller goes: while it is open, this ends it
+abbrev pub left : Story → Story
+left s = if is_open s then record s { cancelled = true; waiting = None } else s
+
+-- the last of these tries
+abbrev pub last_of : List Try → Option Try
+last_of [] = None
+last_of (t ∷ []) = Some t
+last_of (t ∷ u ∷ ts) = last_of (u ∷ ts)
+
+-- a message of it starts
+abbrev pub tried : Story → ℕ → ℕ → Story
+tried s link message = record s { tries = s.tries ++ record { link = link; message = message } ∷ []; waiting = None }
+
+-- it waits
+abbrev pub waits : Story → WaitKind → Story
+waits s kind = record s { waiting = Some kind }
+
+-- it is answered
+abbrev pub answered : Story → Outcome → Story
+answered s o = record s { outcomes = s.outcomes ++ o ∷ []; waiting = None }
