@@ -1,6 +1,7 @@
 use crate::{Action, Cause, Commands, Event, EventKind, Outcome, Shape, Submission};
 use containers::{Bytes, Names};
-use resp_value::{FaultKind, RedisError, Value, Values};
+use redis_error::{FaultKind, RedisError};
+use resp_value::{Value, Values};
 use std::alloc::{AllocError, Global};
 use std::test::Fail;
 

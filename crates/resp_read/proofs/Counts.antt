@@ -3,13 +3,10 @@ use Rattle.std.proofs.Common.{◌≡◌, ℕ, ◌+◌, ◌-◌, ◌*◌, ◌≤�
 use Rattle.std.proofs.lemmas.List.{append-nil}
 use Rattle.std.proofs.lemmas.Bool.Decides.{nat_tests}
 use Rattle.std.specs.Prelude.{◌&&◌, ◌||◌, ◌==◌, nat_le, nat_lt, is_some}
+use Rattle.containers.proofs.Tests.{both_true}
 use Rattle.resp_read.specs.Grammar.{max_line, fits, is_digit, digits_after, at_most, natural, at_least, count, made_by, count_begun, count_line, reader_limits}
 use Rattle.resp_read.proofs.LineLaws.{IsOneLine, LawfulLine}
 use Rattle.resp_read.proofs.Numbers.{Begins, natural_stays, one_of_two, neither}
-
-both_true : (c d : Bool) → (c && d) ≡ true → (c ≡ true) × (d ≡ true)
-both_true true d h = (refl, h)
-both_true false d h = cc
 
 not_both : (c d : Bool) → (c && d) ≡ false → c ≡ true → d ≡ false
 not_both true d h e = h

@@ -22,10 +22,6 @@ fits_true l h = grind (arith, nat_tests)
 fits_says : (l : List ℕ) → fits reader_limits l ≡ true → length l ≤ max_line
 fits_says l h = grind (arith, nat_tests)
 
-and_true : (c d : Bool) → (c && d) ≡ true → (c ≡ true) × (d ≡ true)
-and_true true d h = (refl, h)
-and_true false d h = cc
-
 longer : (l q : List ℕ) → fits reader_limits l ≡ false → fits reader_limits (l ++ q) ≡ true → ⊥
 longer l q long on = let e = length-append l q in grind (arith, nat_tests)
 
