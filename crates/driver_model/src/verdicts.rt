@@ -1,6 +1,6 @@
 ghost use Rattle.std.specs.Prelude.{◌≡◌, ◌<◌, ◌≤◌, ◌^◌, ◌∷◌, ◌++◌, length, take, drop, OnOk, IfOk};
 ghost use Rattle.resp_value.specs.View.{data_of, value_of, list_view};
-ghost use Rattle.driver_model.specs.Shape.{need as need_of, is_single as is_single_shape, verdict as verdict_of, pipeline, transaction as transaction_of, first_of, error_at, errors_from, unless_aborted as unless_aborted_of};
+ghost use Rattle.driver_model.specs.Shape.{need as need_of, verdict as verdict_of, pipeline, transaction as transaction_of, first_of, error_at, errors_from, unless_aborted as unless_aborted_of};
 
 use crate::outcome::{Shape, Verdict};
 use redis_error::RedisError;
@@ -19,20 +19,6 @@ impl Shape {
                 count,
                 transaction: _,
             } => u64::from(offset) + u64::from(count.max(1)),
-        }
-    }
-
-    /// Whether it is one command.
-    pub fn is_single(self) -> bool
-        ensures { result ≡ is_single_shape self }
-    {
-        match self {
-            Shape::Single => true,
-            Shape::Pipeline {
-                offset: _,
-                count: _,
-                transaction: _,
-            } => false,
         }
     }
 

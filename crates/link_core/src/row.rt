@@ -7,7 +7,7 @@ use crate::errors::LinkFault;
 use crate::message::{Entry, Settled};
 use driver_model::{Shape, Verdict};
 use redis_error::RedisError;
-use resp_value::{Value, Values};
+use resp_value::Value;
 use std::alloc::{AllocError, Global};
 use std::collections::VecDeque;
 use std::marker::Model;

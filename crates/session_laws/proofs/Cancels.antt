@@ -22,7 +22,7 @@ use Rattle.trace_model.specs.LinkLedger.{Start}
 use Rattle.trace_model.specs.Story.{Story, told_event, is_open}
 use Rattle.trace_model.specs.Turns.{running}
 use Rattle.session_laws.proofs.Account.{Account, account, begun}
-use Rattle.containers.proofs.Tests.{chosen, by_test, eq_from, ne_from, both_left, both_right, not_both, eq_test}
+use Rattle.containers.proofs.Tests.{chosen, eq_from, ne_from, both_left, both_right, not_both, eq_test}
 use Rattle.session_laws.proofs.Rows.{open_of, open_list}
 use Rattle.session_laws.proofs.Dealt.{wanted, AreEntries}
 use Rattle.session_laws.proofs.Numbers.{IsIn, in_left, in_right, in_either, Rising, rising_from, rising_in, rising_left, rising_right, owners}

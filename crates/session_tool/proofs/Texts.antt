@@ -1,5 +1,5 @@
 -- Texts that come from a source in pieces.
-use Rattle.std.proofs.Common.{◌≡◌, ◌≤◌, ◌<◌, ◌-◌, ℕ, Bool, true, false, ◌&&◌, List, [], ◌++◌, length, Option, Some, append_assoc, take, arith, length-append, refl, ◌∙◌, sym, ap}
+use Rattle.std.proofs.Common.{◌≡◌, ◌≤◌, ◌<◌, ◌-◌, ℕ, true, ◌&&◌, List, [], ◌++◌, length, Option, Some, append_assoc, take, arith, length-append, refl, ◌∙◌, sym, ap}
 use Rattle.std.proofs.lemmas.List.{append-nil, length-take-le}
 use Rattle.std.proofs.lemmas.Bool.{leb-true, both_ways}
 use Rattle.std.specs.Prelude.{Result, Ok, IsErr, is_err, nat_le}
