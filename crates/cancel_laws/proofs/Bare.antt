@@ -1,7 +1,7 @@
 -- A turn does the same where one submission's outcome is looked away from, once its message has left the queue.
 use Rattle.std.proofs.Common.{◌≡◌, ◌≢◌, ℕ, zero, suc, ◌<◌, ◌==◌, Bool, true, false, List, [], ◌∷◌, ◌++◌, length, slice_set, if◌then◌else◌, refl, sym, ap, ◌∙◌, append_assoc, length-set}
 use Rattle.std.proofs.lemmas.List.{append-nil}
-use Rattle.resp_value.specs.declared.redis_error.RedisError.TheVariants as error
+use Rattle.redis_error.specs.declared.redis_error.RedisError.TheVariants as error
 use Rattle.resp_value.specs.declared.value.Value.TheVariants.{Nil}
 use Rattle.driver_model.specs.declared.action.Action.{Action}
 use Rattle.driver_model.specs.declared.action.Action.TheVariants as action
@@ -33,8 +33,9 @@ use Rattle.shared_session.specs.Requests.{if_there, is_open, is_waiting, is_open
 use Rattle.shared_session.specs.Steps.{acts, at_progress, is_dialing, is_up, is_ended, answered, settled_each, closed, closed_each, waiting_closed, ends, ended_by, checked, submitted, left, read_to, faulted_by, shown_each, starts_with, started, message_of, placed, told_at_place, advanced, advanced_each, advanced_all, passes, offers, writes, waits_shown, waits_each, waits, flushed}
 use Rattle.shared_session.specs.Turn.{applied}
 use Rattle.cancel_laws.specs.ButFor.{shown_of, but_for, hushed_link}
-use Rattle.cancel_laws.proofs.Choices.{by_test, either, either_by, taken_if, left_if, eq_from, ne_from, eq_test}
-use Rattle.cancel_laws.proofs.Lists.{set_twice, set_apart, set_push, get_set_other}
+use Rattle.containers.proofs.Tests.{by_test, either, either_by, taken_if, left_if, eq_from, ne_from, eq_test}
+use Rattle.containers.proofs.Places.{get_set_other}
+use Rattle.cancel_laws.proofs.Lists.{set_twice, set_apart, set_push}
 use Rattle.cancel_laws.proofs.Links.{NoneOf, hushed_settling, hushed_came, hushed_close, hushed_fault, hushed_started, hushed_cancelled, own_cancelled}
 use Rattle.cancel_laws.proofs.Kept.{At, There, settled_kept, started_kept, told_kept, advanced_kept, writes_kept, waits_shown_kept}
 use Rattle.cancel_laws.proofs.Gone.{IsGone, gone_kept, other_number}

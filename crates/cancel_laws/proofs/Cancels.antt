@@ -1,5 +1,5 @@
 -- Over whole histories, the cancel of a started request changes nothing but its own outcome.
-use Rattle.std.proofs.Common.{◌≡◌, ◌≢◌, ℕ, ◌+◌, ◌<◌, ◌==◌, nat_lt, nat_le, false, List, [], ◌∷◌, ◌++◌, length, Option, Some, None, slice_get, slice_set, refl, sym, ap, ◌∙◌, subst, append_assoc, arith, length-set}
+use Rattle.std.proofs.Common.{◌≡◌, ◌≢◌, ℕ, ◌+◌, ◌==◌, nat_lt, nat_le, false, List, [], ◌∷◌, ◌++◌, length, Option, Some, None, slice_get, slice_set, refl, sym, ap, ◌∙◌, subst, append_assoc, arith, length-set}
 use Rattle.std.proofs.lemmas.Bool.Decides.{nat_tests}
 use Rattle.driver_model.specs.declared.action.Action.{Action}
 use Rattle.driver_model.specs.declared.action.Action.TheVariants as action
@@ -23,8 +23,9 @@ use Rattle.shared_session.specs.Replay.{opening, run_on, state_after, actions_of
 use Rattle.shared_session.proofs.Replays.{turns_after}
 use Rattle.cancel_laws.specs.ButFor.{but_for, hushed_link}
 use Rattle.cancel_laws.specs.Cancels.{cancel_of, HasStarted, GoesOn}
-use Rattle.cancel_laws.proofs.Choices.{by_test, chosen, either_by, taken_if, left_if, eq_from, ne_from}
-use Rattle.cancel_laws.proofs.Lists.{get_set_same, set_twice, set_apart, set_push_same, get_set_other, get_within}
+use Rattle.containers.proofs.Tests.{by_test, chosen, either_by, taken_if, left_if, eq_from, ne_from, not_le_test}
+use Rattle.containers.proofs.Places.{get_set_same, get_set_other, get_within}
+use Rattle.cancel_laws.proofs.Lists.{set_twice, set_apart, set_push_same}
 use Rattle.cancel_laws.proofs.Kept.{At, There, effect_kept, turn_kept, passes_kept}
 use Rattle.cancel_laws.proofs.Gone.{IsGone, gone_kept, gone_handed_in, none_from}
 use Rattle.cancel_laws.proofs.Bare.{bare, other_outcomes, but_for-append, but_for-more, own_left, bare_applied, bare_passes, bare_flushed}
@@ -312,11 +313,8 @@ same_bad config word draw n before after e h =
     let d = (state_after config word (before ++ cancel_of draw n ∷ after)).connection in
     bare_bad n c e.kind ∙ ap (λ (x : Connection). is_bad x e.kind) (alike_after config word draw n before after h).same ∙ sym (bare_bad n d e.kind)
 
-not_past : (k n : ℕ) → n < k → nat_le k n ≡ false
-not_past k n l = grind (arith, nat_tests)
-
 pub good_cancel : (config : Config) (word draw n : ℕ) (before : List Event) → HasStarted n (state_after config word before).connection → is_bad_after config word before (cancel_of draw n) ≡ false
 unfolding is_bad
 good_cancel config word draw n before h =
     let r = (state_after config word before).connection.requests in
-    not_past (length r) n (get_within r n progress.Placed h.placed)
+    not_le_test (length r) n (get_within r n progress.Placed h.placed)

@@ -9,7 +9,7 @@ use Rattle.shared_session.specs.declared.connection.Progress.{Progress}
 use Rattle.shared_session.specs.declared.connection.Progress.TheVariants as progress
 use Rattle.shared_session.specs.Requests.{is_waiting, is_waiting_at}
 use Rattle.shared_session.specs.Steps.{message_of}
-use Rattle.cancel_laws.proofs.Choices.{chosen, ne_test}
+use Rattle.containers.proofs.Tests.{chosen, ne_test}
 use Rattle.cancel_laws.proofs.Links.{NoneOf}
 use Rattle.cancel_laws.proofs.Kept.{IsKept, IsKeptThere, There, kept_there, handed_in}
 

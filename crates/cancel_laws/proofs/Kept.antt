@@ -1,6 +1,6 @@
 -- What each part of a turn keeps: a fact of the submissions' progress, of the link, and of what the turn has shown.
 use Rattle.std.proofs.Common.{◌≡◌, ℕ, ◌==◌, true, List, [], ◌∷◌, ◌++◌, length, slice_set, refl}
-use Rattle.resp_value.specs.declared.redis_error.RedisError.TheVariants as error
+use Rattle.redis_error.specs.declared.redis_error.RedisError.TheVariants as error
 use Rattle.resp_value.specs.declared.value.Value.TheVariants.{Nil}
 use Rattle.driver_model.specs.declared.action.Action.{Action}
 use Rattle.driver_model.specs.declared.action.Action.TheVariants as action
@@ -32,7 +32,7 @@ use Rattle.shared_session.specs.Requests.{is_open_at, is_waiting_at}
 use Rattle.shared_session.specs.Steps.{acts, is_dialing, is_up, is_ended, answered, settled_each, closed, closed_each, ends, ended_by, checked, read_to, faulted_by, shown_each, started, message_of, placed, told_at_place, advanced, advanced_each, advanced_all, passes, offers, writes, waits_shown, waits_each, flushed}
 use Rattle.shared_session.specs.Turn.{applied, turn}
 use Rattle.cancel_laws.specs.ButFor.{unnumbered, shown_of}
-use Rattle.cancel_laws.proofs.Choices.{chosen}
+use Rattle.containers.proofs.Tests.{chosen}
 
 -- an action that begins no turn and answers nobody
 pub record IsPlain (a : Action) : Type 0 where

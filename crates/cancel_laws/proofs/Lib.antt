@@ -1,4 +1,3 @@
-pub mod Choices
 pub mod Lists
 pub mod Links
 pub mod Kept

@@ -1,8 +1,8 @@
 -- A link does the same where the verdict of one message is not wanted.
 use Rattle.std.proofs.Common.{◌≡◌, ℕ, ◌==◌, ◌&&◌, not, nat_lt, Bool, true, false, List, [], ◌∷◌, ◌++◌, length, if◌then◌else◌, refl, sym, ap, ◌∙◌}
 use Rattle.resp_value.specs.Data.{Data}
-use Rattle.resp_value.specs.declared.redis_error.RedisError.{RedisError}
-use Rattle.resp_value.specs.declared.redis_error.RedisError.TheVariants as error
+use Rattle.redis_error.specs.declared.redis_error.RedisError.{RedisError}
+use Rattle.redis_error.specs.declared.redis_error.RedisError.TheVariants as error
 use Rattle.resp_read.specs.Items.{items}
 use Rattle.driver_model.specs.Shape.{need, verdict}
 use Rattle.driver_model.specs.declared.outcome.Verdict.TheVariants.{Fault}
@@ -18,7 +18,7 @@ use Rattle.link_core.specs.Waiting.{awaits, without}
 use Rattle.link_laws.specs.Alike.{others}
 use Rattle.link_laws.proofs.Alike.{others_append}
 use Rattle.cancel_laws.specs.ButFor.{hushed, hushed_each, hushed_link}
-use Rattle.cancel_laws.proofs.Choices.{either}
+use Rattle.containers.proofs.Tests.{either}
 
 abbrev pub hushed_dealing : ℕ → Dealing → Dealing
 hushed_dealing n d = record { row = hushed_each n d.row; out = others n d.out }

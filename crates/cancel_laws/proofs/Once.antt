@@ -16,7 +16,7 @@ use Rattle.shared_session.specs.declared.connection.Progress.TheVariants as prog
 use Rattle.shared_session.specs.Requests.{is_waiting, is_waiting_at}
 use Rattle.shared_session.specs.Steps.{message_of}
 use Rattle.cancel_laws.specs.ButFor.{hushed, hushed_each}
-use Rattle.cancel_laws.proofs.Choices.{by_test, chosen, taken_if, left_if, eq_from}
+use Rattle.containers.proofs.Tests.{by_test, chosen, taken_if, left_if, eq_from}
 use Rattle.cancel_laws.proofs.Links.{wanted_still}
 use Rattle.cancel_laws.proofs.Kept.{IsKept, IsKeptThere, There, kept_there, handed_in}
 

@@ -25,7 +25,7 @@ use Rattle.shared_session.specs.Steps.{acts, is_dialing, is_up, left, shown_each
 use Rattle.shared_session.specs.Turn.{applied, quiet, turn}
 use Rattle.shared_session.specs.Replay.{opening, run_on, put_each, with_room, outcomes_with, outcomes_on}
 use Rattle.cancel_laws.specs.Cancels.{cancel_of}
-use Rattle.cancel_laws.proofs.Choices.{chosen}
+use Rattle.containers.proofs.Tests.{chosen}
 use Rattle.cancel_laws.proofs.Once.{IsOnce, once_kept, once_handed_in, none_yet}
 use Rattle.cancel_laws.proofs.Kept.{IsKept, IsKeptThere, There, kept_there, handed_in, told_kept, advanced_kept, started_kept, effect_kept, turn_kept}
 

@@ -16,8 +16,9 @@ use Rattle.shared_session.specs.Requests.{if_there, is_open, is_waiting, is_open
 use Rattle.shared_session.specs.Turn.{quiet, turn}
 use Rattle.shared_session.specs.Replay.{actions_of, turns_on, put_each, with_room, outcomes_with, outcomes_on, if_placed, outcome_at}
 use Rattle.cancel_laws.specs.ButFor.{unnumbered, all_unnumbered, but_for}
-use Rattle.cancel_laws.proofs.Choices.{chosen, ne_test}
-use Rattle.cancel_laws.proofs.Lists.{get_set_other, get_push}
+use Rattle.containers.proofs.Tests.{chosen, ne_test}
+use Rattle.containers.proofs.Places.{get_set_other}
+use Rattle.cancel_laws.proofs.Lists.{get_push}
 use Rattle.cancel_laws.proofs.Kept.{IsPlain, IsKept, At, handed_in, turn_kept}
 use Rattle.cancel_laws.proofs.Bare.{but_for-append, but_for-more, acts_other}
 

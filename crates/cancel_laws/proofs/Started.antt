@@ -15,7 +15,7 @@ use Rattle.shared_session.specs.Steps.{acts, is_dialing, is_up, passes, offers, 
 use Rattle.shared_session.specs.Turn.{applied, quiet, turn}
 use Rattle.shared_session.specs.Replay.{opening, state_after}
 use Rattle.cancel_laws.specs.Cancels.{connected_at, handed_in_at, handed_in_after_connect, HasStarted}
-use Rattle.cancel_laws.proofs.Choices.{chosen}
+use Rattle.containers.proofs.Tests.{chosen}
 
 written : (n : ℕ) (c : Connection) → HasStarted n c → HasStarted n (writes c)
 written n c h =

@@ -4,7 +4,7 @@ use Rattle.resp_value.specs.Data.{Data, array, dict, attribute, set, push, error
 use Rattle.resp_value.specs.Kinds.{kind_of}
 use Rattle.resp_read.specs.Grammar.{Found, read, short, bad, found_and_then, found_map, Table, form, innermost, nested, parse, max_line, fits, ended, line_found, error_line, error_of, repeated, pair, attributed, max_depth, reader_limits}
 use Rattle.resp_read.specs.Reads.{Reads}
-use Rattle.resp_read.proofs.Counts.{fits_within}
+use Rattle.resp_read.proofs.LineLaws.{fits_within}
 use Rattle.resp_write.specs.Canonical.{canonical, each_item, each_member, kind_text, breaks_line}
 use Rattle.resp_write.specs.Pack.{crlf, text_line, sized_text}
 use Rattle.canonical_laws.specs.Readable.{error_words, EachItem, EachMember, IsPlain, IsOver, IsValue, HasShortErrors, EachShort, EachPairShort, IsReadable}

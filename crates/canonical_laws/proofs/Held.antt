@@ -4,7 +4,7 @@ use Rattle.std.proofs.lemmas.List.{length-take-le}
 use Rattle.std.proofs.lemmas.Bool.Decides.{nat_tests}
 use Rattle.std.specs.Prelude.{◌==◌, ◌&&◌, nat_le, nat_lt, is_some}
 use Rattle.resp_read.specs.Grammar.{Found, read, short, bad, found_and_then, found_map, Line, ended, held, unended, broken, after_return, byte_before, line, LineForm, fits, line_found, line_as, found, natural, at_most, at_least, count_line, digits_after, fed, closed, body, reader_limits}
-use Rattle.resp_read.proofs.Counts.{fits_within}
+use Rattle.resp_read.proofs.LineLaws.{fits_within}
 use Rattle.canonical_laws.specs.Readable.{has_return, IsLine}
 
 -- what was read, if something was, is such a thing

@@ -3,9 +3,10 @@ use Rattle.std.proofs.Common.{◌≡◌, ℕ, ◌≤◌, ◌<◌, ◌^◌, List,
 use Rattle.std.proofs.lemmas.Bool.Decides.{nat_tests}
 use Rattle.std.proofs.lemmas.Fmt.{decimal_is_IsNumeral, length-decimal-le}
 use Rattle.std.proofs.lemmas.Str.Parse.{digit_from_value}
-use Rattle.std.specs.Prelude.{decimal, nat_le, ◌==◌}
+use Rattle.std.specs.Prelude.{decimal, ◌==◌}
 use Rattle.std.specs.Str.Parse.{AllDigits, digits_value}
 use Rattle.resp_read.specs.Grammar.{Limits, allows, read, bad, ended, byte_before, line, LineForm, fits, line_found, line_as, natural, size_line, at_least, count_line, found}
+use Rattle.resp_read.proofs.Counts.{enough}
 use Rattle.resp_read.proofs.Numbers.{neither}
 use Rattle.resp_write.specs.Pack.{crlf}
 use Rattle.resp_laws.proofs.Lengths.{natural_read, length_read}
@@ -46,9 +47,6 @@ pub decimal_natural : (most : Option ℕ) (n : ℕ) → n < 2 ^ 64 → allows mo
 decimal_natural most n small fit =
     let k = decimal_is_IsNumeral n small in
     natural_digits most (decimal n) k.0.0 k.0.1 (ap (allows most) k.1 ∙ fit) ∙ ap Some k.1
-
-enough : (least n : ℕ) → least ≤ n → at_least least (Some n) ≡ Some n
-enough least n h = let c : nat_le least n ≡ true = grind (arith, nat_tests) in rw c refl
 
 module _ (limits : Limits) (usual : AreUsual limits) where
   pub decimal_line : (n : ℕ) → n < 2 ^ 64 → IsLine limits (decimal n)

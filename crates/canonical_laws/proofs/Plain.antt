@@ -7,6 +7,7 @@ use Rattle.std.specs.Char.{digit_value}
 use Rattle.std.specs.Fmt.{signed_decimal}
 use Rattle.std.specs.Prelude.{ℤ, pos, negsuc, neg_ℤ, decimal, nat_lt, ◌==◌, ◌||◌, option_map, bytes_eq}
 use Rattle.std.specs.Str.Parse.{AllDigits, digits_value}
+use Rattle.containers.proofs.Tests.{taken_if}
 use Rattle.resp_value.specs.declared.server_error.ServerError.{ServerError}
 use Rattle.resp_value.specs.Data.{Data, nil, int, bulk, array, simple, okay, dict, attribute, set, double, boolean, verbatim, big, push, error}
 use Rattle.resp_read.specs.Grammar.{Limits, read, short, found_and_then, found_map, Table, form, number, is_double, is_big, body, before_space, after_space, error_of, simple_line, error_line, number_line, null_line, boolean_line, double_line, big_line, bulk_of, error_body, format, colon, text_of, verbatim_of}
@@ -42,9 +43,6 @@ signed_line limits usual (negsuc n) h =
 
 simple_back : (text : List ℕ) (c : Bool) → c ≡ false → cond c okay (simple text) ≡ simple text
 simple_back text c e = rw e refl
-
-where_true : {A : Type 0} (c : Bool) (a : A) → c ≡ true → cond c (Some a) None ≡ Some a
-where_true c a e = rw e refl
 
 -- an error's code and detail
 code_step : (b : ℕ) (bs : List ℕ) → (b == 32) ≡ false → before_space (b ∷ bs) ≡ b ∷ before_space bs
@@ -133,11 +131,11 @@ module _ (limits : Limits) (usual : AreUsual limits) (more : Table) where
   plain_read (bulk text) h k rest = bulk_back limits usual more rest text h
   plain_read (simple text) h k rest = text_line_read limits simple_line text rest (simple text) h.0 (ap Some (simple_back text (bytes_eq text (79 ∷ 75 ∷ [])) h.1))
   plain_read okay h k rest = text_line_read limits simple_line (79 ∷ 75 ∷ []) rest okay (refl, usual.numbers 2 (omega arith)) refl
-  plain_read (double text) h k rest = text_line_read limits (double_line limits) text rest (double text) h.0 (where_true (is_double text) (double text) h.1)
+  plain_read (double text) h k rest = text_line_read limits (double_line limits) text rest (double text) h.0 (taken_if (is_double text) (Some (double text)) None h.1)
   plain_read (boolean true) h k rest = text_line_read limits boolean_line (116 ∷ []) rest (boolean true) (refl, usual.numbers 1 (omega arith)) refl
   plain_read (boolean false) h k rest = text_line_read limits boolean_line (102 ∷ []) rest (boolean false) (refl, usual.numbers 1 (omega arith)) refl
   plain_read (verbatim f text) h k rest = verbatim_back rest f text h.0 h.1
-  plain_read (big text) h k rest = text_line_read limits big_line text rest (big text) h.0 (where_true (is_big text) (big text) h.1)
+  plain_read (big text) h k rest = text_line_read limits big_line text rest (big text) h.0 (taken_if (is_big text) (Some (big text)) None h.1)
   plain_read (error e) h k rest = error_read limits usual more rest (error_words e) h.1 k ∙ ap (λ d. read d rest) (error_back e h.0)
   plain_read (array ds) h k rest = absurd h
   plain_read (set ds) h k rest = absurd h

@@ -2,7 +2,7 @@ ghost use Rattle.std.specs.Prelude.{◌≡◌, IfOk};
 
 use crate::commands::Commands;
 use containers::{Bytes, Names};
-use resp_value::FaultKind;
+use redis_error::FaultKind;
 use std::alloc::{AllocError, Global};
 
 /// What a caller hands in.

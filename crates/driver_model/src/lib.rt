@@ -9,6 +9,7 @@ mod outcome;
 mod request;
 #[cfg(test)]
 mod tests;
+mod verdicts;
 
 pub use action::{Action, Cause, Owner, WaitKind};
 pub use commands::Commands;

@@ -1,6 +1,8 @@
 ghost use Rattle.std.specs.Prelude.{◌≡◌, IfOk};
+ghost use Rattle.driver_model.specs.Shape.{outcome_of};
 
-use resp_value::{RedisError, Value, Values};
+use redis_error::RedisError;
+use resp_value::{Value, Values};
 use std::alloc::{AllocError, Global};
 
 /// How many items a message takes, and what they become.
@@ -38,6 +40,19 @@ pub enum Outcome {
     Many(Values),
     /// Why there is no reply.
     Fault(RedisError),
+}
+
+impl Verdict {
+    /// The outcome of the submission whose message came to it.
+    pub fn into_outcome(self) -> Outcome
+        ensures { result ≡ outcome_of self }
+    {
+        match self {
+            Verdict::One(value) => Outcome::One(value),
+            Verdict::Many(values) => Outcome::Many(values),
+            Verdict::Fault(error) => Outcome::Fault(error),
+        }
+    }
 }
 
 impl Outcome {

@@ -1,6 +1,7 @@
 use crate::{Action, Cause, Commands, Event, EventKind, Outcome, Shape, Submission};
 use containers::{Bytes, Names};
-use resp_value::{FaultKind, RedisError, Value, Values};
+use redis_error::{FaultKind, RedisError};
+use resp_value::{ServerError, Value, Values};
 use std::alloc::{AllocError, Global};
 use std::test::Fail;
 
@@ -102,6 +103,59 @@ fn faults_are_copied(rt: HostRuntime) -> Result<(), AllocError> {
             }
         )
     );
+    Ok(())
+}
+
+/// The items of a transaction of one command: the replies to MULTI, to the command as it was queued, and to EXEC.
+fn items(alloc: Global, queued: Value) -> Result<Values, AllocError> {
+    let mut items = Values::new(alloc);
+    items.push(Value::Okay)?;
+    items.push(queued)?;
+    items.push(Value::Int(7))?;
+    Ok(items)
+}
+
+fn outcome(alloc: Global, shape: Shape, queued: Value) -> Result<Outcome, AllocError> {
+    let got = items(alloc, queued)?;
+    Ok(shape.verdict(alloc, got)?.into_outcome())
+}
+
+fn kept(outcome: &Outcome) -> Option<usize> {
+    match outcome {
+        Outcome::Many(values) => Some(values.len()),
+        _ => None,
+    }
+}
+
+fn is_aborted(outcome: &Outcome) -> bool {
+    match outcome {
+        Outcome::Fault(error) => matches!(error, RedisError::Aborted { .. }),
+        _ => false,
+    }
+}
+
+fn server_error(alloc: Global) -> Result<Value, AllocError> {
+    let code = Bytes::from_slice(alloc, b"ERR")?;
+    Ok(Value::ServerError(ServerError { code, detail: None }))
+}
+
+#[test]
+fn shapes_have_needs_and_verdicts(rt: HostRuntime) -> Result<(), AllocError> {
+    let alloc = rt.alloc();
+    let transaction = Shape::Pipeline {
+        offset: 2,
+        count: 1,
+        transaction: true,
+    };
+    assert_eq!(rt; Shape::Single.need(), 1);
+    assert_eq!(rt; transaction.need(), 3);
+    let first = outcome(alloc, Shape::Single, Value::Nil)?;
+    assert!(rt; matches!(first, Outcome::One(Value::Okay)));
+    let answered = outcome(alloc, transaction, Value::Okay)?;
+    assert_eq!(rt; kept(&answered), Some(1));
+    let error = server_error(alloc)?;
+    let aborted = outcome(alloc, transaction, error)?;
+    assert!(rt; is_aborted(&aborted));
     Ok(())
 }
 

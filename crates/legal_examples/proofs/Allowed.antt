@@ -3,10 +3,11 @@ use Rattle.std.proofs.Common.{◌≡◌, ◌≢◌, ℕ, zero, suc, ◌+◌, ◌
 use Rattle.std.specs.Fmt.{digits}
 use Rattle.std.proofs.lemmas.Bool.Decides.{nat_tests}
 use Rattle.std.proofs.lemmas.List.{append-nil}
-use Rattle.resp_value.specs.declared.fault_kind.FaultKind.{FaultKind}
-use Rattle.resp_value.specs.declared.fault_kind.FaultKind.TheVariants.{Reset}
-use Rattle.resp_value.specs.declared.redis_error.RedisError.{RedisError}
-use Rattle.resp_value.specs.declared.redis_error.RedisError.TheVariants as error
+use Rattle.containers.proofs.Tests.{not_both}
+use Rattle.redis_error.specs.declared.fault_kind.FaultKind.{FaultKind}
+use Rattle.redis_error.specs.declared.fault_kind.FaultKind.TheVariants.{Reset}
+use Rattle.redis_error.specs.declared.redis_error.RedisError.{RedisError}
+use Rattle.redis_error.specs.declared.redis_error.RedisError.TheVariants as error
 use Rattle.resp_value.specs.declared.value.Value.TheVariants.{Nil}
 use Rattle.resp_value.specs.Data.{Data, simple, okay, error as failed}
 use Rattle.resp_read.specs.Grammar.{max_depth}
@@ -105,9 +106,6 @@ abbrev is_fault_of : Option Cause → Bool
 is_fault_of None = false
 is_fault_of (Some (cause.Opening config word)) = false
 is_fault_of (Some (cause.Event e)) = is_fault e.kind
-
-not_both : (b : Bool) → b ≡ false → b ≡ true → ⊥
-not_both b f t = let no : ◌≡◌ {A = Bool} true false = sym t ∙ f in cc
 
 not_ended : (t : List Action) (w : ℕ) → is_fault_of (running t) ≡ false → running t ≡ Some (cause.Event (record { word = w; kind = event.Ended 0 })) → ⊥
 not_ended t w f e = not_both (is_fault_of (running t)) f (ap is_fault_of e)

@@ -1,8 +1,8 @@
 -- Pipelines, transactions and commands whose reply nobody awaits, with outcomes that are not theirs.
 use Rattle.std.proofs.Common.{◌≡◌, ℕ, zero, suc, min, Bool, true, false, List, [], ◌∷◌, ◌++◌, length, take, drop, Some, slice_get, refl, sym, ap, ◌∙◌, subst, inl, inr, arith, length-take, length-drop}
-use Rattle.resp_value.specs.declared.fault_kind.FaultKind.{FaultKind}
-use Rattle.resp_value.specs.declared.fault_kind.FaultKind.TheVariants.{Reset}
-use Rattle.resp_value.specs.declared.redis_error.RedisError.TheVariants as error
+use Rattle.redis_error.specs.declared.fault_kind.FaultKind.{FaultKind}
+use Rattle.redis_error.specs.declared.fault_kind.FaultKind.TheVariants.{Reset}
+use Rattle.redis_error.specs.declared.redis_error.RedisError.TheVariants as error
 use Rattle.resp_value.specs.Data.{Data, simple, okay, error as failed}
 use Rattle.resp_read.specs.Grammar.{max_depth}
 use Rattle.resp_read.specs.Values.{values}

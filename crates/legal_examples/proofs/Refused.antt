@@ -1,7 +1,7 @@
 -- Traces that can't be relied on: whatever comes after these fronts, no trace that begins so is legal.
 use Rattle.std.proofs.Common.{◌≡◌, ℕ, ◌+◌, ◌<◌, zero, suc, Bool, true, false, List, [], ◌∷◌, ◌++◌, Option, Some, None, slice_get, refl, sym, ap, ◌∙◌, subst, append_assoc, inl, inr, take, arith, drop, length}
 use Rattle.std.proofs.lemmas.List.{append-nil}
-use Rattle.resp_value.specs.declared.redis_error.RedisError.TheVariants as error
+use Rattle.redis_error.specs.declared.redis_error.RedisError.TheVariants as error
 use Rattle.resp_value.specs.Data.{Data, simple}
 use Rattle.resp_value.specs.Kinds.{kind_of}
 use Rattle.resp_value.specs.declared.value.Value.{Value}

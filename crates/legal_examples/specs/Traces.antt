@@ -1,6 +1,6 @@
 -- The fronts of a few traces. The commands have one word, G or H, of 11 bytes when packed.
 use Rattle.std.specs.Prelude.{ℕ, List, [], ◌∷◌, ◌++◌, None}
-use Rattle.resp_value.specs.declared.fault_kind.FaultKind.TheVariants.{Reset}
+use Rattle.redis_error.specs.declared.fault_kind.FaultKind.TheVariants.{Reset}
 use Rattle.resp_value.specs.declared.server_error.ServerError.{ServerError}
 use Rattle.resp_value.specs.declared.value.Value.TheVariants.{Nil}
 use Rattle.resp_value.specs.Data.{simple}

@@ -2,11 +2,11 @@
 #![tactic(auto)]
 
 ghost use Rattle.std.specs.Prelude.{ℕ, List, [], ◌∷◌, ◌++◌};
-ghost use Rattle.resp_value.specs.declared.redis_error.RedisError.{RedisError};
+ghost use Rattle.redis_error.specs.declared.redis_error.RedisError.{RedisError};
 ghost use Rattle.resp_value.specs.declared.value.Value.{Value};
-ghost use Rattle.resp_value.specs.declared.fault_kind.FaultKind.{FaultKind};
-ghost use Rattle.resp_value.specs.declared.fault_kind.FaultKind.TheVariants.{Reset};
-ghost use Rattle.resp_value.specs.declared.redis_error.RedisError.TheVariants.{Closed, Io, Aborted};
+ghost use Rattle.redis_error.specs.declared.fault_kind.FaultKind.{FaultKind};
+ghost use Rattle.redis_error.specs.declared.fault_kind.FaultKind.TheVariants.{Reset};
+ghost use Rattle.redis_error.specs.declared.redis_error.RedisError.TheVariants.{Closed, Io, Aborted};
 ghost use Rattle.resp_value.specs.Data.{Data};
 ghost use Rattle.resp_write.specs.Pack.{pack};
 ghost use Rattle.driver_model.specs.declared.action.Action.{Action};

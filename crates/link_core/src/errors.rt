@@ -1,4 +1,4 @@
-use resp_value::FaultKind;
+use redis_error::FaultKind;
 use std::alloc::AllocError;
 
 /// Why a message took no place in the queue.

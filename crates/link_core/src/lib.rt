@@ -6,7 +6,6 @@ mod link;
 mod message;
 mod outbox;
 mod row;
-mod verdicts;
 
 pub use errors::{EnqueueError, LinkFault, StartError};
 pub use link::LinkCore;

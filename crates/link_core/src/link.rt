@@ -10,11 +10,12 @@ ghost use Rattle.resp_read.specs.Items.{items, is_item as is_item_data};
 use crate::errors::{EnqueueError, LinkFault, StartError};
 use crate::message::{Entry, PushAt, PushInfo, Queued, Settled, Started};
 use crate::outbox::Outbox;
-use crate::row::{Row, fail, need};
+use crate::row::{Row, fail};
 use containers::{Bytes, Queue};
 use driver_model::Shape;
+use redis_error::RedisError;
 use resp_read::{Health, ReadError, Reader};
-use resp_value::{RedisError, Value, Values};
+use resp_value::{Value, Values};
 use std::alloc::{AllocError, Global};
 use std::marker::Model;
 
@@ -205,7 +206,7 @@ impl LinkCore {
         let start = Started {
             msg: self.started,
             id: message.id,
-            need: need(message.shape),
+            need: message.shape.need(),
             len,
         };
         out.push(start).map_err(AllocError::from)?;

@@ -1,14 +1,13 @@
 ghost use Rattle.std.specs.Prelude.{◌≡◌, [], ◌∷◌, ◌++◌, length, MatchOption, OnOk, OnErr};
-ghost use Rattle.driver_model.specs.Shape.{need as need_of};
 ghost use Rattle.link_core.specs.Dealing.{settled_by};
 ghost use Rattle.link_core.specs.Ends.{failed_by, hit_by};
 ghost use Rattle.link_core.specs.Row.{lack as lack_of};
 
 use crate::errors::LinkFault;
 use crate::message::{Entry, Settled};
-use crate::verdicts::verdict;
 use driver_model::{Shape, Verdict};
-use resp_value::{RedisError, Value, Values};
+use redis_error::RedisError;
+use resp_value::Value;
 use std::alloc::{AllocError, Global};
 use std::collections::VecDeque;
 use std::marker::Model;
@@ -111,7 +110,7 @@ impl Row {
     ) -> Result<(), AllocError>
         ensures { OnOk result (record { row = self.new; out = out.new.items } ≡ given (record { row = self.old; out = out.old.items }) entry self.old) }
     {
-        if (entry.got.len() as u64) < need(entry.shape) {
+        if (entry.got.len() as u64) < entry.shape.need() {
             self.push_front(entry)
         } else {
             settle(alloc, entry, out)
@@ -203,25 +202,11 @@ pub fn fail(
     Ok(())
 }
 
-/// How many items a message of this shape takes.
-pub fn need(shape: Shape) -> u64
-    ensures { result ≡ need_of shape }
-{
-    match shape {
-        Shape::Single => 1,
-        Shape::Pipeline {
-            offset,
-            count,
-            transaction: _,
-        } => u64::from(offset) + u64::from(count.max(1)),
-    }
-}
-
 /// How many more items a message takes.
 fn lack(entry: &Entry) -> u64
     ensures { result ≡ lack_of entry.now }
 {
-    need(entry.shape).saturating_sub(entry.got.len() as u64)
+    entry.shape.need().saturating_sub(entry.got.len() as u64)
 }
 
 /// The verdict of a full message, if it is awaited.
@@ -237,7 +222,7 @@ fn settle(alloc: Global, entry: Entry, out: &mut Vec<Settled>) -> Result<(), All
     if !awaited {
         return Ok(());
     }
-    let verdict = verdict(alloc, shape, got)?;
+    let verdict = shape.verdict(alloc, got)?;
     out.push(Settled { id, verdict })?;
     Ok(())
 }

@@ -1,7 +1,8 @@
 use crate::{EnqueueError, LinkCore, LinkFault, PushAt, Settled, StartError};
 use driver_model::{Shape, Verdict};
+use redis_error::{FaultKind, RedisError};
 use resp_read::ReadError;
-use resp_value::{FaultKind, RedisError, Value};
+use resp_value::Value;
 use std::alloc::{AllocError, Global};
 use std::process::Abort;
 

@@ -1,8 +1,8 @@
 -- What alike rows come to.
-use Rattle.std.proofs.Common.{◌≡◌, ℕ, ◌==◌, nat_lt, Bool, true, false, List, [], ◌∷◌, ◌++◌, length, if◌then◌else◌, refl, sym, ap, ◌∙◌, subst, inl, inr, arith}
-use Rattle.std.proofs.lemmas.Bool.Decides.{nat_tests}
+use Rattle.std.proofs.Common.{◌≡◌, ℕ, ◌==◌, nat_lt, Bool, true, false, List, [], ◌∷◌, ◌++◌, length, if◌then◌else◌, refl, sym, ap, ◌∙◌, subst, inl, inr}
+use Rattle.containers.proofs.Tests.{taken_if, eq_test}
 use Rattle.resp_value.specs.Data.{Data}
-use Rattle.resp_value.specs.declared.redis_error.RedisError.{RedisError}
+use Rattle.redis_error.specs.declared.redis_error.RedisError.{RedisError}
 use Rattle.driver_model.specs.Shape.{need, verdict}
 use Rattle.driver_model.specs.declared.outcome.Verdict.TheVariants.{Fault}
 use Rattle.link_core.specs.declared.message.Entry.{Entry}
@@ -26,16 +26,9 @@ others_append id (s ∷ ss) ys = ap (λ zs. if s.id == id then zs else s ∷ zs)
 pub others_joined : (id : ℕ) (xs ys xs' ys' : List Settled) → others id xs ≡ others id xs' → others id ys ≡ others id ys' → others id (xs ++ ys) ≡ others id (xs' ++ ys')
 others_joined id xs ys xs' ys' p q = others_append id xs ys ∙ ap (λ zs. zs ++ others id ys) p ∙ ap (λ zs. others id xs' ++ zs) q ∙ sym (others_append id xs' ys')
 
-own_left_out : (b : Bool) (ss : List Settled) (s : Settled) → b ≡ true → (if b then ss else s ∷ ss) ≡ ss
-own_left_out true ss s e = refl
-own_left_out false ss s e = cc
-
-same_test : (n m : ℕ) → n ≡ m → (n == m) ≡ true
-same_test n m e = grind (arith, nat_tests, e)
-
 -- what that message itself comes to doesn't count
 pub own_is_out : (id : ℕ) (s : Settled) → s.id ≡ id → others id (s ∷ []) ≡ []
-own_is_out id s e = own_left_out (s.id == id) [] s (same_test s.id id e)
+own_is_out id s e = taken_if (s.id == id) [] (s ∷ []) (eq_test s.id id e)
 
 own_if : (id : ℕ) (b : Bool) (s : Settled) → s.id ≡ id → others id (if b then s ∷ [] else []) ≡ []
 own_if id true s e = own_is_out id s e

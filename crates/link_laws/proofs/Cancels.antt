@@ -1,7 +1,7 @@
 -- A cancel of a started message: from then on its link does all as it would have, but for that message's own verdict.
-use Rattle.std.proofs.Common.{◌≡◌, ℕ, ◌==◌, Bool, true, false, List, [], ◌∷◌, ◌++◌, if◌then◌else◌, refl, sym, ap, subst, inl, inr, arith}
-use Rattle.std.proofs.lemmas.Bool.Decides.{nat_tests}
-use Rattle.resp_value.specs.declared.redis_error.RedisError.TheVariants as error
+use Rattle.std.proofs.Common.{◌≡◌, ℕ, ◌==◌, Bool, true, false, List, [], ◌∷◌, ◌++◌, if◌then◌else◌, refl, sym, ap, subst, inl, inr}
+use Rattle.containers.proofs.Tests.{eq_from}
+use Rattle.redis_error.specs.declared.redis_error.RedisError.TheVariants as error
 use Rattle.resp_read.specs.Items.{items}
 use Rattle.link_core.specs.declared.errors.LinkFault.{LinkFault}
 use Rattle.link_core.specs.declared.message.Entry.{Entry}
@@ -21,12 +21,9 @@ silenced_if : (b : Bool) (id : ℕ) (e : Entry) (es : List Entry) → (b ≡ tru
 silenced_if true id e es own rest = (inr (own refl, refl), same_row_refl id es)
 silenced_if false id e es own rest = (inl refl, rest)
 
-same_number : (n m : ℕ) → (n == m) ≡ true → n ≡ m
-same_number n m t = grind (arith, nat_tests, t)
-
 row_stays : (id : ℕ) (row : List Entry) → SameRow id row (silenced row id)
 row_stays id [] = tt
-row_stays id (e ∷ es) = silenced_if (e.id == id) id e es (same_number e.id id) (row_stays id es)
+row_stays id (e ∷ es) = silenced_if (e.id == id) id e es (eq_from e.id id) (row_stays id es)
 
 -- the cancel of a message that has no place in the queue
 pub cancel_stays : (id : ℕ) (s : LinkState) → without s.queue id ≡ s.queue → SameLink id s (cancelled s id)

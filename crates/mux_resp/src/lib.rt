@@ -2,11 +2,12 @@
 #![tactic(auto)]
 
 pub use containers::{Bytes, Names};
+pub use redis_error::{ConfigName, ErrorKind, FaultKind, RedisError, RouteNumbers};
 pub use resp_convert::{ConvertError, FromRedisValue};
 pub use resp_read::{ReadError, Reader};
 pub use resp_value::{
-    Aborts, ConfigName, ErrorKind, FaultKind, Inner, Pairs, PushKind, Redirection, RedisError,
-    RetryMethod, RouteNumbers, ServerError, ServerErrorKind, Value, Values,
+    Aborts, Inner, Pairs, PushKind, Redirection, RetryMethod, ServerError, ServerErrorKind, Value,
+    Values,
 };
 pub use resp_write::{
     ArgsIter, Cmd, CmdIter, Pipeline, SubscriptionAction, ToRedisArgs, cmd, pipe,

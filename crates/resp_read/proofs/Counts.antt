@@ -3,23 +3,14 @@ use Rattle.std.proofs.Common.{◌≡◌, ℕ, ◌+◌, ◌-◌, ◌*◌, ◌≤�
 use Rattle.std.proofs.lemmas.List.{append-nil}
 use Rattle.std.proofs.lemmas.Bool.Decides.{nat_tests}
 use Rattle.std.specs.Prelude.{◌&&◌, ◌||◌, ◌==◌, nat_le, nat_lt, is_some}
+use Rattle.containers.proofs.Tests.{both_true}
 use Rattle.resp_read.specs.Grammar.{max_line, fits, is_digit, digits_after, at_most, natural, at_least, count, made_by, count_begun, count_line, reader_limits}
-use Rattle.resp_read.proofs.LineLaws.{IsOneLine, LawfulLine}
+use Rattle.resp_read.proofs.LineLaws.{IsOneLine, LawfulLine, fits_is, fits_within}
 use Rattle.resp_read.proofs.Numbers.{Begins, natural_stays, one_of_two, neither}
-
-both_true : (c d : Bool) → (c && d) ≡ true → (c ≡ true) × (d ≡ true)
-both_true true d h = (refl, h)
-both_true false d h = cc
 
 not_both : (c d : Bool) → (c && d) ≡ false → c ≡ true → d ≡ false
 not_both true d h e = h
 not_both false d h e = cc
-
-pub fits_is : (l : List ℕ) → length l ≤ max_line → fits reader_limits l ≡ true
-fits_is l h = grind (arith, nat_tests)
-
-pub fits_within : (l : List ℕ) → fits reader_limits l ≡ true → length l ≤ max_line
-fits_within l h = grind (arith, nat_tests)
 
 -- each of these is a line by itself
 abbrev pub AllLines : List (List ℕ) → Type 0
@@ -74,7 +65,7 @@ unlimited most n (Some k) h = limited (nat_le k most) k n h
 within : (most n : ℕ) → n ≤ most → at_most (Some most) (Some n) ≡ Some n
 within most n h = let c : nat_le n most ≡ true = grind (arith, nat_tests) in rw c refl
 
-enough : (least n : ℕ) → least ≤ n → at_least least (Some n) ≡ Some n
+pub enough : (least n : ℕ) → least ≤ n → at_least least (Some n) ≡ Some n
 enough least n h = let c : nat_le least n ≡ true = grind (arith, nat_tests) in rw c refl
 
 pub too_few : (least n : ℕ) → n < least → at_least least (Some n) ≡ None

@@ -8,9 +8,9 @@ use Rattle.resp_read.specs.Grammar.{max_line, fits, is_digit, is_end, unsigned, 
 use Rattle.resp_read.specs.Doubles.{digit_to, exponent_to, step, run, missing}
 use Rattle.resp_read.specs.declared.decimals.Seen.{Seen}
 use Rattle.resp_read.specs.declared.decimals.Seen.TheVariants.{Nothing, Minus, Plus, I, In, Inf, N, Na, Nan, Whole, Point, Fraction, Exponent, Sign, Power, Never}
-use Rattle.resp_read.proofs.LineLaws.{LawfulLine}
+use Rattle.resp_read.proofs.LineLaws.{LawfulLine, fits_is, fits_within}
 use Rattle.resp_read.proofs.Numbers.{Begins}
-use Rattle.resp_read.proofs.Counts.{fits_is, fits_within, made_can}
+use Rattle.resp_read.proofs.Counts.{made_can}
 
 -- what has to follow
 abbrev takes : Seen → List ℕ → Bool

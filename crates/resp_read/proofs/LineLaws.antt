@@ -2,7 +2,7 @@
 use Rattle.std.proofs.Common.{◌≡◌, ℕ, ◌≤◌, List, [], ◌∷◌, ◌++◌, length, Option, Some, None, Bool, true, false, cond, refl, sym, ap, ◌∙◌, subst, append_assoc, arith, length-append}
 use Rattle.std.proofs.lemmas.List.{append-nil}
 use Rattle.std.proofs.lemmas.Bool.Decides.{nat_tests}
-use Rattle.std.specs.Prelude.{◌==◌, ◌&&◌}
+use Rattle.std.specs.Prelude.{◌==◌}
 use Rattle.resp_read.specs.Grammar.{read, short, bad, Line, ended, held, unended, broken, after_return, byte_before, line, LineForm, fits, max_line, line_found, line_as, reader_limits}
 use Rattle.resp_read.proofs.FirstLine.{bytes_before, before-ended, before-held, before-unended, before-broken, going_on, line-append}
 use Rattle.resp_read.proofs.Laws.{LawfulAt, Lawful, lawful_where_read, lawful_where_short, lawful_where_bad}
@@ -16,21 +16,17 @@ pub record LawfulLine {A : Type 0} (form : LineForm A) : Type 0 where
   pub can : (l : List ℕ) → length l ≤ max_line → form.begun l ≡ true → (q : List ℕ) × (a : A) × (form.whole (l ++ q) ≡ Some a) × (length (l ++ q) ≤ max_line) × IsOneLine q
   pub cannot : (l q : List ℕ) → length (l ++ q) ≤ max_line → form.begun l ≡ false → form.whole (l ++ q) ≡ None
 
-fits_true : (l : List ℕ) → length l ≤ max_line → fits reader_limits l ≡ true
-fits_true l h = grind (arith, nat_tests)
+pub fits_is : (l : List ℕ) → length l ≤ max_line → fits reader_limits l ≡ true
+fits_is l h = grind (arith, nat_tests)
 
-fits_says : (l : List ℕ) → fits reader_limits l ≡ true → length l ≤ max_line
-fits_says l h = grind (arith, nat_tests)
-
-and_true : (c d : Bool) → (c && d) ≡ true → (c ≡ true) × (d ≡ true)
-and_true true d h = (refl, h)
-and_true false d h = cc
+pub fits_within : (l : List ℕ) → fits reader_limits l ≡ true → length l ≤ max_line
+fits_within l h = grind (arith, nat_tests)
 
 longer : (l q : List ℕ) → fits reader_limits l ≡ false → fits reader_limits (l ++ q) ≡ true → ⊥
 longer l q long on = let e = length-append l q in grind (arith, nat_tests)
 
 fits_first : (l q : List ℕ) → fits reader_limits (l ++ q) ≡ true → length l ≤ max_line
-fits_first l q h = omega (arith, length-append l q, fits_says (l ++ q) h)
+fits_first l q h = omega (arith, length-append l q, fits_within (l ++ q) h)
 
 -- the text that a line was found in
 abbrev IsOf : Line → List ℕ → Type 0
@@ -136,29 +132,29 @@ module _ {A : Type 0} (form : LineForm A) (lawful : LawfulLine form) where
   not_begun : (l q : List ℕ) → length l ≤ max_line → form.begun l ≡ false → (c : Bool) → form.begun (l ++ q) ≡ c → fits reader_limits (l ++ q) ≡ true → c ≡ false
   not_begun l q fit h false is fit_on = refl
   not_begun l q fit h true is fit_on =
-      let can = lawful.can (l ++ q) (fits_says (l ++ q) fit_on) is in
+      let can = lawful.can (l ++ q) (fits_within (l ++ q) fit_on) is in
       let e : form.whole (l ++ (q ++ can.0)) ≡ Some can.1 = ap form.whole (sym (append_assoc l q can.0)) ∙ can.2 in
       let long : length (l ++ (q ++ can.0)) ≤ max_line = subst (λ x. length x ≤ max_line) (append_assoc l q can.0) can.3 in
       let none : form.whole (l ++ (q ++ can.0)) ≡ None = lawful.cannot l (q ++ can.0) long h in
       cc
 
   hopeless : (l : List ℕ) → length l ≤ max_line → form.begun l ≡ false → IsHopeless l
-  hopeless l fit h q = (λ on. lawful.cannot l q (fits_says (l ++ q) on) h, λ on. not_begun l q fit h (form.begun (l ++ q)) refl on)
+  hopeless l fit h q = (λ on. lawful.cannot l q (fits_within (l ++ q) on) h, λ on. not_begun l q fit h (form.begun (l ++ q)) refl on)
 
   too_long : (l : List ℕ) → fits reader_limits l ≡ false → IsHopeless l
   too_long l long q = (λ on. absurd (longer l q long on), λ on. absurd (longer l q long on))
 
   unended_by : (bs l : List ℕ) → line bs ≡ unended l → (c d : Bool) → fits reader_limits l ≡ c → form.begun l ≡ d → LawfulAt (line_as reader_limits form) bs
   unended_by bs l is true true fit begun =
-      let can = lawful.can l (fits_says l fit) begun in
+      let can = lawful.can l (fits_within l fit) begun in
       let q = can.0 in
-      let on : fits reader_limits (l ++ q) ≡ true = fits_true (l ++ q) can.3 in
+      let on : fits reader_limits (l ++ q) ≡ true = fits_is (l ++ q) can.3 in
       let whole = can.2 in
       let later : line_found reader_limits form (ended (l ++ q) []) ≡ read can.1 [] = rw (on, whole) refl in
       let now : line_found reader_limits form (unended l) ≡ short = rw (fit, begun) refl in
       lawful_where_short (line_as reader_limits form) bs (ap (line_found reader_limits form) is ∙ now) (q ++ 13 ∷ 10 ∷ []) can.1
       (found_on (unended l) bs (q ++ 13 ∷ 10 ∷ []) is ∙ ap (λ y. line_found reader_limits form (bytes_before l y)) can.4 ∙ ap (line_found reader_limits form) (before-ended l q []) ∙ later)
-  unended_by bs l is true false fit begun = never (unended l) bs is (λ m. hopeless_on l (line m) (hopeless l (fits_says l fit) begun)) (rw (fit, begun) refl)
+  unended_by bs l is true false fit begun = never (unended l) bs is (λ m. hopeless_on l (line m) (hopeless l (fits_within l fit) begun)) (rw (fit, begun) refl)
   unended_by bs l is false d fit begun = never (unended l) bs is (λ m. hopeless_on l (line m) (too_long l fit)) (rw fit refl)
 
   line_by : (bs : List ℕ) (x : Line) → line bs ≡ x → LawfulAt (line_as reader_limits form) bs

@@ -2,8 +2,6 @@
 use Rattle.std.specs.Prelude.{◌≡◌, ℕ, ◌+◌, ◌-◌, ◌*◌, ◌<◌, Bool, true, false, ◌&&◌, ◌==◌, nat_le, nat_lt, List, [], ◌∷◌, ◌++◌, Option, Some, None, codes, if◌then◌else◌}
 use Rattle.std.specs.Str.{byte}
 use Rattle.std.specs.Str.Parse.{IsNumeral, digits_value}
-use Rattle.resp_value.specs.declared.redis_error.RedisError.{RedisError}
-use Rattle.resp_value.specs.declared.redis_error.RedisError.TheVariants as error
 use Rattle.resp_value.specs.declared.server_error.ServerError.{ServerError}
 use Rattle.resp_value.specs.ErrorTable.{Table, by_code}
 
@@ -48,12 +46,3 @@ IsRedirect e slot address ask = (is_for_one_command e.code ≡ Some ask) × ((de
 -- it leads nowhere
 abbrev pub LeadsNowhere : ServerError → Type 0
 LeadsNowhere e = (slot : ℕ) (address : List ℕ) (ask : Bool) → IsRedirect e slot address ask → ⊥
-
--- an error of the driver leads there: it is a server's that does
-abbrev pub IsRedirected : RedisError → ℕ → List ℕ → Bool → Type 0
-IsRedirected (error.Server e) slot address ask = IsRedirect e slot address ask
-IsRedirected _ slot address ask = ⊥
-
--- it leads nowhere
-abbrev pub IsNotRedirected : RedisError → Type 0
-IsNotRedirected e = (slot : ℕ) (address : List ℕ) (ask : Bool) → IsRedirected e slot address ask → ⊥

@@ -4,6 +4,7 @@ use Rattle.std.specs.Prelude.{◌==◌, ◌&&◌, nat_le}
 use Rattle.std.specs.List.{onto_first, list_all}
 use Rattle.std.proofs.lemmas.Bool.Decides.{nat_tests}
 use Rattle.std.proofs.lemmas.List.{append-nil}
+use Rattle.containers.proofs.Tests.{both_true}
 use Rattle.script_text.specs.Words.{parts}
 use Rattle.script_text.specs.Script.{max_line, max_text}
 use Rattle.script_text.specs.Limits.{last_of, is_short, keeps_limits, is_within, Counts}
@@ -64,11 +65,6 @@ end_last [] h = absurd (omega arith)
 end_last (p ∷ []) h = refl
 end_last (p ∷ r ∷ []) h = refl
 end_last (p ∷ r ∷ s ∷ ps) h = end_last (r ∷ s ∷ ps) (omega arith)
-
-both_true : (a b : Bool) → (a && b) ≡ true → (a ≡ true) × (b ≡ true)
-both_true true true h = (refl, refl)
-both_true true false h = (refl, h)
-both_true false b h = absurd (cc)
 
 and_true : (b : Bool) → (b && true) ≡ b
 and_true true = refl

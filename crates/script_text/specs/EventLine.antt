@@ -5,9 +5,9 @@ use Rattle.driver_model.specs.declared.event.EventKind.{EventKind}
 use Rattle.driver_model.specs.declared.event.EventKind.TheVariants.{Submit, Cancel, Connected, Wrote, Bytes, Ended, ReadFault, WriteFault, Shutdown}
 use Rattle.driver_model.specs.declared.event.Submission.{Submission}
 use Rattle.driver_model.specs.declared.event.Submission.TheVariants.{Cmd, NoReply, Pipe, Multi, Packed}
-use Rattle.resp_value.specs.declared.fault_kind.FaultKind.{FaultKind}
-use Rattle.resp_value.specs.declared.fault_kind.FaultKind.TheVariants.{Refused, Reset, Aborted, NotConnected, BrokenPipe, Eof, TimedOut, Interrupted, Denied, Other}
-use Rattle.resp_value.specs.Names.{fault_name}
+use Rattle.redis_error.specs.declared.fault_kind.FaultKind.{FaultKind}
+use Rattle.redis_error.specs.declared.fault_kind.FaultKind.TheVariants.{Refused, Reset, Aborted, NotConnected, BrokenPipe, Eof, TimedOut, Interrupted, Denied, Other}
+use Rattle.redis_error.specs.Names.{fault_name}
 use Rattle.script_text.specs.Numbers.{number, max_u32, max_u64}
 use Rattle.script_text.specs.Words.{LineWords}
 

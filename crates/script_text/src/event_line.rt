@@ -7,7 +7,7 @@ use crate::line::Line;
 use crate::number::{number_u32, number_u64};
 use containers::{Bytes, Names};
 use driver_model::{Commands, Event, EventKind, Submission};
-use resp_value::FaultKind;
+use redis_error::FaultKind;
 use std::alloc::{AllocError, Global};
 
 /// The kinds of faults.

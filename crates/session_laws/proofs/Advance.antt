@@ -22,7 +22,7 @@ use Rattle.trace_model.specs.LinkLedger.{LinkLedger, Start, link_ledger}
 use Rattle.trace_model.specs.Story.{Story, story, told, is_open}
 use Rattle.trace_model.specs.Turns.{running}
 use Rattle.session_laws.proofs.Account.{Account, account, entered}
-use Rattle.session_laws.proofs.Tests.{chosen, by_test, if_true, eq_from, ne_from, eq_test, le_from, both_left, both_right, not_both}
+use Rattle.containers.proofs.Tests.{chosen, by_test, if_true, eq_from, ne_from, eq_test, le_from, both_left, both_right, not_both}
 use Rattle.session_laws.proofs.Dealt.{wanted}
 use Rattle.session_laws.proofs.Numbers.{IsIn, in_left, in_right, Rising, owners, rising_without, rising_right, rising_apart, all_below}
 use Rattle.session_laws.proofs.Tied.{Inner, TiedLink, TiedStory, IsQueued, TiedLines, IsTold, TiedTold, Tied, Sound, sound_more, Holds, holds_more, seen, queue_ids, awaited_ids, waiting_ids}
@@ -187,7 +187,7 @@ told_placed story starts subs queue w e apart h =
     let ids = queue_ids-append queue q in
     record {
       queued = all_push (IsTold (λ m. (told (story m) m (tells n)).outcomes)) queue q (told_stays story n (outcome.One Nil) queue apart h.queued)
-          (λ f. outcomes_own (story n) n n (outcome.One Nil) (eq_test n) ∙ ap (λ (os : List Outcome). os ++ outcome.One Nil ∷ []) (no_outcomes (story n) e));
+          (λ f. outcomes_own (story n) n n (outcome.One Nil) (eq_test n n refl) ∙ ap (λ (os : List Outcome). os ++ outcome.One Nil ∷ []) (no_outcomes (story n) e));
       placed = λ m s i u v. by_test (n == m) _
           (λ t. inr (subst (IsIn m) (sym ids) (in_right m (queue_ids queue) (n ∷ []) (inl (eq_from n m t)))))
           (λ f. elim (h.placed m s i u (sym (outcomes_other (story m) n m (outcome.One Nil) (ne_from n m f)) ∙ v)) [

@@ -10,7 +10,7 @@ use Rattle.driver_model.specs.declared.event.Submission.{Submission}
 use Rattle.driver_model.specs.Request.{packed}
 use Rattle.driver_model.specs.Shape.{outcome_of}
 use Rattle.driver_model.specs.declared.outcome.Outcome.{Outcome}
-use Rattle.resp_value.specs.declared.redis_error.RedisError.TheVariants as error
+use Rattle.redis_error.specs.declared.redis_error.RedisError.TheVariants as error
 use Rattle.resp_value.specs.declared.value.Value.TheVariants.{Nil}
 use Rattle.driver_model.specs.declared.outcome.Outcome.TheVariants as outcome
 use Rattle.link_core.specs.declared.errors.LinkFault.{LinkFault}
@@ -28,7 +28,7 @@ use Rattle.shared_session.specs.Steps.{acts, is_dialing, is_up, is_ended, answer
 use Rattle.shared_session.specs.Turn.{applied}
 use Rattle.trace_model.specs.Turns.{causes}
 use Rattle.session_laws.proofs.Account.{caused_by, none_caused}
-use Rattle.session_laws.proofs.Tests.{chosen}
+use Rattle.containers.proofs.Tests.{chosen}
 
 abbrev Same : Connection → Connection → Type 0
 Same c d = causes d.acts ≡ causes c.acts

@@ -22,8 +22,9 @@ use Rattle.trace_model.specs.Story.{Story, story, told, is_open}
 use Rattle.trace_model.specs.Submissions.{submissions}
 use Rattle.trace_model.specs.Legal.{IsOpen, CausedBy}
 use Rattle.session_laws.proofs.Account.{Account, account, entered}
-use Rattle.session_laws.proofs.Tests.{chosen, by_test, if_true, eq_from, ne_from, ne_test}
-use Rattle.session_laws.proofs.Numbers.{IsIn, get_set_same, get_set_other}
+use Rattle.containers.proofs.Tests.{chosen, by_test, if_true, eq_from, ne_from, ne_test}
+use Rattle.containers.proofs.Places.{get_set_same, get_set_other}
+use Rattle.session_laws.proofs.Numbers.{IsIn}
 use Rattle.session_laws.proofs.Tied.{Inner, TiedStory, IsQueued, TiedLines, IsTold, TiedTold, IsNew, TiedWaits, Tied, Sound, sound_more, queue_ids}
 
 pub open_within : (requests : List Progress) (n : ℕ) → is_open_at requests n ≡ true → n < length requests

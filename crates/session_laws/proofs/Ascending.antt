@@ -2,7 +2,7 @@
 use Rattle.std.proofs.Common.{◌≡◌, ℕ, suc, ◌+◌, ◌<◌, ◌≤◌, ◌==◌, nat_lt, nat_le, ◌&&◌, Bool, true, false, if◌then◌else◌, List, [], ◌∷◌, ◌++◌, length, slice_set, Option, Some, None, refl, sym, ap, ◌∙◌, subst, append_assoc, arith, length-set}
 use Rattle.std.proofs.lemmas.List.{append-nil, length_push}
 use Rattle.resp_value.specs.Data.{Data}
-use Rattle.resp_value.specs.declared.redis_error.RedisError.TheVariants as error
+use Rattle.redis_error.specs.declared.redis_error.RedisError.TheVariants as error
 use Rattle.resp_value.specs.declared.value.Value.TheVariants.{Nil}
 use Rattle.resp_read.specs.Items.{items}
 use Rattle.driver_model.specs.declared.action.Action.{Action}
@@ -42,7 +42,7 @@ use Rattle.shared_session.specs.Steps.{acts, is_dialing, is_up, is_ended, answer
 use Rattle.shared_session.specs.Turn.{applied, quiet, turn}
 use Rattle.shared_session.specs.Replay.{opening, actions_of, turns_on}
 use Rattle.trace_model.specs.Order.{last_answered, IsAfter, MayFollow, OutcomesAscend}
-use Rattle.session_laws.proofs.Tests.{chosen, le_from}
+use Rattle.containers.proofs.Tests.{chosen, le_from}
 use Rattle.session_laws.proofs.Dealt.{settled_ids, settled_ids-append, wanted}
 use Rattle.session_laws.proofs.Numbers.{Rising, rising_from, rising_left, rising_next, rising_right, rising_without}
 use Rattle.session_laws.proofs.Tied.{queue_ids, awaited_ids, waiting_ids}

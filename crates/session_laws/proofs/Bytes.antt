@@ -19,7 +19,7 @@ use Rattle.shared_session.specs.Steps.{is_up, is_ended, settled_each, ended_by, 
 use Rattle.trace_model.specs.LinkLedger.{LinkLedger, needs, bytes_came}
 use Rattle.trace_model.specs.Turns.{running}
 use Rattle.session_laws.proofs.Account.{Account, account, begun}
-use Rattle.session_laws.proofs.Tests.{chosen, if_true, if_false, not_both}
+use Rattle.containers.proofs.Tests.{chosen, if_true, if_false, not_both}
 use Rattle.session_laws.proofs.Rows.{open_list, open_rows}
 use Rattle.session_laws.proofs.Dealt.{AreEntries, IsCutOf, AreCuts, IsDealt, items_with, row_dealt, settled_ids, wanted}
 use Rattle.session_laws.proofs.Numbers.{IsIn, in_left, owners, started_in}

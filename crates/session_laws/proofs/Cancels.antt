@@ -22,7 +22,7 @@ use Rattle.trace_model.specs.LinkLedger.{Start}
 use Rattle.trace_model.specs.Story.{Story, told_event, is_open}
 use Rattle.trace_model.specs.Turns.{running}
 use Rattle.session_laws.proofs.Account.{Account, account, begun}
-use Rattle.session_laws.proofs.Tests.{chosen, by_test, eq_from, ne_from, both_left, both_right, not_both}
+use Rattle.containers.proofs.Tests.{chosen, eq_from, ne_from, both_left, both_right, not_both, eq_test}
 use Rattle.session_laws.proofs.Rows.{open_of, open_list}
 use Rattle.session_laws.proofs.Dealt.{wanted, AreEntries}
 use Rattle.session_laws.proofs.Numbers.{IsIn, in_left, in_right, in_either, Rising, rising_from, rising_in, rising_left, rising_right, owners}
@@ -160,9 +160,6 @@ both_true : (a b : Bool) → a ≡ true → b ≡ true → (a && b) ≡ true
 both_true true b e f = f
 both_true false b e f = cc
 
-same_test : (n m : ℕ) → n ≡ m → (n == m) ≡ true
-same_test n m e = by_test (n == m) _ (λ t. t) (λ f. absurd (ne_from n m f e))
-
 story_left : (s : Story) (starts : List Start) (subs : List Submission) (down : Bool) (requests : List Progress) (n m : ℕ) → is_open_at requests n ≡ true → n < length requests → length requests ≡ length subs
     → TiedStory s starts subs down requests m → TiedStory (told_event s m (event.Cancel n)) starts subs down (slice_set requests n progress.Cancelled) m
 story_left s starts subs down requests n m open_there l count h =
@@ -178,7 +175,7 @@ story_left s starts subs down requests n m open_there l count h =
       untold = λ k. absurd (omega arith);
     })
     (λ f.
-    let other : n ≢ m = λ e. not_both ((m == n) && is_open s) f (both_true (m == n) (is_open s) (same_test m n (sym e)) (sym h.open_is ∙ ap (is_open_at requests) (sym e) ∙ open_there)) in
+    let other : n ≢ m = λ e. not_both ((m == n) && is_open s) f (both_true (m == n) (is_open s) (eq_test m n (sym e)) (sym h.open_is ∙ ap (is_open_at requests) (sym e) ∙ open_there)) in
     record {
       count = h.count;
       submission = h.submission;

@@ -2,9 +2,9 @@
 use Rattle.std.proofs.Common.{◌≡◌, ◌≢◌, ◌⊎◌, inl, inr, ℕ, zero, suc, ◌+◌, ◌<◌, ◌≤◌, Bool, true, false, List, [], ◌∷◌, length, take, drop, Option, Some, slice_get, sym, ap, ◌∙◌, subst, arith}
 use Rattle.resp_value.specs.Data.{Data}
 use Rattle.resp_value.specs.Data as tree
-use Rattle.resp_value.specs.declared.fault_kind.FaultKind.{FaultKind}
-use Rattle.resp_value.specs.declared.redis_error.RedisError.{RedisError}
-use Rattle.resp_value.specs.declared.redis_error.RedisError.TheVariants as error
+use Rattle.redis_error.specs.declared.fault_kind.FaultKind.{FaultKind}
+use Rattle.redis_error.specs.declared.redis_error.RedisError.{RedisError}
+use Rattle.redis_error.specs.declared.redis_error.RedisError.TheVariants as error
 use Rattle.resp_value.specs.declared.server_error.ServerError.{ServerError}
 use Rattle.resp_value.specs.declared.value.Value.TheVariants.{Nil}
 use Rattle.resp_read.specs.Values.{is_spoiled}
@@ -26,7 +26,7 @@ use Rattle.trace_model.specs.Story.{story}
 use Rattle.trace_model.specs.Submissions.{packed_if, bytes_of}
 use Rattle.trace_model.specs.Turns.{running, is_shut}
 use Rattle.trace_model.specs.Legal.{StartedAs, IsOldest, IsBroken, IsFaultOf, IsVerdictOf, IsCutOff, IsHit, FailsBy, CausedBy}
-use Rattle.session_laws.proofs.Tests.{not_both}
+use Rattle.containers.proofs.Tests.{not_both}
 use Rattle.session_laws.proofs.Rows.{StandsAs, IsUnfilled, IsFirst, IsLater}
 use Rattle.session_laws.proofs.Numbers.{IsIn, Rising, owners, started_in, stands_once}
 use Rattle.session_laws.proofs.Tied.{IsHandedIn}

@@ -14,7 +14,7 @@ use Rattle.link_core.specs.declared.message.Settled.{Settled}
 use Rattle.link_core.specs.Dealing.{Dealing, with_item, settled_by, given, dealt_to, dealt, dealt_each}
 use Rattle.trace_model.specs.Cut.{verdict_of}
 use Rattle.trace_model.specs.LinkLedger.{Start, needs}
-use Rattle.session_laws.proofs.Tests.{by_test, chosen, if_true, if_false, le_from, not_le_from, le_test, not_le_test, lt_from, not_lt_from}
+use Rattle.containers.proofs.Tests.{by_test, chosen, if_true, if_false, le_from, not_le_from, le_test, not_le_test, lt_from, not_lt_from}
 use Rattle.session_laws.proofs.Rows.{Open, open_rows, open_of, open_list, AreNeedy, StandsAs, open_rows-item, none_open}
 
 -- some start of this owner has these items, and needs no more

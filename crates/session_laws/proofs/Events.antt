@@ -1,7 +1,7 @@
 -- Events that answer nobody, or end the link.
 use Rattle.std.proofs.Common.{◌≡◌, ◌⊎◌, inl, inr, ℕ, suc, ◌+◌, ◌≤◌, ◌==◌, not, Bool, true, false, List, [], ◌∷◌, ◌++◌, length, take, drop, Some, refl, sym, ap, ◌∙◌, subst, append_assoc, arith}
 use Rattle.std.proofs.lemmas.List.{take-take, take-append-drop}
-use Rattle.resp_value.specs.declared.fault_kind.FaultKind.{FaultKind}
+use Rattle.redis_error.specs.declared.fault_kind.FaultKind.{FaultKind}
 use Rattle.driver_model.specs.declared.action.Action.{Action}
 use Rattle.driver_model.specs.declared.action.Action.TheVariants as action
 use Rattle.driver_model.specs.declared.action.Cause.TheVariants as cause
@@ -21,7 +21,7 @@ use Rattle.trace_model.specs.Turns.{causes, running, is_shut}
 use Rattle.trace_model.specs.Legal.{AllStand, MayTurn, MayBeCreated, ConnectedBy, IsSettled}
 use Rattle.session_laws.proofs.Account.{Account, account, begun, entered, account-append}
 use Rattle.session_laws.proofs.Standing.{stand-more}
-use Rattle.session_laws.proofs.Tests.{chosen, by_test, if_true, if_false, eq_from, not_both}
+use Rattle.containers.proofs.Tests.{chosen, by_test, if_true, if_false, eq_from, not_both}
 use Rattle.session_laws.proofs.Tied.{Inner, TiedLink, IsNew, Tied, Sound, sound_more, Holds, holds_more, seen}
 use Rattle.session_laws.proofs.Settling.{running_more}
 use Rattle.session_laws.proofs.Closing.{Ended}

@@ -1,8 +1,8 @@
 -- Each event that ends a link.
 use Rattle.std.proofs.Common.{◌≡◌, ◌≢◌, inl, inr, ℕ, Bool, true, false, List, [], ◌++◌, Option, Some, None, slice_get, refl, sym, ap, ◌∙◌, subst, length}
-use Rattle.resp_value.specs.declared.fault_kind.FaultKind.{FaultKind}
-use Rattle.resp_value.specs.declared.redis_error.RedisError.{RedisError}
-use Rattle.resp_value.specs.declared.redis_error.RedisError.TheVariants as error
+use Rattle.redis_error.specs.declared.fault_kind.FaultKind.{FaultKind}
+use Rattle.redis_error.specs.declared.redis_error.RedisError.{RedisError}
+use Rattle.redis_error.specs.declared.redis_error.RedisError.TheVariants as error
 use Rattle.resp_read.specs.Values.{is_spoiled}
 use Rattle.driver_model.specs.declared.action.Action.{Action}
 use Rattle.driver_model.specs.declared.action.Action.TheVariants as action
@@ -30,7 +30,7 @@ use Rattle.trace_model.specs.LinkLedger.{LinkLedger}
 use Rattle.trace_model.specs.Turns.{running, is_shut}
 use Rattle.trace_model.specs.Legal.{EndedBy}
 use Rattle.session_laws.proofs.Account.{Account, account, entered}
-use Rattle.session_laws.proofs.Tests.{not_both}
+use Rattle.containers.proofs.Tests.{not_both}
 use Rattle.session_laws.proofs.Rows.{IsFirst, unfilled_first}
 use Rattle.session_laws.proofs.Numbers.{in_left, owners, rising_left}
 use Rattle.session_laws.proofs.Tied.{Tied, Holds, seen, queue_ids, waiting_ids}

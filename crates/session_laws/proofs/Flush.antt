@@ -21,7 +21,7 @@ use Rattle.trace_model.specs.Submissions.{submissions, bytes_of}
 use Rattle.trace_model.specs.Turns.{running}
 use Rattle.trace_model.specs.Legal.{joined, AllBelow, MayWrite, MayWait}
 use Rattle.session_laws.proofs.Account.{Account, account, entered}
-use Rattle.session_laws.proofs.Tests.{chosen, by_test, eq_from, ne_from, ne_test, both_left, both_right, not_both}
+use Rattle.containers.proofs.Tests.{chosen, by_test, eq_from, ne_from, ne_test, both_left, both_right, not_both}
 use Rattle.session_laws.proofs.Dealt.{wanted}
 use Rattle.session_laws.proofs.Numbers.{IsIn, in_right, owners, rising_apart, all_below}
 use Rattle.session_laws.proofs.Tied.{Inner, TiedLink, TiedStory, IsPacked, Tied, Sound, sound_more, Holds, holds_more, seen, queue_ids, awaited_ids, waiting_ids}

@@ -1,5 +1,5 @@
 -- Every replay is legal.
-use Rattle.std.proofs.Common.{◌≡◌, inl, ℕ, ◌+◌, ◌≤◌, ◌==◌, nat_lt, ◌&&◌, ◌||◌, not, Bool, true, false, List, [], ◌∷◌, ◌++◌, length, drop, None, refl, sym, ap, ◌∙◌, subst, append_assoc, arith}
+use Rattle.std.proofs.Common.{◌≡◌, inl, ℕ, ◌+◌, ◌≤◌, ◌==◌, nat_lt, ◌&&◌, not, Bool, true, false, List, [], ◌∷◌, ◌++◌, length, drop, None, refl, sym, ap, ◌∙◌, subst, append_assoc, arith}
 use Rattle.std.proofs.lemmas.List.{append-nil, take-append-drop, length_push}
 use Rattle.resp_read.proofs.ValueLaws.{values-empty}
 use Rattle.driver_model.specs.declared.action.Action.{Action}
@@ -22,7 +22,7 @@ use Rattle.trace_model.specs.Order.{AreInOrder}
 use Rattle.trace_model.specs.Turns.{causes}
 use Rattle.trace_model.specs.Legal.{IsPrefix, sent, AllStand, IsSettled, MayConnect, event_causes, Legal}
 use Rattle.session_laws.proofs.Account.{Account, account, begun, account-append, causes-append}
-use Rattle.session_laws.proofs.Tests.{not_lt_from}
+use Rattle.containers.proofs.Tests.{not_lt_from, or_left, or_right}
 use Rattle.session_laws.proofs.Tied.{Tied, seen}
 use Rattle.session_laws.proofs.Settled.{HasApplied, AtRest, settled_at, turn_rests}
 use Rattle.session_laws.proofs.Events.{IsReadyFor, announced, zero_from, peer_applied, read_fault_applied, write_fault_applied, shut_applied, wrote_applied, connected_applied}
@@ -32,14 +32,6 @@ use Rattle.session_laws.proofs.Submits.{submit_applied}
 use Rattle.session_laws.proofs.Announced.{rest_same}
 use Rattle.session_laws.proofs.Ordered.{turn_ordered, orders-append}
 use Rattle.session_laws.proofs.Ascending.{turns_ascend, opening_calm}
-
-or_left : (a b : Bool) → (a || b) ≡ false → a ≡ false
-or_left true b e = cc
-or_left false b e = refl
-
-or_right : (a b : Bool) → (a || b) ≡ false → b ≡ false
-or_right true b e = cc
-or_right false b e = e
 
 few_from : (ended : Bool) (offered n : ℕ) → (not ended && nat_lt offered n) ≡ false → ended ≡ false → n ≤ offered
 few_from true offered n e f = cc

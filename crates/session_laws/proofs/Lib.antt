@@ -1,6 +1,5 @@
 pub mod Account
 pub mod Standing
-pub mod Tests
 pub mod Rows
 pub mod Dealt
 pub mod Numbers

@@ -1,5 +1,5 @@
 -- Numbers that rise, and places of a list.
-use Rattle.std.proofs.Common.{◌≡◌, ◌≢◌, ◌⊎◌, inl, inr, ℕ, zero, suc, ◌+◌, ◌<◌, ◌≤◌, List, [], ◌∷◌, ◌++◌, length, Some, None, slice_get, slice_set, refl, sym, ap, ◌∙◌, subst, arith}
+use Rattle.std.proofs.Common.{◌≡◌, ◌⊎◌, inl, inr, ℕ, zero, suc, ◌+◌, ◌<◌, ◌≤◌, List, [], ◌∷◌, ◌++◌, length, Some, None, slice_get, refl, sym, ap, ◌∙◌, subst, arith}
 use Rattle.driver_model.specs.declared.action.Owner.{Owner}
 use Rattle.driver_model.specs.declared.action.Owner.TheVariants as owner
 use Rattle.trace_model.specs.LinkLedger.{Start}
@@ -116,18 +116,6 @@ stands_once lo (s ∷ ss) hi who (suc j) (suc k) r h g =
     ap suc (stands_once (suc (number_of s.owner)) ss hi who j k r.1 (record { start = h.start; stands = h.stands; owned = h.owned }) (record { start = g.start; stands = g.stands; owned = g.owned }))
 
 -- places of a list
-pub get_set_same : {X : Type 0} (xs : List X) (n : ℕ) (x : X) → n < length xs → slice_get (slice_set xs n x) n ≡ Some x
-get_set_same [] n x l = absurd (omega arith)
-get_set_same (y ∷ xs) zero x l = refl
-get_set_same (y ∷ xs) (suc n) x l = get_set_same xs n x (omega arith)
-
-pub get_set_other : {X : Type 0} (xs : List X) (n m : ℕ) (x : X) → n ≢ m → slice_get (slice_set xs n x) m ≡ slice_get xs m
-get_set_other [] n m x o = refl
-get_set_other (y ∷ xs) zero zero x o = absurd (o refl)
-get_set_other (y ∷ xs) zero (suc m) x o = refl
-get_set_other (y ∷ xs) (suc n) zero x o = refl
-get_set_other (y ∷ xs) (suc n) (suc m) x o = get_set_other xs n m x (λ e. o (ap suc e))
-
 pub get_before : {X : Type 0} (xs ys : List X) (n : ℕ) → n < length xs → slice_get (xs ++ ys) n ≡ slice_get xs n
 get_before [] ys n l = absurd (omega arith)
 get_before (x ∷ xs) ys zero l = refl
@@ -141,8 +129,3 @@ pub get_past : {X : Type 0} (xs : List X) (n : ℕ) → length xs ≤ n → slic
 get_past [] n l = refl
 get_past (x ∷ xs) zero l = absurd (omega arith)
 get_past (x ∷ xs) (suc n) l = get_past xs n (omega arith)
-
-pub get_within : {X : Type 0} (xs : List X) (n : ℕ) (x : X) → slice_get xs n ≡ Some x → n < length xs
-get_within [] n x e = cc
-get_within (y ∷ xs) zero x e = omega arith
-get_within (y ∷ xs) (suc n) x e = let l = get_within xs n x e in omega arith

@@ -1,6 +1,6 @@
 -- The actions of a turn stand in the order of its steps.
 use Rattle.std.proofs.Common.{◌≤◌, arith, ◌≡◌, ℕ, ◌==◌, nat_le, true, List, [], ◌∷◌, ◌++◌, length, refl, sym, subst}
-use Rattle.resp_value.specs.declared.redis_error.RedisError.TheVariants as error
+use Rattle.redis_error.specs.declared.redis_error.RedisError.TheVariants as error
 use Rattle.resp_value.specs.declared.value.Value.TheVariants.{Nil}
 use Rattle.driver_model.specs.declared.action.Action.{Action}
 use Rattle.driver_model.specs.declared.action.Action.TheVariants as action
@@ -28,7 +28,7 @@ use Rattle.shared_session.specs.Requests.{is_open_at, is_waiting_at}
 use Rattle.shared_session.specs.Steps.{acts, is_dialing, is_up, is_ended, answered, settled_each, closed, closed_each, ends, ended_by, faulted_by, checked, read_to, shown_each, started, placed, told_at_place, advanced, advanced_each, advanced_all, passes, offers, writes, waits_shown, waits_each, flushed}
 use Rattle.shared_session.specs.Turn.{applied}
 use Rattle.trace_model.specs.Order.{step_after, last_step, MayCome, AreInOrder}
-use Rattle.session_laws.proofs.Tests.{chosen, le_from}
+use Rattle.containers.proofs.Tests.{chosen, le_from}
 
 -- the step that these actions come to
 abbrev reached : ℕ → List Action → ℕ

@@ -8,7 +8,7 @@ use Rattle.driver_model.specs.declared.action.Owner.TheVariants as owner
 use Rattle.driver_model.specs.Shape.{need}
 use Rattle.link_core.specs.declared.message.Entry.{Entry}
 use Rattle.trace_model.specs.LinkLedger.{Start, needs}
-use Rattle.session_laws.proofs.Tests.{by_test, le_from, not_le_from, le_test, not_le_test}
+use Rattle.containers.proofs.Tests.{by_test, le_from, not_le_from, le_test, not_le_test}
 
 pub record Open : Type 0 where
   pub owner : Owner

@@ -1,7 +1,7 @@
 -- What holds at the end of a turn.
 use Rattle.std.proofs.Common.{◌≡◌, ◌≢◌, ◌⊎◌, inl, inr, ℕ, zero, suc, ◌<◌, ◌≤◌, Bool, true, false, if◌then◌else◌, List, [], ◌∷◌, ◌++◌, length, take, Some, refl, sym, ap, ◌∙◌, subst, arith}
 use Rattle.std.specs.List.{AllByRecursion}
-use Rattle.resp_value.specs.declared.fault_kind.FaultKind.{FaultKind}
+use Rattle.redis_error.specs.declared.fault_kind.FaultKind.{FaultKind}
 use Rattle.resp_read.specs.Values.{is_spoiled}
 use Rattle.driver_model.specs.declared.action.Action.{Action}
 use Rattle.driver_model.specs.declared.action.Cause.TheVariants as cause
@@ -23,7 +23,7 @@ use Rattle.trace_model.specs.Submissions.{submissions}
 use Rattle.trace_model.specs.Turns.{running}
 use Rattle.trace_model.specs.Legal.{StartedAs, IsFailedBy, IsToldAtPlace, IsOffered, IsOpen, Goes, IsSettled}
 use Rattle.session_laws.proofs.Account.{account}
-use Rattle.session_laws.proofs.Tests.{by_test}
+use Rattle.containers.proofs.Tests.{by_test}
 use Rattle.session_laws.proofs.Rows.{open_of, open_list, open_rows, OwnedLater, IsUnfilled, rows_stand, unfilled_first, unfilled_later}
 use Rattle.session_laws.proofs.Dealt.{wanted}
 use Rattle.session_laws.proofs.Numbers.{IsIn, in_either}

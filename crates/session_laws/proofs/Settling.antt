@@ -13,7 +13,7 @@ use Rattle.shared_session.specs.Requests.{is_open_at}
 use Rattle.shared_session.specs.Steps.{acts, answered, settled_each, closed, closed_each}
 use Rattle.trace_model.specs.Turns.{running}
 use Rattle.session_laws.proofs.Account.{Account, account, entered, account-append}
-use Rattle.session_laws.proofs.Tests.{chosen}
+use Rattle.containers.proofs.Tests.{chosen}
 use Rattle.session_laws.proofs.Dealt.{settled_ids}
 use Rattle.session_laws.proofs.Tied.{Holds, holds_more, seen, waiting_ids}
 use Rattle.session_laws.proofs.Answers.{answer_sound, skip_sound}

@@ -25,10 +25,11 @@ use Rattle.trace_model.specs.Submissions.{bytes_of}
 use Rattle.trace_model.specs.Turns.{running}
 use Rattle.trace_model.specs.Legal.{joined, AllBelow, IsAsked, MayStart}
 use Rattle.session_laws.proofs.Account.{Account, account, entered}
-use Rattle.session_laws.proofs.Tests.{chosen, by_test, if_false, eq_from, ne_from}
+use Rattle.containers.proofs.Tests.{chosen, by_test, if_false, eq_from, ne_from}
 use Rattle.session_laws.proofs.Rows.{open_of, open_list-append, open_rows-start, needs-append, IsNeedy}
 use Rattle.session_laws.proofs.Dealt.{wanted, IsEntry}
-use Rattle.session_laws.proofs.Numbers.{IsIn, Rising, owners, owners-append, rising_apart, all_below, below_start, get_before, get_last, get_within}
+use Rattle.containers.proofs.Places.{get_within}
+use Rattle.session_laws.proofs.Numbers.{IsIn, Rising, owners, owners-append, rising_apart, all_below, below_start, get_before, get_last}
 use Rattle.session_laws.proofs.Tied.{Inner, TiedLink, TiedStory, HasBytes, IsQueued, IsNew, TiedLines, HasStart, TiedTold, Tied, Sound, sound_more, Holds, seen, queue_ids, awaited_ids, waiting_ids}
 use Rattle.session_laws.proofs.Answers.{told_same}
 use Rattle.session_laws.proofs.Causes.{handed_bytes}

@@ -3,8 +3,8 @@ use Rattle.std.proofs.Common.{◌≡◌, ◌≢◌, inl, inr, ℕ, zero, suc, �
 use Rattle.std.specs.List.{AllByRecursion}
 use Rattle.std.proofs.lemmas.List.{length_push}
 use Rattle.std.proofs.lemmas.List.Concat.{flat_map-cons}
-use Rattle.resp_value.specs.declared.redis_error.RedisError.{RedisError}
-use Rattle.resp_value.specs.declared.redis_error.RedisError.TheVariants as error
+use Rattle.redis_error.specs.declared.redis_error.RedisError.{RedisError}
+use Rattle.redis_error.specs.declared.redis_error.RedisError.TheVariants as error
 use Rattle.resp_value.specs.declared.value.Value.TheVariants.{Nil}
 use Rattle.driver_model.specs.declared.action.Action.{Action}
 use Rattle.driver_model.specs.declared.action.Action.TheVariants as action
@@ -33,8 +33,9 @@ use Rattle.trace_model.specs.Submissions.{submissions, packed_if, bytes_of}
 use Rattle.trace_model.specs.Turns.{running}
 use Rattle.trace_model.specs.Legal.{joined, CausedBy}
 use Rattle.session_laws.proofs.Account.{Account, account, begun}
-use Rattle.session_laws.proofs.Tests.{chosen, by_test, if_true, eq_from, ne_from, not_both}
-use Rattle.session_laws.proofs.Numbers.{IsIn, in_left, in_right, Rising, rising_next, rising_in, rising_left, rising_right, owners, number_of, get_before, get_last, get_within}
+use Rattle.containers.proofs.Tests.{chosen, by_test, if_true, eq_from, ne_from, not_both, eq_test}
+use Rattle.containers.proofs.Places.{get_within}
+use Rattle.session_laws.proofs.Numbers.{IsIn, in_left, in_right, Rising, rising_next, rising_in, rising_left, rising_right, owners, number_of, get_before, get_last}
 use Rattle.session_laws.proofs.Dealt.{AreEntries}
 use Rattle.session_laws.proofs.Tied.{Inner, TiedLink, TiedStory, HasBytes, IsHandedIn, IsQueued, IsPacked, TiedLines, nil_only, TiedTold, TiedWaits, Tied, Sound, Holds, holds_more, seen, queue_ids, waiting_ids}
 use Rattle.session_laws.proofs.Answers.{open_within, answer_sound, waiting_set_same, told_same}
@@ -132,10 +133,7 @@ told_waiting : (s : Story) (n : ℕ) (what : Submission) → (told_event s n (ev
 told_waiting s n what = chosen (λ (x : Story). x.waiting ≡ s.waiting) (s.count == n) _ _ (λ t. refl) (λ f. refl)
 
 told_late : (s : Story) (n : ℕ) (what : Submission) → s.count ≡ n → (told_event s n (event.Submit what)).late ≡ s.shut
-told_late s n what e = if_true (λ (x : Story). x.late ≡ s.shut) (s.count == n) _ _ (same_test s.count n e) refl
-  where
-    same_test : (n m : ℕ) → n ≡ m → (n == m) ≡ true
-    same_test n m e = by_test (n == m) _ (λ t. t) (λ f. absurd (ne_from n m f e))
+told_late s n what e = if_true (λ (x : Story). x.late ≡ s.shut) (s.count == n) _ _ (eq_test s.count n e) refl
 
 no_fresh_one : (n : ℕ) → [] ≡ n ∷ [] → ⊥
 no_fresh_one n e = cc

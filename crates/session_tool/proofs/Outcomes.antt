@@ -1,7 +1,7 @@
 -- What a run did, from what its parts did.
 use Rattle.std.proofs.Common.{arith, ◌≡◌, ◌≤◌, ◌⊎◌, inl, inr, ℕ, List, [], Option, Some, ◌∙◌, refl}
 use Rattle.std.specs.Prelude.{Ok, Err, codes}
-use Rattle.session_ends.specs.Ends.{Rose, Gained, GainedPart}
+use Rattle.outside.specs.Ends.{Rose, Gained, GainedPart}
 use Rattle.script_text.specs.Script.{script_of}
 use Rattle.script_text.specs.declared.script.Script.{Script}
 use Rattle.shared_session.specs.Replay.{trace_of, AreGood, AreUnspent}

@@ -1,9 +1,10 @@
 -- Texts that come from a source in pieces.
-use Rattle.std.proofs.Common.{◌≡◌, ◌≤◌, ◌<◌, ◌-◌, ℕ, Bool, true, false, ◌&&◌, List, [], ◌++◌, length, Option, Some, append_assoc, take, arith, length-append, refl, ◌∙◌, sym, ap}
+use Rattle.std.proofs.Common.{◌≡◌, ◌≤◌, ◌<◌, ◌-◌, ℕ, true, ◌&&◌, List, [], ◌++◌, length, Option, Some, append_assoc, take, arith, length-append, refl, ◌∙◌, sym, ap}
 use Rattle.std.proofs.lemmas.List.{append-nil, length-take-le}
 use Rattle.std.proofs.lemmas.Bool.{leb-true, both_ways}
 use Rattle.std.specs.Prelude.{Result, Ok, IsErr, is_err, nat_le}
-use Rattle.session_ends.specs.Ends.{Gave, IsAtEnd}
+use Rattle.containers.proofs.Tests.{both_left}
+use Rattle.outside.specs.Ends.{Gave, IsAtEnd}
 use Rattle.script_text.specs.Limits.{keeps_limits, is_short, lines_begun}
 use Rattle.script_text.specs.Script.{max_text, max_lines, script_of}
 use Rattle.script_text.specs.declared.script.Script.{Script}
@@ -11,14 +12,10 @@ use Rattle.script_text.specs.Words.{parts}
 use Rattle.std.specs.List.{list_all}
 use Rattle.session_tool.specs.Reading.{Gains, Refuses, Decides}
 
-and_left : (a b : Bool) → (a && b) ≡ true → a ≡ true
-and_left true b h = refl
-and_left false b h = h
-
 -- a text that keeps the limits has no more bytes than a text may have
 pub length_kept : (text : List ℕ) → keeps_limits text ≡ true → length text ≤ max_text
 unfolding keeps_limits
-length_kept text h = leb-true (length text) max_text (and_left (nat_le (length text) max_text) (list_all is_short (parts 10 text)) (and_left (nat_le (length text) max_text && list_all is_short (parts 10 text)) (nat_le (lines_begun (parts 10 text)) max_lines) h))
+length_kept text h = leb-true (length text) max_text (both_left (nat_le (length text) max_text) (list_all is_short (parts 10 text)) (both_left (nat_le (length text) max_text && list_all is_short (parts 10 text)) (nat_le (lines_begun (parts 10 text)) max_lines) h))
 
 -- a text that grew within its limits has less room left
 pub shrinks : (before after room : List ℕ) (n : ℕ) → after ≡ before ++ take n room → 0 < n → n ≤ length room → keeps_limits after ≡ true → max_text - length after < max_text - length before

@@ -1,6 +1,6 @@
 -- What a script's text has of a source.
 use Rattle.std.specs.Prelude.{◌≡◌, ℕ, List, [], ◌++◌, Option, Some, Ok}
-use Rattle.session_ends.specs.Ends.{Gave}
+use Rattle.outside.specs.Ends.{Gave}
 use Rattle.script_text.specs.Script.{script_of}
 use Rattle.script_text.specs.Limits.{IsRefused}
 use Rattle.script_text.specs.declared.script.Script.{Script}

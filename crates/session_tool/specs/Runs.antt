@@ -4,7 +4,7 @@ use Rattle.script_text.specs.Script.{script_of}
 use Rattle.script_text.specs.declared.script.Script.{Script}
 use Rattle.shared_session.specs.Replay.{trace_of, AreGood, AreUnspent}
 use Rattle.trace_text.specs.Show.{show}
-use Rattle.session_ends.specs.Ends.{Rose, Gained, GainedPart}
+use Rattle.outside.specs.Ends.{Rose, Gained, GainedPart}
 use Rattle.session_tool.specs.declared.command.Command.{Command}
 use Rattle.session_tool.specs.declared.command.Command.TheVariants.{Replay, Help, Version, Unknown}
 use Rattle.session_tool.specs.Lines.{numbered_line, read_fault_line, usage_line, help_line, version_line}

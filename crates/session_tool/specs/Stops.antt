@@ -5,7 +5,7 @@ use Rattle.driver_model.specs.declared.event.Event.{Event}
 use Rattle.shared_session.specs.Replay.{trace_of, AreGood, AreUnspent}
 use Rattle.shared_session.specs.Stops.{IsBadAt, IsSpentAt}
 use Rattle.trace_text.specs.Show.{show}
-use Rattle.session_ends.specs.Ends.{Gained, GainedPart}
+use Rattle.outside.specs.Ends.{Gained, GainedPart}
 use Rattle.session_tool.specs.declared.replaying.Stop.{Stop}
 use Rattle.session_tool.specs.declared.replaying.Stop.TheVariants.{BadEvent, Spent, NoMemory, WriteFault}
 use Rattle.session_tool.specs.Lines.{numbered_line}

@@ -11,7 +11,7 @@ mod streaming;
 mod tests;
 
 use crate::running::{NO_MEMORY, run};
-use session_ends::{MemWorld, WorldScript, standard_input, standard_output};
+use outside::{MemWorld, WorldScript, standard_input, standard_output};
 use std::alloc::{AllocError, Global};
 use std::env::Args;
 use std::io::ErrorKind;

@@ -1,10 +1,10 @@
 ghost use Rattle.std.specs.Prelude.{◌≡◌, ◌<◌, ◌≤◌, ◌-◌, length, Ok, IfOk, IsErrOf};
-ghost use Rattle.session_ends.specs.Ends.{Rose, IsAtEnd};
+ghost use Rattle.outside.specs.Ends.{Rose, IsAtEnd};
 ghost use Rattle.script_text.specs.Script.{max_text};
 ghost use Rattle.session_tool.specs.Reading.{Gains, Refuses, Decides};
 
+use outside::{Got, Source};
 use script_text::Intake;
-use session_ends::{Got, Source};
 use std::alloc::{AllocError, Global};
 
 /// How many bytes are read at a time.

@@ -1,5 +1,5 @@
 ghost use Rattle.std.specs.Prelude.{◌≡◌, ◌⊎◌, ℕ, ◌+◌, ◌≤◌, ◌++◌, [], ◌∷◌, length, true, false, OnOk, OnErr, IfOk, IfErr, IsErrOf};
-ghost use Rattle.session_ends.specs.Ends.{Rose};
+ghost use Rattle.outside.specs.Ends.{Rose};
 ghost use Rattle.shared_session.specs.Replay.{opening, state_after, actions_of, trace_of, is_bad_after, is_spent_after, AreGood, AreUnspent};
 ghost use Rattle.shared_session.specs.declared.session.Failure.TheVariants.{Sound, Spent};
 ghost use Rattle.shared_session.specs.Stops.{IsSpentBy};
@@ -10,7 +10,7 @@ ghost use Rattle.session_tool.specs.Stops.{Ends};
 use crate::streaming::{show_turn, write_large};
 use containers::Bytes;
 use driver_model::{Config, Event};
-use session_ends::Sink;
+use outside::Sink;
 use shared_session::{MakeError, Session, StepError};
 use std::alloc::{AllocError, Global};
 

@@ -1,5 +1,5 @@
 ghost use Rattle.std.specs.Prelude.{◌≡◌, ◌⊎◌, ◌≤◌, ◌++◌, ℕ, List, [], true, false, Some, codes, OnOk, IfErr, IsErrOf};
-ghost use Rattle.session_ends.specs.Ends.{Rose, Gained, GainedPart};
+ghost use Rattle.outside.specs.Ends.{Rose, Gained, GainedPart};
 ghost use Rattle.script_text.specs.Script.{script_of};
 ghost use Rattle.shared_session.specs.Replay.{trace_of, AreGood, AreUnspent};
 ghost use Rattle.trace_model.specs.Legal.{IsSettled};
@@ -16,8 +16,8 @@ use crate::lines::{HELP, READ_FAULT, USAGE, VERSION, push_line};
 use crate::reading::{ReadError, read_text};
 use crate::replaying::{Stop, replay_into};
 use containers::Bytes;
+use outside::{Sink, Source, World, write_all};
 use script_text::{Script, ScriptError, read_script};
-use session_ends::{Sink, Source, World, write_all};
 use std::alloc::{AllocError, Global};
 use std::sync::Wait;
 use std::thread::Threads;

@@ -1,11 +1,11 @@
 ghost use Rattle.std.specs.Prelude.{◌≡◌, ◌≤◌, ◌++◌, [], OnOk, OnErr, true, false};
-ghost use Rattle.session_ends.specs.Ends.{Rose, GainedPart};
+ghost use Rattle.outside.specs.Ends.{Rose, GainedPart};
 ghost use Rattle.trace_text.specs.Show.{show};
 ghost use Rattle.session_tool.specs.Streaming.{Sent};
 
 use containers::Bytes;
 use driver_model::Action;
-use session_ends::{Sink, write_all};
+use outside::{Sink, write_all};
 use std::alloc::{AllocError, Global};
 use trace_text::show;
 

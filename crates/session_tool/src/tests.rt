@@ -6,7 +6,7 @@ use super::command::Command;
 use super::reading::read_text;
 use super::running::{run, run_alone};
 use containers::{Bytes, Seq};
-use session_ends::{MemSink, MemSource, MemWorld, Source, SureSink, SureSource, WorldScript};
+use outside::{MemSink, MemSource, MemWorld, Source, SureSink, SureSource, WorldScript};
 use std::alloc::{AllocError, Global};
 use std::test::Fail;
 

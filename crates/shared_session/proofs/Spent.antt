@@ -3,6 +3,7 @@ use Rattle.std.proofs.Common.{◌≡◌, ℕ, ◌^◌, ◌<◌, ◌≤◌, List,
 use Rattle.std.proofs.Math.Nat.{le_refl}
 use Rattle.std.proofs.lemmas.Bool.Decides.{nat_tests}
 use Rattle.std.specs.Prelude.{if◌then◌else◌, nat_le}
+use Rattle.containers.proofs.Tests.{taken_if, left_if, or_right}
 use Rattle.driver_model.specs.declared.action.Action.TheVariants as action
 use Rattle.driver_model.specs.declared.action.Cause.TheVariants as cause
 use Rattle.driver_model.specs.declared.event.Event.{Event}
@@ -70,10 +71,6 @@ or_left : (a b : Bool) → a ≡ true → (a || b) ≡ true
 or_left true b h = refl
 or_left false b h = cc
 
-or_right : (a b : Bool) → (a || b) ≡ false → b ≡ false
-or_right true b h = cc
-or_right false b h = h
-
 lower : (n : ℕ) → nat_le (2 ^ 32) n ≡ false → n < 2 ^ 32
 lower n h = grind (arith, nat_tests, h)
 
@@ -81,29 +78,21 @@ lower n h = grind (arith, nat_tests, h)
 past : (n m : ℕ) → n ≤ m → nat_le (2 ^ 32) n ≡ true → nat_le (2 ^ 32) m ≡ true
 past n m l h = grind (arith, nat_tests, l, h)
 
-goes_on : (full : Bool) (c d : Connection) → full ≡ false → (if full then c else d) ≡ d
-goes_on true c d e = cc
-goes_on false c d e = refl
-
 -- one of those that wait runs out, and so do all
 pub spent_among : (c d : Connection) (w : Waiting) (ws : List Waiting) → is_full c.link ≡ false → advanced_each c (w ∷ ws) ≡ d → is_link_spent (advanced c w).link ≡ true → is_link_spent d.link ≡ true
 spent_among c d w ws free is h =
-    subst (λ (x : Connection). is_link_spent x.link ≡ true) (sym (goes_on (is_full c.link) (record c { waiting = w ∷ ws }) (advanced_each (advanced c w) ws) free) ∙ is)
+    subst (λ (x : Connection). is_link_spent x.link ≡ true) (sym (left_if (is_full c.link) (record c { waiting = w ∷ ws }) (advanced_each (advanced c w) ws) free) ∙ is)
     (past (count (advanced c w)) (count (advanced_each (advanced c w) ws)) (advanced_each_rises (advanced c w) ws) h)
-
-moved : (up : Bool) (c d : Connection) → up ≡ true → (if up then d else c) ≡ d
-moved true c d e = refl
-moved false c d e = cc
 
 -- starts run out before the others are moved
 pub spent_first : (c : Connection) → is_up c.phase ≡ true → is_link_spent (started c).link ≡ true → is_link_spent (passes c).link ≡ true
 spent_first c up h =
-    subst (λ (x : Connection). is_link_spent x.link ≡ true) (sym (moved (is_up c.phase) c (advanced_all (started c)) up))
+    subst (λ (x : Connection). is_link_spent x.link ≡ true) (sym (taken_if (is_up c.phase) (advanced_all (started c)) c up))
     (past (count (started c)) (count (advanced_all (started c))) (advanced_each_rises (record (started c) { waiting = [] }) (started c).waiting) h)
 
 -- or while they are moved
 pub spent_later : (c : Connection) → is_up c.phase ≡ true → is_link_spent (advanced_all (started c)).link ≡ true → is_link_spent (passes c).link ≡ true
-spent_later c up h = subst (λ (x : Connection). is_link_spent x.link ≡ true) (sym (moved (is_up c.phase) c (advanced_all (started c)) up)) h
+spent_later c up h = subst (λ (x : Connection). is_link_spent x.link ≡ true) (sym (taken_if (is_up c.phase) (advanced_all (started c)) c up)) h
 
 waits_shown_count : (c : Connection) (n : ℕ) → count (waits_shown c n) ≡ count c
 waits_shown_count c n = count_either (is_waiting_at c.requests n) c _ c (count_either (is_dialing c.phase) c _ c refl refl) refl

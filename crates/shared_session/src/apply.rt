@@ -1,13 +1,12 @@
 ghost use Rattle.std.specs.Prelude.{◌≡◌, ◌<◌, ◌≤◌, ◌+◌, ◌^◌, [], ◌∷◌, ◌++◌, length, true, false, OnOk, OnErr};
-ghost use Rattle.driver_model.specs.Shape.{outcome_of};
 ghost use Rattle.shared_session.specs.Steps.{is_ended as is_ended_in};
 
 use crate::connection::{Connection, Phase, Progress, Waiting};
 use containers::Queue;
-use driver_model::{Action, EventKind, Outcome, Submission, Verdict};
+use driver_model::{Action, EventKind, Outcome, Submission};
 use link_core::{LinkFault, Settled};
+use redis_error::RedisError;
 use resp_read::ReadError;
-use resp_value::RedisError;
 use std::alloc::{AllocError, Global};
 
 impl Connection {
@@ -22,7 +21,7 @@ impl Connection {
     {
         let mut rest = Queue::from_vec(settled);
         while let Some(message) = rest.pop_front() {
-            self.answer(alloc, message.id, outcome_from(message.verdict))?;
+            self.answer(alloc, message.id, message.verdict.into_outcome())?;
         }
         Ok(())
     }
@@ -241,15 +240,5 @@ impl Connection {
             EventKind::WriteFault { link, fault: _ } => *link != 0,
             EventKind::Shutdown => false,
         }
-    }
-}
-
-fn outcome_from(verdict: Verdict) -> Outcome
-    ensures { result ≡ outcome_of verdict }
-{
-    match verdict {
-        Verdict::One(value) => Outcome::One(value),
-        Verdict::Many(values) => Outcome::Many(values),
-        Verdict::Fault(error) => Outcome::Fault(error),
     }
 }

@@ -1,7 +1,8 @@
 use crate::{MakeError, ReplayError, Session, StepError};
 use containers::{Bytes, Names};
 use driver_model::{Action, Commands, Config, Event, EventKind, Outcome, Owner, Submission};
-use resp_value::{Aborts, FaultKind, RedisError, Value};
+use redis_error::{FaultKind, RedisError};
+use resp_value::{Aborts, Value};
 use std::alloc::{AllocError, Global};
 use std::process::Abort;
 

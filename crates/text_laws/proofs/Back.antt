@@ -8,15 +8,15 @@ use Rattle.driver_model.specs.declared.event.EventKind.{EventKind}
 use Rattle.driver_model.specs.declared.event.EventKind.TheVariants as event
 use Rattle.driver_model.specs.declared.event.Submission.{Submission}
 use Rattle.driver_model.specs.declared.event.Submission.TheVariants as submission
-use Rattle.resp_value.specs.declared.fault_kind.FaultKind.{FaultKind}
-use Rattle.resp_value.specs.declared.fault_kind.FaultKind.TheVariants as fault
-use Rattle.resp_value.specs.Names.{fault_name}
+use Rattle.redis_error.specs.declared.fault_kind.FaultKind.{FaultKind}
+use Rattle.redis_error.specs.declared.fault_kind.FaultKind.TheVariants as fault
+use Rattle.redis_error.specs.Names.{fault_name}
 use Rattle.script_text.specs.Numbers.{number, max_u16, max_u32, max_u64}
 use Rattle.script_text.specs.EventLine.{by_first, commands, submissions, faults, fault_among, failed, others, event_of}
 use Rattle.script_text.specs.Words.{LineWords, all_of}
 use Rattle.trace_model.specs.Legal.{event_causes}
 use Rattle.trace_text.specs.Show.{url, draw_words, config_words, first_of, behind_first, submission_words, submission_more, event_words, event_more}
-use Rattle.session_laws.proofs.Tests.{chosen, eq_from, eq_test, ne_test}
+use Rattle.containers.proofs.Tests.{chosen, eq_from, eq_test, ne_test}
 use Rattle.text_laws.specs.Fits.{FitsSubmission, FitsKind, FitsEvent, FitsConfig, FitsHistory}
 use Rattle.text_laws.specs.History.{drawn, onto_cut, cut_at_last, config_from, config_in, opening_in, drawing, event_in, script_with, history_in}
 use Rattle.text_laws.proofs.Bytes.{number_back, decimal_no_colon}
@@ -111,7 +111,7 @@ event_back e fits =
 
 -- the last of the bytes b is found
 last_cut : (b : ℕ) (front rest : List ℕ) → cut_at_last b rest ≡ None → cut_at_last b (front ++ b ∷ rest) ≡ Some (front, rest)
-last_cut b [] rest none = ap (onto_cut b b rest) none ∙ ap (λ t. if t then Some ([], rest) else None) (eq_test b)
+last_cut b [] rest none = ap (onto_cut b b rest) none ∙ ap (λ t. if t then Some ([], rest) else None) (eq_test b b refl)
 last_cut b (x ∷ front) rest none = ap (onto_cut b x (front ++ b ∷ rest)) (last_cut b front rest none)
 
 no_cut : (b : ℕ) (xs : List ℕ) → All (λ x. x ≢ b) xs → cut_at_last b xs ≡ None

@@ -4,11 +4,11 @@ use Rattle.std.proofs.lemmas.List.Elements.{All-cons, All-head, All-tail}
 use Rattle.driver_model.specs.declared.event.EventKind.{EventKind}
 use Rattle.driver_model.specs.declared.event.EventKind.TheVariants.{Submit, Cancel, Connected, Wrote, Bytes, Ended, ReadFault, WriteFault, Shutdown}
 use Rattle.driver_model.specs.declared.event.Submission.TheVariants.{Packed}
-use Rattle.resp_value.specs.declared.fault_kind.FaultKind.{FaultKind}
+use Rattle.redis_error.specs.declared.fault_kind.FaultKind.{FaultKind}
 use Rattle.script_text.specs.Numbers.{number, max_u32, max_u64}
 use Rattle.script_text.specs.Words.{LineWords}
 use Rattle.script_text.specs.EventLine.{Forms, by_first, whole, numbered, wrote, came, alone, faults, fault_among, failed, commands, packed, submissions, others, events, event_of}
-use Rattle.session_laws.proofs.Tests.{chosen}
+use Rattle.containers.proofs.Tests.{chosen}
 use Rattle.text_laws.specs.Fits.{AreBytes, FitsCommands, FitsSubmission, FitsKind, FitsEvent}
 use Rattle.text_laws.proofs.Held.{mapped, then_read, any_read, number_within}
 

@@ -2,6 +2,7 @@
 use Rattle.std.proofs.Common.{◌≡◌, ℕ, ◌+◌, ◌≤◌, ◌==◌, Bool, true, false, ◌&&◌, List, [], ◌∷◌, ◌++◌, length, Some, None, if◌then◌else◌, refl, sym, subst, append_assoc, arith, length-append}
 use Rattle.std.proofs.lemmas.Bool.Decides.{nat_tests}
 use Rattle.std.proofs.lemmas.List.{append-nil}
+use Rattle.containers.proofs.Tests.{eq_from}
 use Rattle.driver_model.specs.declared.action.Action.{Action}
 use Rattle.driver_model.specs.declared.action.Action.TheVariants as action
 use Rattle.driver_model.specs.declared.action.Cause.{Cause}
@@ -52,14 +53,11 @@ by_choice : (b : Bool) (x y : Story) → (b ≡ true → length x.outcomes ≤ 1
 by_choice true x y p q = p refl
 by_choice false x y p q = q
 
-same_number : (n m : ℕ) → (n == m) ≡ true → n ≡ m
-same_number n m t = grind (arith, nat_tests, t)
-
 one_behind_none : (os : List Outcome) (o : Outcome) → length os ≡ 0 → length (os ++ o ∷ []) ≤ 1
 one_behind_none os o e = let l : length (os ++ o ∷ []) ≡ length os + 1 = length-append os (o ∷ []) in omega (arith, l, e)
 
 answered_once : (s : Story) (n m : ℕ) (o : Outcome) → length s.outcomes ≤ 1 → (n ≡ m → length s.outcomes ≡ 0) → length (told s n (action.Outcome m o)).outcomes ≤ 1
-answered_once s n m o few none = by_choice (n == m) (record s { outcomes = s.outcomes ++ o ∷ []; waiting = None }) s (λ t. one_behind_none s.outcomes o (none (same_number n m t))) few
+answered_once s n m o few none = by_choice (n == m) (record s { outcomes = s.outcomes ++ o ∷ []; waiting = None }) s (λ t. one_behind_none s.outcomes o (none (eq_from n m t))) few
 
 once_more : (n : ℕ) (before : List Action) (a : Action) → MayStand before a → length (story n before).outcomes ≤ 1 → length (told (story n before) n a).outcomes ≤ 1
 once_more n before (action.Turn k c) may few = subst (λ os. length os ≤ 1) (sym (cause_answers_none (story n before) n c)) few

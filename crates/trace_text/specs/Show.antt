@@ -2,7 +2,7 @@
 use Rattle.std.specs.Prelude.{ℕ, ◌==◌, List, [], ◌∷◌, ◌++◌, codes, decimal, flat_map, if◌then◌else◌}
 use Rattle.std.specs.Str.{byte}
 use Rattle.resp_value.specs.Data.{array, items_of}
-use Rattle.resp_value.specs.Names.{fault_name}
+use Rattle.redis_error.specs.Names.{fault_name}
 use Rattle.resp_value.specs.View.{data_of}
 use Rattle.driver_model.specs.declared.config.Config.{Config}
 use Rattle.driver_model.specs.declared.event.Submission.{Submission}

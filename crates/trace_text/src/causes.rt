@@ -1,12 +1,12 @@
 ghost use Rattle.std.specs.Prelude.{◌≡◌, ◌++◌, ◌∷◌, [], OnOk, decimal};
-ghost use Rattle.resp_value.specs.Names.{fault_name};
+ghost use Rattle.redis_error.specs.Names.{fault_name};
 ghost use Rattle.trace_text.specs.Words.{following, separated};
 ghost use Rattle.trace_text.specs.Show.{bare_words, behind_first, cause_more, cause_words, config_words, event_more, event_words, first_of, submission_more, submission_words, url};
 
 use crate::writer::Writer;
 use containers::{Bytes, Names};
 use driver_model::{Cause, Config, EventKind, Submission};
-use resp_value::FaultKind;
+use redis_error::FaultKind;
 use std::alloc::{AllocError, Global};
 
 impl Writer {

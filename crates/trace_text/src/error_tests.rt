@@ -1,7 +1,8 @@
 use super::append_action;
 use containers::Bytes;
 use driver_model::{Action, Outcome};
-use resp_value::{Aborts, ConfigName, FaultKind, RedisError, RouteNumbers, ServerError, Value};
+use redis_error::{ConfigName, FaultKind, RedisError, RouteNumbers};
+use resp_value::{Aborts, ServerError, Value};
 use std::alloc::{AllocError, Global};
 
 fn bytes(alloc: Global, text: &[u8]) -> Result<Bytes, AllocError> {

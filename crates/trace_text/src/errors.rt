@@ -5,7 +5,8 @@ ghost use Rattle.trace_text.specs.Errors.{abort_word, error_words, server_text};
 use crate::writer::Writer;
 use containers::Bytes;
 use itoa::Buffer;
-use resp_value::{RedisError, ServerError, Value};
+use redis_error::RedisError;
+use resp_value::{ServerError, Value};
 use resp_write::canonical_text;
 use std::alloc::{AllocError, Global};
 

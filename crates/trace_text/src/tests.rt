@@ -3,7 +3,8 @@ use containers::{Bytes, Names, Seq};
 use driver_model::{
     Action, Cause, Commands, Config, Event, EventKind, Outcome, Owner, Submission, WaitKind,
 };
-use resp_value::{FaultKind, RedisError, ServerError, Value, Values};
+use redis_error::{FaultKind, RedisError};
+use resp_value::{ServerError, Value, Values};
 use std::alloc::{AllocError, Global};
 
 /// A request that is answered, and the same with a reply that is none.

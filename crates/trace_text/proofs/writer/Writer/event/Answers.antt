@@ -1,6 +1,6 @@
 use Rattle.std.proofs.Common.{◌≡◌, ℕ, List, [], ◌∷◌, ◌++◌, codes, decimal, sym, ap, ◌∙◌, append_assoc, append-nil}
 use Rattle.std.proofs.lemmas.Result.{on_ok_weaker}
-use Rattle.resp_value.specs.Names.{fault_name}
+use Rattle.redis_error.specs.Names.{fault_name}
 use Rattle.trace_text.specs.Words.{escaped, following}
 use Rattle.trace_text.proofs.writer.Writer.event.Goals as goal
 

@@ -1,0 +1,200 @@
+ghost use Rattle.std.specs.Prelude.{◌≡◌, IfOk, MatchOption};
+ghost use Rattle.resp_value.specs.ErrorTable.{is_unrecoverable};
+ghost use Rattle.redis_error.specs.Errors.{error_kind, error_method, is_dropped, is_io};
+ghost use Rattle.redis_error.specs.Redirected.{IsRedirected, IsNotRedirected};
+
+use crate::config_name::ConfigName;
+use crate::error_kind::ErrorKind;
+use crate::fault_kind::FaultKind;
+use crate::route_numbers::RouteNumbers;
+use containers::Bytes;
+use resp_value::{Aborts, Redirection, RetryMethod, ServerError, ServerErrorKind, Value};
+use std::alloc::{AllocError, Global};
+use std::fmt;
+use thiserror::Error;
+
+/// Why a request has no reply.
+#[derive(Drop, Error)]
+pub enum RedisError {
+    /// The configuration is refused, for what it says of `name`.
+    #[error("the configuration is refused: {}", .name.name())]
+    Config { name: ConfigName },
+    /// Automatic resubscription was asked for without a push sender.
+    #[error("automatic resubscription needs a push sender")]
+    Client,
+    /// A subscription call on a connection of RESP2.
+    #[error("subscriptions need RESP3")]
+    Resp3Required,
+    /// The request packs to no bytes.
+    #[error("the request has no command")]
+    EmptyCommand,
+    /// The link ended before the reply was whole, or had ended before.
+    #[error("the connection is closed")]
+    Closed,
+    /// The link failed while this request rested on it, or a timer fired first.
+    #[error("the link failed: {}", .fault.name())]
+    Io { fault: FaultKind },
+    /// No initial node could be reached; `last` is the error of the last try.
+    #[error("no initial node could be reached: {}", .last.as_slice().escape_ascii())]
+    CreateFailed { last: Bytes },
+    /// The link ended by bytes that begin no value while this request was the oldest one that awaited an item,
+    /// or the reply with the slots that it rests on has another shape.
+    #[error("the reply can not be read")]
+    Parse,
+    /// This value isn't of the type that is wanted.
+    #[error("the value is of another type")]
+    Convert { value: Value },
+    /// No link serves the request.
+    #[error("no link serves the request")]
+    NotFound,
+    /// The server's own error.
+    #[error(transparent)]
+    Server(ServerError),
+    /// The server refused commands of a transaction, and so all of it.
+    #[error("the transaction is aborted, {} of its commands are refused", .errors.len())]
+    Aborted { errors: Aborts },
+    /// The server refused the credentials, or their source ended before there were any.
+    #[error("authentication failed: {}", .text.as_slice().escape_ascii())]
+    AuthFailed { text: Bytes },
+    /// The source of credentials gave this error before there were any.
+    #[error("there are no credentials: {}", .text.as_slice().escape_ascii())]
+    Credentials { text: Bytes },
+    /// Two commands of a pipeline go to these different slots.
+    #[error("the pipeline has the slots {first} and {second}")]
+    CrossSlot { first: u16, second: u16 },
+    /// These routes of the request have no link, while others have one.
+    #[error("{} routes have no link", .routes.len())]
+    RouteWithoutLink { routes: RouteNumbers },
+    /// A transaction had no answer in as many turns as were allowed.
+    #[error("the transaction had no answer in {turns} turns")]
+    TurnsSpent { turns: u32 },
+}
+
+impl fmt::Debug for RedisError {
+    fn fmt<W: fmt::Write>(&self, f: &mut fmt::Formatter<W>) -> fmt::Result {
+        fmt::Display::fmt(self, f)
+    }
+}
+
+impl RedisError {
+    /// An equal value of its own.
+    pub fn clone(&self, alloc: Global) -> Result<RedisError, AllocError>
+        ensures { IfOk result (λ e. e ≡ self.now) }
+    {
+        match self {
+            RedisError::Config { name } => Ok(RedisError::Config { name: *name }),
+            RedisError::Client => Ok(RedisError::Client),
+            RedisError::Resp3Required => Ok(RedisError::Resp3Required),
+            RedisError::EmptyCommand => Ok(RedisError::EmptyCommand),
+            RedisError::Closed => Ok(RedisError::Closed),
+            RedisError::Io { fault } => Ok(RedisError::Io { fault: *fault }),
+            RedisError::CreateFailed { last } => {
+                let last = last.clone(alloc)?;
+                Ok(RedisError::CreateFailed { last })
+            }
+            RedisError::Parse => Ok(RedisError::Parse),
+            RedisError::Convert { value } => {
+                let value = value.clone(alloc)?;
+                Ok(RedisError::Convert { value })
+            }
+            RedisError::NotFound => Ok(RedisError::NotFound),
+            RedisError::Server(error) => Ok(RedisError::Server(error.clone(alloc)?)),
+            RedisError::Aborted { errors } => {
+                let errors = errors.clone(alloc)?;
+                Ok(RedisError::Aborted { errors })
+            }
+            RedisError::AuthFailed { text } => {
+                let text = text.clone(alloc)?;
+                Ok(RedisError::AuthFailed { text })
+            }
+            RedisError::Credentials { text } => {
+                let text = text.clone(alloc)?;
+                Ok(RedisError::Credentials { text })
+            }
+            RedisError::CrossSlot { first, second } => Ok(RedisError::CrossSlot {
+                first: *first,
+                second: *second,
+            }),
+            RedisError::RouteWithoutLink { routes } => {
+                let routes = routes.clone(alloc)?;
+                Ok(RedisError::RouteWithoutLink { routes })
+            }
+            RedisError::TurnsSpent { turns } => Ok(RedisError::TurnsSpent { turns: *turns }),
+        }
+    }
+
+    /// What it is about.
+    pub fn kind(&self) -> ErrorKind
+        ensures { result ≡ error_kind self.now }
+    {
+        match self {
+            RedisError::Config { .. } => ErrorKind::InvalidClientConfig,
+            RedisError::Client => ErrorKind::Client,
+            RedisError::Resp3Required => ErrorKind::Resp3Required,
+            RedisError::EmptyCommand => ErrorKind::EmptyCommand,
+            RedisError::Closed => ErrorKind::Io,
+            RedisError::Io { .. } => ErrorKind::Io,
+            RedisError::CreateFailed { .. } => ErrorKind::Io,
+            RedisError::Parse => ErrorKind::Parse,
+            RedisError::Convert { .. } => ErrorKind::UnexpectedReturnType,
+            RedisError::NotFound => ErrorKind::ClusterConnectionNotFound,
+            RedisError::Server(error) => ErrorKind::Server(error.kind()),
+            RedisError::Aborted { .. } => ErrorKind::Server(ServerErrorKind::ExecAbort),
+            RedisError::AuthFailed { .. } => ErrorKind::AuthenticationFailed,
+            RedisError::Credentials { .. } => ErrorKind::Credentials,
+            RedisError::CrossSlot { .. } => ErrorKind::Server(ServerErrorKind::CrossSlot),
+            RedisError::RouteWithoutLink { .. } => ErrorKind::RouteWithoutLink,
+            RedisError::TurnsSpent { .. } => ErrorKind::TurnsSpent,
+        }
+    }
+
+    /// How the request is tried again.
+    pub fn retry_method(&self) -> RetryMethod
+        ensures { result ≡ error_method self.now }
+    {
+        match self {
+            RedisError::Closed => RetryMethod::Reconnect,
+            RedisError::Io { fault } => fault.retry_method(),
+            RedisError::Parse => RetryMethod::Reconnect,
+            RedisError::NotFound => RetryMethod::ReconnectFromInitialConnections,
+            RedisError::Server(error) => error.retry_method(),
+            RedisError::AuthFailed { .. } => RetryMethod::Reconnect,
+            _ => RetryMethod::NoRetry,
+        }
+    }
+
+    /// Where it leads, if it is a redirect of a server.
+    pub fn redirect_node(&self) -> Option<Redirection<'_>>
+        ensures { MatchOption result (IsNotRedirected self.now) (λ r. IsRedirected self.now r.slot r.address.now r.ask) }
+    {
+        match self {
+            RedisError::Server(error) => error.redirect_node(),
+            _ => None,
+        }
+    }
+
+    /// Whether a link failed, or could not be made.
+    pub fn is_io_error(&self) -> bool
+        ensures { result ≡ is_io self.now }
+    {
+        matches!(self.kind(), ErrorKind::Io)
+    }
+
+    /// Whether the peer or the driver dropped the link.
+    pub fn is_connection_dropped(&self) -> bool
+        ensures { result ≡ is_dropped self.now }
+    {
+        match self {
+            RedisError::Closed => true,
+            RedisError::Io { fault } => fault.is_drop(),
+            _ => false,
+        }
+    }
+
+    /// Whether a link has to be made anew before the request can be tried again.
+    pub fn is_unrecoverable_error(&self) -> bool
+        ensures { result ≡ is_unrecoverable (error_method self.now) }
+    {
+        self.retry_method().is_unrecoverable()
+    }
+}

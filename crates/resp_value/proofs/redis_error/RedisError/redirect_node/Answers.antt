@@ -1,4 +1,0 @@
-use Rattle.resp_value.proofs.redis_error.RedisError.redirect_node.Goals as goal
-
-pub returns-in-Server : goal.returns-in-Server
-returns-in-Server c = rw c.in-Server.is c.redirect_node.ensures
