@@ -15,8 +15,8 @@ use Rattle.driver_model.specs.declared.outcome.Outcome.{Outcome}
 use Rattle.driver_model.specs.declared.outcome.Outcome.TheVariants as outcome
 use Rattle.driver_model.specs.Shape.{outcome_of}
 use Rattle.driver_model.specs.Request.{packed}
-use Rattle.link_core.specs.declared.errors.LinkFault.{LinkFault}
-use Rattle.link_core.specs.declared.errors.LinkFault.TheVariants as fault
+use Rattle.driver_model.specs.declared.news.LinkFault.{LinkFault}
+use Rattle.driver_model.specs.declared.news.LinkFault.TheVariants as fault
 use Rattle.link_core.specs.declared.message.Settled.{Settled}
 use Rattle.link_core.specs.declared.message.Started.{Started}
 use Rattle.link_core.specs.Link.{LinkState, Settling, is_full, enqueued, started_all, offered_of, wrote_of, cancelled, came, faulted, closed_all}

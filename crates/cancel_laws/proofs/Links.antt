@@ -6,7 +6,7 @@ use Rattle.redis_error.specs.declared.redis_error.RedisError.TheVariants as erro
 use Rattle.resp_read.specs.Items.{items}
 use Rattle.driver_model.specs.Shape.{need, verdict}
 use Rattle.driver_model.specs.declared.outcome.Verdict.TheVariants.{Fault}
-use Rattle.link_core.specs.declared.errors.LinkFault.{LinkFault}
+use Rattle.driver_model.specs.declared.news.LinkFault.{LinkFault}
 use Rattle.link_core.specs.declared.message.Entry.{Entry}
 use Rattle.link_core.specs.declared.message.Queued.{Queued}
 use Rattle.link_core.specs.declared.message.Settled.{Settled}

@@ -1,5 +1,5 @@
 -- What a submission sends, and what it awaits.
-use Rattle.std.specs.Prelude.{ℕ, ◌+◌, Bool, true, false, List, length}
+use Rattle.std.specs.Prelude.{ℕ, ◌+◌, Bool, true, false, List, [], ◌∷◌, length}
 use Rattle.resp_write.specs.Pack.{pack, pack_commands, commands_of}
 use Rattle.driver_model.specs.declared.event.Submission.{Submission}
 use Rattle.driver_model.specs.declared.event.Submission.TheVariants as submission
@@ -30,3 +30,16 @@ awaits_reply (submission.NoReply args) = false
 awaits_reply (submission.Pipe commands) = true
 awaits_reply (submission.Multi commands) = true
 awaits_reply (submission.Packed offset count commands) = true
+
+-- one command without a name
+abbrev pub is_one_nameless : List (List (List ℕ)) → Bool
+is_one_nameless ([] ∷ []) = true
+is_one_nameless _ = false
+
+-- a list of exactly one command without a name, which has no form of its own in a script
+abbrev pub is_formless : Submission → Bool
+is_formless (submission.Cmd args) = false
+is_formless (submission.NoReply args) = false
+is_formless (submission.Pipe commands) = is_one_nameless commands
+is_formless (submission.Multi commands) = is_one_nameless commands
+is_formless (submission.Packed offset count commands) = is_one_nameless commands

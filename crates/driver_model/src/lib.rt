@@ -5,6 +5,7 @@ mod action;
 mod commands;
 mod config;
 mod event;
+mod news;
 mod outcome;
 mod request;
 #[cfg(test)]
@@ -15,4 +16,5 @@ pub use action::{Action, Cause, Owner, WaitKind};
 pub use commands::Commands;
 pub use config::Config;
 pub use event::{Event, EventKind, Submission};
+pub use news::{LinkFault, LinkNews};
 pub use outcome::{Outcome, Shape, Verdict};

@@ -6,12 +6,10 @@ use Rattle.driver_model.specs.declared.action.Cause.{Cause}
 use Rattle.driver_model.specs.declared.action.Cause.TheVariants as cause
 use Rattle.driver_model.specs.declared.action.Owner.{Owner}
 use Rattle.driver_model.specs.declared.action.Owner.TheVariants as owner
-use Rattle.driver_model.specs.declared.action.WaitKind.{WaitKind}
 use Rattle.driver_model.specs.declared.event.EventKind.{EventKind}
 use Rattle.driver_model.specs.declared.event.EventKind.TheVariants as event
-use Rattle.driver_model.specs.declared.outcome.Outcome.{Outcome}
 use Rattle.driver_model.specs.News.{news}
-use Rattle.legal_trace.specs.Ledger.{Ledger, Start, Line, asks, hears, starts, offers, ends, blank_ledger, noted_each}
+use Rattle.legal_trace.specs.Ledger.{Ledger, Start, Line, asks, hears, begins, offers, ends, blank_ledger, noted_each}
 use Rattle.legal_trace.specs.Story.{Story, blank_story, bytes_of, shape, handed_in, left, tried, waits, answered}
 
 -- how many links were asked for, and the ledger of each; how many submissions were handed in, and the story of each;
@@ -45,7 +43,7 @@ lines_of b n (action.Turn number (cause.Event e)) = hears (news n e.kind) ∷ []
 lines_of b n (action.Connect l host port) = if_mine (l == n) asks
 lines_of b n (action.Close l) = if_mine (l == n) (ends (b.turns - 1))
 lines_of b n (action.Write l bytes) = if_mine (l == n) (offers bytes)
-lines_of b n (action.Start l message who count len) = if_mine (l == n) (starts (message_of b who))
+lines_of b n (action.Start l message who count len) = if_mine (l == n) (begins (message_of b who))
 lines_of b n (action.Wait who kind) = []
 lines_of b n action.Created = []
 lines_of b n (action.Outcome m o) = []

@@ -114,12 +114,12 @@ full_count (s ∷ ss) dealt = if nat_le (need_in s.shape dealt) (length dealt) t
 abbrev pub ended : Ledger → ℕ → Ledger
 ended l turn = record l { up = false; end = Some (record { turn = turn; why = ending_or_shutdown (ending l); oldest = full_count l.starts l.dealt }) }
 
--- a line of what is told of a link: its connect is asked for; a turn begins, with this news for it; a message starts; its
+-- a line of what is told of a link: its connect is asked for; a turn, with this news for it; a message begins; its
 -- unwritten bytes are offered; it ends, in that turn
 pub data Line : Type 0 where
   asks : Line
   hears : News → Line
-  starts : Start → Line
+  begins : Start → Line
   offers : List ℕ → Line
   ends : ℕ → Line
 
@@ -127,7 +127,7 @@ pub data Line : Type 0 where
 abbrev pub noted : Ledger → Line → Ledger
 noted l asks = record l { asked = true }
 noted l (hears news) = record (with_news l news) { heard = news }
-noted l (starts s) = record l { starts = l.starts ++ s ∷ [] }
+noted l (begins s) = record l { starts = l.starts ++ s ∷ [] }
 noted l (offers bytes) = record l { offer = bytes }
 noted l (ends turn) = ended l turn
 
@@ -165,7 +165,7 @@ IsWithin l _ = Unit {0}
 abbrev pub MayNote : Ledger → Line → Type 0
 MayNote l asks = l.asked ≡ false
 MayNote l (hears news) = IsWithin l news
-MayNote l (starts s) = (l.up ≡ true) × (s.bytes ≢ [])
+MayNote l (begins s) = (l.up ≡ true) × (s.bytes ≢ [])
 MayNote l (offers bytes) = (l.up ≡ true) × (l.offer ≡ []) × (bytes ≡ unwritten l) × (bytes ≢ [])
 MayNote l (ends turn) = (why : Ending) × (ending l ≡ Some why)
 

@@ -1,7 +1,7 @@
 -- When a trace can be relied on: said of its book alone, apart from any machine. A turn has five segments: the event's own
 -- effect, the passes, the writes, the waits, and the closes of links that nothing uses any more, of which there are none on
 -- one connection. An action stands where it is the next that is due, once all before it are done.
-use Rattle.std.specs.Prelude.{◌≡◌, ◌≢◌, ◌⊎◌, ℕ, ◌+◌, ◌<◌, ◌≤◌, Bool, true, false, List, [], ◌∷◌, length, Option, Some, None}
+use Rattle.std.specs.Prelude.{◌≡◌, ◌≢◌, ◌⊎◌, ℕ, ◌<◌, true, false, List, [], ◌∷◌, length, Some, None}
 use Rattle.resp_value.specs.declared.value.Value.TheVariants.{Nil}
 use Rattle.driver_model.specs.declared.action.Action.{Action}
 use Rattle.driver_model.specs.declared.action.Action.TheVariants as action
@@ -15,7 +15,7 @@ use Rattle.driver_model.specs.declared.event.Event.{Event}
 use Rattle.driver_model.specs.declared.outcome.Outcome.{Outcome}
 use Rattle.driver_model.specs.declared.outcome.Outcome.TheVariants as outcome
 use Rattle.driver_model.specs.Shape.{need}
-use Rattle.legal_trace.specs.Ledger.{Ledger, Ending, IsOffered, is_over, ending, unwritten, starts, offers, MayNote}
+use Rattle.legal_trace.specs.Ledger.{Ledger, Ending, IsOffered, is_over, ending, unwritten}
 use Rattle.legal_trace.specs.Story.{Story, Try, last_of, is_open, is_awaited, bytes_of, shape}
 use Rattle.legal_trace.specs.Book.{Book, blank_book, book, entered}
 use Rattle.legal_trace.specs.Owed.{owed, is_full}

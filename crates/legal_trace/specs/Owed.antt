@@ -1,8 +1,7 @@
 -- What an open submission is owed: its outcome, with its cause.
-use Rattle.std.specs.Prelude.{◌≡◌, ◌≢◌, ◌⊎◌, ℕ, ◌==◌, nat_le, Bool, true, false, ◌&&◌, List, [], ◌∷◌, length, take, drop, Option, Some, None, slice_get, if◌then◌else◌}
+use Rattle.std.specs.Prelude.{ℕ, ◌+◌, ◌==◌, nat_le, Bool, List, length, take, drop, Option, Some, None, if◌then◌else◌}
 use Rattle.redis_error.specs.declared.redis_error.RedisError.{RedisError}
 use Rattle.redis_error.specs.declared.redis_error.RedisError.TheVariants as error
-use Rattle.resp_value.specs.declared.value.Value.TheVariants.{Nil}
 use Rattle.resp_value.specs.Data.{Data}
 use Rattle.driver_model.specs.declared.news.LinkFault.{LinkFault}
 use Rattle.driver_model.specs.declared.news.LinkFault.TheVariants as fault
@@ -11,7 +10,7 @@ use Rattle.driver_model.specs.declared.outcome.Outcome.TheVariants as outcome
 use Rattle.driver_model.specs.declared.outcome.Shape.{Shape}
 use Rattle.driver_model.specs.declared.outcome.Shape.TheVariants.{Single, Pipeline}
 use Rattle.driver_model.specs.Shape.{verdict, outcome_of}
-use Rattle.legal_trace.specs.Ledger.{Ledger, Start, End, Ending, by_shutdown, by_fault, need_in, reached}
+use Rattle.legal_trace.specs.Ledger.{Ledger, End, Ending, by_shutdown, by_fault, need_in, reached}
 use Rattle.legal_trace.specs.Story.{Story, Try, bytes_of, shape, last_of}
 use Rattle.legal_trace.specs.Book.{Book}
 

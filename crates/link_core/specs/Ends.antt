@@ -5,8 +5,8 @@ use Rattle.redis_error.specs.declared.redis_error.RedisError.TheVariants as erro
 use Rattle.driver_model.specs.declared.outcome.Shape.{Shape}
 use Rattle.driver_model.specs.declared.outcome.Shape.TheVariants.{Single, Pipeline}
 use Rattle.driver_model.specs.declared.outcome.Verdict.TheVariants as verdict
-use Rattle.link_core.specs.declared.errors.LinkFault.{LinkFault}
-use Rattle.link_core.specs.declared.errors.LinkFault.TheVariants as fault
+use Rattle.driver_model.specs.declared.news.LinkFault.{LinkFault}
+use Rattle.driver_model.specs.declared.news.LinkFault.TheVariants as fault
 use Rattle.link_core.specs.declared.message.Queued.{Queued}
 use Rattle.link_core.specs.declared.message.Entry.{Entry}
 use Rattle.link_core.specs.declared.message.Settled.{Settled}

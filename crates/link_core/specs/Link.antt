@@ -3,7 +3,7 @@ use Rattle.std.specs.Prelude.{ℕ, ◌+◌, ◌^◌, nat_lt, nat_le, Bool, false
 use Rattle.resp_read.specs.Values.{values, left_over, is_spoiled}
 use Rattle.resp_read.specs.Items.{items}
 use Rattle.driver_model.specs.Shape.{need}
-use Rattle.link_core.specs.declared.errors.LinkFault.{LinkFault}
+use Rattle.driver_model.specs.declared.news.LinkFault.{LinkFault}
 use Rattle.link_core.specs.declared.message.Queued.{Queued}
 use Rattle.link_core.specs.declared.message.Entry.{Entry}
 use Rattle.link_core.specs.declared.message.Started.{Started}

@@ -1,4 +1,3 @@
-use redis_error::FaultKind;
 use std::alloc::AllocError;
 
 /// Why a message took no place in the queue.
@@ -15,17 +14,6 @@ pub enum StartError {
     /// The number 2^32 - 1 would have been given to a message.
     Spent,
     NoMemory,
-}
-
-/// How a link ended.
-#[derive(Clone, Copy, PartialEq, Eq)]
-pub enum LinkFault {
-    /// The peer closed it.
-    Ended,
-    /// A read or a write failed.
-    Io { fault: FaultKind },
-    /// Bytes came that begin no value.
-    Parse,
 }
 
 impl From<AllocError> for EnqueueError {

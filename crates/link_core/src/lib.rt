@@ -7,7 +7,8 @@ mod message;
 mod outbox;
 mod row;
 
-pub use errors::{EnqueueError, LinkFault, StartError};
+pub use driver_model::LinkFault;
+pub use errors::{EnqueueError, StartError};
 pub use link::LinkCore;
 pub use message::{Entry, PushAt, PushInfo, Queued, Settled, Started};
 pub use outbox::Outbox;

@@ -7,12 +7,12 @@ ghost use Rattle.resp_value.specs.View.{data_of};
 ghost use Rattle.resp_read.specs.Values.{values, left_over, is_spoiled};
 ghost use Rattle.resp_read.specs.Items.{items, is_item as is_item_data};
 
-use crate::errors::{EnqueueError, LinkFault, StartError};
+use crate::errors::{EnqueueError, StartError};
 use crate::message::{Entry, PushAt, PushInfo, Queued, Settled, Started};
 use crate::outbox::Outbox;
 use crate::row::{Row, fail};
 use containers::{Bytes, Queue};
-use driver_model::Shape;
+use driver_model::{LinkFault, Shape};
 use redis_error::RedisError;
 use resp_read::{Health, ReadError, Reader};
 use resp_value::{Value, Values};

@@ -3,9 +3,8 @@ ghost use Rattle.link_core.specs.Dealing.{settled_by};
 ghost use Rattle.link_core.specs.Ends.{failed_by, hit_by};
 ghost use Rattle.link_core.specs.Row.{lack as lack_of};
 
-use crate::errors::LinkFault;
 use crate::message::{Entry, Settled};
-use driver_model::{Shape, Verdict};
+use driver_model::{LinkFault, Shape, Verdict};
 use redis_error::RedisError;
 use resp_value::Value;
 use std::alloc::{AllocError, Global};

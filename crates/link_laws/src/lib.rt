@@ -2,7 +2,7 @@
 #![tactic(auto)]
 
 ghost use Rattle.std.specs.Prelude.{◌≡◌, ℕ, List, [], ◌∷◌, ◌++◌};
-ghost use Rattle.link_core.specs.declared.errors.LinkFault.{LinkFault};
+ghost use Rattle.driver_model.specs.declared.news.LinkFault.{LinkFault};
 ghost use Rattle.link_core.specs.declared.message.Queued.{Queued};
 ghost use Rattle.link_core.specs.declared.message.Settled.{Settled};
 ghost use Rattle.link_core.specs.declared.message.Started.{Started};

@@ -13,8 +13,8 @@ use Rattle.driver_model.specs.declared.outcome.Outcome.{Outcome}
 use Rattle.redis_error.specs.declared.redis_error.RedisError.TheVariants as error
 use Rattle.resp_value.specs.declared.value.Value.TheVariants.{Nil}
 use Rattle.driver_model.specs.declared.outcome.Outcome.TheVariants as outcome
-use Rattle.link_core.specs.declared.errors.LinkFault.{LinkFault}
-use Rattle.link_core.specs.declared.errors.LinkFault.TheVariants as fault
+use Rattle.driver_model.specs.declared.news.LinkFault.{LinkFault}
+use Rattle.driver_model.specs.declared.news.LinkFault.TheVariants as fault
 use Rattle.link_core.specs.declared.message.Settled.{Settled}
 use Rattle.link_core.specs.declared.message.Started.{Started}
 use Rattle.link_core.specs.Link.{Settling, is_full, started_all, came, faulted, closed_all}

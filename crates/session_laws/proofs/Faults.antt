@@ -17,8 +17,8 @@ use Rattle.driver_model.specs.declared.outcome.Shape.{Shape}
 use Rattle.driver_model.specs.declared.outcome.Shape.TheVariants.{Single, Pipeline}
 use Rattle.driver_model.specs.Request.{packed, shape_of}
 use Rattle.driver_model.specs.Shape.{is_single}
-use Rattle.link_core.specs.declared.errors.LinkFault.{LinkFault}
-use Rattle.link_core.specs.declared.errors.LinkFault.TheVariants as fault
+use Rattle.driver_model.specs.declared.news.LinkFault.{LinkFault}
+use Rattle.driver_model.specs.declared.news.LinkFault.TheVariants as fault
 use Rattle.link_core.specs.declared.message.Settled.{Settled}
 use Rattle.link_core.specs.Ends.{error_of, hit_by, row_closed, row_hit, queue_closed}
 use Rattle.link_core.specs.Link.{closed_all}

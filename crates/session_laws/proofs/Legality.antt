@@ -10,7 +10,7 @@ use Rattle.driver_model.specs.declared.config.Config.{Config}
 use Rattle.driver_model.specs.declared.event.Event.{Event}
 use Rattle.driver_model.specs.declared.event.EventKind.{EventKind}
 use Rattle.driver_model.specs.declared.event.EventKind.TheVariants as event
-use Rattle.link_core.specs.declared.errors.LinkFault.TheVariants as fault
+use Rattle.driver_model.specs.declared.news.LinkFault.TheVariants as fault
 use Rattle.shared_session.specs.declared.connection.Connection.{Connection}
 use Rattle.shared_session.specs.declared.core_state.Core.{Core}
 use Rattle.shared_session.specs.Steps.{is_ended, passes, flushed, connected, wrote, read, faulted_by}

@@ -14,8 +14,8 @@ use Rattle.driver_model.specs.declared.outcome.Outcome.{Outcome}
 use Rattle.driver_model.specs.declared.outcome.Outcome.TheVariants as outcome
 use Rattle.driver_model.specs.Request.{packed}
 use Rattle.driver_model.specs.Shape.{outcome_of}
-use Rattle.link_core.specs.declared.errors.LinkFault.{LinkFault}
-use Rattle.link_core.specs.declared.errors.LinkFault.TheVariants as fault
+use Rattle.driver_model.specs.declared.news.LinkFault.{LinkFault}
+use Rattle.driver_model.specs.declared.news.LinkFault.TheVariants as fault
 use Rattle.link_core.specs.declared.message.Settled.{Settled}
 use Rattle.link_core.specs.declared.message.Started.{Started}
 use Rattle.link_core.specs.Link.{Settling, is_full, started_all, came, faulted, closed_all}
