@@ -1,3 +1,5 @@
 pub mod Alike
 pub mod Cancels
 pub mod Places
+pub mod Lists
+pub mod Rows
