@@ -3,3 +3,4 @@ pub mod Cancels
 pub mod Places
 pub mod Lists
 pub mod Rows
+pub mod Dealt
