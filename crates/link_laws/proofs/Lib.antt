@@ -4,3 +4,5 @@ pub mod Places
 pub mod Lists
 pub mod Rows
 pub mod Dealt
+pub mod Choices
+pub mod TiedLink

@@ -1,3 +1,4 @@
 pub mod Alike
 pub mod Places
 pub mod Settles
+pub mod Starts
