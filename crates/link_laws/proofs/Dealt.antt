@@ -1,5 +1,5 @@
 -- Items that are dealt fill the started messages in the order of their starts.
-use Rattle.std.proofs.Common.{◌≡◌, ℕ, suc, ◌+◌, ◌-◌, ◌<◌, ◌≤◌, nat_le, nat_lt, Bool, true, false, if◌then◌else◌, List, [], ◌∷◌, ◌++◌, length, take, drop, refl, sym, ap, ◌∙◌, subst, append_assoc, arith, length-drop, length-append}
+use Rattle.std.proofs.Common.{◌≡◌, ℕ, suc, ◌+◌, ◌-◌, ◌<◌, ◌≤◌, nat_le, nat_lt, true, false, if◌then◌else◌, List, [], ◌∷◌, ◌++◌, length, take, drop, refl, sym, ap, ◌∙◌, subst, append_assoc, arith, length-drop, length-append}
 use Rattle.std.specs.List.{AllByRecursion}
 use Rattle.std.proofs.lemmas.List.{append-nil, drop-append-le, take_all, take-append-le, length_push, drop-drop}
 use Rattle.containers.proofs.Places.{get_within}
@@ -12,7 +12,7 @@ use Rattle.link_core.specs.declared.message.Entry.{Entry}
 use Rattle.link_core.specs.declared.message.Settled.{Settled}
 use Rattle.link_core.specs.Dealing.{Dealing, with_item, settled_by, given, dealt_to, dealt, dealt_each}
 use Rattle.legal_trace.specs.Ledger.{Start, need_in, reach}
-use Rattle.link_laws.specs.Settles.{settled_ids, wanted, StandsAs}
+use Rattle.link_laws.specs.Settles.{StandsAs}
 use Rattle.link_laws.proofs.Lists.{heads_same, get_before, take_none}
 use Rattle.link_laws.proofs.Rows.{reach_same, reach_next, Open, open_rows, open_of, open_list, open_rows-item, none_open}
 
@@ -120,26 +120,11 @@ pub all_append : {X : Type 0} (P : X → Type 0) (xs ys : List X) → AllByRecur
 all_append P [] ys all also = also
 all_append P (x ∷ xs) ys all also = (all.0, all_append P xs ys all.1 also)
 
-pub settled_ids-append : (xs ys : List Settled) → settled_ids (xs ++ ys) ≡ settled_ids xs ++ settled_ids ys
-settled_ids-append [] ys = refl
-settled_ids-append (x ∷ xs) ys = ap (λ ns. x.id ∷ ns) (settled_ids-append xs ys)
-
--- what a row has been dealt: the row is that of the ledger, each settled message has its cut, and all that was wanted is
--- settled or still wanted, in order
-pub record IsDealt (name : ℕ → Owner) (ss : List Start) (items : List Data) (before : List Entry) (d : Dealing) : Type 0 where
+-- what a row has been dealt: the row is that of the ledger, and each settled message has its cut
+pub record IsDealt (name : ℕ → Owner) (ss : List Start) (items : List Data) (d : Dealing) : Type 0 where
   pub row : open_list name d.row ≡ open_rows ss items
   pub within : length items ≤ reach ss items
   pub cuts : AreCuts name ss items d.out
-  pub kept : settled_ids d.out ++ wanted d.row ≡ wanted before
-
-settled_by_id : (b : Bool) (e : Entry) → settled_ids (if b then record { id = e.id; verdict = verdict e.shape e.got } ∷ [] else []) ≡ (if b then e.id ∷ [] else [])
-settled_by_id true e = refl
-settled_by_id false e = refl
-
-more_settled : (out : List Settled) (e : Entry) (es : List Entry) (before : List ℕ) → settled_ids out ++ wanted (e ∷ es) ≡ before → settled_ids (out ++ settled_by e) ++ wanted es ≡ before
-more_settled out e es before k =
-    ap (λ ns. ns ++ wanted es) (settled_ids-append out (settled_by e) ∙ ap (λ ns. settled_ids out ++ ns) (settled_by_id e.awaited e))
-    ∙ append_assoc (settled_ids out) (if e.awaited then e.id ∷ [] else []) (wanted es) ∙ k
 
 settled_cuts : (name : ℕ → Owner) (ss : List Start) (items : List Data) (e : Entry) → HasCut ss items (name e.id) e.shape e.got → AreCuts name ss items (settled_by e)
 settled_cuts name ss items e h =
@@ -154,21 +139,19 @@ open_from : (e : Entry) (item : Data) → nat_lt (length (with_item e item).got)
 open_from e item t = not_le_test _ _ (omega (arith, lt_from _ _ t, length_push e.got item))
 
 -- the first row gets an item
-given_dealt : (name : ℕ → Owner) (ss : List Start) (items : List Data) (before : List Entry) (d : Dealing) (item : Data) (e : Entry) (es : List Entry) → d.row ≡ e ∷ es → IsDealt name ss items before d
-    → (length items < reach ss items) × IsDealt name ss (items ++ item ∷ []) before (given d (with_item e item) es)
-given_dealt name ss items before d item e es is h =
+given_dealt : (name : ℕ → Owner) (ss : List Start) (items : List Data) (d : Dealing) (item : Data) (e : Entry) (es : List Entry) → d.row ≡ e ∷ es → IsDealt name ss items d
+    → (length items < reach ss items) × IsDealt name ss (items ++ item ∷ []) (given d (with_item e item) es)
+given_dealt name ss items d item e es is h =
     let r : open_rows ss items ≡ open_of name e ∷ open_list name es = sym h.row ∙ ap (open_list name) is in
     let k = open_rows-item ss items item (open_of name e) (open_list name es) r in
     let w : length (items ++ item ∷ []) ≤ reach ss (items ++ item ∷ []) = omega (arith, k.0, reach_same ss items (items ++ item ∷ []), length_push items item) in
-    let same : settled_ids d.out ++ wanted (e ∷ es) ≡ wanted before = ap (λ row. settled_ids d.out ++ wanted row) (sym is) ∙ h.kept in
     let cuts = cuts_stay name ss items (item ∷ []) d.out h.cuts in (
       k.0,
-      chosen (IsDealt name ss (items ++ item ∷ []) before) (nat_lt (length (with_item e item).got) (need e.shape)) _ _
+      chosen (IsDealt name ss (items ++ item ∷ []))  (nat_lt (length (with_item e item).got) (need e.shape)) _ _
           (λ t. record {
             row = sym (k.1 ∙ if_false (λ os. os ≡ open_of name (with_item e item) ∷ open_list name es) _ (open_list name es) _ (open_from e item t) refl);
             within = w;
             cuts = cuts;
-            kept = same;
           })
           (λ f.
           let full = full_from e item f in
@@ -177,7 +160,6 @@ given_dealt name ss items before d item e es is h =
             row = sym (k.1 ∙ if_true (λ os. os ≡ open_list name es) _ (open_list name es) _ full refl);
             within = w;
             cuts = all_append (IsCutOf name ss (items ++ item ∷ [])) d.out (settled_by (with_item e item)) cuts (settled_cuts name ss (items ++ item ∷ []) (with_item e item) cut);
-            kept = more_settled d.out (with_item e item) es (wanted before) same;
           }),
     )
 
@@ -191,14 +173,14 @@ lt_test a b l = by_test (nat_lt a b) _ (λ t. t) (λ f. absurd (let m = not_lt_f
 not_lt_test : (a b : ℕ) → b ≤ a → nat_lt a b ≡ false
 not_lt_test a b l = by_test (nat_lt a b) _ (λ t. absurd (let m = lt_from a b t in omega arith)) (λ f. f)
 
-one_dealt : (name : ℕ → Owner) (ss : List Start) (items : List Data) (before : List Entry) (d : Dealing) (item : Data) (row : List Entry) → d.row ≡ row → IsDealt name ss items before d
-    → IsDealt name ss (taken_item (reach ss items) items item) before (dealt_to d item row)
-one_dealt name ss items before d item [] is h =
+one_dealt : (name : ℕ → Owner) (ss : List Start) (items : List Data) (d : Dealing) (item : Data) (row : List Entry) → d.row ≡ row → IsDealt name ss items d
+    → IsDealt name ss (taken_item (reach ss items) items item) (dealt_to d item row)
+one_dealt name ss items d item [] is h =
     let n = none_open ss items (sym h.row ∙ ap (open_list name) is) in
-    if_false (λ xs. IsDealt name ss xs before d) (nat_lt (length items) (reach ss items)) _ _ (not_lt_test _ _ n) h
-one_dealt name ss items before d item (e ∷ es) is h =
-    let g = given_dealt name ss items before d item e es is h in
-    if_true (λ xs. IsDealt name ss xs before (given d (with_item e item) es)) (nat_lt (length items) (reach ss items)) _ _ (lt_test _ _ g.0) g.1
+    if_false (λ xs. IsDealt name ss xs d) (nat_lt (length items) (reach ss items)) _ _ (not_lt_test _ _ n) h
+one_dealt name ss items d item (e ∷ es) is h =
+    let g = given_dealt name ss items d item e es is h in
+    if_true (λ xs. IsDealt name ss xs (given d (with_item e item) es)) (nat_lt (length items) (reach ss items)) _ _ (lt_test _ _ g.0) g.1
 
 -- the items dealt, with as many more as are wanted
 abbrev pub items_with : ℕ → List Data → List Data → List Data
@@ -220,15 +202,15 @@ one_wanted all items item more =
     (λ f. if_false (λ xs. items_with all items (item ∷ more) ≡ items_with all xs more) _ _ _ f
     (let l = not_lt_from _ _ f in none_wanted all items (item ∷ more) l ∙ sym (none_wanted all items more l)))
 
-each_dealt : (name : ℕ → Owner) (ss : List Start) (all : ℕ) (items : List Data) (before : List Entry) (d : Dealing) (vs : List Data) → reach ss items ≡ all → IsDealt name ss items before d
-    → IsDealt name ss (items_with all items vs) before (dealt_each d vs)
-each_dealt name ss all items before d [] e h = let z : items_with all items [] ≡ items = ap (λ xs. items ++ xs) (take_none (all - length items)) ∙ append-nil items in subst (λ xs. IsDealt name ss xs before d) (sym z) h
-each_dealt name ss all items before d (v ∷ vs) e h =
-    let one : IsDealt name ss (taken_item all items v) before (dealt d v) = subst (λ (n : ℕ). IsDealt name ss (taken_item n items v) before (dealt d v)) e (one_dealt name ss items before d v d.row refl h) in
-    subst (λ xs. IsDealt name ss xs before (dealt_each (dealt d v) vs)) (sym (one_wanted all items v vs))
-    (each_dealt name ss all (taken_item all items v) before (dealt d v) vs (reach_same ss (taken_item all items v) items ∙ e) one)
+each_dealt : (name : ℕ → Owner) (ss : List Start) (all : ℕ) (items : List Data) (d : Dealing) (vs : List Data) → reach ss items ≡ all → IsDealt name ss items d
+    → IsDealt name ss (items_with all items vs) (dealt_each d vs)
+each_dealt name ss all items d [] e h = let z : items_with all items [] ≡ items = ap (λ xs. items ++ xs) (take_none (all - length items)) ∙ append-nil items in subst (λ xs. IsDealt name ss xs d) (sym z) h
+each_dealt name ss all items d (v ∷ vs) e h =
+    let one : IsDealt name ss (taken_item all items v) (dealt d v) = subst (λ (n : ℕ). IsDealt name ss (taken_item n items v) (dealt d v)) e (one_dealt name ss items d v d.row refl h) in
+    subst (λ xs. IsDealt name ss xs (dealt_each (dealt d v) vs)) (sym (one_wanted all items v vs))
+    (each_dealt name ss all (taken_item all items v) (dealt d v) vs (reach_same ss (taken_item all items v) items ∙ e) one)
 
 -- all values that come are dealt alike in a row and in a ledger
 pub row_dealt : (name : ℕ → Owner) (ss : List Start) (items : List Data) (row : List Entry) (vs : List Data) → open_list name row ≡ open_rows ss items → length items ≤ reach ss items
-    → IsDealt name ss (items_with (reach ss items) items vs) row (dealt_each (record { row = row; out = [] }) vs)
-row_dealt name ss items row vs is within = each_dealt name ss (reach ss items) items row (record { row = row; out = [] }) vs refl (record { row = is; within = within; cuts = tt; kept = refl })
+    → IsDealt name ss (items_with (reach ss items) items vs) (dealt_each (record { row = row; out = [] }) vs)
+row_dealt name ss items row vs is within = each_dealt name ss (reach ss items) items (record { row = row; out = [] }) vs refl (record { row = is; within = within; cuts = tt })

@@ -311,9 +311,9 @@ pub heard_is : (l : Ledger) (piece : List ℕ) → l.up ≡ true → noted l (he
 heard_is l piece up = if_true (λ (x : Ledger). record x { heard = came_news piece } ≡ has_heard l piece) l.up _ l up refl
 
 -- each item is dealt alike
-pub dealt_alike : (name : ℕ → Owner) (l : Ledger) (s : LinkState) (piece : List ℕ) → l.end ≡ None → TiedLink name l s → IsDealt name l.starts (bytes_came l piece).dealt s.row (deals s piece)
+pub dealt_alike : (name : ℕ → Owner) (l : Ledger) (s : LinkState) (piece : List ℕ) → l.end ≡ None → TiedLink name l s → IsDealt name l.starts (bytes_came l piece).dealt (deals s piece)
 dealt_alike name l s piece lives h =
-    subst (λ (vs : List Data). IsDealt name l.starts (items_with (reach l.starts l.dealt) l.dealt vs) s.row (deals s piece)) (ap (λ bs. items (bs ++ piece)) (sym h.rest))
+    subst (λ (vs : List Data). IsDealt name l.starts (items_with (reach l.starts l.dealt) l.dealt vs) (deals s piece)) (ap (λ bs. items (bs ++ piece)) (sym h.rest))
     (row_dealt name l.starts l.dealt s.row (items (s.rest ++ piece)) (h.row lives) h.within)
 
 pub read_tied : (name : ℕ → Owner) (l : Ledger) (s : LinkState) (piece : List ℕ) → l.end ≡ None → TiedLink name l s → TiedLink name (has_heard l piece) (has_read s piece)
