@@ -6,3 +6,5 @@ pub mod Rows
 pub mod Dealt
 pub mod Choices
 pub mod TiedLink
+pub mod Once
+pub mod Settles
