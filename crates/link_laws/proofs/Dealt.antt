@@ -147,7 +147,7 @@ given_dealt name ss items d item e es is h =
     let w : length (items ++ item ∷ []) ≤ reach ss (items ++ item ∷ []) = omega (arith, k.0, reach_same ss items (items ++ item ∷ []), length_push items item) in
     let cuts = cuts_stay name ss items (item ∷ []) d.out h.cuts in (
       k.0,
-      chosen (IsDealt name ss (items ++ item ∷ []))  (nat_lt (length (with_item e item).got) (need e.shape)) _ _
+      chosen (IsDealt name ss (items ++ item ∷ [])) (nat_lt (length (with_item e item).got) (need e.shape)) _ _
           (λ t. record {
             row = sym (k.1 ∙ if_false (λ os. os ≡ open_of name (with_item e item) ∷ open_list name es) _ (open_list name es) _ (open_from e item t) refl);
             within = w;

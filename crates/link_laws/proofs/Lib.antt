@@ -8,3 +8,4 @@ pub mod Choices
 pub mod TiedLink
 pub mod Once
 pub mod Settles
+pub mod Runs

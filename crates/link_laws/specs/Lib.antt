@@ -2,3 +2,4 @@ pub mod Alike
 pub mod Places
 pub mod Settles
 pub mod Starts
+pub mod Runs
