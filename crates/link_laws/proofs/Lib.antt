@@ -9,3 +9,4 @@ pub mod TiedLink
 pub mod Once
 pub mod Settles
 pub mod Runs
+pub mod RunsOnce

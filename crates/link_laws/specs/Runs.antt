@@ -11,7 +11,7 @@ use Rattle.link_core.specs.Ends.{queue_closed}
 use Rattle.link_core.specs.Link.{LinkState, Settling, fresh, is_full, enqueued, started_all, offered_of, wrote_of, cancelled, came, closed_all, faulted}
 use Rattle.link_core.specs.Outbox.{can_offer}
 use Rattle.legal_trace.specs.Ledger.{Ledger, Line, asks, hears, offers, ends}
-use Rattle.link_laws.specs.Settles.{IsOwed, IsOwedUnstarted}
+use Rattle.link_laws.specs.Settles.{settled_ids, awaited_of, IsOwed, IsOwedUnstarted}
 use Rattle.link_laws.specs.Starts.{starting, begins_each}
 
 -- a message takes the last place of the queue; what may start does; all unwritten bytes are offered; so many of them are
@@ -107,3 +107,16 @@ pub record AreOwed (name : ℕ → Owner) (l : Ledger) (r : Run) : Type 0 where
   pub all : r.settled ≡ started ++ queue_closed r.unstarted
   pub owed : AllByRecursion (IsOwed name l) started
   pub closed : AllByRecursion (IsOwedUnstarted l) (queue_closed r.unstarted)
+
+-- who was settled, and whose verdict is still wanted
+abbrev pub answered_or_wanted : Run → List ℕ
+answered_or_wanted r = settled_ids r.settled ++ awaited_of r.link
+
+-- whose verdict a place in the queue makes wanted
+abbrev pub wanted_by : Run → Operation → List ℕ
+wanted_by r (place q) = if r.over then [] else (if is_full r.link || (length q.packed == 0) then [] else (if q.awaited then q.id ∷ [] else []))
+wanted_by r _ = []
+
+abbrev pub is_withdraw : Operation → Bool
+is_withdraw (withdraw id) = true
+is_withdraw _ = false
