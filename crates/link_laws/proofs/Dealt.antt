@@ -13,6 +13,7 @@ use Rattle.link_core.specs.declared.message.Settled.{Settled}
 use Rattle.link_core.specs.Dealing.{Dealing, with_item, settled_by, given, dealt_to, dealt, dealt_each}
 use Rattle.legal_trace.specs.Ledger.{Start, need_in, reach}
 use Rattle.link_laws.specs.Settles.{StandsAs}
+use Rattle.link_laws.proofs.Choices.{lt_test, not_lt_test}
 use Rattle.link_laws.proofs.Lists.{heads_same, get_before, take_none}
 use Rattle.link_laws.proofs.Rows.{reach_same, reach_next, Open, open_rows, open_of, open_list, open_rows-item, none_open}
 
@@ -166,12 +167,6 @@ given_dealt name ss items d item e es is h =
 -- an item as the ledger takes it: where one is wanted
 abbrev taken_item : ℕ → List Data → Data → List Data
 taken_item all items item = if nat_lt (length items) all then items ++ item ∷ [] else items
-
-lt_test : (a b : ℕ) → a < b → nat_lt a b ≡ true
-lt_test a b l = by_test (nat_lt a b) _ (λ t. t) (λ f. absurd (let m = not_lt_from a b f in omega arith))
-
-not_lt_test : (a b : ℕ) → b ≤ a → nat_lt a b ≡ false
-not_lt_test a b l = by_test (nat_lt a b) _ (λ t. absurd (let m = lt_from a b t in omega arith)) (λ f. f)
 
 one_dealt : (name : ℕ → Owner) (ss : List Start) (items : List Data) (d : Dealing) (item : Data) (row : List Entry) → d.row ≡ row → IsDealt name ss items d
     → IsDealt name ss (taken_item (reach ss items) items item) (dealt_to d item row)

@@ -10,3 +10,6 @@ pub mod Once
 pub mod Settles
 pub mod Runs
 pub mod RunsOnce
+pub mod Pieces
+pub mod Bounds
+pub mod AlikeRuns

@@ -3,3 +3,4 @@ pub mod Places
 pub mod Settles
 pub mod Starts
 pub mod Runs
+pub mod Pieces
