@@ -1,5 +1,5 @@
 -- Each run of a link is legal, and settles what is owed.
-use Rattle.std.proofs.Common.{◌≡◌, ◌≢◌, ◌⊎◌, inl, inr, ℕ, ◌==◌, nat_le, Bool, true, false, ◌||◌, List, [], ◌∷◌, ◌++◌, length, Some, None, refl, sym, ap, ◌∙◌, subst, append_assoc}
+use Rattle.std.proofs.Common.{◌≡◌, ◌-◌, ◌≢◌, ◌⊎◌, inl, inr, ℕ, ◌==◌, nat_le, Bool, true, false, ◌||◌, List, [], ◌∷◌, ◌++◌, length, Some, None, refl, sym, ap, ◌∙◌, subst, append_assoc}
 use Rattle.std.specs.List.{AllByRecursion}
 use Rattle.std.proofs.lemmas.List.{append-nil}
 use Rattle.containers.proofs.Tests.{chosen, if_true, if_false, taken_if, le_from, ne_from, or_right}
@@ -15,13 +15,14 @@ use Rattle.link_core.specs.Ends.{row_closed, row_hit, queue_closed}
 use Rattle.link_core.specs.Link.{Settling, fresh, is_full, enqueued, started_all, offered_of, wrote_of, cancelled, emptied, closed_all, faulted}
 use Rattle.link_core.specs.Outbox.{can_offer}
 use Rattle.link_core.specs.Waiting.{awaits, without}
-use Rattle.legal_trace.specs.Ledger.{Ledger, Ending, by_shutdown, by_fault, Line, asks, hears, begins, offers, ends, blank_ledger, ending, ending_up, ended, noted, noted_each, ledger, AllNoted, LinkLegal}
+use Rattle.legal_trace.specs.Ledger.{Ledger, reach, Ending, by_shutdown, by_fault, Line, asks, hears, begins, offers, ends, blank_ledger, ending, ending_up, ended, noted, noted_each, ledger, AllNoted, LinkLegal}
 use Rattle.link_laws.specs.Settles.{IsOwed, IsOwedUnstarted}
 use Rattle.link_laws.specs.Starts.{start_from, starting, begins_each}
 use Rattle.link_laws.specs.Runs.{Operation, place, begin, offer, take_up, read, withdraw, fail, shut_down, pass, Run, fresh_run, heard, settling, over_with, placed, begun_all, offered, taken_up, has_come, or_parse, has_read, acted, performed, performed_each, run, AreOwed}
 use Rattle.link_laws.proofs.Dealt.{AreCuts, cuts_stay, cuts_kept, all_append}
 use Rattle.link_laws.proofs.TiedLink.{TiedLink, IsPacked, all_push, fresh_tied, asked_tied, connected_tied, told_tied, enqueued_tied, cancelled_tied, started_tied, starting_front, starts_stand, offered_tied, offer_stands, taken_within, wrote_tied, deals, has_read as link_read, has_heard, reads_on, heard_is, dealt_alike, read_tied}
-use Rattle.link_laws.proofs.Settles.{cuts_owed, row_hit_owed, row_closed_owed, queue_owed}
+use Rattle.link_core.specs.Row.{lacks}
+use Rattle.link_laws.proofs.Settles.{lacks_are, cuts_owed, row_hit_owed, row_closed_owed, queue_owed}
 
 -- what was told so far
 --
@@ -349,3 +350,12 @@ sound_owed name r (inr h) = subst (λ (l : Ledger). AreOwed name l r) (sym h.1.1
 -- and what it settles is owed
 pub run_owed : (name : ℕ → Owner) (size boundary : ℕ) (os : List Operation) → AreOwed name (ledger (run name size boundary os).lines) (run name size boundary os)
 run_owed name size boundary os = sound_owed name (run name size boundary os) (run_sound name size boundary os)
+
+sound_lacks : (name : ℕ → Owner) (r : Run) → Sound name r → r.over ≡ false → lacks r.link.row ≡ reach (ledger r.lines).starts (ledger r.lines).dealt - length (ledger r.lines).dealt
+sound_lacks name r (inl h) g = subst (λ (l : Ledger). lacks r.link.row ≡ reach l.starts l.dealt - length l.dealt) (sym h.1.1.told.told) (lacks_are name h.1.0 r.link h.1.1.lives.lives h.1.1.tied)
+sound_lacks name r (inr h) g = absurd (not_both r.over g h.0)
+
+-- its started messages lack what the starts take and were not dealt
+pub run_lacks : (name : ℕ → Owner) (size boundary : ℕ) (os : List Operation) → (run name size boundary os).over ≡ false
+    → lacks (run name size boundary os).link.row ≡ reach (ledger (run name size boundary os).lines).starts (ledger (run name size boundary os).lines).dealt - length (ledger (run name size boundary os).lines).dealt
+run_lacks name size boundary os = sound_lacks name (run name size boundary os) (run_sound name size boundary os)
