@@ -13,3 +13,4 @@ pub mod RunsOnce
 pub mod Pieces
 pub mod Bounds
 pub mod AlikeRuns
+pub mod Started

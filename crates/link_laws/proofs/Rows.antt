@@ -172,3 +172,32 @@ unfilled (x ∷ ss) items (suc k) s e l =
     let more : suc (full_count ss (drop n items)) ≤ suc k = rw t at l in
     omega (arith, le_from _ _ t, length-drop n items, unfilled ss (drop n items) k s e (omega arith)))
     (λ f. omega (arith, not_le_from _ _ f))
+
+-- the starts before them have all their items
+pub filled : (ss : List Start) (items : List Data) (k : ℕ) → k < full_count ss items → reach (take (suc k) ss) items ≤ length items
+filled [] items k l = absurd (omega arith)
+filled (x ∷ ss) items zero l =
+    let n = need x.shape in
+    by_test (nat_le n (length items)) _
+    (λ t. omega (arith, le_from _ _ t))
+    (λ f. absurd (let no : 0 < 0 = rw f at l in omega arith))
+filled (x ∷ ss) items (suc k) l =
+    let n = need x.shape in
+    by_test (nat_le n (length items)) _
+    (λ t.
+    let fewer : suc k < suc (full_count ss (drop n items)) = rw t at l in
+    omega (arith, le_from _ _ t, length-drop n items, filled ss (drop n items) k (omega arith)))
+    (λ f. absurd (let no : suc k < 0 = rw f at l in omega arith))
+
+untouched_length : (ss : List Start) → length (untouched_each ss) ≡ length ss
+untouched_length [] = refl
+untouched_length (s ∷ ss) = ap suc (untouched_length ss)
+
+-- and each start is among those or these
+pub rows_length : (ss : List Start) (items : List Data) → full_count ss items + length (open_rows ss items) ≡ length ss
+rows_length [] items = refl
+rows_length (s ∷ ss) items =
+    let n = need s.shape in
+    by_test (nat_le n (length items)) _
+    (λ t. rw t (omega (arith, rows_length ss (drop n items))))
+    (λ f. rw f (omega (arith, untouched_length ss)))

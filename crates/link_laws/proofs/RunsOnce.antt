@@ -27,7 +27,8 @@ one_keeps row q qs =
     let own = if q.awaited then q.id ∷ [] else [] in
     ap (λ ns. ns ++ awaited_ids qs) (wanted-append row (entry_of q ∷ []) ∙ ap (λ ns. wanted row ++ ns) (append-nil own)) ∙ append_assoc (wanted row) own (awaited_ids qs)
 
-starts_keep : (s : Starting) (qs : List Queued) → awaited_of (started_each s qs).link ≡ wanted s.link.row ++ awaited_ids qs
+-- messages that start keep their places in the line
+pub starts_keep : (s : Starting) (qs : List Queued) → awaited_of (started_each s qs).link ≡ wanted s.link.row ++ awaited_ids qs
 starts_keep s [] = refl
 starts_keep s (q ∷ qs) =
     chosen (λ (x : Starting). awaited_of x.link ≡ wanted s.link.row ++ awaited_ids (q ∷ qs)) (is_held_back s.link) _ _
@@ -43,7 +44,8 @@ dealt_keeps d x rest e =
     ∙ append_assoc (settled_ids d.out) (settled_ids x.out) (wanted x.row ++ rest)
     ∙ ap (λ ns. settled_ids d.out ++ ns) (sym (append_assoc (settled_ids x.out) (wanted x.row) rest) ∙ ap (λ ns. ns ++ rest) e)
 
-bytes_keep : (d : Settling) (piece : List ℕ) → settled_ids (came d piece).out ++ awaited_of (came d piece).link ≡ settled_ids d.out ++ awaited_of d.link
+-- those that bytes settle leave it at its front, in order
+pub bytes_keep : (d : Settling) (piece : List ℕ) → settled_ids (came d piece).out ++ awaited_of (came d piece).link ≡ settled_ids d.out ++ awaited_of d.link
 bytes_keep d piece =
     chosen (λ (x : Settling). settled_ids x.out ++ awaited_of x.link ≡ settled_ids d.out ++ awaited_of d.link) d.link.broken d (came_all d (d.link.rest ++ piece))
     (λ t. refl)

@@ -12,23 +12,24 @@ use Rattle.driver_model.specs.declared.outcome.Outcome.TheVariants as outcome
 use Rattle.driver_model.specs.declared.outcome.Shape.{Shape}
 use Rattle.driver_model.specs.declared.outcome.Shape.TheVariants.{Single, Pipeline}
 use Rattle.driver_model.specs.Shape.{need, verdict, outcome_of}
+use Rattle.driver_model.specs.News.{came as came_news}
 use Rattle.link_core.specs.declared.message.Entry.{Entry}
 use Rattle.link_core.specs.declared.message.Queued.{Queued}
 use Rattle.link_core.specs.declared.message.Settled.{Settled}
 use Rattle.link_core.specs.Ends.{failed_by, error_of, hit_by, row_closed, row_hit, queue_closed}
-use Rattle.link_core.specs.Link.{LinkState}
+use Rattle.link_core.specs.Link.{LinkState, Settling, came}
 use Rattle.link_core.specs.Row.{lack, lacks}
-use Rattle.legal_trace.specs.Ledger.{Start, End, Ending, by_shutdown, by_fault, Ledger, reach, ending, ending_or_shutdown, full_count, ended}
+use Rattle.legal_trace.specs.Ledger.{Start, hears, noted, End, Ending, by_shutdown, by_fault, Ledger, reach, ending, ending_or_shutdown, full_count, ended}
 use Rattle.legal_trace.specs.Owed.{cut, is_full, fault_error, oldest_error, cut_off, owed_to_message}
 use Rattle.link_laws.specs.Settles.{StandsAs, IsOwed, IsOwedUnstarted}
 use Rattle.link_laws.proofs.Rows.{Open, untouched_each, open_rows, open_list, StandFrom, rows_stand, unfilled}
 use Rattle.link_laws.proofs.Dealt.{IsCutOf, AreCuts, all_append}
-use Rattle.link_laws.proofs.TiedLink.{TiedLink, has_heard, deals, dealt_alike}
+use Rattle.link_laws.proofs.TiedLink.{reads_on, heard_is, TiedLink, has_heard, deals, dealt_alike}
 
 -- items
 --
 -- the message that started as number k has its items where its start and those before it reach no further than was dealt
-is_full_from : (l : Ledger) (k : ℕ) → reach (take (suc k) l.starts) l.dealt ≤ length l.dealt → is_full l k ≡ true
+pub is_full_from : (l : Ledger) (k : ℕ) → reach (take (suc k) l.starts) l.dealt ≤ length l.dealt → is_full l k ≡ true
 is_full_from l k far = le_test _ _ (subst (λ (n : ℕ). reach (take n l.starts) l.dealt ≤ length l.dealt) (sym (add-one k)) far)
 
 -- a full message is owed the verdict of its cut
@@ -51,9 +52,15 @@ cuts_owed name l (s ∷ ss) all = (cut_owed name l s all.0, cuts_owed name l ss 
 pub read_owed : (name : ℕ → Owner) (l : Ledger) (s : LinkState) (piece : List ℕ) → l.end ≡ None → TiedLink name l s → AllByRecursion (IsOwed name (has_heard l piece)) (deals s piece).out
 read_owed name l s piece lives h = cuts_owed name (has_heard l piece) (deals s piece).out (dealt_alike name l s piece lives h).cuts
 
+pub came_owed : (name : ℕ → Owner) (l : Ledger) (s : LinkState) (piece : List ℕ) → l.up ≡ true → l.end ≡ None → s.broken ≡ false → TiedLink name l s
+    → AllByRecursion (IsOwed name (noted l (hears (came_news piece)))) (came (record { link = s; out = [] }) piece).out
+came_owed name l s piece up lives sound h =
+    subst (λ (x : Settling). AllByRecursion (IsOwed name (noted l (hears (came_news piece)))) x.out) (sym (reads_on s [] piece sound))
+    (subst (λ (x : Ledger). AllByRecursion (IsOwed name x) (deals s piece).out) (sym (heard_is l piece up)) (read_owed name l s piece lives h))
+
 -- the end
 --
-is_not_full : (l : Ledger) (k : ℕ) → length l.dealt < reach (take (suc k) l.starts) l.dealt → is_full l k ≡ false
+pub is_not_full : (l : Ledger) (k : ℕ) → length l.dealt < reach (take (suc k) l.starts) l.dealt → is_full l k ≡ false
 is_not_full l k far = not_le_test _ _ (subst (λ (n : ℕ). length l.dealt < reach (take n l.starts) l.dealt) (sym (add-one k)) far)
 
 -- how a link ends
@@ -98,7 +105,7 @@ oldest_hit : (f : LinkFault) (of_shape : Shape) → oldest_error (by_fault f) of
 oldest_hit f Single = same_error f
 oldest_hit f (Pipeline offset count transaction) = refl
 
-rows_from : (name : ℕ → Owner) (l : Ledger) (row : List Entry) → open_list name row ≡ open_rows l.starts l.dealt → StandFrom l.starts (full_count l.starts l.dealt) (open_list name row)
+pub rows_from : (name : ℕ → Owner) (l : Ledger) (row : List Entry) → open_list name row ≡ open_rows l.starts l.dealt → StandFrom l.starts (full_count l.starts l.dealt) (open_list name row)
 rows_from name l row is = subst (StandFrom l.starts (full_count l.starts l.dealt)) (sym is) (rows_stand l.starts l.dealt)
 
 -- the started messages of a link that ends by a fault

@@ -5,7 +5,7 @@ use Rattle.std.proofs.Math.Seq.{drop-append_seam}
 use Rattle.std.proofs.lemmas.List.{append-nil, take-append-le, take_all, take-take, take-append-drop, length_push}
 use Rattle.std.proofs.lemmas.List.Concat.{flat_map-cons}
 use Rattle.std.proofs.lemmas.Grind.{flat_map-append}
-use Rattle.containers.proofs.Tests.{by_test, chosen, if_true, if_false, both_left, both_right, eq_from, ne_from, ne_test}
+use Rattle.containers.proofs.Tests.{left_if, by_test, chosen, if_true, if_false, both_left, both_right, eq_from, ne_from, ne_test}
 use Rattle.resp_value.specs.Data.{Data}
 use Rattle.resp_read.specs.Values.{left_over, is_spoiled}
 use Rattle.resp_read.specs.Items.{items}
@@ -139,6 +139,11 @@ cancelled_tied name l s id h = record {
 -- names that are the same for each message of a row
 abbrev pub SameNames : (ℕ → Owner) → (ℕ → Owner) → List Entry → Type 0
 SameNames name other row = AllByRecursion (λ (e : Entry). name e.id ≡ other e.id) row
+
+-- where one message gets a name that no message of the row has
+pub one_named : (name : ℕ → Owner) (id : ℕ) (who : Owner) (row : List Entry) → AllByRecursion (λ (e : Entry). e.id ≢ id) row → SameNames name (λ n. if n == id then who else name n) row
+one_named name id who [] all = tt
+one_named name id who (e ∷ es) all = (sym (left_if (e.id == id) who (name e.id) (ne_test e.id id all.0)), one_named name id who es all.1)
 
 named_open : (name other : ℕ → Owner) (row : List Entry) → SameNames name other row → open_list name row ≡ open_list other row
 named_open name other [] all = refl
