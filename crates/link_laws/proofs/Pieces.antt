@@ -63,22 +63,18 @@ items-spoiled bs m spoiled = ap items_among (values-spoiled bs m spoiled).0
 abbrev of_row : List Entry → List Data → Dealing
 of_row row vs = dealt_each (record { row = row; out = [] }) vs
 
-two_dealt : (row : List Entry) (out : List Settled) (xs ys : List Data) → of_row row (xs ++ ys) ≡ behind (of_row row xs).out (of_row (of_row row xs).row ys)
-two_dealt row out xs ys =
+two_dealt : (row : List Entry) (xs ys : List Data) → of_row row (xs ++ ys) ≡ behind (of_row row xs).out (of_row (of_row row xs).row ys)
+two_dealt row xs ys =
     let d = of_row row xs in
     dealt-append (record { row = row; out = [] }) xs ys
     ∙ ap (λ (ss : List Settled). dealt_each (record { row = d.row; out = ss }) ys) (sym (append-nil d.out))
     ∙ dealt_behind d.out (record { row = d.row; out = [] }) ys
 
--- a link with what it has read of these bytes
-abbrev read_all : Settling → List ℕ → Settling
-read_all d bytes = came_all d bytes
-
 two_read : (d : Settling) (bs m : List ℕ) → is_spoiled bs ≡ false → came_all (came_all d bs) (left_over bs ++ m) ≡ came_all d (bs ++ m)
 two_read d bs m sound =
     let x = of_row d.link.row (items bs) in
     let y = of_row x.row (items (left_over bs ++ m)) in
-    let z : of_row d.link.row (items (bs ++ m)) ≡ behind x.out y = ap (of_row d.link.row) (items-append bs m sound) ∙ two_dealt d.link.row d.out (items bs) (items (left_over bs ++ m)) in
+    let z : of_row d.link.row (items (bs ++ m)) ≡ behind x.out y = ap (of_row d.link.row) (items-append bs m sound) ∙ two_dealt d.link.row (items bs) (items (left_over bs ++ m)) in
     ap (λ (ss : List Settled). record { link = record d.link { row = y.row; rest = left_over (left_over bs ++ m); broken = is_spoiled (left_over bs ++ m) }; out = ss }) (append_assoc d.out x.out y.out)
     ∙ (λ i. record { link = record d.link { row = (sym z i).row; rest = sym (left_over-append bs m sound) i; broken = sym (is_spoiled-append bs m sound) i }; out = d.out ++ (sym z i).out })
 
