@@ -45,6 +45,7 @@ impl MultiplexedConnection {
         ensures work { OnOk result (record { conn = self.new; acts = out.new.items } ≡ started (record { conn = self.old; acts = out.old.items })) }
         ensures spent { IsErrOf result ConnectionError.Spent → is_spent_in (started (record { conn = self.old; acts = out.old.items })).conn.life ≡ true }
         ensures count { length self.new.requests ≡ length self.old.requests }
+        ensures failure { self.new.failure ≡ self.old.failure }
     {
         let mut starts = Vec::new(alloc);
         let ready = match &mut self.life {
@@ -71,6 +72,7 @@ impl MultiplexedConnection {
         requires there { request.now.number < length self.old.requests }
         ensures work { OnOk result (record { conn = self.new; acts = [] } ≡ placed_at (record { conn = self.old; acts = [] }) request.now self.old.life) }
         ensures count { length self.new.requests ≡ length self.old.requests }
+        ensures failure { self.new.failure ≡ self.old.failure }
     {
         let link = match &mut self.life {
             Life::Ready { link } => link,
@@ -99,6 +101,7 @@ impl MultiplexedConnection {
     ) -> Result<(), AllocError>
         ensures work { OnOk result (record { conn = self.new; acts = out.new.items } ≡ told_at_place (record { conn = self.old; acts = out.old.items }) request.now) }
         ensures count { length self.new.requests ≡ length self.old.requests }
+        ensures failure { self.new.failure ≡ self.old.failure }
     {
         if request.awaited {
             return Ok(());
@@ -118,6 +121,7 @@ impl MultiplexedConnection {
         ensures work { OnOk result (record { conn = self.new; acts = out.new.items } ≡ moved (record { conn = self.old; acts = out.old.items }) request) }
         ensures spent { IsErrOf result ConnectionError.Spent → is_spent_in (moved (record { conn = self.old; acts = out.old.items }) request).conn.life ≡ true }
         ensures count { length self.new.requests ≡ length self.old.requests }
+        ensures failure { self.new.failure ≡ self.old.failure }
     {
         if !self.is_waiting(request.number) {
             return Ok(());
@@ -141,6 +145,7 @@ impl MultiplexedConnection {
         ensures work { OnOk result (record { conn = self.new; acts = out.new.items } ≡ moved_all (record { conn = self.old; acts = out.old.items })) }
         ensures spent { IsErrOf result ConnectionError.Spent → is_spent_in (moved_all (record { conn = self.old; acts = out.old.items })).conn.life ≡ true }
         ensures count { length self.new.requests ≡ length self.old.requests }
+        ensures failure { self.new.failure ≡ self.old.failure }
     {
         let mut rest = std::mem::replace(&mut self.waiting, Queue::new(alloc));
         'requests: while !self.life.is_stuck() {
@@ -168,6 +173,7 @@ impl MultiplexedConnection {
         ensures work { OnOk result (record { conn = self.new; acts = out.new.items } ≡ passed (record { conn = self.old; acts = out.old.items })) }
         ensures spent { IsErrOf result ConnectionError.Spent → is_spent_in (passed (record { conn = self.old; acts = out.old.items })).conn.life ≡ true }
         ensures count { length self.new.requests ≡ length self.old.requests }
+        ensures failure { self.new.failure ≡ self.old.failure }
     {
         match self.start(alloc, out) {
             Ok(()) => {}

@@ -19,6 +19,7 @@ impl MultiplexedConnection {
     fn settle(&mut self, settled: Vec<Settled>, out: &mut Vec<LinkAct>) -> Result<(), AllocError>
         ensures work { OnOk result (record { conn = self.new; acts = out.new.items } ≡ settled_each (record { conn = self.old; acts = out.old.items }) settled.items) }
         ensures count { length self.new.requests ≡ length self.old.requests }
+        ensures failure { self.new.failure ≡ self.old.failure }
     {
         let mut rest = Queue::from_vec(settled);
         while let Some(message) = rest.pop_front() {
@@ -31,6 +32,7 @@ impl MultiplexedConnection {
     fn close_waiting(&mut self, alloc: Global, out: &mut Vec<LinkAct>) -> Result<(), AllocError>
         ensures work { OnOk result (record { conn = self.new; acts = out.new.items } ≡ waiting_closed (record { conn = self.old; acts = out.old.items })) }
         ensures count { length self.new.requests ≡ length self.old.requests }
+        ensures failure { self.new.failure ≡ self.old.failure }
     {
         let mut rest = std::mem::replace(&mut self.waiting, Queue::new(alloc));
         while let Some(request) = rest.pop_front() {
@@ -49,6 +51,7 @@ impl MultiplexedConnection {
     ) -> Result<(), AllocError>
         ensures work { OnOk result (record { conn = self.new; acts = out.new.items } ≡ ended (record { conn = self.old; acts = out.old.items }) settled.items) }
         ensures count { length self.new.requests ≡ length self.old.requests }
+        ensures failure { self.new.failure ≡ self.old.failure }
     {
         self.life = Life::Ended;
         out.push(LinkAct::Close)?;
@@ -60,6 +63,7 @@ impl MultiplexedConnection {
     fn connect(&mut self, alloc: Global, out: &mut Vec<LinkAct>) -> Result<(), AllocError>
         ensures work { OnOk result (record { conn = self.new; acts = out.new.items } ≡ connected_at (record { conn = self.old; acts = out.old.items }) self.old.life) }
         ensures count { length self.new.requests ≡ length self.old.requests }
+        ensures failure { self.new.failure ≡ self.old.failure }
     {
         if self.life.is_dialing() {
             let link = LinkCore::new(alloc, u32::MAX, u64::MAX);
@@ -90,6 +94,7 @@ impl MultiplexedConnection {
     ) -> Result<(), AllocError>
         ensures work { OnOk result (record { conn = self.new; acts = out.new.items } ≡ read_at (record { conn = self.old; acts = out.old.items }) piece.now self.old.life) }
         ensures count { length self.new.requests ≡ length self.old.requests }
+        ensures failure { self.new.failure ≡ self.old.failure }
     {
         let mut settled = Vec::new(alloc);
         let mut pushes = Vec::new(alloc);
@@ -119,6 +124,7 @@ impl MultiplexedConnection {
     ) -> Result<(), AllocError>
         ensures work { OnOk result (record { conn = self.new; acts = out.new.items } ≡ failed_at (record { conn = self.old; acts = out.old.items }) fault self.old.life) }
         ensures count { length self.new.requests ≡ length self.old.requests }
+        ensures failure { self.new.failure ≡ self.old.failure }
     {
         let mut settled = Vec::new(alloc);
         match &mut self.life {
@@ -133,6 +139,7 @@ impl MultiplexedConnection {
     fn shut(&mut self, alloc: Global, out: &mut Vec<LinkAct>) -> Result<(), AllocError>
         ensures work { OnOk result (record { conn = self.new; acts = out.new.items } ≡ shut_at (record { conn = self.old; acts = out.old.items }) self.old.life) }
         ensures count { length self.new.requests ≡ length self.old.requests }
+        ensures failure { self.new.failure ≡ self.old.failure }
     {
         let mut settled = Vec::new(alloc);
         match &mut self.life {
@@ -153,6 +160,7 @@ impl MultiplexedConnection {
         requires { IsWithin self.old.life (told news) }
         ensures work { OnOk result (record { conn = self.new; acts = out.new.items } ≡ applied (record { conn = self.old; acts = out.old.items }) (told news.entry)) }
         ensures count { length self.new.requests ≡ length self.old.requests }
+        ensures failure { self.new.failure ≡ self.old.failure }
     {
         match news {
             LinkNews::Silence => Ok(()),
@@ -169,7 +177,9 @@ impl MultiplexedConnection {
 
     /// The caller of a request has gone. Takes no memory.
     pub fn cancel(&mut self, request: Pending)
-        ensures { self.new ≡ left self.old request.number }
+        ensures conn { self.new ≡ left self.old request.number }
+        ensures count { length self.new.requests ≡ length self.old.requests }
+        ensures failure { self.new.failure ≡ self.old.failure }
     {
         let number = u64::from(request.number);
         if !self.is_open(number) {

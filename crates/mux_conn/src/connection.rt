@@ -37,6 +37,7 @@ impl Drop for MultiplexedConnection {
 
 impl MultiplexedConnection {
     ghost use Rattle.mux_conn.specs.Requests.{is_open_at, is_waiting_at, name_at, answered, asked};
+    ghost use Rattle.mux_conn.specs.Connection.{started_in};
     ghost use Rattle.mux_conn.specs.Turn.{dialing};
 
     /// A connection whose connect isn't answered. Takes no memory.
@@ -49,6 +50,17 @@ impl MultiplexedConnection {
             waiting: Queue::new(alloc),
             fresh: Queue::new(alloc),
             failure: None,
+        }
+    }
+
+    /// How many messages of its link have started, where it is up.
+    pub fn started(&self) -> u32
+        ensures { result ≡ started_in self.now.life }
+    {
+        match &self.life {
+            Life::Dialing => 0,
+            Life::Ready { link } => link.started(),
+            Life::Ended => 0,
         }
     }
 
@@ -101,6 +113,7 @@ impl MultiplexedConnection {
     ) -> Result<(), AllocError>
         ensures work { OnOk result (record { conn = self.new; acts = out.new.items } ≡ answered (record { conn = self.old; acts = out.old.items }) number outcome) }
         ensures count { length self.new.requests ≡ length self.old.requests }
+        ensures failure { self.new.failure ≡ self.old.failure }
     {
         if !self.is_open(number) {
             return Ok(());

@@ -14,6 +14,7 @@ impl MultiplexedConnection {
     fn offer(&mut self, alloc: Global, out: &mut Vec<LinkAct>) -> Result<(), AllocError>
         ensures work { OnOk result (record { conn = self.new; acts = out.new.items } ≡ written (record { conn = self.old; acts = out.old.items })) }
         ensures count { length self.new.requests ≡ length self.old.requests }
+        ensures failure { self.new.failure ≡ self.old.failure }
     {
         let mut bytes = Vec::new(alloc);
         let offers = match &mut self.life {
@@ -47,6 +48,7 @@ impl MultiplexedConnection {
     fn show_waits(&mut self, alloc: Global, out: &mut Vec<LinkAct>) -> Result<(), AllocError>
         ensures work { OnOk result (record { conn = self.new; acts = out.new.items } ≡ waits_shown (record { conn = self.old; acts = out.old.items })) }
         ensures count { length self.new.requests ≡ length self.old.requests }
+        ensures failure { self.new.failure ≡ self.old.failure }
     {
         let mut rest = std::mem::replace(&mut self.fresh, Queue::new(alloc));
         while let Some(number) = rest.pop_front() {
@@ -59,6 +61,7 @@ impl MultiplexedConnection {
     pub(crate) fn end_turn(&mut self, alloc: Global, out: &mut Vec<LinkAct>) -> Result<(), AllocError>
         ensures work { OnOk result (record { conn = self.new; acts = out.new.items } ≡ flushed (record { conn = self.old; acts = out.old.items })) }
         ensures count { length self.new.requests ≡ length self.old.requests }
+        ensures failure { self.new.failure ≡ self.old.failure }
     {
         self.offer(alloc, out)?;
         self.show_waits(alloc, out)

@@ -1,4 +1,4 @@
-ghost use Rattle.std.specs.Prelude.{◌≡◌, ◌⊎◌, ◌++◌, [], length, true, Some, OnOk, OnErr, IsErrOf};
+ghost use Rattle.std.specs.Prelude.{◌≡◌, ◌⊎◌, ◌++◌, [], length, true, None, Some, OnOk, OnErr, IsErrOf};
 
 use crate::act::LinkAct;
 use crate::connection::MultiplexedConnection;
@@ -24,6 +24,7 @@ impl MultiplexedConnection {
         requires { IsWithin self.old.life (told news) }
         ensures work { OnOk result (record { conn = self.new; acts = out.new.items } ≡ applied (record { conn = self.old; acts = out.old.items }) (told news.entry)) }
         ensures count { length self.new.requests ≡ length self.old.requests }
+        ensures sound { OnOk result (self.new.failure ≡ None) }
         ensures unspent { IsErrOf result ConnectionError.Spent → self.old.failure ≡ Some ConnectionError.Spent }
         ensures fails { (e : ConnectionError) → IsErrOf result e → self.new.failure ≡ Some e }
         ensures failed { (e : ConnectionError) → self.old.failure ≡ Some e → IsErrOf result e }
@@ -45,6 +46,7 @@ impl MultiplexedConnection {
     ) -> Result<(), ConnectionError>
         ensures work { OnOk result (record { conn = self.new; acts = out.new.items } ≡ passed (record { conn = self.old; acts = out.old.items })) }
         ensures count { length self.new.requests ≡ length self.old.requests }
+        ensures sound { OnOk result (self.new.failure ≡ None) }
         ensures spent { IsErrOf result ConnectionError.Spent → (self.old.failure ≡ Some ConnectionError.Spent) ⊎ (is_spent_in (passed (record { conn = self.old; acts = out.old.items })).conn.life ≡ true) }
         ensures fails { (e : ConnectionError) → IsErrOf result e → self.new.failure ≡ Some e }
         ensures failed { (e : ConnectionError) → self.old.failure ≡ Some e → IsErrOf result e }
@@ -67,6 +69,7 @@ impl MultiplexedConnection {
     ) -> Result<(), ConnectionError>
         ensures work { OnOk result (record { conn = self.new; acts = out.new.items } ≡ flushed (record { conn = self.old; acts = out.old.items })) }
         ensures count { length self.new.requests ≡ length self.old.requests }
+        ensures sound { OnOk result (self.new.failure ≡ None) }
         ensures unspent { IsErrOf result ConnectionError.Spent → self.old.failure ≡ Some ConnectionError.Spent }
         ensures fails { (e : ConnectionError) → IsErrOf result e → self.new.failure ≡ Some e }
         ensures failed { (e : ConnectionError) → self.old.failure ≡ Some e → IsErrOf result e }

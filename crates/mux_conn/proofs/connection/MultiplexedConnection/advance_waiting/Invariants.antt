@@ -7,6 +7,7 @@ abbrev pub invariant-requests : goal.invariant-requests
 invariant-requests l = record {
   work : moved_each (record { conn = l.self; acts = l.out.items }) l.rest ≡ moved_each (record { conn = record l.fn.self { waiting = [] }; acts = l.fn.out.items }) l.fn.self.waiting;
   count : length l.self.requests ≡ length l.fn.self.requests;
+  failure : l.self.failure ≡ l.fn.self.failure;
 }
 
 abbrev pub decreases-requests : goal.decreases-requests

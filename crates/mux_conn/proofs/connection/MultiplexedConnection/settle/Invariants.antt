@@ -7,6 +7,7 @@ abbrev pub invariant-loop-message : goal.invariant-loop-message
 invariant-loop-message l = record {
   work : settled_each (record { conn = l.self; acts = l.out.items }) l.rest ≡ settled_each (record { conn = l.fn.self; acts = l.fn.out.items }) l.fn.settled.items;
   count : length l.self.requests ≡ length l.fn.self.requests;
+  failure : l.self.failure ≡ l.fn.self.failure;
 }
 
 abbrev pub decreases-loop-message : goal.decreases-loop-message

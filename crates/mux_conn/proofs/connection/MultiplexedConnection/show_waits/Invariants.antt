@@ -7,6 +7,7 @@ abbrev pub invariant-loop-number : goal.invariant-loop-number
 invariant-loop-number l = record {
   work : waits_each (record { conn = l.self; acts = l.out.items }) l.rest ≡ waits_each (record { conn = record l.fn.self { fresh = [] }; acts = l.fn.out.items }) l.fn.self.fresh;
   count : length l.self.requests ≡ length l.fn.self.requests;
+  failure : l.self.failure ≡ l.fn.self.failure;
 }
 
 abbrev pub decreases-loop-number : goal.decreases-loop-number
