@@ -1,0 +1,5 @@
+pub mod Ledgers
+pub mod Streams
+pub mod Lines
+pub mod Opens
+pub mod Numbers
