@@ -6,3 +6,5 @@ pub mod Numbers
 pub mod Tales
 pub mod Shutdown
 pub mod Sound
+pub mod Links
+pub mod Answers

@@ -98,6 +98,15 @@ links_kept b a may h = record {
   unasked = λ l i. unasked_kept b l a may i (h.unasked l (omega (arith, links_grow b a)));
 }
 
+-- a link that is up is numbered, and was asked for
+pub up_is_numbered : (b : Book) (l : ℕ) → HasLinks b → (b.link l).up ≡ true → l < b.links
+up_is_numbered b l h up = by_test (nat_le b.links l) (l < b.links)
+    (λ t. absurd (not_both (b.link l).up (h.unasked l (le_from b.links l t)).1 up))
+    (λ f. not_le_from b.links l f)
+
+pub up_is_asked : (b : Book) (l : ℕ) → HasLinks b → (b.link l).up ≡ true → IsAsked (b.link l)
+up_is_asked b l h up = h.asked l (up_is_numbered b l h up)
+
 -- the submissions from that number on were not handed in
 abbrev pub StoriesAreNumbered : ℕ → (ℕ → Story) → Type 0
 StoriesAreNumbered submissions story = (n : ℕ) → submissions ≤ n → story n ≡ blank_story
