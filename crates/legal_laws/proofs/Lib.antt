@@ -8,3 +8,4 @@ pub mod Shutdown
 pub mod Sound
 pub mod Links
 pub mod Answers
+pub mod Ranks
