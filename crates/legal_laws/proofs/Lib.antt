@@ -9,3 +9,8 @@ pub mod Sound
 pub mod Links
 pub mod Answers
 pub mod Ranks
+pub mod Next
+pub mod Equal
+pub mod Owes
+pub mod Held
+pub mod Segments

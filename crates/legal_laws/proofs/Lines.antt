@@ -1,5 +1,5 @@
 -- What a book has of a link is what was told of it.
-use Rattle.std.proofs.Common.{◌≡◌, ℕ, List, [], ◌∷◌, ◌++◌, refl, sym, ◌∙◌}
+use Rattle.std.proofs.Common.{◌≡◌, ℕ, List, [], ◌∷◌, refl, sym, ◌∙◌}
 use Rattle.driver_model.specs.declared.action.Action.{Action}
 use Rattle.legal_trace.specs.Ledger.{noted_each}
 use Rattle.legal_trace.specs.Book.{Book, blank_book, book, entered, entered_each, lines_of, lines_of_each}

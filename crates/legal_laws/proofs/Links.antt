@@ -1,5 +1,5 @@
 -- What a legal trace tells of each link is legal.
-use Rattle.std.proofs.Common.{◌≡◌, ◌≢◌, inl, inr, ℕ, ◌-◌, ◌≤◌, ◌==◌, nat_lt, Bool, true, false, ◌&&◌, not, List, [], ◌∷◌, ◌++◌, length, None, ◌||◌, is_some, arith, refl, sym, ◌∙◌, subst, ap}
+use Rattle.std.proofs.Common.{◌≡◌, ◌≢◌, inl, inr, ℕ, ◌-◌, ◌≤◌, ◌==◌, nat_lt, Bool, true, false, ◌&&◌, not, List, [], ◌∷◌, length, ◌||◌, is_some, arith, refl, sym, ◌∙◌, subst, ap}
 use Rattle.containers.proofs.Tests.{chosen, eq_from, or_right, not_lt_from}
 use Rattle.driver_model.specs.declared.action.Action.{Action}
 use Rattle.driver_model.specs.declared.action.Action.TheVariants as action
@@ -11,11 +11,11 @@ use Rattle.driver_model.specs.declared.event.EventKind.{EventKind}
 use Rattle.driver_model.specs.declared.event.EventKind.TheVariants as event
 use Rattle.driver_model.specs.declared.news.LinkFault.TheVariants as fault
 use Rattle.driver_model.specs.News.{silence, connected, took, came, failed, news}
-use Rattle.legal_trace.specs.Ledger.{Ledger, End, Line, asks, hears, begins, offers, ends, is_over, unwritten, IsWithin, MayNote, AllNoted}
+use Rattle.legal_trace.specs.Ledger.{Ledger, Line, asks, begins, offers, ends, is_over, IsWithin, MayNote, AllNoted}
 use Rattle.legal_trace.specs.Story.{bytes_of}
 use Rattle.legal_trace.specs.Book.{Book, blank_book, entered, lines_of, lines_of_each, if_mine, message_of}
 use Rattle.legal_trace.specs.Events.{is_bad_event, is_no_link}
-use Rattle.legal_trace.specs.Legal.{MayStand, MayStart, IsOpen, IsTold, AllStand, Legal}
+use Rattle.legal_trace.specs.Legal.{MayStand, MayStart, AllStand, Legal}
 use Rattle.legal_laws.specs.Links.{LinksAreLegal, TakesInOrder, lines_for}
 use Rattle.legal_laws.proofs.Ledgers.{all_append}
 use Rattle.legal_laws.proofs.Streams.{takes_in_order}

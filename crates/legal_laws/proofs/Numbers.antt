@@ -1,5 +1,5 @@
 -- Links and submissions are numbered in order.
-use Rattle.std.proofs.Common.{◌≡◌, ◌≢◌, ◌⊎◌, inl, inr, ℕ, ◌+◌, ◌-◌, ◌<◌, ◌≤◌, ◌==◌, nat_le, Bool, true, false, List, [], ◌∷◌, Option, Some, None, if◌then◌else◌, refl, sym, ◌∙◌, subst, ap, arith}
+use Rattle.std.proofs.Common.{◌≡◌, ◌≢◌, ◌⊎◌, inl, inr, ℕ, ◌+◌, ◌-◌, ◌<◌, ◌≤◌, ◌==◌, nat_le, Bool, true, false, if◌then◌else◌, refl, sym, ◌∙◌, subst, arith}
 use Rattle.containers.proofs.Tests.{by_test, left_if, le_from, not_le_from, ne_test, ne_from, not_both}
 use Rattle.driver_model.specs.declared.action.Action.{Action}
 use Rattle.driver_model.specs.declared.action.Action.TheVariants as action
@@ -8,11 +8,11 @@ use Rattle.driver_model.specs.declared.action.Owner.TheVariants as owner
 use Rattle.driver_model.specs.declared.event.EventKind.{EventKind}
 use Rattle.driver_model.specs.declared.event.EventKind.TheVariants as event
 use Rattle.driver_model.specs.declared.news.LinkFault.TheVariants as fault
-use Rattle.driver_model.specs.News.{News, silence, connected, took, came, failed, shut, news, for_link}
+use Rattle.driver_model.specs.News.{News, silence, connected, took, came, failed, news, for_link}
 use Rattle.driver_model.specs.declared.outcome.Outcome.{Outcome}
-use Rattle.legal_trace.specs.Ledger.{Ledger, asks, hears, begins, offers, ends, noted, noted_each}
+use Rattle.legal_trace.specs.Ledger.{Ledger, asks, begins, offers, ends, noted_each}
 use Rattle.legal_trace.specs.Story.{Story, blank_story, is_open, is_awaited, handed_in, left, tried, waits, answered}
-use Rattle.legal_trace.specs.Book.{Book, entered, lines_of, if_mine, message_of, current, after_event, story_after, submitted_by}
+use Rattle.legal_trace.specs.Book.{Book, entered, lines_of, if_mine, message_of, current, after_event, submitted_by}
 use Rattle.legal_trace.specs.Events.{is_bad_event}
 use Rattle.legal_trace.specs.Legal.{MayAnswer, MayTell, MayStand, IsTold, IsOpen, CanMove}
 use Rattle.legal_laws.proofs.Ledgers.{each_keeps, mine_keeps, IsAsked, asked_keeps, IsUnasked, unasked_hears}

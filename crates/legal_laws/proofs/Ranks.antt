@@ -1,15 +1,15 @@
 -- In which order things are due: each action has a rank, and what comes later asks that all before it is done.
-use Rattle.std.proofs.Common.{◌≡◌, ◌≢◌, ◌⊎◌, inl, inr, ℕ, zero, suc, ◌<◌, ◌≤◌, ◌==◌, nat_lt, Bool, true, false, ◌&&◌, not, List, [], ◌∷◌, Option, Some, None, is_some, if◌then◌else◌, refl, sym, ◌∙◌, subst, ap, arith}
+use Rattle.std.proofs.Common.{◌≡◌, ◌≢◌, ◌⊎◌, inl, inr, ℕ, zero, suc, ◌<◌, ◌≤◌, ◌==◌, nat_lt, true, ◌&&◌, not, List, [], Option, Some, None, if◌then◌else◌, sym, ◌∙◌, subst, ap, arith}
 use Rattle.containers.proofs.Tests.{by_test, eq_from, ne_from, left_if, lt_from, not_lt_from}
 use Rattle.driver_model.specs.declared.action.Action.{Action}
 use Rattle.driver_model.specs.declared.action.Action.TheVariants as action
 use Rattle.driver_model.specs.declared.action.Cause.TheVariants as cause
 use Rattle.driver_model.specs.declared.action.Owner.TheVariants as owner
 use Rattle.driver_model.specs.declared.outcome.Outcome.{Outcome}
-use Rattle.legal_trace.specs.Ledger.{Ledger, Ending, is_over, IsOffered, unwritten, ending, ending_up, ending_asked}
+use Rattle.legal_trace.specs.Ledger.{Ledger, Ending, is_over, IsOffered, ending, ending_up, ending_asked}
 use Rattle.legal_trace.specs.Story.{Try, last_of}
 use Rattle.legal_trace.specs.Book.{Book}
-use Rattle.legal_trace.specs.Legal.{MayStand, MayAnswer, MayTell, MayWrite, MayWait, IsOpen, NoneIsOwed, NoneEnds, IsCreated, IsApplied, IsMoved, IsWritten, IsSettled, IsStarted, IsWaiting, CanMove}
+use Rattle.legal_trace.specs.Legal.{MayStand, MayAnswer, MayTell, MayWrite, IsOpen, NoneIsOwed, NoneEnds, IsCreated, IsApplied, IsMoved, IsWritten, IsSettled, IsStarted, IsWaiting, CanMove}
 use Rattle.legal_laws.proofs.Numbers.{up_is_numbered, open_is_numbered}
 use Rattle.legal_laws.proofs.Ledgers.{IsUnasked}
 use Rattle.legal_trace.specs.Owed.{owed}
@@ -56,11 +56,11 @@ step_of b j (suc k) i h = by_test (j == k) (Step j b)
     (λ t. subst (λ n. Step n b) (sym (eq_from j k t)) h.0)
     (λ f. let n : j ≢ k = ne_from j k f in step_of b j k (omega arith) h.1)
 
-not_none : {X : Type 0} (o : Option X) (x : X) → o ≡ None → o ≡ Some x → ⊥
+pub not_none : {X : Type 0} (o : Option X) (x : X) → o ≡ None → o ≡ Some x → ⊥
 not_none o x n s = cc
 
 -- what was offered is not to be offered again
-not_offered : (b : Book) (l : ℕ) (bytes : List ℕ) → MayWrite b l bytes → IsOffered (b.link l) → ⊥
+pub not_offered : (b : Book) (l : ℕ) (bytes : List ℕ) → MayWrite b l bytes → IsOffered (b.link l) → ⊥
 not_offered b l bytes may h = elim h [ inl nothing ↦ may.some (may.all ∙ nothing) | inr waits ↦ waits may.answered ]
 
 not_started : (ts : List Try) (t : Try) → ts ≡ [] → last_of ts ≡ Some t → ⊥

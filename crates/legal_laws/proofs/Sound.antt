@@ -1,5 +1,5 @@
 -- What holds of the book at each place of a legal trace.
-use Rattle.std.proofs.Common.{◌≡◌, ℕ, ◌<◌, List, [], ◌∷◌, refl, arith}
+use Rattle.std.proofs.Common.{ℕ, List, [], ◌∷◌, refl, arith}
 use Rattle.driver_model.specs.declared.action.Action.{Action}
 use Rattle.legal_trace.specs.Book.{Book, blank_book, book, entered, entered_each, lines_of}
 use Rattle.legal_trace.specs.Legal.{MayStand, AllStand}

@@ -1,5 +1,5 @@
 -- What each submission of a legal trace was answered, and which messages it started.
-use Rattle.std.proofs.Common.{◌≡◌, ◌≢◌, ◌⊎◌, inl, inr, ℕ, ◌+◌, ◌<◌, ◌≤◌, ◌==◌, Bool, true, false, List, [], ◌∷◌, ◌++◌, length, Option, Some, None, if◌then◌else◌, refl, sym, ◌∙◌, subst, ap, arith, length-append}
+use Rattle.std.proofs.Common.{◌≡◌, ◌≢◌, ◌⊎◌, inl, inr, ℕ, ◌+◌, ◌≤◌, ◌==◌, Bool, true, false, List, [], ◌∷◌, ◌++◌, length, Option, Some, None, if◌then◌else◌, refl, sym, ◌∙◌, subst, ap, arith, length-append}
 use Rattle.std.proofs.lemmas.Bool.Decides.{nat_tests}
 use Rattle.containers.proofs.Tests.{chosen, eq_from, eq_test, if_true}
 use Rattle.resp_value.specs.declared.value.Value.TheVariants.{Nil}
@@ -14,11 +14,11 @@ use Rattle.driver_model.specs.declared.event.EventKind.{EventKind}
 use Rattle.driver_model.specs.declared.event.EventKind.TheVariants as event
 use Rattle.driver_model.specs.declared.outcome.Outcome.{Outcome}
 use Rattle.driver_model.specs.declared.outcome.Outcome.TheVariants as outcome
-use Rattle.legal_trace.specs.Ledger.{Ledger, Line, End, asks, hears, begins, offers, ends, noted, noted_each}
-use Rattle.legal_trace.specs.Story.{Story, Try, blank_story, is_open, handed_in, left, tried, waits, answered, last_of, bytes_of}
+use Rattle.legal_trace.specs.Ledger.{Ledger, Line, End, begins, noted_each}
+use Rattle.legal_trace.specs.Story.{Story, Try, is_open, handed_in, left, tried, waits, answered, last_of, bytes_of}
 use Rattle.legal_trace.specs.Owed.{owed, owed_to_try, owed_unstarted}
-use Rattle.legal_trace.specs.Book.{Book, entered, lines_of, if_mine, message_of, current, after_event, story_after}
-use Rattle.legal_trace.specs.Legal.{MayAnswer, MayTell, MayStand, IsOpen, NoneIsOwed}
+use Rattle.legal_trace.specs.Book.{Book, entered, lines_of, message_of, current, after_event}
+use Rattle.legal_trace.specs.Legal.{MayAnswer, MayTell, MayStand, IsOpen}
 use Rattle.legal_laws.proofs.Ledgers.{each_keeps, HasStarted, started_keeps}
 use Rattle.legal_laws.proofs.Numbers.{HasStories}
 
