@@ -15,6 +15,7 @@ use Rattle.legal_laws.proofs.Numbers.{up_is_asked}
 use Rattle.legal_laws.proofs.Shutdown.{none_left}
 use Rattle.legal_laws.proofs.Sound.{Sound, sound_behind}
 
+-- no submission of a legal trace has a second outcome
 pub at_most_one : (config : Config) (word : ℕ) (events : List Event) (trace : List Action) → Legal config word events trace → AnswersOnce trace
 at_most_one config word events trace h n = ((sound_behind trace h.each).once n).once
 
@@ -22,6 +23,7 @@ at_most_one config word events trace h n = ((sound_behind trace h.each).once n).
 no_link_left : (b : Book) → Sound b → IsSettled b → b.shut ≡ true → (l : ℕ) → (b.link l).asked ≡ true → (b.link l).end ≡ None → ⊥
 no_link_left b h settled shut l asked end = none_left b settled.written.moved.applied.ended h.shut shut l asked end
 
+-- nor any wait
 no_wait : (b : Book) (n : ℕ) (kind : WaitKind) → Sound b → IsSettled b → b.shut ≡ true → WaitHolds b n kind → ⊥
 no_wait b n wait.Connect h settled shut holds = no_link_left b h settled shut (b.story n).link holds.0 holds.2
 
@@ -32,6 +34,7 @@ none_open b h settled shut n o = elim (settled.goes n o) [
   | inr w ↦ no_wait b n w.kind h settled shut w.holds
 ]
 
+-- a submission that was handed in, has not gone and is not open has an outcome
 by_length : (os : List Outcome) (handed : Option Submission) (gone : Bool) → is_some handed ≡ true → gone ≡ false → ((is_some handed && (length os == 0) && not gone) ≡ true → ⊥) → length os ≤ 1 → length os ≡ 1
 by_length [] handed gone there stays closed few = absurd (closed (grind (arith, nat_tests, there, stays)))
 by_length (o ∷ os) handed gone there stays closed few = omega (arith, few)

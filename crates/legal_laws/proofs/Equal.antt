@@ -13,12 +13,15 @@ use Rattle.legal_laws.proofs.Next.{AreOne, one_is_next}
 use Rattle.legal_laws.proofs.Ranks.{rank, not_done, step_of, settled, outcome_rank}
 use Rattle.legal_laws.proofs.Sound.{Sound, stays_sound, blank_is_sound}
 
+-- lists that are equal begin alike
 same_head : (c d : Cause) (cs ds : List Cause) → c ∷ cs ≡ d ∷ ds → c ≡ d
 same_head c d cs ds e = cc
 
+-- and go on alike
 same_tail : (c d : Cause) (cs ds : List Cause) → c ∷ cs ≡ d ∷ ds → cs ≡ ds
 same_tail c d cs ds e = cc
 
+-- no cause is not a cause
 is_some_cause : (c : Cause) (cs : List Cause) → [] ≡ c ∷ cs → ⊥
 is_some_cause c cs e = cc e
 
@@ -28,14 +31,17 @@ announced (action.Turn k c) (action.Turn j d) s t both e = let f : c ≡ d = sam
 announced (action.Turn k c) _ s t both e = absurd both
 announced _ y s t both e = absurd both
 
+-- actions that are one, but for the causes, are one where these are the same
 same_action : (x y : Action) (s t : List Action) → AreOne x y → causes (x ∷ s) ≡ causes (y ∷ t) → x ≡ y
 same_action x y s t (inl e) c = e
 same_action x y s t (inr both) c = announced x y s t both c
 
+-- behind one action the causes are the same
 causes_behind : (x : Action) (s t : List Action) → causes (x ∷ s) ≡ causes (x ∷ t) → causes s ≡ causes t
 causes_behind (action.Turn k c) s t e = same_tail c c (causes s) (causes t) e
 causes_behind _ s t e = e
 
+-- an outcome comes before a turn is settled
 outcome_below : (b : Book) (n : ℕ) (o : Outcome) (may : MayAnswer b n o ⊎ MayTell b n o) → outcome_rank b n o may < 8
 outcome_below b n o (inl owes) = omega arith
 outcome_below b n o (inr told) = omega arith
@@ -50,6 +56,7 @@ below_the_next b _ t may e = omega arith
 only_a_turn : (b : Book) (y : Action) (t : List Action) (may : MayStand b y) → Sound b → IsSettled b → [] ≡ causes (y ∷ t) → ⊥
 only_a_turn b y t may h done e = not_done b y may (step_of b (rank b y may) 8 (below_the_next b y t may e) (settled b h done))
 
+-- behind one book there is one way on
 equal_behind : (b : Book) (s t : List Action) → Sound b → AllStand b s → AllStand b t → causes s ≡ causes t → IsSettled (entered_each b s) → IsSettled (entered_each b t) → s ≡ t
 equal_behind b [] [] h p q e i j = refl
 equal_behind b [] (y ∷ t) h p q e i j = absurd (only_a_turn b y t q.0 h i e)
@@ -60,6 +67,7 @@ equal_behind b (x ∷ s) (y ∷ t) h p q e i j =
     (causes_behind x s t (subst (λ a. causes (x ∷ s) ≡ causes (a ∷ t)) same e)) i (subst (λ a. IsSettled (entered_each (entered b a) t)) same j) in
     cc (same, more)
 
+-- and so from the blank book on
 pub legal_is_one : (config : Config) (word : ℕ) (events : List Event) (s t : List Action) → Legal config word events s → Legal config word events t → s ≡ t
 unfolding book
 legal_is_one config word events s t h k = equal_behind blank_book s t blank_is_sound h.each k.each (h.turns ∙ sym k.turns) h.settled k.settled

@@ -1,5 +1,5 @@
 -- What is done stays done while messages start, are written and wait.
-use Rattle.std.proofs.Common.{◌≡◌, ◌≢◌, ◌⊎◌, inl, inr, ℕ, ◌==◌, true, List, [], ◌∷◌, ◌++◌, Option, None, if◌then◌else◌, refl, sym, subst}
+use Rattle.std.proofs.Common.{◌≡◌, ◌≢◌, ◌⊎◌, inl, inr, ℕ, ◌==◌, true, List, [], ◌∷◌, Option, None, if◌then◌else◌, refl, sym, subst}
 use Rattle.containers.proofs.Tests.{chosen, eq_from, eq_test, if_true}
 use Rattle.driver_model.specs.declared.action.Action.{Action}
 use Rattle.driver_model.specs.declared.action.Action.TheVariants as action
@@ -14,6 +14,7 @@ use Rattle.legal_trace.specs.Legal.{MayTell, MayStart, IsTold, CanMove, NoneIsOw
 use Rattle.legal_laws.proofs.Ledgers.{mine_keeps}
 use Rattle.legal_laws.proofs.Tales.{open_has_none, last_behind}
 use Rattle.legal_laws.proofs.Owes.{owed_story, owed_again, owed_by_last, begins_keeps, new_is_owed_nothing}
+use Rattle.legal_laws.proofs.Plain.{not_empty}
 use Rattle.legal_laws.proofs.Sound.{Sound}
 
 -- a message of a submission starts
@@ -47,6 +48,7 @@ others_owed b l k m round count len h n =
           (λ mine. begins_keeps (b.link t.link) (message_of b (owner.Try m round)) t.message (shape (b.story n)) (h.starts n t last) e) e,
     )
 
+-- so nothing is owed behind a start
 start_owes : (b : Book) (l k m round count len : ℕ) → MayStart b l k m count len → Sound b → NoneIsOwed (entered b (starting l k m round count len))
 start_owes b l k m round count len may h n =
     chosen (λ (s : Story). is_open s ≡ true → owed_story (entered b (starting l k m round count len)) s ≡ None) (m == n) (tried (b.story n) l k) (b.story n)
@@ -64,12 +66,9 @@ start_applied b l k m round count len may h = record {
   };
 }
 
-ends_in_one : (os : List Outcome) (o : Outcome) → os ++ o ∷ [] ≡ [] → ⊥
-ends_in_one [] o e = cc e
-ends_in_one (p ∷ os) o e = cc e
-
+-- what is answered is not open
 not_open : (s : Story) (o : Outcome) → is_open (answered s o) ≡ true → ⊥
-not_open s o h = ends_in_one s.outcomes o (open_has_none (answered s o) h)
+not_open s o h = not_empty s.outcomes o (open_has_none (answered s o) h)
 
 -- so does Nil that is told at its place
 pub tell_applied : (b : Book) (m : ℕ) (o : Outcome) → MayTell b m o → IsApplied (entered b (action.Outcome m o))
@@ -96,9 +95,11 @@ write_applied b l bytes done = record {
   };
 }
 
+-- a write brings no link up
 written_up : (b : Book) (l j : ℕ) (bytes : List ℕ) → ((entered b (action.Write l bytes)).link j).up ≡ true → (b.link j).up ≡ true
 written_up b l j bytes = mine_keeps (λ (x : Ledger). x.up ≡ true → (b.link j).up ≡ true) (l == j) (b.link j) (offers bytes) (λ t u. u) (λ u. u)
 
+-- nothing may start behind a write that couldn't before
 pub write_moved : (b : Book) (l : ℕ) (bytes : List ℕ) → IsMoved b → IsMoved (entered b (action.Write l bytes))
 write_moved b l bytes done = record {
   applied = write_applied b l bytes done.applied;
@@ -119,15 +120,18 @@ wait_applied b m round kind done = record {
 abbrev pub StoryMoves : Book → Story → Type 0
 StoryMoves b s = (s.tries ≡ []) × ((is_open s ≡ true) ⊎ IsTold s) × ((b.link s.link).up ≡ true)
 
+-- a wait changes neither whether a submission is open nor whether it was told
 wanted_still : (s : Story) (kind : WaitKind) → (is_open (waits s kind) ≡ true) ⊎ IsTold (waits s kind) → (is_open s ≡ true) ⊎ IsTold s
 wanted_still s kind (inl o) = inl o
 wanted_still s kind (inr told) = inr (record { unawaited = told.unawaited; told = told.told })
 
+-- what may start behind a wait could before
 waiting_moves : (b : Book) (m n : ℕ) (kind : WaitKind) → StoryMoves b (if m == n then waits (b.story n) kind else b.story n) → CanMove b n
 waiting_moves b m n kind = chosen (λ s. StoryMoves b s → CanMove b n) (m == n) (waits (b.story n) kind) (b.story n)
     (λ t p. record { unstarted = p.0; wanted = wanted_still (b.story n) kind p.1; up = p.2 })
     (λ f p. record { unstarted = p.0; wanted = p.1; up = p.2 })
 
+-- so all stays written behind a wait
 pub wait_written : (b : Book) (m round : ℕ) (kind : WaitKind) → IsWritten b → IsWritten (entered b (action.Wait (owner.Try m round) kind))
 wait_written b m round kind done = record {
   moved = record {

@@ -1,5 +1,5 @@
 -- What holds of any ledger, and what lines do to it.
-use Rattle.std.proofs.Common.{◌≡◌, ◌≢◌, ℕ, ◌+◌, ◌-◌, ◌<◌, ◌≤◌, ◌==◌, min, if◌then◌else◌, Bool, true, false, List, [], ◌∷◌, ◌++◌, length, take, drop, Option, Some, None, is_some, refl, sym, ap, subst, arith, length-append}
+use Rattle.std.proofs.Common.{◌≡◌, ◌≢◌, ℕ, ◌+◌, ◌-◌, ◌<◌, ◌≤◌, ◌==◌, min, if◌then◌else◌, Bool, true, false, List, [], ◌∷◌, ◌++◌, length, take, drop, None, refl, sym, ap, subst, arith, length-append}
 use Rattle.containers.proofs.Tests.{chosen, if_false, ne_from}
 use Rattle.std.proofs.lemmas.List.{length-take}
 use Rattle.resp_read.specs.Values.{left_over}
@@ -11,6 +11,7 @@ use Rattle.driver_model.specs.declared.outcome.Shape.TheVariants.{Single, Pipeli
 use Rattle.driver_model.specs.Shape.{need}
 use Rattle.legal_trace.specs.Ledger.{Ledger, Line, Start, asks, hears, begins, offers, ends, noted, noted_each, with_news, bytes_came, items_came, is_over, reach, AllNoted}
 use Rattle.legal_trace.specs.Book.{if_mine}
+use Rattle.legal_laws.proofs.Plain.{none_from}
 
 -- a fact that each line keeps is kept by any lines
 pub each_keeps : (P : Ledger → Type 0) → ((l : Ledger) (x : Line) → P l → P (noted l x)) → (l : Ledger) (lines : List Line) → P l → P (noted_each l lines)
@@ -22,6 +23,7 @@ pub mine_keeps : (P : Ledger → Type 0) (mine : Bool) (l : Ledger) (x : Line) �
 mine_keeps P true l x t h = t refl
 mine_keeps P false l x t h = h
 
+-- lines behind lines come to what the second make of the first
 pub noted_append : (l : Ledger) (xs ys : List Line) → noted_each l (xs ++ ys) ≡ noted_each (noted_each l xs) ys
 noted_append l [] ys = refl
 noted_append l (x ∷ xs) ys = noted_append (noted l x) xs ys
@@ -31,14 +33,11 @@ pub all_append : (l : Ledger) (xs ys : List Line) → AllNoted l xs → AllNoted
 all_append l [] ys h k = k
 all_append l (x ∷ xs) ys h k = (h.0, all_append (noted l x) xs ys h.1 k)
 
-pub none_from : {X : Type 0} (o : Option X) → is_some o ≡ false → o ≡ None
-none_from None e = refl
-none_from (Some x) e = cc
-
 -- a link that is up has not ended
 abbrev pub UpIsNotOver : Ledger → Type 0
 UpIsNotOver l = l.up ≡ true → l.end ≡ None
 
+-- news brings up no link that has ended
 up_hears : (l : Ledger) (news : News) → UpIsNotOver l → UpIsNotOver (with_news l news)
 up_hears l silence h = h
 up_hears l connected h = chosen UpIsNotOver (is_over l) l (record l { up = true }) (λ t. h) (λ e u. none_from l.end e)
@@ -47,6 +46,7 @@ up_hears l (came piece) h = chosen UpIsNotOver l.up (bytes_came l piece) l (λ t
 up_hears l (failed f) h = h
 up_hears l shut h = h
 
+-- nor does any line
 pub up_keeps : (l : Ledger) (x : Line) → UpIsNotOver l → UpIsNotOver (noted l x)
 up_keeps l asks h = h
 up_keeps l (hears news) h = up_hears l news h
@@ -64,6 +64,7 @@ pub record SamePast (l m : Ledger) : Type 0 where
   pub end : m.end ≡ l.end
   pub starts : m.starts ≡ l.starts
 
+-- each has its own past
 same_past : (l : Ledger) → SamePast l l
 same_past l = record { asked = refl; end = refl; starts = refl }
 
@@ -76,6 +77,7 @@ hears_past l (came piece) = chosen (SamePast l) l.up (bytes_came l piece) l (λ 
 hears_past l (failed f) = same_past l
 hears_past l shut = same_past l
 
+-- each line leaves it so
 pub asked_keeps : (l : Ledger) (x : Line) → IsAsked l → IsAsked (noted l x)
 asked_keeps l asks h = refl
 asked_keeps l (hears news) h = subst (λ (b : Bool). b ≡ true) (sym (hears_past l news).asked) h
@@ -87,6 +89,7 @@ asked_keeps l (ends turn) h = h
 abbrev pub HasStarted : ℕ → Ledger → Type 0
 HasStarted k l = k < length l.starts
 
+-- each line leaves these
 pub started_keeps : (k : ℕ) (l : Ledger) (x : Line) → HasStarted k l → HasStarted k (noted l x)
 started_keeps k l asks h = h
 started_keeps k l (hears news) h = subst (λ (ss : List Start). k < length ss) (sym (hears_past l news).starts) h
@@ -98,6 +101,7 @@ started_keeps k l (ends turn) h = h
 abbrev pub IsUnasked : Ledger → Type 0
 IsUnasked l = (l.asked ≡ false) × (l.up ≡ false)
 
+-- what is done only where a link is up isn't done
 unasked_unless_up : (l m : Ledger) → IsUnasked l → IsUnasked (if l.up then m else l)
 unasked_unless_up l m h = if_false IsUnasked l.up m l h.1 h
 
@@ -120,6 +124,7 @@ pub reach_more : (ss : List Start) (s : Start) (d : List Data) → reach (ss ++ 
 reach_more [] s d = omega arith
 reach_more (t ∷ ss) s d = let e : reach (ss ++ s ∷ []) (drop (need t.shape) d) ≡ reach ss (drop (need t.shape) d) + need s.shape = reach_more ss s (drop (need t.shape) d) in omega arith
 
+-- a message takes an item at least
 pub takes_one : (s : Shape) → 1 ≤ need s
 takes_one Single = omega arith
 takes_one (Pipeline offset count transaction) = chosen (λ k. 1 ≤ offset + k) (count == 0) 1 count (λ t. omega arith) (λ f. let n : count ≢ 0 = ne_from count 0 f in omega arith)
@@ -128,6 +133,7 @@ takes_one (Pipeline offset count transaction) = chosen (λ k. 1 ≤ offset + k) 
 abbrev pub FewAreDealt : Ledger → Type 0
 FewAreDealt l = length l.dealt ≤ reach l.starts l.dealt
 
+-- items that come are dealt as far as there is room
 few_come : (l : Ledger) (more : List Data) → FewAreDealt l → FewAreDealt (items_came l more)
 few_come l more h =
     let room : ℕ = reach l.starts l.dealt - length l.dealt in
@@ -137,6 +143,7 @@ few_come l more h =
     let g : length (take room more) ≡ min room (length more) = length-take room more in
     omega arith
 
+-- so with any news
 few_hears : (l : Ledger) (news : News) → FewAreDealt l → FewAreDealt (with_news l news)
 few_hears l silence h = h
 few_hears l connected h = chosen FewAreDealt (is_over l) l (record l { up = true }) (λ t. h) (λ e. h)
@@ -145,6 +152,7 @@ few_hears l (came piece) h = chosen FewAreDealt l.up (bytes_came l piece) l (λ 
 few_hears l (failed f) h = h
 few_hears l shut h = h
 
+-- and with any line
 pub few_keeps : (l : Ledger) (x : Line) → FewAreDealt l → FewAreDealt (noted l x)
 few_keeps l asks h = h
 few_keeps l (hears news) h = few_hears l news h

@@ -1,8 +1,10 @@
+pub mod Plain
 pub mod Ledgers
 pub mod Streams
 pub mod Lines
 pub mod Opens
 pub mod Numbers
+pub mod Owes
 pub mod Tales
 pub mod Shutdown
 pub mod Sound
@@ -11,6 +13,5 @@ pub mod Answers
 pub mod Ranks
 pub mod Next
 pub mod Equal
-pub mod Owes
 pub mod Held
 pub mod Segments

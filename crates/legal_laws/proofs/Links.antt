@@ -20,12 +20,14 @@ use Rattle.legal_laws.specs.Links.{LinksAreLegal, TakesInOrder, lines_for}
 use Rattle.legal_laws.proofs.Ledgers.{all_append}
 use Rattle.legal_laws.proofs.Streams.{takes_in_order}
 use Rattle.legal_laws.proofs.Sound.{Sound, stays_sound, blank_is_sound}
-use Rattle.legal_laws.proofs.Tales.{has_bytes}
+use Rattle.legal_laws.proofs.Owes.{has_bytes}
 
+-- a line that is told one link alone
 may_mine : (mine : Bool) (l : Ledger) (x : Line) → (mine ≡ true → MayNote l x) → AllNoted l (if_mine mine x)
 may_mine true l x may = (may refl, tt)
 may_mine false l x may = tt
 
+-- of two that don't both hold, where the first does
 not_the_second : (over less : Bool) → (not over && less) ≡ false → over ≡ false → less ≡ false
 not_the_second true less e f = cc
 not_the_second false less e f = e
@@ -36,6 +38,7 @@ wrote_within b l count good h up =
     let over : is_over (b.link l) ≡ false = ap is_some (h.up l up) in
     not_lt_from (length (b.link l).offer) count (not_the_second (is_over (b.link l)) (nat_lt (length (b.link l).offer) count) (or_right (is_no_link b l) (not (is_over (b.link l)) && nat_lt (length (b.link l).offer) count) good) over)
 
+-- an event that isn't bad is within what was offered
 within : (b : Book) (l : ℕ) (kind : EventKind) → is_bad_event b kind ≡ false → Sound b → IsWithin (b.link l) (news l kind)
 unfolding is_bad_event
 within b l (event.Connected m) good h = chosen (IsWithin (b.link l)) (m == l) connected silence (λ t. tt) (λ f. tt)
@@ -54,10 +57,11 @@ within b l (event.Cancel n) good h = tt
 -- a message that may start has bytes
 pub starts_with_bytes : (b : Book) (l k n count len : ℕ) → MayStart b l k n count len → Sound b → bytes_of (b.story n) ≢ []
 starts_with_bytes b l k n count len may h = elim may.moves.wanted [
-  | inl o ↦ has_bytes b n (may.applied.answered n o)
+  | inl o ↦ has_bytes b (b.story n) (may.applied.answered n o)
   | inr told ↦ (h.once n).told told.told may.moves.unstarted
 ]
 
+-- the link of a connect was not asked for before
 connects_new : (b : Book) (l m : ℕ) → m ≡ b.links → Sound b → (m == l) ≡ true → (b.link l).asked ≡ false
 connects_new b l m next h t = let e : m ≡ l = eq_from m l t in (h.links.unasked l (omega arith)).0
 
@@ -75,12 +79,14 @@ lines_may b l (action.Start m k (owner.Try n round) count len) may h =
 lines_may b l action.Created may h = tt
 lines_may b l (action.Outcome n o) may h = tt
 
+-- so what actions tell that may stand, behind what is in a book
 each_may : (b : Book) (l : ℕ) (trace : List Action) → AllStand b trace → Sound b → AllNoted (b.link l) (lines_of_each b l trace)
 each_may b l [] all h = tt
 each_may b l (a ∷ more) all h =
     all_append (b.link l) (lines_of b l a) (lines_of_each (entered b a) l more) (lines_may b l a all.0 h)
     (each_may (entered b a) l more all.1 (stays_sound b a all.0 h))
 
+-- and what a legal trace tells
 pub links_are_legal : (config : Config) (word : ℕ) (events : List Event) (trace : List Action) → Legal config word events trace → LinksAreLegal trace
 links_are_legal config word events trace h l = each_may blank_book l trace h.each blank_is_sound
 

@@ -1,9 +1,8 @@
 -- At most one action may stand next.
-use Rattle.std.proofs.Common.{◌≡◌, ◌⊎◌, inl, inr, ℕ, zero, suc, ◌<◌, ◌≤◌, nat_lt, true, false, List, [], ◌∷◌, length, Some, None, refl, sym, ◌∙◌, subst, ap, arith}
+use Rattle.std.proofs.Common.{◌≡◌, ◌⊎◌, inl, inr, ℕ, zero, suc, ◌<◌, ◌≤◌, nat_lt, true, false, List, [], length, Some, None, refl, sym, ◌∙◌, subst, ap, arith}
 use Rattle.containers.proofs.Tests.{by_test, lt_from, not_lt_from, not_both}
 use Rattle.driver_model.specs.declared.action.Action.{Action}
 use Rattle.driver_model.specs.declared.action.Action.TheVariants as action
-use Rattle.driver_model.specs.declared.action.Cause.{Cause}
 use Rattle.driver_model.specs.declared.action.Cause.TheVariants as cause
 use Rattle.driver_model.specs.declared.action.Owner.TheVariants as owner
 use Rattle.driver_model.specs.declared.action.WaitKind.{WaitKind}
@@ -21,7 +20,8 @@ use Rattle.legal_trace.specs.Book.{Book, book}
 use Rattle.legal_trace.specs.Legal.{MayStand, MayConnect, MayClose, MayAnswer, MayTell, MayStart, MayWrite, MayWait, IsOpen, CanMove}
 use Rattle.legal_laws.specs.Next.{BothAnnounce, OneIsNext, OneIsNextBehind}
 use Rattle.legal_laws.proofs.Tales.{open_has_none}
-use Rattle.legal_laws.proofs.Ranks.{rank, same_rank, outcome_rank, not_none, not_offered}
+use Rattle.legal_laws.proofs.Ranks.{rank, same_rank, outcome_rank, not_offered}
+use Rattle.legal_laws.proofs.Plain.{not_none, not_empty, same_some}
 use Rattle.legal_laws.proofs.Sound.{Sound, sound_behind}
 
 -- the least number of a kind is one
@@ -36,18 +36,15 @@ least_is_one P m n p q below_m below_n = by_test (nat_lt m n) (m ≡ n)
 abbrev pub AreOne : Action → Action → Type 0
 AreOne x y = (x ≡ y) ⊎ BothAnnounce x y
 
+-- an outcome is known by its submission and what it is
 same_answers : (m n : ℕ) (o p : Outcome) → m ≡ n → Some o ≡ Some p → action.Outcome m o ≡ action.Outcome n p
 same_answers m n o p e f = cc
 
-same_some : (c d : Cause) → Some c ≡ Some d → c ≡ d
-same_some c d e = cc
-
+-- an opening has one configuration
 same_config : (c d : Config) (v w : ℕ) → cause.Opening c v ≡ cause.Opening d w → c ≡ d
 same_config c d v w e = cc
 
-one_is_none : (o : Outcome) → ◌≡◌ {A = List Outcome} (o ∷ []) [] → ⊥
-one_is_none o e = cc e
-
+-- two outcomes that are owed are one
 one_answer : (b : Book) (m n : ℕ) (o p : Outcome) → MayAnswer b m o → MayAnswer b n p → action.Outcome m o ≡ action.Outcome n p
 one_answer b m n o p h k =
     let e : m ≡ n = least_is_one (λ j. IsOpen b j × (owed b j ≡ None → ⊥)) m n
@@ -55,9 +52,11 @@ one_answer b m n o p h k =
     (λ j i w. w.1 (h.in_order j i w.0)) (λ j i w. w.1 (k.in_order j i w.0)) in
     same_answers m n o p e (sym h.owes ∙ (ap (owed b) e ∙ k.owes))
 
+-- two submissions whose messages may start next are one
 one_move : (b : Book) (m n : ℕ) → CanMove b m → CanMove b n → ((k : ℕ) → k < m → CanMove b k → ⊥) → ((k : ℕ) → k < n → CanMove b k → ⊥) → m ≡ n
 one_move b = least_is_one (CanMove b)
 
+-- two that are told at their places are one
 one_told : (b : Book) (m n : ℕ) (o p : Outcome) → MayTell b m o → MayTell b n p → action.Outcome m o ≡ action.Outcome n p
 one_told b m n o p h k =
     let e : m ≡ n = one_move b m n h.moves k.moves h.in_order k.in_order in
@@ -69,15 +68,10 @@ told_or_starts b m n o l k count len h s =
     let e : m ≡ n = one_move b m n h.moves s.moves h.in_order s.in_order in
     elim s.wanted [
       | inl awaited ↦ not_both (is_awaited (b.story n)) (subst (λ j. is_awaited (b.story j) ≡ false) e h.unawaited) awaited
-      | inr told ↦ one_is_none (outcome.One Nil) (sym told.told ∙ open_has_none (b.story n) (subst (IsOpen b) e h.asked))
+      | inr told ↦ not_empty [] (outcome.One Nil) (sym told.told ∙ open_has_none (b.story n) (subst (IsOpen b) e h.asked))
     ]
 
-one_outcome : (b : Book) (m n : ℕ) (o p : Outcome) (h : MayAnswer b m o ⊎ MayTell b m o) (k : MayAnswer b n p ⊎ MayTell b n p) → outcome_rank b m o h ≡ outcome_rank b n p k → AreOne (action.Outcome m o) (action.Outcome n p)
-one_outcome b m n o p (inl h) (inl k) e = inl (one_answer b m n o p h k)
-one_outcome b m n o p (inl h) (inr k) e = absurd (omega arith)
-one_outcome b m n o p (inr h) (inl k) e = absurd (omega arith)
-one_outcome b m n o p (inr h) (inr k) e = inl (one_told b m n o p h k)
-
+-- two connects are one
 one_connect : (b : Book) (l m : ℕ) (host other : List ℕ) (port number : ℕ) → MayConnect b l host port → MayConnect b m other number → action.Connect l host port ≡ action.Connect m other number
 one_connect b l m host other port number h k =
     let e : cause.Opening h.config h.word ≡ cause.Opening k.config k.word = same_some (cause.Opening h.config h.word) (cause.Opening k.config k.word) (sym h.opens ∙ k.opens) in
@@ -87,12 +81,14 @@ one_connect b l m host other port number h k =
     let p : port ≡ number = h.address.1 ∙ (ap (λ (x : Config). x.port) c ∙ sym k.address.1) in
     cc (i, a, p)
 
+-- two closes are one
 one_close : (b : Book) (l m : ℕ) → MayClose b l → MayClose b m → action.Close l ≡ action.Close m
 one_close b l m h k =
     ap action.Close (least_is_one (λ j. ending (b.link j) ≡ None → ⊥) l m
     (λ none. not_none (ending (b.link l)) h.why none h.ends) (λ none. not_none (ending (b.link m)) k.why none k.ends)
     (λ j i w. w (h.in_order j i)) (λ j i w. w (k.in_order j i)))
 
+-- two starts are one
 one_start : (b : Book) (l m k j n i count len items long : ℕ) → MayStart b l k n count len → MayStart b m j i items long → action.Start l k (owner.Try n 0) count len ≡ action.Start m j (owner.Try i 0) items long
 one_start b l m k j n i count len items long h s =
     let e : n ≡ i = one_move b n i h.moves s.moves h.in_order s.in_order in
@@ -102,6 +98,7 @@ one_start b l m k j n i count len items long h s =
     let bytes : len ≡ long = h.long_as_its_bytes ∙ (ap (λ x. length (bytes_of (b.story x))) e ∙ sym s.long_as_its_bytes) in
     cc (e, on, next, counts, bytes)
 
+-- two writes are one
 one_write : (b : Book) (l m : ℕ) (bytes other : List ℕ) → MayWrite b l bytes → MayWrite b m other → action.Write l bytes ≡ action.Write m other
 one_write b l m bytes other h k =
     let e : l ≡ m = least_is_one (λ j. ((b.link j).up ≡ true) × (IsOffered (b.link j) → ⊥)) l m
@@ -110,6 +107,7 @@ one_write b l m bytes other h k =
     let same : bytes ≡ other = h.all ∙ (ap (λ x. unwritten (b.link x)) e ∙ sym k.all) in
     cc (e, same)
 
+-- two waits are one
 one_wait : (b : Book) (m n : ℕ) (kind other : WaitKind) → MayWait b m kind → MayWait b n other → action.Wait (owner.Try m 0) kind ≡ action.Wait (owner.Try n 0) other
 one_wait b m n wait.Connect wait.Connect h k =
     ap (λ j. action.Wait (owner.Try j 0) wait.Connect) (least_is_one (λ j. IsOpen b j × ((b.story j).tries ≡ []) × ((b.story j).waiting ≡ None)) m n
@@ -120,6 +118,7 @@ one_wait b m n wait.Connect wait.Connect h k =
 abbrev pub IsTelling : Book → Action → Type 0
 IsTelling b y = (n : ℕ) × (o : Outcome) × (y ≡ action.Outcome n o) × MayTell b n o
 
+-- it starts a message
 abbrev pub IsStarting : Book → Action → Type 0
 IsStarting b y = (l : ℕ) × (k : ℕ) × (n : ℕ) × (count : ℕ) × (len : ℕ) × (y ≡ action.Start l k (owner.Try n 0) count len) × MayStart b l k n count len
 
@@ -135,10 +134,12 @@ OfRank (suc (suc (suc (suc (suc (suc zero)))))) b y = (l : ℕ) × (bytes : List
 OfRank (suc (suc (suc (suc (suc (suc (suc zero))))))) b y = (n : ℕ) × (kind : WaitKind) × (y ≡ action.Wait (owner.Try n 0) kind) × MayWait b n kind
 OfRank (suc (suc (suc (suc (suc (suc (suc (suc more)))))))) b y = (k : ℕ) × (e : Event) × (y ≡ action.Turn k (cause.Event e)) × (k ≡ b.turns)
 
+-- an outcome is of its rank
 outcome_of_rank : (b : Book) (n : ℕ) (o : Outcome) (may : MayAnswer b n o ⊎ MayTell b n o) → OfRank (outcome_rank b n o may) b (action.Outcome n o)
 outcome_of_rank b n o (inl owes) = (n, o, refl, owes)
 outcome_of_rank b n o (inr told) = inl (n, o, refl, told)
 
+-- each action that may stand is of its rank
 pub of_rank : (b : Book) (y : Action) (may : MayStand b y) → OfRank (rank b y may) b y
 of_rank b (action.Turn k (cause.Opening config word)) may = (k, config, word, refl, may.next)
 of_rank b (action.Connect l host port) may = (l, host, port, refl, may)
@@ -156,10 +157,12 @@ beside_outcome b n o y (inl p) q = inl (one_answer b n q.0 o q.1 p q.3 ∙ sym q
 beside_outcome b n o y (inr p) (inl q) = inl (one_told b n q.0 o q.1 p q.3 ∙ sym q.2)
 beside_outcome b n o y (inr p) (inr q) = absurd (told_or_starts b n q.2 o q.0 q.1 q.3 q.4 p q.6)
 
+-- beside a start
 beside_start : (b : Book) (l k n count len : ℕ) (y : Action) → MayStart b l k n count len → IsTelling b y ⊎ IsStarting b y → AreOne (action.Start l k (owner.Try n 0) count len) y
 beside_start b l k n count len y p (inl q) = absurd (told_or_starts b q.0 n q.1 l k count len q.3 p)
 beside_start b l k n count len y p (inr q) = inl (one_start b l q.0 k q.1 n q.2 count len q.3 q.4 p q.6 ∙ sym q.5)
 
+-- beside each
 pub beside : (b : Book) (x y : Action) (p : MayStand b x) → OfRank (rank b x p) b y → AreOne x y
 beside b (action.Turn j (cause.Opening config word)) y p q = subst (AreOne (action.Turn j (cause.Opening config word))) (sym q.3) (inr (p.next ∙ sym q.4, tt))
 beside b (action.Connect l host port) y p q = inl (one_connect b l q.0 host q.1 port q.2 p q.4 ∙ sym q.3)
@@ -175,5 +178,6 @@ beside b (action.Turn j (cause.Event e)) y p q = subst (AreOne (action.Turn j (c
 pub one_is_next : (b : Book) → Sound b → OneIsNext b
 one_is_next b h x y p q = beside b x y p (subst (λ k. OfRank k b y) (sym (same_rank b x y p q h)) (of_rank b y q))
 
+-- so behind actions that may stand
 pub one_is_next_behind : (front : List Action) → OneIsNextBehind front
 one_is_next_behind front all = one_is_next (book front) (sound_behind front all)

@@ -22,9 +22,11 @@ pub record LinksAreNumbered (links : ℕ) (link : ℕ → Ledger) : Type 0 where
   pub asked : (l : ℕ) → l < links → IsAsked (link l)
   pub unasked : (l : ℕ) → links ≤ l → IsUnasked (link l)
 
+-- so it is in a book
 abbrev pub HasLinks : Book → Type 0
 HasLinks b = LinksAreNumbered b.links b.link
 
+-- news of other kinds is no connect, for one link or for none
 not_for_link : (mine : Bool) (x : News) → (x ≡ connected → ⊥) → for_link mine x ≡ connected → ⊥
 not_for_link true x other e = other e
 not_for_link false x other e = cc e
@@ -60,6 +62,7 @@ unasked_kept b l (action.Start m k who count len) may i h = mine_keeps IsUnasked
 unasked_kept b l action.Created may i h = h
 unasked_kept b l (action.Outcome n o) may i h = h
 
+-- links are never taken back
 links_grow : (b : Book) (a : Action) → b.links ≤ (entered b a).links
 links_grow b (action.Turn k (cause.Opening config word)) = omega arith
 links_grow b (action.Turn k (cause.Event e)) = omega arith
@@ -104,6 +107,7 @@ up_is_numbered b l h up = by_test (nat_le b.links l) (l < b.links)
     (λ t. absurd (not_both (b.link l).up (h.unasked l (le_from b.links l t)).1 up))
     (λ f. not_le_from b.links l f)
 
+-- and asked for
 pub up_is_asked : (b : Book) (l : ℕ) → HasLinks b → (b.link l).up ≡ true → IsAsked (b.link l)
 up_is_asked b l h up = h.asked l (up_is_numbered b l h up)
 
@@ -111,6 +115,7 @@ up_is_asked b l h up = h.asked l (up_is_numbered b l h up)
 abbrev pub StoriesAreNumbered : ℕ → (ℕ → Story) → Type 0
 StoriesAreNumbered submissions story = (n : ℕ) → submissions ≤ n → story n ≡ blank_story
 
+-- so it is in a book
 abbrev pub HasStories : Book → Type 0
 HasStories b = StoriesAreNumbered b.submissions b.story
 
@@ -120,11 +125,13 @@ open_is_numbered b n h o = by_test (nat_le b.submissions n) (n < b.submissions)
     (λ t. absurd (let e : false ≡ true = subst (λ (s : Story). is_open s ≡ true) (h n (le_from b.submissions n t)) o in cc e))
     (λ f. not_le_from b.submissions n f)
 
+-- so is one that was told
 told_is_numbered : (b : Book) (n : ℕ) → HasStories b → IsTold (b.story n) → n < b.submissions
 told_is_numbered b n h o = by_test (nat_le b.submissions n) (n < b.submissions)
     (λ t. absurd (let e : true ≡ false = subst (λ (s : Story). is_awaited s ≡ false) (h n (le_from b.submissions n t)) o.unawaited in cc e))
     (λ f. not_le_from b.submissions n f)
 
+-- so is one whose message may start
 mover_is_numbered : (b : Book) (n : ℕ) → HasStories b → CanMove b n → n < b.submissions
 mover_is_numbered b n h moves = elim moves.wanted [ inl o ↦ open_is_numbered b n h o | inr told ↦ told_is_numbered b n h told ]
 
@@ -132,6 +139,7 @@ mover_is_numbered b n h moves = elim moves.wanted [ inl o ↦ open_is_numbered b
 others_blank : (b : Book) (m n : ℕ) (changed : Story) → HasStories b → b.submissions ≤ n → m < b.submissions → (if m == n then changed else b.story n) ≡ blank_story
 others_blank b m n changed h i k = left_if (m == n) changed (b.story n) (ne_test m n (omega arith)) ∙ h n i
 
+-- an event that isn't bad is nothing to a submission that was not handed in
 event_leaves_blank : (b : Book) (n : ℕ) (kind : EventKind) → is_bad_event b kind ≡ false → HasStories b → b.submissions + submitted_by kind ≤ n → after_event b n kind ≡ blank_story
 unfolding is_bad_event
 event_leaves_blank b n (event.Submit what) good h i = left_if (b.submissions == n) (handed_in (b.story n) what b.shut (current b)) (b.story n) (ne_test b.submissions n (omega arith)) ∙ h n (omega arith)
@@ -144,6 +152,7 @@ event_leaves_blank b n (event.ReadFault l kind) good h i = h n (omega arith)
 event_leaves_blank b n (event.WriteFault l kind) good h i = h n (omega arith)
 event_leaves_blank b n event.Shutdown good h i = h n (omega arith)
 
+-- an outcome is of a numbered submission
 outcome_is_numbered : (b : Book) (n : ℕ) (o : Outcome) → HasStories b → MayAnswer b n o ⊎ MayTell b n o → n < b.submissions
 outcome_is_numbered b n o h (inl owed) = open_is_numbered b n h owed.asked
 outcome_is_numbered b n o h (inr told) = open_is_numbered b n h told.asked

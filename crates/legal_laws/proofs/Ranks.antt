@@ -1,5 +1,5 @@
 -- In which order things are due: each action has a rank, and what comes later asks that all before it is done.
-use Rattle.std.proofs.Common.{◌≡◌, ◌≢◌, ◌⊎◌, inl, inr, ℕ, zero, suc, ◌<◌, ◌≤◌, ◌==◌, nat_lt, true, ◌&&◌, not, List, [], Option, Some, None, if◌then◌else◌, sym, ◌∙◌, subst, ap, arith}
+use Rattle.std.proofs.Common.{◌≡◌, ◌≢◌, ◌⊎◌, inl, inr, ℕ, zero, suc, ◌<◌, ◌≤◌, ◌==◌, nat_lt, true, ◌&&◌, not, List, [], Some, None, if◌then◌else◌, sym, ◌∙◌, subst, ap, arith}
 use Rattle.containers.proofs.Tests.{by_test, eq_from, ne_from, left_if, lt_from, not_lt_from}
 use Rattle.driver_model.specs.declared.action.Action.{Action}
 use Rattle.driver_model.specs.declared.action.Action.TheVariants as action
@@ -13,6 +13,7 @@ use Rattle.legal_trace.specs.Legal.{MayStand, MayAnswer, MayTell, MayWrite, IsOp
 use Rattle.legal_laws.proofs.Numbers.{up_is_numbered, open_is_numbered}
 use Rattle.legal_laws.proofs.Ledgers.{IsUnasked}
 use Rattle.legal_trace.specs.Owed.{owed}
+use Rattle.legal_laws.proofs.Plain.{not_none}
 use Rattle.legal_laws.proofs.Sound.{Sound}
 
 -- an outcome that is owed comes before one that is told at its place
@@ -50,25 +51,26 @@ abbrev pub Reached : ℕ → Book → Type 0
 Reached zero b = Unit {0}
 Reached (suc k) b = Step k b × Reached k b
 
+-- each step below the rank is
 pub step_of : (b : Book) (j k : ℕ) → j < k → Reached k b → Step j b
 step_of b j zero i h = absurd (omega arith)
 step_of b j (suc k) i h = by_test (j == k) (Step j b)
     (λ t. subst (λ n. Step n b) (sym (eq_from j k t)) h.0)
     (λ f. let n : j ≢ k = ne_from j k f in step_of b j k (omega arith) h.1)
 
-pub not_none : {X : Type 0} (o : Option X) (x : X) → o ≡ None → o ≡ Some x → ⊥
-not_none o x n s = cc
-
 -- what was offered is not to be offered again
 pub not_offered : (b : Book) (l : ℕ) (bytes : List ℕ) → MayWrite b l bytes → IsOffered (b.link l) → ⊥
 not_offered b l bytes may h = elim h [ inl nothing ↦ may.some (may.all ∙ nothing) | inr waits ↦ waits may.answered ]
 
+-- without a message there is no last one
 not_started : (ts : List Try) (t : Try) → ts ≡ [] → last_of ts ≡ Some t → ⊥
 not_started ts t none last = not_none (last_of ts) t (ap last_of none) last
 
+-- a wait that is to be shown is not
 not_gone : (b : Book) (n : ℕ) → (b.story n).tries ≡ [] → (b.story n).waiting ≡ None → IsStarted b n ⊎ IsWaiting b n → ⊥
 not_gone b n unstarted new h = elim h [ inl s ↦ not_started (b.story n).tries s.try unstarted s.last | inr w ↦ not_none (b.story n).waiting w.kind new w.shown ]
 
+-- an outcome that may stand is due
 outcome_not_done : (b : Book) (n : ℕ) (o : Outcome) (may : MayAnswer b n o ⊎ MayTell b n o) → Step (outcome_rank b n o may) b → ⊥
 outcome_not_done b n o (inl owes) h = not_none (owed b n) o (h n owes.asked) owes.owes
 outcome_not_done b n o (inr told) h = h n told.moves
@@ -89,15 +91,19 @@ not_done b (action.Turn k (cause.Event e)) may h = h
 linked : (b : Book) → Sound b → b.links ≢ 0 → Reached 2 b
 linked b h links = (links, (λ e. links (h.opens.no_links e), tt))
 
+-- what is done where the event has had its effect
 pub applied : (b : Book) → Sound b → IsApplied b → Reached 5 b
 applied b h done = (done.created, (done.ended, (done.answered, linked b h done.created.asked)))
 
+-- where all messages have started
 pub moved : (b : Book) → Sound b → IsMoved b → Reached 6 b
 moved b h done = (done.moved, applied b h done.applied)
 
+-- where all is written
 pub written : (b : Book) → Sound b → IsWritten b → Reached 7 b
 written b h done = (done.offered, moved b h done.moved)
 
+-- where the turn is settled
 pub settled : (b : Book) → Sound b → IsSettled b → Reached 8 b
 settled b h done = (done.goes, written b h done.written)
 
@@ -105,6 +111,7 @@ settled b h done = (done.goes, written b h done.written)
 open_has_link : (b : Book) (n : ℕ) → Sound b → IsOpen b n → b.links ≢ 0
 open_has_link b n h o e = let i : n < b.submissions = open_is_numbered b n h.stories o in let none : b.submissions ≡ 0 = h.opens.no_submissions e in omega arith
 
+-- where a link is up, a link was asked for
 up_has_link : (b : Book) (l : ℕ) → Sound b → (b.link l).up ≡ true → b.links ≢ 0
 up_has_link b l h up e = let i : l < b.links = up_is_numbered b l h.links up in omega arith
 
@@ -112,9 +119,11 @@ up_has_link b l h up e = let i : l < b.links = up_is_numbered b l h.links up in 
 unasked_stays : (l : Ledger) → IsUnasked l → ending l ≡ None
 unasked_stays l h = left_if l.up (ending_up l l.heard) (if l.asked && not (is_over l) then ending_asked l.heard else None) h.1 ∙ left_if (l.asked && not (is_over l)) (ending_asked l.heard) None (ap (λ x. x && not (is_over l)) h.0)
 
+-- where a link must end, a link was asked for
 end_has_link : (b : Book) (l : ℕ) (why : Ending) → Sound b → ending (b.link l) ≡ Some why → b.links ≢ 0
 end_has_link b l why h ends e = not_none (ending (b.link l)) why (unasked_stays (b.link l) (h.links.unasked l (omega arith))) ends
 
+-- all before an outcome is done
 outcome_reached : (b : Book) (n : ℕ) (o : Outcome) (may : MayAnswer b n o ⊎ MayTell b n o) → Sound b → Reached (outcome_rank b n o may) b
 outcome_reached b n o (inl owes) h = linked b h (open_has_link b n h owes.asked)
 outcome_reached b n o (inr told) h = applied b h told.applied

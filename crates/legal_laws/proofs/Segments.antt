@@ -24,6 +24,7 @@ DoneIn (suc (suc (suc zero))) b = IsMoved b
 DoneIn (suc (suc (suc (suc zero)))) b = IsWritten b
 DoneIn (suc (suc (suc (suc (suc more))))) b = ⊥
 
+-- behind an outcome
 outcome_done : (b : Book) (n : ℕ) (o : Outcome) (may : MayAnswer b n o ⊎ MayTell b n o) → DoneIn (answers_in b n o may) (entered b (action.Outcome n o))
 outcome_done b n o (inl owes) = tt
 outcome_done b n o (inr told) = tell_applied b n o told
@@ -40,6 +41,7 @@ done_behind b (action.Start l k (owner.Try n round) count len) may h = start_app
 done_behind b (action.Write l bytes) may h = write_moved b l bytes may.moved
 done_behind b (action.Wait (owner.Try n round) kind) may h = wait_written b n round kind may.1.written
 
+-- from the fourth segment on all is written
 written_from : (b : Book) (k : ℕ) → 4 ≤ k → DoneIn k b → IsWritten b
 written_from b zero i h = absurd (omega arith)
 written_from b (suc zero) i h = absurd (omega arith)
@@ -48,6 +50,7 @@ written_from b (suc (suc (suc zero))) i h = absurd (omega arith)
 written_from b (suc (suc (suc (suc zero)))) i h = h
 written_from b (suc (suc (suc (suc (suc more))))) i h = absurd h
 
+-- from the third on all has started
 moved_from : (b : Book) (k : ℕ) → 3 ≤ k → DoneIn k b → IsMoved b
 moved_from b zero i h = absurd (omega arith)
 moved_from b (suc zero) i h = absurd (omega arith)
@@ -55,6 +58,7 @@ moved_from b (suc (suc zero)) i h = absurd (omega arith)
 moved_from b (suc (suc (suc zero))) i h = h
 moved_from b (suc (suc (suc (suc more)))) i h = (written_from b (suc (suc (suc (suc more)))) (omega arith) h).moved
 
+-- from the second on the event has had its effect
 applied_from : (b : Book) (k : ℕ) → 2 ≤ k → DoneIn k b → IsApplied b
 applied_from b zero i h = absurd (omega arith)
 applied_from b (suc zero) i h = absurd (omega arith)
@@ -66,14 +70,17 @@ effect_early : (b : Book) (a : Action) (may : MayStand b a) (k : ℕ) → Sound 
 effect_early b a may k h done r = by_test (nat_le k 1) (k ≤ 1) (le_from k 1)
     (λ f. absurd (not_done b a may (step_of b (rank b a may) 5 r (applied b h (applied_from b k (not_le_from k 1 f) done)))))
 
+-- nothing of the second comes behind the third
 pass_early : (b : Book) (a : Action) (may : MayStand b a) (k : ℕ) → Sound b → DoneIn k b → rank b a may < 6 → k ≤ 2
 pass_early b a may k h done r = by_test (nat_le k 2) (k ≤ 2) (le_from k 2)
     (λ f. absurd (not_done b a may (step_of b (rank b a may) 6 r (moved b h (moved_from b k (not_le_from k 2 f) done)))))
 
+-- nothing of the third comes behind the fourth
 write_early : (b : Book) (a : Action) (may : MayStand b a) (k : ℕ) → Sound b → DoneIn k b → rank b a may < 7 → k ≤ 3
 write_early b a may k h done r = by_test (nat_le k 3) (k ≤ 3) (le_from k 3)
     (λ f. absurd (not_done b a may (step_of b (rank b a may) 7 r (written b h (written_from b k (not_le_from k 3 f) done)))))
 
+-- there is none behind the fourth
 at_most_four : (b : Book) (k : ℕ) → DoneIn k b → k ≤ 4
 at_most_four b zero h = omega arith
 at_most_four b (suc zero) h = omega arith
@@ -82,10 +89,12 @@ at_most_four b (suc (suc (suc zero))) h = omega arith
 at_most_four b (suc (suc (suc (suc zero)))) h = omega arith
 at_most_four b (suc (suc (suc (suc (suc more))))) h = absurd h
 
+-- an outcome comes in its segment
 outcome_early : (b : Book) (n : ℕ) (o : Outcome) (may : MayAnswer b n o ⊎ MayTell b n o) (k : ℕ) → Sound b → DoneIn k b → k ≤ answers_in b n o may
 outcome_early b n o (inl owes) k h done = effect_early b (action.Outcome n o) (inl owes) k h done (omega arith)
 outcome_early b n o (inr told) k h done = pass_early b (action.Outcome n o) (inr told) k h done (omega arith)
 
+-- so does each action that may stand
 comes : (b : Book) (a : Action) (may : MayStand b a) (k : ℕ) → Sound b → DoneIn k b → MayCome k b a may
 comes b (action.Turn j c) may k h done = tt
 comes b (action.Connect l host port) may k h done = effect_early b (action.Connect l host port) may k h done (omega arith)
@@ -96,10 +105,12 @@ comes b (action.Start l j (owner.Try n round) count len) may k h done = pass_ear
 comes b (action.Write l bytes) may k h done = write_early b (action.Write l bytes) may k h done (omega arith)
 comes b (action.Wait (owner.Try n round) kind) may k h done = at_most_four b k done
 
+-- and actions behind one another
 each_comes : (b : Book) (k : ℕ) (trace : List Action) (all : AllStand b trace) → Sound b → DoneIn k b → AreInOrder k b trace all
 each_comes b k [] all h done = tt
 each_comes b k (a ∷ more) all h done =
     (comes b a all.0 k h done, each_comes (entered b a) (segment b a all.0) more all.1 (stays_sound b a all.0 h) (done_behind b a all.0 h))
 
+-- and so in a legal trace
 pub in_segments : (config : Config) (word : ℕ) (events : List Event) (trace : List Action) (h : Legal config word events trace) → AreInOrder 0 blank_book trace h.each
 in_segments config word events trace h = each_comes blank_book 0 trace h.each blank_is_sound tt

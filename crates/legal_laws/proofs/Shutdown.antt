@@ -8,10 +8,11 @@ use Rattle.driver_model.specs.declared.action.Owner.TheVariants as owner
 use Rattle.driver_model.specs.declared.event.EventKind.{EventKind}
 use Rattle.driver_model.specs.declared.event.EventKind.TheVariants as event
 use Rattle.driver_model.specs.News.{News, shut, news}
-use Rattle.legal_trace.specs.Ledger.{Ledger, End, Ending, by_shutdown, hears, begins, offers, ends, noted, ending, ending_up, ending_asked}
+use Rattle.legal_trace.specs.Ledger.{Ledger, End, by_shutdown, hears, begins, offers, ends, noted, ending, ending_up, ending_asked}
 use Rattle.legal_trace.specs.Book.{Book, entered, message_of, shuts}
 use Rattle.legal_trace.specs.Legal.{MayStand, NoneEnds}
 use Rattle.legal_laws.proofs.Ledgers.{mine_keeps, hears_past}
+use Rattle.legal_laws.proofs.Plain.{not_none}
 use Rattle.legal_laws.proofs.Opens.{IsOpening}
 
 -- a link that was asked for and has not ended was told of the shutdown by the turn that runs
@@ -22,6 +23,7 @@ HearsShut l = l.asked ≡ true → l.end ≡ None → l.heard ≡ shut
 abbrev pub ShutIsHeard : Bool → (ℕ → Ledger) → Type 0
 ShutIsHeard is_shut link = is_shut ≡ true → (l : ℕ) → HearsShut (link l)
 
+-- whether it is up or asked for, the shutdown ends it
 ends_by_shutdown : (up asked : Bool) (end : Option End) (l : Ledger) → asked ≡ true → end ≡ None → (if up then ending_up l shut else (if asked && not (is_some end) then ending_asked shut else None)) ≡ Some by_shutdown
 ends_by_shutdown true asked end l a e = refl
 ends_by_shutdown false true None l a e = refl
@@ -32,13 +34,11 @@ ends_by_shutdown false false end l a e = cc
 pub shut_ends : (l : Ledger) → l.asked ≡ true → l.end ≡ None → l.heard ≡ shut → ending l ≡ Some by_shutdown
 shut_ends l a e h = subst (λ (x : News). (if l.up then ending_up l x else (if l.asked && not (is_some l.end) then ending_asked x else None)) ≡ Some by_shutdown) (sym h) (ends_by_shutdown l.up l.asked l.end l a e)
 
-not_both_ends : (o : Option Ending) → o ≡ None → o ≡ Some by_shutdown → ⊥
-not_both_ends o n s = cc
-
 -- so that once all that must end have ended, no link is left
 pub none_left : (b : Book) → NoneEnds b → ShutIsHeard b.shut b.link → b.shut ≡ true → (l : ℕ) → (b.link l).asked ≡ true → (b.link l).end ≡ None → ⊥
-none_left b none h s l a e = not_both_ends (ending (b.link l)) (none l) (shut_ends (b.link l) a e (h s l a e))
+none_left b none h s l a e = not_none (ending (b.link l)) by_shutdown (none l) (shut_ends (b.link l) a e (h s l a e))
 
+-- what doesn't shut down leaves it as it was
 was_shut : (s : Bool) → (s || false) ≡ true → s ≡ true
 was_shut true e = refl
 was_shut false e = e
@@ -47,6 +47,7 @@ was_shut false e = e
 still_none : (b : Book) (x : News) (l : ℕ) → NoneEnds b → ShutIsHeard b.shut b.link → (b.shut || false) ≡ true → HearsShut (noted (b.link l) (hears x))
 still_none b x l none h s a e = absurd (none_left b none h (was_shut b.shut s) l (sym (hears_past (b.link l) x).asked ∙ a) (sym (hears_past (b.link l) x).end ∙ e))
 
+-- each event leaves it so
 turn_heard : (b : Book) (kind : EventKind) → NoneEnds b → ShutIsHeard b.shut b.link → ShutIsHeard (b.shut || shuts kind) (λ l. noted (b.link l) (hears (news l kind)))
 turn_heard b event.Shutdown none h = λ s l a e. refl
 turn_heard b (event.Submit what) none h = λ s l. still_none b (news l (event.Submit what)) l none h s

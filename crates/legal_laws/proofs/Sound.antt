@@ -34,6 +34,7 @@ stays_sound b a may h = record {
   shut = shut_kept b a may h.opens h.shut;
 }
 
+-- the blank book has it
 pub blank_is_sound : Sound blank_book
 blank_is_sound = record {
   opens = record { no_links = λ e. refl; not_running = λ e. refl; no_submissions = λ e. refl; not_shut = λ e. refl };
@@ -51,6 +52,7 @@ pub stay_sound : (b : Book) (front : List Action) → AllStand b front → Sound
 stay_sound b [] all h = h
 stay_sound b (a ∷ more) all h = stay_sound (entered b a) more all.1 (stays_sound b a all.0 h)
 
+-- so does the book of actions that may stand
 pub sound_behind : (front : List Action) → AllStand blank_book front → Sound (book front)
 unfolding book
 sound_behind front all = stay_sound blank_book front all blank_is_sound

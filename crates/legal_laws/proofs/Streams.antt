@@ -32,10 +32,12 @@ prefix_offered taken offer whole h =
 pub prefix_more : (front whole more : List ℕ) → IsPrefix front whole → IsPrefix front (whole ++ more)
 prefix_more front whole more h = record { rest = h.rest ++ more; joins = sym (append_assoc front h.rest more) ∙ ap (λ x. x ++ more) h.joins }
 
+-- the bytes of one message more
 pub joined_append : (ss : List Start) (s : Start) → joined (ss ++ s ∷ []) ≡ joined ss ++ joined (s ∷ [])
 joined_append [] s = refl
 joined_append (t ∷ ss) s = ap (λ x. t.bytes ++ x) (joined_append ss s) ∙ sym (append_assoc t.bytes (joined ss) (joined (s ∷ [])))
 
+-- news keeps the order
 hears_in_order : (l : Ledger) (news : News) → InOrder l → InOrder (with_news l news)
 hears_in_order l silence h = h
 hears_in_order l connected h = chosen InOrder (is_over l) l (record l { up = true }) (λ t. h) (λ e. h)
@@ -44,6 +46,7 @@ hears_in_order l (came piece) h = chosen InOrder l.up (bytes_came l piece) l (λ
 hears_in_order l (failed f) h = h
 hears_in_order l shut h = h
 
+-- so does a line that may stand
 noted_in_order : (l : Ledger) (x : Line) → MayNote l x → InOrder l → InOrder (noted l x)
 noted_in_order l asks may h = h
 noted_in_order l (hears news) may h = hears_in_order l news h
@@ -51,6 +54,7 @@ noted_in_order l (begins s) may h = subst (IsPrefix (stream l)) (sym (joined_app
 noted_in_order l (offers bytes) may h = subst (λ x. IsPrefix (l.taken ++ x) (joined l.starts)) (sym may.2) (prefix_offered l.taken l.offer (joined l.starts) h)
 noted_in_order l (ends turn) may h = h
 
+-- so do many
 each_in_order : (l : Ledger) (lines : List Line) → AllNoted l lines → InOrder l → InOrder (noted_each l lines)
 each_in_order l [] all h = h
 each_in_order l (x ∷ more) all h = each_in_order (noted l x) more all.1 (noted_in_order l x all.0 h)

@@ -22,6 +22,6 @@ BothAnnounce _ _ = ⊥
 abbrev pub OneIsNext : Book → Type 0
 OneIsNext b = (x y : Action) → MayStand b x → MayStand b y → (x ≡ y) ⊎ BothAnnounce x y
 
--- and this behind each actions that may stand
+-- so it is behind any actions that may stand
 abbrev pub OneIsNextBehind : List Action → Type 0
 OneIsNextBehind front = AllStand blank_book front → OneIsNext (book front)

@@ -13,11 +13,11 @@ ghost use Rattle.legal_laws.specs.Answers.{AnswersOnce, AnswersAll};
 ghost use Rattle.legal_laws.specs.Next.{OneIsNextBehind};
 ghost use Rattle.legal_laws.specs.Segments.{AreInOrder};
 
-/// Does nothing. Its contract: what a legal trace tells of each link is legal by itself, and what the book has of the link
-/// is what these lines come to.
+/// Does nothing. Its contract: what a legal trace tells of each link is legal by itself. What the book of any trace has of
+/// a link is what these lines come to.
 pub fn every_link_is_legal()
     ensures legal { (config : Config) (word : ℕ) (events : List Event) (trace : List Action) → Legal config word events trace → LinksAreLegal trace }
-    ensures told { (config : Config) (word : ℕ) (events : List Event) (trace : List Action) → Legal config word events trace → LedgersAreTold trace }
+    ensures told { (trace : List Action) → LedgersAreTold trace }
 {}
 
 /// Does nothing. Its contract: the bytes that a link took and is offered are the first bytes of its started messages, one
