@@ -7,13 +7,13 @@ use Rattle.driver_model.specs.declared.action.Cause.TheVariants as cause
 use Rattle.legal_trace.specs.Book.{Book, blank_book, book}
 use Rattle.legal_trace.specs.Legal.{MayStand, AllStand}
 
--- it announces a turn of the same sort: the opening, or an event
+-- two causes of the same sort: openings, or events
 abbrev pub SameSort : Cause → Cause → Type 0
 SameSort (cause.Opening config word) (cause.Opening other number) = Unit {0}
 SameSort (cause.Event e) (cause.Event f) = Unit {0}
 SameSort _ _ = ⊥
 
--- two announcements of turns, which differ in the cause alone
+-- two announcements of one turn, which differ in the cause at most
 abbrev pub BothAnnounce : Action → Action → Type 0
 BothAnnounce (action.Turn k c) (action.Turn j d) = (k ≡ j) × SameSort c d
 BothAnnounce _ _ = ⊥
