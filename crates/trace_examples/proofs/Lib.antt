@@ -1,0 +1,3 @@
+pub mod Bounded
+pub mod Checks
+pub mod Settled
