@@ -1,3 +1,4 @@
 pub mod Bounded
 pub mod Checks
 pub mod Settled
+pub mod Due
