@@ -1,0 +1,70 @@
+-- What the traces are made of: turns, submissions, the bytes of replies, and outcomes. The commands have one word, G or H, of 11 bytes when packed.
+use Rattle.std.specs.Prelude.{ℕ, List, [], ◌∷◌, None, codes}
+use Rattle.resp_value.specs.declared.server_error.ServerError.{ServerError}
+use Rattle.resp_value.specs.Data.{simple}
+use Rattle.resp_value.specs.View.{value_of}
+use Rattle.driver_model.specs.declared.action.Action.{Action}
+use Rattle.driver_model.specs.declared.action.Action.TheVariants as action
+use Rattle.driver_model.specs.declared.action.Cause.TheVariants as cause
+use Rattle.driver_model.specs.declared.event.Event.{Event}
+use Rattle.driver_model.specs.declared.event.EventKind.{EventKind}
+use Rattle.driver_model.specs.declared.event.Submission.{Submission}
+use Rattle.driver_model.specs.declared.event.Submission.TheVariants as submission
+use Rattle.driver_model.specs.declared.outcome.Outcome.{Outcome}
+use Rattle.driver_model.specs.declared.outcome.Outcome.TheVariants as outcome
+
+-- these events, one after another
+abbrev pub history : List EventKind → List Event
+history [] = []
+history (kind ∷ more) = record { word = 0; kind = kind } ∷ history more
+
+-- a turn of this event
+abbrev pub turn : ℕ → EventKind → Action
+turn k kind = action.Turn k (cause.Event (record { word = 0; kind = kind }))
+
+-- a command of one word, and the same where nobody awaits its reply
+abbrev pub command : ℕ → Submission
+command letter = submission.Cmd ((letter ∷ []) ∷ [])
+
+abbrev pub unawaited : ℕ → Submission
+unawaited letter = submission.NoReply ((letter ∷ []) ∷ [])
+
+-- G and H, sent together
+abbrev pub two_together : Submission
+two_together = submission.Pipe (((71 ∷ []) ∷ []) ∷ ((72 ∷ []) ∷ []) ∷ [])
+
+-- G as a transaction: 40 bytes with MULTI and EXEC
+abbrev pub one_atomic : Submission
+one_atomic = submission.Multi (((71 ∷ []) ∷ []) ∷ [])
+
+-- G, where one reply is skipped and no further one is kept
+abbrev pub one_skipped : Submission
+one_skipped = submission.Packed 1 0 (((71 ∷ []) ∷ []) ∷ [])
+
+-- +x, and then +y
+abbrev pub replies : List ℕ
+replies = codes "+x\r\n+y\r\n"
+
+-- the reply of one letter as an outcome
+abbrev pub reply : ℕ → Outcome
+reply letter = outcome.One (value_of (simple (letter ∷ [])))
+
+-- a push without reply
+abbrev pub a_push : List ℕ
+a_push = codes ">1\r\n+x\r\n"
+
+-- +OK to MULTI, -E to the command of a transaction, and -X to EXEC
+abbrev pub refusals : List ℕ
+refusals = codes "+OK\r\n-E\r\n-X\r\n"
+
+-- the error of one letter
+abbrev pub server_error : ℕ → ServerError
+server_error letter = record { code = letter ∷ []; detail = None }
+
+-- +x, and then a byte that begins no value
+abbrev pub spoiled_behind : List ℕ
+spoiled_behind = codes "+x\r\n?"
+
+-- +OK to MULTI, +QUEUED to the command of a transaction, and an array of :1 to EXEC
+abbrev pub executed : List ℕ
+executed = codes "+OK\r\n+QUEUED\r\n*1\r\n:1\r\n"
