@@ -3,3 +3,7 @@ pub mod Checks
 pub mod Settled
 pub mod Due
 pub mod Allowed
+pub mod Stood
+pub mod Refused
+pub mod Misplaced
+pub mod LeftOut

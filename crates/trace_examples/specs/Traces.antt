@@ -1,6 +1,7 @@
 -- The fronts of a few traces.
 use Rattle.std.specs.Prelude.{ℕ, List, [], ◌∷◌, ◌++◌, codes}
 use Rattle.redis_error.specs.declared.fault_kind.FaultKind.TheVariants.{Reset}
+use Rattle.redis_error.specs.declared.redis_error.RedisError.TheVariants.{Io}
 use Rattle.resp_value.specs.declared.value.Value.TheVariants.{Nil}
 use Rattle.driver_model.specs.declared.action.Action.{Action}
 use Rattle.driver_model.specs.declared.action.Action.TheVariants as action
@@ -78,6 +79,10 @@ started_unoffered config word = arrived config word (command 71) ++ action.Start
 abbrev pub cut_off : Config → ℕ → Submission → ℕ → ℕ → List Action
 cut_off config word s need len = sent config word s need len ++ turn 3 (event.ReadFault 0 Reset) ∷ action.Close 0 ∷ []
 
+-- the command was hit by the fault, and another one was handed in
+abbrev pub ended : Config → ℕ → List Action
+ended config word = cut_off config word (command 71) 1 11 ++ action.Outcome 0 (outcome.Fault (Io Reset)) ∷ turn 4 (event.Submit (command 72)) ∷ []
+
 -- a transaction was refused
 abbrev pub refused : Config → ℕ → List Action
 refused config word = sent config word one_atomic 3 40 ++ turn 3 (event.Bytes 0 refusals) ∷ []
@@ -110,11 +115,15 @@ both_left_out config word = left_out config word ++ turn 2 (event.Submit (comman
 abbrev pub in_wait : Config → ℕ → Submission → List Action
 in_wait config word s = opening config word ++ turn 1 (event.Submit s) ∷ action.Wait (owner.Try 0 0) wait.Connect ∷ []
 
--- and everything is shut down
+-- a command was started, and everything is shut down
+abbrev pub shut_down : Config → ℕ → List Action
+shut_down config word = started_one config word ++ turn 3 event.Shutdown ∷ []
+
+-- or while it waits for the connect
 abbrev pub shut_in_wait : Config → ℕ → List Action
 shut_in_wait config word = in_wait config word (command 71) ++ turn 2 event.Shutdown ∷ []
 
--- or it comes
+-- or the link came up
 abbrev pub up_in_wait : Config → ℕ → Submission → List Action
 up_in_wait config word s = in_wait config word s ++ turn 2 (event.Connected 0) ∷ []
 
@@ -124,6 +133,10 @@ both_in_wait config word s =
     in_wait config word (command 71) ++
     turn 2 (event.Submit s) ∷ action.Wait (owner.Try 1 0) wait.Connect ∷
     turn 3 (event.Connected 0) ∷ action.Created ∷ []
+
+-- two commands waited, and the first of them started
+abbrev pub first_of_both : Config → ℕ → List Action
+first_of_both config word = both_in_wait config word (command 72) ++ action.Start 0 0 (owner.Try 0 0) 1 11 ∷ []
 
 -- everything was shut down, and a command was handed in
 abbrev pub too_late : Config → ℕ → List Action
