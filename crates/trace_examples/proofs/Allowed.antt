@@ -1,6 +1,6 @@
 -- Traces that can be relied on.
-use Rattle.std.proofs.Common.{ℕ, [], ◌∷◌, ◌++◌, None, refl}
-use Rattle.std.specs.Prelude.{codes, pos}
+use Rattle.std.proofs.Common.{ℕ, [], ◌∷◌, ◌++◌, refl}
+use Rattle.std.specs.Prelude.{pos}
 use Rattle.std.specs.Fmt.{digits}
 use Rattle.redis_error.specs.declared.fault_kind.FaultKind.TheVariants.{Reset}
 use Rattle.redis_error.specs.declared.redis_error.RedisError.TheVariants as error
@@ -10,20 +10,18 @@ use Rattle.resp_read.specs.Grammar.{max_depth}
 use Rattle.resp_read.specs.Values.{values, left_over, is_spoiled}
 use Rattle.resp_read.specs.Items.{items}
 use Rattle.driver_model.specs.declared.action.Action.TheVariants as action
-use Rattle.driver_model.specs.declared.action.Owner.TheVariants as owner
 use Rattle.driver_model.specs.declared.config.Config.{Config}
 use Rattle.driver_model.specs.declared.event.EventKind.TheVariants as event
 use Rattle.driver_model.specs.declared.event.Submission.TheVariants as submission
 use Rattle.driver_model.specs.declared.outcome.Outcome.TheVariants as outcome
-use Rattle.driver_model.specs.Request.{packed}
 use Rattle.legal_trace.specs.Events.{is_bad_event}
 use Rattle.legal_trace.specs.Legal.{Legal}
-use Rattle.trace_examples.specs.Parts.{history, turn, command, unawaited, two_together, one_atomic, one_skipped, replies, refusals, executed, spoiled_behind, reply, server_error}
-use Rattle.trace_examples.specs.Traces.{opening, sent, started_one, cut_off, both_cut_off, refused, half_filled, told_first, left_alone, spoiled, shut_in_wait, too_late}
+use Rattle.trace_examples.specs.Parts.{history, command, unawaited, two_together, one_atomic, one_skipped, one_reply, replies, a_reply_and_more, okay_line, refusals, multi_refused, exec_refused, executed, spoiled_behind, reply, err}
+use Rattle.trace_examples.specs.Traces.{cut_off, both_cut_off, refused, refused_at_once, committed, half_filled, told_first, left_alone, connected_again, heard_early, spoiled, shut_in_wait, too_late, said_nothing}
 use Rattle.trace_examples.proofs.Due.{legal}
 
 -- a transaction is refused: its command wasn't queued
-pub transaction_refused : (config : Config) (word : ℕ) → Legal config word (history (event.Connected 0 ∷ event.Submit one_atomic ∷ event.Bytes 0 refusals ∷ [])) (refused config word ++ action.Outcome 0 (outcome.Fault (error.Aborted ((0, server_error 69) ∷ []))) ∷ [])
+pub transaction_refused : (config : Config) (word : ℕ) → Legal config word (history (event.Connected 0 ∷ event.Submit one_atomic ∷ event.Bytes 0 refusals ∷ [])) (refused config word ++ action.Outcome 0 (outcome.Fault (error.Aborted ((0, err) ∷ []))) ∷ [])
 unfolding digits items values left_over is_spoiled max_depth is_bad_event
 transaction_refused config word = legal config word _ _ refl refl ((refl, refl), (refl, (refl, tt)))
 
@@ -43,17 +41,17 @@ unfolding digits items values left_over is_spoiled max_depth is_bad_event
 pipeline_cut_off config word = legal config word _ _ refl refl ((refl, refl), (refl, (refl, tt)))
 
 -- a message that isn't full is still open
-pub waits_for_more : (config : Config) (word : ℕ) → Legal config word (history (event.Connected 0 ∷ event.Submit one_skipped ∷ event.Bytes 0 (codes "+x\r\n") ∷ [])) (half_filled config word)
+pub waits_for_more : (config : Config) (word : ℕ) → Legal config word (history (event.Connected 0 ∷ event.Submit one_skipped ∷ event.Bytes 0 one_reply ∷ [])) (half_filled config word)
 unfolding digits items values left_over is_spoiled max_depth is_bad_event
 waits_for_more config word = legal config word _ _ refl refl ((refl, refl), (refl, tt))
 
 -- an error to MULTI is the verdict, once all replies came
-pub verdict_of_multi : (config : Config) (word : ℕ) → Legal config word (history (event.Connected 0 ∷ event.Submit one_atomic ∷ event.Bytes 0 (codes "-ERR\r\n+OK\r\n") ∷ event.Bytes 0 (codes "-ERR\r\n") ∷ [])) (sent config word one_atomic 3 40 ++ turn 3 (event.Bytes 0 (codes "-ERR\r\n+OK\r\n")) ∷ turn 4 (event.Bytes 0 (codes "-ERR\r\n")) ∷ action.Outcome 0 (outcome.Fault (error.Server (record { code = codes "ERR"; detail = None }))) ∷ [])
+pub verdict_of_multi : (config : Config) (word : ℕ) → Legal config word (history (event.Connected 0 ∷ event.Submit one_atomic ∷ event.Bytes 0 multi_refused ∷ event.Bytes 0 exec_refused ∷ [])) (refused_at_once config word ++ action.Outcome 0 (outcome.Fault (error.Server err)) ∷ [])
 unfolding digits items values left_over is_spoiled max_depth is_bad_event
 verdict_of_multi config word = legal config word _ _ refl refl ((refl, refl), (refl, (refl, tt)))
 
 -- the replies to MULTI and to the commands as they were queued are skipped
-pub queued_replies_skipped : (config : Config) (word : ℕ) → Legal config word (history (event.Connected 0 ∷ event.Submit one_atomic ∷ event.Bytes 0 executed ∷ [])) (sent config word one_atomic 3 40 ++ turn 3 (event.Bytes 0 executed) ∷ action.Outcome 0 (outcome.Many (array (items_of (int (pos 1) ∷ [])) ∷ [])) ∷ [])
+pub queued_replies_skipped : (config : Config) (word : ℕ) → Legal config word (history (event.Connected 0 ∷ event.Submit one_atomic ∷ event.Bytes 0 executed ∷ [])) (committed config word ++ action.Outcome 0 (outcome.Many (array (items_of (int (pos 1) ∷ [])) ∷ [])) ∷ [])
 unfolding digits items values left_over is_spoiled max_depth is_bad_event
 queued_replies_skipped config word = legal config word _ _ refl refl ((refl, refl), (refl, (refl, tt)))
 
@@ -63,12 +61,12 @@ unfolding digits items values left_over is_spoiled max_depth is_bad_event
 side_by_side config word = legal config word _ _ refl refl ((refl, refl), (refl, (refl, (refl, tt))))
 
 -- a second connect changes nothing
-pub connected_twice : (config : Config) (word : ℕ) → Legal config word (history (event.Connected 0 ∷ event.Submit (command 71) ∷ event.Connected 0 ∷ event.Bytes 0 (codes "+OK\r\n") ∷ [])) (started_one config word ++ turn 3 (event.Connected 0) ∷ turn 4 (event.Bytes 0 (codes "+OK\r\n")) ∷ action.Outcome 0 (outcome.One Okay) ∷ [])
+pub connected_twice : (config : Config) (word : ℕ) → Legal config word (history (event.Connected 0 ∷ event.Submit (command 71) ∷ event.Connected 0 ∷ event.Bytes 0 okay_line ∷ [])) (connected_again config word ++ action.Outcome 0 (outcome.One Okay) ∷ [])
 unfolding digits items values left_over is_spoiled max_depth is_bad_event
 connected_twice config word = legal config word _ _ refl refl ((refl, refl), (refl, (refl, tt)))
 
 -- bytes before the connect change nothing, also where they begin a value
-pub bytes_too_early : (config : Config) (word : ℕ) → Legal config word (history (event.Bytes 0 (codes "+x\r\n+y") ∷ event.Connected 0 ∷ event.Submit (command 71) ∷ event.Bytes 0 (codes "+OK\r\n") ∷ [])) (opening config word ++ turn 1 (event.Bytes 0 (codes "+x\r\n+y")) ∷ turn 2 (event.Connected 0) ∷ action.Created ∷ turn 3 (event.Submit (command 71)) ∷ action.Start 0 0 (owner.Try 0 0) 1 11 ∷ action.Write 0 (packed (command 71)) ∷ turn 4 (event.Bytes 0 (codes "+OK\r\n")) ∷ action.Outcome 0 (outcome.One Okay) ∷ [])
+pub bytes_too_early : (config : Config) (word : ℕ) → Legal config word (history (event.Bytes 0 a_reply_and_more ∷ event.Connected 0 ∷ event.Submit (command 71) ∷ event.Bytes 0 okay_line ∷ [])) (heard_early config word ++ action.Outcome 0 (outcome.One Okay) ∷ [])
 unfolding digits items values left_over is_spoiled max_depth is_bad_event
 bytes_too_early config word = legal config word _ _ refl refl ((refl, refl), (refl, (refl, tt)))
 
@@ -93,6 +91,6 @@ unfolding digits items values left_over is_spoiled max_depth is_bad_event
 answered_then_closed config word = legal config word _ _ refl refl ((refl, refl), (refl, (refl, tt)))
 
 -- a command without words is empty, before the connect as well
-pub empty_command : (config : Config) (word : ℕ) → Legal config word (history (event.Submit (submission.Cmd []) ∷ [])) (opening config word ++ turn 1 (event.Submit (submission.Cmd [])) ∷ action.Outcome 0 (outcome.Fault error.EmptyCommand) ∷ [])
+pub empty_command : (config : Config) (word : ℕ) → Legal config word (history (event.Submit (submission.Cmd []) ∷ [])) (said_nothing config word ++ action.Outcome 0 (outcome.Fault error.EmptyCommand) ∷ [])
 unfolding digits items values left_over is_spoiled max_depth is_bad_event
 empty_command config word = legal config word _ _ refl refl ((refl, refl), (refl, tt))

@@ -18,7 +18,7 @@ use Rattle.legal_trace.specs.Story.{is_open, is_awaited, bytes_of, shape}
 use Rattle.legal_trace.specs.Book.{Book, blank_book, book, entered, entered_each}
 use Rattle.legal_trace.specs.Owed.{owed}
 use Rattle.legal_trace.specs.Events.{is_bad_event}
-use Rattle.legal_trace.specs.Legal.{IsOpen, link_of, IsTold, MayTurn, MayConnect, MayClose, MayBeCreated, MayAnswer, MayTell, MayStart, MayWrite, MayWait, MayStand, AllStand, IsSettled, causes, event_causes, Legal}
+use Rattle.legal_trace.specs.Legal.{IsOpen, link_of, IsTold, MayTurn, MayConnect, MayClose, MayBeCreated, MayAnswer, MayTell, MayStart, MayWrite, MayWait, MayStand, AllStand, causes, event_causes, Legal}
 use Rattle.trace_examples.proofs.Bounded.{IsBounded, is_of_first, still_bounded, blank_bounded}
 use Rattle.trace_examples.proofs.Checks.{holds_if, held, is_none, none_from, is_empty, empty_from, filled_from, untrue, each_below, below, is_told, told_from}
 use Rattle.trace_examples.proofs.Settled.{is_quiet, quiet, all_quiet, none_is_owed, none_ends, no_end, is_applied, applied, can_move, moves, all_stay, none_before, is_moved, moved, is_written, written, wait_holds, holds, is_settled, settled}
@@ -148,7 +148,7 @@ outcome_stands b n o bounded e said = of_owed (owed b n) refl (both_right (is_op
       nil = s;
     })
 
--- each step is due but for what is left to be said, and after the last the trace is settled
+-- each step is due but for what is left to be said
 abbrev pub due : Book → Action → Bool
 due b (action.Turn k c) = turn_due b k c
 due b (action.Connect l host port) = (b.links == 0) && (l == 0)
@@ -160,7 +160,7 @@ due b action.Created = created_due b
 due b (action.Outcome n o) = is_open (b.story n) && outcome_due b n (owed b n)
 
 abbrev pub all_due : Book → List Action → Bool
-all_due b [] = is_settled b
+all_due b [] = true
 all_due b (a ∷ more) = due b a && is_of_first a && all_due (entered b a) more
 
 -- what is left to be said: the address of the opening, the bytes that are offered, and the outcomes
@@ -202,8 +202,8 @@ first_stands b (action.Start l k (owner.Try n round) count len) more bounded e s
 first_stands b action.Created more bounded e said = (created_stands b bounded e, said)
 first_stands b (action.Outcome n o) more bounded e said = (outcome_stands b n o bounded e said.0, said.1)
 
-all_stand : (b : Book) (t : List Action) → IsBounded b → all_due b t ≡ true → AllSaid b t → AllStand b t × IsSettled (entered_each b t)
-all_stand b [] bounded e said = (tt, settled b bounded e)
+all_stand : (b : Book) (t : List Action) → IsBounded b → all_due b t ≡ true → AllSaid b t → AllStand b t × IsBounded (entered_each b t)
+all_stand b [] bounded e said = (tt, bounded)
 all_stand b (a ∷ more) bounded e said =
     let one = both_left (due b a && is_of_first a) (all_due (entered b a) more) e in
     let first = first_stands b a more bounded (both_left (due b a) (is_of_first a) one) said in
@@ -211,7 +211,14 @@ all_stand b (a ∷ more) bounded e said =
     let next = all_stand (entered b a) more after (both_right (due b a && is_of_first a) (all_due (entered b a) more) e) first.1 in
     ((first.0, next.0), next.1)
 
--- a trace with the turns of these events, each of whose steps is due
-pub legal : (config : Config) (word : ℕ) (events : List Event) (trace : List Action) → causes trace ≡ cause.Opening config word ∷ event_causes events → all_due blank_book trace ≡ true → AllSaid blank_book trace → Legal config word events trace
+-- the front of a trace, each of whose steps is due
+pub stands : (front : List Action) → all_due blank_book front ≡ true → AllSaid blank_book front → AllStand blank_book front
+stands front e said = (all_stand blank_book front blank_bounded e said).0
+
+-- a trace with the turns of these events, each of whose steps is due, and that is settled at its end
+pub legal : (config : Config) (word : ℕ) (events : List Event) (trace : List Action)
+    → causes trace ≡ cause.Opening config word ∷ event_causes events → (all_due blank_book trace && is_settled (entered_each blank_book trace)) ≡ true → AllSaid blank_book trace → Legal config word events trace
 unfolding book
-legal config word events trace turns e said = let h = all_stand blank_book trace blank_bounded e said in record { turns = turns; each = h.0; settled = h.1 }
+legal config word events trace turns e said =
+    let h = all_stand blank_book trace blank_bounded (both_left (all_due blank_book trace) (is_settled (entered_each blank_book trace)) e) said in
+    record { turns = turns; each = h.0; settled = settled (entered_each blank_book trace) h.1 (both_right (all_due blank_book trace) (is_settled (entered_each blank_book trace)) e) }

@@ -7,3 +7,4 @@ pub mod Stood
 pub mod Refused
 pub mod Misplaced
 pub mod LeftOut
+pub mod Fronts

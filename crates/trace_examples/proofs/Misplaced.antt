@@ -1,5 +1,5 @@
 -- Actions that stand where they may not: whatever comes after these fronts, no trace that begins so is legal.
-use Rattle.std.proofs.Common.{◌≢◌, ℕ, List, [], ◌∷◌, ◌++◌, refl, inl, inr, arith}
+use Rattle.std.proofs.Common.{◌≢◌, ℕ, List, ◌∷◌, ◌++◌, refl, inl, inr, arith}
 use Rattle.std.specs.Fmt.{digits}
 use Rattle.resp_value.specs.declared.value.Value.TheVariants.{Nil}
 use Rattle.resp_read.specs.Grammar.{max_depth}
@@ -15,12 +15,11 @@ use Rattle.driver_model.specs.declared.action.WaitKind.TheVariants as wait
 use Rattle.driver_model.specs.declared.config.Config.{Config}
 use Rattle.driver_model.specs.declared.event.Event.{Event}
 use Rattle.driver_model.specs.declared.event.EventKind.TheVariants as event
-use Rattle.driver_model.specs.declared.event.Submission.TheVariants as submission
 use Rattle.driver_model.specs.declared.outcome.Outcome.TheVariants as outcome
 use Rattle.driver_model.specs.Request.{packed}
 use Rattle.legal_trace.specs.Events.{is_bad_event}
 use Rattle.legal_trace.specs.Legal.{MayTurn, Legal}
-use Rattle.trace_examples.specs.Parts.{turn, command, unawaited}
+use Rattle.trace_examples.specs.Parts.{turn, command, unawaited, one_nameless}
 use Rattle.trace_examples.specs.Traces.{came_up, arrived, started_one, started_unoffered, held_back, spoiled, cut_off, left_untold, left_out, both_left_out, up_in_wait, both_in_wait, first_of_both, ended}
 use Rattle.trace_examples.proofs.Stood.{book_of, may_stand}
 
@@ -127,10 +126,10 @@ another_length config word events after count len other h =
     other m.1.long_as_its_bytes
 
 -- the turn of a list of one command without words
-pub nameless : (config : Config) (word : ℕ) (events : List Event) (after : List Action) → Legal config word events (came_up config word ++ turn 2 (event.Submit (submission.Pipe ([] ∷ []))) ∷ after) → ⊥
+pub nameless : (config : Config) (word : ℕ) (events : List Event) (after : List Action) → Legal config word events (came_up config word ++ turn 2 (event.Submit one_nameless) ∷ after) → ⊥
 unfolding is_bad_event
 nameless config word events after h =
-    let m = may_stand config word events (came_up config word) after (turn 2 (event.Submit (submission.Pipe ([] ∷ [])))) h in
+    let m = may_stand config word events (came_up config word) after (turn 2 (event.Submit one_nameless)) h in
     cc m.is_for.2
 
 -- the turn of more bytes taken than were offered

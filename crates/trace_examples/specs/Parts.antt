@@ -41,29 +41,55 @@ one_atomic = submission.Multi (((71 ∷ []) ∷ []) ∷ [])
 abbrev pub one_skipped : Submission
 one_skipped = submission.Packed 1 0 (((71 ∷ []) ∷ []) ∷ [])
 
--- +x, and then +y
-abbrev pub replies : List ℕ
-replies = codes "+x\r\n+y\r\n"
+-- a list of one command without words
+abbrev pub one_nameless : Submission
+one_nameless = submission.Pipe ([] ∷ [])
 
 -- the reply of one letter as an outcome
 abbrev pub reply : ℕ → Outcome
 reply letter = outcome.One (value_of (simple (letter ∷ [])))
 
+-- the error ERR, with nothing behind it
+abbrev pub err : ServerError
+err = record { code = codes "ERR"; detail = None }
+
+-- a first reply, or it and then +y, or it twice
+abbrev pub one_reply : List ℕ
+one_reply = codes "+x\r\n"
+
+abbrev pub replies : List ℕ
+replies = codes "+x\r\n+y\r\n"
+
+abbrev pub replies_alike : List ℕ
+replies_alike = codes "+x\r\n+x\r\n"
+
+-- the first reply, and the front of another
+abbrev pub a_reply_and_more : List ℕ
+a_reply_and_more = codes "+x\r\n+"
+
+-- the first reply, and then a byte that begins no value
+abbrev pub spoiled_behind : List ℕ
+spoiled_behind = codes "+x\r\n?"
+
+-- what a server says where all is well
+abbrev pub okay_line : List ℕ
+okay_line = codes "+OK\r\n"
+
 -- a push without reply
 abbrev pub a_push : List ℕ
 a_push = codes ">1\r\n+x\r\n"
 
--- +OK to MULTI, -E to the command of a transaction, and -X to EXEC
+-- +OK to MULTI, an error to the command of a transaction, and another to EXEC
 abbrev pub refusals : List ℕ
-refusals = codes "+OK\r\n-E\r\n-X\r\n"
+refusals = codes "+OK\r\n-ERR\r\n-EXECABORT\r\n"
 
--- the error of one letter
-abbrev pub server_error : ℕ → ServerError
-server_error letter = record { code = letter ∷ []; detail = None }
+-- an error to MULTI, and +OK to the command behind it, which was executed by itself
+abbrev pub multi_refused : List ℕ
+multi_refused = codes "-ERR\r\n+OK\r\n"
 
--- +x, and then a byte that begins no value
-abbrev pub spoiled_behind : List ℕ
-spoiled_behind = codes "+x\r\n?"
+-- an error to EXEC
+abbrev pub exec_refused : List ℕ
+exec_refused = codes "-EXECABORT\r\n"
 
 -- +OK to MULTI, +QUEUED to the command of a transaction, and an array of :1 to EXEC
 abbrev pub executed : List ℕ

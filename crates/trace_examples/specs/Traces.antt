@@ -1,5 +1,5 @@
 -- The fronts of a few traces.
-use Rattle.std.specs.Prelude.{ℕ, List, [], ◌∷◌, ◌++◌, codes}
+use Rattle.std.specs.Prelude.{ℕ, List, [], ◌∷◌, ◌++◌}
 use Rattle.redis_error.specs.declared.fault_kind.FaultKind.TheVariants.{Reset}
 use Rattle.redis_error.specs.declared.redis_error.RedisError.TheVariants.{Io}
 use Rattle.resp_value.specs.declared.value.Value.TheVariants.{Nil}
@@ -11,9 +11,10 @@ use Rattle.driver_model.specs.declared.action.WaitKind.TheVariants as wait
 use Rattle.driver_model.specs.declared.config.Config.{Config}
 use Rattle.driver_model.specs.declared.event.EventKind.TheVariants as event
 use Rattle.driver_model.specs.declared.event.Submission.{Submission}
+use Rattle.driver_model.specs.declared.event.Submission.TheVariants as submission
 use Rattle.driver_model.specs.declared.outcome.Outcome.TheVariants as outcome
 use Rattle.driver_model.specs.Request.{packed}
-use Rattle.trace_examples.specs.Parts.{turn, command, unawaited, one_atomic, one_skipped, replies, a_push, refusals, spoiled_behind}
+use Rattle.trace_examples.specs.Parts.{turn, command, unawaited, one_atomic, one_skipped, one_reply, replies, replies_alike, a_reply_and_more, spoiled_behind, okay_line, a_push, refusals, multi_refused, exec_refused, executed}
 
 -- the opening
 abbrev pub opening : Config → ℕ → List Action
@@ -49,7 +50,7 @@ answered_both config word = sent_both config word ++ turn 6 (event.Bytes 0 repli
 
 -- or +x came twice
 abbrev pub answered_alike : Config → ℕ → List Action
-answered_alike config word = sent_both config word ++ turn 6 (event.Bytes 0 (codes "+x\r\n+x\r\n")) ∷ []
+answered_alike config word = sent_both config word ++ turn 6 (event.Bytes 0 replies_alike) ∷ []
 
 -- or the first was cancelled, and both replies came
 abbrev pub left_alone : Config → ℕ → List Action
@@ -58,6 +59,10 @@ left_alone config word = started_both config word ++ turn 4 (event.Cancel 0) ∷
 -- or a read failed, and the link was closed
 abbrev pub both_cut_off : Config → ℕ → List Action
 both_cut_off config word = started_both config word ++ turn 4 (event.ReadFault 0 Reset) ∷ action.Close 0 ∷ []
+
+-- a command was started, a second connect came, and then the reply
+abbrev pub connected_again : Config → ℕ → List Action
+connected_again config word = started_one config word ++ turn 3 (event.Connected 0) ∷ turn 4 (event.Bytes 0 okay_line) ∷ []
 
 -- a command was started, and a push without reply came
 abbrev pub pushed : Config → ℕ → List Action
@@ -87,9 +92,17 @@ ended config word = cut_off config word (command 71) 1 11 ++ action.Outcome 0 (o
 abbrev pub refused : Config → ℕ → List Action
 refused config word = sent config word one_atomic 3 40 ++ turn 3 (event.Bytes 0 refusals) ∷ []
 
+-- or its MULTI alone, and the last reply came in a piece of its own
+abbrev pub refused_at_once : Config → ℕ → List Action
+refused_at_once config word = sent config word one_atomic 3 40 ++ turn 3 (event.Bytes 0 multi_refused) ∷ turn 4 (event.Bytes 0 exec_refused) ∷ []
+
+-- or it was executed
+abbrev pub committed : Config → ℕ → List Action
+committed config word = sent config word one_atomic 3 40 ++ turn 3 (event.Bytes 0 executed) ∷ []
+
 -- one of the two items came that a message takes
 abbrev pub half_filled : Config → ℕ → List Action
-half_filled config word = sent config word one_skipped 2 11 ++ turn 3 (event.Bytes 0 (codes "+x\r\n")) ∷ []
+half_filled config word = sent config word one_skipped 2 11 ++ turn 3 (event.Bytes 0 one_reply) ∷ []
 
 -- a command came whose reply nobody awaits, and wasn't answered
 abbrev pub left_untold : Config → ℕ → List Action
@@ -141,3 +154,16 @@ first_of_both config word = both_in_wait config word (command 72) ++ action.Star
 -- everything was shut down, and a command was handed in
 abbrev pub too_late : Config → ℕ → List Action
 too_late config word = opening config word ++ turn 1 event.Shutdown ∷ action.Close 0 ∷ turn 2 (event.Submit (command 71)) ∷ []
+
+-- bytes came before the connect, and then a command was started, and its reply came
+abbrev pub heard_early : Config → ℕ → List Action
+heard_early config word =
+    opening config word ++
+    turn 1 (event.Bytes 0 a_reply_and_more) ∷
+    turn 2 (event.Connected 0) ∷ action.Created ∷
+    turn 3 (event.Submit (command 71)) ∷ action.Start 0 0 (owner.Try 0 0) 1 11 ∷ action.Write 0 (packed (command 71)) ∷
+    turn 4 (event.Bytes 0 okay_line) ∷ []
+
+-- a command without words was handed in before the link is up
+abbrev pub said_nothing : Config → ℕ → List Action
+said_nothing config word = opening config word ++ turn 1 (event.Submit (submission.Cmd [])) ∷ []
