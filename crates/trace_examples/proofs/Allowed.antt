@@ -1,23 +1,25 @@
 -- Traces that can be relied on.
-use Rattle.std.proofs.Common.{ℕ, [], ◌∷◌, ◌++◌, refl}
+use Rattle.std.proofs.Common.{drop, ℕ, [], ◌∷◌, ◌++◌, refl}
 use Rattle.std.specs.Prelude.{pos}
 use Rattle.std.specs.Fmt.{digits}
 use Rattle.redis_error.specs.declared.fault_kind.FaultKind.TheVariants.{Reset}
 use Rattle.redis_error.specs.declared.redis_error.RedisError.TheVariants as error
-use Rattle.resp_value.specs.declared.value.Value.TheVariants.{Okay}
+use Rattle.resp_value.specs.declared.value.Value.TheVariants.{Okay, Nil}
 use Rattle.resp_value.specs.Data.{array, int, items_of}
 use Rattle.resp_read.specs.Grammar.{max_depth}
 use Rattle.resp_read.specs.Values.{values, left_over, is_spoiled}
 use Rattle.resp_read.specs.Items.{items}
 use Rattle.driver_model.specs.declared.action.Action.TheVariants as action
+use Rattle.driver_model.specs.declared.action.Owner.TheVariants as owner
 use Rattle.driver_model.specs.declared.config.Config.{Config}
 use Rattle.driver_model.specs.declared.event.EventKind.TheVariants as event
 use Rattle.driver_model.specs.declared.event.Submission.TheVariants as submission
 use Rattle.driver_model.specs.declared.outcome.Outcome.TheVariants as outcome
+use Rattle.driver_model.specs.Request.{packed}
 use Rattle.legal_trace.specs.Events.{is_bad_event}
 use Rattle.legal_trace.specs.Legal.{Legal}
 use Rattle.trace_examples.specs.Parts.{history, command, unawaited, two_together, one_atomic, one_skipped, one_reply, replies, a_reply_and_more, okay_line, refusals, multi_refused, exec_refused, executed, spoiled_behind, reply, err}
-use Rattle.trace_examples.specs.Traces.{cut_off, both_cut_off, refused, refused_at_once, committed, half_filled, told_first, left_alone, connected_again, heard_early, spoiled, shut_in_wait, too_late, said_nothing}
+use Rattle.trace_examples.specs.Traces.{cut_off, both_cut_off, refused, refused_at_once, committed, half_filled, told_first, left_alone, connected_again, heard_early, spoiled, shut_in_wait, too_late, said_nothing, both_in_wait, taken_in_part}
 use Rattle.trace_examples.proofs.Due.{legal}
 
 -- a transaction is refused: its command wasn't queued
@@ -85,10 +87,20 @@ pub cancelled_item_dropped : (config : Config) (word : ℕ) → Legal config wor
 unfolding digits items values left_over is_spoiled max_depth is_bad_event
 cancelled_item_dropped config word = legal config word _ _ refl refl ((refl, refl), (refl, (refl, tt)))
 
--- a reply is answered before the bytes behind it close the link
-pub answered_then_closed : (config : Config) (word : ℕ) → Legal config word (history (event.Connected 0 ∷ event.Submit (command 71) ∷ event.Bytes 0 spoiled_behind ∷ [])) (spoiled config word ++ action.Outcome 0 (reply 120) ∷ action.Close 0 ∷ [])
+-- a reply is answered before the bytes behind it close the link, which hits the next command
+pub answered_then_closed : (config : Config) (word : ℕ) → Legal config word (history (event.Connected 0 ∷ event.Submit (command 71) ∷ event.Submit (command 72) ∷ event.Bytes 0 spoiled_behind ∷ [])) (spoiled config word ++ action.Outcome 0 (reply 120) ∷ action.Close 0 ∷ action.Outcome 1 (outcome.Fault error.Parse) ∷ [])
 unfolding digits items values left_over is_spoiled max_depth is_bad_event
-answered_then_closed config word = legal config word _ _ refl refl ((refl, refl), (refl, (refl, tt)))
+answered_then_closed config word = legal config word _ _ refl refl ((refl, refl), (refl, (refl, (refl, tt))))
+
+-- a command whose reply nobody awaits is answered once the earlier one started, and then starts; the bytes of both are offered together
+pub told_in_its_turn : (config : Config) (word : ℕ) → Legal config word (history (event.Submit (command 71) ∷ event.Submit (unawaited 72) ∷ event.Connected 0 ∷ [])) (both_in_wait config word (unawaited 72) ++ action.Start 0 0 (owner.Try 0 0) 1 11 ∷ action.Outcome 1 (outcome.One Nil) ∷ action.Start 0 1 (owner.Try 1 0) 1 11 ∷ action.Write 0 (packed (command 71) ++ packed (unawaited 72)) ∷ [])
+unfolding digits items values left_over is_spoiled max_depth is_bad_event
+told_in_its_turn config word = legal config word _ _ refl refl ((refl, refl), (refl, (refl, tt)))
+
+-- bytes that weren't taken are offered again
+pub offered_again : (config : Config) (word : ℕ) → Legal config word (history (event.Connected 0 ∷ event.Submit (command 71) ∷ event.Wrote 0 5 ∷ [])) (taken_in_part config word ++ action.Write 0 (drop 5 (packed (command 71))) ∷ [])
+unfolding digits items values left_over is_spoiled max_depth is_bad_event
+offered_again config word = legal config word _ _ refl refl ((refl, refl), (refl, (refl, tt)))
 
 -- a command without words is empty, before the connect as well
 pub empty_command : (config : Config) (word : ℕ) → Legal config word (history (event.Submit (submission.Cmd []) ∷ [])) (said_nothing config word ++ action.Outcome 0 (outcome.Fault error.EmptyCommand) ∷ [])

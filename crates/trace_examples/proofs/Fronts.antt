@@ -9,7 +9,7 @@ use Rattle.driver_model.specs.declared.action.Action.TheVariants as action
 use Rattle.driver_model.specs.declared.config.Config.{Config}
 use Rattle.legal_trace.specs.Events.{is_bad_event}
 use Rattle.trace_examples.specs.Parts.{command, unawaited, two_together, reply}
-use Rattle.trace_examples.specs.Traces.{came_up, arrived, started_one, answered_both, answered_alike, pushed, cut_off, told_first, half_filled, refused, left_alone, shut_down, shut_in_wait, left_untold, both_in_wait, up_in_wait, spoiled, held_back, first_of_both, started_unoffered, left_out, ended}
+use Rattle.trace_examples.specs.Traces.{taken_in_part, came_up, arrived, started_one, answered_both, answered_alike, pushed, cut_off, told_first, half_filled, refused, left_alone, shut_down, shut_in_wait, left_untold, both_in_wait, up_in_wait, spoiled, held_back, first_of_both, started_unoffered, left_out, ended}
 use Rattle.trace_examples.specs.Fronts.{EachStands, answered_fronts, unanswered_fronts, ended_fronts, waiting_fronts, begun_fronts}
 use Rattle.trace_examples.proofs.Due.{stands}
 
@@ -59,5 +59,6 @@ begun_fronts_stand config word =
     let one = stands (arrived config word (command 71)) refl ((refl, refl), tt) in
     let untold = stands (left_untold config word) refl ((refl, refl), tt) in
     let unoffered = stands (started_unoffered config word) refl ((refl, refl), tt) in
+    let part = stands (taken_in_part config word) refl ((refl, refl), (refl, tt)) in
     let held = stands (held_back config word) refl ((refl, refl), (refl, tt)) in
-    (up, (one, (untold, (unoffered, (held, tt)))))
+    (up, (one, (untold, (unoffered, (part, (held, tt))))))

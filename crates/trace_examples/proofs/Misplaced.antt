@@ -1,5 +1,5 @@
 -- Actions that stand where they may not: whatever comes after these fronts, no trace that begins so is legal.
-use Rattle.std.proofs.Common.{◌≢◌, ℕ, List, ◌∷◌, ◌++◌, refl, inl, inr, arith}
+use Rattle.std.proofs.Common.{length, ap, ◌≢◌, ℕ, List, ◌∷◌, ◌++◌, refl, inl, inr, arith}
 use Rattle.std.specs.Fmt.{digits}
 use Rattle.resp_value.specs.declared.value.Value.TheVariants.{Nil}
 use Rattle.resp_read.specs.Grammar.{max_depth}
@@ -20,7 +20,7 @@ use Rattle.driver_model.specs.Request.{packed}
 use Rattle.legal_trace.specs.Events.{is_bad_event}
 use Rattle.legal_trace.specs.Legal.{MayTurn, Legal}
 use Rattle.trace_examples.specs.Parts.{turn, command, unawaited, one_nameless}
-use Rattle.trace_examples.specs.Traces.{came_up, arrived, started_one, started_unoffered, held_back, spoiled, cut_off, left_untold, left_out, both_left_out, up_in_wait, both_in_wait, first_of_both, ended}
+use Rattle.trace_examples.specs.Traces.{taken_in_part, came_up, arrived, started_one, started_unoffered, held_back, spoiled, cut_off, left_untold, left_out, both_left_out, up_in_wait, both_in_wait, first_of_both, ended}
 use Rattle.trace_examples.proofs.Stood.{book_of, may_stand}
 
 -- a message that starts, although nobody awaits its reply and its command wasn't told
@@ -81,6 +81,13 @@ pub offered_twice : (config : Config) (word : ℕ) (events : List Event) (after 
 offered_twice config word events after h =
     let m = may_stand config word events (started_one config word) after (action.Write 0 (packed (command 71))) h in
     cc m.answered
+
+-- bytes that are offered again after they were taken
+pub offered_what_was_taken : (config : Config) (word : ℕ) (events : List Event) (after : List Action) → Legal config word events (taken_in_part config word ++ action.Write 0 (packed (command 71)) ∷ after) → ⊥
+unfolding digits
+offered_what_was_taken config word events after h =
+    let m = may_stand config word events (taken_in_part config word) after (action.Write 0 (packed (command 71))) h in
+    cc (ap length m.all)
 
 -- a wait that is shown before the bytes of a link are offered
 pub waits_before_an_offer : (config : Config) (word : ℕ) (events : List Event) (after : List Action) (n round : ℕ) (kind : WaitKind)

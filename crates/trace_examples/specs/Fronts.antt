@@ -6,7 +6,7 @@ use Rattle.driver_model.specs.declared.config.Config.{Config}
 use Rattle.legal_trace.specs.Book.{blank_book}
 use Rattle.legal_trace.specs.Legal.{AllStand}
 use Rattle.trace_examples.specs.Parts.{command, unawaited, two_together, reply}
-use Rattle.trace_examples.specs.Traces.{came_up, arrived, started_one, answered_both, answered_alike, pushed, cut_off, told_first, half_filled, refused, left_alone, shut_down, shut_in_wait, left_untold, both_in_wait, up_in_wait, spoiled, held_back, first_of_both, started_unoffered, left_out, ended}
+use Rattle.trace_examples.specs.Traces.{taken_in_part, came_up, arrived, started_one, answered_both, answered_alike, pushed, cut_off, told_first, half_filled, refused, left_alone, shut_down, shut_in_wait, left_untold, both_in_wait, up_in_wait, spoiled, held_back, first_of_both, started_unoffered, left_out, ended}
 
 -- the actions of each of these stand where they may
 abbrev pub EachStands : List (List Action) → Type 0
@@ -31,4 +31,4 @@ waiting_fronts config word = left_out config word ∷ up_in_wait config word (un
 
 -- those where a link is up, and a message is to start or to be offered
 abbrev pub begun_fronts : Config → ℕ → List (List Action)
-begun_fronts config word = came_up config word ∷ arrived config word (command 71) ∷ left_untold config word ∷ started_unoffered config word ∷ held_back config word ∷ []
+begun_fronts config word = came_up config word ∷ arrived config word (command 71) ∷ left_untold config word ∷ started_unoffered config word ∷ taken_in_part config word ∷ held_back config word ∷ []

@@ -56,6 +56,10 @@ answered_alike config word = sent_both config word ++ turn 6 (event.Bytes 0 repl
 abbrev pub left_alone : Config → ℕ → List Action
 left_alone config word = started_both config word ++ turn 4 (event.Cancel 0) ∷ turn 5 (event.Bytes 0 replies) ∷ []
 
+-- or the first reply came, and a byte behind it that begins no value
+abbrev pub spoiled : Config → ℕ → List Action
+spoiled config word = started_both config word ++ turn 4 (event.Bytes 0 spoiled_behind) ∷ []
+
 -- or a read failed, and the link was closed
 abbrev pub both_cut_off : Config → ℕ → List Action
 both_cut_off config word = started_both config word ++ turn 4 (event.ReadFault 0 Reset) ∷ action.Close 0 ∷ []
@@ -68,13 +72,13 @@ connected_again config word = started_one config word ++ turn 3 (event.Connected
 abbrev pub pushed : Config → ℕ → List Action
 pushed config word = started_one config word ++ turn 3 (event.Bytes 0 a_push) ∷ []
 
--- a command was started, and then its reply came with a byte behind it that begins no value
-abbrev pub spoiled : Config → ℕ → List Action
-spoiled config word = started_one config word ++ turn 3 (event.Bytes 0 spoiled_behind) ∷ []
-
 -- a command was started, and a second one was handed in that wasn't
 abbrev pub held_back : Config → ℕ → List Action
 held_back config word = started_one config word ++ turn 3 (event.Submit (command 72)) ∷ []
+
+-- a command was started, and its first five bytes were taken
+abbrev pub taken_in_part : Config → ℕ → List Action
+taken_in_part config word = started_one config word ++ turn 3 (event.Wrote 0 5) ∷ []
 
 -- a request was started, and its bytes were never offered
 abbrev pub started_unoffered : Config → ℕ → List Action
