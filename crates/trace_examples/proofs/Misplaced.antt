@@ -19,7 +19,7 @@ use Rattle.driver_model.specs.declared.outcome.Outcome.TheVariants as outcome
 use Rattle.driver_model.specs.Request.{packed}
 use Rattle.legal_trace.specs.Events.{is_bad_event}
 use Rattle.legal_trace.specs.Legal.{MayTurn, Legal}
-use Rattle.trace_examples.specs.Parts.{turn, command, unawaited, one_nameless}
+use Rattle.trace_examples.specs.Parts.{turn, command, unawaited, one_nameless, nameless_atomic, nameless_skipped}
 use Rattle.trace_examples.specs.Traces.{taken_in_part, came_up, arrived, started_one, started_unoffered, held_back, spoiled, cut_off, left_untold, left_out, both_left_out, up_in_wait, both_in_wait, first_of_both, ended}
 use Rattle.trace_examples.proofs.Stood.{book_of, may_stand}
 
@@ -132,11 +132,23 @@ another_length config word events after count len other h =
     let m = may_stand config word events (arrived config word (command 71)) after (action.Start 0 0 (owner.Try 0 0) count len) h in
     other m.1.long_as_its_bytes
 
--- the turn of a list of one command without words
+-- the turn of one command without words in a list
 pub nameless : (config : Config) (word : ℕ) (events : List Event) (after : List Action) → Legal config word events (came_up config word ++ turn 2 (event.Submit one_nameless) ∷ after) → ⊥
 unfolding is_bad_event
 nameless config word events after h =
     let m = may_stand config word events (came_up config word) after (turn 2 (event.Submit one_nameless)) h in
+    cc m.is_for.2
+
+pub nameless_transaction : (config : Config) (word : ℕ) (events : List Event) (after : List Action) → Legal config word events (came_up config word ++ turn 2 (event.Submit nameless_atomic) ∷ after) → ⊥
+unfolding is_bad_event
+nameless_transaction config word events after h =
+    let m = may_stand config word events (came_up config word) after (turn 2 (event.Submit nameless_atomic)) h in
+    cc m.is_for.2
+
+pub nameless_packed : (config : Config) (word : ℕ) (events : List Event) (after : List Action) (offset count : ℕ) → Legal config word events (came_up config word ++ turn 2 (event.Submit (nameless_skipped offset count)) ∷ after) → ⊥
+unfolding is_bad_event
+nameless_packed config word events after offset count h =
+    let m = may_stand config word events (came_up config word) after (turn 2 (event.Submit (nameless_skipped offset count))) h in
     cc m.is_for.2
 
 -- the turn of more bytes taken than were offered

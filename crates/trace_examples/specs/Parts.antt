@@ -41,9 +41,15 @@ one_atomic = submission.Multi (((71 ∷ []) ∷ []) ∷ [])
 abbrev pub one_skipped : Submission
 one_skipped = submission.Packed 1 0 (((71 ∷ []) ∷ []) ∷ [])
 
--- a list of one command without words
+-- one command without words in a list, in each of the three ways
 abbrev pub one_nameless : Submission
 one_nameless = submission.Pipe ([] ∷ [])
+
+abbrev pub nameless_atomic : Submission
+nameless_atomic = submission.Multi ([] ∷ [])
+
+abbrev pub nameless_skipped : ℕ → ℕ → Submission
+nameless_skipped offset count = submission.Packed offset count ([] ∷ [])
 
 -- the reply of one letter as an outcome
 abbrev pub reply : ℕ → Outcome
