@@ -9,7 +9,7 @@ use Rattle.driver_model.specs.declared.action.Action.TheVariants as action
 use Rattle.driver_model.specs.declared.config.Config.{Config}
 use Rattle.legal_trace.specs.Events.{is_bad_event}
 use Rattle.trace_examples.specs.Parts.{command, unawaited, two_together, reply}
-use Rattle.trace_examples.specs.Traces.{taken_in_part, came_up, arrived, started_one, answered_both, answered_alike, pushed, cut_off, told_first, half_filled, refused, left_alone, shut_down, shut_in_wait, left_untold, both_in_wait, up_in_wait, spoiled, held_back, first_of_both, started_unoffered, left_out, ended}
+use Rattle.trace_examples.specs.Traces.{cut_off_alone, taken_in_part, came_up, arrived, started_one, answered_both, answered_alike, pushed, cut_off, told_first, half_filled, refused, left_alone, shut_down, shut_in_wait, left_untold, both_in_wait, up_in_wait, spoiled, held_back, first_of_both, started_unoffered, left_out, ended}
 use Rattle.trace_examples.specs.Fronts.{EachStands, answered_fronts, unanswered_fronts, ended_fronts, waiting_fronts, begun_fronts}
 use Rattle.trace_examples.proofs.Due.{stands}
 
@@ -39,9 +39,10 @@ ended_fronts_stand config word =
     let pipeline = stands (cut_off config word two_together 2 22) refl ((refl, refl), (refl, tt)) in
     let one = stands (cut_off config word (command 71) 1 11) refl ((refl, refl), (refl, tt)) in
     let another = stands (ended config word) refl ((refl, refl), (refl, (refl, tt))) in
+    let alone = stands (cut_off_alone config word) refl ((refl, refl), (refl, tt)) in
     let shutdown = stands (shut_down config word) refl ((refl, refl), (refl, tt)) in
     let waiting = stands (shut_in_wait config word) refl ((refl, refl), tt) in
-    (pipeline, (one, (another, (shutdown, (waiting, tt)))))
+    (pipeline, (one, (another, (alone, (shutdown, (waiting, tt))))))
 
 pub waiting_fronts_stand : (config : Config) (word : ℕ) → EachStands (waiting_fronts config word)
 unfolding digits is_bad_event

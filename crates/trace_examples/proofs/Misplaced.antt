@@ -24,7 +24,8 @@ use Rattle.trace_examples.specs.Traces.{taken_in_part, came_up, arrived, started
 use Rattle.trace_examples.proofs.Stood.{book_of, may_stand}
 
 -- a message that starts, although nobody awaits its reply and its command wasn't told
-pub started_untold : (config : Config) (word : ℕ) (events : List Event) (after : List Action) → Legal config word events (left_untold config word ++ action.Start 0 0 (owner.Try 0 0) 1 11 ∷ after) → ⊥
+pub started_untold : (config : Config) (word : ℕ) (events : List Event) (after : List Action)
+    → Legal config word events (left_untold config word ++ action.Start 0 0 (owner.Try 0 0) 1 11 ∷ after) → ⊥
 started_untold config word events after h =
     let m = may_stand config word events (left_untold config word) after (action.Start 0 0 (owner.Try 0 0) 1 11) h in
     elim m.1.wanted [ inl awaited ↦ cc awaited | inr told ↦ cc told.told ]
@@ -50,20 +51,23 @@ told_before_the_creation config word events after h =
     ]
 
 -- a close by bytes that begin no value, before the outcome of the value in front of them
-pub closed_before_the_reply : (config : Config) (word : ℕ) (events : List Event) (after : List Action) → Legal config word events (spoiled config word ++ action.Close 0 ∷ after) → ⊥
+pub closed_before_the_reply : (config : Config) (word : ℕ) (events : List Event) (after : List Action)
+    → Legal config word events (spoiled config word ++ action.Close 0 ∷ after) → ⊥
 unfolding digits items values left_over max_depth
 closed_before_the_reply config word events after h =
     let m = may_stand config word events (spoiled config word) after (action.Close 0) h in
     cc (m.answered 0 refl)
 
 -- a link that is closed twice
-pub closed_twice : (config : Config) (word : ℕ) (events : List Event) (after : List Action) → Legal config word events (cut_off config word (command 71) 1 11 ++ action.Close 0 ∷ after) → ⊥
+pub closed_twice : (config : Config) (word : ℕ) (events : List Event) (after : List Action)
+    → Legal config word events (cut_off config word (command 71) 1 11 ++ action.Close 0 ∷ after) → ⊥
 closed_twice config word events after h =
     let m = may_stand config word events (cut_off config word (command 71) 1 11) after (action.Close 0) h in
     cc m.ends
 
 -- a message that is held back behind one that isn't answered: the next turn doesn't begin
-pub held_back_behind : (config : Config) (word : ℕ) (events : List Event) (after : List Action) (number : ℕ) (c : Cause) → Legal config word events (held_back config word ++ action.Turn number c ∷ after) → ⊥
+pub held_back_behind : (config : Config) (word : ℕ) (events : List Event) (after : List Action) (number : ℕ) (c : Cause)
+    → Legal config word events (held_back config word ++ action.Turn number c ∷ after) → ⊥
 held_back_behind config word events after number c h = of_cause c (may_stand config word events (held_back config word) after (action.Turn number c) h)
   where
     of_cause : (c : Cause) → MayTurn (book_of (held_back config word)) number c → ⊥
@@ -71,19 +75,22 @@ held_back_behind config word events after number c h = of_cause c (may_stand con
     of_cause (cause.Event e) m = m.is_for.1.written.moved.moved 1 (record { unstarted = refl; wanted = inl refl; up = refl })
 
 -- bytes that are offered before a message that may start
-pub offered_before_a_start : (config : Config) (word : ℕ) (events : List Event) (after : List Action) (bytes : List ℕ) → Legal config word events (first_of_both config word ++ action.Write 0 bytes ∷ after) → ⊥
+pub offered_before_a_start : (config : Config) (word : ℕ) (events : List Event) (after : List Action) (bytes : List ℕ)
+    → Legal config word events (first_of_both config word ++ action.Write 0 bytes ∷ after) → ⊥
 offered_before_a_start config word events after bytes h =
     let m = may_stand config word events (first_of_both config word) after (action.Write 0 bytes) h in
     m.moved.moved 1 (record { unstarted = refl; wanted = inl refl; up = refl })
 
 -- bytes that are offered twice
-pub offered_twice : (config : Config) (word : ℕ) (events : List Event) (after : List Action) → Legal config word events (started_one config word ++ action.Write 0 (packed (command 71)) ∷ after) → ⊥
+pub offered_twice : (config : Config) (word : ℕ) (events : List Event) (after : List Action)
+    → Legal config word events (started_one config word ++ action.Write 0 (packed (command 71)) ∷ after) → ⊥
 offered_twice config word events after h =
     let m = may_stand config word events (started_one config word) after (action.Write 0 (packed (command 71))) h in
     cc m.answered
 
 -- bytes that are offered again after they were taken
-pub offered_what_was_taken : (config : Config) (word : ℕ) (events : List Event) (after : List Action) → Legal config word events (taken_in_part config word ++ action.Write 0 (packed (command 71)) ∷ after) → ⊥
+pub offered_what_was_taken : (config : Config) (word : ℕ) (events : List Event) (after : List Action)
+    → Legal config word events (taken_in_part config word ++ action.Write 0 (packed (command 71)) ∷ after) → ⊥
 unfolding digits
 offered_what_was_taken config word events after h =
     let m = may_stand config word events (taken_in_part config word) after (action.Write 0 (packed (command 71))) h in
@@ -133,33 +140,38 @@ another_length config word events after count len other h =
     other m.1.long_as_its_bytes
 
 -- the turn of one command without words in a list
-pub nameless : (config : Config) (word : ℕ) (events : List Event) (after : List Action) → Legal config word events (came_up config word ++ turn 2 (event.Submit one_nameless) ∷ after) → ⊥
+pub nameless : (config : Config) (word : ℕ) (events : List Event) (after : List Action)
+    → Legal config word events (came_up config word ++ turn 2 (event.Submit one_nameless) ∷ after) → ⊥
 unfolding is_bad_event
 nameless config word events after h =
     let m = may_stand config word events (came_up config word) after (turn 2 (event.Submit one_nameless)) h in
     cc m.is_for.2
 
-pub nameless_transaction : (config : Config) (word : ℕ) (events : List Event) (after : List Action) → Legal config word events (came_up config word ++ turn 2 (event.Submit nameless_atomic) ∷ after) → ⊥
+pub nameless_transaction : (config : Config) (word : ℕ) (events : List Event) (after : List Action)
+    → Legal config word events (came_up config word ++ turn 2 (event.Submit nameless_atomic) ∷ after) → ⊥
 unfolding is_bad_event
 nameless_transaction config word events after h =
     let m = may_stand config word events (came_up config word) after (turn 2 (event.Submit nameless_atomic)) h in
     cc m.is_for.2
 
-pub nameless_packed : (config : Config) (word : ℕ) (events : List Event) (after : List Action) (offset count : ℕ) → Legal config word events (came_up config word ++ turn 2 (event.Submit (nameless_skipped offset count)) ∷ after) → ⊥
+pub nameless_packed : (config : Config) (word : ℕ) (events : List Event) (after : List Action) (offset count : ℕ)
+    → Legal config word events (came_up config word ++ turn 2 (event.Submit (nameless_skipped offset count)) ∷ after) → ⊥
 unfolding is_bad_event
 nameless_packed config word events after offset count h =
     let m = may_stand config word events (came_up config word) after (turn 2 (event.Submit (nameless_skipped offset count))) h in
     cc m.is_for.2
 
 -- the turn of more bytes taken than were offered
-pub took_too_much : (config : Config) (word : ℕ) (events : List Event) (after : List Action) → Legal config word events (started_one config word ++ turn 3 (event.Wrote 0 12) ∷ after) → ⊥
+pub took_too_much : (config : Config) (word : ℕ) (events : List Event) (after : List Action)
+    → Legal config word events (started_one config word ++ turn 3 (event.Wrote 0 12) ∷ after) → ⊥
 unfolding is_bad_event digits
 took_too_much config word events after h =
     let m = may_stand config word events (started_one config word) after (turn 3 (event.Wrote 0 12)) h in
     cc m.is_for.2
 
 -- a creation that is shown twice
-pub created_twice : (config : Config) (word : ℕ) (events : List Event) (after : List Action) → Legal config word events (came_up config word ++ action.Created ∷ after) → ⊥
+pub created_twice : (config : Config) (word : ℕ) (events : List Event) (after : List Action)
+    → Legal config word events (came_up config word ++ action.Created ∷ after) → ⊥
 created_twice config word events after h =
     let m = may_stand config word events (came_up config word) after action.Created h in
     cc m.once

@@ -6,7 +6,7 @@ use Rattle.driver_model.specs.declared.config.Config.{Config}
 use Rattle.legal_trace.specs.Book.{blank_book}
 use Rattle.legal_trace.specs.Legal.{AllStand}
 use Rattle.trace_examples.specs.Parts.{command, unawaited, two_together, reply}
-use Rattle.trace_examples.specs.Traces.{taken_in_part, came_up, arrived, started_one, answered_both, answered_alike, pushed, cut_off, told_first, half_filled, refused, left_alone, shut_down, shut_in_wait, left_untold, both_in_wait, up_in_wait, spoiled, held_back, first_of_both, started_unoffered, left_out, ended}
+use Rattle.trace_examples.specs.Traces.{cut_off_alone, taken_in_part, came_up, arrived, started_one, answered_both, answered_alike, pushed, cut_off, told_first, half_filled, refused, left_alone, shut_down, shut_in_wait, left_untold, both_in_wait, up_in_wait, spoiled, held_back, first_of_both, started_unoffered, left_out, ended}
 
 -- the actions of each of these stand where they may
 abbrev pub EachStands : List (List Action) → Type 0
@@ -23,7 +23,7 @@ unanswered_fronts config word = started_one config word ∷ pushed config word �
 
 -- those where the link ended, or must end
 abbrev pub ended_fronts : Config → ℕ → List (List Action)
-ended_fronts config word = cut_off config word two_together 2 22 ∷ cut_off config word (command 71) 1 11 ∷ ended config word ∷ shut_down config word ∷ shut_in_wait config word ∷ []
+ended_fronts config word = cut_off config word two_together 2 22 ∷ cut_off config word (command 71) 1 11 ∷ ended config word ∷ cut_off_alone config word ∷ shut_down config word ∷ shut_in_wait config word ∷ []
 
 -- those where requests came before the connect
 abbrev pub waiting_fronts : Config → ℕ → List (List Action)

@@ -56,6 +56,10 @@ answered_alike config word = sent_both config word ++ turn 6 (event.Bytes 0 repl
 abbrev pub left_alone : Config → ℕ → List Action
 left_alone config word = started_both config word ++ turn 4 (event.Cancel 0) ∷ turn 5 (event.Bytes 0 replies) ∷ []
 
+-- or the first was cancelled, and then a read failed, and the link was closed
+abbrev pub cut_off_alone : Config → ℕ → List Action
+cut_off_alone config word = started_both config word ++ turn 4 (event.Cancel 0) ∷ turn 5 (event.ReadFault 0 Reset) ∷ action.Close 0 ∷ []
+
 -- or the first reply came, and a byte behind it that begins no value
 abbrev pub spoiled : Config → ℕ → List Action
 spoiled config word = started_both config word ++ turn 4 (event.Bytes 0 spoiled_behind) ∷ []

@@ -23,7 +23,7 @@ ghost use Rattle.driver_model.specs.declared.outcome.Outcome.TheVariants as outc
 ghost use Rattle.driver_model.specs.Request.{packed};
 ghost use Rattle.legal_trace.specs.Legal.{Legal};
 ghost use Rattle.trace_examples.specs.Parts.{history, turn, command, unawaited, two_together, one_atomic, one_skipped, one_nameless, nameless_atomic, nameless_skipped, reply, err, one_reply, replies, a_reply_and_more, spoiled_behind, okay_line, refusals, multi_refused, exec_refused, executed};
-ghost use Rattle.trace_examples.specs.Traces.{came_up, arrived, started_one, answered_both, answered_alike, left_alone, spoiled, both_cut_off, connected_again, pushed, held_back, taken_in_part, started_unoffered, cut_off, ended, refused, refused_at_once, committed, half_filled, left_untold, told_first, left_out, both_left_out, shut_down, shut_in_wait, up_in_wait, both_in_wait, first_of_both, too_late, heard_early, said_nothing};
+ghost use Rattle.trace_examples.specs.Traces.{came_up, arrived, started_one, answered_both, answered_alike, left_alone, cut_off_alone, spoiled, both_cut_off, connected_again, pushed, held_back, taken_in_part, started_unoffered, cut_off, ended, refused, refused_at_once, committed, half_filled, left_untold, told_first, left_out, both_left_out, shut_down, shut_in_wait, up_in_wait, both_in_wait, first_of_both, too_late, heard_early, said_nothing};
 ghost use Rattle.trace_examples.specs.Fronts.{EachStands, answered_fronts, unanswered_fronts, ended_fronts, waiting_fronts, begun_fronts};
 
 /// Does nothing. Its contract: these traces are legal. A transaction is aborted by the error of its command; a
@@ -39,22 +39,25 @@ pub fn these_are_legal()
 
 /// Does nothing. Its contract: these are legal too. An error to MULTI is the verdict once all replies came; the
 /// replies to MULTI and to the commands as they were queued are skipped; one fault hits the oldest command and
-/// closes the connection for the next; the item of a message that was cancelled goes to nobody; and a reply in
-/// front of bytes that begin no value is answered before they close the link.
+/// closes the connection for the next; the item of a message that was cancelled goes to nobody, and so does the
+/// fault that hits it; and a reply in front of bytes that begin no value is answered before they close the link.
 pub fn so_are_these()
     ensures verdict_of_multi { (config : Config) (word : ℕ) → Legal config word (history (event.Connected 0 ∷ event.Submit one_atomic ∷ event.Bytes 0 multi_refused ∷ event.Bytes 0 exec_refused ∷ [])) (refused_at_once config word ++ action.Outcome 0 (outcome.Fault (error.Server err)) ∷ []) }
     ensures queued_replies_skipped { (config : Config) (word : ℕ) → Legal config word (history (event.Connected 0 ∷ event.Submit one_atomic ∷ event.Bytes 0 executed ∷ [])) (committed config word ++ action.Outcome 0 (outcome.Many (array (items_of (int (pos 1) ∷ [])) ∷ [])) ∷ []) }
     ensures side_by_side { (config : Config) (word : ℕ) → Legal config word (history (event.Connected 0 ∷ event.Submit (command 71) ∷ event.Submit (command 72) ∷ event.ReadFault 0 Reset ∷ [])) (both_cut_off config word ++ action.Outcome 0 (outcome.Fault (error.Io Reset)) ∷ action.Outcome 1 (outcome.Fault error.Closed) ∷ []) }
     ensures cancelled_item_dropped { (config : Config) (word : ℕ) → Legal config word (history (event.Connected 0 ∷ event.Submit (command 71) ∷ event.Submit (command 72) ∷ event.Cancel 0 ∷ event.Bytes 0 replies ∷ [])) (left_alone config word ++ action.Outcome 1 (reply 121) ∷ []) }
+    ensures cancelled_fault_dropped { (config : Config) (word : ℕ) → Legal config word (history (event.Connected 0 ∷ event.Submit (command 71) ∷ event.Submit (command 72) ∷ event.Cancel 0 ∷ event.ReadFault 0 Reset ∷ [])) (cut_off_alone config word ++ action.Outcome 1 (outcome.Fault error.Closed) ∷ []) }
     ensures answered_then_closed { (config : Config) (word : ℕ) → Legal config word (history (event.Connected 0 ∷ event.Submit (command 71) ∷ event.Submit (command 72) ∷ event.Bytes 0 spoiled_behind ∷ [])) (spoiled config word ++ action.Outcome 0 (reply 120) ∷ action.Close 0 ∷ action.Outcome 1 (outcome.Fault error.Parse) ∷ []) }
 {}
 
 /// Does nothing. Its contract: these are legal too. A second connect, and bytes before the first, change nothing;
-/// the shutdown closes the connection of a request that waits, and of one that comes later; a command without words
-/// is empty; a Nil has its turn between two starts; and bytes that weren't taken are offered again.
+/// the shutdown closes the connection of a command that was started, of one that waits, and of one that comes
+/// later; a command without words is empty; a Nil has its turn between two starts; and bytes that weren't taken are
+/// offered again.
 pub fn so_are_these_around_a_link()
     ensures connected_twice { (config : Config) (word : ℕ) → Legal config word (history (event.Connected 0 ∷ event.Submit (command 71) ∷ event.Connected 0 ∷ event.Bytes 0 okay_line ∷ [])) (connected_again config word ++ action.Outcome 0 (outcome.One Okay) ∷ []) }
     ensures bytes_too_early { (config : Config) (word : ℕ) → Legal config word (history (event.Bytes 0 a_reply_and_more ∷ event.Connected 0 ∷ event.Submit (command 71) ∷ event.Bytes 0 okay_line ∷ [])) (heard_early config word ++ action.Outcome 0 (outcome.One Okay) ∷ []) }
+    ensures shut_down_started { (config : Config) (word : ℕ) → Legal config word (history (event.Connected 0 ∷ event.Submit (command 71) ∷ event.Shutdown ∷ [])) (shut_down config word ++ action.Close 0 ∷ action.Outcome 0 (outcome.Fault error.Closed) ∷ []) }
     ensures shut_down_in_wait { (config : Config) (word : ℕ) → Legal config word (history (event.Submit (command 71) ∷ event.Shutdown ∷ [])) (shut_in_wait config word ++ action.Close 0 ∷ action.Outcome 0 (outcome.Fault error.Closed) ∷ []) }
     ensures shut_down_before { (config : Config) (word : ℕ) → Legal config word (history (event.Shutdown ∷ event.Submit (command 71) ∷ [])) (too_late config word ++ action.Outcome 0 (outcome.Fault error.Closed) ∷ []) }
     ensures empty_command { (config : Config) (word : ℕ) → Legal config word (history (event.Submit (submission.Cmd []) ∷ [])) (said_nothing config word ++ action.Outcome 0 (outcome.Fault error.EmptyCommand) ∷ []) }
@@ -82,10 +85,11 @@ pub fn nor_are_these()
     ensures values_of_the_refused { (config : Config) (word : ℕ) (events : List Event) (after : List Action) (kept : List Data) → Legal config word events (refused config word ++ action.Outcome 0 (outcome.Many kept) ∷ after) → ⊥ }
 {}
 
-/// Does nothing. Its contract: the same of outcomes after a cancel, of outcomes before the close that gives them,
-/// and of a Nil that isn't due.
+/// Does nothing. Its contract: the same of what a cancelled message came to, of outcomes after a cancel, of
+/// outcomes before the close that gives them, and of a Nil that isn't due.
 pub fn nor_are_these_outcomes()
     ensures item_of_the_cancelled { (config : Config) (word : ℕ) (events : List Event) (after : List Action) → Legal config word events (left_alone config word ++ action.Outcome 1 (reply 120) ∷ after) → ⊥ }
+    ensures fault_of_the_cancelled { (config : Config) (word : ℕ) (events : List Event) (after : List Action) (kind : FaultKind) → Legal config word events (cut_off_alone config word ++ action.Outcome 1 (outcome.Fault (error.Io kind)) ∷ after) → ⊥ }
     ensures answered_after_its_cancel { (config : Config) (word : ℕ) (events : List Event) (after : List Action) (o : Outcome) → Legal config word events (left_alone config word ++ action.Outcome 0 o ∷ after) → ⊥ }
     ensures answered_before_the_close { (config : Config) (word : ℕ) (events : List Event) (after : List Action) (o : Outcome) → Legal config word events (shut_down config word ++ action.Outcome 0 o ∷ after) → ⊥ }
     ensures answered_before_the_close_in_wait { (config : Config) (word : ℕ) (events : List Event) (after : List Action) (o : Outcome) → Legal config word events (shut_in_wait config word ++ action.Outcome 0 o ∷ after) → ⊥ }
