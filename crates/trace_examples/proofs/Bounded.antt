@@ -46,6 +46,7 @@ pub record IsBounded (b : Book) : Type 0 where
   pub absent : (n : ℕ) → b.submissions ≤ n → (b.story n).submission ≡ None
   pub idle : (l : ℕ) → 0 < l → IsIdle (b.link l)
 
+-- at first
 pub blank_bounded : IsBounded blank_book
 blank_bounded = record { absent = λ n l. refl; idle = λ l some. record { down = refl; unasked = refl } }
 
@@ -63,6 +64,7 @@ hears_idle : (l : Ledger) (mine : Bool) (x : News) → IsIdle l → IsIdle (with
 hears_idle l true x h g = record { down = g.down; unasked = g.unasked }
 hears_idle l false x h g = record { down = h.down; unasked = h.unasked }
 
+-- so do the news of an event that doesn't connect it
 event_idle : (l : Ledger) (n : ℕ) (kind : EventKind) → 0 < n → connects_first kind ≡ true → IsIdle l → IsIdle (noted l (hears (news n kind)))
 event_idle l n (event.Connected m) some first h = rw (ne_test m n (λ e. absurd (omega (arith, eq_from m 0 first)))) (record { down = h.down; unasked = h.unasked })
 event_idle l n (event.Wrote m count) some first h = hears_idle l (m == n) (took count) h (chosen IsIdle l.up _ l (λ t. record { down = h.down; unasked = h.unasked }) (λ t. h))
@@ -74,6 +76,7 @@ event_idle l n event.Shutdown some first h = record { down = h.down; unasked = h
 event_idle l n (event.Submit what) some first h = record { down = h.down; unasked = h.unasked }
 event_idle l n (event.Cancel m) some first h = record { down = h.down; unasked = h.unasked }
 
+-- a link that isn't the first stays idle
 still_idle : (b : Book) (n : ℕ) (a : Action) → 0 < n → is_of_first a ≡ true → IsIdle (b.link n) → IsIdle (noted_each (b.link n) (lines_of b n a))
 still_idle b n (action.Turn k (cause.Opening config word)) some first h = h
 still_idle b n (action.Turn k (cause.Event e)) some first h = event_idle (b.link n) n e.kind some first h
@@ -89,6 +92,7 @@ still_idle b n (action.Outcome m o) some first h = h
 abbrev IsAbsent : Story → Type 0
 IsAbsent s = s.submission ≡ None
 
+-- what an event hands in has the next number
 event_absent : (b : Book) (n : ℕ) (kind : EventKind) → b.submissions + submitted_by kind ≤ n → IsAbsent (b.story n) → IsAbsent (after_event b n kind)
 event_absent b n (event.Submit what) l h = rw (ne_test b.submissions n (λ e. absurd (omega arith))) h
 event_absent b n (event.Cancel m) l h = chosen IsAbsent (m == n) _ _ (λ t. chosen IsAbsent (is_open (b.story n)) _ _ (λ u. h) (λ u. h)) (λ t. h)
@@ -100,6 +104,7 @@ event_absent b n (event.ReadFault m kind) l h = h
 event_absent b n (event.WriteFault m kind) l h = h
 event_absent b n event.Shutdown l h = h
 
+-- so an action hands nothing in beyond it
 still_absent : (b : Book) (n : ℕ) (a : Action) → (entered b a).submissions ≤ n → ((m : ℕ) → b.submissions ≤ m → IsAbsent (b.story m)) → IsAbsent (story_after b n a)
 still_absent b n (action.Turn k (cause.Opening config word)) l h = h n l
 still_absent b n (action.Turn k (cause.Event e)) l h = event_absent b n e.kind l (h n (omega arith))
@@ -111,6 +116,7 @@ still_absent b n (action.Close m) l h = h n l
 still_absent b n (action.Write m bytes) l h = h n l
 still_absent b n action.Created l h = h n l
 
+-- the book of one more action
 pub still_bounded : (b : Book) (a : Action) → is_of_first a ≡ true → IsBounded b → IsBounded (entered b a)
 still_bounded b a first h = record {
   absent = λ n l. still_absent b n a l h.absent;

@@ -1,5 +1,7 @@
 -- A trace whose steps are tested one by one is legal: each action stands where it may, since it is the next that is due.
 use Rattle.std.proofs.Common.{◌≡◌, ◌≢◌, ◌⊎◌, ℕ, ◌==◌, Bool, true, false, ◌&&◌, ◌||◌, not, List, [], ◌∷◌, length, Option, Some, None, is_some, refl, sym, ap, ◌∙◌, inl, inr, arith}
+use Rattle.std.specs.Option.{is_none}
+use Rattle.std.proofs.lemmas.Bool.{not-true}
 use Rattle.containers.proofs.Tests.{not_both, eq_from, ne_from, both_left, both_right}
 use Rattle.resp_value.specs.declared.value.Value.TheVariants.{Nil}
 use Rattle.driver_model.specs.declared.action.Action.{Action}
@@ -20,7 +22,7 @@ use Rattle.legal_trace.specs.Owed.{owed}
 use Rattle.legal_trace.specs.Events.{is_bad_event}
 use Rattle.legal_trace.specs.Legal.{IsOpen, link_of, IsTold, MayTurn, MayConnect, MayClose, MayBeCreated, MayAnswer, MayTell, MayStart, MayWrite, MayWait, MayStand, AllStand, causes, event_causes, Legal}
 use Rattle.trace_examples.proofs.Bounded.{IsBounded, is_of_first, still_bounded, blank_bounded}
-use Rattle.trace_examples.proofs.Checks.{holds_if, held, is_none, none_from, is_empty, empty_from, filled_from, untrue, each_below, below, is_told, told_from}
+use Rattle.trace_examples.proofs.Checks.{holds_if, held, none_from, is_empty, empty_from, filled_from, each_below, below, is_told, told_from}
 use Rattle.trace_examples.proofs.Settled.{is_quiet, quiet, all_quiet, none_is_owed, none_ends, no_end, is_applied, applied, can_move, moves, all_stay, none_before, is_moved, moved, is_written, written, wait_holds, holds, is_settled, settled}
 
 -- a turn
@@ -32,7 +34,7 @@ turn_stands : (b : Book) (k : ℕ) (c : Cause) → IsBounded b → turn_due b k 
 turn_stands b k (cause.Opening config word) bounded e = record { next = eq_from k b.turns (both_left (k == b.turns) (b.turns == 0) e); is_for = eq_from b.turns 0 (both_right (k == b.turns) (b.turns == 0) e) }
 turn_stands b k (cause.Event e) bounded t = record {
   next = eq_from k b.turns (search (both_left, both_right));
-  is_for = (ne_from b.turns 0 (untrue (b.turns == 0) (search (both_left, both_right))), settled b bounded (search (both_left, both_right)), untrue (is_bad_event b e.kind) (search (both_left, both_right)));
+  is_for = (ne_from b.turns 0 (not-true (b.turns == 0) (search (both_left, both_right))), settled b bounded (search (both_left, both_right)), not-true (is_bad_event b e.kind) (search (both_left, both_right)));
 }
 
 -- a close of the first link
@@ -60,15 +62,17 @@ write_stands b l bytes bounded e all = record {
   in_order = λ m below up. let first = eq_from l 0 (search (both_left, both_right)) in absurd (omega arith);
 }
 
--- a wait
+-- its wait was shown, if it is open and has no message
 abbrev pub is_in_wait : Book → ℕ → Bool
 is_in_wait b n = holds_if (is_open (b.story n)) (holds_if (is_empty (b.story n).tries) (is_some (b.story n).waiting))
 
+-- what it says
 in_wait : (b : Book) (n : ℕ) → is_in_wait b n ≡ true → IsOpen b n → (b.story n).tries ≡ [] → (b.story n).waiting ≢ None
 in_wait b n e o unstarted none =
     let shown : is_some (b.story n).waiting ≡ true = held (is_empty (b.story n).tries) (is_some (b.story n).waiting) (held (is_open (b.story n)) (holds_if (is_empty (b.story n).tries) (is_some (b.story n).waiting)) e o) (ap is_empty unstarted) in
     not_both (is_some (b.story n).waiting) (ap is_some none) shown
 
+-- a wait of an open submission
 abbrev pub wait_due : Book → ℕ → WaitKind → Bool
 wait_due b n kind = is_written b && is_open (b.story n) && is_empty (b.story n).tries && is_none (b.story n).waiting && wait_holds b n kind && each_below (λ m. is_in_wait b m) n
 
@@ -122,6 +126,7 @@ abbrev pub outcome_due : Book → ℕ → Option Outcome → Bool
 outcome_due b n (Some o) = each_below (λ m. is_quiet b m) n && holds_if (is_over (link_of b n)) (none_ends b)
 outcome_due b n None = is_applied b && not (is_awaited (b.story n)) && can_move b n && all_stay b n
 
+-- what is said is what is owed, or Nil
 abbrev pub IsSaid : Outcome → Option Outcome → Type 0
 IsSaid said None = said ≡ outcome.One Nil
 IsSaid said (Some o) = said ≡ o
@@ -142,7 +147,7 @@ outcome_stands b n o bounded e said = of_owed (owed b n) refl (both_right (is_op
     of_owed None same t s = inr (record {
       applied = applied b bounded (search (both_left, both_right));
       asked = open_still;
-      unawaited = untrue (is_awaited (b.story n)) (search (both_left, both_right));
+      unawaited = not-true (is_awaited (b.story n)) (search (both_left, both_right));
       moves = moves b n (search (both_left, both_right));
       in_order = none_before b n (search (both_left, both_right));
       nil = s;
@@ -159,16 +164,18 @@ due b (action.Start l k (owner.Try n round) count len) = (round == 0) && start_d
 due b action.Created = created_due b
 due b (action.Outcome n o) = is_open (b.story n) && outcome_due b n (owed b n)
 
+-- and so are all of these
 abbrev pub all_due : Book → List Action → Bool
 all_due b [] = true
 all_due b (a ∷ more) = due b a && is_of_first a && all_due (entered b a) more
 
--- what is left to be said: the address of the opening, the bytes that are offered, and the outcomes
+-- what is left to be said is the address of the opening, the bytes that are offered, and the outcomes: this is the address
 abbrev pub IsAddress : Option Cause → List ℕ → ℕ → Type 0
 IsAddress None host port = ⊥
 IsAddress (Some (cause.Event e)) host port = ⊥
 IsAddress (Some (cause.Opening config word)) host port = (host ≡ config.host) × (port ≡ config.port)
 
+-- the opening asks for the first link
 connect_stands : (b : Book) (l : ℕ) (host : List ℕ) (port : ℕ) → ((b.links == 0) && (l == 0)) ≡ true → IsAddress b.running host port → MayConnect b l host port
 connect_stands b l host port e address = of_cause b.running refl address
   where
@@ -179,6 +186,7 @@ connect_stands b l host port e address = of_cause b.running refl address
         let none : b.links ≡ 0 = eq_from b.links 0 (search both_left) in
         record { config = config; word = word; opens = same; first = none; next = eq_from l 0 (search (both_left, both_right)) ∙ sym none; address = a }
 
+-- what is left to be said of all of these
 abbrev pub AllSaid : Book → List Action → Type 0
 AllSaid b [] = Unit {0}
 AllSaid b (action.Connect l host port ∷ more) = IsAddress b.running host port × AllSaid (entered b (action.Connect l host port)) more
@@ -190,6 +198,7 @@ AllSaid b (action.Wait who kind ∷ more) = AllSaid (entered b (action.Wait who 
 AllSaid b (action.Start l k who count len ∷ more) = AllSaid (entered b (action.Start l k who count len)) more
 AllSaid b (action.Created ∷ more) = AllSaid (entered b action.Created) more
 
+-- the first of these may stand
 first_stands : (b : Book) (a : Action) (more : List Action) → IsBounded b → due b a ≡ true → AllSaid b (a ∷ more) → MayStand b a × AllSaid (entered b a) more
 first_stands b (action.Turn k c) more bounded e said = (turn_stands b k c bounded e, said)
 first_stands b (action.Connect l host port) more bounded e said = (connect_stands b l host port e said.0, said.1)
@@ -202,6 +211,7 @@ first_stands b (action.Start l k (owner.Try n round) count len) more bounded e s
 first_stands b action.Created more bounded e said = (created_stands b bounded e, said)
 first_stands b (action.Outcome n o) more bounded e said = (outcome_stands b n o bounded e said.0, said.1)
 
+-- and so may all
 all_stand : (b : Book) (t : List Action) → IsBounded b → all_due b t ≡ true → AllSaid b t → AllStand b t × IsBounded (entered_each b t)
 all_stand b [] bounded e said = (tt, bounded)
 all_stand b (a ∷ more) bounded e said =

@@ -13,6 +13,7 @@ use Rattle.trace_examples.specs.Traces.{cut_off_alone, taken_in_part, came_up, a
 use Rattle.trace_examples.specs.Fronts.{EachStands, answered_fronts, unanswered_fronts, ended_fronts, waiting_fronts, begun_fronts}
 use Rattle.trace_examples.proofs.Due.{stands}
 
+-- replies came
 pub answered_fronts_stand : (config : Config) (word : ℕ) → EachStands (answered_fronts config word)
 unfolding digits items values left_over is_spoiled max_depth is_bad_event
 answered_fronts_stand config word =
@@ -23,6 +24,7 @@ answered_fronts_stand config word =
     let left = stands (left_alone config word) refl ((refl, refl), (refl, tt)) in
     (both, (alike, (one, (told, (left, tt)))))
 
+-- a message isn't full, or is full and not answered
 pub unanswered_fronts_stand : (config : Config) (word : ℕ) → EachStands (unanswered_fronts config word)
 unfolding digits items values left_over is_spoiled max_depth is_bad_event kind_of
 unanswered_fronts_stand config word =
@@ -33,6 +35,7 @@ unanswered_fronts_stand config word =
     let value = stands (spoiled config word) refl ((refl, refl), (refl, tt)) in
     (one, (push, (half, (error, (value, tt)))))
 
+-- the link ended, or must end
 pub ended_fronts_stand : (config : Config) (word : ℕ) → EachStands (ended_fronts config word)
 unfolding digits is_bad_event
 ended_fronts_stand config word =
@@ -44,6 +47,7 @@ ended_fronts_stand config word =
     let waiting = stands (shut_in_wait config word) refl ((refl, refl), tt) in
     (pipeline, (one, (another, (alone, (shutdown, (waiting, tt))))))
 
+-- requests came before the connect
 pub waiting_fronts_stand : (config : Config) (word : ℕ) → EachStands (waiting_fronts config word)
 unfolding digits is_bad_event
 waiting_fronts_stand config word =
@@ -53,6 +57,7 @@ waiting_fronts_stand config word =
     let first = stands (first_of_both config word) refl ((refl, refl), tt) in
     (one, (up, (two, (first, tt))))
 
+-- a link is up, and a message is to start or to be offered
 pub begun_fronts_stand : (config : Config) (word : ℕ) → EachStands (begun_fronts config word)
 unfolding digits is_bad_event
 begun_fronts_stand config word =

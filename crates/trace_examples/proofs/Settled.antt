@@ -1,5 +1,7 @@
 -- Tests of a book, and what each says: what holds of all submissions and all links is tested of those that were given out.
 use Rattle.std.proofs.Common.{◌≡◌, ◌≢◌, ◌⊎◌, ℕ, ◌<◌, ◌==◌, nat_lt, Bool, true, false, ◌&&◌, ◌||◌, not, length, Option, Some, None, is_some, refl, sym, ap, ◌∙◌, subst, inl, inr, arith}
+use Rattle.std.specs.Option.{is_none}
+use Rattle.std.proofs.lemmas.Bool.{not-true}
 use Rattle.containers.proofs.Tests.{by_test, not_both, eq_from, ne_from, lt_from, not_lt_from, left_if, both_left, both_right}
 use Rattle.driver_model.specs.declared.action.WaitKind.{WaitKind}
 use Rattle.driver_model.specs.declared.action.WaitKind.TheVariants as wait
@@ -10,7 +12,7 @@ use Rattle.legal_trace.specs.Book.{Book}
 use Rattle.legal_trace.specs.Owed.{owed, is_full}
 use Rattle.legal_trace.specs.Legal.{IsOpen, link_of, NoneIsOwed, NoneEnds, IsApplied, IsTold, CanMove, IsMoved, IsWritten, WaitHolds, IsStarted, IsWaiting, IsSettled}
 use Rattle.trace_examples.proofs.Bounded.{IsBounded, IsIdle}
-use Rattle.trace_examples.proofs.Checks.{holds_if, held, is_none, none_from, is_empty, empty_from, filled_from, untrue, each_below, below, is_told, told_from, nil_told}
+use Rattle.trace_examples.proofs.Checks.{holds_if, held, none_from, is_empty, empty_from, filled_from, each_below, below, is_told, told_from, nil_told}
 
 -- what was never handed in isn't open
 closed : (what : Option Submission) (c d : Bool) → what ≡ None → (is_some what && c && d) ≡ true → ⊥
@@ -23,13 +25,15 @@ of_open b P n bounded f o =
     by_test (nat_lt n b.submissions) P (λ l. f (lt_from n b.submissions l))
     (λ l. absurd (closed (b.story n).submission (length (b.story n).outcomes == 0) (not (b.story n).cancelled) (bounded.absent n (not_lt_from n b.submissions l)) o))
 
--- what an open submission is owed
+-- it is owed nothing, if it is open
 abbrev pub is_quiet : Book → ℕ → Bool
 is_quiet b n = holds_if (is_open (b.story n)) (is_none (owed b n))
 
+-- what this says
 pub quiet : (b : Book) (n : ℕ) → is_quiet b n ≡ true → IsOpen b n → owed b n ≡ None
 quiet b n e o = none_from (owed b n) (held (is_open (b.story n)) (is_none (owed b n)) e o)
 
+-- no open submission is owed an outcome
 abbrev pub all_quiet : Book → Bool
 all_quiet b = each_below (λ n. is_quiet b n) b.submissions
 
@@ -43,6 +47,7 @@ first_and_idle b P l bounded first idle = by_test (l == 0) (P l) (λ e. subst P 
     some : (l : ℕ) → (l == 0) ≡ false → 0 < l
     some l e = let n = ne_from l 0 e in omega arith
 
+-- nothing ends an idle link
 ending_idle : (l : Ledger) → IsIdle l → ending l ≡ None
 ending_idle l h = left_if l.up _ _ h.down ∙ left_if (l.asked && not (is_over l)) _ _ (and_false l.asked (not (is_over l)) h.unasked)
   where
@@ -50,6 +55,7 @@ ending_idle l h = left_if l.up _ _ h.down ∙ left_if (l.asked && not (is_over l
     and_false true q e = cc
     and_false false q e = refl
 
+-- no link must end
 abbrev pub none_ends : Book → Bool
 none_ends b = is_none (ending (b.link 0))
 
@@ -75,7 +81,7 @@ applied b bounded e = record {
 }
   where
     other_than_zero : (n : ℕ) → not (n == 0) ≡ true → n ≢ 0
-    other_than_zero n e = ne_from n 0 (untrue (n == 0) e)
+    other_than_zero n e = ne_from n 0 (not-true (n == 0) e)
 
 -- its message has not started and may
 abbrev pub can_move : Book → ℕ → Bool
@@ -108,7 +114,7 @@ abbrev pub all_stay : Book → ℕ → Bool
 all_stay b n = each_below (λ m. not (can_move b m)) n
 
 pub none_before : (b : Book) (n : ℕ) → all_stay b n ≡ true → (m : ℕ) → m < n → CanMove b m → ⊥
-none_before b n e m l = stays b m (untrue (can_move b m) (below (λ m. not (can_move b m)) n m e l))
+none_before b n e m l = stays b m (not-true (can_move b m) (below (λ m. not (can_move b m)) n m e l))
 
 -- what was never handed in has none
 absent_stays : (b : Book) (n : ℕ) → (b.story n).submission ≡ None → CanMove b n → ⊥
@@ -154,7 +160,7 @@ abbrev pub wait_holds : Book → ℕ → WaitKind → Bool
 wait_holds b n wait.Connect = (link_of b n).asked && not (link_of b n).up && is_none (link_of b n).end
 
 pub holds : (b : Book) (n : ℕ) (kind : WaitKind) → wait_holds b n kind ≡ true → WaitHolds b n kind
-holds b n wait.Connect e = (search (both_left, both_right), untrue (link_of b n).up (search (both_left, both_right)), none_from (link_of b n).end (search (both_left, both_right)))
+holds b n wait.Connect e = (search (both_left, both_right), not-true (link_of b n).up (search (both_left, both_right)), none_from (link_of b n).end (search (both_left, both_right)))
 
 -- it is started on a link that is up, takes more items, and is offered
 abbrev pub try_goes : Book → Option Try → Bool
@@ -170,7 +176,7 @@ started b n e = of_try (last_of (b.story n).tries) refl e
       try = t;
       last = same;
       up = search (both_left, both_right);
-      takes_more = untrue (is_full (b.link t.link) t.message) (search (both_left, both_right));
+      takes_more = not-true (is_full (b.link t.link) t.message) (search (both_left, both_right));
       offered = offered (b.link t.link) (search (both_left, both_right));
     }
 

@@ -11,6 +11,7 @@ use Rattle.legal_trace.specs.Book.{Book, blank_book, entered, entered_each}
 use Rattle.legal_trace.specs.Legal.{IsOpen, MayAnswer, MayStand, AllStand, Legal}
 use Rattle.trace_examples.specs.Parts.{reply}
 
+-- an action that stands behind a front, from any book
 stood : (b : Book) (front after : List Action) (a : Action) → AllStand b (front ++ a ∷ after) → MayStand (entered_each b front) a
 stood b [] after a h = h.0
 stood b (x ∷ front) after a h = stood (entered b x) front after a h.1
