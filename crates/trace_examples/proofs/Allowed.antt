@@ -18,13 +18,13 @@ use Rattle.driver_model.specs.declared.outcome.Outcome.TheVariants as outcome
 use Rattle.driver_model.specs.Request.{packed}
 use Rattle.legal_trace.specs.Events.{is_bad_event}
 use Rattle.legal_trace.specs.Legal.{Legal}
-use Rattle.trace_examples.specs.Parts.{history, command, unawaited, two_together, one_atomic, one_skipped, one_reply, replies, a_reply_and_more, okay_line, refusals, multi_refused, exec_refused, executed, spoiled_behind, reply, err}
+use Rattle.trace_examples.specs.Parts.{history, command, unawaited, two_together, one_atomic, one_skipped, one_reply, replies, a_reply_and_more, okay_line, refusals, multi_refused, exec_refused, executed, spoiled_behind, reply, an_error}
 use Rattle.trace_examples.specs.Traces.{cut_off, cut_off_alone, shut_down, both_cut_off, refused, refused_at_once, committed, half_filled, told_first, left_alone, connected_again, heard_early, spoiled, shut_in_wait, too_late, said_nothing, both_in_wait, taken_in_part}
 use Rattle.trace_examples.proofs.Due.{legal}
 
 -- a transaction is refused: its command wasn't queued
 pub transaction_refused : (config : Config) (word : ℕ)
-    → Legal config word (history (event.Connected 0 ∷ event.Submit one_atomic ∷ event.Bytes 0 refusals ∷ [])) (refused config word ++ action.Outcome 0 (outcome.Fault (error.Aborted ((0, err) ∷ []))) ∷ [])
+    → Legal config word (history (event.Connected 0 ∷ event.Submit one_atomic ∷ event.Bytes 0 refusals ∷ [])) (refused config word ++ action.Outcome 0 (outcome.Fault (error.Aborted ((0, an_error) ∷ []))) ∷ [])
 unfolding digits items values left_over is_spoiled max_depth is_bad_event
 transaction_refused config word = legal config word _ _ refl refl ((refl, refl), (refl, (refl, tt)))
 
@@ -54,7 +54,7 @@ waits_for_more config word = legal config word _ _ refl refl ((refl, refl), (ref
 
 -- an error to MULTI is the verdict, once all replies came
 pub verdict_of_multi : (config : Config) (word : ℕ)
-    → Legal config word (history (event.Connected 0 ∷ event.Submit one_atomic ∷ event.Bytes 0 multi_refused ∷ event.Bytes 0 exec_refused ∷ [])) (refused_at_once config word ++ action.Outcome 0 (outcome.Fault (error.Server err)) ∷ [])
+    → Legal config word (history (event.Connected 0 ∷ event.Submit one_atomic ∷ event.Bytes 0 multi_refused ∷ event.Bytes 0 exec_refused ∷ [])) (refused_at_once config word ++ action.Outcome 0 (outcome.Fault (error.Server an_error)) ∷ [])
 unfolding digits items values left_over is_spoiled max_depth is_bad_event
 verdict_of_multi config word = legal config word _ _ refl refl ((refl, refl), (refl, (refl, tt)))
 

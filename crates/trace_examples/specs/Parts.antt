@@ -56,8 +56,8 @@ abbrev pub reply : ℕ → Outcome
 reply letter = outcome.One (value_of (simple (letter ∷ [])))
 
 -- the error ERR, with nothing behind it
-abbrev pub err : ServerError
-err = record { code = codes "ERR"; detail = None }
+abbrev pub an_error : ServerError
+an_error = record { code = codes "ERR"; detail = None }
 
 -- a first reply, or it and then +y, or it twice
 abbrev pub one_reply : List ℕ

@@ -22,7 +22,7 @@ ghost use Rattle.driver_model.specs.declared.outcome.Outcome.{Outcome};
 ghost use Rattle.driver_model.specs.declared.outcome.Outcome.TheVariants as outcome;
 ghost use Rattle.driver_model.specs.Request.{packed};
 ghost use Rattle.legal_trace.specs.Legal.{Legal};
-ghost use Rattle.trace_examples.specs.Parts.{history, turn, command, unawaited, two_together, one_atomic, one_skipped, one_nameless, nameless_atomic, nameless_skipped, reply, err, one_reply, replies, a_reply_and_more, spoiled_behind, okay_line, refusals, multi_refused, exec_refused, executed};
+ghost use Rattle.trace_examples.specs.Parts.{history, turn, command, unawaited, two_together, one_atomic, one_skipped, one_nameless, nameless_atomic, nameless_skipped, reply, an_error, one_reply, replies, a_reply_and_more, spoiled_behind, okay_line, refusals, multi_refused, exec_refused, executed};
 ghost use Rattle.trace_examples.specs.Traces.{came_up, arrived, started_one, answered_both, answered_alike, left_alone, cut_off_alone, spoiled, both_cut_off, connected_again, pushed, held_back, taken_in_part, started_unoffered, cut_off, ended, refused, refused_at_once, committed, half_filled, left_untold, told_first, left_out, both_left_out, shut_down, shut_in_wait, up_in_wait, both_in_wait, first_of_both, too_late, heard_early, said_nothing};
 ghost use Rattle.trace_examples.specs.Fronts.{EachStands, answered_fronts, unanswered_fronts, ended_fronts, waiting_fronts, begun_fronts};
 
@@ -30,7 +30,7 @@ ghost use Rattle.trace_examples.specs.Fronts.{EachStands, answered_fronts, unans
 /// command whose reply nobody awaits is answered at its place, and its item is not given to the next one; a fault
 /// hits a single command, and closes a pipeline; and a pipeline that lacks an item stays open.
 pub fn these_are_legal()
-    ensures transaction_refused { (config : Config) (word : ℕ) → Legal config word (history (event.Connected 0 ∷ event.Submit one_atomic ∷ event.Bytes 0 refusals ∷ [])) (refused config word ++ action.Outcome 0 (outcome.Fault (error.Aborted ((0, err) ∷ []))) ∷ []) }
+    ensures transaction_refused { (config : Config) (word : ℕ) → Legal config word (history (event.Connected 0 ∷ event.Submit one_atomic ∷ event.Bytes 0 refusals ∷ [])) (refused config word ++ action.Outcome 0 (outcome.Fault (error.Aborted ((0, an_error) ∷ []))) ∷ []) }
     ensures told_at_its_place { (config : Config) (word : ℕ) → Legal config word (history (event.Connected 0 ∷ event.Submit (unawaited 71) ∷ event.Submit (command 72) ∷ event.Bytes 0 replies ∷ [])) (told_first config word ++ action.Outcome 1 (reply 121) ∷ []) }
     ensures command_hit { (config : Config) (word : ℕ) → Legal config word (history (event.Connected 0 ∷ event.Submit (command 71) ∷ event.ReadFault 0 Reset ∷ [])) (cut_off config word (command 71) 1 11 ++ action.Outcome 0 (outcome.Fault (error.Io Reset)) ∷ []) }
     ensures pipeline_cut_off { (config : Config) (word : ℕ) → Legal config word (history (event.Connected 0 ∷ event.Submit two_together ∷ event.ReadFault 0 Reset ∷ [])) (cut_off config word two_together 2 22 ++ action.Outcome 0 (outcome.Fault error.Closed) ∷ []) }
@@ -42,7 +42,7 @@ pub fn these_are_legal()
 /// closes the connection for the next; the item of a message that was cancelled goes to nobody, and so does the
 /// fault that hits it; and a reply in front of bytes that begin no value is answered before they close the link.
 pub fn so_are_these()
-    ensures verdict_of_multi { (config : Config) (word : ℕ) → Legal config word (history (event.Connected 0 ∷ event.Submit one_atomic ∷ event.Bytes 0 multi_refused ∷ event.Bytes 0 exec_refused ∷ [])) (refused_at_once config word ++ action.Outcome 0 (outcome.Fault (error.Server err)) ∷ []) }
+    ensures verdict_of_multi { (config : Config) (word : ℕ) → Legal config word (history (event.Connected 0 ∷ event.Submit one_atomic ∷ event.Bytes 0 multi_refused ∷ event.Bytes 0 exec_refused ∷ [])) (refused_at_once config word ++ action.Outcome 0 (outcome.Fault (error.Server an_error)) ∷ []) }
     ensures queued_replies_skipped { (config : Config) (word : ℕ) → Legal config word (history (event.Connected 0 ∷ event.Submit one_atomic ∷ event.Bytes 0 executed ∷ [])) (committed config word ++ action.Outcome 0 (outcome.Many (array (items_of (int (pos 1) ∷ [])) ∷ [])) ∷ []) }
     ensures side_by_side { (config : Config) (word : ℕ) → Legal config word (history (event.Connected 0 ∷ event.Submit (command 71) ∷ event.Submit (command 72) ∷ event.ReadFault 0 Reset ∷ [])) (both_cut_off config word ++ action.Outcome 0 (outcome.Fault (error.Io Reset)) ∷ action.Outcome 1 (outcome.Fault error.Closed) ∷ []) }
     ensures cancelled_item_dropped { (config : Config) (word : ℕ) → Legal config word (history (event.Connected 0 ∷ event.Submit (command 71) ∷ event.Submit (command 72) ∷ event.Cancel 0 ∷ event.Bytes 0 replies ∷ [])) (left_alone config word ++ action.Outcome 1 (reply 121) ∷ []) }
