@@ -8,7 +8,7 @@ use Rattle.driver_model.specs.declared.outcome.Outcome.TheVariants as outcome
 use Rattle.driver_model.specs.News.{News, silence, connected, took, came, failed, shut}
 use Rattle.driver_model.specs.Shape.{outcome_of}
 use Rattle.link_core.specs.declared.message.Settled.{Settled}
-use Rattle.link_core.specs.Link.{LinkState, Settling, fresh, no_boundary, wrote_of, cancelled, faulted, closed_all} 
+use Rattle.link_core.specs.Link.{LinkState, Settling, fresh, no_boundary, wrote_of, cancelled, faulted, closed_all}
 use Rattle.link_core.specs.Link.{came as dealt}
 use Rattle.mux_conn.specs.declared.act.LinkAct.TheVariants as act
 use Rattle.mux_conn.specs.declared.connection.MultiplexedConnection.{MultiplexedConnection}

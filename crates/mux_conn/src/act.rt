@@ -9,9 +9,14 @@ pub enum LinkAct {
     /// The link ended, or is to be closed.
     Close,
     /// All unwritten bytes of the link are offered.
-    Write { bytes: Bytes },
+    Write {
+        bytes: Bytes,
+    },
     /// A request waits.
-    Wait { request: u32, wait: WaitKind },
+    Wait {
+        request: u32,
+        wait: WaitKind,
+    },
     /// A request's message starts: the messages of the link are numbered from 0; how many items it takes, and how many
     /// bytes it has.
     Start {
@@ -21,5 +26,8 @@ pub enum LinkAct {
         len: u64,
     },
     /// A request is answered.
-    Outcome { request: u32, outcome: Outcome },
+    Outcome {
+        request: u32,
+        outcome: Outcome,
+    },
 }

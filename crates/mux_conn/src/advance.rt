@@ -1,5 +1,4 @@
 ghost use Rattle.std.specs.Prelude.{◌≡◌, ◌<◌, [], length, true, false, OnOk, IfOk, IsErrOf};
-
 ghost use Rattle.link_core.specs.Link.{is_spent, started_all};
 
 use crate::act::LinkAct;
@@ -94,11 +93,7 @@ impl MultiplexedConnection {
     }
 
     /// A command whose reply nobody awaits is answered at its place.
-    fn tell_at_place(
-        &mut self,
-        request: &Waiting,
-        out: &mut Vec<LinkAct>,
-    ) -> Result<(), AllocError>
+    fn tell_at_place(&mut self, request: &Waiting, out: &mut Vec<LinkAct>) -> Result<(), AllocError>
         ensures work { OnOk result (record { conn = self.new; acts = out.new.items } ≡ told_at_place (record { conn = self.old; acts = out.old.items }) request.now) }
         ensures count { length self.new.requests ≡ length self.old.requests }
         ensures failure { self.new.failure ≡ self.old.failure }

@@ -58,7 +58,11 @@ impl MultiplexedConnection {
     }
 
     /// What a turn ends with: the link's one write, and the waits that began.
-    pub(crate) fn end_turn(&mut self, alloc: Global, out: &mut Vec<LinkAct>) -> Result<(), AllocError>
+    pub(crate) fn end_turn(
+        &mut self,
+        alloc: Global,
+        out: &mut Vec<LinkAct>,
+    ) -> Result<(), AllocError>
         ensures work { OnOk result (record { conn = self.new; acts = out.new.items } ≡ flushed (record { conn = self.old; acts = out.old.items })) }
         ensures count { length self.new.requests ≡ length self.old.requests }
         ensures failure { self.new.failure ≡ self.old.failure }

@@ -17,4 +17,3 @@ pub use connection::MultiplexedConnection;
 pub use errors::ConnectionError;
 pub use life::Life;
 pub use request::{Pending, Progress, Request, Waiting};
-

@@ -62,11 +62,7 @@ impl MultiplexedConnection {
 
     /// What a turn ends with: the link's one write, and the waits that began. After an error nothing is said of what `out`
     /// gained.
-    pub fn flush(
-        &mut self,
-        alloc: Global,
-        out: &mut Vec<LinkAct>,
-    ) -> Result<(), ConnectionError>
+    pub fn flush(&mut self, alloc: Global, out: &mut Vec<LinkAct>) -> Result<(), ConnectionError>
         ensures work { OnOk result (record { conn = self.new; acts = out.new.items } ≡ flushed (record { conn = self.old; acts = out.old.items })) }
         ensures count { length self.new.requests ≡ length self.old.requests }
         ensures sound { OnOk result (self.new.failure ≡ None) }
