@@ -16,5 +16,5 @@ pub use action::{Action, Cause, Owner, WaitKind};
 pub use commands::Commands;
 pub use config::Config;
 pub use event::{Event, EventKind, Submission};
-pub use news::{LinkFault, LinkNews};
+pub use news::{LinkEvent, LinkFault, LinkNews};
 pub use outcome::{Outcome, Shape, Verdict};

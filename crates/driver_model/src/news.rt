@@ -31,6 +31,13 @@ pub enum LinkNews<'a> {
     Shut,
 }
 
+/// News of a link, with the word that random draws come from.
+#[derive(Clone, Copy)]
+pub struct LinkEvent<'a> {
+    pub word: u64,
+    pub news: LinkNews<'a>,
+}
+
 impl EventKind {
     ghost use Rattle.driver_model.specs.News.{news as news_of, told};
 

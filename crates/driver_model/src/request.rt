@@ -1,9 +1,9 @@
 ghost use Rattle.std.specs.Prelude.{◌≡◌, true, false, IfOk};
-ghost use Rattle.driver_model.specs.Request.{packed as packed_of, shape_of, awaits_reply as awaits_reply_of};
+ghost use Rattle.driver_model.specs.Request.{packed as packed_of, shape_of, awaits_reply as awaits_reply_of, is_formless as is_formless_in, is_one_nameless as is_one_nameless_in};
 
 use crate::event::Submission;
 use crate::outcome::Shape;
-use containers::Bytes;
+use containers::{Bytes, Names};
 use resp_write::{pack_lists, pack_names};
 use std::alloc::{AllocError, Global};
 
@@ -69,5 +69,32 @@ impl Submission {
                 commands: _,
             } => true,
         }
+    }
+
+    /// Whether it is a list of exactly one command without a name, which has no form of its own in a script.
+    pub fn is_formless(&self) -> bool
+        ensures { result ≡ is_formless_in self.now }
+    {
+        match self {
+            Submission::Cmd { args: _ } => false,
+            Submission::NoReply { args: _ } => false,
+            Submission::Pipe { commands } => is_one_nameless(commands.as_slice()),
+            Submission::Multi { commands } => is_one_nameless(commands.as_slice()),
+            Submission::Packed {
+                offset: _,
+                count: _,
+                commands,
+            } => is_one_nameless(commands.as_slice()),
+        }
+    }
+}
+
+/// Whether these are one command without a name.
+fn is_one_nameless(commands: &[Names]) -> bool
+    ensures { result ≡ is_one_nameless_in commands.now }
+{
+    match commands {
+        [command] => command.is_empty(),
+        _ => false,
     }
 }

@@ -12,6 +12,7 @@ pub enum FaultKind {
     Aborted,
     NotConnected,
     BrokenPipe,
+    /// The peer closed the link where more was wanted.
     Eof,
     TimedOut,
     Interrupted,

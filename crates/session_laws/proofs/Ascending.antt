@@ -1,5 +1,5 @@
 -- Within a turn the submissions that are answered have ascending numbers.
-use Rattle.std.proofs.Common.{◌≡◌, ℕ, suc, ◌+◌, ◌<◌, ◌≤◌, ◌==◌, nat_lt, nat_le, ◌&&◌, Bool, true, false, if◌then◌else◌, List, [], ◌∷◌, ◌++◌, length, slice_set, Option, Some, None, refl, sym, ap, ◌∙◌, subst, append_assoc, arith, length-set}
+use Rattle.std.proofs.Common.{◌≡◌, ℕ, suc, ◌+◌, ◌<◌, ◌≤◌, ◌==◌, nat_lt, Bool, true, false, if◌then◌else◌, List, [], ◌∷◌, ◌++◌, length, slice_set, Option, Some, None, refl, sym, ap, ◌∙◌, subst, append_assoc, arith, length-set}
 use Rattle.std.proofs.lemmas.List.{append-nil, length_push}
 use Rattle.resp_value.specs.Data.{Data}
 use Rattle.redis_error.specs.declared.redis_error.RedisError.TheVariants as error
@@ -19,7 +19,7 @@ use Rattle.driver_model.specs.declared.event.Submission.{Submission}
 use Rattle.driver_model.specs.declared.outcome.Outcome.{Outcome}
 use Rattle.driver_model.specs.declared.outcome.Outcome.TheVariants as outcome
 use Rattle.driver_model.specs.Request.{packed}
-use Rattle.driver_model.specs.Shape.{need, outcome_of, verdict}
+use Rattle.driver_model.specs.Shape.{need, outcome_of}
 use Rattle.driver_model.specs.declared.news.LinkFault.{LinkFault}
 use Rattle.driver_model.specs.declared.news.LinkFault.TheVariants as fault
 use Rattle.link_core.specs.declared.message.Entry.{Entry}
@@ -43,11 +43,13 @@ use Rattle.shared_session.specs.Turn.{applied, quiet, turn}
 use Rattle.shared_session.specs.Replay.{opening, actions_of, turns_on}
 use Rattle.trace_model.specs.Order.{last_answered, IsAfter, MayFollow, OutcomesAscend}
 use Rattle.containers.proofs.Tests.{chosen, le_from}
-use Rattle.session_laws.proofs.Dealt.{settled_ids, settled_ids-append, wanted}
+use Rattle.session_laws.proofs.Dealt.{settled_ids, settled_ids-append, wanted, settled_by_id}
 use Rattle.session_laws.proofs.Numbers.{Rising, rising_from, rising_left, rising_next, rising_right, rising_without}
 use Rattle.session_laws.proofs.Tied.{queue_ids, awaited_ids, waiting_ids}
 use Rattle.session_laws.proofs.Settling.{settled_keeps, closed_keeps}
 use Rattle.session_laws.proofs.Closing.{closed_out_ids, hit_out_ids}
+use Rattle.session_laws.proofs.Starts.{not_held}
+use Rattle.session_laws.proofs.Submits.{waiting_ids-append}
 
 -- traces
 --
@@ -202,16 +204,13 @@ pub record IsLined (l : LinkState) (ws : List Waiting) (hi : ℕ) : Type 0 where
   pub empty : l.queue ≡ []
   pub rises : Rising 0 (wanted l.row ++ waiting_ids ws) hi
 
-never_held : (l : LinkState) → l.boundary ≡ no_boundary → is_held_back l ≡ false
-never_held l e = ap (λ b. nat_lt b no_boundary && (nat_lt 0 (length l.outbox.unwritten) && nat_le b (length l.outbox.unwritten))) e
-
 -- its whole queue starts
 starts_lined : (s : Starting) (qs : List Queued) (ws : List Waiting) (hi : ℕ) → 0 < s.link.size → s.link.boundary ≡ no_boundary
     → Rising 0 (wanted s.link.row ++ (queue_ids qs ++ waiting_ids ws)) hi → IsLined (started_each s qs).link ws hi
 starts_lined s [] ws hi size boundary r = record { size = size; boundary = boundary; empty = refl; rises = r }
 starts_lined s (q ∷ qs) ws hi size boundary r =
     chosen (λ (x : Starting). IsLined x.link ws hi) (is_held_back s.link) _ _
-    (λ t. absurd (let f = never_held s.link boundary in let no : ◌≡◌ {A = Bool} true false = sym t ∙ f in cc))
+    (λ t. absurd (let f = not_held s.link boundary in let no : ◌≡◌ {A = Bool} true false = sym t ∙ f in cc))
     (λ f. starts_lined (started_one s q) qs ws hi size boundary (start_rises s.link.row q (queue_ids qs ++ waiting_ids ws) 0 hi r))
 
 -- the event
@@ -280,10 +279,6 @@ shut_applied c h held =
 
 -- a submission
 --
-waiting_ids-append : (ws : List Waiting) (w : Waiting) → waiting_ids (ws ++ w ∷ []) ≡ waiting_ids ws ++ w.number ∷ []
-waiting_ids-append [] w = refl
-waiting_ids-append (x ∷ ws) w = ap (λ ns. x.number ∷ ns) (waiting_ids-append ws w)
-
 refused_applied : (c : Connection) (n hi : ℕ) (o : Outcome) → n < hi → length c.requests ≡ hi → IsLined c.link c.waiting hi → (is_up c.phase ≡ true → c.waiting ≡ []) → HasAscended 0 c.acts → HasApplied (answered c n o)
 refused_applied c n hi o l same h none held =
     let lined : IsLined c.link c.waiting (length c.requests) = subst (λ m. IsLined c.link c.waiting m) (sym same) h in
@@ -327,14 +322,10 @@ record HasRead (l : LinkState) (s : Settling) : Type 0 where
   pub queue : s.link.queue ≡ l.queue
   pub kept : settled_ids s.out ++ wanted s.link.row ≡ wanted l.row
 
-settled_by_ids : (b : Bool) (e : Entry) → settled_ids (if b then record { id = e.id; verdict = verdict e.shape e.got } ∷ [] else []) ≡ (if b then e.id ∷ [] else [])
-settled_by_ids true e = refl
-settled_by_ids false e = refl
-
 given_keeps : (d : Dealing) (e : Entry) (es : List Entry) → settled_ids (given d e es).out ++ wanted (given d e es).row ≡ settled_ids d.out ++ wanted (e ∷ es)
 given_keeps d e es =
     chosen (λ (x : Dealing). settled_ids x.out ++ wanted x.row ≡ settled_ids d.out ++ wanted (e ∷ es)) (nat_lt (length e.got) (need e.shape)) _ _ (λ t. refl)
-    (λ f. ap (λ ns. ns ++ wanted es) (settled_ids-append d.out (settled_by e) ∙ ap (λ ns. settled_ids d.out ++ ns) (settled_by_ids e.awaited e)) ∙ append_assoc (settled_ids d.out) (if e.awaited then e.id ∷ [] else []) (wanted es))
+    (λ f. ap (λ ns. ns ++ wanted es) (settled_ids-append d.out (settled_by e) ∙ ap (λ ns. settled_ids d.out ++ ns) (settled_by_id e.awaited e)) ∙ append_assoc (settled_ids d.out) (if e.awaited then e.id ∷ [] else []) (wanted es))
 
 item_keeps : (d : Dealing) (item : Data) (row : List Entry) → d.row ≡ row → settled_ids (dealt_to d item row).out ++ wanted (dealt_to d item row).row ≡ settled_ids d.out ++ wanted row
 item_keeps d item [] e = ap (λ row. settled_ids d.out ++ wanted row) e

@@ -29,7 +29,7 @@ use Rattle.session_laws.proofs.Numbers.{IsIn, in_left, in_right, in_either, Risi
 use Rattle.session_laws.proofs.Tied.{Inner, TiedStory, IsQueued, TiedLines, IsTold, nil_only, TiedTold, Tied, seen, queue_ids, awaited_ids, waiting_ids}
 use Rattle.session_laws.proofs.Answers.{cancelled_closes, open_within, open_then, open_set_same, open_set_other, waiting_then, waiting_set_other, told_same, tied_told_same}
 use Rattle.session_laws.proofs.Advance.{no_outcomes}
-use Rattle.session_laws.proofs.Settled.{IsFault, HasApplied}
+use Rattle.session_laws.proofs.Settled.{IsFault, HasApplied, none_fresh}
 use Rattle.session_laws.proofs.Events.{IsReadyFor, announced, announced_sound, announced_runs, no_fault, fresh_holds}
 
 -- a silenced row is open alike
@@ -203,9 +203,6 @@ told_left story starts subs queue n e h = record {
       elim (h.placed m s i u own) [ inl st ↦ inl st | inr j ↦ inr (without_in queue n m other j) ];
 }
 
-no_fresh_one : (n : ℕ) → [] ≡ n ∷ [] → ⊥
-no_fresh_one n e = cc
-
 left_tied : (a : Account) (p : Inner) (word n : ℕ) → is_open_at p.requests n ≡ true → Tied a (record p { fresh = []; pending = [] })
     → Tied (begun a (cause.Event (record { word = word; kind = event.Cancel n }))) (record p { requests = slice_set p.requests n progress.Cancelled; link = cancelled p.link n; fresh = []; pending = [] })
 left_tied a p word n open_there h =
@@ -222,7 +219,7 @@ left_tied a p word n open_there h =
         new = tt;
         shown = λ m w d.
             let k = waiting_then p.requests n m progress.Cancelled cancelled_closes l w in
-            elim (h.waits.shown m k.1 d) [ inl e ↦ absurd (no_fresh_one m e) | inr e ↦ inr (still_waits (a.story m) n m k.0 e) ];
+            elim (h.waits.shown m k.1 d) [ inl e ↦ absurd (none_fresh m e) | inr e ↦ inr (still_waits (a.story m) n m k.0 e) ];
       };
       idle = λ f. let i = h.idle f in (ap (λ (q : List Queued). without q n) i.0, ap (λ (r : List Entry). silenced r n) i.1);
       ended = h.ended;

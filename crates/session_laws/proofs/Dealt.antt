@@ -15,7 +15,7 @@ use Rattle.link_core.specs.Dealing.{Dealing, with_item, settled_by, given, dealt
 use Rattle.trace_model.specs.Cut.{verdict_of}
 use Rattle.trace_model.specs.LinkLedger.{Start, needs}
 use Rattle.containers.proofs.Tests.{by_test, chosen, if_true, if_false, le_from, not_le_from, le_test, not_le_test, lt_from, not_lt_from}
-use Rattle.session_laws.proofs.Rows.{Open, open_rows, open_of, open_list, AreNeedy, StandsAs, open_rows-item, none_open}
+use Rattle.session_laws.proofs.Rows.{Open, open_rows, open_of, open_list, AreNeedy, StandsAs, open_rows-item, none_open, heads_same}
 
 -- some start of this owner has these items, and needs no more
 pub record HasCut (ss : List Start) (items : List Data) (who : Owner) (got : List Data) : Type 0 where
@@ -23,9 +23,6 @@ pub record HasCut (ss : List Start) (items : List Data) (who : Owner) (got : Lis
   pub place : StandsAs ss who number
   pub full : length got ≡ place.start.need
   pub cut_is : got ≡ take place.start.need (drop (needs (take number ss)) items)
-
-heads_same : {X : Type 0} (x y : X) (xs ys : List X) → x ∷ xs ≡ y ∷ ys → (x ≡ y) × (xs ≡ ys)
-heads_same x y xs ys e = (cc, cc)
 
 -- a message whose last item comes has its cut
 pub full_cut : (ss : List Start) (items : List Data) (item : Data) (o : Open) (rows : List Open) → AreNeedy ss → open_rows ss items ≡ o ∷ rows → nat_le o.need (length o.got + 1) ≡ true
@@ -137,7 +134,7 @@ pub record IsDealt (subs : List Submission) (ss : List Start) (items : List Data
   pub cuts : AreCuts subs ss items d.out
   pub kept : settled_ids d.out ++ wanted d.row ≡ wanted before
 
-settled_by_id : (b : Bool) (e : Entry) → settled_ids (if b then record { id = e.id; verdict = verdict e.shape e.got } ∷ [] else []) ≡ (if b then e.id ∷ [] else [])
+pub settled_by_id : (b : Bool) (e : Entry) → settled_ids (if b then record { id = e.id; verdict = verdict e.shape e.got } ∷ [] else []) ≡ (if b then e.id ∷ [] else [])
 settled_by_id true e = refl
 settled_by_id false e = refl
 

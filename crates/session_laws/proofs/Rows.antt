@@ -75,7 +75,7 @@ open_rows-none : (ss : List Start) → AreNeedy ss → open_rows ss [] ≡ untou
 open_rows-none [] all = refl
 open_rows-none (s ∷ ss) all = let some : 0 < s.need = all.0 in rw (not_le_test s.need 0 some) refl
 
-heads_same : {X : Type 0} (x y : X) (xs ys : List X) → x ∷ xs ≡ y ∷ ys → (x ≡ y) × (xs ≡ ys)
+pub heads_same : {X : Type 0} (x y : X) (xs ys : List X) → x ∷ xs ≡ y ∷ ys → (x ≡ y) × (xs ≡ ys)
 heads_same x y xs ys e = (cc, cc)
 
 abbrev pub after_item : Open → Data → List Open → List Open

@@ -101,7 +101,7 @@ offered_at t p h up =
       | inr l ↦ inr (λ e. offer_some p.link.outbox.offered p.link.outbox.unwritten l k.bound (sym k.offer ∙ e))
     ]
 
-none_fresh : (n : ℕ) → [] ≡ n ∷ [] → ⊥
+pub none_fresh : (n : ℕ) → [] ≡ n ∷ [] → ⊥
 none_fresh n e = cc
 
 by_phase : (p : Phase) (P : Type 0) → (is_dialing p ≡ true → P) → (is_up p ≡ true → P) → (is_ended p ≡ true → P) → P

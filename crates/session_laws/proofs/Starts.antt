@@ -214,7 +214,7 @@ each_sound before acts p s (q ∷ qs) up h =
     each_sound before acts p (started_one s q) qs up (subst (λ (t : List Action). Sound t (record p { link = record (started_one s q).link { queue = qs } })) acts_are next))
 
 -- nothing is held back at the greatest boundary
-not_held : (s : LinkState) → s.boundary ≡ no_boundary → is_held_back s ≡ false
+pub not_held : (s : LinkState) → s.boundary ≡ no_boundary → is_held_back s ≡ false
 not_held s e = ap (λ n. nat_lt n no_boundary && (nat_lt 0 (length s.outbox.unwritten) && nat_le s.boundary (length s.outbox.unwritten))) e
 
 all_started : (s : Starting) (qs : List Queued) → s.link.boundary ≡ no_boundary → (started_each s qs).link.queue ≡ []

@@ -43,7 +43,7 @@ use Rattle.session_laws.proofs.Causes.{CutOff, cut_unstarted, cut_off_is}
 use Rattle.session_laws.proofs.Settling.{running_more}
 use Rattle.session_laws.proofs.Starts.{all_push}
 use Rattle.session_laws.proofs.Flush.{unshown_tied}
-use Rattle.session_laws.proofs.Settled.{HasApplied}
+use Rattle.session_laws.proofs.Settled.{HasApplied, none_fresh}
 use Rattle.session_laws.proofs.Events.{IsReadyFor, announced, announced_sound, announced_account, announced_runs, no_fault, fresh_holds}
 
 -- earlier submissions keep their bytes
@@ -135,9 +135,6 @@ told_waiting s n what = chosen (λ (x : Story). x.waiting ≡ s.waiting) (s.coun
 told_late : (s : Story) (n : ℕ) (what : Submission) → s.count ≡ n → (told_event s n (event.Submit what)).late ≡ s.shut
 told_late s n what e = if_true (λ (x : Story). x.late ≡ s.shut) (s.count == n) _ _ (eq_test s.count n e) refl
 
-no_fresh_one : (n : ℕ) → [] ≡ n ∷ [] → ⊥
-no_fresh_one n e = cc
-
 waits_submitted : (a : Account) (p : Inner) (what : Submission) → Tied a (record p { fresh = []; pending = [] })
     → TiedWaits (λ n. told_event (a.story n) n (event.Submit what)) (p.requests ++ progress.Waiting ∷ []) p.phase (length p.requests ∷ [])
 waits_submitted a p what h =
@@ -148,7 +145,7 @@ waits_submitted a p what h =
           (λ t. inl (ap (λ k. k ∷ []) (eq_from n m t)))
           (λ f.
           let other : m ≢ n = λ e. ne_from n m f (sym e) in
-          elim (h.waits.shown m (sym (waiting_other p.requests m other) ∙ w) d) [ inl e ↦ absurd (no_fresh_one m e) | inr e ↦ inr (told_waiting (a.story m) m what ∙ e) ]);
+          elim (h.waits.shown m (sym (waiting_other p.requests m other) ∙ w) d) [ inl e ↦ absurd (none_fresh m e) | inr e ↦ inr (told_waiting (a.story m) m what ∙ e) ]);
     }
 
 -- what was handed in before stays
@@ -202,7 +199,7 @@ told_submitted story starts subs what queue none h = record {
       h.placed n s (sym (get_other subs what n other) ∙ i) u own;
 }
 
-waiting_ids-append : (ws : List Waiting) (w : Waiting) → waiting_ids (ws ++ w ∷ []) ≡ waiting_ids ws ++ w.number ∷ []
+pub waiting_ids-append : (ws : List Waiting) (w : Waiting) → waiting_ids (ws ++ w ∷ []) ≡ waiting_ids ws ++ w.number ∷ []
 waiting_ids-append [] w = refl
 waiting_ids-append (x ∷ ws) w = ap (λ ns. x.number ∷ ns) (waiting_ids-append ws w)
 

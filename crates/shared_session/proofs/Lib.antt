@@ -1,3 +1,1 @@
-pub mod Announced
-pub mod Replays
-pub mod Spent
+pub mod Within

@@ -1,72 +1,77 @@
 -- The state and the trace that a history leads to: a fold of one turn.
-use Rattle.std.specs.Prelude.{◌≡◌, ℕ, nat_lt, Bool, false, List, [], ◌∷◌, ◌++◌, length, Option, Some, None, slice_get, slice_set, if◌then◌else◌}
+use Rattle.std.specs.Prelude.{◌≡◌, ℕ, ◌+◌, Bool, false, List, [], ◌∷◌, ◌++◌, Option, Some, None, slice_get, slice_set}
 use Rattle.driver_model.specs.declared.action.Action.{Action}
 use Rattle.driver_model.specs.declared.action.Action.TheVariants as action
+use Rattle.driver_model.specs.declared.action.Cause.{Cause}
 use Rattle.driver_model.specs.declared.action.Cause.TheVariants as cause
 use Rattle.driver_model.specs.declared.config.Config.{Config}
 use Rattle.driver_model.specs.declared.event.Event.{Event}
+use Rattle.driver_model.specs.declared.event.EventKind.{EventKind}
+use Rattle.driver_model.specs.declared.event.EventKind.TheVariants as event
 use Rattle.driver_model.specs.declared.outcome.Outcome.{Outcome}
-use Rattle.link_core.specs.Link.{fresh, no_boundary}
-use Rattle.shared_session.specs.declared.connection.Connection.{Connection}
-use Rattle.shared_session.specs.declared.connection.Done.{Done}
-use Rattle.shared_session.specs.declared.connection.Phase.TheVariants.{Dialing}
+use Rattle.mux_conn.specs.Turn.{dialing}
 use Rattle.shared_session.specs.declared.core_state.Core.{Core}
-use Rattle.shared_session.specs.Steps.{acts}
-use Rattle.shared_session.specs.Turn.{quiet, turn, is_bad, spends}
+use Rattle.shared_session.specs.Turn.{turn, actions_of, is_bad, spends}
 
--- a queue of any size, and no boundary
-abbrev pub max_size : ℕ
-max_size = 4_294_967_295
+-- the number of the first link
+abbrev pub first_link : ℕ
+first_link = 0
 
-abbrev pub blank : Connection
-blank = record { phase = Dialing; shut = false; link = fresh max_size no_boundary; requests = []; waiting = []; fresh = []; done = []; acts = [] }
-
--- turn 0: the link is to be connected
+-- after turn 0: the first link was asked for
 abbrev pub opening : Config → ℕ → Core
-opening config word = record {
-  turns = 1;
-  connection = acts (acts blank (action.Turn 0 (cause.Opening config word))) (action.Connect 0 config.host config.port);
-}
+opening config word = record { turns = 1; links = first_link + 1; shut = false; table = []; single = record { link = first_link; connection = dialing } }
+
+-- what turn 0 shows
+abbrev pub opening_actions : Config → ℕ → List Action
+opening_actions config word = action.Turn 0 (cause.Opening config word) ∷ action.Connect first_link config.host config.port ∷ []
 
 abbrev pub run_on : Core → List Event → Core
 run_on c [] = c
-run_on c (e ∷ es) = run_on (quiet (turn c e)) es
+run_on c (e ∷ es) = run_on (turn c e.kind).core es
 
 -- where a history leads
 unfoldable pub state_after : Config → ℕ → List Event → Core
-state_after config word events = run_on (quiet (opening config word)) events
-
--- the actions of one turn
-abbrev pub actions_of : Core → Event → List Action
-actions_of c e = (turn c e).connection.acts
+state_after config word events = run_on (opening config word) events
 
 abbrev pub turns_on : Core → List Event → List Action
 turns_on c [] = []
-turns_on c (e ∷ es) = actions_of c e ++ turns_on (quiet (turn c e)) es
+turns_on c (e ∷ es) = actions_of c e ++ turns_on (turn c e.kind).core es
 
 -- the trace of a history: its turns one after another, each with its actions
 unfoldable pub trace_of : Config → ℕ → List Event → List Action
-trace_of config word events = (opening config word).connection.acts ++ turns_on (quiet (opening config word)) events
+trace_of config word events = opening_actions config word ++ turns_on (opening config word) events
 
--- the outcomes of a turn, put in their places
-abbrev pub put_each : List (Option Outcome) → List Done → List (Option Outcome)
-put_each os [] = os
-put_each os (d ∷ ds) = put_each (slice_set os d.submission (Some d.outcome)) ds
+-- a place for the outcome of one more submission
+abbrev pub with_room : List (Option Outcome) → EventKind → List (Option Outcome)
+with_room os (event.Submit what) = os ++ None ∷ []
+with_room os (event.Cancel n) = os
+with_room os (event.Connected l) = os
+with_room os (event.Wrote l count) = os
+with_room os (event.Bytes l piece) = os
+with_room os (event.Ended l) = os
+with_room os (event.ReadFault l kind) = os
+with_room os (event.WriteFault l kind) = os
+with_room os event.Shutdown = os
 
--- a place for each submission
-abbrev pub with_room : List (Option Outcome) → ℕ → List (Option Outcome)
-with_room os n = if nat_lt (length os) n then os ++ None ∷ [] else os
+-- what an action tells of outcomes
+abbrev pub told : List (Option Outcome) → Action → List (Option Outcome)
+told os (action.Turn k (cause.Opening config word)) = os
+told os (action.Turn k (cause.Event e)) = with_room os e.kind
+told os (action.Outcome n o) = slice_set os n (Some o)
+told os (action.Connect l host port) = os
+told os (action.Close l) = os
+told os (action.Write l bytes) = os
+told os (action.Wait who kind) = os
+told os (action.Start l message who need len) = os
+told os action.Created = os
 
-abbrev pub outcomes_with : List (Option Outcome) → Connection → List (Option Outcome)
-outcomes_with os c = put_each (with_room os (length c.requests)) c.done
+abbrev pub told_each : List (Option Outcome) → List Action → List (Option Outcome)
+told_each os [] = os
+told_each os (a ∷ more) = told_each (told os a) more
 
-abbrev pub outcomes_on : Core → List (Option Outcome) → List Event → List (Option Outcome)
-outcomes_on c os [] = os
-outcomes_on c os (e ∷ es) = outcomes_on (quiet (turn c e)) (outcomes_with os (turn c e).connection) es
-
--- the outcome of each submission after a history, if it has one
-unfoldable pub outcomes_after : Config → ℕ → List Event → List (Option Outcome)
-outcomes_after config word events = outcomes_on (quiet (opening config word)) [] events
+-- the outcome of each submission by a trace, if it has one: what its outcome actions say
+unfoldable pub outcomes_in : List Action → List (Option Outcome)
+outcomes_in trace = told_each [] trace
 
 abbrev pub if_placed : Option (Option Outcome) → Option Outcome
 if_placed None = None
@@ -78,23 +83,23 @@ outcome_at os n = if_placed (slice_get os n)
 
 abbrev pub AreGoodOn : Core → List Event → Type 0
 AreGoodOn c [] = Unit {0}
-AreGoodOn c (e ∷ es) = (is_bad c.connection e.kind ≡ false) × AreGoodOn (quiet (turn c e)) es
+AreGoodOn c (e ∷ es) = (is_bad c e.kind ≡ false) × AreGoodOn (turn c e.kind).core es
 
 -- no event is bad
 unfoldable pub AreGood : Config → ℕ → List Event → Type 0
-AreGood config word events = AreGoodOn (quiet (opening config word)) events
+AreGood config word events = AreGoodOn (opening config word) events
 
 -- the event is bad after that history
 abbrev pub is_bad_after : Config → ℕ → List Event → Event → Bool
-is_bad_after config word events e = is_bad (state_after config word events).connection e.kind
+is_bad_after config word events e = is_bad (state_after config word events) e.kind
 
 abbrev pub AreUnspentOn : Core → List Event → Type 0
 AreUnspentOn c [] = Unit {0}
-AreUnspentOn c (e ∷ es) = (spends c e ≡ false) × AreUnspentOn (quiet (turn c e)) es
+AreUnspentOn c (e ∷ es) = (spends c e ≡ false) × AreUnspentOn (turn c e.kind).core es
 
 -- no event's step is spent
 unfoldable pub AreUnspent : Config → ℕ → List Event → Type 0
-AreUnspent config word events = AreUnspentOn (quiet (opening config word)) events
+AreUnspent config word events = AreUnspentOn (opening config word) events
 
 -- the event's step is spent after that history
 abbrev pub is_spent_after : Config → ℕ → List Event → Event → Bool

@@ -1,54 +1,171 @@
--- One turn.
-use Rattle.std.specs.Prelude.{◌+◌, ◌^◌, ◌==◌, nat_lt, nat_le, Bool, false, ◌&&◌, ◌||◌, not, [], length}
+-- One turn of a session: what the outside sees by number, over a connection that knows no numbers.
+use Rattle.std.specs.Prelude.{◌≤◌, ℕ, ◌+◌, ◌^◌, ◌==◌, nat_lt, nat_le, Bool, true, false, ◌&&◌, ◌||◌, List, [], ◌∷◌, ◌++◌, length, Option, Some, None, slice_get, if◌then◌else◌}
+use Rattle.redis_error.specs.declared.redis_error.RedisError.{RedisError}
+use Rattle.redis_error.specs.declared.redis_error.RedisError.TheVariants as error
+use Rattle.driver_model.specs.declared.action.Action.{Action}
 use Rattle.driver_model.specs.declared.action.Action.TheVariants as action
 use Rattle.driver_model.specs.declared.action.Cause.TheVariants as cause
+use Rattle.driver_model.specs.declared.action.Owner.TheVariants as owner
 use Rattle.driver_model.specs.declared.event.Event.{Event}
 use Rattle.driver_model.specs.declared.event.EventKind.{EventKind}
 use Rattle.driver_model.specs.declared.event.EventKind.TheVariants as event
-use Rattle.driver_model.specs.declared.news.LinkFault.TheVariants as fault
-use Rattle.shared_session.specs.declared.connection.Connection.{Connection}
+use Rattle.driver_model.specs.declared.event.Submission.{Submission}
+use Rattle.driver_model.specs.declared.outcome.Outcome.TheVariants as outcome
+use Rattle.driver_model.specs.News.{news}
+use Rattle.driver_model.specs.Request.{packed, shape_of, awaits_reply, is_formless}
+use Rattle.mux_conn.specs.declared.act.LinkAct.{LinkAct}
+use Rattle.mux_conn.specs.declared.act.LinkAct.TheVariants as act
+use Rattle.mux_conn.specs.declared.life.Life.{Life}
+use Rattle.mux_conn.specs.declared.life.Life.TheVariants.{Dialing, Ready, Ended}
+use Rattle.mux_conn.specs.declared.request.Pending.{Pending}
+use Rattle.mux_conn.specs.Connection.{Work, is_spent_in}
+use Rattle.mux_conn.specs.Requests.{asked}
+use Rattle.mux_conn.specs.Effects.{applied, left}
+use Rattle.mux_conn.specs.Passes.{passed}
+use Rattle.mux_conn.specs.Turn.{flushed}
 use Rattle.shared_session.specs.declared.core_state.Core.{Core}
-use Rattle.shared_session.specs.Steps.{acts, is_ended, submitted, left, connected, wrote, read, faulted_by, shut_down, passes, flushed}
+
+-- a session in the middle of a turn, and the acts of its connection so far, which speak of submissions by their numbers
+pub record Turning : Type 0 where
+  pub core : Core
+  pub acts : List LinkAct
+
+-- its connection's part
+abbrev pub work_of : Turning → Work
+work_of t = record { conn = t.core.single.connection; acts = t.acts }
+
+abbrev pub with_work : Turning → Work → Turning
+with_work t w = record { core = record t.core { single = record t.core.single { connection = w.conn } }; acts = w.acts }
+
+abbrev pub is_shutdown : EventKind → Bool
+is_shutdown event.Shutdown = true
+is_shutdown (event.Submit what) = false
+is_shutdown (event.Cancel n) = false
+is_shutdown (event.Connected l) = false
+is_shutdown (event.Wrote l count) = false
+is_shutdown (event.Bytes l piece) = false
+is_shutdown (event.Ended l) = false
+is_shutdown (event.ReadFault l kind) = false
+is_shutdown (event.WriteFault l kind) = false
+
+abbrev pub shut_by : Core → EventKind → Core
+shut_by c kind = record c { shut = c.shut || is_shutdown kind }
+
+-- the connection hears its link's news
+abbrev pub heard : Turning → EventKind → Turning
+heard t kind = with_work (record t { core = shut_by t.core kind }) (applied (work_of t) (news t.core.single.link kind))
+
+-- the next submission has no request: it is answered at once
+abbrev pub refused : Turning → RedisError → Turning
+refused t e = record { core = record t.core { table = t.core.table ++ None ∷ [] }; acts = t.acts ++ act.Outcome (length t.core.table) (outcome.Fault e) ∷ [] }
+
+abbrev pub pending : ℕ → Pending
+pending p = record { number = p }
+
+-- the next submission is a request of the connection, named by its number
+abbrev pub asked_for : Turning → Submission → Turning
+asked_for t what =
+    let conn = t.core.single.connection in
+    record t {
+      core = record t.core {
+        table = t.core.table ++ Some (pending (length conn.requests)) ∷ [];
+        single = record t.core.single { connection = asked conn (length t.core.table) (packed what) (shape_of what) (awaits_reply what) };
+      };
+    }
+
+-- a submission is checked, and then waits
+abbrev pub submitted : Turning → Submission → Turning
+submitted t what =
+    if t.core.shut then refused t error.Closed
+    else if length (packed what) == 0 then refused t error.EmptyCommand
+    else asked_for t what
+
+-- the caller of a submission has gone, and with it its request, if it has one
+abbrev pub left_by : Turning → Option (Option Pending) → Turning
+left_by t None = t
+left_by t (Some None) = t
+left_by t (Some (Some p)) = record t { core = record t.core { single = record t.core.single { connection = left t.core.single.connection p.number } } }
+
+-- what an event is to the submissions
+abbrev pub requested : Turning → EventKind → Turning
+requested t (event.Submit what) = submitted t what
+requested t (event.Cancel n) = left_by t (slice_get t.core.table n)
+requested t (event.Connected l) = t
+requested t (event.Wrote l count) = t
+requested t (event.Bytes l piece) = t
+requested t (event.Ended l) = t
+requested t (event.ReadFault l kind) = t
+requested t (event.WriteFault l kind) = t
+requested t event.Shutdown = t
 
 -- the event's own effect
-abbrev pub applied : Connection → EventKind → Connection
-applied c (event.Submit s) = submitted c s
-applied c (event.Cancel n) = left c n
-applied c (event.Connected l) = connected c
-applied c (event.Wrote l n) = wrote c n
-applied c (event.Bytes l piece) = read c piece
-applied c (event.Ended l) = faulted_by c fault.Ended
-applied c (event.ReadFault l kind) = faulted_by c (fault.Io kind)
-applied c (event.WriteFault l kind) = faulted_by c (fault.Io kind)
-applied c event.Shutdown = shut_down c
+abbrev pub effect : Turning → EventKind → Turning
+effect t kind = requested (heard t kind) kind
 
--- the event names a link or a submission that was never given out, or more written bytes than were offered
-unfoldable pub is_bad : Connection → EventKind → Bool
-is_bad c (event.Submit s) = false
-is_bad c (event.Cancel n) = nat_le (length c.requests) n
-is_bad c (event.Connected l) = not (l == 0)
-is_bad c (event.Wrote l n) = not (l == 0) || (not (is_ended c.phase) && nat_lt c.link.outbox.offered n)
-is_bad c (event.Bytes l piece) = not (l == 0)
-is_bad c (event.Ended l) = not (l == 0)
-is_bad c (event.ReadFault l kind) = not (l == 0)
-is_bad c (event.WriteFault l kind) = not (l == 0)
+-- one more turn
+abbrev pub counted : Core → Turning
+counted c = record { core = record c { turns = c.turns + 1 }; acts = [] }
+
+-- open submissions are moved, and bytes and waits are shown
+abbrev pub moved_on : Turning → Turning
+moved_on t = with_work t (flushed (passed (work_of t)))
+
+-- the event has its effect, and then all is moved
+abbrev pub run : Turning → EventKind → Turning
+run t kind = moved_on (effect t kind)
+
+-- a turn
+unfoldable pub turn : Core → EventKind → Turning
+turn c kind = run (counted c) kind
+
+-- what an act of the connection of link l shows
+abbrev pub shown : ℕ → LinkAct → Action
+shown l act.Created = action.Created
+shown l act.Close = action.Close l
+shown l (act.Write bytes) = action.Write l bytes
+shown l (act.Wait n kind) = action.Wait (owner.Try n 0) kind
+shown l (act.Start message n need len) = action.Start l message (owner.Try n 0) need len
+shown l (act.Outcome n o) = action.Outcome n o
+
+abbrev pub shown_each : ℕ → List LinkAct → List Action
+shown_each l [] = []
+shown_each l (a ∷ more) = shown l a ∷ shown_each l more
+
+-- the actions of one turn
+abbrev pub actions_of : Core → Event → List Action
+actions_of c e = action.Turn c.turns (cause.Event e) ∷ shown_each c.single.link (turn c e.kind).acts
+
+-- its connection has no more requests than there are submissions
+abbrev pub IsFewer : Core → Type 0
+IsFewer c = length c.single.connection.requests ≤ length c.table
+
+-- more bytes were taken than are offered
+abbrev pub takes_too_much : Life → ℕ → Bool
+takes_too_much Dialing count = nat_lt 0 count
+takes_too_much (Ready link) count = nat_lt link.outbox.offered count
+takes_too_much Ended count = false
+
+-- no link of that number was asked for
+abbrev pub is_no_link : Core → ℕ → Bool
+is_no_link c l = nat_le c.links l
+
+-- the event hands in a submission without a form, or names a link or a submission that was never given out, or more written
+-- bytes than were offered
+unfoldable pub is_bad : Core → EventKind → Bool
+is_bad c (event.Submit what) = is_formless what
+is_bad c (event.Cancel n) = nat_le (length c.table) n
+is_bad c (event.Connected l) = is_no_link c l
+is_bad c (event.Wrote l count) = is_no_link c l || ((l == c.single.link) && takes_too_much c.single.connection.life count)
+is_bad c (event.Bytes l piece) = is_no_link c l
+is_bad c (event.Ended l) = is_no_link c l
+is_bad c (event.ReadFault l kind) = is_no_link c l
+is_bad c (event.WriteFault l kind) = is_no_link c l
 is_bad c event.Shutdown = false
-
--- the actions and outcomes of the turn before are gone
-abbrev pub quiet : Core → Core
-quiet c = record c { connection = record c.connection { done = []; acts = [] } }
-
--- a turn: it is announced, the event has its effect, open submissions are moved, and bytes and waits are shown
-unfoldable pub turn : Core → Event → Core
-turn c e = record {
-  turns = c.turns + 1;
-  connection = flushed (passes (applied (acts c.connection (action.Turn c.turns (cause.Event e))) e.kind));
-}
 
 -- the number 2^32 - 1 was given to a message or a submission
 unfoldable pub is_spent : Core → Bool
-is_spent c = nat_le (2 ^ 32) c.connection.link.started || nat_le (2 ^ 32) (length c.connection.requests)
+is_spent c = is_spent_in c.single.connection.life || nat_le (2 ^ 32) (length c.table)
 
 -- the step of an event is spent: the history holds 2^32 - 1 events, or the turn would give out a number too many
 unfoldable pub spends : Core → Event → Bool
-spends c e = nat_le (2 ^ 32) c.turns || is_spent (turn c e)
+spends c e = nat_le (2 ^ 32) c.turns || is_spent (turn c e.kind).core

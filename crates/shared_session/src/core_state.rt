@@ -1,69 +1,212 @@
-ghost use Rattle.std.specs.Prelude.{◌≡◌, ◌<◌, ◌+◌, ◌^◌, length, true, false, OnOk, IsErrOf};
+ghost use Rattle.std.specs.Prelude.{◌≡◌, ◌<◌, ◌≤◌, ◌+◌, ◌++◌, ◌∷◌, ◌^◌, [], length, slice_get, true, false, None, Some, OnOk, OnErr, IfErr, IsErrOf};
 
-use crate::connection::Connection;
-use crate::errors::TurnError;
-use driver_model::{Action, Cause, Event};
+use containers::{Bytes, Seq};
+use driver_model::{EventKind, Outcome, Submission};
+use mux_conn::{ConnectionError, Life, LinkAct, MultiplexedConnection, Pending};
+use redis_error::RedisError;
 use std::alloc::{AllocError, Global};
 
 /// The numbers of one sort are 0 to 2^32 - 2: so many given out are one too many.
 const TOO_MANY: u64 = 1 << 32;
 
-/// The state of a session: how many turns it has made, the opening among them, and its connection.
-pub struct Core {
-    pub turns: u64,
-    pub connection: Connection,
+/// One connection, and the number of its link.
+pub struct Single {
+    pub link: u32,
+    pub connection: MultiplexedConnection,
 }
 
-impl Drop for Core {
+impl Drop for Single {
     fn drop(self) {
-        let Core {
-            turns: _,
+        let Single {
+            link: _,
             connection,
         } = self;
         drop(connection);
     }
 }
 
-impl Core {
-    ghost use Rattle.shared_session.specs.Steps.{acts};
-    ghost use Rattle.shared_session.specs.Turn.{turn as turn_of, is_bad, is_spent as is_spent_in};
+/// The state of a session: how many turns it has made, the opening among them, how many links were asked for, whether
+/// everything was shut down, the request of each submission, where it has one, and its connection.
+pub struct Core {
+    pub turns: u64,
+    pub links: u32,
+    pub shut: bool,
+    pub table: Seq<Option<Pending>>,
+    pub single: Single,
+}
 
-    /// A turn is announced.
-    fn announce(&mut self, alloc: Global, event: &Event) -> Result<(), AllocError>
-        requires { self.old.turns < 2 ^ 32 }
-        ensures turns { OnOk result (self.new.turns ≡ self.old.turns + 1) }
-        ensures connection { OnOk result (self.new.connection ≡ acts self.old.connection (Action.Turn self.old.turns (Cause.Event event.now))) }
+impl Drop for Core {
+    fn drop(self) {
+        let Core {
+            turns: _,
+            links: _,
+            shut: _,
+            table,
+            single,
+        } = self;
+        drop(table);
+        drop(single);
+    }
+}
+
+impl Core {
+    ghost use Rattle.driver_model.specs.Request.{packed as packed_of};
+    ghost use Rattle.driver_model.specs.News.{told, news};
+    ghost use Rattle.mux_conn.specs.Effects.{IsWithin};
+    ghost use Rattle.shared_session.specs.Turn.{heard, refused as refused_in, asked_for, submitted, left_by, requested, effect, run as run_of, turn as turn_of, is_bad, is_spent as is_spent_in, takes_too_much as takes_too_much_in, IsFewer};
+
+    /// The connection hears its link's news.
+    fn hear(
+        &mut self,
+        alloc: Global,
+        event: &EventKind,
+        acts: &mut Vec<LinkAct>,
+    ) -> Result<(), ConnectionError>
+        requires { IsWithin self.old.single.connection.life (news self.old.single.link event.now) }
+        ensures turning { OnOk result (record { core = self.new; acts = acts.new.items } ≡ heard (record { core = self.old; acts = acts.old.items }) event.now) }
+        ensures count { length self.new.table ≡ length self.old.table }
+        ensures requests { length self.new.single.connection.requests ≡ length self.old.single.connection.requests }
+        ensures spent { IsErrOf result ConnectionError.Spent → self.old.single.connection.failure ≡ Some ConnectionError.Spent }
+        ensures sound { OnOk result (self.new.single.connection.failure ≡ None) }
     {
-        let number = self.turns as u32;
-        let event = event.clone(alloc)?;
-        self.turns += 1;
-        self.connection.act(Action::Turn {
-            number,
-            cause: Cause::Event { event },
-        })
+        let shutdown = match event {
+            EventKind::Shutdown => true,
+            _ => false,
+        };
+        self.shut = self.shut || shutdown;
+        let news = event.news(self.single.link);
+        self.single.connection.apply(alloc, news, acts)
     }
 
-    /// One turn. Its actions stand in the connection's `acts` then.
-    #[tactic(auto, unfolding(crate::specs::Turn::turn))]
-    pub fn turn(&mut self, alloc: Global, event: &Event) -> Result<(), TurnError>
-        requires good { is_bad self.old.connection event.now.kind ≡ false }
-        requires room { is_spent_in self.old ≡ false }
-        requires turns { self.old.turns < 2 ^ 32 }
-        ensures core { OnOk result (self.new ≡ turn_of self.old event.now) }
-        ensures unspent { OnOk result (is_spent_in self.new ≡ false) }
-        ensures spent { IsErrOf result TurnError.Spent → is_spent_in (turn_of self.old event.now) ≡ true }
+    /// The next submission has no request: it is answered at once.
+    fn refuse(&mut self, error: RedisError, acts: &mut Vec<LinkAct>) -> Result<(), AllocError>
+        requires { length self.old.table < 2 ^ 32 }
+        ensures turning { OnOk result (record { core = self.new; acts = acts.new.items } ≡ refused_in (record { core = self.old; acts = acts.old.items }) error) }
+        ensures count { OnOk result (length self.new.table ≡ length self.old.table + 1) }
+        ensures requests { self.new.single.connection ≡ self.old.single.connection }
     {
-        self.announce(alloc, event)?;
-        self.connection.apply(alloc, &event.kind)?;
-        match self.connection.advance_all(alloc) {
-            Ok(()) => {}
-            Err(error) => return Err(error),
-        }
-        self.connection.flush(alloc)?;
-        if self.is_spent() {
-            return Err(TurnError::Spent);
-        }
+        let request = self.table.len() as u32;
+        self.table.push(None)?;
+        acts.push(LinkAct::Outcome {
+            request,
+            outcome: Outcome::Fault(error),
+        })?;
         Ok(())
+    }
+
+    /// The next submission is a request of the connection, named by its number.
+    fn ask(
+        &mut self,
+        submission: &Submission,
+        packed: Bytes,
+    ) -> Result<(), AllocError>
+        requires few { length self.old.table < 2 ^ 32 }
+        requires fewer { length self.old.single.connection.requests < 2 ^ 32 }
+        requires packs { packed ≡ packed_of submission.now }
+        ensures turning { OnOk result (record { core = self.new; acts = [] } ≡ asked_for (record { core = self.old; acts = [] }) submission.now) }
+        ensures count { OnOk result (length self.new.table ≡ length self.old.table + 1) }
+        ensures requests { OnOk result (length self.new.single.connection.requests ≡ length self.old.single.connection.requests + 1) }
+        ensures failure { OnOk result (self.new.single.connection.failure ≡ self.old.single.connection.failure) }
+    {
+        let name = self.table.len() as u32;
+        let shape = submission.shape();
+        let awaited = submission.awaits_reply();
+        let pending = self.single.connection.ask(name, packed, shape, awaited)?;
+        self.table.push(Some(pending))
+    }
+
+    /// A caller hands in a request.
+    fn submit(
+        &mut self,
+        alloc: Global,
+        submission: &Submission,
+        acts: &mut Vec<LinkAct>,
+    ) -> Result<(), AllocError>
+        requires few { length self.old.table < 2 ^ 32 }
+        requires fewer { IsFewer self.old }
+        ensures turning { OnOk result (record { core = self.new; acts = acts.new.items } ≡ submitted (record { core = self.old; acts = acts.old.items }) submission.now) }
+        ensures fewer { OnOk result (IsFewer self.new) }
+        ensures failure { OnOk result (self.new.single.connection.failure ≡ self.old.single.connection.failure) }
+    {
+        if self.shut {
+            return self.refuse(RedisError::Closed, acts);
+        }
+        let packed = submission.packed(alloc)?;
+        if packed.is_empty() {
+            return self.refuse(RedisError::EmptyCommand, acts);
+        }
+        self.ask(submission, packed)
+    }
+
+    /// The caller of a submission has gone.
+    fn leave(&mut self, submission: u32)
+        requires { submission < length self.old.table }
+        ensures turning { record { core = self.new; acts = [] } ≡ left_by (record { core = self.old; acts = [] }) (slice_get self.old.table submission) }
+        ensures fewer { IsFewer self.old → IsFewer self.new }
+        ensures failure { self.new.single.connection.failure ≡ self.old.single.connection.failure }
+    {
+        let request = *self.table.at(submission as usize);
+        match request {
+            Some(pending) => self.single.connection.cancel(pending),
+            None => {}
+        }
+    }
+
+    /// What an event is to the submissions.
+    #[tactic(auto, unfolding(crate::specs::Turn::is_bad))]
+    fn take_requests(
+        &mut self,
+        alloc: Global,
+        event: &EventKind,
+        acts: &mut Vec<LinkAct>,
+    ) -> Result<(), AllocError>
+        requires good { is_bad self.old event.now ≡ false }
+        requires few { length self.old.table < 2 ^ 32 }
+        requires fewer { IsFewer self.old }
+        ensures turning { OnOk result (record { core = self.new; acts = acts.new.items } ≡ requested (record { core = self.old; acts = acts.old.items }) event.now) }
+        ensures fewer { OnOk result (IsFewer self.new) }
+        ensures failure { OnOk result (self.new.single.connection.failure ≡ self.old.single.connection.failure) }
+    {
+        match event {
+            EventKind::Submit { submission } => self.submit(alloc, submission, acts),
+            EventKind::Cancel { submission } => {
+                self.leave(*submission);
+                Ok(())
+            }
+            _ => Ok(()),
+        }
+    }
+
+    /// Whether the event hands in a submission without a form, names what was never given out, or says that more was
+    /// written than was offered.
+    #[tactic(auto, unfolding(crate::specs::Turn::is_bad))]
+    pub fn is_bad_event(&self, event: &EventKind) -> bool
+        ensures { result ≡ is_bad self.now event.now }
+    {
+        match event {
+            EventKind::Submit { submission } => submission.is_formless(),
+            EventKind::Cancel { submission } => *submission as usize >= self.table.len(),
+            EventKind::Connected { link } => *link >= self.links,
+            EventKind::Wrote { link, count } => {
+                *link >= self.links || (*link == self.single.link && self.takes_too_much(*count))
+            }
+            EventKind::Bytes { link, piece: _ } => *link >= self.links,
+            EventKind::Ended { link } => *link >= self.links,
+            EventKind::ReadFault { link, fault: _ } => *link >= self.links,
+            EventKind::WriteFault { link, fault: _ } => *link >= self.links,
+            EventKind::Shutdown => false,
+        }
+    }
+
+    /// Whether more bytes were taken than are offered.
+    fn takes_too_much(&self, count: u64) -> bool
+        ensures { result ≡ takes_too_much_in self.now.single.connection.life count }
+    {
+        match &self.single.connection.life {
+            Life::Dialing => count > 0,
+            Life::Ready { link } => count > link.offered_len(),
+            Life::Ended => false,
+        }
     }
 
     /// Whether the number 2^32 - 1 was given to a message or a submission.
@@ -71,8 +214,66 @@ impl Core {
     fn is_spent(&self) -> bool
         ensures { result ≡ is_spent_in self.now }
     {
-        let started = u64::from(self.connection.link.started());
-        let submitted = self.connection.requests.len() as u64;
-        started >= TOO_MANY || submitted >= TOO_MANY
+        let started = u64::from(self.single.connection.started());
+        started >= TOO_MANY || self.table.len() as u64 >= TOO_MANY
+    }
+
+    /// The event's own effect, and then requests are moved, and bytes and waits are shown.
+    fn run(
+        &mut self,
+        alloc: Global,
+        event: &EventKind,
+        acts: &mut Vec<LinkAct>,
+    ) -> Result<(), ConnectionError>
+        requires good { is_bad self.old event.now ≡ false }
+        requires few { length self.old.table < 2 ^ 32 }
+        requires fewer { IsFewer self.old }
+        requires sound { self.old.single.connection.failure ≡ None }
+        ensures turning { OnOk result (record { core = self.new; acts = acts.new.items } ≡ run_of (record { core = self.old; acts = acts.old.items }) event.now) }
+        ensures spent { IsErrOf result ConnectionError.Spent → is_spent_in (run_of (record { core = self.old; acts = acts.old.items }) event.now).core ≡ true }
+        ensures fewer { OnOk result (IsFewer self.new) }
+        ensures sound { OnOk result (self.new.single.connection.failure ≡ None) }
+    {
+        match self.hear(alloc, event, acts) {
+            Ok(()) => {}
+            Err(error) => return Err(error),
+        }
+        self.take_requests(alloc, event, acts)?;
+        match self.single.connection.advance_all(alloc, acts) {
+            Ok(()) => {}
+            Err(error) => return Err(error),
+        }
+        self.single.connection.flush(alloc, acts)
+    }
+
+    /// One turn, whose acts `acts` gains.
+    #[tactic(auto, unfolding(crate::specs::Turn::turn))]
+    pub fn turn(
+        &mut self,
+        alloc: Global,
+        event: &EventKind,
+        acts: &mut Vec<LinkAct>,
+    ) -> Result<(), ConnectionError>
+        requires good { is_bad self.old event.now ≡ false }
+        requires room { is_spent_in self.old ≡ false }
+        requires turns { self.old.turns < 2 ^ 32 }
+        requires fewer { IsFewer self.old }
+        requires sound { self.old.single.connection.failure ≡ None }
+        requires none { acts.old.items ≡ [] }
+        ensures turning { OnOk result (record { core = self.new; acts = acts.new.items } ≡ turn_of self.old event.now) }
+        ensures unspent { OnOk result (is_spent_in self.new ≡ false) }
+        ensures spent { IsErrOf result ConnectionError.Spent → is_spent_in (turn_of self.old event.now).core ≡ true }
+        ensures fewer { OnOk result (IsFewer self.new) }
+        ensures sound { OnOk result (self.new.single.connection.failure ≡ None) }
+    {
+        self.turns += 1;
+        match self.run(alloc, event, acts) {
+            Ok(()) => {}
+            Err(error) => return Err(error),
+        }
+        if self.is_spent() {
+            return Err(ConnectionError::Spent);
+        }
+        Ok(())
     }
 }

@@ -30,14 +30,6 @@ pub enum ReplayError {
     NoMemory,
 }
 
-/// Why a turn was not finished.
-#[derive(Clone, Copy, PartialEq, Eq)]
-pub enum TurnError {
-    /// A number has run out.
-    Spent,
-    NoMemory,
-}
-
 impl From<AllocError> for MakeError {
     ghost use Rattle.std.specs.Prelude.{◌≡◌};
     ghost use Rattle.shared_session.specs.declared.errors.MakeError.TheVariants.{NoMemory};
@@ -46,16 +38,5 @@ impl From<AllocError> for MakeError {
 
     fn from(_error: AllocError) -> Self {
         MakeError::NoMemory
-    }
-}
-
-impl From<AllocError> for TurnError {
-    ghost use Rattle.std.specs.Prelude.{◌≡◌};
-    ghost use Rattle.shared_session.specs.declared.errors.TurnError.TheVariants.{NoMemory};
-
-    ghost from_gives = { λ _ e. e ≡ NoMemory };
-
-    fn from(_error: AllocError) -> Self {
-        TurnError::NoMemory
     }
 }

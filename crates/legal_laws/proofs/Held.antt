@@ -1,0 +1,142 @@
+-- What is done stays done while messages start, are written and wait.
+use Rattle.std.proofs.Common.{◌≡◌, ◌≢◌, ◌⊎◌, inl, inr, ℕ, ◌==◌, true, List, [], ◌∷◌, Option, None, if◌then◌else◌, refl, sym, subst}
+use Rattle.containers.proofs.Tests.{chosen, eq_from, eq_test, if_true}
+use Rattle.driver_model.specs.declared.action.Action.{Action}
+use Rattle.driver_model.specs.declared.action.Action.TheVariants as action
+use Rattle.driver_model.specs.declared.action.Owner.TheVariants as owner
+use Rattle.driver_model.specs.declared.action.WaitKind.{WaitKind}
+use Rattle.driver_model.specs.declared.outcome.Outcome.{Outcome}
+use Rattle.legal_trace.specs.Ledger.{Ledger, Line, Start, begins, offers, noted_each, ending}
+use Rattle.legal_trace.specs.Story.{Story, Try, is_open, shape, tried, waits, answered}
+use Rattle.legal_trace.specs.Owed.{owed_to_message, owed_to_try}
+use Rattle.legal_trace.specs.Book.{Book, entered, if_mine, message_of}
+use Rattle.legal_trace.specs.Legal.{MayTell, MayStart, IsTold, CanMove, NoneIsOwed, IsApplied, IsMoved, IsWritten}
+use Rattle.legal_laws.proofs.Ledgers.{mine_keeps}
+use Rattle.legal_laws.proofs.Tales.{open_has_none, last_behind}
+use Rattle.legal_laws.proofs.Owes.{owed_story, owed_again, owed_by_last, begins_keeps, new_is_owed_nothing}
+use Rattle.legal_laws.proofs.Plain.{not_empty}
+use Rattle.legal_laws.proofs.Sound.{Sound}
+
+-- a message of a submission starts
+abbrev pub starting : ℕ → ℕ → ℕ → ℕ → ℕ → ℕ → Action
+starting l k n round count len = action.Start l k (owner.Try n round) count len
+
+-- a message that begins ends no link
+begun_end : (b : Book) (l m : ℕ) (s : Start) → (b.link m).end ≡ None → (noted_each (b.link m) (if_mine (l == m) (begins s))).end ≡ None
+begun_end b l m s e = mine_keeps (λ (x : Ledger). x.end ≡ None) (l == m) (b.link m) (begins s) (λ t. e) e
+
+-- the new message is owed nothing
+new_message : (b : Book) (l k n round count len : ℕ) → MayStart b l k n count len → Sound b → owed_to_message ((entered b (starting l k n round count len)).link l) k (shape (b.story n)) ≡ None
+new_message b l k n round count len may h =
+    let up : (b.link l).up ≡ true = subst (λ j. (b.link j).up ≡ true) (sym may.on_its_link) may.moves.up in
+    if_true (λ (lines : List Line). owed_to_message (noted_each (b.link l) lines) k (shape (b.story n)) ≡ None) (l == l) (begins (message_of b (owner.Try n round)) ∷ []) [] (eq_test l l refl)
+    (new_is_owed_nothing (b.link l) (message_of b (owner.Try n round)) k (shape (b.story n)) (h.few l) (h.up l up) may.next)
+
+-- so is the submission whose message starts
+starter_owed : (b : Book) (l k n round count len : ℕ) → MayStart b l k n count len → Sound b → is_open (b.story n) ≡ true → owed_story (entered b (starting l k n round count len)) (tried (b.story n) l k) ≡ None
+starter_owed b l k n round count len may h o =
+    owed_by_last b (entered b (starting l k n round count len)) (b.story n) (tried (b.story n) l k) refl refl
+    (subst (λ (x : Option Try). owed_to_try (entered b (starting l k n round count len)) (tried (b.story n) l k) x ≡ None) (sym (last_behind (b.story n).tries (record { link = l; message = k }))) (new_message b l k n round count len may h))
+    (may.applied.answered n o)
+
+-- and any other
+others_owed : (b : Book) (l k m round count len : ℕ) → Sound b → (n : ℕ) → owed_story b (b.story n) ≡ None → owed_story (entered b (starting l k m round count len)) (b.story n) ≡ None
+others_owed b l k m round count len h n =
+    owed_again b (entered b (starting l k m round count len)) (b.story n) (
+      begun_end b l (b.story n).link (message_of b (owner.Try m round)),
+      λ t last e. mine_keeps (λ x. owed_to_message x t.message (shape (b.story n)) ≡ None) (l == t.link) (b.link t.link) (begins (message_of b (owner.Try m round)))
+          (λ mine. begins_keeps (b.link t.link) (message_of b (owner.Try m round)) t.message (shape (b.story n)) (h.starts n t last) e) e,
+    )
+
+-- so nothing is owed behind a start
+start_owes : (b : Book) (l k m round count len : ℕ) → MayStart b l k m count len → Sound b → NoneIsOwed (entered b (starting l k m round count len))
+start_owes b l k m round count len may h n =
+    chosen (λ (s : Story). is_open s ≡ true → owed_story (entered b (starting l k m round count len)) s ≡ None) (m == n) (tried (b.story n) l k) (b.story n)
+    (λ t. subst (λ j. is_open (tried (b.story j) l k) ≡ true → owed_story (entered b (starting l k m round count len)) (tried (b.story j) l k) ≡ None) (eq_from m n t) (starter_owed b l k m round count len may h))
+    (λ f o. others_owed b l k m round count len h n (may.applied.answered n o))
+
+-- a start leaves the event applied
+pub start_applied : (b : Book) (l k m round count len : ℕ) → MayStart b l k m count len → Sound b → IsApplied (entered b (starting l k m round count len))
+start_applied b l k m round count len may h = record {
+  answered = start_owes b l k m round count len may h;
+  ended = λ j. mine_keeps (λ x. ending x ≡ None) (l == j) (b.link j) (begins (message_of b (owner.Try m round))) (λ t. may.applied.ended j) (may.applied.ended j);
+  created = record {
+    asked = may.applied.created.asked;
+    shown = λ j. mine_keeps (λ (x : Ledger). x.up ≡ true → b.created ≢ 0) (l == j) (b.link j) (begins (message_of b (owner.Try m round))) (λ t. may.applied.created.shown j) (may.applied.created.shown j);
+  };
+}
+
+-- what is answered is not open
+not_open : (s : Story) (o : Outcome) → is_open (answered s o) ≡ true → ⊥
+not_open s o h = not_empty s.outcomes o (open_has_none (answered s o) h)
+
+-- so does Nil that is told at its place
+pub tell_applied : (b : Book) (m : ℕ) (o : Outcome) → MayTell b m o → IsApplied (entered b (action.Outcome m o))
+tell_applied b m o may = record {
+  answered = λ n. chosen (λ (s : Story). is_open s ≡ true → owed_story (entered b (action.Outcome m o)) s ≡ None) (m == n) (answered (b.story n) o) (b.story n)
+      (λ t open_still. absurd (not_open (b.story n) o open_still))
+      (λ f open_still. owed_again b (entered b (action.Outcome m o)) (b.story n) (λ e. e, λ t last e. e) (may.applied.answered n open_still));
+  ended = may.applied.ended;
+  created = record { asked = may.applied.created.asked; shown = may.applied.created.shown };
+}
+
+-- a write leaves the event applied and all moved
+write_applied : (b : Book) (l : ℕ) (bytes : List ℕ) → IsApplied b → IsApplied (entered b (action.Write l bytes))
+write_applied b l bytes done = record {
+  answered = λ n o. owed_again b (entered b (action.Write l bytes)) (b.story n) (
+    λ e. mine_keeps (λ (x : Ledger). x.end ≡ None) (l == (b.story n).link) (b.link (b.story n).link) (offers bytes) (λ t. e) e,
+    λ t last e. mine_keeps (λ x. owed_to_message x t.message (shape (b.story n)) ≡ None) (l == t.link) (b.link t.link) (offers bytes) (λ mine. e) e,
+  )
+      (done.answered n o);
+  ended = λ j. mine_keeps (λ x. ending x ≡ None) (l == j) (b.link j) (offers bytes) (λ t. done.ended j) (done.ended j);
+  created = record {
+    asked = done.created.asked;
+    shown = λ j. mine_keeps (λ (x : Ledger). x.up ≡ true → b.created ≢ 0) (l == j) (b.link j) (offers bytes) (λ t. done.created.shown j) (done.created.shown j);
+  };
+}
+
+-- a write brings no link up
+written_up : (b : Book) (l j : ℕ) (bytes : List ℕ) → ((entered b (action.Write l bytes)).link j).up ≡ true → (b.link j).up ≡ true
+written_up b l j bytes = mine_keeps (λ (x : Ledger). x.up ≡ true → (b.link j).up ≡ true) (l == j) (b.link j) (offers bytes) (λ t u. u) (λ u. u)
+
+-- nothing may start behind a write that couldn't before
+pub write_moved : (b : Book) (l : ℕ) (bytes : List ℕ) → IsMoved b → IsMoved (entered b (action.Write l bytes))
+write_moved b l bytes done = record {
+  applied = write_applied b l bytes done.applied;
+  moved = λ n m. done.moved n (record { unstarted = m.unstarted; wanted = m.wanted; up = written_up b l (b.story n).link bytes m.up });
+}
+
+-- and a wait leaves all as it was
+wait_applied : (b : Book) (m round : ℕ) (kind : WaitKind) → IsApplied b → IsApplied (entered b (action.Wait (owner.Try m round) kind))
+wait_applied b m round kind done = record {
+  answered = λ n. chosen (λ (s : Story). is_open s ≡ true → owed_story (entered b (action.Wait (owner.Try m round) kind)) s ≡ None) (m == n) (waits (b.story n) kind) (b.story n)
+      (λ t o. owed_again b (entered b (action.Wait (owner.Try m round) kind)) (b.story n) (λ e. e, λ u last e. e) (done.answered n o))
+      (λ f o. owed_again b (entered b (action.Wait (owner.Try m round) kind)) (b.story n) (λ e. e, λ u last e. e) (done.answered n o));
+  ended = done.ended;
+  created = record { asked = done.created.asked; shown = done.created.shown };
+}
+
+-- what a story has that may start
+abbrev pub StoryMoves : Book → Story → Type 0
+StoryMoves b s = (s.tries ≡ []) × ((is_open s ≡ true) ⊎ IsTold s) × ((b.link s.link).up ≡ true)
+
+-- a wait changes neither whether a submission is open nor whether it was told
+wanted_still : (s : Story) (kind : WaitKind) → (is_open (waits s kind) ≡ true) ⊎ IsTold (waits s kind) → (is_open s ≡ true) ⊎ IsTold s
+wanted_still s kind (inl o) = inl o
+wanted_still s kind (inr told) = inr (record { unawaited = told.unawaited; told = told.told })
+
+-- what may start behind a wait could before
+waiting_moves : (b : Book) (m n : ℕ) (kind : WaitKind) → StoryMoves b (if m == n then waits (b.story n) kind else b.story n) → CanMove b n
+waiting_moves b m n kind = chosen (λ s. StoryMoves b s → CanMove b n) (m == n) (waits (b.story n) kind) (b.story n)
+    (λ t p. record { unstarted = p.0; wanted = wanted_still (b.story n) kind p.1; up = p.2 })
+    (λ f p. record { unstarted = p.0; wanted = p.1; up = p.2 })
+
+-- so all stays written behind a wait
+pub wait_written : (b : Book) (m round : ℕ) (kind : WaitKind) → IsWritten b → IsWritten (entered b (action.Wait (owner.Try m round) kind))
+wait_written b m round kind done = record {
+  moved = record {
+    applied = wait_applied b m round kind done.moved.applied;
+    moved = λ n p. done.moved.moved n (waiting_moves b m n kind (p.unstarted, p.wanted, p.up));
+  };
+  offered = done.offered;
+}

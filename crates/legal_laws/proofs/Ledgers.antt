@@ -1,0 +1,161 @@
+-- What holds of any ledger, and what lines do to it.
+use Rattle.std.proofs.Common.{◌≡◌, ◌≢◌, ℕ, ◌+◌, ◌-◌, ◌<◌, ◌≤◌, ◌==◌, min, if◌then◌else◌, Bool, true, false, List, [], ◌∷◌, ◌++◌, length, take, drop, None, refl, sym, ap, subst, arith, length-append}
+use Rattle.containers.proofs.Tests.{chosen, if_false, ne_from}
+use Rattle.std.proofs.lemmas.List.{length-take}
+use Rattle.resp_read.specs.Values.{left_over}
+use Rattle.resp_read.specs.Items.{items}
+use Rattle.resp_value.specs.Data.{Data}
+use Rattle.driver_model.specs.News.{News, silence, connected, took, came, failed, shut}
+use Rattle.driver_model.specs.declared.outcome.Shape.{Shape}
+use Rattle.driver_model.specs.declared.outcome.Shape.TheVariants.{Single, Pipeline}
+use Rattle.driver_model.specs.Shape.{need}
+use Rattle.legal_trace.specs.Ledger.{Ledger, Line, Start, asks, hears, begins, offers, ends, noted, noted_each, with_news, bytes_came, items_came, is_over, reach, AllNoted}
+use Rattle.legal_trace.specs.Book.{if_mine}
+use Rattle.legal_laws.proofs.Plain.{none_from}
+
+-- a fact that each line keeps is kept by any lines
+pub each_keeps : (P : Ledger → Type 0) → ((l : Ledger) (x : Line) → P l → P (noted l x)) → (l : Ledger) (lines : List Line) → P l → P (noted_each l lines)
+each_keeps P keeps l [] h = h
+each_keeps P keeps l (x ∷ more) h = each_keeps P keeps (noted l x) more (keeps l x h)
+
+-- a fact of a link that is told a line, if it is told it
+pub mine_keeps : (P : Ledger → Type 0) (mine : Bool) (l : Ledger) (x : Line) → (mine ≡ true → P (noted l x)) → P l → P (noted_each l (if_mine mine x))
+mine_keeps P true l x t h = t refl
+mine_keeps P false l x t h = h
+
+-- lines behind lines come to what the second make of the first
+pub noted_append : (l : Ledger) (xs ys : List Line) → noted_each l (xs ++ ys) ≡ noted_each (noted_each l xs) ys
+noted_append l [] ys = refl
+noted_append l (x ∷ xs) ys = noted_append (noted l x) xs ys
+
+-- lines behind lines that may stand
+pub all_append : (l : Ledger) (xs ys : List Line) → AllNoted l xs → AllNoted (noted_each l xs) ys → AllNoted l (xs ++ ys)
+all_append l [] ys h k = k
+all_append l (x ∷ xs) ys h k = (h.0, all_append (noted l x) xs ys h.1 k)
+
+-- a link that is up has not ended
+abbrev pub UpIsNotOver : Ledger → Type 0
+UpIsNotOver l = l.up ≡ true → l.end ≡ None
+
+-- news brings up no link that has ended
+up_hears : (l : Ledger) (news : News) → UpIsNotOver l → UpIsNotOver (with_news l news)
+up_hears l silence h = h
+up_hears l connected h = chosen UpIsNotOver (is_over l) l (record l { up = true }) (λ t. h) (λ e u. none_from l.end e)
+up_hears l (took count) h = chosen UpIsNotOver l.up (record l { taken = l.taken ++ take count l.offer; offer = [] }) l (λ t. h) (λ e. h)
+up_hears l (came piece) h = chosen UpIsNotOver l.up (bytes_came l piece) l (λ t. h) (λ e. h)
+up_hears l (failed f) h = h
+up_hears l shut h = h
+
+-- nor does any line
+pub up_keeps : (l : Ledger) (x : Line) → UpIsNotOver l → UpIsNotOver (noted l x)
+up_keeps l asks h = h
+up_keeps l (hears news) h = up_hears l news h
+up_keeps l (begins s) h = h
+up_keeps l (offers bytes) h = h
+up_keeps l (ends turn) h = λ u. cc
+
+-- a link that was asked for has been
+abbrev pub IsAsked : Ledger → Type 0
+IsAsked l = l.asked ≡ true
+
+-- of a second ledger: it was asked for, has ended and has started messages as the first
+pub record SamePast (l m : Ledger) : Type 0 where
+  pub asked : m.asked ≡ l.asked
+  pub end : m.end ≡ l.end
+  pub starts : m.starts ≡ l.starts
+
+-- each has its own past
+same_past : (l : Ledger) → SamePast l l
+same_past l = record { asked = refl; end = refl; starts = refl }
+
+-- news leaves these as they are
+pub hears_past : (l : Ledger) (news : News) → SamePast l (with_news l news)
+hears_past l silence = same_past l
+hears_past l connected = chosen (SamePast l) (is_over l) l (record l { up = true }) (λ t. same_past l) (λ e. record { asked = refl; end = refl; starts = refl })
+hears_past l (took count) = chosen (SamePast l) l.up (record l { taken = l.taken ++ take count l.offer; offer = [] }) l (λ t. record { asked = refl; end = refl; starts = refl }) (λ e. same_past l)
+hears_past l (came piece) = chosen (SamePast l) l.up (bytes_came l piece) l (λ t. record { asked = refl; end = refl; starts = refl }) (λ e. same_past l)
+hears_past l (failed f) = same_past l
+hears_past l shut = same_past l
+
+-- each line leaves it so
+pub asked_keeps : (l : Ledger) (x : Line) → IsAsked l → IsAsked (noted l x)
+asked_keeps l asks h = refl
+asked_keeps l (hears news) h = subst (λ (b : Bool). b ≡ true) (sym (hears_past l news).asked) h
+asked_keeps l (begins s) h = h
+asked_keeps l (offers bytes) h = h
+asked_keeps l (ends turn) h = h
+
+-- so many messages started, and more start
+abbrev pub HasStarted : ℕ → Ledger → Type 0
+HasStarted k l = k < length l.starts
+
+-- each line leaves these
+pub started_keeps : (k : ℕ) (l : Ledger) (x : Line) → HasStarted k l → HasStarted k (noted l x)
+started_keeps k l asks h = h
+started_keeps k l (hears news) h = subst (λ (ss : List Start). k < length ss) (sym (hears_past l news).starts) h
+started_keeps k l (begins s) h = let e : length (l.starts ++ s ∷ []) ≡ length l.starts + 1 = length-append l.starts (s ∷ []) in omega arith
+started_keeps k l (offers bytes) h = h
+started_keeps k l (ends turn) h = h
+
+-- a link that was not asked for
+abbrev pub IsUnasked : Ledger → Type 0
+IsUnasked l = (l.asked ≡ false) × (l.up ≡ false)
+
+-- what is done only where a link is up isn't done
+unasked_unless_up : (l m : Ledger) → IsUnasked l → IsUnasked (if l.up then m else l)
+unasked_unless_up l m h = if_false IsUnasked l.up m l h.1 h
+
+-- it stays so, but for a connect that succeeds
+pub unasked_hears : (l : Ledger) (news : News) → (news ≡ connected → ⊥) → IsUnasked l → IsUnasked (with_news l news)
+unasked_hears l silence not_up h = h
+unasked_hears l connected not_up h = absurd (not_up refl)
+unasked_hears l (took count) not_up h = unasked_unless_up l (record l { taken = l.taken ++ take count l.offer; offer = [] }) h
+unasked_hears l (came piece) not_up h = unasked_unless_up l (bytes_came l piece) h
+unasked_hears l (failed f) not_up h = h
+unasked_hears l shut not_up h = h
+
+-- how much a message takes doesn't hang on what is dealt
+pub reach_alike : (ss : List Start) (d e : List Data) → reach ss d ≡ reach ss e
+reach_alike [] d e = refl
+reach_alike (s ∷ ss) d e = ap (λ k. need s.shape + k) (reach_alike ss (drop (need s.shape) d) (drop (need s.shape) e))
+
+-- a message more takes its own
+pub reach_more : (ss : List Start) (s : Start) (d : List Data) → reach (ss ++ s ∷ []) d ≡ reach ss d + need s.shape
+reach_more [] s d = omega arith
+reach_more (t ∷ ss) s d = let e : reach (ss ++ s ∷ []) (drop (need t.shape) d) ≡ reach ss (drop (need t.shape) d) + need s.shape = reach_more ss s (drop (need t.shape) d) in omega arith
+
+-- a message takes an item at least
+pub takes_one : (s : Shape) → 1 ≤ need s
+takes_one Single = omega arith
+takes_one (Pipeline offset count transaction) = chosen (λ k. 1 ≤ offset + k) (count == 0) 1 count (λ t. omega arith) (λ f. let n : count ≢ 0 = ne_from count 0 f in omega arith)
+
+-- no more items are dealt than the started messages take
+abbrev pub FewAreDealt : Ledger → Type 0
+FewAreDealt l = length l.dealt ≤ reach l.starts l.dealt
+
+-- items that come are dealt as far as there is room
+few_come : (l : Ledger) (more : List Data) → FewAreDealt l → FewAreDealt (items_came l more)
+few_come l more h =
+    let room : ℕ = reach l.starts l.dealt - length l.dealt in
+    let d : List Data = l.dealt ++ take room more in
+    let e : reach l.starts d ≡ reach l.starts l.dealt = reach_alike l.starts d l.dealt in
+    let f : length d ≡ length l.dealt + length (take room more) = length-append l.dealt (take room more) in
+    let g : length (take room more) ≡ min room (length more) = length-take room more in
+    omega arith
+
+-- so with any news
+few_hears : (l : Ledger) (news : News) → FewAreDealt l → FewAreDealt (with_news l news)
+few_hears l silence h = h
+few_hears l connected h = chosen FewAreDealt (is_over l) l (record l { up = true }) (λ t. h) (λ e. h)
+few_hears l (took count) h = chosen FewAreDealt l.up (record l { taken = l.taken ++ take count l.offer; offer = [] }) l (λ t. h) (λ e. h)
+few_hears l (came piece) h = chosen FewAreDealt l.up (bytes_came l piece) l (λ t. few_come (record l { rest = left_over (l.rest ++ piece) }) (items (l.rest ++ piece)) h) (λ e. h)
+few_hears l (failed f) h = h
+few_hears l shut h = h
+
+-- and with any line
+pub few_keeps : (l : Ledger) (x : Line) → FewAreDealt l → FewAreDealt (noted l x)
+few_keeps l asks h = h
+few_keeps l (hears news) h = few_hears l news h
+few_keeps l (begins s) h = let e : reach (l.starts ++ s ∷ []) l.dealt ≡ reach l.starts l.dealt + need s.shape = reach_more l.starts s l.dealt in omega arith
+few_keeps l (offers bytes) h = h
+few_keeps l (ends turn) h = h

@@ -1,0 +1,17 @@
+pub mod Plain
+pub mod Ledgers
+pub mod Streams
+pub mod Lines
+pub mod Opens
+pub mod Numbers
+pub mod Owes
+pub mod Tales
+pub mod Shutdown
+pub mod Sound
+pub mod Links
+pub mod Answers
+pub mod Ranks
+pub mod Next
+pub mod Equal
+pub mod Held
+pub mod Segments

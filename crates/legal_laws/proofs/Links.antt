@@ -1,0 +1,95 @@
+-- What a legal trace tells of each link is legal.
+use Rattle.std.proofs.Common.{◌≡◌, ◌≢◌, inl, inr, ℕ, ◌-◌, ◌≤◌, ◌==◌, nat_lt, Bool, true, false, ◌&&◌, not, List, [], ◌∷◌, length, ◌||◌, is_some, arith, refl, sym, ◌∙◌, subst, ap}
+use Rattle.containers.proofs.Tests.{chosen, eq_from, or_right, not_lt_from}
+use Rattle.driver_model.specs.declared.action.Action.{Action}
+use Rattle.driver_model.specs.declared.action.Action.TheVariants as action
+use Rattle.driver_model.specs.declared.action.Cause.TheVariants as cause
+use Rattle.driver_model.specs.declared.action.Owner.TheVariants as owner
+use Rattle.driver_model.specs.declared.config.Config.{Config}
+use Rattle.driver_model.specs.declared.event.Event.{Event}
+use Rattle.driver_model.specs.declared.event.EventKind.{EventKind}
+use Rattle.driver_model.specs.declared.event.EventKind.TheVariants as event
+use Rattle.driver_model.specs.declared.news.LinkFault.TheVariants as fault
+use Rattle.driver_model.specs.News.{silence, connected, took, came, failed, news}
+use Rattle.legal_trace.specs.Ledger.{Ledger, Line, asks, begins, offers, ends, is_over, IsWithin, MayNote, AllNoted}
+use Rattle.legal_trace.specs.Story.{bytes_of}
+use Rattle.legal_trace.specs.Book.{Book, blank_book, entered, lines_of, lines_of_each, if_mine, message_of}
+use Rattle.legal_trace.specs.Events.{is_bad_event, is_no_link}
+use Rattle.legal_trace.specs.Legal.{MayStand, MayStart, AllStand, Legal}
+use Rattle.legal_laws.specs.Links.{LinksAreLegal, TakesInOrder, lines_for}
+use Rattle.legal_laws.proofs.Ledgers.{all_append}
+use Rattle.legal_laws.proofs.Streams.{takes_in_order}
+use Rattle.legal_laws.proofs.Sound.{Sound, stays_sound, blank_is_sound}
+use Rattle.legal_laws.proofs.Owes.{has_bytes}
+
+-- a line that is told one link alone
+may_mine : (mine : Bool) (l : Ledger) (x : Line) → (mine ≡ true → MayNote l x) → AllNoted l (if_mine mine x)
+may_mine true l x may = (may refl, tt)
+may_mine false l x may = tt
+
+-- of two that don't both hold, where the first does
+not_the_second : (over less : Bool) → (not over && less) ≡ false → over ≡ false → less ≡ false
+not_the_second true less e f = cc
+not_the_second false less e f = e
+
+-- no more bytes are taken than were offered
+wrote_within : (b : Book) (l count : ℕ) → (is_no_link b l || (not (is_over (b.link l)) && nat_lt (length (b.link l).offer) count)) ≡ false → Sound b → (b.link l).up ≡ true → count ≤ length (b.link l).offer
+wrote_within b l count good h up =
+    let over : is_over (b.link l) ≡ false = ap is_some (h.up l up) in
+    not_lt_from (length (b.link l).offer) count (not_the_second (is_over (b.link l)) (nat_lt (length (b.link l).offer) count) (or_right (is_no_link b l) (not (is_over (b.link l)) && nat_lt (length (b.link l).offer) count) good) over)
+
+-- an event that isn't bad is within what was offered
+within : (b : Book) (l : ℕ) (kind : EventKind) → is_bad_event b kind ≡ false → Sound b → IsWithin (b.link l) (news l kind)
+unfolding is_bad_event
+within b l (event.Connected m) good h = chosen (IsWithin (b.link l)) (m == l) connected silence (λ t. tt) (λ f. tt)
+within b l (event.Wrote m count) good h =
+    chosen (IsWithin (b.link l)) (m == l) (took count) silence
+    (λ t. subst (λ j. (b.link j).up ≡ true → count ≤ length (b.link j).offer) (eq_from m l t) (wrote_within b m count good h))
+    (λ f. tt)
+within b l (event.Bytes m piece) good h = chosen (IsWithin (b.link l)) (m == l) (came piece) silence (λ t. tt) (λ f. tt)
+within b l (event.Ended m) good h = chosen (IsWithin (b.link l)) (m == l) (failed fault.Ended) silence (λ t. tt) (λ f. tt)
+within b l (event.ReadFault m kind) good h = chosen (IsWithin (b.link l)) (m == l) (failed (fault.Io kind)) silence (λ t. tt) (λ f. tt)
+within b l (event.WriteFault m kind) good h = chosen (IsWithin (b.link l)) (m == l) (failed (fault.Io kind)) silence (λ t. tt) (λ f. tt)
+within b l event.Shutdown good h = tt
+within b l (event.Submit what) good h = tt
+within b l (event.Cancel n) good h = tt
+
+-- a message that may start has bytes
+pub starts_with_bytes : (b : Book) (l k n count len : ℕ) → MayStart b l k n count len → Sound b → bytes_of (b.story n) ≢ []
+starts_with_bytes b l k n count len may h = elim may.moves.wanted [
+  | inl o ↦ has_bytes b (b.story n) (may.applied.answered n o)
+  | inr told ↦ (h.once n).told told.told may.moves.unstarted
+]
+
+-- the link of a connect was not asked for before
+connects_new : (b : Book) (l m : ℕ) → m ≡ b.links → Sound b → (m == l) ≡ true → (b.link l).asked ≡ false
+connects_new b l m next h t = let e : m ≡ l = eq_from m l t in (h.links.unasked l (omega arith)).0
+
+-- what an action that may stand tells of a link may stand there
+lines_may : (b : Book) (l : ℕ) (a : Action) → MayStand b a → Sound b → AllNoted (b.link l) (lines_of b l a)
+lines_may b l (action.Turn k (cause.Opening config word)) may h = tt
+lines_may b l (action.Turn k (cause.Event e)) may h = (within b l e.kind may.is_for.2 h, tt)
+lines_may b l (action.Connect m host port) may h = may_mine (m == l) (b.link l) asks (connects_new b l m may.next h)
+lines_may b l (action.Close m) may h = may_mine (m == l) (b.link l) (ends (b.turns - 1)) (λ t. subst (λ j. MayNote (b.link j) (ends (b.turns - 1))) (eq_from m l t) (may.why, may.ends))
+lines_may b l (action.Write m bytes) may h = may_mine (m == l) (b.link l) (offers bytes) (λ t. subst (λ j. MayNote (b.link j) (offers bytes)) (eq_from m l t) (may.up, may.answered, may.all, may.some))
+lines_may b l (action.Wait (owner.Try n round) kind) may h = tt
+lines_may b l (action.Start m k (owner.Try n round) count len) may h =
+    may_mine (m == l) (b.link l) (begins (message_of b (owner.Try n round)))
+    (λ t. (subst (λ j. (b.link j).up ≡ true) (sym may.1.on_its_link ∙ eq_from m l t) may.1.moves.up, starts_with_bytes b m k n count len may.1 h))
+lines_may b l action.Created may h = tt
+lines_may b l (action.Outcome n o) may h = tt
+
+-- so what actions tell that may stand, behind what is in a book
+each_may : (b : Book) (l : ℕ) (trace : List Action) → AllStand b trace → Sound b → AllNoted (b.link l) (lines_of_each b l trace)
+each_may b l [] all h = tt
+each_may b l (a ∷ more) all h =
+    all_append (b.link l) (lines_of b l a) (lines_of_each (entered b a) l more) (lines_may b l a all.0 h)
+    (each_may (entered b a) l more all.1 (stays_sound b a all.0 h))
+
+-- and what a legal trace tells
+pub links_are_legal : (config : Config) (word : ℕ) (events : List Event) (trace : List Action) → Legal config word events trace → LinksAreLegal trace
+links_are_legal config word events trace h l = each_may blank_book l trace h.each blank_is_sound
+
+-- so the bytes of each link are in order
+pub links_take_in_order : (config : Config) (word : ℕ) (events : List Event) (trace : List Action) → Legal config word events trace → (l : ℕ) → TakesInOrder (lines_for trace l)
+links_take_in_order config word events trace h l = takes_in_order (lines_for trace l) (links_are_legal config word events trace h l)

@@ -1,0 +1,170 @@
+-- Links and submissions are numbered in order.
+use Rattle.std.proofs.Common.{◌≡◌, ◌≢◌, ◌⊎◌, inl, inr, ℕ, ◌+◌, ◌-◌, ◌<◌, ◌≤◌, ◌==◌, nat_le, Bool, true, false, if◌then◌else◌, refl, sym, ◌∙◌, subst, arith}
+use Rattle.containers.proofs.Tests.{by_test, left_if, le_from, not_le_from, ne_test, ne_from, not_both}
+use Rattle.driver_model.specs.declared.action.Action.{Action}
+use Rattle.driver_model.specs.declared.action.Action.TheVariants as action
+use Rattle.driver_model.specs.declared.action.Cause.TheVariants as cause
+use Rattle.driver_model.specs.declared.action.Owner.TheVariants as owner
+use Rattle.driver_model.specs.declared.event.EventKind.{EventKind}
+use Rattle.driver_model.specs.declared.event.EventKind.TheVariants as event
+use Rattle.driver_model.specs.declared.news.LinkFault.TheVariants as fault
+use Rattle.driver_model.specs.News.{News, silence, connected, took, came, failed, news, for_link}
+use Rattle.driver_model.specs.declared.outcome.Outcome.{Outcome}
+use Rattle.legal_trace.specs.Ledger.{Ledger, asks, begins, offers, ends, noted_each}
+use Rattle.legal_trace.specs.Story.{Story, blank_story, is_open, is_awaited, handed_in, left, tried, waits, answered}
+use Rattle.legal_trace.specs.Book.{Book, entered, lines_of, if_mine, message_of, current, after_event, submitted_by}
+use Rattle.legal_trace.specs.Events.{is_bad_event}
+use Rattle.legal_trace.specs.Legal.{MayAnswer, MayTell, MayStand, IsTold, IsOpen, CanMove}
+use Rattle.legal_laws.proofs.Ledgers.{each_keeps, mine_keeps, IsAsked, asked_keeps, IsUnasked, unasked_hears}
+
+-- the links below that number were asked for, and no others
+pub record LinksAreNumbered (links : ℕ) (link : ℕ → Ledger) : Type 0 where
+  pub asked : (l : ℕ) → l < links → IsAsked (link l)
+  pub unasked : (l : ℕ) → links ≤ l → IsUnasked (link l)
+
+-- so it is in a book
+abbrev pub HasLinks : Book → Type 0
+HasLinks b = LinksAreNumbered b.links b.link
+
+-- news of other kinds is no connect, for one link or for none
+not_for_link : (mine : Bool) (x : News) → (x ≡ connected → ⊥) → for_link mine x ≡ connected → ⊥
+not_for_link true x other e = other e
+not_for_link false x other e = cc e
+
+-- the connect of a link that was not asked for can't succeed
+not_connected : (b : Book) (l : ℕ) (kind : EventKind) → b.links ≤ l → is_bad_event b kind ≡ false → news l kind ≡ connected → ⊥
+unfolding is_bad_event
+not_connected b l (event.Connected m) i good e =
+    let known : m < b.links = not_le_from b.links m good in
+    let other : (m == l) ≡ false = ne_test m l (omega arith) in
+    let quiet : silence ≡ connected = sym (left_if (m == l) connected silence other) ∙ e in cc quiet
+not_connected b l (event.Wrote m count) i good e = not_for_link (m == l) (took count) (λ x. cc x) e
+not_connected b l (event.Bytes m piece) i good e = not_for_link (m == l) (came piece) (λ x. cc x) e
+not_connected b l (event.Ended m) i good e = not_for_link (m == l) (failed fault.Ended) (λ x. cc x) e
+not_connected b l (event.ReadFault m kind) i good e = not_for_link (m == l) (failed (fault.Io kind)) (λ x. cc x) e
+not_connected b l (event.WriteFault m kind) i good e = not_for_link (m == l) (failed (fault.Io kind)) (λ x. cc x) e
+not_connected b l event.Shutdown i good e = cc e
+not_connected b l (event.Submit s) i good e = cc e
+not_connected b l (event.Cancel s) i good e = cc e
+
+-- a link that was not asked for is told nothing of its own
+unasked_kept : (b : Book) (l : ℕ) (a : Action) → MayStand b a → (entered b a).links ≤ l → IsUnasked (b.link l) → IsUnasked (noted_each (b.link l) (lines_of b l a))
+unasked_kept b l (action.Turn k (cause.Opening config word)) may i h = h
+unasked_kept b l (action.Turn k (cause.Event e)) may i h = unasked_hears (b.link l) (news l e.kind) (not_connected b l e.kind i may.is_for.2) h
+unasked_kept b l (action.Connect m host port) may i h =
+    let e : m ≡ b.links = may.next in
+    let other : (m == l) ≡ false = ne_test m l (omega arith) in
+    mine_keeps IsUnasked (m == l) (b.link l) asks (λ t. absurd (not_both (m == l) other t)) h
+unasked_kept b l (action.Close m) may i h = mine_keeps IsUnasked (m == l) (b.link l) (ends (b.turns - 1)) (λ t. (h.0, refl)) h
+unasked_kept b l (action.Write m bytes) may i h = mine_keeps IsUnasked (m == l) (b.link l) (offers bytes) (λ t. h) h
+unasked_kept b l (action.Wait who kind) may i h = h
+unasked_kept b l (action.Start m k who count len) may i h = mine_keeps IsUnasked (m == l) (b.link l) (begins (message_of b who)) (λ t. h) h
+unasked_kept b l action.Created may i h = h
+unasked_kept b l (action.Outcome n o) may i h = h
+
+-- links are never taken back
+links_grow : (b : Book) (a : Action) → b.links ≤ (entered b a).links
+links_grow b (action.Turn k (cause.Opening config word)) = omega arith
+links_grow b (action.Turn k (cause.Event e)) = omega arith
+links_grow b (action.Connect m host port) = omega arith
+links_grow b (action.Close m) = omega arith
+links_grow b (action.Write m bytes) = omega arith
+links_grow b (action.Wait who kind) = omega arith
+links_grow b (action.Start m k who count len) = omega arith
+links_grow b action.Created = omega arith
+links_grow b (action.Outcome n o) = omega arith
+
+-- what was asked for stays so, whatever is told
+asked_stays : (b : Book) (l : ℕ) (a : Action) → IsAsked (b.link l) → IsAsked (noted_each (b.link l) (lines_of b l a))
+asked_stays b l a h = each_keeps IsAsked asked_keeps (b.link l) (lines_of b l a) h
+
+-- and a connect asks for the next one
+asked_kept : (b : Book) (l : ℕ) (a : Action) → MayStand b a → HasLinks b → l < (entered b a).links → IsAsked ((entered b a).link l)
+asked_kept b l (action.Turn k (cause.Opening config word)) may h i = asked_stays b l (action.Turn k (cause.Opening config word)) (h.asked l i)
+asked_kept b l (action.Turn k (cause.Event e)) may h i = asked_stays b l (action.Turn k (cause.Event e)) (h.asked l i)
+asked_kept b l (action.Connect m host port) may h i =
+    let e : m ≡ b.links = may.next in
+    by_test (m == l) (IsAsked (noted_each (b.link l) (if_mine (m == l) asks)))
+    (λ t. subst (λ (x : Bool). IsAsked (noted_each (b.link l) (if_mine x asks))) (sym t) refl)
+    (λ f. let other : m ≢ l = ne_from m l f in mine_keeps IsAsked (m == l) (b.link l) asks (λ t. refl) (h.asked l (omega arith)))
+asked_kept b l (action.Close m) may h i = asked_stays b l (action.Close m) (h.asked l i)
+asked_kept b l (action.Write m bytes) may h i = asked_stays b l (action.Write m bytes) (h.asked l i)
+asked_kept b l (action.Wait (owner.Try n round) kind) may h i = asked_stays b l (action.Wait (owner.Try n round) kind) (h.asked l i)
+asked_kept b l (action.Start m k (owner.Try n round) count len) may h i = asked_stays b l (action.Start m k (owner.Try n round) count len) (h.asked l i)
+asked_kept b l action.Created may h i = asked_stays b l action.Created (h.asked l i)
+asked_kept b l (action.Outcome n o) may h i = asked_stays b l (action.Outcome n o) (h.asked l i)
+
+-- links stay numbered
+pub links_kept : (b : Book) (a : Action) → MayStand b a → HasLinks b → HasLinks (entered b a)
+links_kept b a may h = record {
+  asked = λ l i. asked_kept b l a may h i;
+  unasked = λ l i. unasked_kept b l a may i (h.unasked l (omega (arith, links_grow b a)));
+}
+
+-- a link that is up is numbered, and was asked for
+pub up_is_numbered : (b : Book) (l : ℕ) → HasLinks b → (b.link l).up ≡ true → l < b.links
+up_is_numbered b l h up = by_test (nat_le b.links l) (l < b.links)
+    (λ t. absurd (not_both (b.link l).up (h.unasked l (le_from b.links l t)).1 up))
+    (λ f. not_le_from b.links l f)
+
+-- and asked for
+pub up_is_asked : (b : Book) (l : ℕ) → HasLinks b → (b.link l).up ≡ true → IsAsked (b.link l)
+up_is_asked b l h up = h.asked l (up_is_numbered b l h up)
+
+-- the submissions from that number on were not handed in
+abbrev pub StoriesAreNumbered : ℕ → (ℕ → Story) → Type 0
+StoriesAreNumbered submissions story = (n : ℕ) → submissions ≤ n → story n ≡ blank_story
+
+-- so it is in a book
+abbrev pub HasStories : Book → Type 0
+HasStories b = StoriesAreNumbered b.submissions b.story
+
+-- a submission that is open, or was told, is numbered
+pub open_is_numbered : (b : Book) (n : ℕ) → HasStories b → IsOpen b n → n < b.submissions
+open_is_numbered b n h o = by_test (nat_le b.submissions n) (n < b.submissions)
+    (λ t. absurd (let e : false ≡ true = subst (λ (s : Story). is_open s ≡ true) (h n (le_from b.submissions n t)) o in cc e))
+    (λ f. not_le_from b.submissions n f)
+
+-- so is one that was told
+told_is_numbered : (b : Book) (n : ℕ) → HasStories b → IsTold (b.story n) → n < b.submissions
+told_is_numbered b n h o = by_test (nat_le b.submissions n) (n < b.submissions)
+    (λ t. absurd (let e : true ≡ false = subst (λ (s : Story). is_awaited s ≡ false) (h n (le_from b.submissions n t)) o.unawaited in cc e))
+    (λ f. not_le_from b.submissions n f)
+
+-- so is one whose message may start
+mover_is_numbered : (b : Book) (n : ℕ) → HasStories b → CanMove b n → n < b.submissions
+mover_is_numbered b n h moves = elim moves.wanted [ inl o ↦ open_is_numbered b n h o | inr told ↦ told_is_numbered b n h told ]
+
+-- what happens to a numbered submission leaves the others blank
+others_blank : (b : Book) (m n : ℕ) (changed : Story) → HasStories b → b.submissions ≤ n → m < b.submissions → (if m == n then changed else b.story n) ≡ blank_story
+others_blank b m n changed h i k = left_if (m == n) changed (b.story n) (ne_test m n (omega arith)) ∙ h n i
+
+-- an event that isn't bad is nothing to a submission that was not handed in
+event_leaves_blank : (b : Book) (n : ℕ) (kind : EventKind) → is_bad_event b kind ≡ false → HasStories b → b.submissions + submitted_by kind ≤ n → after_event b n kind ≡ blank_story
+unfolding is_bad_event
+event_leaves_blank b n (event.Submit what) good h i = left_if (b.submissions == n) (handed_in (b.story n) what b.shut (current b)) (b.story n) (ne_test b.submissions n (omega arith)) ∙ h n (omega arith)
+event_leaves_blank b n (event.Cancel m) good h i = others_blank b m n (left (b.story n)) h (omega arith) (not_le_from b.submissions m good)
+event_leaves_blank b n (event.Connected l) good h i = h n (omega arith)
+event_leaves_blank b n (event.Wrote l count) good h i = h n (omega arith)
+event_leaves_blank b n (event.Bytes l piece) good h i = h n (omega arith)
+event_leaves_blank b n (event.Ended l) good h i = h n (omega arith)
+event_leaves_blank b n (event.ReadFault l kind) good h i = h n (omega arith)
+event_leaves_blank b n (event.WriteFault l kind) good h i = h n (omega arith)
+event_leaves_blank b n event.Shutdown good h i = h n (omega arith)
+
+-- an outcome is of a numbered submission
+outcome_is_numbered : (b : Book) (n : ℕ) (o : Outcome) → HasStories b → MayAnswer b n o ⊎ MayTell b n o → n < b.submissions
+outcome_is_numbered b n o h (inl owed) = open_is_numbered b n h owed.asked
+outcome_is_numbered b n o h (inr told) = open_is_numbered b n h told.asked
+
+-- submissions stay numbered
+pub stories_kept : (b : Book) (a : Action) → MayStand b a → HasStories b → HasStories (entered b a)
+stories_kept b (action.Turn k (cause.Opening config word)) may h n i = h n i
+stories_kept b (action.Turn k (cause.Event e)) may h n i = event_leaves_blank b n e.kind may.is_for.2 h i
+stories_kept b (action.Connect l host port) may h n i = h n i
+stories_kept b (action.Close l) may h n i = h n i
+stories_kept b (action.Write l bytes) may h n i = h n i
+stories_kept b (action.Wait (owner.Try m round) kind) may h n i = others_blank b m n (waits (b.story n) kind) h i (open_is_numbered b m h may.1.asked)
+stories_kept b (action.Start l k (owner.Try m round) count len) may h n i = others_blank b m n (tried (b.story n) l k) h i (mover_is_numbered b m h may.1.moves)
+stories_kept b action.Created may h n i = h n i
+stories_kept b (action.Outcome m o) may h n i = others_blank b m n (answered (b.story n) o) h i (outcome_is_numbered b m o h may)

@@ -1,0 +1,105 @@
+-- When a submission is owed nothing, and that it stays so while messages start.
+use Rattle.std.proofs.Common.{◌≡◌, ◌≢◌, ℕ, ◌+◌, ◌<◌, ◌≤◌, ◌==◌, nat_le, Bool, true, false, [], ◌∷◌, ◌++◌, length, take, Option, Some, None, if◌then◌else◌, refl, ◌∙◌, ap, arith, length-append}
+use Rattle.std.proofs.lemmas.List.{take-append-le, take_all}
+use Rattle.containers.proofs.Tests.{not_le_test, left_if, not_both, eq_test}
+use Rattle.redis_error.specs.declared.redis_error.RedisError.TheVariants as error
+use Rattle.driver_model.specs.declared.outcome.Outcome.{Outcome}
+use Rattle.driver_model.specs.declared.outcome.Outcome.TheVariants as outcome
+use Rattle.driver_model.specs.declared.outcome.Shape.{Shape}
+use Rattle.driver_model.specs.Shape.{need, outcome_of, verdict}
+use Rattle.legal_trace.specs.Ledger.{Ledger, Start, End, begins, noted, reach}
+use Rattle.legal_trace.specs.Story.{Story, Try, bytes_of, shape, last_of}
+use Rattle.legal_trace.specs.Owed.{owed_to_try, owed_to_message, owed_unstarted, cut_off_if, is_full, cut}
+use Rattle.legal_trace.specs.Book.{Book}
+use Rattle.legal_laws.proofs.Ledgers.{FewAreDealt, reach_more, takes_one}
+
+-- what a story is owed over a book
+abbrev pub owed_story : Book → Story → Option Outcome
+owed_story b s =
+    if s.late then Some (outcome.Fault error.Closed)
+    else if length (bytes_of s) == 0 then Some (outcome.Fault error.EmptyCommand)
+    else owed_to_try b s (last_of s.tries)
+
+-- so it is owed nothing: it came before the shutdown, has bytes, and its message is owed nothing
+pub record OwedNothing (b : Book) (s : Story) : Type 0 where
+  pub in_time : s.late ≡ false
+  pub with_bytes : (length (bytes_of s) == 0) ≡ false
+  pub by_message : owed_to_try b s (last_of s.tries) ≡ None
+
+-- a choice between two outcomes and a third that comes to nothing
+three_ways : (late empty : Bool) (x y : Outcome) (o : Option Outcome) → (if late then Some x else if empty then Some y else o) ≡ None → (late ≡ false) × (empty ≡ false) × (o ≡ None)
+three_ways true empty x y o e = cc
+three_ways false true x y o e = cc
+three_ways false false x y o e = (refl, refl, e)
+
+-- where it is owed nothing, for each of these
+pub nothing_is_owed : (b : Book) (s : Story) → owed_story b s ≡ None → OwedNothing b s
+nothing_is_owed b s e =
+    let p : (s.late ≡ false) × ((length (bytes_of s) == 0) ≡ false) × (owed_to_try b s (last_of s.tries) ≡ None) = three_ways s.late (length (bytes_of s) == 0) (outcome.Fault error.Closed) (outcome.Fault error.EmptyCommand) (owed_to_try b s (last_of s.tries)) e in
+    record { in_time = p.0; with_bytes = p.1; by_message = p.2 }
+
+-- and where each of these, it is owed nothing
+pub owes_nothing : (b : Book) (s : Story) → OwedNothing b s → owed_story b s ≡ None
+owes_nothing b s h =
+    left_if s.late (Some (outcome.Fault error.Closed)) (if length (bytes_of s) == 0 then Some (outcome.Fault error.EmptyCommand) else owed_to_try b s (last_of s.tries)) h.in_time
+    ∙ (left_if (length (bytes_of s) == 0) (Some (outcome.Fault error.EmptyCommand)) (owed_to_try b s (last_of s.tries)) h.with_bytes ∙ h.by_message)
+
+-- a submission that is owed nothing has bytes
+pub has_bytes : (b : Book) (s : Story) → owed_story b s ≡ None → bytes_of s ≢ []
+has_bytes b s e none = not_both (length (bytes_of s) == 0) (nothing_is_owed b s e).with_bytes (eq_test (length (bytes_of s)) 0 (ap length none))
+
+-- where a submission without a message is owed nothing, its link has not ended
+not_over : (o : Option End) → owed_unstarted o ≡ None → o ≡ None
+not_over None e = refl
+not_over (Some end) e = cc
+
+-- its message is owed nothing over another book, where the links stay so
+abbrev pub StayOpen : Book → Book → Story → Type 0
+StayOpen b c s = ((b.link s.link).end ≡ None → (c.link s.link).end ≡ None) × ((t : Try) → last_of s.tries ≡ Some t → owed_to_message (b.link t.link) t.message (shape s) ≡ None → owed_to_message (c.link t.link) t.message (shape s) ≡ None)
+
+-- by what it started last
+try_again : (b c : Book) (s : Story) (o : Option Try) → ((b.link s.link).end ≡ None → (c.link s.link).end ≡ None) → ((t : Try) → o ≡ Some t → owed_to_message (b.link t.link) t.message (shape s) ≡ None → owed_to_message (c.link t.link) t.message (shape s) ≡ None) → owed_to_try b s o ≡ None → owed_to_try c s o ≡ None
+try_again b c s None end same e = ap owed_unstarted (end (not_over (b.link s.link).end e))
+try_again b c s (Some t) end same e = same t refl e
+
+-- so is the story
+pub owed_again : (b c : Book) (s : Story) → StayOpen b c s → owed_story b s ≡ None → owed_story c s ≡ None
+owed_again b c s stay e =
+    let p : OwedNothing b s = nothing_is_owed b s e in
+    owes_nothing c s (record { in_time = p.in_time; with_bytes = p.with_bytes; by_message = try_again b c s (last_of s.tries) stay.0 stay.1 p.by_message })
+
+-- with a message more, where that is owed nothing
+pub owed_by_last : (b c : Book) (s t : Story) → t.late ≡ s.late → bytes_of t ≡ bytes_of s → owed_to_try c t (last_of t.tries) ≡ None → owed_story b s ≡ None → owed_story c t ≡ None
+owed_by_last b c s t late bytes last e =
+    let p : OwedNothing b s = nothing_is_owed b s e in
+    owes_nothing c t (record { in_time = late ∙ p.in_time; with_bytes = ap (λ x. length x == 0) bytes ∙ p.with_bytes; by_message = last })
+
+-- what isn't full doesn't become so
+full_alike : (full now : Bool) (x y : Outcome) (o : Option Outcome) → now ≡ full → (if full then Some x else o) ≡ None → (if now then Some y else o) ≡ None
+full_alike true now x y o e n = cc
+full_alike false now x y o e n = left_if now (Some y) o e ∙ n
+
+-- messages that started before stay as full as they are
+pub full_stays : (l : Ledger) (s : Start) (k : ℕ) → k < length l.starts → is_full (noted l (begins s)) k ≡ is_full l k
+full_stays l s k i = ap (λ ss. nat_le (reach ss l.dealt) (length l.dealt)) (take-append-le (k + 1) l.starts (s ∷ []) (omega arith))
+
+-- so they are owed nothing still
+pub begins_keeps : (l : Ledger) (s : Start) (k : ℕ) (of_shape : Shape) → k < length l.starts → owed_to_message l k of_shape ≡ None → owed_to_message (noted l (begins s)) k of_shape ≡ None
+begins_keeps l s k of_shape i e =
+    full_alike (is_full l k) (is_full (noted l (begins s)) k) (outcome_of (verdict of_shape (cut l k of_shape))) (outcome_of (verdict of_shape (cut (noted l (begins s)) k of_shape))) (cut_off_if l.end k of_shape) (full_stays l s k i) e
+
+-- and a new one isn't full
+pub new_is_not_full : (l : Ledger) (s : Start) → FewAreDealt l → is_full (noted l (begins s)) (length l.starts) ≡ false
+new_is_not_full l s few =
+    let long : length (l.starts ++ s ∷ []) ≡ length l.starts + 1 = length-append l.starts (s ∷ []) in
+    let whole : take (length l.starts + 1) (l.starts ++ s ∷ []) ≡ l.starts ++ s ∷ [] = take_all (length l.starts + 1) (l.starts ++ s ∷ []) (omega arith) in
+    let all : reach (take (length l.starts + 1) (l.starts ++ s ∷ [])) l.dealt ≡ reach l.starts l.dealt + need s.shape = ap (λ ss. reach ss l.dealt) whole ∙ reach_more l.starts s l.dealt in
+    let one : 1 ≤ need s.shape = takes_one s.shape in
+    not_le_test (reach (take (length l.starts + 1) (l.starts ++ s ∷ [])) l.dealt) (length l.dealt) (omega arith)
+
+-- so it is owed nothing where its link has not ended
+pub new_is_owed_nothing : (l : Ledger) (s : Start) (k : ℕ) (of_shape : Shape) → FewAreDealt l → l.end ≡ None → k ≡ length l.starts → owed_to_message (noted l (begins s)) k of_shape ≡ None
+new_is_owed_nothing l s k of_shape few end e =
+    left_if (is_full (noted l (begins s)) k) (Some (outcome_of (verdict of_shape (cut (noted l (begins s)) k of_shape)))) (cut_off_if l.end k of_shape)
+    (ap (is_full (noted l (begins s))) e ∙ new_is_not_full l s few)
+    ∙ ap (λ x. cut_off_if x k of_shape) end

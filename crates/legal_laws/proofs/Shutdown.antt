@@ -1,0 +1,72 @@
+-- What every link hears of a shutdown.
+use Rattle.std.proofs.Common.{◌≡◌, ℕ, ◌-◌, ◌==◌, Bool, true, false, ◌&&◌, ◌||◌, not, Option, Some, None, is_some, if◌then◌else◌, refl, sym, ◌∙◌, subst}
+use Rattle.containers.proofs.Tests.{not_both}
+use Rattle.driver_model.specs.declared.action.Action.{Action}
+use Rattle.driver_model.specs.declared.action.Action.TheVariants as action
+use Rattle.driver_model.specs.declared.action.Cause.TheVariants as cause
+use Rattle.driver_model.specs.declared.action.Owner.TheVariants as owner
+use Rattle.driver_model.specs.declared.event.EventKind.{EventKind}
+use Rattle.driver_model.specs.declared.event.EventKind.TheVariants as event
+use Rattle.driver_model.specs.News.{News, shut, news}
+use Rattle.legal_trace.specs.Ledger.{Ledger, End, by_shutdown, hears, begins, offers, ends, noted, ending, ending_up, ending_asked}
+use Rattle.legal_trace.specs.Book.{Book, entered, message_of, shuts}
+use Rattle.legal_trace.specs.Legal.{MayStand, NoneEnds}
+use Rattle.legal_laws.proofs.Ledgers.{mine_keeps, hears_past}
+use Rattle.legal_laws.proofs.Plain.{not_none}
+use Rattle.legal_laws.proofs.Opens.{IsOpening}
+
+-- a link that was asked for and has not ended was told of the shutdown by the turn that runs
+abbrev pub HearsShut : Ledger → Type 0
+HearsShut l = l.asked ≡ true → l.end ≡ None → l.heard ≡ shut
+
+-- where everything was shut down, so it is for each link
+abbrev pub ShutIsHeard : Bool → (ℕ → Ledger) → Type 0
+ShutIsHeard is_shut link = is_shut ≡ true → (l : ℕ) → HearsShut (link l)
+
+-- whether it is up or asked for, the shutdown ends it
+ends_by_shutdown : (up asked : Bool) (end : Option End) (l : Ledger) → asked ≡ true → end ≡ None → (if up then ending_up l shut else (if asked && not (is_some end) then ending_asked shut else None)) ≡ Some by_shutdown
+ends_by_shutdown true asked end l a e = refl
+ends_by_shutdown false true None l a e = refl
+ends_by_shutdown false true (Some end) l a e = cc
+ends_by_shutdown false false end l a e = cc
+
+-- it must end
+pub shut_ends : (l : Ledger) → l.asked ≡ true → l.end ≡ None → l.heard ≡ shut → ending l ≡ Some by_shutdown
+shut_ends l a e h = subst (λ (x : News). (if l.up then ending_up l x else (if l.asked && not (is_some l.end) then ending_asked x else None)) ≡ Some by_shutdown) (sym h) (ends_by_shutdown l.up l.asked l.end l a e)
+
+-- so that once all that must end have ended, no link is left
+pub none_left : (b : Book) → NoneEnds b → ShutIsHeard b.shut b.link → b.shut ≡ true → (l : ℕ) → (b.link l).asked ≡ true → (b.link l).end ≡ None → ⊥
+none_left b none h s l a e = not_none (ending (b.link l)) by_shutdown (none l) (shut_ends (b.link l) a e (h s l a e))
+
+-- what doesn't shut down leaves it as it was
+was_shut : (s : Bool) → (s || false) ≡ true → s ≡ true
+was_shut true e = refl
+was_shut false e = e
+
+-- and none comes by news
+still_none : (b : Book) (x : News) (l : ℕ) → NoneEnds b → ShutIsHeard b.shut b.link → (b.shut || false) ≡ true → HearsShut (noted (b.link l) (hears x))
+still_none b x l none h s a e = absurd (none_left b none h (was_shut b.shut s) l (sym (hears_past (b.link l) x).asked ∙ a) (sym (hears_past (b.link l) x).end ∙ e))
+
+-- each event leaves it so
+turn_heard : (b : Book) (kind : EventKind) → NoneEnds b → ShutIsHeard b.shut b.link → ShutIsHeard (b.shut || shuts kind) (λ l. noted (b.link l) (hears (news l kind)))
+turn_heard b event.Shutdown none h = λ s l a e. refl
+turn_heard b (event.Submit what) none h = λ s l. still_none b (news l (event.Submit what)) l none h s
+turn_heard b (event.Cancel n) none h = λ s l. still_none b (news l (event.Cancel n)) l none h s
+turn_heard b (event.Connected m) none h = λ s l. still_none b (news l (event.Connected m)) l none h s
+turn_heard b (event.Wrote m count) none h = λ s l. still_none b (news l (event.Wrote m count)) l none h s
+turn_heard b (event.Bytes m piece) none h = λ s l. still_none b (news l (event.Bytes m piece)) l none h s
+turn_heard b (event.Ended m) none h = λ s l. still_none b (news l (event.Ended m)) l none h s
+turn_heard b (event.ReadFault m kind) none h = λ s l. still_none b (news l (event.ReadFault m kind)) l none h s
+turn_heard b (event.WriteFault m kind) none h = λ s l. still_none b (news l (event.WriteFault m kind)) l none h s
+
+-- it stays so
+pub shut_kept : (b : Book) (a : Action) → MayStand b a → IsOpening b → ShutIsHeard b.shut b.link → ShutIsHeard (entered b a).shut (entered b a).link
+shut_kept b (action.Turn k (cause.Opening config word)) may opening h = h
+shut_kept b (action.Turn k (cause.Event e)) may opening h = turn_heard b e.kind may.is_for.1.written.moved.applied.ended h
+shut_kept b (action.Connect m host port) may opening h = λ s. absurd (not_both b.shut (opening.not_shut may.first) s)
+shut_kept b (action.Close m) may opening h = λ s l. mine_keeps HearsShut (m == l) (b.link l) (ends (b.turns - 1)) (λ t a e. cc) (h s l)
+shut_kept b (action.Write m bytes) may opening h = λ s l. mine_keeps HearsShut (m == l) (b.link l) (offers bytes) (λ t. h s l) (h s l)
+shut_kept b (action.Wait (owner.Try n round) kind) may opening h = h
+shut_kept b (action.Start m k (owner.Try n round) count len) may opening h = λ s l. mine_keeps HearsShut (m == l) (b.link l) (begins (message_of b (owner.Try n round))) (λ t. h s l) (h s l)
+shut_kept b action.Created may opening h = h
+shut_kept b (action.Outcome n o) may opening h = h

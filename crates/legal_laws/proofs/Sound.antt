@@ -1,0 +1,58 @@
+-- What holds of the book at each place of a legal trace.
+use Rattle.std.proofs.Common.{ℕ, List, [], ◌∷◌, refl, arith}
+use Rattle.driver_model.specs.declared.action.Action.{Action}
+use Rattle.legal_trace.specs.Book.{Book, blank_book, book, entered, entered_each, lines_of}
+use Rattle.legal_trace.specs.Legal.{MayStand, AllStand}
+use Rattle.legal_laws.proofs.Ledgers.{each_keeps, UpIsNotOver, up_keeps, FewAreDealt, few_keeps}
+use Rattle.legal_laws.proofs.Opens.{IsOpening, opening_kept}
+use Rattle.legal_laws.proofs.Numbers.{HasLinks, links_kept, HasStories, stories_kept}
+use Rattle.legal_laws.proofs.Tales.{AnsweredOnce, once_kept, TriesAreStarted, starts_kept}
+use Rattle.legal_laws.proofs.Shutdown.{ShutIsHeard, shut_kept}
+
+-- how it opens; the numbers of links and submissions; that links which are up have not ended, and are not dealt too many
+-- items; what submissions were answered, and which messages they started; and what links hear of a shutdown
+pub record Sound (b : Book) : Type 0 where
+  pub opens : IsOpening b
+  pub links : HasLinks b
+  pub stories : HasStories b
+  pub up : (l : ℕ) → UpIsNotOver (b.link l)
+  pub few : (l : ℕ) → FewAreDealt (b.link l)
+  pub once : (n : ℕ) → AnsweredOnce (b.story n)
+  pub starts : (n : ℕ) → TriesAreStarted b.link (b.story n)
+  pub shut : ShutIsHeard b.shut b.link
+
+-- each action that may stand keeps it
+pub stays_sound : (b : Book) (a : Action) → MayStand b a → Sound b → Sound (entered b a)
+stays_sound b a may h = record {
+  opens = opening_kept b a may h.opens;
+  links = links_kept b a may h.links;
+  stories = stories_kept b a may h.stories;
+  up = λ l. each_keeps UpIsNotOver up_keeps (b.link l) (lines_of b l a) (h.up l);
+  few = λ l. each_keeps FewAreDealt few_keeps (b.link l) (lines_of b l a) (h.few l);
+  once = λ n. once_kept b a may h.stories n (h.once n);
+  starts = λ n. starts_kept b a may n (h.starts n);
+  shut = shut_kept b a may h.opens h.shut;
+}
+
+-- the blank book has it
+pub blank_is_sound : Sound blank_book
+blank_is_sound = record {
+  opens = record { no_links = λ e. refl; not_running = λ e. refl; no_submissions = λ e. refl; not_shut = λ e. refl };
+  links = record { asked = λ l i. absurd (omega arith); unasked = λ l i. (refl, refl) };
+  stories = λ n i. refl;
+  up = λ l u. refl;
+  few = λ l. omega arith;
+  once = λ n. record { once = omega arith; told = λ e t. absurd (cc e) };
+  starts = λ n t e. absurd (cc e);
+  shut = λ s l. absurd (cc s);
+}
+
+-- and so do many
+pub stay_sound : (b : Book) (front : List Action) → AllStand b front → Sound b → Sound (entered_each b front)
+stay_sound b [] all h = h
+stay_sound b (a ∷ more) all h = stay_sound (entered b a) more all.1 (stays_sound b a all.0 h)
+
+-- so does the book of actions that may stand
+pub sound_behind : (front : List Action) → AllStand blank_book front → Sound (book front)
+unfolding book
+sound_behind front all = stay_sound blank_book front all blank_is_sound

@@ -1,0 +1,159 @@
+-- What each submission of a legal trace was answered, and which messages it started.
+use Rattle.std.proofs.Common.{◌≡◌, ◌≢◌, ◌⊎◌, inl, inr, ℕ, ◌+◌, ◌≤◌, ◌==◌, Bool, true, false, List, [], ◌∷◌, ◌++◌, length, Option, Some, None, if◌then◌else◌, refl, sym, ◌∙◌, subst, ap, arith, length-append}
+use Rattle.std.proofs.lemmas.List.{nil_from_length}
+use Rattle.std.proofs.lemmas.Bool.Decides.{nat_tests}
+use Rattle.containers.proofs.Tests.{chosen, eq_from, eq_test, if_true}
+use Rattle.resp_value.specs.declared.value.Value.TheVariants.{Nil}
+use Rattle.redis_error.specs.declared.redis_error.RedisError.{RedisError}
+use Rattle.driver_model.specs.Request.{packed}
+use Rattle.redis_error.specs.declared.redis_error.RedisError.TheVariants as error
+use Rattle.driver_model.specs.declared.action.Action.{Action}
+use Rattle.driver_model.specs.declared.action.Action.TheVariants as action
+use Rattle.driver_model.specs.declared.action.Cause.TheVariants as cause
+use Rattle.driver_model.specs.declared.action.Owner.TheVariants as owner
+use Rattle.driver_model.specs.declared.event.EventKind.{EventKind}
+use Rattle.driver_model.specs.declared.event.EventKind.TheVariants as event
+use Rattle.driver_model.specs.declared.outcome.Outcome.{Outcome}
+use Rattle.driver_model.specs.declared.outcome.Outcome.TheVariants as outcome
+use Rattle.legal_trace.specs.Ledger.{Ledger, Line, End, begins, noted_each}
+use Rattle.legal_trace.specs.Story.{Story, Try, is_open, handed_in, left, tried, waits, answered, last_of, bytes_of}
+use Rattle.legal_trace.specs.Owed.{owed, owed_to_try, owed_unstarted}
+use Rattle.legal_trace.specs.Book.{Book, entered, lines_of, message_of, current, after_event}
+use Rattle.legal_trace.specs.Legal.{MayAnswer, MayTell, MayStand, IsOpen}
+use Rattle.legal_laws.proofs.Ledgers.{each_keeps, HasStarted, started_keeps}
+use Rattle.legal_laws.proofs.Owes.{has_bytes}
+use Rattle.legal_laws.proofs.Plain.{not_empty, same_some}
+use Rattle.legal_laws.proofs.Numbers.{HasStories}
+
+-- one that started no message is owed a fault, if anything
+a_fault_only : (late empty : Bool) (x y : RedisError) (end : Option End) (o : Outcome) → (if late then Some (outcome.Fault x) else if empty then Some (outcome.Fault y) else owed_unstarted end) ≡ Some o → o ≡ outcome.One Nil → ⊥
+a_fault_only true empty x y end o e n = cc
+a_fault_only false true x y end o e n = cc
+a_fault_only false false x y None o e n = cc
+a_fault_only false false x y (Some end) o e n = cc
+
+-- so it isn't owed Nil
+pub unstarted_gets_a_fault : (b : Book) (n : ℕ) (o : Outcome) → (b.story n).tries ≡ [] → owed b n ≡ Some o → o ≡ outcome.One Nil → ⊥
+unstarted_gets_a_fault b n o none owes =
+    a_fault_only (b.story n).late (length (bytes_of (b.story n)) == 0) error.Closed error.EmptyCommand (b.link (b.story n).link).end o
+    (subst (λ (ts : List Try). (if (b.story n).late then Some (outcome.Fault error.Closed) else if length (bytes_of (b.story n)) == 0 then Some (outcome.Fault error.EmptyCommand) else owed_to_try b (b.story n) (last_of ts)) ≡ Some o) none owes)
+
+-- it has one outcome at most, and bytes where it was told Nil and has not started
+pub record IsAnsweredOnce (outcomes : List Outcome) (tries : List Try) (bytes : List ℕ) : Type 0 where
+  pub once : length outcomes ≤ 1
+  pub told : outcomes ≡ outcome.One Nil ∷ [] → tries ≡ [] → bytes ≢ []
+
+-- so it is of a story
+abbrev pub AnsweredOnce : Story → Type 0
+AnsweredOnce s = IsAnsweredOnce s.outcomes s.tries (bytes_of s)
+
+-- lists of one outcome that are equal have the same
+same_outcome : (o p : Outcome) → o ∷ [] ≡ p ∷ [] → o ≡ p
+same_outcome o p e = cc
+
+-- an open submission has no outcome
+pub open_has_none : (s : Story) → is_open s ≡ true → s.outcomes ≡ []
+open_has_none s h = nil_from_length s.outcomes (grind (nat_tests, arith, h))
+
+-- without outcomes
+unanswered : (os : List Outcome) (tries : List Try) (bytes : List ℕ) → os ≡ [] → IsAnsweredOnce os tries bytes
+unanswered os tries bytes none = record { once = omega (arith, ap length none); told = λ e t. absurd (let x : ◌≡◌ {A = List Outcome} [] (outcome.One Nil ∷ []) = sym none ∙ e in cc x) }
+
+-- with the first
+first_outcome : (b : Book) (n : ℕ) (o : Outcome) → IsOpen b n → ((b.story n).tries ≡ [] → o ≡ outcome.One Nil → bytes_of (b.story n) ≢ []) → AnsweredOnce (answered (b.story n) o)
+first_outcome b n o asked bytes =
+    let none : (b.story n).outcomes ≡ [] = open_has_none (b.story n) asked in
+    let one : (b.story n).outcomes ++ o ∷ [] ≡ o ∷ [] = ap (λ (os : List Outcome). os ++ o ∷ []) none in
+    record { once = omega (arith, ap length one); told = λ e t. bytes t (same_outcome o (outcome.One Nil) (sym one ∙ e)) }
+
+-- so with each outcome that may stand
+outcome_once : (b : Book) (n : ℕ) (o : Outcome) → MayAnswer b n o ⊎ MayTell b n o → AnsweredOnce (answered (b.story n) o)
+outcome_once b n o (inl owes) = first_outcome b n o owes.asked (λ t e. absurd (unstarted_gets_a_fault b n o t owes.owes e))
+outcome_once b n o (inr told) = first_outcome b n o told.asked (λ t e. has_bytes b (b.story n) (told.applied.answered n told.asked))
+
+-- events answer none
+event_once : (b : Book) (n : ℕ) (kind : EventKind) → HasStories b → AnsweredOnce (b.story n) → AnsweredOnce (after_event b n kind)
+event_once b n (event.Submit what) blank h =
+    chosen AnsweredOnce (b.submissions == n) (handed_in (b.story n) what b.shut (current b)) (b.story n)
+    (λ t. let e : b.submissions ≡ n = eq_from b.submissions n t in unanswered (b.story n).outcomes (b.story n).tries (packed what) (ap (λ (s : Story). s.outcomes) (blank n (omega arith))))
+    (λ f. h)
+event_once b n (event.Cancel m) blank h = chosen AnsweredOnce (m == n) (left (b.story n)) (b.story n) (λ t. chosen AnsweredOnce (is_open (b.story n)) (record (b.story n) { cancelled = true; waiting = None }) (b.story n) (λ o. h) (λ o. h)) (λ f. h)
+event_once b n (event.Connected l) blank h = h
+event_once b n (event.Wrote l count) blank h = h
+event_once b n (event.Bytes l piece) blank h = h
+event_once b n (event.Ended l) blank h = h
+event_once b n (event.ReadFault l kind) blank h = h
+event_once b n (event.WriteFault l kind) blank h = h
+event_once b n event.Shutdown blank h = h
+
+-- a start answers none
+started_once : (s : Story) (l k : ℕ) → AnsweredOnce s → AnsweredOnce (tried s l k)
+started_once s l k h = record { once = h.once; told = λ e t. absurd (not_empty s.tries (record { link = l; message = k }) t) }
+
+-- each stays so
+pub once_kept : (b : Book) (a : Action) → MayStand b a → HasStories b → (n : ℕ) → AnsweredOnce (b.story n) → AnsweredOnce ((entered b a).story n)
+once_kept b (action.Turn k (cause.Opening config word)) may blank n h = h
+once_kept b (action.Turn k (cause.Event e)) may blank n h = event_once b n e.kind blank h
+once_kept b (action.Connect l host port) may blank n h = h
+once_kept b (action.Close l) may blank n h = h
+once_kept b (action.Write l bytes) may blank n h = h
+once_kept b (action.Wait (owner.Try m round) kind) may blank n h = chosen AnsweredOnce (m == n) (waits (b.story n) kind) (b.story n) (λ t. h) (λ f. h)
+once_kept b (action.Start l k (owner.Try m round) count len) may blank n h = chosen AnsweredOnce (m == n) (tried (b.story n) l k) (b.story n) (λ t. started_once (b.story n) l k h) (λ f. h)
+once_kept b action.Created may blank n h = h
+once_kept b (action.Outcome m o) may blank n h =
+    chosen AnsweredOnce (m == n) (answered (b.story n) o) (b.story n)
+    (λ t. subst (λ j. AnsweredOnce (answered (b.story j) o)) (eq_from m n t) (outcome_once b m o may))
+    (λ f. h)
+
+-- each message that it started last stands among those of its link
+abbrev pub TriesAreStarted : (ℕ → Ledger) → Story → Type 0
+TriesAreStarted link s = (t : Try) → last_of s.tries ≡ Some t → HasStarted t.message (link t.link)
+
+-- links go on
+links_go_on : (b : Book) (a : Action) (s : Story) → TriesAreStarted b.link s → TriesAreStarted (entered b a).link s
+links_go_on b a s h t e = each_keeps (HasStarted t.message) (started_keeps t.message) (b.link t.link) (lines_of b t.link a) (h t e)
+
+-- the last is what stands behind
+pub last_behind : (ts : List Try) (t : Try) → last_of (ts ++ t ∷ []) ≡ Some t
+last_behind [] t = refl
+last_behind (u ∷ []) t = refl
+last_behind (u ∷ v ∷ ts) t = last_behind (v ∷ ts) t
+
+-- the one that starts is the next
+starts_next : (b : Book) (l k n count len : ℕ) (round : ℕ) → k ≡ length (b.link l).starts → TriesAreStarted (entered b (action.Start l k (owner.Try n round) count len)).link (tried (b.story n) l k)
+starts_next b l k n count len round next t e =
+    let it : record { link = l; message = k } ≡ t = same_some (record { link = l; message = k }) t (sym (last_behind (b.story n).tries (record { link = l; message = k })) ∙ e) in
+    subst (λ (u : Try). HasStarted u.message ((entered b (action.Start l k (owner.Try n round) count len)).link u.link)) it
+    (let longer : length ((b.link l).starts ++ message_of b (owner.Try n round) ∷ []) ≡ length (b.link l).starts + 1 = length-append (b.link l).starts (message_of b (owner.Try n round) ∷ []) in
+    if_true (λ (lines : List Line). HasStarted k (noted_each (b.link l) lines)) (l == l) (begins (message_of b (owner.Try n round)) ∷ []) [] (eq_test l l refl) (omega arith))
+
+-- events start none
+event_tries : (b : Book) (n : ℕ) (kind : EventKind) (link : ℕ → Ledger) → TriesAreStarted link (b.story n) → TriesAreStarted link (after_event b n kind)
+event_tries b n (event.Submit what) link h = chosen (TriesAreStarted link) (b.submissions == n) (handed_in (b.story n) what b.shut (current b)) (b.story n) (λ t. h) (λ f. h)
+event_tries b n (event.Cancel m) link h = chosen (TriesAreStarted link) (m == n) (left (b.story n)) (b.story n) (λ t. chosen (TriesAreStarted link) (is_open (b.story n)) (record (b.story n) { cancelled = true; waiting = None }) (b.story n) (λ o. h) (λ o. h)) (λ f. h)
+event_tries b n (event.Connected l) link h = h
+event_tries b n (event.Wrote l count) link h = h
+event_tries b n (event.Bytes l piece) link h = h
+event_tries b n (event.Ended l) link h = h
+event_tries b n (event.ReadFault l kind) link h = h
+event_tries b n (event.WriteFault l kind) link h = h
+event_tries b n event.Shutdown link h = h
+
+-- what an action does to a story, over whichever links
+tries_kept : (b : Book) (a : Action) → MayStand b a → (n : ℕ) → TriesAreStarted (entered b a).link (b.story n) → TriesAreStarted (entered b a).link ((entered b a).story n)
+tries_kept b (action.Turn k (cause.Opening config word)) may n h = h
+tries_kept b (action.Turn k (cause.Event e)) may n h = event_tries b n e.kind (entered b (action.Turn k (cause.Event e))).link h
+tries_kept b (action.Connect l host port) may n h = h
+tries_kept b (action.Close l) may n h = h
+tries_kept b (action.Write l bytes) may n h = h
+tries_kept b (action.Wait (owner.Try m round) kind) may n h = chosen (TriesAreStarted (entered b (action.Wait (owner.Try m round) kind)).link) (m == n) (waits (b.story n) kind) (b.story n) (λ t. h) (λ f. h)
+tries_kept b (action.Start l k (owner.Try m round) count len) may n h =
+    chosen (TriesAreStarted (entered b (action.Start l k (owner.Try m round) count len)).link) (m == n) (tried (b.story n) l k) (b.story n)
+    (λ t. subst (λ j. TriesAreStarted (entered b (action.Start l k (owner.Try m round) count len)).link (tried (b.story j) l k)) (eq_from m n t) (starts_next b l k m count len round may.1.next))
+    (λ f. h)
+tries_kept b action.Created may n h = h
+tries_kept b (action.Outcome m o) may n h = chosen (TriesAreStarted (entered b (action.Outcome m o)).link) (m == n) (answered (b.story n) o) (b.story n) (λ t. h) (λ f. h)
+
+-- each stays so
+pub starts_kept : (b : Book) (a : Action) → MayStand b a → (n : ℕ) → TriesAreStarted b.link (b.story n) → TriesAreStarted (entered b a).link ((entered b a).story n)
+starts_kept b a may n h = tries_kept b a may n (links_go_on b a (b.story n) h)

@@ -1,0 +1,5 @@
+use Rattle.legal_laws.proofs.Next.{one_is_next_behind}
+use Rattle.legal_laws.proofs.one_action_may_stand.Goals as goal
+
+pub returns : goal.returns
+returns c = one_is_next_behind

@@ -1,0 +1,13 @@
+-- How many outcomes the submissions of a trace have.
+use Rattle.std.specs.Prelude.{◌≡◌, ◌≤◌, ℕ, true, false, List, length, Some}
+use Rattle.driver_model.specs.declared.action.Action.{Action}
+use Rattle.driver_model.specs.declared.event.Submission.{Submission}
+use Rattle.legal_trace.specs.Book.{book}
+
+-- no submission has a second outcome
+abbrev pub AnswersOnce : List Action → Type 0
+AnswersOnce trace = (n : ℕ) → length ((book trace).story n).outcomes ≤ 1
+
+-- after a shutdown each submission that was not cancelled has one outcome
+abbrev pub AnswersAll : List Action → Type 0
+AnswersAll trace = (book trace).shut ≡ true → (n : ℕ) (s : Submission) → ((book trace).story n).submission ≡ Some s → ((book trace).story n).cancelled ≡ false → length ((book trace).story n).outcomes ≡ 1

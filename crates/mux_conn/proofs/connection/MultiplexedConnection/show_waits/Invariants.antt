@@ -1,0 +1,14 @@
+use Rattle.std.proofs.Common.{◌≡◌, [], length}
+use Rattle.mux_conn.specs.Connection.{Work}
+use Rattle.mux_conn.specs.Turn.{waits_each}
+use Rattle.mux_conn.proofs.connection.MultiplexedConnection.show_waits.Given as goal
+
+abbrev pub invariant-loop-number : goal.invariant-loop-number
+invariant-loop-number l = record {
+  work : waits_each (record { conn = l.self; acts = l.out.items }) l.rest ≡ waits_each (record { conn = record l.fn.self { fresh = [] }; acts = l.fn.out.items }) l.fn.self.fresh;
+  count : length l.self.requests ≡ length l.fn.self.requests;
+  failure : l.self.failure ≡ l.fn.self.failure;
+}
+
+abbrev pub decreases-loop-number : goal.decreases-loop-number
+decreases-loop-number l = length l.rest

@@ -1,0 +1,5 @@
+pub mod Connection
+pub mod Requests
+pub mod Effects
+pub mod Passes
+pub mod Turn

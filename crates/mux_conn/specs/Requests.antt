@@ -1,0 +1,62 @@
+-- How far requests have come, by their numbers.
+use Rattle.std.specs.Prelude.{ℕ, Bool, true, false, List, [], ◌∷◌, ◌++◌, length, Option, Some, None, slice_get, slice_set, if◌then◌else◌}
+use Rattle.driver_model.specs.declared.outcome.Outcome.{Outcome}
+use Rattle.driver_model.specs.declared.outcome.Shape.{Shape}
+use Rattle.mux_conn.specs.declared.act.LinkAct.TheVariants as act
+use Rattle.mux_conn.specs.declared.connection.MultiplexedConnection.{MultiplexedConnection}
+use Rattle.mux_conn.specs.declared.request.Progress.{Progress}
+use Rattle.mux_conn.specs.declared.request.Progress.TheVariants as progress
+use Rattle.mux_conn.specs.declared.request.Request.{Request}
+use Rattle.mux_conn.specs.declared.request.Waiting.{Waiting}
+use Rattle.mux_conn.specs.Connection.{Work, acted}
+
+-- neither answered nor left by its caller
+abbrev pub is_open : Progress → Bool
+is_open progress.Waiting = true
+is_open progress.Placed = true
+is_open progress.Closed = false
+
+abbrev pub is_waiting : Progress → Bool
+is_waiting progress.Waiting = true
+is_waiting progress.Placed = false
+is_waiting progress.Closed = false
+
+abbrev pub if_there : (Progress → Bool) → Option Request → Bool
+if_there test None = false
+if_there test (Some r) = test r.progress
+
+abbrev pub is_open_at : List Request → ℕ → Bool
+is_open_at requests p = if_there is_open (slice_get requests p)
+
+abbrev pub is_waiting_at : List Request → ℕ → Bool
+is_waiting_at requests p = if_there is_waiting (slice_get requests p)
+
+abbrev pub name_or_none : Option Request → ℕ
+name_or_none None = 0
+name_or_none (Some r) = r.name
+
+-- the name of request p
+abbrev pub name_at : List Request → ℕ → ℕ
+name_at requests p = name_or_none (slice_get requests p)
+
+-- request p has come so far
+abbrev pub at_progress : List Request → ℕ → Progress → List Request
+at_progress requests p now = slice_set requests p (record { name = name_at requests p; progress = now })
+
+abbrev pub progressed : Work → ℕ → Progress → Work
+progressed w p now = record w { conn = record w.conn { requests = at_progress w.conn.requests p now } }
+
+-- an open request is answered, and any other stays as it is
+abbrev pub answered : Work → ℕ → Outcome → Work
+answered w p o = if is_open_at w.conn.requests p then acted (progressed w p progress.Closed) (act.Outcome (name_at w.conn.requests p) o) else w
+
+abbrev pub waiting_of : ℕ → List ℕ → Shape → Bool → Waiting
+waiting_of p packed shape awaited = record { number = p; packed = packed; shape = shape; awaited = awaited }
+
+-- one more request, which waits for its place
+abbrev pub asked : MultiplexedConnection → ℕ → List ℕ → Shape → Bool → MultiplexedConnection
+asked c name packed shape awaited = record c {
+  requests = c.requests ++ record { name = name; progress = progress.Waiting } ∷ [];
+  waiting = c.waiting ++ waiting_of (length c.requests) packed shape awaited ∷ [];
+  fresh = c.fresh ++ length c.requests ∷ [];
+}

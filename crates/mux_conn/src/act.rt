@@ -1,0 +1,33 @@
+use containers::Bytes;
+use driver_model::{Outcome, WaitKind};
+
+/// What a connection asks of the outside, or tells it. A request goes by the name that its maker gave it.
+#[derive(Drop)]
+pub enum LinkAct {
+    /// The link is ready.
+    Created,
+    /// The link ended, or is to be closed.
+    Close,
+    /// All unwritten bytes of the link are offered.
+    Write {
+        bytes: Bytes,
+    },
+    /// A request waits.
+    Wait {
+        request: u32,
+        wait: WaitKind,
+    },
+    /// A request's message starts: the messages of the link are numbered from 0; how many items it takes, and how many
+    /// bytes it has.
+    Start {
+        message: u32,
+        request: u32,
+        need: u64,
+        len: u64,
+    },
+    /// A request is answered.
+    Outcome {
+        request: u32,
+        outcome: Outcome,
+    },
+}

@@ -1,0 +1,195 @@
+ghost use Rattle.std.specs.Prelude.{◌≡◌, ◌<◌, [], length, true, false, OnOk, IfOk, IsErrOf};
+ghost use Rattle.link_core.specs.Link.{is_spent, started_all};
+
+use crate::act::LinkAct;
+use crate::connection::MultiplexedConnection;
+use crate::errors::ConnectionError;
+use crate::life::Life;
+use crate::request::{Pending, Progress, Request, Waiting};
+use containers::Queue;
+use driver_model::Outcome;
+use link_core::{EnqueueError, LinkCore, StartError, Started};
+use redis_error::RedisError;
+use resp_value::Value;
+use std::alloc::{AllocError, Global};
+
+impl MultiplexedConnection {
+    ghost use Rattle.mux_conn.specs.Connection.{is_spent_in};
+    ghost use Rattle.mux_conn.specs.Passes.{shown_each, started};
+
+    /// Each start is shown.
+    fn show_starts(
+        &mut self,
+        starts: Vec<Started>,
+        out: &mut Vec<LinkAct>,
+    ) -> Result<(), AllocError>
+        ensures same { self.new ≡ self.old }
+        ensures work { OnOk result (record { conn = self.old; acts = out.new.items } ≡ shown_each (record { conn = self.old; acts = out.old.items }) starts.items) }
+    {
+        let mut rest = Queue::from_vec(starts);
+        while let Some(start) = rest.pop_front() {
+            let request = self.name(start.id);
+            out.push(LinkAct::Start {
+                message: start.msg,
+                request,
+                need: start.need,
+                len: start.len,
+            })?;
+        }
+        Ok(())
+    }
+
+    /// Messages start as far as they can.
+    fn start(&mut self, alloc: Global, out: &mut Vec<LinkAct>) -> Result<(), ConnectionError>
+        ensures work { OnOk result (record { conn = self.new; acts = out.new.items } ≡ started (record { conn = self.old; acts = out.old.items })) }
+        ensures spent { IsErrOf result ConnectionError.Spent → is_spent_in (started (record { conn = self.old; acts = out.old.items })).conn.life ≡ true }
+        ensures count { length self.new.requests ≡ length self.old.requests }
+        ensures failure { self.new.failure ≡ self.old.failure }
+    {
+        let mut starts = Vec::new(alloc);
+        let ready = match &mut self.life {
+            Life::Ready { link } => start_ready(alloc, link, &mut starts),
+            Life::Dialing => return Ok(()),
+            Life::Ended => return Ok(()),
+        };
+        match ready {
+            Ok(()) => {}
+            Err(error) => return Err(error),
+        }
+        self.show_starts(starts, out)?;
+        Ok(())
+    }
+}
+
+impl MultiplexedConnection {
+    ghost use Rattle.mux_conn.specs.Passes.{placed_at, told_at_place, moved, moved_all, passed, advanced, can_advance, entry_of, without};
+    ghost use Rattle.mux_conn.specs.Connection.{is_stuck, is_spent_in};
+
+    /// A request takes its place in the queue.
+    fn place(&mut self, alloc: Global, request: &Waiting) -> Result<(), AllocError>
+        requires free { is_stuck self.old.life ≡ false }
+        requires there { request.now.number < length self.old.requests }
+        ensures work { OnOk result (record { conn = self.new; acts = [] } ≡ placed_at (record { conn = self.old; acts = [] }) request.now self.old.life) }
+        ensures count { length self.new.requests ≡ length self.old.requests }
+        ensures failure { self.new.failure ≡ self.old.failure }
+    {
+        let link = match &mut self.life {
+            Life::Ready { link } => link,
+            Life::Dialing => return Ok(()),
+            Life::Ended => return Ok(()),
+        };
+        let number = u64::from(request.number);
+        let packed = request.packed.as_slice();
+        match link.enqueue(alloc, number, packed, request.shape, !request.awaited) {
+            Ok(()) => {}
+            Err(EnqueueError::Full) => unreachable!(),
+            Err(EnqueueError::NoMemory) => return Err(AllocError),
+        }
+        let name = self.name(number);
+        let progress = Progress::Placed;
+        self.requests
+            .set(request.number as usize, Request { name, progress });
+        Ok(())
+    }
+
+    /// A command whose reply nobody awaits is answered at its place.
+    fn tell_at_place(&mut self, request: &Waiting, out: &mut Vec<LinkAct>) -> Result<(), AllocError>
+        ensures work { OnOk result (record { conn = self.new; acts = out.new.items } ≡ told_at_place (record { conn = self.old; acts = out.old.items }) request.now) }
+        ensures count { length self.new.requests ≡ length self.old.requests }
+        ensures failure { self.new.failure ≡ self.old.failure }
+    {
+        if request.awaited {
+            return Ok(());
+        }
+        self.answer(u64::from(request.number), Outcome::One(Value::Nil), out)
+    }
+
+    /// One request is moved as far as it can go: if it still waits, it takes its place, and messages start. On a link that
+    /// has ended it is answered.
+    fn move_one(
+        &mut self,
+        alloc: Global,
+        request: Waiting,
+        out: &mut Vec<LinkAct>,
+    ) -> Result<(), ConnectionError>
+        requires { is_stuck self.old.life ≡ false }
+        ensures work { OnOk result (record { conn = self.new; acts = out.new.items } ≡ moved (record { conn = self.old; acts = out.old.items }) request) }
+        ensures spent { IsErrOf result ConnectionError.Spent → is_spent_in (moved (record { conn = self.old; acts = out.old.items }) request).conn.life ≡ true }
+        ensures count { length self.new.requests ≡ length self.old.requests }
+        ensures failure { self.new.failure ≡ self.old.failure }
+    {
+        if !self.is_waiting(request.number) {
+            return Ok(());
+        }
+        if self.life.is_ended() {
+            let closed = Outcome::Fault(RedisError::Closed);
+            self.answer(u64::from(request.number), closed, out)?;
+            return Ok(());
+        }
+        self.place(alloc, &request)?;
+        self.tell_at_place(&request, out)?;
+        self.start(alloc, out)
+    }
+
+    /// The requests that wait are moved in order, as long as they can be.
+    fn advance_waiting(
+        &mut self,
+        alloc: Global,
+        out: &mut Vec<LinkAct>,
+    ) -> Result<(), ConnectionError>
+        ensures work { OnOk result (record { conn = self.new; acts = out.new.items } ≡ moved_all (record { conn = self.old; acts = out.old.items })) }
+        ensures spent { IsErrOf result ConnectionError.Spent → is_spent_in (moved_all (record { conn = self.old; acts = out.old.items })).conn.life ≡ true }
+        ensures count { length self.new.requests ≡ length self.old.requests }
+        ensures failure { self.new.failure ≡ self.old.failure }
+    {
+        let mut rest = std::mem::replace(&mut self.waiting, Queue::new(alloc));
+        'requests: while !self.life.is_stuck() {
+            match rest.pop_front() {
+                Some(request) => match self.move_one(alloc, request, out) {
+                    Ok(()) => {}
+                    Err(error) => return Err(error),
+                },
+                None => {
+                    self.waiting = rest;
+                    return Ok(());
+                }
+            }
+        }
+        self.waiting = rest;
+        Ok(())
+    }
+
+    /// Every request is moved as far as it can go.
+    pub(crate) fn pass(
+        &mut self,
+        alloc: Global,
+        out: &mut Vec<LinkAct>,
+    ) -> Result<(), ConnectionError>
+        ensures work { OnOk result (record { conn = self.new; acts = out.new.items } ≡ passed (record { conn = self.old; acts = out.old.items })) }
+        ensures spent { IsErrOf result ConnectionError.Spent → is_spent_in (passed (record { conn = self.old; acts = out.old.items })).conn.life ≡ true }
+        ensures count { length self.new.requests ≡ length self.old.requests }
+        ensures failure { self.new.failure ≡ self.old.failure }
+    {
+        match self.start(alloc, out) {
+            Ok(()) => {}
+            Err(error) => return Err(error),
+        }
+        self.advance_waiting(alloc, out)
+    }
+}
+
+/// Starts what may start on a link.
+fn start_ready(
+    alloc: Global,
+    link: &mut LinkCore,
+    starts: &mut Vec<Started>,
+) -> Result<(), ConnectionError>
+    ensures ok { OnOk result (record { link = link.new; out = starts.new.items } ≡ started_all (record { link = link.old; out = starts.old.items })) }
+    ensures spent { IsErrOf result ConnectionError.Spent → is_spent (started_all (record { link = link.old; out = starts.old.items })).link ≡ true }
+{
+    match link.start_ready(alloc, starts) {
+        Ok(()) => Ok(()),
+        Err(StartError::Spent) => Err(ConnectionError::Spent),
+        Err(StartError::NoMemory) => Err(ConnectionError::NoMemory),
+    }
+}

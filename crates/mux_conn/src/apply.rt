@@ -1,0 +1,198 @@
+ghost use Rattle.std.specs.Prelude.{◌≡◌, ◌≤◌, [], length, OnOk};
+
+use crate::act::LinkAct;
+use crate::connection::MultiplexedConnection;
+use crate::life::Life;
+use crate::request::{Pending, Progress, Request};
+use containers::Queue;
+use driver_model::{LinkFault, LinkNews, Outcome};
+use link_core::{LinkCore, Settled};
+use redis_error::RedisError;
+use resp_read::ReadError;
+use std::alloc::{AllocError, Global};
+
+impl MultiplexedConnection {
+    ghost use Rattle.driver_model.specs.News.{told};
+    ghost use Rattle.mux_conn.specs.Effects.{settled_each, waiting_closed, ended, ended_by, connected_at, taken_at, read_at, failed_at, shut_at, applied, left, CanTake, IsWithin};
+
+    /// What the link has settled is answered, in order.
+    fn settle(&mut self, settled: Vec<Settled>, out: &mut Vec<LinkAct>) -> Result<(), AllocError>
+        ensures work { OnOk result (record { conn = self.new; acts = out.new.items } ≡ settled_each (record { conn = self.old; acts = out.old.items }) settled.items) }
+        ensures count { length self.new.requests ≡ length self.old.requests }
+        ensures failure { self.new.failure ≡ self.old.failure }
+    {
+        let mut rest = Queue::from_vec(settled);
+        while let Some(message) = rest.pop_front() {
+            self.answer(message.id, message.verdict.into_outcome(), out)?;
+        }
+        Ok(())
+    }
+
+    /// Each request that waits for its place is answered with the closed connection.
+    fn close_waiting(&mut self, alloc: Global, out: &mut Vec<LinkAct>) -> Result<(), AllocError>
+        ensures work { OnOk result (record { conn = self.new; acts = out.new.items } ≡ waiting_closed (record { conn = self.old; acts = out.old.items })) }
+        ensures count { length self.new.requests ≡ length self.old.requests }
+        ensures failure { self.new.failure ≡ self.old.failure }
+    {
+        let mut rest = std::mem::replace(&mut self.waiting, Queue::new(alloc));
+        while let Some(request) = rest.pop_front() {
+            let closed = Outcome::Fault(RedisError::Closed);
+            self.answer(u64::from(request.number), closed, out)?;
+        }
+        Ok(())
+    }
+
+    /// The link ends: it is closed, what it has settled is answered, and then what waits for a place.
+    fn end(
+        &mut self,
+        alloc: Global,
+        settled: Vec<Settled>,
+        out: &mut Vec<LinkAct>,
+    ) -> Result<(), AllocError>
+        ensures work { OnOk result (record { conn = self.new; acts = out.new.items } ≡ ended (record { conn = self.old; acts = out.old.items }) settled.items) }
+        ensures count { length self.new.requests ≡ length self.old.requests }
+        ensures failure { self.new.failure ≡ self.old.failure }
+    {
+        self.life = Life::Ended;
+        out.push(LinkAct::Close)?;
+        self.settle(settled, out)?;
+        self.close_waiting(alloc, out)
+    }
+
+    /// The connect is answered.
+    fn connect(&mut self, alloc: Global, out: &mut Vec<LinkAct>) -> Result<(), AllocError>
+        ensures work { OnOk result (record { conn = self.new; acts = out.new.items } ≡ connected_at (record { conn = self.old; acts = out.old.items }) self.old.life) }
+        ensures count { length self.new.requests ≡ length self.old.requests }
+        ensures failure { self.new.failure ≡ self.old.failure }
+    {
+        if self.life.is_dialing() {
+            let link = LinkCore::new(alloc, u32::MAX, u64::MAX);
+            self.life = Life::Ready { link };
+            out.push(LinkAct::Created)?;
+        }
+        Ok(())
+    }
+
+    /// Offered bytes were taken.
+    fn take(&mut self, count: u64)
+        requires { CanTake self.old.life count }
+        ensures { record { conn = self.new; acts = [] } ≡ taken_at (record { conn = self.old; acts = [] }) count self.old.life }
+    {
+        match &mut self.life {
+            Life::Ready { link } => link.wrote(count),
+            Life::Dialing => {}
+            Life::Ended => {}
+        }
+    }
+
+    /// Bytes came: the messages that they fill are answered, and bytes that begin no value end the link.
+    fn read(
+        &mut self,
+        alloc: Global,
+        piece: &[u8],
+        out: &mut Vec<LinkAct>,
+    ) -> Result<(), AllocError>
+        ensures work { OnOk result (record { conn = self.new; acts = out.new.items } ≡ read_at (record { conn = self.old; acts = out.old.items }) piece.now self.old.life) }
+        ensures count { length self.new.requests ≡ length self.old.requests }
+        ensures failure { self.new.failure ≡ self.old.failure }
+    {
+        let mut settled = Vec::new(alloc);
+        let mut pushes = Vec::new(alloc);
+        let read = match &mut self.life {
+            Life::Ready { link } => link.bytes(alloc, piece, &mut settled, &mut pushes),
+            Life::Dialing => return Ok(()),
+            Life::Ended => return Ok(()),
+        };
+        let broken = match read {
+            Ok(()) => false,
+            Err(ReadError::Parse) => true,
+            Err(ReadError::NoMemory) => return Err(AllocError),
+        };
+        self.settle(settled, out)?;
+        if broken {
+            self.fail(alloc, LinkFault::Parse, out)?;
+        }
+        Ok(())
+    }
+
+    /// The link ends by a fault, where it is up.
+    fn fail(
+        &mut self,
+        alloc: Global,
+        fault: LinkFault,
+        out: &mut Vec<LinkAct>,
+    ) -> Result<(), AllocError>
+        ensures work { OnOk result (record { conn = self.new; acts = out.new.items } ≡ failed_at (record { conn = self.old; acts = out.old.items }) fault self.old.life) }
+        ensures count { length self.new.requests ≡ length self.old.requests }
+        ensures failure { self.new.failure ≡ self.old.failure }
+    {
+        let mut settled = Vec::new(alloc);
+        match &mut self.life {
+            Life::Ready { link } => link.fault(alloc, fault, &mut settled)?,
+            Life::Dialing => return Ok(()),
+            Life::Ended => return Ok(()),
+        }
+        self.end(alloc, settled, out)
+    }
+
+    /// Everything is closed.
+    fn shut(&mut self, alloc: Global, out: &mut Vec<LinkAct>) -> Result<(), AllocError>
+        ensures work { OnOk result (record { conn = self.new; acts = out.new.items } ≡ shut_at (record { conn = self.old; acts = out.old.items }) self.old.life) }
+        ensures count { length self.new.requests ≡ length self.old.requests }
+        ensures failure { self.new.failure ≡ self.old.failure }
+    {
+        let mut settled = Vec::new(alloc);
+        match &mut self.life {
+            Life::Ready { link } => link.close(alloc, &mut settled)?,
+            Life::Dialing => {}
+            Life::Ended => return Ok(()),
+        }
+        self.end(alloc, settled, out)
+    }
+
+    /// The effect of news of its link. No request is moved.
+    pub(crate) fn hear(
+        &mut self,
+        alloc: Global,
+        news: LinkNews<'_>,
+        out: &mut Vec<LinkAct>,
+    ) -> Result<(), AllocError>
+        requires { IsWithin self.old.life (told news) }
+        ensures work { OnOk result (record { conn = self.new; acts = out.new.items } ≡ applied (record { conn = self.old; acts = out.old.items }) (told news.entry)) }
+        ensures count { length self.new.requests ≡ length self.old.requests }
+        ensures failure { self.new.failure ≡ self.old.failure }
+    {
+        match news {
+            LinkNews::Silence => Ok(()),
+            LinkNews::Connected => self.connect(alloc, out),
+            LinkNews::Took { count } => {
+                self.take(count);
+                Ok(())
+            }
+            LinkNews::Came { piece } => self.read(alloc, piece, out),
+            LinkNews::Failed { fault } => self.fail(alloc, fault, out),
+            LinkNews::Shut => self.shut(alloc, out),
+        }
+    }
+
+    /// The caller of a request has gone. Takes no memory.
+    pub fn cancel(&mut self, request: Pending)
+        ensures conn { self.new ≡ left self.old request.number }
+        ensures count { length self.new.requests ≡ length self.old.requests }
+        ensures failure { self.new.failure ≡ self.old.failure }
+    {
+        let number = u64::from(request.number);
+        if !self.is_open(number) {
+            return;
+        }
+        let name = self.name(number);
+        let progress = Progress::Closed;
+        self.requests
+            .set(request.number as usize, Request { name, progress });
+        match &mut self.life {
+            Life::Ready { link } => link.cancel(number),
+            Life::Dialing => {}
+            Life::Ended => {}
+        }
+    }
+}

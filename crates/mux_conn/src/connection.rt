@@ -1,0 +1,163 @@
+ghost use Rattle.std.specs.Prelude.{◌≡◌, ◌<◌, ◌≤◌, ◌^◌, ◌++◌, ◌∷◌, [], length, OnOk, OnErr, IfOk, true};
+
+use crate::act::LinkAct;
+use crate::errors::ConnectionError;
+use crate::life::Life;
+use crate::request::{Pending, Progress, Request, Waiting};
+use containers::{Bytes, Queue, Seq};
+use driver_model::{Outcome, Shape};
+use std::alloc::{AllocError, Global};
+
+/// One multiplexed connection: its link's life, its requests by their numbers, those that wait for their place, in order
+/// and some that have gone since, and those that came in this turn.
+pub struct MultiplexedConnection {
+    pub life: Life,
+    pub requests: Seq<Request>,
+    pub waiting: Queue<Waiting>,
+    pub fresh: Queue<u32>,
+    /// Why every call fails, if it does: a call was refused memory, or a number has run out.
+    pub failure: Option<ConnectionError>,
+}
+
+impl Drop for MultiplexedConnection {
+    fn drop(self) {
+        let MultiplexedConnection {
+            life,
+            requests,
+            waiting,
+            fresh,
+            failure: _,
+        } = self;
+        drop(life);
+        drop(requests);
+        drop(waiting);
+        drop(fresh);
+    }
+}
+
+impl MultiplexedConnection {
+    ghost use Rattle.mux_conn.specs.Requests.{is_open_at, is_waiting_at, name_at, answered, asked};
+    ghost use Rattle.mux_conn.specs.Connection.{started_in};
+    ghost use Rattle.mux_conn.specs.Turn.{dialing};
+
+    /// A connection whose connect isn't answered. Takes no memory.
+    pub fn new(alloc: Global) -> MultiplexedConnection
+        ensures { result ≡ dialing }
+    {
+        MultiplexedConnection {
+            life: Life::Dialing,
+            requests: Seq::new(alloc),
+            waiting: Queue::new(alloc),
+            fresh: Queue::new(alloc),
+            failure: None,
+        }
+    }
+
+    /// How many messages of its link have started, where it is up.
+    pub fn started(&self) -> u32
+        ensures { result ≡ started_in self.now.life }
+    {
+        match &self.life {
+            Life::Dialing => 0,
+            Life::Ready { link } => link.started(),
+            Life::Ended => 0,
+        }
+    }
+
+    /// Whether a request is neither answered nor left by its caller.
+    pub fn is_open(&self, number: u64) -> bool
+        ensures value { result ≡ is_open_at self.now.requests number }
+        ensures there { result ≡ true → number < length self.now.requests }
+    {
+        if number >= self.requests.len() as u64 {
+            return false;
+        }
+        match self.requests.at(number as usize).progress {
+            Progress::Waiting => true,
+            Progress::Placed => true,
+            Progress::Closed => false,
+        }
+    }
+
+    /// Whether a request waits for its place.
+    pub fn is_waiting(&self, number: u32) -> bool
+        ensures value { result ≡ is_waiting_at self.now.requests number }
+        ensures there { result ≡ true → number < length self.now.requests }
+    {
+        if number as usize >= self.requests.len() {
+            return false;
+        }
+        match self.requests.at(number as usize).progress {
+            Progress::Waiting => true,
+            Progress::Placed => false,
+            Progress::Closed => false,
+        }
+    }
+
+    /// The name of a request, and 0 where there is none of that number.
+    pub fn name(&self, number: u64) -> u32
+        ensures { result ≡ name_at self.now.requests number }
+    {
+        if number >= self.requests.len() as u64 {
+            return 0;
+        }
+        self.requests.at(number as usize).name
+    }
+
+    /// A request that is open is answered.
+    pub fn answer(
+        &mut self,
+        number: u64,
+        outcome: Outcome,
+        out: &mut Vec<LinkAct>,
+    ) -> Result<(), AllocError>
+        ensures work { OnOk result (record { conn = self.new; acts = out.new.items } ≡ answered (record { conn = self.old; acts = out.old.items }) number outcome) }
+        ensures count { length self.new.requests ≡ length self.old.requests }
+        ensures failure { self.new.failure ≡ self.old.failure }
+    {
+        if !self.is_open(number) {
+            return Ok(());
+        }
+        let name = self.name(number);
+        self.requests.set(
+            number as usize,
+            Request {
+                name,
+                progress: Progress::Closed,
+            },
+        );
+        out.push(LinkAct::Outcome {
+            request: name,
+            outcome,
+        })?;
+        Ok(())
+    }
+
+    /// A request of that name, which waits for its place from the next `step` or `advance` on. Its message has these bytes,
+    /// which aren't none.
+    pub fn ask(
+        &mut self,
+        name: u32,
+        packed: Bytes,
+        shape: Shape,
+        awaited: bool,
+    ) -> Result<Pending, AllocError>
+        requires { length self.old.requests < 2 ^ 32 }
+        ensures conn { OnOk result (self.new ≡ asked self.old name packed shape awaited) }
+        ensures number { IfOk result (λ p. p.number ≡ length self.old.requests) }
+    {
+        let number = self.requests.len() as u32;
+        self.requests.push(Request {
+            name,
+            progress: Progress::Waiting,
+        })?;
+        self.waiting.push_back(Waiting {
+            number,
+            packed,
+            shape,
+            awaited,
+        })?;
+        self.fresh.push_back(number)?;
+        Ok(Pending { number })
+    }
+}

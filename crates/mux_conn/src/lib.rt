@@ -1,0 +1,19 @@
+//! One multiplexed connection: a link's life, and the requests that it carries. It knows neither the number of its link nor
+//! whose requests they are: whoever made it names each request, and it speaks of them by these names.
+#![tactic(auto)]
+
+mod act;
+mod advance;
+mod apply;
+mod connection;
+mod errors;
+mod flush;
+mod life;
+mod request;
+mod step;
+
+pub use act::LinkAct;
+pub use connection::MultiplexedConnection;
+pub use errors::ConnectionError;
+pub use life::Life;
+pub use request::{Pending, Progress, Request, Waiting};

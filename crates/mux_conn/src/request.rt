@@ -1,0 +1,36 @@
+use containers::Bytes;
+use driver_model::Shape;
+
+/// The number of a request of one connection.
+#[derive(Clone, Copy, PartialEq, Eq)]
+pub struct Pending {
+    pub number: u32,
+}
+
+/// How far a request has come.
+#[derive(Clone, Copy, PartialEq, Eq)]
+pub enum Progress {
+    /// It has no place in the queue yet.
+    Waiting,
+    /// It has its place, or is started.
+    Placed,
+    /// It is answered, or its caller has gone.
+    Closed,
+}
+
+/// A request: the name that its maker gave it, and how far it has come.
+#[derive(Clone, Copy, PartialEq, Eq)]
+pub struct Request {
+    pub name: u32,
+    pub progress: Progress,
+}
+
+/// A request that waits for its place.
+#[derive(Drop)]
+pub struct Waiting {
+    pub number: u32,
+    pub packed: Bytes,
+    pub shape: Shape,
+    /// Whether its reply is awaited.
+    pub awaited: bool,
+}

@@ -1,0 +1,36 @@
+-- What a good event says to the connection is within what was offered.
+use Rattle.std.proofs.Common.{◌≡◌, ℕ, ◌≤◌, ◌==◌, nat_lt, nat_le, ◌&&◌, ◌||◌, Bool, true, false, length}
+use Rattle.containers.proofs.Tests.{chosen, not_lt_from, or_right}
+use Rattle.driver_model.specs.declared.event.EventKind.{EventKind}
+use Rattle.driver_model.specs.declared.event.EventKind.TheVariants as event
+use Rattle.driver_model.specs.News.{News, silence, connected, took, came, failed, shut, for_link, news}
+use Rattle.mux_conn.specs.declared.life.Life.{Life}
+use Rattle.mux_conn.specs.declared.life.Life.TheVariants.{Dialing, Ready, Ended}
+use Rattle.mux_conn.specs.Effects.{IsWithin, CanTake}
+use Rattle.shared_session.specs.declared.core_state.Core.{Core}
+use Rattle.shared_session.specs.Turn.{is_bad, is_no_link, takes_too_much}
+
+can_take : (life : Life) (count : ℕ) → takes_too_much life count ≡ false → CanTake life count
+can_take Dialing count f = tt
+can_take (Ready link) count f = not_lt_from link.outbox.offered count f
+can_take Ended count f = tt
+
+own_take : (mine : Bool) (life : Life) (count : ℕ) → (mine && takes_too_much life count) ≡ false → IsWithin life (for_link mine (took count))
+own_take true life count f = can_take life count f
+own_take false life count f = tt
+
+either_news : (mine : Bool) (life : Life) (x : News) → IsWithin life x → IsWithin life (for_link mine x)
+either_news true life x h = h
+either_news false life x h = tt
+
+pub news_within : (c : Core) (kind : EventKind) → is_bad c kind ≡ false → IsWithin c.single.connection.life (news c.single.link kind)
+unfolding is_bad
+news_within c (event.Submit what) good = tt
+news_within c (event.Cancel n) good = tt
+news_within c (event.Connected l) good = either_news (l == c.single.link) c.single.connection.life connected tt
+news_within c (event.Wrote l count) good = own_take (l == c.single.link) c.single.connection.life count (or_right (is_no_link c l) _ good)
+news_within c (event.Bytes l piece) good = either_news (l == c.single.link) c.single.connection.life (came piece) tt
+news_within c (event.Ended l) good = either_news (l == c.single.link) c.single.connection.life (failed _) tt
+news_within c (event.ReadFault l kind) good = either_news (l == c.single.link) c.single.connection.life (failed _) tt
+news_within c (event.WriteFault l kind) good = either_news (l == c.single.link) c.single.connection.life (failed _) tt
+news_within c event.Shutdown good = tt

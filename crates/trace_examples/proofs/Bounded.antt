@@ -1,0 +1,124 @@
+-- What is true of all numbers that a trace doesn't name: no submission has one that wasn't given out, and of links there is the first alone.
+use Rattle.std.proofs.Common.{◌≡◌, ℕ, ◌+◌, ◌<◌, ◌≤◌, ◌==◌, Bool, true, false, None, refl, arith}
+use Rattle.containers.proofs.Tests.{chosen, ne_test, eq_from}
+use Rattle.driver_model.specs.declared.action.Action.{Action}
+use Rattle.driver_model.specs.declared.action.Action.TheVariants as action
+use Rattle.driver_model.specs.declared.action.Cause.TheVariants as cause
+use Rattle.driver_model.specs.declared.action.Owner.TheVariants as owner
+use Rattle.driver_model.specs.declared.event.EventKind.{EventKind}
+use Rattle.driver_model.specs.declared.event.EventKind.TheVariants as event
+use Rattle.driver_model.specs.News.{News, took, came, failed, for_link, news}
+use Rattle.legal_trace.specs.Ledger.{Ledger, Line, asks, hears, with_news, noted, noted_each}
+use Rattle.legal_trace.specs.Story.{Story, is_open}
+use Rattle.legal_trace.specs.Book.{Book, blank_book, if_mine, lines_of, after_event, story_after, submitted_by, entered}
+
+-- no link but the first is connected
+abbrev pub connects_first : EventKind → Bool
+connects_first (event.Connected l) = l == 0
+connects_first (event.Submit what) = true
+connects_first (event.Cancel m) = true
+connects_first (event.Wrote l count) = true
+connects_first (event.Bytes l piece) = true
+connects_first (event.Ended l) = true
+connects_first (event.ReadFault l kind) = true
+connects_first (event.WriteFault l kind) = true
+connects_first event.Shutdown = true
+
+-- no link but the first is asked for or connected
+abbrev pub is_of_first : Action → Bool
+is_of_first (action.Turn k (cause.Opening config word)) = true
+is_of_first (action.Turn k (cause.Event e)) = connects_first e.kind
+is_of_first (action.Connect l host port) = l == 0
+is_of_first (action.Close l) = true
+is_of_first (action.Write l bytes) = true
+is_of_first (action.Wait who kind) = true
+is_of_first (action.Start l k who count len) = true
+is_of_first action.Created = true
+is_of_first (action.Outcome n o) = true
+
+-- a link that wasn't asked for
+pub record IsIdle (l : Ledger) : Type 0 where
+  pub down : l.up ≡ false
+  pub unasked : l.asked ≡ false
+
+-- no submission has a number that wasn't given out, and every link but the first is idle
+pub record IsBounded (b : Book) : Type 0 where
+  pub absent : (n : ℕ) → b.submissions ≤ n → (b.story n).submission ≡ None
+  pub idle : (l : ℕ) → 0 < l → IsIdle (b.link l)
+
+-- at first
+pub blank_bounded : IsBounded blank_book
+blank_bounded = record { absent = λ n l. refl; idle = λ l some. record { down = refl; unasked = refl } }
+
+-- a change of the first link is no change of another
+mine_idle : (b : Book) (n l : ℕ) (x : Line) → 0 < n → (l == 0) ≡ true → IsIdle (b.link n) → IsIdle (noted_each (b.link n) (if_mine (l == n) x))
+mine_idle b n l x some first h = rw (ne_test l n (λ e. absurd (omega (arith, eq_from l 0 first)))) h
+
+-- a line of a link that leaves it idle leaves it so, whosever it is
+any_idle : (l : Ledger) (mine : Bool) (x : Line) → IsIdle l → IsIdle (noted l x) → IsIdle (noted_each l (if_mine mine x))
+any_idle l true x h g = g
+any_idle l false x h g = h
+
+-- news that reach an idle link leave it so
+hears_idle : (l : Ledger) (mine : Bool) (x : News) → IsIdle l → IsIdle (with_news l x) → IsIdle (noted l (hears (for_link mine x)))
+hears_idle l true x h g = record { down = g.down; unasked = g.unasked }
+hears_idle l false x h g = record { down = h.down; unasked = h.unasked }
+
+-- so do the news of an event that doesn't connect it
+event_idle : (l : Ledger) (n : ℕ) (kind : EventKind) → 0 < n → connects_first kind ≡ true → IsIdle l → IsIdle (noted l (hears (news n kind)))
+event_idle l n (event.Connected m) some first h = rw (ne_test m n (λ e. absurd (omega (arith, eq_from m 0 first)))) (record { down = h.down; unasked = h.unasked })
+event_idle l n (event.Wrote m count) some first h = hears_idle l (m == n) (took count) h (chosen IsIdle l.up _ l (λ t. record { down = h.down; unasked = h.unasked }) (λ t. h))
+event_idle l n (event.Bytes m piece) some first h = hears_idle l (m == n) (came piece) h (chosen IsIdle l.up _ l (λ t. record { down = h.down; unasked = h.unasked }) (λ t. h))
+event_idle l n (event.Ended m) some first h = hears_idle l (m == n) (failed _) h h
+event_idle l n (event.ReadFault m kind) some first h = hears_idle l (m == n) (failed _) h h
+event_idle l n (event.WriteFault m kind) some first h = hears_idle l (m == n) (failed _) h h
+event_idle l n event.Shutdown some first h = record { down = h.down; unasked = h.unasked }
+event_idle l n (event.Submit what) some first h = record { down = h.down; unasked = h.unasked }
+event_idle l n (event.Cancel m) some first h = record { down = h.down; unasked = h.unasked }
+
+-- a link that isn't the first stays idle
+still_idle : (b : Book) (n : ℕ) (a : Action) → 0 < n → is_of_first a ≡ true → IsIdle (b.link n) → IsIdle (noted_each (b.link n) (lines_of b n a))
+still_idle b n (action.Turn k (cause.Opening config word)) some first h = h
+still_idle b n (action.Turn k (cause.Event e)) some first h = event_idle (b.link n) n e.kind some first h
+still_idle b n (action.Connect l host port) some first h = mine_idle b n l asks some first h
+still_idle b n (action.Close l) some first h = any_idle (b.link n) (l == n) _ h (record { down = refl; unasked = h.unasked })
+still_idle b n (action.Write l bytes) some first h = any_idle (b.link n) (l == n) _ h (record { down = h.down; unasked = h.unasked })
+still_idle b n (action.Wait who kind) some first h = h
+still_idle b n (action.Start l k who count len) some first h = any_idle (b.link n) (l == n) _ h (record { down = h.down; unasked = h.unasked })
+still_idle b n action.Created some first h = h
+still_idle b n (action.Outcome m o) some first h = h
+
+-- nothing is handed in under this number
+abbrev IsAbsent : Story → Type 0
+IsAbsent s = s.submission ≡ None
+
+-- what an event hands in has the next number
+event_absent : (b : Book) (n : ℕ) (kind : EventKind) → b.submissions + submitted_by kind ≤ n → IsAbsent (b.story n) → IsAbsent (after_event b n kind)
+event_absent b n (event.Submit what) l h = rw (ne_test b.submissions n (λ e. absurd (omega arith))) h
+event_absent b n (event.Cancel m) l h = chosen IsAbsent (m == n) _ _ (λ t. chosen IsAbsent (is_open (b.story n)) _ _ (λ u. h) (λ u. h)) (λ t. h)
+event_absent b n (event.Connected m) l h = h
+event_absent b n (event.Wrote m count) l h = h
+event_absent b n (event.Bytes m piece) l h = h
+event_absent b n (event.Ended m) l h = h
+event_absent b n (event.ReadFault m kind) l h = h
+event_absent b n (event.WriteFault m kind) l h = h
+event_absent b n event.Shutdown l h = h
+
+-- so an action hands nothing in beyond it
+still_absent : (b : Book) (n : ℕ) (a : Action) → (entered b a).submissions ≤ n → ((m : ℕ) → b.submissions ≤ m → IsAbsent (b.story m)) → IsAbsent (story_after b n a)
+still_absent b n (action.Turn k (cause.Opening config word)) l h = h n l
+still_absent b n (action.Turn k (cause.Event e)) l h = event_absent b n e.kind l (h n (omega arith))
+still_absent b n (action.Start m k (owner.Try i round) count len) l h = chosen IsAbsent (i == n) _ _ (λ t. h n l) (λ t. h n l)
+still_absent b n (action.Wait (owner.Try i round) kind) l h = chosen IsAbsent (i == n) _ _ (λ t. h n l) (λ t. h n l)
+still_absent b n (action.Outcome m o) l h = chosen IsAbsent (m == n) _ _ (λ t. h n l) (λ t. h n l)
+still_absent b n (action.Connect m host port) l h = h n l
+still_absent b n (action.Close m) l h = h n l
+still_absent b n (action.Write m bytes) l h = h n l
+still_absent b n action.Created l h = h n l
+
+-- the book of one more action
+pub still_bounded : (b : Book) (a : Action) → is_of_first a ≡ true → IsBounded b → IsBounded (entered b a)
+still_bounded b a first h = record {
+  absent = λ n l. still_absent b n a l h.absent;
+  idle = λ n some. still_idle b n a some first (h.idle n some);
+}

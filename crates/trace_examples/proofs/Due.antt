@@ -1,0 +1,234 @@
+-- A trace whose steps are tested one by one is legal: each action stands where it may, since it is the next that is due.
+use Rattle.std.proofs.Common.{◌≡◌, ◌≢◌, ◌⊎◌, ℕ, ◌==◌, Bool, true, false, ◌&&◌, ◌||◌, not, List, [], ◌∷◌, length, Option, Some, None, is_some, refl, sym, ap, ◌∙◌, inl, inr, arith}
+use Rattle.std.specs.Option.{is_none}
+use Rattle.std.proofs.lemmas.Bool.{not-true}
+use Rattle.containers.proofs.Tests.{not_both, eq_from, ne_from, both_left, both_right}
+use Rattle.resp_value.specs.declared.value.Value.TheVariants.{Nil}
+use Rattle.driver_model.specs.declared.action.Action.{Action}
+use Rattle.driver_model.specs.declared.action.Action.TheVariants as action
+use Rattle.driver_model.specs.declared.action.Cause.{Cause}
+use Rattle.driver_model.specs.declared.action.Cause.TheVariants as cause
+use Rattle.driver_model.specs.declared.action.Owner.TheVariants as owner
+use Rattle.driver_model.specs.declared.action.WaitKind.{WaitKind}
+use Rattle.driver_model.specs.declared.config.Config.{Config}
+use Rattle.driver_model.specs.declared.event.Event.{Event}
+use Rattle.driver_model.specs.declared.outcome.Outcome.{Outcome}
+use Rattle.driver_model.specs.declared.outcome.Outcome.TheVariants as outcome
+use Rattle.driver_model.specs.Shape.{need}
+use Rattle.legal_trace.specs.Ledger.{Ending, is_over, ending, unwritten}
+use Rattle.legal_trace.specs.Story.{is_open, is_awaited, bytes_of, shape}
+use Rattle.legal_trace.specs.Book.{Book, blank_book, book, entered, entered_each}
+use Rattle.legal_trace.specs.Owed.{owed}
+use Rattle.legal_trace.specs.Events.{is_bad_event}
+use Rattle.legal_trace.specs.Legal.{IsOpen, link_of, IsTold, MayTurn, MayConnect, MayClose, MayBeCreated, MayAnswer, MayTell, MayStart, MayWrite, MayWait, MayStand, AllStand, causes, event_causes, Legal}
+use Rattle.trace_examples.proofs.Bounded.{IsBounded, is_of_first, still_bounded, blank_bounded}
+use Rattle.trace_examples.proofs.Checks.{holds_if, held, none_from, is_empty, empty_from, filled_from, each_below, below, is_told, told_from}
+use Rattle.trace_examples.proofs.Settled.{is_quiet, quiet, all_quiet, none_is_owed, none_ends, no_end, is_applied, applied, can_move, moves, all_stay, none_before, is_moved, moved, is_written, written, wait_holds, holds, is_settled, settled}
+
+-- a turn
+abbrev pub turn_due : Book → ℕ → Cause → Bool
+turn_due b k (cause.Opening config word) = (k == b.turns) && (b.turns == 0)
+turn_due b k (cause.Event e) = (k == b.turns) && not (b.turns == 0) && is_settled b && not (is_bad_event b e.kind)
+
+turn_stands : (b : Book) (k : ℕ) (c : Cause) → IsBounded b → turn_due b k c ≡ true → MayTurn b k c
+turn_stands b k (cause.Opening config word) bounded e = record { next = eq_from k b.turns (both_left (k == b.turns) (b.turns == 0) e); is_for = eq_from b.turns 0 (both_right (k == b.turns) (b.turns == 0) e) }
+turn_stands b k (cause.Event e) bounded t = record {
+  next = eq_from k b.turns (search (both_left, both_right));
+  is_for = (ne_from b.turns 0 (not-true (b.turns == 0) (search (both_left, both_right))), settled b bounded (search (both_left, both_right)), not-true (is_bad_event b e.kind) (search (both_left, both_right)));
+}
+
+-- a close of the first link
+abbrev pub close_due : Book → ℕ → Bool
+close_due b l = (l == 0) && is_some (ending (b.link l)) && all_quiet b
+
+close_stands : (b : Book) (l : ℕ) → IsBounded b → close_due b l ≡ true → MayClose b l
+close_stands b l bounded e = of_ending (ending (b.link l)) refl (search (both_left, both_right))
+  where
+    of_ending : (x : Option Ending) → ending (b.link l) ≡ x → is_some x ≡ true → MayClose b l
+    of_ending None same t = cc t
+    of_ending (Some why) same t = record { why = why; ends = same; in_order = λ m below. let first = eq_from l 0 (search (both_left, both_right)) in absurd (omega arith); answered = none_is_owed b bounded (search (both_left, both_right)) }
+
+-- the bytes of the first link; which bytes they are is left to be said
+abbrev pub write_due : Book → ℕ → List ℕ → Bool
+write_due b l bytes = (l == 0) && is_moved b && (b.link l).up && is_empty (b.link l).offer && not (is_empty bytes)
+
+write_stands : (b : Book) (l : ℕ) (bytes : List ℕ) → IsBounded b → write_due b l bytes ≡ true → bytes ≡ unwritten (b.link l) → MayWrite b l bytes
+write_stands b l bytes bounded e all = record {
+  moved = moved b bounded (search (both_left, both_right));
+  up = search (both_left, both_right);
+  answered = empty_from (b.link l).offer (search (both_left, both_right));
+  all = all;
+  some = filled_from bytes (search (both_left, both_right));
+  in_order = λ m below up. let first = eq_from l 0 (search (both_left, both_right)) in absurd (omega arith);
+}
+
+-- its wait was shown, if it is open and has no message
+abbrev pub is_in_wait : Book → ℕ → Bool
+is_in_wait b n = holds_if (is_open (b.story n)) (holds_if (is_empty (b.story n).tries) (is_some (b.story n).waiting))
+
+-- what it says
+in_wait : (b : Book) (n : ℕ) → is_in_wait b n ≡ true → IsOpen b n → (b.story n).tries ≡ [] → (b.story n).waiting ≢ None
+in_wait b n e o unstarted none =
+    let shown : is_some (b.story n).waiting ≡ true = held (is_empty (b.story n).tries) (is_some (b.story n).waiting) (held (is_open (b.story n)) (holds_if (is_empty (b.story n).tries) (is_some (b.story n).waiting)) e o) (ap is_empty unstarted) in
+    not_both (is_some (b.story n).waiting) (ap is_some none) shown
+
+-- a wait of an open submission
+abbrev pub wait_due : Book → ℕ → WaitKind → Bool
+wait_due b n kind = is_written b && is_open (b.story n) && is_empty (b.story n).tries && is_none (b.story n).waiting && wait_holds b n kind && each_below (λ m. is_in_wait b m) n
+
+wait_stands : (b : Book) (n : ℕ) (kind : WaitKind) → IsBounded b → wait_due b n kind ≡ true → MayWait b n kind
+wait_stands b n kind bounded e = record {
+  written = written b bounded (search (both_left, both_right));
+  asked = search (both_left, both_right);
+  unstarted = empty_from (b.story n).tries (search (both_left, both_right));
+  new = none_from (b.story n).waiting (search (both_left, both_right));
+  holds = holds b n kind (search (both_left, both_right));
+  in_order = λ m l. in_wait b m (below (λ m. is_in_wait b m) n m (search (both_left, both_right)) l);
+}
+
+-- a message of the first try
+abbrev pub start_due : Book → ℕ → ℕ → ℕ → ℕ → ℕ → Bool
+start_due b l k n count len =
+    (is_applied b && (is_awaited (b.story n) || is_told (b.story n)) && can_move b n && all_stay b n) &&
+    ((l == (b.story n).link) && (k == length (b.link l).starts) && (count == need (shape (b.story n))) && (len == length (bytes_of (b.story n))))
+
+start_stands : (b : Book) (l k n count len : ℕ) → IsBounded b → start_due b l k n count len ≡ true → MayStart b l k n count len
+start_stands b l k n count len bounded e = record {
+  applied = applied b bounded (search (both_left, both_right));
+  wanted = wanted (is_awaited (b.story n)) (search (both_left, both_right));
+  moves = moves b n (search (both_left, both_right));
+  in_order = none_before b n (search (both_left, both_right));
+  on_its_link = eq_from l (b.story n).link (search (both_left, both_right));
+  next = eq_from k (length (b.link l).starts) (search (both_left, both_right));
+  needs_its_items = eq_from count (need (shape (b.story n))) (search (both_left, both_right));
+  long_as_its_bytes = eq_from len (length (bytes_of (b.story n))) (search (both_left, both_right));
+}
+  where
+    wanted : (awaited : Bool) → (awaited || is_told (b.story n)) ≡ true → (awaited ≡ true) ⊎ IsTold (b.story n)
+    wanted true t = inl refl
+    wanted false t = inr (told_from (b.story n) t)
+
+-- the creation
+abbrev pub created_due : Book → Bool
+created_due b = (b.link 0).up && (b.created == 0) && all_quiet b && none_ends b
+
+created_stands : (b : Book) → IsBounded b → created_due b ≡ true → MayBeCreated b
+created_stands b bounded e = record {
+  l = 0;
+  up = search (both_left, both_right);
+  once = eq_from b.created 0 (search (both_left, both_right));
+  answered = none_is_owed b bounded (search (both_left, both_right));
+  ended = no_end b bounded (search (both_left, both_right));
+}
+
+-- an outcome: what is owed, or where nothing is, the Nil of a command whose reply nobody awaits; which it is is left to be said
+abbrev pub outcome_due : Book → ℕ → Option Outcome → Bool
+outcome_due b n (Some o) = each_below (λ m. is_quiet b m) n && holds_if (is_over (link_of b n)) (none_ends b)
+outcome_due b n None = is_applied b && not (is_awaited (b.story n)) && can_move b n && all_stay b n
+
+-- what is said is what is owed, or Nil
+abbrev pub IsSaid : Outcome → Option Outcome → Type 0
+IsSaid said None = said ≡ outcome.One Nil
+IsSaid said (Some o) = said ≡ o
+
+outcome_stands : (b : Book) (n : ℕ) (o : Outcome) → IsBounded b → (is_open (b.story n) && outcome_due b n (owed b n)) ≡ true → IsSaid o (owed b n) → MayAnswer b n o ⊎ MayTell b n o
+outcome_stands b n o bounded e said = of_owed (owed b n) refl (both_right (is_open (b.story n)) (outcome_due b n (owed b n)) e) said
+  where
+    open_still : IsOpen b n
+    open_still = both_left (is_open (b.story n)) (outcome_due b n (owed b n)) e
+
+    of_owed : (x : Option Outcome) → owed b n ≡ x → outcome_due b n x ≡ true → IsSaid o x → MayAnswer b n o ⊎ MayTell b n o
+    of_owed (Some p) same t s = inl (record {
+      asked = open_still;
+      owes = same ∙ ap Some (sym s);
+      in_order = λ m l. quiet b m (below (λ m. is_quiet b m) n m (search both_left) l);
+      after_closes = λ over. no_end b bounded (held (is_over (link_of b n)) (none_ends b) (search (both_left, both_right)) over);
+    })
+    of_owed None same t s = inr (record {
+      applied = applied b bounded (search (both_left, both_right));
+      asked = open_still;
+      unawaited = not-true (is_awaited (b.story n)) (search (both_left, both_right));
+      moves = moves b n (search (both_left, both_right));
+      in_order = none_before b n (search (both_left, both_right));
+      nil = s;
+    })
+
+-- each step is due but for what is left to be said
+abbrev pub due : Book → Action → Bool
+due b (action.Turn k c) = turn_due b k c
+due b (action.Connect l host port) = (b.links == 0) && (l == 0)
+due b (action.Close l) = close_due b l
+due b (action.Write l bytes) = write_due b l bytes
+due b (action.Wait (owner.Try n round) kind) = (round == 0) && wait_due b n kind
+due b (action.Start l k (owner.Try n round) count len) = (round == 0) && start_due b l k n count len
+due b action.Created = created_due b
+due b (action.Outcome n o) = is_open (b.story n) && outcome_due b n (owed b n)
+
+-- and so are all of these
+abbrev pub all_due : Book → List Action → Bool
+all_due b [] = true
+all_due b (a ∷ more) = due b a && is_of_first a && all_due (entered b a) more
+
+-- what is left to be said is the address of the opening, the bytes that are offered, and the outcomes: this is the address
+abbrev pub IsAddress : Option Cause → List ℕ → ℕ → Type 0
+IsAddress None host port = ⊥
+IsAddress (Some (cause.Event e)) host port = ⊥
+IsAddress (Some (cause.Opening config word)) host port = (host ≡ config.host) × (port ≡ config.port)
+
+-- the opening asks for the first link
+connect_stands : (b : Book) (l : ℕ) (host : List ℕ) (port : ℕ) → ((b.links == 0) && (l == 0)) ≡ true → IsAddress b.running host port → MayConnect b l host port
+connect_stands b l host port e address = of_cause b.running refl address
+  where
+    of_cause : (c : Option Cause) → b.running ≡ c → IsAddress c host port → MayConnect b l host port
+    of_cause None same a = absurd a
+    of_cause (Some (cause.Event e)) same a = absurd a
+    of_cause (Some (cause.Opening config word)) same a =
+        let none : b.links ≡ 0 = eq_from b.links 0 (search both_left) in
+        record { config = config; word = word; opens = same; first = none; next = eq_from l 0 (search (both_left, both_right)) ∙ sym none; address = a }
+
+-- what is left to be said of all of these
+abbrev pub AllSaid : Book → List Action → Type 0
+AllSaid b [] = Unit {0}
+AllSaid b (action.Connect l host port ∷ more) = IsAddress b.running host port × AllSaid (entered b (action.Connect l host port)) more
+AllSaid b (action.Write l bytes ∷ more) = (bytes ≡ unwritten (b.link l)) × AllSaid (entered b (action.Write l bytes)) more
+AllSaid b (action.Outcome n o ∷ more) = IsSaid o (owed b n) × AllSaid (entered b (action.Outcome n o)) more
+AllSaid b (action.Turn k c ∷ more) = AllSaid (entered b (action.Turn k c)) more
+AllSaid b (action.Close l ∷ more) = AllSaid (entered b (action.Close l)) more
+AllSaid b (action.Wait who kind ∷ more) = AllSaid (entered b (action.Wait who kind)) more
+AllSaid b (action.Start l k who count len ∷ more) = AllSaid (entered b (action.Start l k who count len)) more
+AllSaid b (action.Created ∷ more) = AllSaid (entered b action.Created) more
+
+-- the first of these may stand
+first_stands : (b : Book) (a : Action) (more : List Action) → IsBounded b → due b a ≡ true → AllSaid b (a ∷ more) → MayStand b a × AllSaid (entered b a) more
+first_stands b (action.Turn k c) more bounded e said = (turn_stands b k c bounded e, said)
+first_stands b (action.Connect l host port) more bounded e said = (connect_stands b l host port e said.0, said.1)
+first_stands b (action.Close l) more bounded e said = (close_stands b l bounded e, said)
+first_stands b (action.Write l bytes) more bounded e said = (write_stands b l bytes bounded e said.0, said.1)
+first_stands b (action.Wait (owner.Try n round) kind) more bounded e said =
+    ((eq_from round 0 (both_left (round == 0) (wait_due b n kind) e), wait_stands b n kind bounded (both_right (round == 0) (wait_due b n kind) e)), said)
+first_stands b (action.Start l k (owner.Try n round) count len) more bounded e said =
+    ((eq_from round 0 (both_left (round == 0) (start_due b l k n count len) e), start_stands b l k n count len bounded (both_right (round == 0) (start_due b l k n count len) e)), said)
+first_stands b action.Created more bounded e said = (created_stands b bounded e, said)
+first_stands b (action.Outcome n o) more bounded e said = (outcome_stands b n o bounded e said.0, said.1)
+
+-- and so may all
+all_stand : (b : Book) (t : List Action) → IsBounded b → all_due b t ≡ true → AllSaid b t → AllStand b t × IsBounded (entered_each b t)
+all_stand b [] bounded e said = (tt, bounded)
+all_stand b (a ∷ more) bounded e said =
+    let one = both_left (due b a && is_of_first a) (all_due (entered b a) more) e in
+    let first = first_stands b a more bounded (both_left (due b a) (is_of_first a) one) said in
+    let after = still_bounded b a (both_right (due b a) (is_of_first a) one) bounded in
+    let next = all_stand (entered b a) more after (both_right (due b a && is_of_first a) (all_due (entered b a) more) e) first.1 in
+    ((first.0, next.0), next.1)
+
+-- the front of a trace, each of whose steps is due
+pub stands : (front : List Action) → all_due blank_book front ≡ true → AllSaid blank_book front → AllStand blank_book front
+stands front e said = (all_stand blank_book front blank_bounded e said).0
+
+-- a trace with the turns of these events, each of whose steps is due, and that is settled at its end
+pub legal : (config : Config) (word : ℕ) (events : List Event) (trace : List Action)
+    → causes trace ≡ cause.Opening config word ∷ event_causes events → (all_due blank_book trace && is_settled (entered_each blank_book trace)) ≡ true → AllSaid blank_book trace → Legal config word events trace
+unfolding book
+legal config word events trace turns e said =
+    let h = all_stand blank_book trace blank_bounded (both_left (all_due blank_book trace) (is_settled (entered_each blank_book trace)) e) said in
+    record { turns = turns; each = h.0; settled = settled (entered_each blank_book trace) h.1 (both_right (all_due blank_book trace) (is_settled (entered_each blank_book trace)) e) }

@@ -1,0 +1,10 @@
+pub mod Bounded
+pub mod Checks
+pub mod Settled
+pub mod Due
+pub mod Allowed
+pub mod Stood
+pub mod Refused
+pub mod Misplaced
+pub mod LeftOut
+pub mod Fronts

@@ -1,0 +1,177 @@
+-- Actions that stand where they may not: whatever comes after these fronts, no trace that begins so is legal.
+use Rattle.std.proofs.Common.{length, ap, ◌≢◌, ℕ, List, ◌∷◌, ◌++◌, refl, inl, inr, arith}
+use Rattle.std.specs.Fmt.{digits}
+use Rattle.resp_value.specs.declared.value.Value.TheVariants.{Nil}
+use Rattle.resp_read.specs.Grammar.{max_depth}
+use Rattle.resp_read.specs.Values.{values, left_over}
+use Rattle.resp_read.specs.Items.{items}
+use Rattle.driver_model.specs.declared.action.Action.{Action}
+use Rattle.driver_model.specs.declared.action.Action.TheVariants as action
+use Rattle.driver_model.specs.declared.action.Cause.{Cause}
+use Rattle.driver_model.specs.declared.action.Cause.TheVariants as cause
+use Rattle.driver_model.specs.declared.action.Owner.TheVariants as owner
+use Rattle.driver_model.specs.declared.action.WaitKind.{WaitKind}
+use Rattle.driver_model.specs.declared.action.WaitKind.TheVariants as wait
+use Rattle.driver_model.specs.declared.config.Config.{Config}
+use Rattle.driver_model.specs.declared.event.Event.{Event}
+use Rattle.driver_model.specs.declared.event.EventKind.TheVariants as event
+use Rattle.driver_model.specs.declared.outcome.Outcome.TheVariants as outcome
+use Rattle.driver_model.specs.Request.{packed}
+use Rattle.legal_trace.specs.Events.{is_bad_event}
+use Rattle.legal_trace.specs.Legal.{MayTurn, Legal}
+use Rattle.trace_examples.specs.Parts.{turn, command, unawaited, one_nameless, nameless_atomic, nameless_skipped}
+use Rattle.trace_examples.specs.Traces.{taken_in_part, came_up, arrived, started_one, started_unoffered, held_back, spoiled, cut_off, left_untold, left_out, both_left_out, up_in_wait, both_in_wait, first_of_both, ended}
+use Rattle.trace_examples.proofs.Stood.{book_of, may_stand}
+
+-- a message that starts, although nobody awaits its reply and its command wasn't told
+pub started_untold : (config : Config) (word : ℕ) (events : List Event) (after : List Action)
+    → Legal config word events (left_untold config word ++ action.Start 0 0 (owner.Try 0 0) 1 11 ∷ after) → ⊥
+started_untold config word events after h =
+    let m = may_stand config word events (left_untold config word) after (action.Start 0 0 (owner.Try 0 0) 1 11) h in
+    elim m.1.wanted [ inl awaited ↦ cc awaited | inr told ↦ cc told.told ]
+
+-- the Nil of a command whose reply nobody awaits, before the start of an earlier one
+pub told_out_of_order : (config : Config) (word : ℕ) (events : List Event) (after : List Action)
+    → Legal config word events (both_in_wait config word (unawaited 72) ++ action.Outcome 1 (outcome.One Nil) ∷ after) → ⊥
+unfolding digits
+told_out_of_order config word events after h =
+    elim (may_stand config word events (both_in_wait config word (unawaited 72)) after (action.Outcome 1 (outcome.One Nil)) h) [
+      | inl answer ↦ cc answer.owes
+      | inr tell ↦ tell.in_order 0 (omega arith) (record { unstarted = refl; wanted = inl refl; up = refl })
+    ]
+
+-- and before the creation
+pub told_before_the_creation : (config : Config) (word : ℕ) (events : List Event) (after : List Action)
+    → Legal config word events (up_in_wait config word (unawaited 71) ++ action.Outcome 0 (outcome.One Nil) ∷ after) → ⊥
+unfolding digits
+told_before_the_creation config word events after h =
+    elim (may_stand config word events (up_in_wait config word (unawaited 71)) after (action.Outcome 0 (outcome.One Nil)) h) [
+      | inl answer ↦ cc answer.owes
+      | inr tell ↦ tell.applied.created.shown 0 refl refl
+    ]
+
+-- a close by bytes that begin no value, before the outcome of the value in front of them
+pub closed_before_the_reply : (config : Config) (word : ℕ) (events : List Event) (after : List Action)
+    → Legal config word events (spoiled config word ++ action.Close 0 ∷ after) → ⊥
+unfolding digits items values left_over max_depth
+closed_before_the_reply config word events after h =
+    let m = may_stand config word events (spoiled config word) after (action.Close 0) h in
+    cc (m.answered 0 refl)
+
+-- a link that is closed twice
+pub closed_twice : (config : Config) (word : ℕ) (events : List Event) (after : List Action)
+    → Legal config word events (cut_off config word (command 71) 1 11 ++ action.Close 0 ∷ after) → ⊥
+closed_twice config word events after h =
+    let m = may_stand config word events (cut_off config word (command 71) 1 11) after (action.Close 0) h in
+    cc m.ends
+
+-- a message that is held back behind one that isn't answered: the next turn doesn't begin
+pub held_back_behind : (config : Config) (word : ℕ) (events : List Event) (after : List Action) (number : ℕ) (c : Cause)
+    → Legal config word events (held_back config word ++ action.Turn number c ∷ after) → ⊥
+held_back_behind config word events after number c h = of_cause c (may_stand config word events (held_back config word) after (action.Turn number c) h)
+  where
+    of_cause : (c : Cause) → MayTurn (book_of (held_back config word)) number c → ⊥
+    of_cause (cause.Opening config word) m = cc m.is_for
+    of_cause (cause.Event e) m = m.is_for.1.written.moved.moved 1 (record { unstarted = refl; wanted = inl refl; up = refl })
+
+-- bytes that are offered before a message that may start
+pub offered_before_a_start : (config : Config) (word : ℕ) (events : List Event) (after : List Action) (bytes : List ℕ)
+    → Legal config word events (first_of_both config word ++ action.Write 0 bytes ∷ after) → ⊥
+offered_before_a_start config word events after bytes h =
+    let m = may_stand config word events (first_of_both config word) after (action.Write 0 bytes) h in
+    m.moved.moved 1 (record { unstarted = refl; wanted = inl refl; up = refl })
+
+-- bytes that are offered twice
+pub offered_twice : (config : Config) (word : ℕ) (events : List Event) (after : List Action)
+    → Legal config word events (started_one config word ++ action.Write 0 (packed (command 71)) ∷ after) → ⊥
+offered_twice config word events after h =
+    let m = may_stand config word events (started_one config word) after (action.Write 0 (packed (command 71))) h in
+    cc m.answered
+
+-- bytes that are offered again after they were taken
+pub offered_what_was_taken : (config : Config) (word : ℕ) (events : List Event) (after : List Action)
+    → Legal config word events (taken_in_part config word ++ action.Write 0 (packed (command 71)) ∷ after) → ⊥
+unfolding digits
+offered_what_was_taken config word events after h =
+    let m = may_stand config word events (taken_in_part config word) after (action.Write 0 (packed (command 71))) h in
+    cc (ap length m.all)
+
+-- a wait that is shown before the bytes of a link are offered
+pub waits_before_an_offer : (config : Config) (word : ℕ) (events : List Event) (after : List Action) (n round : ℕ) (kind : WaitKind)
+    → Legal config word events (started_unoffered config word ++ action.Wait (owner.Try n round) kind ∷ after) → ⊥
+waits_before_an_offer config word events after n round kind h =
+    let m = may_stand config word events (started_unoffered config word) after (action.Wait (owner.Try n round) kind) h in
+    elim (m.1.written.offered 0 refl) [ inl none ↦ cc none | inr some ↦ some refl ]
+
+-- and before an earlier wait
+pub waits_out_of_order : (config : Config) (word : ℕ) (events : List Event) (after : List Action)
+    → Legal config word events (both_left_out config word ++ action.Wait (owner.Try 1 0) wait.Connect ∷ after) → ⊥
+waits_out_of_order config word events after h =
+    let m = may_stand config word events (both_left_out config word) after (action.Wait (owner.Try 1 0) wait.Connect) h in
+    m.1.in_order 0 (omega arith) refl refl refl
+
+-- a message that starts before its link is up
+pub started_before_the_connect : (config : Config) (word : ℕ) (events : List Event) (after : List Action) (l k round count len : ℕ)
+    → Legal config word events (left_out config word ++ action.Start l k (owner.Try 0 round) count len ∷ after) → ⊥
+started_before_the_connect config word events after l k round count len h =
+    let m = may_stand config word events (left_out config word) after (action.Start l k (owner.Try 0 round) count len) h in
+    cc m.1.moves.up
+
+-- and one that starts after its link ended
+pub started_after_the_end : (config : Config) (word : ℕ) (events : List Event) (after : List Action) (l k round count len : ℕ)
+    → Legal config word events (ended config word ++ action.Start l k (owner.Try 1 round) count len ∷ after) → ⊥
+started_after_the_end config word events after l k round count len h =
+    let m = may_stand config word events (ended config word) after (action.Start l k (owner.Try 1 round) count len) h in
+    cc m.1.moves.up
+
+-- a start with the need of another message
+pub another_need : (config : Config) (word : ℕ) (events : List Event) (after : List Action) (count len : ℕ) → count ≢ 1
+    → Legal config word events (arrived config word (command 71) ++ action.Start 0 0 (owner.Try 0 0) count len ∷ after) → ⊥
+another_need config word events after count len other h =
+    let m = may_stand config word events (arrived config word (command 71)) after (action.Start 0 0 (owner.Try 0 0) count len) h in
+    other m.1.needs_its_items
+
+-- and with its length
+pub another_length : (config : Config) (word : ℕ) (events : List Event) (after : List Action) (count len : ℕ) → len ≢ 11
+    → Legal config word events (arrived config word (command 71) ++ action.Start 0 0 (owner.Try 0 0) count len ∷ after) → ⊥
+unfolding digits
+another_length config word events after count len other h =
+    let m = may_stand config word events (arrived config word (command 71)) after (action.Start 0 0 (owner.Try 0 0) count len) h in
+    other m.1.long_as_its_bytes
+
+-- the turn of one command without words in a list
+pub nameless : (config : Config) (word : ℕ) (events : List Event) (after : List Action)
+    → Legal config word events (came_up config word ++ turn 2 (event.Submit one_nameless) ∷ after) → ⊥
+unfolding is_bad_event
+nameless config word events after h =
+    let m = may_stand config word events (came_up config word) after (turn 2 (event.Submit one_nameless)) h in
+    cc m.is_for.2
+
+pub nameless_transaction : (config : Config) (word : ℕ) (events : List Event) (after : List Action)
+    → Legal config word events (came_up config word ++ turn 2 (event.Submit nameless_atomic) ∷ after) → ⊥
+unfolding is_bad_event
+nameless_transaction config word events after h =
+    let m = may_stand config word events (came_up config word) after (turn 2 (event.Submit nameless_atomic)) h in
+    cc m.is_for.2
+
+pub nameless_packed : (config : Config) (word : ℕ) (events : List Event) (after : List Action) (offset count : ℕ)
+    → Legal config word events (came_up config word ++ turn 2 (event.Submit (nameless_skipped offset count)) ∷ after) → ⊥
+unfolding is_bad_event
+nameless_packed config word events after offset count h =
+    let m = may_stand config word events (came_up config word) after (turn 2 (event.Submit (nameless_skipped offset count))) h in
+    cc m.is_for.2
+
+-- the turn of more bytes taken than were offered
+pub took_too_much : (config : Config) (word : ℕ) (events : List Event) (after : List Action)
+    → Legal config word events (started_one config word ++ turn 3 (event.Wrote 0 12) ∷ after) → ⊥
+unfolding is_bad_event digits
+took_too_much config word events after h =
+    let m = may_stand config word events (started_one config word) after (turn 3 (event.Wrote 0 12)) h in
+    cc m.is_for.2
+
+-- a creation that is shown twice
+pub created_twice : (config : Config) (word : ℕ) (events : List Event) (after : List Action)
+    → Legal config word events (came_up config word ++ action.Created ∷ after) → ⊥
+created_twice config word events after h =
+    let m = may_stand config word events (came_up config word) after action.Created h in
+    cc m.once

@@ -1,0 +1,218 @@
+-- Tests of a book, and what each says: what holds of all submissions and all links is tested of those that were given out.
+use Rattle.std.proofs.Common.{◌≡◌, ◌≢◌, ◌⊎◌, ℕ, ◌<◌, ◌==◌, nat_lt, Bool, true, false, ◌&&◌, ◌||◌, not, length, Option, Some, None, is_some, refl, sym, ap, ◌∙◌, subst, inl, inr, arith}
+use Rattle.std.specs.Option.{is_none}
+use Rattle.std.proofs.lemmas.Bool.{not-true}
+use Rattle.containers.proofs.Tests.{by_test, not_both, eq_from, ne_from, lt_from, not_lt_from, left_if, both_left, both_right}
+use Rattle.driver_model.specs.declared.action.WaitKind.{WaitKind}
+use Rattle.driver_model.specs.declared.action.WaitKind.TheVariants as wait
+use Rattle.driver_model.specs.declared.event.Submission.{Submission}
+use Rattle.legal_trace.specs.Ledger.{Ledger, IsOffered, is_over, ending, unwritten}
+use Rattle.legal_trace.specs.Story.{Try, last_of, is_open, is_awaited, awaited_in}
+use Rattle.legal_trace.specs.Book.{Book}
+use Rattle.legal_trace.specs.Owed.{owed, is_full}
+use Rattle.legal_trace.specs.Legal.{IsOpen, link_of, NoneIsOwed, NoneEnds, IsApplied, IsTold, CanMove, IsMoved, IsWritten, WaitHolds, IsStarted, IsWaiting, IsSettled}
+use Rattle.trace_examples.proofs.Bounded.{IsBounded, IsIdle}
+use Rattle.trace_examples.proofs.Checks.{holds_if, held, none_from, is_empty, empty_from, filled_from, each_below, below, is_told, told_from, nil_told}
+
+-- what was never handed in isn't open
+closed : (what : Option Submission) (c d : Bool) → what ≡ None → (is_some what && c && d) ≡ true → ⊥
+closed None c d e t = cc t
+closed (Some s) c d e t = cc e
+
+-- a fact of the open submissions among those that were given out
+pub of_open : (b : Book) (P : Type 0) (n : ℕ) → IsBounded b → (n < b.submissions → P) → IsOpen b n → P
+of_open b P n bounded f o =
+    by_test (nat_lt n b.submissions) P (λ l. f (lt_from n b.submissions l))
+    (λ l. absurd (closed (b.story n).submission (length (b.story n).outcomes == 0) (not (b.story n).cancelled) (bounded.absent n (not_lt_from n b.submissions l)) o))
+
+-- it is owed nothing, if it is open
+abbrev pub is_quiet : Book → ℕ → Bool
+is_quiet b n = holds_if (is_open (b.story n)) (is_none (owed b n))
+
+-- what this says
+pub quiet : (b : Book) (n : ℕ) → is_quiet b n ≡ true → IsOpen b n → owed b n ≡ None
+quiet b n e o = none_from (owed b n) (held (is_open (b.story n)) (is_none (owed b n)) e o)
+
+-- no open submission is owed an outcome
+abbrev pub all_quiet : Book → Bool
+all_quiet b = each_below (λ n. is_quiet b n) b.submissions
+
+pub none_is_owed : (b : Book) → IsBounded b → all_quiet b ≡ true → NoneIsOwed b
+none_is_owed b bounded e n o = of_open b (owed b n ≡ None) n bounded (λ l. quiet b n (below (λ m. is_quiet b m) b.submissions n e l) o) o
+
+-- a fact of the first link, and of every idle one
+first_and_idle : (b : Book) (P : ℕ → Type 0) (l : ℕ) → IsBounded b → P 0 → (IsIdle (b.link l) → P l) → P l
+first_and_idle b P l bounded first idle = by_test (l == 0) (P l) (λ e. subst P (sym (eq_from l 0 e)) first) (λ e. idle (bounded.idle l (some l e)))
+  where
+    some : (l : ℕ) → (l == 0) ≡ false → 0 < l
+    some l e = let n = ne_from l 0 e in omega arith
+
+-- nothing ends an idle link
+ending_idle : (l : Ledger) → IsIdle l → ending l ≡ None
+ending_idle l h = left_if l.up _ _ h.down ∙ left_if (l.asked && not (is_over l)) _ _ (and_false l.asked (not (is_over l)) h.unasked)
+  where
+    and_false : (p q : Bool) → p ≡ false → (p && q) ≡ false
+    and_false true q e = cc
+    and_false false q e = refl
+
+-- no link must end
+abbrev pub none_ends : Book → Bool
+none_ends b = is_none (ending (b.link 0))
+
+pub no_end : (b : Book) → IsBounded b → none_ends b ≡ true → NoneEnds b
+no_end b bounded e l = first_and_idle b (λ m. ending (b.link m) ≡ None) l bounded (none_from (ending (b.link 0)) e) (ending_idle (b.link l))
+
+-- a fact of a link that is up: there is none but the first
+of_up : (b : Book) (P : ℕ → Type 0) (l : ℕ) → IsBounded b → ((b.link 0).up ≡ true → P 0) → (b.link l).up ≡ true → P l
+of_up b P l bounded f u = first_and_idle b (λ m. (b.link m).up ≡ true → P m) l bounded f (λ idle t. absurd (not_both (b.link l).up idle.down t)) u
+
+-- the event has had its own effect
+abbrev pub is_applied : Book → Bool
+is_applied b = all_quiet b && none_ends b && not (b.links == 0) && holds_if (b.link 0).up (not (b.created == 0))
+
+pub applied : (b : Book) → IsBounded b → is_applied b ≡ true → IsApplied b
+applied b bounded e = record {
+  answered = none_is_owed b bounded (search (both_left, both_right));
+  ended = no_end b bounded (search (both_left, both_right));
+  created = record {
+    asked = other_than_zero b.links (search (both_left, both_right));
+    shown = λ l u. of_up b (λ m. b.created ≢ 0) l bounded (λ t. other_than_zero b.created (held (b.link 0).up (not (b.created == 0)) (search (both_left, both_right)) t)) u;
+  };
+}
+  where
+    other_than_zero : (n : ℕ) → not (n == 0) ≡ true → n ≢ 0
+    other_than_zero n e = ne_from n 0 (not-true (n == 0) e)
+
+-- its message has not started and may
+abbrev pub can_move : Book → ℕ → Bool
+can_move b n = is_empty (b.story n).tries && (is_open (b.story n) || is_told (b.story n)) && (link_of b n).up
+
+pub moves : (b : Book) (n : ℕ) → can_move b n ≡ true → CanMove b n
+moves b n e = record {
+  unstarted = empty_from (b.story n).tries (search (both_left, both_right));
+  wanted = wanted (is_open (b.story n)) (search (both_left, both_right));
+  up = search (both_left, both_right);
+}
+  where
+    wanted : (open_still : Bool) → (open_still || is_told (b.story n)) ≡ true → (open_still ≡ true) ⊎ IsTold (b.story n)
+    wanted true t = inl refl
+    wanted false t = inr (told_from (b.story n) t)
+
+-- and it may not
+pub stays : (b : Book) (n : ℕ) → can_move b n ≡ false → CanMove b n → ⊥
+stays b n e can = not_both (can_move b n) e (three (is_empty (b.story n).tries) (is_open (b.story n) || is_told (b.story n)) (link_of b n).up (ap is_empty can.unstarted) (wanted (is_open (b.story n)) can.wanted) can.up)
+  where
+    wanted : (open_still : Bool) → (open_still ≡ true) ⊎ IsTold (b.story n) → (open_still || is_told (b.story n)) ≡ true
+    wanted true w = refl
+    wanted false w = elim w [ inl o ↦ cc o | inr told ↦ nil_told (b.story n) told ]
+
+    three : (p q r : Bool) → p ≡ true → q ≡ true → r ≡ true → (p && q && r) ≡ true
+    three p q r x y z = rw (x, y, z)
+
+-- none of the submissions before n has a message that may start
+abbrev pub all_stay : Book → ℕ → Bool
+all_stay b n = each_below (λ m. not (can_move b m)) n
+
+pub none_before : (b : Book) (n : ℕ) → all_stay b n ≡ true → (m : ℕ) → m < n → CanMove b m → ⊥
+none_before b n e m l = stays b m (not-true (can_move b m) (below (λ m. not (can_move b m)) n m e l))
+
+-- what was never handed in has none
+absent_stays : (b : Book) (n : ℕ) → (b.story n).submission ≡ None → CanMove b n → ⊥
+absent_stays b n e can = elim can.wanted [
+  | inl o ↦ closed (b.story n).submission (length (b.story n).outcomes == 0) (not (b.story n).cancelled) e o
+  | inr told ↦ let awaited : is_awaited (b.story n) ≡ true = ap awaited_in e in not_both (is_awaited (b.story n)) told.unawaited awaited
+]
+
+-- all messages that may start have started
+abbrev pub is_moved : Book → Bool
+is_moved b = is_applied b && all_stay b b.submissions
+
+pub moved : (b : Book) → IsBounded b → is_moved b ≡ true → IsMoved b
+moved b bounded e = record {
+  applied = applied b bounded (both_left (is_applied b) (all_stay b b.submissions) e);
+  moved = λ n can. by_test (nat_lt n b.submissions) ⊥ (λ l. none_before b b.submissions (both_right (is_applied b) (all_stay b b.submissions) e) n (lt_from n b.submissions l) can)
+      (λ l. absent_stays b n (bounded.absent n (not_lt_from n b.submissions l)) can);
+}
+
+-- a link is offered its bytes
+abbrev pub is_offered : Ledger → Bool
+is_offered l = is_empty (unwritten l) || not (is_empty l.offer)
+
+pub offered : (l : Ledger) → is_offered l ≡ true → IsOffered l
+offered l e = by_test (is_empty (unwritten l)) (IsOffered l) (λ t. inl (empty_from (unwritten l) t)) (λ f. inr (filled_from l.offer (second (is_empty (unwritten l)) (not (is_empty l.offer)) f e)))
+  where
+    second : (p q : Bool) → p ≡ false → (p || q) ≡ true → q ≡ true
+    second true q f t = cc
+    second false q f t = t
+
+-- every link that is up is offered its bytes
+abbrev pub is_written : Book → Bool
+is_written b = is_moved b && holds_if (b.link 0).up (is_offered (b.link 0))
+
+pub written : (b : Book) → IsBounded b → is_written b ≡ true → IsWritten b
+written b bounded e = record {
+  moved = moved b bounded (both_left (is_moved b) (holds_if (b.link 0).up (is_offered (b.link 0))) e);
+  offered = λ l u. of_up b (λ m. IsOffered (b.link m)) l bounded (λ t. offered (b.link 0) (held (b.link 0).up (is_offered (b.link 0)) (both_right (is_moved b) (holds_if (b.link 0).up (is_offered (b.link 0))) e) t)) u;
+}
+
+-- a wait is true
+abbrev pub wait_holds : Book → ℕ → WaitKind → Bool
+wait_holds b n wait.Connect = (link_of b n).asked && not (link_of b n).up && is_none (link_of b n).end
+
+pub holds : (b : Book) (n : ℕ) (kind : WaitKind) → wait_holds b n kind ≡ true → WaitHolds b n kind
+holds b n wait.Connect e = (search (both_left, both_right), not-true (link_of b n).up (search (both_left, both_right)), none_from (link_of b n).end (search (both_left, both_right)))
+
+-- it is started on a link that is up, takes more items, and is offered
+abbrev pub try_goes : Book → Option Try → Bool
+try_goes b None = false
+try_goes b (Some t) = (b.link t.link).up && not (is_full (b.link t.link) t.message) && is_offered (b.link t.link)
+
+pub started : (b : Book) (n : ℕ) → try_goes b (last_of (b.story n).tries) ≡ true → IsStarted b n
+started b n e = of_try (last_of (b.story n).tries) refl e
+  where
+    of_try : (t : Option Try) → last_of (b.story n).tries ≡ t → try_goes b t ≡ true → IsStarted b n
+    of_try None same e = cc e
+    of_try (Some t) same e = record {
+      try = t;
+      last = same;
+      up = search (both_left, both_right);
+      takes_more = not-true (is_full (b.link t.link) t.message) (search (both_left, both_right));
+      offered = offered (b.link t.link) (search (both_left, both_right));
+    }
+
+-- it has no message, and the wait that was shown is true
+abbrev pub shown_holds : Book → ℕ → Option WaitKind → Bool
+shown_holds b n None = false
+shown_holds b n (Some kind) = wait_holds b n kind
+
+abbrev pub is_waiting : Book → ℕ → Bool
+is_waiting b n = is_empty (b.story n).tries && shown_holds b n (b.story n).waiting
+
+pub waiting : (b : Book) (n : ℕ) → is_waiting b n ≡ true → IsWaiting b n
+waiting b n e = of_kind (b.story n).waiting refl (both_right (is_empty (b.story n).tries) (shown_holds b n (b.story n).waiting) e)
+  where
+    of_kind : (w : Option WaitKind) → (b.story n).waiting ≡ w → shown_holds b n w ≡ true → IsWaiting b n
+    of_kind None same t = cc t
+    of_kind (Some kind) same t = record { unstarted = empty_from (b.story n).tries (both_left (is_empty (b.story n).tries) (shown_holds b n (b.story n).waiting) e); kind = kind; shown = same; holds = holds b n kind t }
+
+-- where it is open, it goes on
+abbrev pub goes_on : Book → ℕ → Bool
+goes_on b n = holds_if (is_open (b.story n)) (try_goes b (last_of (b.story n).tries) || is_waiting b n)
+
+goes : (b : Book) (n : ℕ) → goes_on b n ≡ true → IsOpen b n → IsStarted b n ⊎ IsWaiting b n
+goes b n e o = either_of (try_goes b (last_of (b.story n).tries)) (is_waiting b n) (held (is_open (b.story n)) (try_goes b (last_of (b.story n).tries) || is_waiting b n) e o) (started b n) (waiting b n)
+  where
+    either_of : {P Q : Type 0} (p q : Bool) → (p || q) ≡ true → (p ≡ true → P) → (q ≡ true → Q) → P ⊎ Q
+    either_of true q t f g = inl (f refl)
+    either_of false q t f g = inr (g t)
+
+-- what holds after each turn
+abbrev pub is_settled : Book → Bool
+is_settled b = is_written b && each_below (λ n. goes_on b n) b.submissions
+
+pub settled : (b : Book) → IsBounded b → is_settled b ≡ true → IsSettled b
+settled b bounded e = record {
+  written = written b bounded (both_left (is_written b) (each_below (λ n. goes_on b n) b.submissions) e);
+  goes = λ n o. of_open b (IsStarted b n ⊎ IsWaiting b n) n bounded
+      (λ l. goes b n (below (λ n. goes_on b n) b.submissions n (both_right (is_written b) (each_below (λ n. goes_on b n) b.submissions) e) l) o) o;
+}
