@@ -38,6 +38,7 @@ alike id s row h = record { row = h; rest = refl }
 abbrev re_rowed : LinkState → List Entry → LinkState
 re_rowed s row = record s { row = row }
 
+-- who starts does not depend on the row
 starting_unread : (s : LinkState) (row : List Entry) (qs : List Queued) → starting (re_rowed s row) qs ≡ starting s qs
 starting_unread s row [] = refl
 starting_unread s row (q ∷ qs) =
@@ -45,6 +46,7 @@ starting_unread s row (q ∷ qs) =
     (λ t. refl)
     (λ f. ap (λ (x : List Queued). q ∷ x) (starting_unread (begun s q) (row ++ entry_of q ∷ []) qs))
 
+-- the same start
 begun_alike : (id : ℕ) (name : ℕ → Owner) (a : Run) (row : List Entry) (out : List Settled) → SameRow id a.link.row row → others id a.settled ≡ others id out → SameRun id (begun_all name a) (begun_all name (with_row a row out))
 begun_alike id name a row out h o =
     let one = start_alike id a.link (re_rowed a.link row) [] (alike id a.link row h) in
@@ -60,11 +62,13 @@ begun_alike id name a row out h o =
 over_alike : (id : ℕ) (a : Run) (row : List Entry) (out : List Settled) (d e : Settling) → SameSettling id d e → SameRun id (over_with a d) (over_with (with_row a row out) e)
 over_alike id a row out d e h = record { link = h.link; settled = h.out; rest = refl }
 
+-- by a fault
 faulted_alike : (id : ℕ) (a : Run) (row : List Entry) (out : List Settled) (f : LinkFault) → SameRow id a.link.row row → others id a.settled ≡ others id out
     → SameRun id (over_with a (faulted (settling a) f)) (over_with (with_row a row out) (faulted (settling (with_row a row out)) f))
 faulted_alike id a row out f h o =
     over_alike id a row out (faulted (settling a) f) (faulted (settling (with_row a row out)) f) (fault_alike id f a.link (re_rowed a.link row) a.settled out (alike id a.link row h) o)
 
+-- and by the shutdown
 closed_alike : (id : ℕ) (a : Run) (row : List Entry) (out : List Settled) → SameRow id a.link.row row → others id a.settled ≡ others id out
     → SameRun id (over_with a (closed_all (settling a))) (over_with (with_row a row out) (closed_all (settling (with_row a row out))))
 closed_alike id a row out h o =
@@ -80,6 +84,7 @@ parse_alike id a row out h o =
     (λ t. faulted_alike id a row out fault.Parse h o)
     (λ f. record { link = alike id a.link row h; settled = o; rest = refl })
 
+-- the same bytes come
 read_alike : (id : ℕ) (a : Run) (row : List Entry) (out : List Settled) (piece : List ℕ) → SameRow id a.link.row row → others id a.settled ≡ others id out → SameRun id (has_read a piece) (has_read (with_row a row out) piece)
 read_alike id a row out piece h o =
     let d = came (settling a) piece in
@@ -95,6 +100,7 @@ read_alike id a row out piece h o =
 same_with : (id : ℕ) (a : Run) (row : List Entry) (out : List Settled) → SameRow id a.link.row row → others id a.settled ≡ others id out → SameRun id a (with_row a row out)
 same_with id a row out h o = record { link = alike id a.link row h; settled = o; rest = refl }
 
+-- one operation of links that have not ended
 acted_alike : (id : ℕ) (name : ℕ → Owner) (a : Run) (row : List Entry) (out : List Settled) (op : Operation) → SameRow id a.link.row row → others id a.settled ≡ others id out
     → SameRun id (acted name a op) (acted name (with_row a row out) op)
 acted_alike id name a row out (place q) h o =
@@ -118,6 +124,7 @@ acted_alike id name a row out (fail f) h o = faulted_alike id (heard a (failed f
 acted_alike id name a row out shut_down h o = closed_alike id (heard a shut) row out h o
 acted_alike id name a row out pass h o = same_with id (heard a silence) row out h o
 
+-- one operation
 with_alike : (id : ℕ) (name : ℕ → Owner) (a : Run) (row : List Entry) (out : List Settled) (op : Operation) → SameRow id a.link.row row → others id a.settled ≡ others id out
     → SameRun id (performed name a op) (performed name (with_row a row out) op)
 with_alike id name a row out op h o =
@@ -127,9 +134,11 @@ with_alike id name a row out op h o =
 row_is : (id : ℕ) (a b : Run) → SameRun id a b → b ≡ with_row a b.link.row b.settled
 row_is id a b h = h.rest ∙ ap (λ (s : LinkState). record a { link = s; settled = b.settled }) h.link.rest
 
+-- one operation of runs that are alike
 performed_alike : (id : ℕ) (name : ℕ → Owner) (a b : Run) (op : Operation) → SameRun id a b → SameRun id (performed name a op) (performed name b op)
 performed_alike id name a b op h = subst (λ (x : Run). SameRun id (performed name a op) (performed name x op)) (sym (row_is id a b h)) (with_alike id name a b.link.row b.settled op h.link.row h.settled)
 
+-- operations one after another
 each_alike : (id : ℕ) (name : ℕ → Owner) (a b : Run) (ops : List Operation) → SameRun id a b → SameRun id (performed_each name a ops) (performed_each name b ops)
 each_alike id name a b [] h = h
 each_alike id name a b (op ∷ ops) h = each_alike id name (performed name a op) (performed name b op) ops (performed_alike id name a b op h)
@@ -142,6 +151,7 @@ withdrawn_alike id name a left =
     (λ t. same_with id a a.link.row a.settled (same_row_refl id a.link.row) refl)
     (λ f. record { link = cancel_stays id a.link left; settled = refl; rest = refl })
 
+-- operations, and then others
 each-append : (name : ℕ → Owner) (r : Run) (xs ys : List Operation) → performed_each name r (xs ++ ys) ≡ performed_each name (performed_each name r xs) ys
 each-append name r [] ys = refl
 each-append name r (x ∷ xs) ys = each-append name (performed name r x) xs ys
@@ -150,9 +160,11 @@ each-append name r (x ∷ xs) ys = each-append name (performed name r x) xs ys
 abbrev pub SameButFor : ℕ → Run → Run → Type 0
 SameButFor id a b = (a.lines ≡ b.lines) × (others id a.settled ≡ others id b.settled)
 
+-- runs that are alike tell the same
 same_told : (id : ℕ) (a b : Run) → SameRun id a b → SameButFor id a b
 same_told id a b h = (sym (ap (λ (x : Run). x.lines) h.rest), h.settled)
 
+-- a run with that withdrawal, and the run without it
 pub cancel_apart : (name : ℕ → Owner) (size boundary id : ℕ) (ops more : List Operation) → without (run name size boundary ops).link.queue id ≡ (run name size boundary ops).link.queue
     → SameButFor id (run name size boundary (ops ++ more)) (run name size boundary (ops ++ withdraw id ∷ more))
 unfolding run

@@ -100,9 +100,11 @@ pub record IsCutOf (name : ℕ → Owner) (ss : List Start) (items : List Data) 
   pub cut : HasCut ss items (name s.id) of_shape got
   pub verdict_is : s.verdict ≡ verdict of_shape got
 
+-- the verdicts of settled messages are those of their cuts
 abbrev pub AreCuts : (ℕ → Owner) → List Start → List Data → List Settled → Type 0
 AreCuts name ss items out = AllByRecursion (IsCutOf name ss items) out
 
+-- they stay so when more items are dealt
 pub cuts_stay : (name : ℕ → Owner) (ss : List Start) (items more : List Data) (out : List Settled) → AreCuts name ss items out → AreCuts name ss (items ++ more) out
 cuts_stay name ss items more [] all = tt
 cuts_stay name ss items more (s ∷ out) all = (
@@ -110,6 +112,7 @@ cuts_stay name ss items more (s ∷ out) all = (
   cuts_stay name ss items more out all.1,
 )
 
+-- and when one more message starts
 pub cuts_kept : (name : ℕ → Owner) (ss : List Start) (x : Start) (items : List Data) (out : List Settled) → AreCuts name ss items out → AreCuts name (ss ++ x ∷ []) items out
 cuts_kept name ss x items [] all = tt
 cuts_kept name ss x items (s ∷ out) all = (
@@ -117,6 +120,7 @@ cuts_kept name ss x items (s ∷ out) all = (
   cuts_kept name ss x items out all.1,
 )
 
+-- what holds of each of two lists holds of each of both
 pub all_append : {X : Type 0} (P : X → Type 0) (xs ys : List X) → AllByRecursion P xs → AllByRecursion P ys → AllByRecursion P (xs ++ ys)
 all_append P [] ys all also = also
 all_append P (x ∷ xs) ys all also = (all.0, all_append P xs ys all.1 also)
@@ -127,15 +131,18 @@ pub record IsDealt (name : ℕ → Owner) (ss : List Start) (items : List Data) 
   pub within : length items ≤ reach ss items
   pub cuts : AreCuts name ss items d.out
 
+-- a full entry settles its cut
 settled_cuts : (name : ℕ → Owner) (ss : List Start) (items : List Data) (e : Entry) → HasCut ss items (name e.id) e.shape e.got → AreCuts name ss items (settled_by e)
 settled_cuts name ss items e h =
     chosen (AreCuts name ss items) e.awaited _ _
     (λ t. (record { of_shape = e.shape; got = e.got; cut = h; verdict_is = refl }, tt))
     (λ f. tt)
 
+-- an entry that an item fills
 full_from : (e : Entry) (item : Data) → nat_lt (length (with_item e item).got) (need e.shape) ≡ false → nat_le (need e.shape) (length e.got + 1) ≡ true
 full_from e item f = le_test _ _ (omega (arith, not_lt_from _ _ f, length_push e.got item))
 
+-- an entry that takes more behind an item
 open_from : (e : Entry) (item : Data) → nat_lt (length (with_item e item).got) (need e.shape) ≡ true → nat_le (need e.shape) (length e.got + 1) ≡ false
 open_from e item t = not_le_test _ _ (omega (arith, lt_from _ _ t, length_push e.got item))
 
@@ -168,6 +175,7 @@ given_dealt name ss items d item e es is h =
 abbrev taken_item : ℕ → List Data → Data → List Data
 taken_item all items item = if nat_lt (length items) all then items ++ item ∷ [] else items
 
+-- one item is dealt alike
 one_dealt : (name : ℕ → Owner) (ss : List Start) (items : List Data) (d : Dealing) (item : Data) (row : List Entry) → d.row ≡ row → IsDealt name ss items d
     → IsDealt name ss (taken_item (reach ss items) items item) (dealt_to d item row)
 one_dealt name ss items d item [] is h =
@@ -181,15 +189,18 @@ one_dealt name ss items d item (e ∷ es) is h =
 abbrev pub items_with : ℕ → List Data → List Data → List Data
 items_with all items more = items ++ take (all - length items) more
 
+-- where all are dealt, no more are taken
 none_wanted : (all : ℕ) (items more : List Data) → all ≤ length items → items_with all items more ≡ items
 none_wanted all items more l = let z : all - length items ≡ 0 = omega arith in rw z (append-nil items)
 
+-- where more are wanted, the first is taken
 first_wanted : (all : ℕ) (items : List Data) (item : Data) (more : List Data) → length items < all → items_with all items (item ∷ more) ≡ items_with all (items ++ item ∷ []) more
 first_wanted all items item more l =
     let n = length_push items item in
     let z : all - length items ≡ suc (all - length (items ++ item ∷ [])) = omega arith in
     rw z (sym (append_assoc items (item ∷ []) (take (all - length (items ++ item ∷ [])) more)))
 
+-- items are taken one by one
 one_wanted : (all : ℕ) (items : List Data) (item : Data) (more : List Data) → items_with all items (item ∷ more) ≡ items_with all (taken_item all items item) more
 one_wanted all items item more =
     by_test (nat_lt (length items) all) _
@@ -197,6 +208,7 @@ one_wanted all items item more =
     (λ f. if_false (λ xs. items_with all items (item ∷ more) ≡ items_with all xs more) _ _ _ f
     (let l = not_lt_from _ _ f in none_wanted all items (item ∷ more) l ∙ sym (none_wanted all items more l)))
 
+-- items one after another are dealt alike
 each_dealt : (name : ℕ → Owner) (ss : List Start) (all : ℕ) (items : List Data) (d : Dealing) (vs : List Data) → reach ss items ≡ all → IsDealt name ss items d
     → IsDealt name ss (items_with all items vs) (dealt_each d vs)
 each_dealt name ss all items d [] e h = let z : items_with all items [] ≡ items = ap (λ xs. items ++ xs) (take_none (all - length items)) ∙ append-nil items in subst (λ xs. IsDealt name ss xs d) (sym z) h

@@ -26,6 +26,7 @@ among-append (x ∷ xs) ys =
     moved true v vs ws = refl
     moved false v vs ws = refl
 
+-- items, and then others
 dealt-append : (d : Dealing) (xs ys : List Data) → dealt_each d (xs ++ ys) ≡ dealt_each (dealt_each d xs) ys
 dealt-append d [] ys = refl
 dealt-append d (x ∷ xs) ys = dealt-append (dealt d x) xs ys
@@ -34,6 +35,7 @@ dealt-append d (x ∷ xs) ys = dealt-append (dealt d x) xs ys
 abbrev behind : List Settled → Dealing → Dealing
 behind out d = record { row = d.row; out = out ++ d.out }
 
+-- an item, behind what was settled before
 dealt_behind_to : (out : List Settled) (d : Dealing) (item : Data) (row : List Entry) → dealt_to (behind out d) item row ≡ behind out (dealt_to d item row)
 dealt_behind_to out d item [] = refl
 dealt_behind_to out d item (e ∷ es) =
@@ -45,6 +47,7 @@ dealt_behind_to out d item (e ∷ es) =
     full_behind true out before more f es = refl
     full_behind false out before more f es = ap (λ (ss : List Settled). record { row = es; out = ss }) (append_assoc out before more)
 
+-- items, behind what was settled before
 dealt_behind : (out : List Settled) (d : Dealing) (vs : List Data) → dealt_each (behind out d) vs ≡ behind out (dealt_each d vs)
 dealt_behind out d [] = refl
 dealt_behind out d (v ∷ vs) = ap (λ (x : Dealing). dealt_each x vs) (dealt_behind_to out d v d.row) ∙ dealt_behind out (dealt d v) vs
@@ -55,6 +58,7 @@ items-append : (bs m : List ℕ) → is_spoiled bs ≡ false → items (bs ++ m)
 unfolding items
 items-append bs m sound = ap items_among (values-append bs m sound) ∙ among-append (values bs) (values (left_over bs ++ m))
 
+-- where none can begin, more bytes are no more items
 items-spoiled : (bs m : List ℕ) → is_spoiled bs ≡ true → items (bs ++ m) ≡ items bs
 unfolding items
 items-spoiled bs m spoiled = ap items_among (values-spoiled bs m spoiled).0
@@ -63,6 +67,7 @@ items-spoiled bs m spoiled = ap items_among (values-spoiled bs m spoiled).0
 abbrev of_row : List Entry → List Data → Dealing
 of_row row vs = dealt_each (record { row = row; out = [] }) vs
 
+-- items in two parts
 two_dealt : (row : List Entry) (xs ys : List Data) → of_row row (xs ++ ys) ≡ behind (of_row row xs).out (of_row (of_row row xs).row ys)
 two_dealt row xs ys =
     let d = of_row row xs in
@@ -70,6 +75,7 @@ two_dealt row xs ys =
     ∙ ap (λ (ss : List Settled). dealt_each (record { row = d.row; out = ss }) ys) (sym (append-nil d.out))
     ∙ dealt_behind d.out (record { row = d.row; out = [] }) ys
 
+-- a text in two pieces, of which the first leaves the link whole
 two_read : (d : Settling) (bs m : List ℕ) → is_spoiled bs ≡ false → came_all (came_all d bs) (left_over bs ++ m) ≡ came_all d (bs ++ m)
 two_read d bs m sound =
     let x = of_row d.link.row (items bs) in
@@ -114,6 +120,7 @@ value_then d v vs = by_item (is_item v) d v (items_among vs)
     by_item true d v vs = refl
     by_item false d v vs = refl
 
+-- the pushes of values, and then of others
 pushes-append : (d : Dealing) (xs ys : List Data) → pushes_each d (xs ++ ys) ≡ pushes_each d xs ++ pushes_each (dealt_each d (items_among xs)) ys
 pushes-append d [] ys = refl
 pushes-append d (x ∷ xs) ys =

@@ -17,6 +17,7 @@ use Rattle.link_laws.proofs.Lists.{heads_same}
 one_some : (count : ℕ) → 0 < one_at_least count
 one_some count = chosen (λ n. 0 < n) (count == 0) 1 count (λ t. omega arith) (λ f. let n = ne_from count 0 f in omega arith)
 
+-- so does a message of each shape
 pub need_some : (s : Shape) → 0 < need s
 need_some Single = omega arith
 need_some (Pipeline offset count atomic) = omega (arith, one_some count)
@@ -27,10 +28,12 @@ abbrev pub needs : List Start → ℕ
 needs [] = 0
 needs (s ∷ ss) = need s.shape + needs ss
 
+-- whatever was dealt, the starts take the sum of their needs
 pub reach_is : (ss : List Start) (items : List Data) → reach ss items ≡ needs ss
 reach_is [] items = refl
 reach_is (s ∷ ss) items = ap (λ n. need s.shape + n) (reach_is ss (drop (need s.shape) items))
 
+-- so they take the same of any items
 pub reach_same : (ss : List Start) (xs ys : List Data) → reach ss xs ≡ reach ss ys
 reach_same ss xs ys = reach_is ss xs ∙ sym (reach_is ss ys)
 
@@ -53,9 +56,11 @@ pub record Open : Type 0 where
   pub shape : Shape
   pub got : List Data
 
+-- a message that got nothing yet
 abbrev pub untouched : Start → Open
 untouched s = record { owner = s.owner; shape = s.shape; got = [] }
 
+-- messages that got nothing yet
 abbrev pub untouched_each : List Start → List Open
 untouched_each [] = []
 untouched_each (s ∷ ss) = untouched s ∷ untouched_each ss
@@ -71,14 +76,17 @@ open_rows (s ∷ ss) items =
 abbrev pub open_of : (ℕ → Owner) → Entry → Open
 open_of name e = record { owner = name e.id; shape = e.shape; got = e.got }
 
+-- the messages of a row, in order
 abbrev pub open_list : (ℕ → Owner) → List Entry → List Open
 open_list name [] = []
 open_list name (e ∷ es) = open_of name e ∷ open_list name es
 
+-- one more entry is one more row
 pub open_list-append : (name : ℕ → Owner) (es : List Entry) (e : Entry) → open_list name (es ++ e ∷ []) ≡ open_list name es ++ open_of name e ∷ []
 open_list-append name [] e = refl
 open_list-append name (x ∷ es) e = ap (λ os. open_of name x ∷ os) (open_list-append name es e)
 
+-- one more start is one more untouched
 untouched-append : (ss : List Start) (s : Start) → untouched_each (ss ++ s ∷ []) ≡ untouched_each ss ++ untouched s ∷ []
 untouched-append [] s = refl
 untouched-append (x ∷ ss) s = ap (λ os. untouched x ∷ os) (untouched-append ss s)
@@ -100,6 +108,7 @@ none_open (s ∷ ss) items e =
     (λ t. let h : reach ss (drop (need s.shape) items) ≤ length (drop (need s.shape) items) = none_open ss (drop (need s.shape) items) (rw t at e) in omega (arith, le_from _ _ t, length-drop (need s.shape) items))
     (λ f. let g : record { owner = s.owner; shape = s.shape; got = items } ∷ untouched_each ss ≡ [] = rw f at e in cc)
 
+-- without items all are untouched
 pub open_rows-none : (ss : List Start) → open_rows ss [] ≡ untouched_each ss
 open_rows-none [] = refl
 open_rows-none (s ∷ ss) = rw (not_le_test (need s.shape) 0 (need_some s.shape)) refl
@@ -140,10 +149,12 @@ abbrev pub StandFrom : List Start → ℕ → List Open → Type 0
 StandFrom ss k [] = Unit {0}
 StandFrom ss k (o ∷ os) = StandsAs ss o.owner o.shape k × StandFrom ss (suc k) os
 
+-- rows stand where they did, one number later, behind one start more
 stand_past : (s : Start) (ss : List Start) (k : ℕ) (os : List Open) → StandFrom ss k os → StandFrom (s ∷ ss) (suc k) os
 stand_past s ss k [] h = tt
 stand_past s ss k (o ∷ os) h = (record { start = h.0.start; stands = h.0.stands; owned = h.0.owned; shaped = h.0.shaped }, stand_past s ss (suc k) os h.1)
 
+-- what is untouched stands from the first number on
 untouched_stand : (ss : List Start) → StandFrom ss 0 (untouched_each ss)
 untouched_stand [] = tt
 untouched_stand (s ∷ ss) = (record { start = s; stands = refl; owned = refl; shaped = refl }, stand_past s ss 0 (untouched_each ss) (untouched_stand ss))
@@ -189,6 +200,7 @@ filled (x ∷ ss) items (suc k) l =
     omega (arith, le_from _ _ t, length-drop n items, filled ss (drop n items) k (omega arith)))
     (λ f. absurd (let no : suc k < 0 = rw f at l in omega arith))
 
+-- there are as many untouched as starts
 untouched_length : (ss : List Start) → length (untouched_each ss) ≡ length ss
 untouched_length [] = refl
 untouched_length (s ∷ ss) = ap suc (untouched_length ss)

@@ -57,9 +57,11 @@ bytes_keep d piece =
 over_once : (r : Run) (more : List Settled) → settled_ids more ≡ awaited_of r.link → settled_ids (over_with r (emptied (settling r) more)).settled ≡ settled_ids r.settled ++ awaited_of r.link
 over_once r more e = settled_ids-append r.settled more ∙ ap (λ ns. settled_ids r.settled ++ ns) e
 
+-- by a fault
 faulted_once : (r : Run) (f : LinkFault) → settled_ids (over_with r (faulted (settling r) f)).settled ≡ settled_ids r.settled ++ awaited_of r.link
 faulted_once r f = over_once r (row_hit f r.link.row ++ queue_closed r.link.queue) (hit_ids f r.link.row r.link.queue)
 
+-- and by the shutdown
 closed_once : (r : Run) → settled_ids (over_with r (closed_all (settling r))).settled ≡ settled_ids r.settled ++ awaited_of r.link
 closed_once r = over_once r (row_closed r.link.row ++ queue_closed r.link.queue) (closed_ids r.link.row r.link.queue)
 
@@ -81,6 +83,7 @@ placed_keeps r q =
     ∙ ap (λ ns. settled_ids r.settled ++ ns) (sym (append_assoc (wanted r.link.row) (awaited_ids r.link.queue) own))
     ∙ sym (append_assoc (settled_ids r.settled) (awaited_of r.link) own))
 
+-- each operation of a link that has not ended leaves all in line
 acted_keeps : (name : ℕ → Owner) (r : Run) (o : Operation) → r.over ≡ false → is_withdraw o ≡ false → answered_or_wanted (acted name r o) ≡ answered_or_wanted r ++ wanted_by r o
 acted_keeps name r (place q) g n = if_false (λ ns. answered_or_wanted (placed r q) ≡ answered_or_wanted r ++ ns) r.over [] (if is_full r.link || (length q.packed == 0) then [] else (if q.awaited then q.id ∷ [] else [])) g (placed_keeps r q)
 acted_keeps name r begin g n = ap (λ ns. settled_ids r.settled ++ ns) (starts_keep (record { link = r.link; out = [] }) r.link.queue) ∙ sym (append-nil (answered_or_wanted r))
@@ -92,6 +95,7 @@ acted_keeps name r (fail f) g n = append-nil _ ∙ faulted_once (heard r (failed
 acted_keeps name r shut_down g n = append-nil _ ∙ closed_once (heard r shut) ∙ sym (append-nil (answered_or_wanted r))
 acted_keeps name r pass g n = sym (append-nil (answered_or_wanted r))
 
+-- and so does each of one that has
 over_keeps : (r : Run) (o : Operation) → r.over ≡ true → answered_or_wanted r ≡ answered_or_wanted r ++ wanted_by r o
 over_keeps r (place q) g = if_true (λ ns. answered_or_wanted r ≡ answered_or_wanted r ++ ns) r.over [] _ g (sym (append-nil (answered_or_wanted r)))
 over_keeps r _ g = sym (append-nil (answered_or_wanted r))
@@ -105,12 +109,14 @@ performed_keeps name r o n = chosen (λ (x : Run). answered_or_wanted x ≡ answ
 abbrev SettlesAll : Run → Run → Type 0
 SettlesAll r x = x.over ≡ true → settled_ids x.settled ≡ settled_ids r.settled ++ awaited_of r.link
 
+-- bytes that end a link settle all
 parse_once : (r x : Run) → r.over ≡ false → x.over ≡ false → answered_or_wanted x ≡ answered_or_wanted r → SettlesAll r (or_parse x)
 parse_once r x g f e =
     chosen (SettlesAll r) x.link.broken (over_with x (faulted (settling x) fault.Parse)) x
     (λ t o. faulted_once x fault.Parse ∙ e)
     (λ n o. absurd (not_both x.over f o))
 
+-- each operation that ends a link settles all
 acted_once : (name : ℕ → Owner) (r : Run) (o : Operation) → r.over ≡ false → SettlesAll r (acted name r o)
 acted_once name r (place q) g = chosen (SettlesAll r) (is_full r.link || (length q.packed == 0)) r (record r { link = enqueued r.link q }) (λ t o. absurd (not_both r.over g o)) (λ f o. absurd (not_both r.over g o))
 acted_once name r begin g = λ o. absurd (not_both r.over g o)
@@ -122,5 +128,6 @@ acted_once name r (fail f) g = λ o. faulted_once (heard r (failed f)) f
 acted_once name r shut_down g = λ o. closed_once (heard r shut)
 acted_once name r pass g = λ o. absurd (not_both r.over g o)
 
+-- what ends a link settles all that it has, in order
 pub performed_once : (name : ℕ → Owner) (r : Run) (o : Operation) → r.over ≡ false → (performed name r o).over ≡ true → settled_ids (performed name r o).settled ≡ settled_ids r.settled ++ awaited_of r.link
 performed_once name r o g = if_false (SettlesAll r) r.over r (acted name r o) g (acted_once name r o g)

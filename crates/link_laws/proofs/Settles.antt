@@ -44,6 +44,7 @@ cut_owed name l s h =
       owes = owes ∙ ap (λ (items : List Data). Some (outcome_of (verdict h.of_shape items))) (sym h.cut.cut_is) ∙ ap (λ v. Some (outcome_of v)) (sym h.verdict_is);
     }
 
+-- and so is each of them
 pub cuts_owed : (name : ℕ → Owner) (l : Ledger) (out : List Settled) → AreCuts name l.starts l.dealt out → AllByRecursion (IsOwed name l) out
 cuts_owed name l [] all = tt
 cuts_owed name l (s ∷ ss) all = (cut_owed name l s all.0, cuts_owed name l ss all.1)
@@ -52,6 +53,7 @@ cuts_owed name l (s ∷ ss) all = (cut_owed name l s all.0, cuts_owed name l ss 
 pub read_owed : (name : ℕ → Owner) (l : Ledger) (s : LinkState) (piece : List ℕ) → l.end ≡ None → TiedLink name l s → AllByRecursion (IsOwed name (has_heard l piece)) (deals s piece).out
 read_owed name l s piece lives h = cuts_owed name (has_heard l piece) (deals s piece).out (dealt_alike name l s piece lives h).cuts
 
+-- what a call with bytes settles is owed, where the link is up, has not ended, and is not broken
 pub came_owed : (name : ℕ → Owner) (l : Ledger) (s : LinkState) (piece : List ℕ) → l.up ≡ true → l.end ≡ None → s.broken ≡ false → TiedLink name l s
     → AllByRecursion (IsOwed name (noted l (hears (came_news piece)))) (came (record { link = s; out = [] }) piece).out
 came_owed name l s piece up lives sound h =
@@ -73,6 +75,7 @@ cut_off_owed : (l : Ledger) (turn k : ℕ) (s : Start) (of_shape : Shape) (e : R
 cut_off_owed l turn k s of_shape e stands late is =
     left_if (is_full (ended l turn) k) _ _ (is_not_full (ended l turn) k (unfilled l.starts l.dealt k s stands late)) ∙ ap (λ x. Some (outcome.Fault x)) is
 
+-- what a message that is awaited gets, if that is owed to it
 failed_owed : (name : ℕ → Owner) (l : Ledger) (awaited : Bool) (id k : ℕ) (of_shape : Shape) (e : RedisError) → StandsAs l.starts (name id) of_shape k → owed_to_message l k of_shape ≡ Some (outcome.Fault e)
     → AllByRecursion (IsOwed name l) (failed_by awaited id e)
 failed_owed name l true id k of_shape e place owes = (record { number = k; of_shape = of_shape; place = place; owes = owes }, tt)
@@ -96,15 +99,18 @@ first_owed name l turn why e x ends is place =
     let off : cut_off (end_of l turn) k e.shape ≡ x = taken_if (k == k) _ _ (eq_test k k refl) ∙ ap (λ w. oldest_error (ending_or_shutdown w) e.shape) ends ∙ is in
     failed_owed name (ended l turn) e.awaited e.id k e.shape x place (cut_off_owed l turn k place.start e.shape x place.stands (omega arith) off)
 
+-- a fault is the same error to a link and in a trace
 same_error : (f : LinkFault) → fault_error f ≡ error_of f
 same_error fault.Ended = refl
 same_error (fault.Io kind) = refl
 same_error fault.Parse = refl
 
+-- the oldest gets the same of a link and in a trace
 oldest_hit : (f : LinkFault) (of_shape : Shape) → oldest_error (by_fault f) of_shape ≡ hit_by f of_shape
 oldest_hit f Single = same_error f
 oldest_hit f (Pipeline offset count transaction) = refl
 
+-- the row of a link stands from the oldest on that is not full
 pub rows_from : (name : ℕ → Owner) (l : Ledger) (row : List Entry) → open_list name row ≡ open_rows l.starts l.dealt → StandFrom l.starts (full_count l.starts l.dealt) (open_list name row)
 rows_from name l row is = subst (StandFrom l.starts (full_count l.starts l.dealt)) (sym is) (rows_stand l.starts l.dealt)
 
@@ -126,9 +132,11 @@ closed_owed name l turn (e ∷ es) ends all =
     (first_owed name l turn by_shutdown e error.Closed ends refl all.0)
     (later_owed name l turn (suc (full_count l.starts l.dealt)) es (omega arith) all.1)
 
+-- the started messages of a link that a fault ends
 pub row_hit_owed : (name : ℕ → Owner) (l : Ledger) (s : LinkState) (turn : ℕ) (f : LinkFault) → ending l ≡ Some (by_fault f) → l.end ≡ None → TiedLink name l s → AllByRecursion (IsOwed name (ended l turn)) (row_hit f s.row)
 row_hit_owed name l s turn f ends lives h = hit_owed name l turn f s.row ends (rows_from name l s.row (h.row lives))
 
+-- and of one that the shutdown ends
 pub row_closed_owed : (name : ℕ → Owner) (l : Ledger) (s : LinkState) (turn : ℕ) → ending l ≡ Some by_shutdown → l.end ≡ None → TiedLink name l s → AllByRecursion (IsOwed name (ended l turn)) (row_closed s.row)
 row_closed_owed name l s turn ends lives h = closed_owed name l turn s.row ends (rows_from name l s.row (h.row lives))
 
@@ -146,14 +154,17 @@ abbrev open_lacks : List Open → ℕ
 open_lacks [] = 0
 open_lacks (o ∷ os) = (need o.shape - length o.got) + open_lacks os
 
+-- what a row lacks, by what each has got
 lacks_open : (name : ℕ → Owner) (row : List Entry) → lacks row ≡ open_lacks (open_list name row)
 lacks_open name [] = refl
 lacks_open name (e ∷ es) = ap (λ n. lack e + n) (lacks_open name es)
 
+-- what is untouched lacks all that it takes
 untouched_lack : (ss : List Start) (items : List Data) → open_lacks (untouched_each ss) ≡ reach ss items
 untouched_lack [] items = refl
 untouched_lack (s ∷ ss) items = omega (arith, untouched_lack ss (drop (need s.shape) items))
 
+-- what the rows of starts lack
 rows_lack : (ss : List Start) (items : List Data) → open_lacks (open_rows ss items) ≡ reach ss items - length items
 rows_lack [] items = omega arith
 rows_lack (s ∷ ss) items =

@@ -26,6 +26,7 @@ abbrev pub OpenFrom : (ℕ → Owner) → Ledger → ℕ → List Entry → Type
 OpenFrom name l k [] = Unit {0}
 OpenFrom name l k (e ∷ es) = IsOpenAs name l k e × OpenFrom name l (suc k) es
 
+-- what stands from a number on and is not full
 open_from : (name : ℕ → Owner) (l : Ledger) (k : ℕ) (row : List Entry) → full_count l.starts l.dealt ≤ k → StandFrom l.starts k (open_list name row) → OpenFrom name l k row
 open_from name l k [] late all = tt
 open_from name l k (e ∷ es) late all = (
@@ -48,6 +49,7 @@ pub record IsInRow (name : ℕ → Owner) (l : Ledger) (row : List Entry) (k : �
   pub at : slice_get row index ≡ Some entry
   pub open_as : IsOpenAs name l k entry
 
+-- the entry of a number
 in_row : (name : ℕ → Owner) (l : Ledger) (from : ℕ) (row : List Entry) (k : ℕ) → OpenFrom name l from row → from ≤ k → k < from + length row → IsInRow name l row k
 in_row name l from [] k all late near = absurd (omega arith)
 in_row name l from (e ∷ es) k all late near =
@@ -58,6 +60,7 @@ in_row name l from (e ∷ es) k all late near =
     let h = in_row name l (suc from) es k all.1 (omega arith) (omega arith) in
     record { index = suc h.index; entry = h.entry; at = h.at; open_as = h.open_as })
 
+-- there are as many open messages as entries
 open_list_length : (name : ℕ → Owner) (row : List Entry) → length (open_list name row) ≡ length row
 open_list_length name [] = refl
 open_list_length name (e ∷ es) = ap suc (open_list_length name es)

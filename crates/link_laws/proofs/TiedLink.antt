@@ -26,6 +26,7 @@ use Rattle.link_laws.proofs.Choices.{chosen_both}
 use Rattle.link_laws.proofs.Rows.{open_of, open_list, open_rows, open_list-append, open_rows-start, reach-push}
 use Rattle.link_laws.proofs.Dealt.{IsDealt, items_with, row_dealt}
 
+-- a start that has bytes
 abbrev pub HasBytes : Start → Type 0
 HasBytes s = s.bytes ≢ []
 
@@ -74,9 +75,11 @@ told_tied name l s asked up news h = record {
   row = h.row;
 }
 
+-- its connect is asked for
 pub asked_tied : (name : ℕ → Owner) (l : Ledger) (s : LinkState) → TiedLink name l s → TiedLink name (noted l asks) s
 asked_tied name l s h = told_tied name l s true l.up l.heard h
 
+-- and succeeds
 pub connected_tied : (name : ℕ → Owner) (l : Ledger) (s : LinkState) → TiedLink name l s → TiedLink name (noted l (hears connected)) s
 connected_tied name l s h =
     chosen (λ (x : Ledger). TiedLink name (record x { heard = connected }) s) (is_over l) l (record l { up = true })
@@ -115,6 +118,7 @@ queue_tied name l s queue h = record {
 pub enqueued_tied : (name : ℕ → Owner) (l : Ledger) (s : LinkState) (q : Queued) → TiedLink name l s → TiedLink name l (enqueued s q)
 enqueued_tied name l s q h = queue_tied name l s (s.queue ++ q ∷ []) h
 
+-- a row is the same where a verdict is not wanted any more
 silenced_open : (name : ℕ → Owner) (row : List Entry) (id : ℕ) → open_list name (silenced row id) ≡ open_list name row
 silenced_open name [] id = refl
 silenced_open name (e ∷ es) id =
@@ -145,6 +149,7 @@ pub one_named : (name : ℕ → Owner) (id : ℕ) (who : Owner) (row : List Entr
 one_named name id who [] all = tt
 one_named name id who (e ∷ es) all = (sym (left_if (e.id == id) who (name e.id) (ne_test e.id id all.0)), one_named name id who es all.1)
 
+-- a row is the same by names that are the same
 named_open : (name other : ℕ → Owner) (row : List Entry) → SameNames name other row → open_list name row ≡ open_list other row
 named_open name other [] all = refl
 named_open name other (e ∷ es) all = (λ i. record { owner = all.0 i; shape = e.shape; got = e.got } ∷ named_open name other es all.1 i)
@@ -170,6 +175,7 @@ joined-append starts s =
     let f : Start → List ℕ = λ x. x.bytes in
     flat_map-append f starts (s ∷ []) ∙ ap (λ bs. joined starts ++ bs) (flat_map-cons f s [] ∙ append-nil s.bytes)
 
+-- what holds of each holds of one more of which it holds
 pub all_push : {X : Type 0} (P : X → Type 0) (xs : List X) (x : X) → AllByRecursion P xs → P x → AllByRecursion P (xs ++ x ∷ [])
 all_push P [] x all p = (p, tt)
 all_push P (y ∷ xs) x all p = (all.0, all_push P xs x all.1 p)
@@ -178,6 +184,7 @@ all_push P (y ∷ xs) x all p = (all.0, all_push P xs x all.1 p)
 abbrev pub IsPacked : Queued → Type 0
 IsPacked q = q.packed ≢ []
 
+-- a message starts, behind all others
 pub begun_tied : (name : ℕ → Owner) (l : Ledger) (s : LinkState) (q : Queued) → IsPacked q → TiedLink name l s → TiedLink name (noted l (begins (start_from name q))) (begun s q)
 begun_tied name l s q some h = record {
   sent = sym (append_assoc l.taken s.outbox.unwritten q.packed) ∙ ap (λ bs. bs ++ q.packed) h.sent ∙ sym (joined-append l.starts (start_from name q));
@@ -226,6 +233,7 @@ starts_stand name l s (q ∷ qs) up all =
 pub unwritten_is : (name : ℕ → Owner) (l : Ledger) (s : LinkState) → TiedLink name l s → unwritten l ≡ s.outbox.unwritten
 unwritten_is name l s h = ap (λ bs. drop (length l.taken) bs) (sym h.sent) ∙ drop-append_seam l.taken s.outbox.unwritten
 
+-- all unwritten bytes are offered
 pub offered_tied : (name : ℕ → Owner) (l : Ledger) (s : LinkState) → TiedLink name l s → TiedLink name (noted l (offers s.outbox.unwritten)) (offered_of s)
 offered_tied name l s h = record {
   sent = h.sent;
@@ -239,9 +247,11 @@ offered_tied name l s h = record {
   row = h.row;
 }
 
+-- no bytes are none offered
 offers_none : (o : ℕ) (bs : List ℕ) → o ≡ 0 → take o bs ≡ []
 offers_none o bs e = ap (λ n. take n bs) e
 
+-- where a link can offer, there are bytes, and none are offered
 can_some : (bs : List ℕ) (o : ℕ) → (not (length bs == 0) && (o == 0)) ≡ true → (bs ≢ []) × (o ≡ 0)
 can_some bs o e = (
   (λ none. let t = both_left (not (length bs == 0)) (o == 0) e in let f : (not (length bs == 0)) ≡ false = ap (λ (xs : List ℕ). not (length xs == 0)) none in let no : ◌≡◌ {A = Bool} true false = sym t ∙ f in cc),
@@ -254,10 +264,12 @@ offer_stands name l s up can h =
     let c = can_some s.outbox.unwritten s.outbox.offered can in
     (up, h.offer ∙ offers_none s.outbox.offered s.outbox.unwritten c.1, sym (unwritten_is name l s h), c.0)
 
+-- a front that is not empty
 some_taken : (o : ℕ) (b : ℕ) (bs : List ℕ) → 0 < o → take o (b ∷ bs) ≢ []
 some_taken zero b bs l e = absurd (omega arith)
 some_taken (suc o) b bs l e = cc
 
+-- where it can not, there are no bytes, or some are offered
 cannot_some : (bs : List ℕ) (o : ℕ) → (not (length bs == 0) && (o == 0)) ≡ false → (bs ≡ []) ⊎ (take o bs ≢ [])
 cannot_some [] o e = inl refl
 cannot_some (b ∷ bs) o e =
@@ -276,6 +288,7 @@ is_offered name l s cannot h = elim (cannot_some s.outbox.unwritten s.outbox.off
 pub taken_within : (name : ℕ → Owner) (l : Ledger) (s : LinkState) (n : ℕ) → n ≤ s.outbox.offered → TiedLink name l s → n ≤ length l.offer
 taken_within name l s n few h = let e : length l.offer ≡ length (take s.outbox.offered s.outbox.unwritten) = ap length h.offer in omega (arith, e, h.bound, length-take s.outbox.offered s.outbox.unwritten)
 
+-- so many of the offered bytes are taken
 wrote_link : (name : ℕ → Owner) (l : Ledger) (s : LinkState) (n : ℕ) → n ≤ s.outbox.offered → TiedLink name l s → TiedLink name (record l { taken = l.taken ++ take n l.offer; offer = []; heard = took n }) (wrote_of s n)
 wrote_link name l s n few h = record {
   sent = append_assoc l.taken (take n l.offer) (drop n s.outbox.unwritten)
@@ -291,6 +304,7 @@ wrote_link name l s n few h = record {
   row = h.row;
 }
 
+-- where the link is up
 pub wrote_tied : (name : ℕ → Owner) (l : Ledger) (s : LinkState) (n : ℕ) → l.up ≡ true → n ≤ s.outbox.offered → TiedLink name l s → TiedLink name (noted l (hears (took n))) (wrote_of s n)
 wrote_tied name l s n up few h = if_true (λ (x : Ledger). TiedLink name (record x { heard = took n }) (wrote_of s n)) l.up _ l up (wrote_link name l s n few h)
 
@@ -300,6 +314,7 @@ wrote_tied name l s n up few h = if_true (λ (x : Ledger). TiedLink name (record
 abbrev pub deals : LinkState → List ℕ → Dealing
 deals s piece = dealt_each (record { row = s.row; out = [] }) (items (s.rest ++ piece))
 
+-- a link with what it has read and dealt
 abbrev pub has_read : LinkState → List ℕ → LinkState
 has_read s piece = record (read_on s (s.rest ++ piece)) { row = (deals s piece).row }
 
@@ -321,6 +336,7 @@ dealt_alike name l s piece lives h =
     subst (λ (vs : List Data). IsDealt name l.starts (items_with (reach l.starts l.dealt) l.dealt vs) (deals s piece)) (ap (λ bs. items (bs ++ piece)) (sym h.rest))
     (row_dealt name l.starts l.dealt s.row (items (s.rest ++ piece)) (h.row lives) h.within)
 
+-- a link and its ledger that both read on
 pub read_tied : (name : ℕ → Owner) (l : Ledger) (s : LinkState) (piece : List ℕ) → l.end ≡ None → TiedLink name l s → TiedLink name (has_heard l piece) (has_read s piece)
 read_tied name l s piece lives h =
     let d = dealt_alike name l s piece lives h in
@@ -336,6 +352,7 @@ read_tied name l s piece lives h =
       row = λ e. d.row;
     }
 
+-- where the link is up, has not ended, and is not broken
 pub came_tied : (name : ℕ → Owner) (l : Ledger) (s : LinkState) (out : List Settled) (piece : List ℕ) → l.up ≡ true → l.end ≡ None → s.broken ≡ false → TiedLink name l s
     → TiedLink name (noted l (hears (came_news piece))) (came (record { link = s; out = out }) piece).link
 came_tied name l s out piece up lives sound h =

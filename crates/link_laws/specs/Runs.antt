@@ -57,9 +57,11 @@ over_with r d = record { link = d.link; over = true; turn = r.turn; lines = r.li
 abbrev pub placed : Run → Queued → Run
 placed r q = if is_full r.link || (length q.packed == 0) then r else record r { link = enqueued r.link q }
 
+-- all start that may
 abbrev pub begun_all : (ℕ → Owner) → Run → Run
 begun_all name r = record r { link = (started_all (record { link = r.link; out = [] })).link; lines = r.lines ++ begins_each name (starting r.link r.link.queue) }
 
+-- all unwritten bytes are offered, where there are some and no offer is unanswered
 abbrev pub offered : Run → Run
 offered r = if can_offer r.link.outbox then record r { link = offered_of r.link; lines = r.lines ++ offers r.link.outbox.unwritten ∷ [] } else r
 
@@ -71,9 +73,11 @@ taken_up r n = if nat_le n r.link.outbox.offered then record (heard r (took n)) 
 abbrev pub has_come : Run → Settling → Run
 has_come r d = record r { link = d.link; settled = d.out }
 
+-- a link that is broken ends
 abbrev pub or_parse : Run → Run
 or_parse r = if r.link.broken then over_with r (faulted (settling r) fault.Parse) else r
 
+-- bytes come
 abbrev pub has_read : Run → List ℕ → Run
 has_read r piece = or_parse (has_come (heard r (came_news piece)) (came (settling r) piece))
 
@@ -93,6 +97,7 @@ acted name r pass = heard r silence
 abbrev pub performed : (ℕ → Owner) → Run → Operation → Run
 performed name r o = if r.over then r else acted name r o
 
+-- operations, one after another
 abbrev pub performed_each : (ℕ → Owner) → Run → List Operation → Run
 performed_each name r [] = r
 performed_each name r (o ∷ os) = performed_each name (performed name r o) os
@@ -117,6 +122,7 @@ abbrev pub wanted_by : Run → Operation → List ℕ
 wanted_by r (place q) = if r.over then [] else (if is_full r.link || (length q.packed == 0) then [] else (if q.awaited then q.id ∷ [] else []))
 wanted_by r _ = []
 
+-- whether the caller of a message goes
 abbrev pub is_withdraw : Operation → Bool
 is_withdraw (withdraw id) = true
 is_withdraw _ = false

@@ -18,6 +18,7 @@ abbrev pub starting : LinkState → List Queued → List Queued
 starting s [] = []
 starting s (q ∷ qs) = if is_held_back s then [] else q ∷ starting (begun s q) qs
 
+-- a line for each of them
 abbrev pub begins_each : (ℕ → Owner) → List Queued → List Line
 begins_each name [] = []
 begins_each name (q ∷ qs) = begins (start_from name q) ∷ begins_each name qs
