@@ -21,7 +21,7 @@ use Rattle.legal_trace.specs.Legal.{MayStand, MayConnect, MayClose, MayAnswer, M
 use Rattle.legal_laws.specs.Next.{BothAnnounce, OneIsNext, OneIsNextBehind}
 use Rattle.legal_laws.proofs.Tales.{open_has_none}
 use Rattle.legal_laws.proofs.Ranks.{rank, same_rank, outcome_rank, not_offered}
-use Rattle.legal_laws.proofs.Plain.{not_none, not_empty, same_some}
+use Rattle.legal_trace.proofs.Plain.{not_none, not_empty, same_some}
 use Rattle.legal_laws.proofs.Sound.{Sound, sound_behind}
 
 -- the least number of a kind is one

@@ -11,9 +11,9 @@ use Rattle.legal_trace.specs.Story.{Try, last_of}
 use Rattle.legal_trace.specs.Book.{Book}
 use Rattle.legal_trace.specs.Legal.{MayStand, MayAnswer, MayTell, MayWrite, IsOpen, NoneIsOwed, NoneEnds, IsCreated, IsApplied, IsMoved, IsWritten, IsSettled, IsStarted, IsWaiting, CanMove}
 use Rattle.legal_laws.proofs.Numbers.{up_is_numbered, open_is_numbered}
-use Rattle.legal_laws.proofs.Ledgers.{IsUnasked}
+use Rattle.legal_trace.proofs.Ledgers.{IsUnasked}
 use Rattle.legal_trace.specs.Owed.{owed}
-use Rattle.legal_laws.proofs.Plain.{not_none}
+use Rattle.legal_trace.proofs.Plain.{not_none}
 use Rattle.legal_laws.proofs.Sound.{Sound}
 
 -- an outcome that is owed comes before one that is told at its place

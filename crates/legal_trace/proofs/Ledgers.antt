@@ -11,7 +11,7 @@ use Rattle.driver_model.specs.declared.outcome.Shape.TheVariants.{Single, Pipeli
 use Rattle.driver_model.specs.Shape.{need}
 use Rattle.legal_trace.specs.Ledger.{Ledger, Line, Start, asks, hears, begins, offers, ends, noted, noted_each, with_news, bytes_came, items_came, is_over, reach, AllNoted}
 use Rattle.legal_trace.specs.Book.{if_mine}
-use Rattle.legal_laws.proofs.Plain.{none_from}
+use Rattle.legal_trace.proofs.Plain.{none_from}
 
 -- a fact that each line keeps is kept by any lines
 pub each_keeps : (P : Ledger → Type 0) → ((l : Ledger) (x : Line) → P l → P (noted l x)) → (l : Ledger) (lines : List Line) → P l → P (noted_each l lines)
@@ -29,9 +29,9 @@ noted_append l [] ys = refl
 noted_append l (x ∷ xs) ys = noted_append (noted l x) xs ys
 
 -- lines behind lines that may stand
-pub all_append : (l : Ledger) (xs ys : List Line) → AllNoted l xs → AllNoted (noted_each l xs) ys → AllNoted l (xs ++ ys)
-all_append l [] ys h k = k
-all_append l (x ∷ xs) ys h k = (h.0, all_append (noted l x) xs ys h.1 k)
+pub may_append : (l : Ledger) (xs ys : List Line) → AllNoted l xs → AllNoted (noted_each l xs) ys → AllNoted l (xs ++ ys)
+may_append l [] ys h k = k
+may_append l (x ∷ xs) ys h k = (h.0, may_append (noted l x) xs ys h.1 k)
 
 -- a link that is up has not ended
 abbrev pub UpIsNotOver : Ledger → Type 0
