@@ -1,16 +1,17 @@
 -- Two legal traces of one configuration, word and events are equal.
-use Rattle.std.proofs.Common.{◌≡◌, ◌⊎◌, inl, inr, ℕ, ◌<◌, List, [], ◌∷◌, refl, sym, ◌∙◌, subst, arith}
+use Rattle.std.proofs.Common.{◌≡◌, ◌⊎◌, inl, inr, ℕ, ◌<◌, Bool, true, false, List, [], ◌∷◌, refl, sym, ◌∙◌, subst, arith}
 use Rattle.driver_model.specs.declared.action.Action.{Action}
 use Rattle.driver_model.specs.declared.action.Action.TheVariants as action
 use Rattle.driver_model.specs.declared.action.Cause.{Cause}
 use Rattle.driver_model.specs.declared.config.Config.{Config}
 use Rattle.driver_model.specs.declared.event.Event.{Event}
 use Rattle.driver_model.specs.declared.outcome.Outcome.{Outcome}
+use Rattle.legal_trace.specs.Ledger.{is_over}
 use Rattle.legal_trace.specs.Book.{Book, blank_book, book, entered, entered_each}
-use Rattle.legal_trace.specs.Legal.{MayStand, MayAnswer, MayTell, AllStand, IsSettled, causes, Legal}
+use Rattle.legal_trace.specs.Legal.{link_of, MayStand, MayAnswer, MayTell, AllStand, IsSettled, causes, Legal}
 use Rattle.legal_laws.specs.Next.{BothAnnounce}
 use Rattle.legal_laws.proofs.Next.{AreOne, one_is_next}
-use Rattle.legal_laws.proofs.Ranks.{rank, not_done, step_of, settled, outcome_rank}
+use Rattle.legal_laws.proofs.Ranks.{answer_rank, rank, not_done, step_of, settled, outcome_rank}
 use Rattle.legal_laws.proofs.Sound.{Sound, stays_sound, blank_is_sound}
 
 -- lists that are equal begin alike
@@ -41,20 +42,25 @@ causes_behind : (x : Action) (s t : List Action) → causes (x ∷ s) ≡ causes
 causes_behind (action.Turn k c) s t e = same_tail c c (causes s) (causes t) e
 causes_behind _ s t e = e
 
--- an outcome comes before a turn is settled
-outcome_below : (b : Book) (n : ℕ) (o : Outcome) (may : MayAnswer b n o ⊎ MayTell b n o) → outcome_rank b n o may < 8
-outcome_below b n o (inl owes) = omega arith
+-- an outcome that is owed comes before a turn is settled
+answer_below : (over : Bool) → answer_rank over < 9
+answer_below false = omega arith
+answer_below true = omega arith
+
+-- so does any outcome
+outcome_below : (b : Book) (n : ℕ) (o : Outcome) (may : MayAnswer b n o ⊎ MayTell b n o) → outcome_rank b n o may < 9
+outcome_below b n o (inl owes) = answer_below (is_over (link_of b n))
 outcome_below b n o (inr told) = omega arith
 
 -- all but the next event comes before a turn is settled
-below_the_next : (b : Book) (y : Action) (t : List Action) (may : MayStand b y) → [] ≡ causes (y ∷ t) → rank b y may < 8
+below_the_next : (b : Book) (y : Action) (t : List Action) (may : MayStand b y) → [] ≡ causes (y ∷ t) → rank b y may < 9
 below_the_next b (action.Turn k c) t may e = absurd (is_some_cause c (causes t) e)
 below_the_next b (action.Outcome n o) t may e = outcome_below b n o may
 below_the_next b _ t may e = omega arith
 
 -- where a turn is settled, nothing but a turn may stand
 only_a_turn : (b : Book) (y : Action) (t : List Action) (may : MayStand b y) → Sound b → IsSettled b → [] ≡ causes (y ∷ t) → ⊥
-only_a_turn b y t may h done e = not_done b y may (step_of b (rank b y may) 8 (below_the_next b y t may e) (settled b h done))
+only_a_turn b y t may h done e = not_done b y may (step_of b (rank b y may) 9 (below_the_next b y t may e) (settled b h done))
 
 -- behind one book there is one way on
 equal_behind : (b : Book) (s t : List Action) → Sound b → AllStand b s → AllStand b t → causes s ≡ causes t → IsSettled (entered_each b s) → IsSettled (entered_each b t) → s ≡ t
