@@ -1,5 +1,5 @@
 -- What the parts of a legal trace say of one action in it.
-use Rattle.std.proofs.Common.{◌≡◌, ℕ, ◌==◌, true, false, List, [], ◌∷◌, ◌++◌, Some, inl, inr}
+use Rattle.std.proofs.Common.{◌≡◌, ℕ, ◌==◌, true, false, List, ◌∷◌, ◌++◌, Some, inl, inr}
 use Rattle.containers.proofs.Tests.{ne_from, not_both}
 use Rattle.driver_model.specs.declared.action.Action.{Action}
 use Rattle.driver_model.specs.declared.action.Action.TheVariants as action
@@ -7,8 +7,8 @@ use Rattle.driver_model.specs.declared.config.Config.{Config}
 use Rattle.driver_model.specs.declared.event.Event.{Event}
 use Rattle.driver_model.specs.declared.outcome.Outcome.{Outcome}
 use Rattle.legal_trace.specs.Story.{is_awaited}
-use Rattle.legal_trace.specs.Book.{Book, blank_book, entered, entered_each}
-use Rattle.legal_trace.specs.Legal.{IsOpen, MayAnswer, MayStand, AllStand, Legal}
+use Rattle.legal_trace.specs.Book.{Book, blank_book, entered_each}
+use Rattle.legal_trace.specs.Legal.{IsOpen, MayAnswer, MayStand, Legal}
 use Rattle.legal_trace.proofs.Books.{stand_behind}
 use Rattle.trace_examples.specs.Parts.{reply}
 
