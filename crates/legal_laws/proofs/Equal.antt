@@ -1,5 +1,5 @@
 -- Two legal traces of one configuration, word and events are equal.
-use Rattle.std.proofs.Common.{◌≡◌, ◌⊎◌, inl, inr, ℕ, ◌<◌, Bool, true, false, List, [], ◌∷◌, refl, sym, ◌∙◌, subst, arith}
+use Rattle.std.proofs.Common.{◌≡◌, ◌⊎◌, inl, inr, ℕ, ◌<◌, List, [], ◌∷◌, refl, sym, ◌∙◌, subst, arith}
 use Rattle.driver_model.specs.declared.action.Action.{Action}
 use Rattle.driver_model.specs.declared.action.Action.TheVariants as action
 use Rattle.driver_model.specs.declared.action.Cause.{Cause}
@@ -11,7 +11,7 @@ use Rattle.legal_trace.specs.Book.{Book, blank_book, book, entered, entered_each
 use Rattle.legal_trace.specs.Legal.{link_of, MayStand, MayAnswer, MayTell, AllStand, IsSettled, causes, Legal}
 use Rattle.legal_laws.specs.Next.{BothAnnounce}
 use Rattle.legal_laws.proofs.Next.{AreOne, one_is_next}
-use Rattle.legal_laws.proofs.Ranks.{answer_rank, rank, not_done, step_of, settled, outcome_rank}
+use Rattle.legal_laws.proofs.Ranks.{rank, not_done, step_of, settled, outcome_rank, answer_first}
 use Rattle.legal_laws.proofs.Sound.{Sound, stays_sound, blank_is_sound}
 
 -- lists that are equal begin alike
@@ -42,14 +42,9 @@ causes_behind : (x : Action) (s t : List Action) → causes (x ∷ s) ≡ causes
 causes_behind (action.Turn k c) s t e = same_tail c c (causes s) (causes t) e
 causes_behind _ s t e = e
 
--- an outcome that is owed comes before a turn is settled
-answer_below : (over : Bool) → answer_rank over < 9
-answer_below false = omega arith
-answer_below true = omega arith
-
--- so does any outcome
+-- an outcome comes before a turn is settled
 outcome_below : (b : Book) (n : ℕ) (o : Outcome) (may : MayAnswer b n o ⊎ MayTell b n o) → outcome_rank b n o may < 9
-outcome_below b n o (inl owes) = answer_below (is_over (link_of b n))
+outcome_below b n o (inl owes) = let i = answer_first (is_over (link_of b n)) in omega arith
 outcome_below b n o (inr told) = omega arith
 
 -- all but the next event comes before a turn is settled

@@ -39,6 +39,11 @@ rank b (action.Write l bytes) may = 7
 rank b (action.Wait who kind) may = 8
 rank b (action.Turn k (cause.Event e)) may = 9
 
+-- an outcome that is owed comes before the passes
+pub answer_first : (over : Bool) → answer_rank over < 6
+answer_first false = omega arith
+answer_first true = omega arith
+
 -- what is done once nothing of this rank is due
 abbrev pub Step : ℕ → Book → Type 0
 Step zero b = b.turns ≢ 0

@@ -1,5 +1,5 @@
 -- The actions of a turn stand segment by segment.
-use Rattle.std.proofs.Common.{◌⊎◌, inl, inr, ℕ, zero, suc, ◌<◌, ◌≤◌, nat_le, Bool, true, false, List, [], ◌∷◌, arith}
+use Rattle.std.proofs.Common.{◌⊎◌, inl, inr, ℕ, zero, suc, ◌<◌, ◌≤◌, nat_le, List, [], ◌∷◌, arith}
 use Rattle.containers.proofs.Tests.{by_test, le_from, not_le_from}
 use Rattle.driver_model.specs.declared.action.Action.{Action}
 use Rattle.driver_model.specs.declared.action.Action.TheVariants as action
@@ -13,7 +13,7 @@ use Rattle.legal_trace.specs.Book.{Book, blank_book, entered}
 use Rattle.legal_trace.specs.Legal.{MayStand, MayAnswer, MayTell, AllStand, link_of, IsApplied, IsMoved, IsWritten, Legal}
 use Rattle.legal_laws.specs.Segments.{answers_in, segment, MayCome, AreInOrder}
 use Rattle.legal_laws.proofs.Held.{start_applied, tell_applied, write_moved, wait_written}
-use Rattle.legal_laws.proofs.Ranks.{answer_rank, rank, not_done, step_of, applied, moved, written}
+use Rattle.legal_laws.proofs.Ranks.{rank, not_done, step_of, applied, moved, written, answer_first}
 use Rattle.legal_laws.proofs.Sound.{Sound, stays_sound, blank_is_sound}
 
 -- what is done in a turn from this segment on
@@ -89,11 +89,6 @@ at_most_four b (suc (suc zero)) h = omega arith
 at_most_four b (suc (suc (suc zero))) h = omega arith
 at_most_four b (suc (suc (suc (suc zero)))) h = omega arith
 at_most_four b (suc (suc (suc (suc (suc more))))) h = absurd h
-
--- an outcome that is owed comes before the passes
-answer_first : (over : Bool) → answer_rank over < 6
-answer_first false = omega arith
-answer_first true = omega arith
 
 -- an outcome comes in its segment
 outcome_early : (b : Book) (n : ℕ) (o : Outcome) (may : MayAnswer b n o ⊎ MayTell b n o) (k : ℕ) → Sound b → DoneIn k b → k ≤ answers_in b n o may
