@@ -1,11 +1,7 @@
 pub mod Lists
+pub mod Requests
+pub mod Names
 pub mod Links
 pub mod Kept
 pub mod Gone
 pub mod Bare
-pub mod Hushed
-pub mod Silent
-pub mod Once
-pub mod Rest
-pub mod Cancels
-pub mod Started
