@@ -41,7 +41,7 @@ pub record IsGone (n p : ℕ) (r : List Request) (life : Life) : Type 0 where
 pub own_kept : (n p : ℕ) (r : List Request) (q : ℕ) (now : Progress) → IsOwn n p (names r) → IsOwn n p (names (at_progress r q now))
 own_kept n p r q now h = subst (IsOwn n p) (sym (names_stay r q now)) h
 
-within_kept : (r : List Request) (p q : ℕ) (now : Progress) → p < length r → p < length (at_progress r q now)
+pub within_kept : (r : List Request) (p q : ℕ) (now : Progress) → p < length r → p < length (at_progress r q now)
 within_kept r p q now l = omega (arith, progress_count r q now)
 
 none_cancelled : (p q : ℕ) (life : Life) → NoneQueued p life → NoneQueued p (cancelled_in life q)

@@ -5,3 +5,6 @@ pub mod Links
 pub mod Kept
 pub mod Gone
 pub mod Bare
+pub mod Once
+pub mod Silent
+pub mod Rest

@@ -77,7 +77,7 @@ pub quiet_came : (p : ℕ) (l : LinkState) (piece : List ℕ) → NoneWanted p l
 quiet_came p l piece h =
     chosen (λ (x : Settling). NoneWanted p x.link.row) l.broken _ _ (λ t. h) (λ f. quiet_dealt p (record { row = l.row; out = [] }) (items (l.rest ++ piece)) h)
 
-and_none : (b : Bool) → (b && false) ≡ false
+pub and_none : (b : Bool) → (b && false) ≡ false
 and_none true = refl
 and_none false = refl
 

@@ -102,3 +102,13 @@ other_number r q p t f = λ e. let same : is_waiting_at r q ≡ is_waiting_at r 
 
 pub other_open : (r : List Request) (q p : ℕ) → is_open_at r q ≡ true → is_open_at r p ≡ false → q ≢ p
 other_open r q p t f = λ e. let same : is_open_at r q ≡ is_open_at r p = ap (is_open_at r) e in cc
+
+still_open : (x : Progress) → is_waiting x ≡ true → is_open x ≡ true
+still_open progress.Waiting t = refl
+still_open progress.Placed t = refl
+still_open progress.Closed t = cc
+
+pub waiting_open : (r : List Request) (q : ℕ) → is_waiting_at r q ≡ true → is_open_at r q ≡ true
+waiting_open [] q t = cc
+waiting_open (x ∷ r) zero t = still_open x.progress t
+waiting_open (x ∷ r) (suc q) t = waiting_open r q t

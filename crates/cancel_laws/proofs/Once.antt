@@ -1,0 +1,181 @@
+-- A request has at most one message on its link.
+use Rattle.std.proofs.Common.{◌≡◌, ℕ, zero, suc, ◌+◌, ◌≤◌, ◌==◌, nat_lt, ◌&&◌, Bool, true, false, List, [], ◌∷◌, ◌++◌, length, Option, Some, None, slice_get, if◌then◌else◌, refl, ap, ◌∙◌, subst, arith}
+use Rattle.containers.proofs.Tests.{by_test, chosen, taken_if, left_if, eq_from}
+use Rattle.resp_value.specs.Data.{Data}
+use Rattle.resp_read.specs.Items.{items}
+use Rattle.driver_model.specs.Shape.{need}
+use Rattle.link_core.specs.declared.message.Entry.{Entry}
+use Rattle.link_core.specs.declared.message.Queued.{Queued}
+use Rattle.link_core.specs.Dealing.{Dealing, with_item, dealt_to, dealt, dealt_each}
+use Rattle.link_core.specs.Link.{LinkState, Starting, Settling, entry_of, is_held_back, started_one, started_each}
+use Rattle.link_core.specs.Row.{silent, silenced}
+use Rattle.link_core.specs.Waiting.{awaits, without}
+use Rattle.mux_conn.specs.declared.life.Life.{Life}
+use Rattle.mux_conn.specs.declared.life.Life.TheVariants.{Dialing, Ready, Ended}
+use Rattle.mux_conn.specs.declared.request.Progress.{Progress}
+use Rattle.mux_conn.specs.declared.request.Progress.TheVariants as progress
+use Rattle.mux_conn.specs.declared.request.Request.{Request}
+use Rattle.mux_conn.specs.Requests.{is_waiting, is_waiting_at, at_progress}
+use Rattle.mux_conn.specs.Effects.{cancelled_in}
+use Rattle.mux_conn.specs.Passes.{message_of}
+use Rattle.cancel_laws.proofs.Links.{NoneWanted, and_none}
+use Rattle.cancel_laws.proofs.Kept.{IsKept, IsKeptThere, There, kept_there, CanAsk}
+
+-- 1 for that message, and 0 for any other
+abbrev pub one : ℕ → ℕ → ℕ
+one p m = if m == p then 1 else 0
+
+one_at_most : (p m : ℕ) → one p m ≤ 1
+one_at_most p m = chosen (λ (k : ℕ). k ≤ 1) (m == p) 1 0 (λ t. omega arith) (λ f. omega arith)
+
+-- how often a message stands in a row, and in a queue
+abbrev pub times : ℕ → List Entry → ℕ
+times p [] = 0
+times p (e ∷ es) = one p e.id + times p es
+
+abbrev pub places : ℕ → List Queued → ℕ
+places p [] = 0
+places p (q ∷ qs) = one p q.id + places p qs
+
+abbrev pub all_of : ℕ → Life → ℕ
+all_of p Dialing = 0
+all_of p (Ready l) = times p l.row + places p l.queue
+all_of p Ended = 0
+
+-- how often it may, by its progress
+abbrev pub share_by : Progress → ℕ
+share_by progress.Waiting = 0
+share_by progress.Placed = 1
+share_by progress.Closed = 1
+
+abbrev pub share_of : Option Request → ℕ
+share_of None = 0
+share_of (Some r) = share_by r.progress
+
+abbrev pub share : List Request → ℕ → ℕ
+share r p = share_of (slice_get r p)
+
+pub record IsOnce (p : ℕ) (r : List Request) (life : Life) : Type 0 where
+  pub within : all_of p life ≤ share r p
+
+-- progress
+--
+share_whole : (x : Progress) → is_waiting x ≡ false → share_by x ≡ 1
+share_whole progress.Waiting e = cc
+share_whole progress.Placed e = refl
+share_whole progress.Closed e = refl
+
+share_most : (x : Progress) → share_by x ≤ 1
+share_most progress.Waiting = omega arith
+share_most progress.Placed = omega arith
+share_most progress.Closed = omega arith
+
+share_least : (x : Progress) → is_waiting x ≡ true → share_by x ≡ 0
+share_least progress.Waiting e = refl
+share_least progress.Placed e = cc
+share_least progress.Closed e = cc
+
+share_set : (r : List Request) (p q : ℕ) (x : Progress) → is_waiting x ≡ false → share r p ≤ share (at_progress r q x) p
+share_set [] p q x e = omega arith
+share_set (y ∷ r) zero zero x e = omega (arith, share_most y.progress, share_whole x e)
+share_set (y ∷ r) zero (suc q) x e = omega arith
+share_set (y ∷ r) (suc p) zero x e = omega arith
+share_set (y ∷ r) (suc p) (suc q) x e = share_set r p q x e
+
+share_push : (r : List Request) (p : ℕ) (x : Request) → share r p ≤ share (r ++ x ∷ []) p
+share_push [] p x = omega arith
+share_push (y ∷ r) zero x = omega arith
+share_push (y ∷ r) (suc p) x = share_push r p x
+
+share_waits : (r : List Request) (p : ℕ) (x : Progress) → is_waiting x ≡ false → is_waiting_at r p ≡ true → share r p + 1 ≤ share (at_progress r p x) p
+share_waits [] p x e t = cc
+share_waits (y ∷ r) zero x e t = omega (arith, share_whole x e, share_least y.progress t)
+share_waits (y ∷ r) (suc p) x e t = share_waits r p x e t
+
+-- the row and the queue
+--
+times_push : (p : ℕ) (row : List Entry) (e : Entry) → times p (row ++ e ∷ []) ≡ times p row + one p e.id
+times_push p [] e = omega arith
+times_push p (x ∷ row) e = omega (arith, times_push p row e)
+
+places_push : (p : ℕ) (queue : List Queued) (q : Queued) → places p (queue ++ q ∷ []) ≡ places p queue + one p q.id
+places_push p [] q = omega arith
+places_push p (x ∷ queue) q = omega (arith, places_push p queue q)
+
+times_silenced : (p m : ℕ) (row : List Entry) → times p (silenced row m) ≡ times p row
+times_silenced p m [] = refl
+times_silenced p m (e ∷ es) = chosen (λ (xs : List Entry). times p xs ≡ times p (e ∷ es)) (e.id == m) _ _ (λ t. refl) (λ f. ap (λ (k : ℕ). one p e.id + k) (times_silenced p m es))
+
+places_without : (p m : ℕ) (queue : List Queued) → places p (without queue m) ≤ places p queue
+places_without p m [] = omega arith
+places_without p m (q ∷ qs) = chosen (λ (xs : List Queued). places p xs ≤ places p (q ∷ qs)) (awaits m q) _ _ (λ t. omega arith) (λ f. omega (arith, places_without p m qs))
+
+times_dealt_to : (p : ℕ) (d : Dealing) (item : Data) (row : List Entry) → times p d.row ≤ times p row → times p (dealt_to d item row).row ≤ times p row
+times_dealt_to p d item [] l = l
+times_dealt_to p d item (e ∷ es) l =
+    chosen (λ (x : Dealing). times p x.row ≤ times p (e ∷ es)) (nat_lt (length (with_item e item).got) (need e.shape)) _ _ (λ t. omega arith) (λ f. omega arith)
+
+times_dealt : (p : ℕ) (d : Dealing) (items : List Data) → times p (dealt_each d items).row ≤ times p d.row
+times_dealt p d [] = omega arith
+times_dealt p d (v ∷ vs) = omega (arith, times_dealt p (dealt d v) vs, times_dealt_to p d v d.row (omega arith))
+
+starts_same : (p : ℕ) (s : Starting) (queue : List Queued) → all_of p (Ready (started_each s queue).link) ≡ times p s.link.row + places p queue
+starts_same p s [] = omega arith
+starts_same p s (q ∷ qs) =
+    chosen (λ (x : Starting). all_of p (Ready x.link) ≡ times p s.link.row + places p (q ∷ qs)) (is_held_back s.link) _ _ (λ t. refl)
+    (λ f. omega (arith, starts_same p (started_one s q) qs, times_push p s.link.row (entry_of q)))
+
+cancelled_once : (p q : ℕ) (life : Life) → all_of p (cancelled_in life q) ≤ all_of p life
+cancelled_once p q Dialing = omega arith
+cancelled_once p q (Ready l) = omega (arith, times_silenced p q l.row, places_without p q l.queue)
+cancelled_once p q Ended = omega arith
+
+placed_once : (p q : ℕ) (r : List Request) (before : ℕ) → is_waiting_at r q ≡ true → before ≤ share r p → before + one p q ≤ share (at_progress r q progress.Placed) p
+placed_once p q r before t l =
+    by_test (q == p) _
+    (λ e.
+    let same = eq_from q p e in
+    let k : share r p + 1 ≤ share (at_progress r q progress.Placed) p = subst (λ (j : ℕ). share r j + 1 ≤ share (at_progress r q progress.Placed) j) same (share_waits r q progress.Placed refl t) in
+    omega (arith, one_at_most p q))
+    (λ f. let z : one p q ≡ 0 = left_if (q == p) 1 0 f in omega (arith, share_set r p q progress.Placed refl))
+
+once_there : (p : ℕ) → IsKeptThere (IsOnce p)
+once_there p = record {
+  answer = λ r life q h. record { within = omega (arith, h.within, share_set r p q progress.Closed refl) };
+  cancel = λ r life q h. record { within = omega (arith, h.within, share_set r p q progress.Closed refl, cancelled_once p q life) };
+  connect = λ r h. record { within = omega arith };
+  place = λ r l q t h. record { within = omega (arith, placed_once p q.number r (all_of p (Ready l)) t h.within, places_push p l.queue (message_of q)) };
+  start = λ r l h. record { within = omega (arith, h.within, starts_same p (record { link = l; out = [] }) l.queue) };
+  offer = λ r l h. record { within = h.within };
+  write = λ r l k h. record { within = h.within };
+  come = λ r l piece h. chosen (λ (x : Settling). IsOnce p r (Ready x.link)) l.broken _ _ (λ t. h)
+      (λ f. record { within = omega (arith, h.within, times_dealt p (record { row = l.row; out = [] }) (items (l.rest ++ piece))) });
+  end = λ r life h. record { within = omega arith };
+}
+
+pub once_kept : (p : ℕ) → IsKept (There (IsOnce p))
+once_kept p = kept_there (once_there p)
+
+pub once_asks : (p m : ℕ) → CanAsk (There (IsOnce p)) m
+once_asks p m = record {
+  ask = λ r life xs h. record { within = omega (arith, h.within, share_push r p (record { name = m; progress = progress.Waiting })) };
+  refuse = λ r life xs o h. h;
+}
+
+-- a cancel silences all that there is of the message
+--
+none_left : (p : ℕ) (row : List Entry) → times p row ≡ 0 → NoneWanted p row
+none_left p [] z = tt
+none_left p (e ∷ es) z =
+    by_test (e.id == p) _ (λ t. absurd (let k : one p e.id ≡ 1 = taken_if (e.id == p) 1 0 t in omega arith))
+    (λ f. (ap (λ (b : Bool). b && e.awaited) f, none_left p es (omega arith)))
+
+pub silenced_once : (p : ℕ) (row : List Entry) → times p row ≤ 1 → NoneWanted p (silenced row p)
+silenced_once p [] l = tt
+silenced_once p (e ∷ es) l =
+    chosen (NoneWanted p) (e.id == p) _ _
+    (λ t. let k : one p e.id ≡ 1 = taken_if (e.id == p) 1 0 t in (and_none (e.id == p), none_left p es (omega arith)))
+    (λ f. (ap (λ (b : Bool). b && e.awaited) f, silenced_once p es (omega arith)))
+
+pub row_once : (p : ℕ) (r : List Request) (l : LinkState) (x : Request) → IsOnce p r (Ready l) → slice_get r p ≡ Some x → times p l.row ≤ 1
+row_once p r l x h e = let k : share r p ≡ share_by x.progress = ap share_of e in omega (arith, h.within, share_most x.progress)

@@ -1,0 +1,71 @@
+-- A cancelled request gets no outcome.
+use Rattle.std.proofs.Common.{◌≡◌, ◌≢◌, ℕ, ◌<◌, true, false, List, [], ◌∷◌, ◌++◌, length, refl, sym, ap, ◌∙◌, subst, arith, length-append}
+use Rattle.mux_conn.specs.declared.act.LinkAct.{LinkAct}
+use Rattle.mux_conn.specs.declared.act.LinkAct.TheVariants as act
+use Rattle.mux_conn.specs.declared.life.Life.{Life}
+use Rattle.mux_conn.specs.declared.request.Progress.{Progress}
+use Rattle.mux_conn.specs.declared.request.Progress.TheVariants as progress
+use Rattle.mux_conn.specs.declared.request.Request.{Request}
+use Rattle.mux_conn.specs.Requests.{is_open_at, is_waiting_at, at_progress}
+use Rattle.cancel_laws.proofs.Requests.{names, names_push, open_other, open_push, other_open, waiting_open, progress_count}
+use Rattle.cancel_laws.proofs.Names.{IsOwn, own_push, other_name}
+use Rattle.cancel_laws.proofs.Kept.{IsKept, CanAsk}
+use Rattle.cancel_laws.proofs.Gone.{own_kept, within_kept}
+use Rattle.cancel_laws.proofs.Bare.{other_acts, acts_plain, acts_other}
+
+-- request p has the name n, is closed, and has no outcome in this turn
+pub record IsSilent (n p : ℕ) (r : List Request) (life : Life) (xs : List LinkAct) : Type 0 where
+  pub there : p < length r
+  pub own : IsOwn n p (names r)
+  pub closed : is_open_at r p ≡ false
+  pub unshown : other_acts n xs ≡ xs
+
+unshown_more : (n : ℕ) (xs : List LinkAct) (a : LinkAct) → other_acts n (xs ++ a ∷ []) ≡ other_acts n xs ++ a ∷ [] → other_acts n xs ≡ xs → other_acts n (xs ++ a ∷ []) ≡ xs ++ a ∷ []
+unshown_more n xs a more e = more ∙ ap (λ (ys : List LinkAct). ys ++ a ∷ []) e
+
+closed_still : (r : List Request) (q p : ℕ) (now : Progress) → q ≢ p → is_open_at r p ≡ false → is_open_at (at_progress r q now) p ≡ false
+closed_still r q p now o f = open_other r q p now o ∙ f
+
+pub silent_kept : (n p : ℕ) → IsKept (IsSilent n p)
+silent_kept n p = record {
+  answer = λ r life xs q o t h.
+      let apart = other_open r q p t h.closed in
+      record {
+        there = within_kept r p q progress.Closed h.there;
+        own = own_kept n p r q progress.Closed h.own;
+        closed = closed_still r q p progress.Closed apart h.closed;
+        unshown = unshown_more n xs _ (acts_other n _ xs o (other_name n p q r h.own t apart)) h.unshown;
+      };
+  cancel = λ r life xs q t h. record {
+    there = within_kept r p q progress.Closed h.there;
+    own = own_kept n p r q progress.Closed h.own;
+    closed = closed_still r q p progress.Closed (other_open r q p t h.closed) h.closed;
+    unshown = h.unshown;
+  };
+  connect = λ r xs h. record { there = h.there; own = h.own; closed = h.closed; unshown = h.unshown };
+  place = λ r l xs q t h. record {
+    there = within_kept r p q.number progress.Placed h.there;
+    own = own_kept n p r q.number progress.Placed h.own;
+    closed = closed_still r q.number p progress.Placed (other_open r q.number p (waiting_open r q.number t) h.closed) h.closed;
+    unshown = h.unshown;
+  };
+  start = λ r l xs h. record { there = h.there; own = h.own; closed = h.closed; unshown = h.unshown };
+  offer = λ r l xs h. record { there = h.there; own = h.own; closed = h.closed; unshown = h.unshown };
+  write = λ r l xs k h. record { there = h.there; own = h.own; closed = h.closed; unshown = h.unshown };
+  come = λ r l xs piece h. record { there = h.there; own = h.own; closed = h.closed; unshown = h.unshown };
+  end = λ r life xs h. record { there = h.there; own = h.own; closed = h.closed; unshown = h.unshown };
+  show = λ r life xs a plain h. record { there = h.there; own = h.own; closed = h.closed; unshown = unshown_more n xs a (acts_plain n xs a plain) h.unshown };
+}
+
+pub silent_asks : (n p m : ℕ) → m ≢ n → CanAsk (IsSilent n p) m
+silent_asks n p m o = record {
+  ask = λ r life xs h.
+      let x : Request = record { name = m; progress = progress.Waiting } in
+      record {
+        there = omega (arith, h.there, length-append r (x ∷ []));
+        own = subst (IsOwn n p) (sym (names_push r x)) (own_push n p m (names r) o h.own);
+        closed = open_push r p x h.there ∙ h.closed;
+        unshown = h.unshown;
+      };
+  refuse = λ r life xs x h. record { there = h.there; own = h.own; closed = h.closed; unshown = unshown_more n xs (act.Outcome m x) (acts_other n m xs x o) h.unshown };
+}
