@@ -1,7 +1,7 @@
 -- A connection does the same where one request's outcome is looked away from, once its message has left the queue.
 use Rattle.std.proofs.Common.{◌≡◌, ◌≢◌, ℕ, ◌<◌, ◌==◌, Bool, true, false, List, [], ◌∷◌, ◌++◌, length, if◌then◌else◌, refl, sym, ap, ◌∙◌, append_assoc}
 use Rattle.std.proofs.lemmas.List.{append-nil}
-use Rattle.containers.proofs.Tests.{by_test, chosen, either, either_by, taken_if, left_if, eq_from, ne_from, eq_test, ne_test, not_both}
+use Rattle.containers.proofs.Tests.{by_test, chosen, either, either_by, taken_if, left_if, eq_from, ne_from, eq_test, ne_test}
 use Rattle.resp_value.specs.declared.value.Value.TheVariants.{Nil}
 use Rattle.driver_model.specs.declared.action.WaitKind.TheVariants as wait
 use Rattle.driver_model.specs.declared.news.LinkFault.{LinkFault}
@@ -14,9 +14,8 @@ use Rattle.driver_model.specs.News.{came as came_news}
 use Rattle.driver_model.specs.Shape.{outcome_of}
 use Rattle.link_core.specs.declared.message.Settled.{Settled}
 use Rattle.link_core.specs.declared.message.Started.{Started}
-use Rattle.link_core.specs.Link.{LinkState, Starting, Settling, enqueued, started_all, offered_of, cancelled, came, faulted, closed_all}
+use Rattle.link_core.specs.Link.{LinkState, Settling, enqueued, started_all, offered_of, came}
 use Rattle.link_core.specs.Outbox.{can_offer}
-use Rattle.link_core.specs.Waiting.{without}
 use Rattle.link_laws.specs.Alike.{others}
 use Rattle.link_laws.proofs.Cancels.{start_alike, bytes_alike, close_alike, fault_alike}
 use Rattle.mux_conn.specs.declared.act.LinkAct.{LinkAct}
@@ -29,13 +28,13 @@ use Rattle.mux_conn.specs.declared.request.Request.{Request}
 use Rattle.mux_conn.specs.declared.request.Waiting.{Waiting}
 use Rattle.mux_conn.specs.Connection.{Work, acted, at_life, with_link, is_dialing, is_stuck}
 use Rattle.mux_conn.specs.Requests.{is_open_at, is_waiting_at, name_at, at_progress, progressed, answered, waiting_of, asked}
-use Rattle.mux_conn.specs.Effects.{new_link, settled_each, closed, closed_each, waiting_closed, ended, ended_by, connected_at, taken_at, failed_at, broken_at, read_to, read_at, shut_at, applied, cancelled_in, left}
+use Rattle.mux_conn.specs.Effects.{new_link, settled_each, closed, closed_each, waiting_closed, ended, connected_at, taken_at, failed_at, broken_at, read_to, read_at, shut_at, applied, cancelled_in, left}
 use Rattle.mux_conn.specs.Passes.{shown_each, starts_with, started_at, started, message_of, placed_at, told_at_place, moved_at, moved, still_waiting, moved_each, moved_all, passed}
-use Rattle.mux_conn.specs.Turn.{offers, written_at, written, wait_shown, waits_each, waits_shown, flushed}
+use Rattle.mux_conn.specs.Turn.{written_at, written, wait_shown, waits_each, waits_shown, flushed}
 use Rattle.cancel_laws.specs.ButFor.{hushed_link, hushed_life}
 use Rattle.cancel_laws.proofs.Requests.{names, name_stays, progress_twice, progress_apart, progress_push, progress_count, own_closed, open_other, waiting_same, other_number, other_open}
 use Rattle.cancel_laws.proofs.Names.{IsOwn, own_name, other_name}
-use Rattle.cancel_laws.proofs.Links.{NoneOf, alike_hushed, none_leaves, hushed_started, hushed_came, hushed_cancelled, own_cancelled}
+use Rattle.cancel_laws.proofs.Links.{alike_hushed, none_leaves, hushed_started, hushed_came, hushed_cancelled, own_cancelled}
 use Rattle.cancel_laws.proofs.Kept.{other_act, IsPlain, At, There, answered_kept, settled_kept, over_kept, started_kept, told_kept, moved_kept, written_kept, wait_kept}
 use Rattle.cancel_laws.proofs.Gone.{NoneQueued, IsGone, gone_kept}
 
@@ -110,7 +109,7 @@ answered_other n p w q o own apart =
     same t =
         let r = progress_apart w.conn.requests q p progress.Closed progress.Closed apart in
         let xs = acts_other n (name_at w.conn.requests q) w.acts o (other_name n p q w.conn.requests own t apart)
-            ∙ ap (λ (m : ℕ). other_acts n w.acts ++ act.Outcome m o ∷ []) (sym (name_stays w.conn.requests p q progress.Closed)) in
+        ∙ ap (λ (m : ℕ). other_acts n w.acts ++ act.Outcome m o ∷ []) (sym (name_stays w.conn.requests p q progress.Closed)) in
         λ i. record { conn = record (bare_conn p w.conn) { requests = r i }; acts = xs i }
 
 bare_answered : (n p : ℕ) (w : Work) (q : ℕ) (o : Outcome) → At (There (IsGone n p)) w → bare n p (answered w q o) ≡ answered (bare n p w) q o

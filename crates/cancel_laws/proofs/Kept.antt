@@ -30,9 +30,9 @@ use Rattle.mux_conn.specs.declared.request.Request.{Request}
 use Rattle.mux_conn.specs.declared.request.Waiting.{Waiting}
 use Rattle.mux_conn.specs.Connection.{Work, acted, at_life, with_link, is_dialing, is_stuck}
 use Rattle.mux_conn.specs.Requests.{is_open_at, is_waiting_at, name_at, at_progress, answered}
-use Rattle.mux_conn.specs.Effects.{new_link, settled_each, closed, closed_each, waiting_closed, ended, ended_by, connected_at, taken_at, failed_at, broken_at, read_to, read_at, shut_at, applied, cancelled_in, left}
-use Rattle.mux_conn.specs.Passes.{shown_each, starts_with, started_at, started, message_of, placed_at, told_at_place, moved_at, moved, still_waiting, moved_each, moved_all, passed}
-use Rattle.mux_conn.specs.Turn.{offers, written_at, written, wait_shown, waits_each, flushed}
+use Rattle.mux_conn.specs.Effects.{new_link, settled_each, closed, closed_each, ended, connected_at, taken_at, failed_at, read_to, read_at, shut_at, applied, cancelled_in, left}
+use Rattle.mux_conn.specs.Passes.{shown_each, started_at, started, message_of, placed_at, told_at_place, moved_at, moved, still_waiting, moved_each, passed}
+use Rattle.mux_conn.specs.Turn.{written_at, written, wait_shown, waits_each, flushed}
 use Rattle.shared_session.specs.declared.core_state.Core.{Core}
 use Rattle.shared_session.specs.Turn.{Turning, work_of, heard, counted, submitted, left_by, requested, effect, turn}
 

@@ -8,3 +8,9 @@ pub mod Bare
 pub mod Once
 pub mod Silent
 pub mod Rest
+pub mod Turns
+pub mod Ready
+pub mod Shown
+pub mod Outcomes
+pub mod Cancels
+pub mod Started

@@ -1,5 +1,5 @@
 -- Each request has the name of a submission of its own.
-use Rattle.std.proofs.Common.{◌≡◌, ◌≢◌, ℕ, zero, suc, ◌<◌, List, [], ◌∷◌, ◌++◌, length, Option, Some, None, slice_get, refl, sym, ap, ◌∙◌, arith, true}
+use Rattle.std.proofs.Common.{◌≡◌, ◌≢◌, ℕ, zero, suc, List, [], ◌∷◌, ◌++◌, length, Option, Some, None, slice_get, refl, sym, ap, ◌∙◌, true}
 use Rattle.containers.proofs.Places.{get_within}
 use Rattle.link_laws.proofs.Lists.{get_before, get_last}
 use Rattle.mux_conn.specs.declared.request.Pending.{Pending}

@@ -1,5 +1,5 @@
 -- A request has at most one message on its link.
-use Rattle.std.proofs.Common.{◌≡◌, ℕ, zero, suc, ◌+◌, ◌≤◌, ◌==◌, nat_lt, ◌&&◌, Bool, true, false, List, [], ◌∷◌, ◌++◌, length, Option, Some, None, slice_get, if◌then◌else◌, refl, ap, ◌∙◌, subst, arith}
+use Rattle.std.proofs.Common.{◌≡◌, ℕ, zero, suc, ◌+◌, ◌≤◌, ◌==◌, nat_lt, ◌&&◌, Bool, true, false, List, [], ◌∷◌, ◌++◌, length, Option, Some, None, slice_get, if◌then◌else◌, refl, ap, subst, arith}
 use Rattle.containers.proofs.Tests.{by_test, chosen, taken_if, left_if, eq_from}
 use Rattle.resp_value.specs.Data.{Data}
 use Rattle.resp_read.specs.Items.{items}
@@ -8,7 +8,7 @@ use Rattle.link_core.specs.declared.message.Entry.{Entry}
 use Rattle.link_core.specs.declared.message.Queued.{Queued}
 use Rattle.link_core.specs.Dealing.{Dealing, with_item, dealt_to, dealt, dealt_each}
 use Rattle.link_core.specs.Link.{LinkState, Starting, Settling, entry_of, is_held_back, started_one, started_each}
-use Rattle.link_core.specs.Row.{silent, silenced}
+use Rattle.link_core.specs.Row.{silenced}
 use Rattle.link_core.specs.Waiting.{awaits, without}
 use Rattle.mux_conn.specs.declared.life.Life.{Life}
 use Rattle.mux_conn.specs.declared.life.Life.TheVariants.{Dialing, Ready, Ended}

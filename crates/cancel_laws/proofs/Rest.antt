@@ -1,12 +1,9 @@
 -- After each turn nothing is left to do, and a turn that changes nothing shows nothing.
-use Rattle.std.proofs.Common.{◌≡◌, ℕ, ◌<◌, ◌==◌, nat_lt, nat_le, ◌&&◌, not, Bool, true, false, List, [], ◌∷◌, length, if◌then◌else◌, refl, sym, ap, ◌∙◌, subst, arith}
+use Rattle.std.proofs.Common.{◌≡◌, ℕ, ◌<◌, ◌==◌, nat_lt, nat_le, ◌&&◌, not, Bool, true, false, List, [], ◌∷◌, length, refl, sym, ap, ◌∙◌, subst, arith}
 use Rattle.containers.proofs.Tests.{chosen, taken_if, left_if, not_le_test, not_both}
-use Rattle.driver_model.specs.declared.action.WaitKind.TheVariants as wait
-use Rattle.driver_model.specs.declared.outcome.Outcome.{Outcome}
-use Rattle.driver_model.specs.declared.outcome.Outcome.TheVariants as outcome
 use Rattle.link_core.specs.declared.message.Queued.{Queued}
 use Rattle.link_core.specs.declared.message.Started.{Started}
-use Rattle.link_core.specs.Link.{LinkState, Starting, Settling, no_boundary, is_full, is_held_back, started_one, started_each, started_all, offered_of}
+use Rattle.link_core.specs.Link.{LinkState, Starting, Settling, no_boundary, is_full, is_held_back, started_one, started_each, started_all}
 use Rattle.link_core.specs.Outbox.{can_offer}
 use Rattle.link_core.specs.Waiting.{without}
 use Rattle.mux_conn.specs.declared.act.LinkAct.TheVariants as act
@@ -16,10 +13,10 @@ use Rattle.mux_conn.specs.declared.life.Life.TheVariants.{Dialing, Ready, Ended}
 use Rattle.mux_conn.specs.declared.request.Request.{Request}
 use Rattle.mux_conn.specs.declared.request.Waiting.{Waiting}
 use Rattle.mux_conn.specs.Connection.{Work, acted, at_life, with_link, is_dialing, is_stuck}
-use Rattle.mux_conn.specs.Requests.{is_open_at, is_waiting_at, name_at, answered}
-use Rattle.mux_conn.specs.Effects.{closed, cancelled_in, left}
+use Rattle.mux_conn.specs.Requests.{is_open_at, is_waiting_at, name_at}
+use Rattle.mux_conn.specs.Effects.{cancelled_in, left}
 use Rattle.mux_conn.specs.Passes.{shown_each, starts_with, started_at, started, placed_at, told_at_place, moved_at, moved, still_waiting, moved_each, moved_all, passed}
-use Rattle.mux_conn.specs.Turn.{offers, written_at, written, wait_shown, waits_each, waits_shown, flushed}
+use Rattle.mux_conn.specs.Turn.{written_at, written, wait_shown, waits_each, waits_shown, flushed}
 use Rattle.cancel_laws.proofs.Kept.{IsKept, IsKeptThere, There, At, kept_there, CanAsk, told_kept, moved_kept, started_kept}
 
 -- a queue with room, and nothing that holds messages back

@@ -1,13 +1,13 @@
 -- A cancelled request gets no outcome.
-use Rattle.std.proofs.Common.{◌≡◌, ◌≢◌, ℕ, ◌<◌, true, false, List, [], ◌∷◌, ◌++◌, length, refl, sym, ap, ◌∙◌, subst, arith, length-append}
+use Rattle.std.proofs.Common.{◌≡◌, ◌≢◌, ℕ, ◌<◌, false, List, [], ◌∷◌, ◌++◌, length, sym, ap, ◌∙◌, subst, arith, length-append}
 use Rattle.mux_conn.specs.declared.act.LinkAct.{LinkAct}
 use Rattle.mux_conn.specs.declared.act.LinkAct.TheVariants as act
 use Rattle.mux_conn.specs.declared.life.Life.{Life}
 use Rattle.mux_conn.specs.declared.request.Progress.{Progress}
 use Rattle.mux_conn.specs.declared.request.Progress.TheVariants as progress
 use Rattle.mux_conn.specs.declared.request.Request.{Request}
-use Rattle.mux_conn.specs.Requests.{is_open_at, is_waiting_at, at_progress}
-use Rattle.cancel_laws.proofs.Requests.{names, names_push, open_other, open_push, other_open, waiting_open, progress_count}
+use Rattle.mux_conn.specs.Requests.{is_open_at, at_progress}
+use Rattle.cancel_laws.proofs.Requests.{names, names_push, open_other, open_push, other_open, waiting_open}
 use Rattle.cancel_laws.proofs.Names.{IsOwn, own_push, other_name}
 use Rattle.cancel_laws.proofs.Kept.{IsKept, CanAsk}
 use Rattle.cancel_laws.proofs.Gone.{own_kept, within_kept}

@@ -1,0 +1,259 @@
+-- Over whole histories, the cancel of a started request changes nothing but its own outcome.
+use Rattle.std.proofs.Common.{◌≡◌, ◌≢◌, ℕ, ◌+◌, ◌<◌, nat_le, ◌||◌, Bool, true, false, List, [], ◌∷◌, ◌++◌, length, Option, Some, slice_get, refl, sym, ap, ◌∙◌, subst, append_assoc, arith, ◌==◌, ◌&&◌}
+use Rattle.containers.proofs.Tests.{chosen, not_le_test, not_both}
+use Rattle.containers.proofs.Places.{get_within}
+use Rattle.driver_model.specs.declared.action.Action.{Action}
+use Rattle.driver_model.specs.declared.action.Action.TheVariants as action
+use Rattle.driver_model.specs.declared.action.Cause.TheVariants as cause
+use Rattle.driver_model.specs.declared.config.Config.{Config}
+use Rattle.driver_model.specs.declared.event.Event.{Event}
+use Rattle.driver_model.specs.declared.event.EventKind.{EventKind}
+use Rattle.driver_model.specs.declared.event.EventKind.TheVariants as event
+use Rattle.driver_model.specs.declared.outcome.Outcome.{Outcome}
+use Rattle.mux_conn.specs.declared.connection.MultiplexedConnection.{MultiplexedConnection}
+use Rattle.mux_conn.specs.declared.life.Life.{Life}
+use Rattle.mux_conn.specs.declared.life.Life.TheVariants.{Dialing, Ready, Ended}
+use Rattle.mux_conn.specs.declared.request.Pending.{Pending}
+use Rattle.mux_conn.specs.Requests.{if_there, is_open, is_waiting, is_open_at}
+use Rattle.mux_conn.specs.Effects.{cancelled_in, left}
+use Rattle.shared_session.specs.declared.core_state.Core.{Core}
+use Rattle.shared_session.specs.Turn.{Turning, work_of, with_work, heard, left_by, counted, moved_on, takes_too_much, is_bad, shown_each, actions_of, turn}
+use Rattle.shared_session.specs.Replay.{opening, opening_actions, run_on, state_after, turns_on, trace_of, told_each, outcomes_in, outcome_at, is_bad_after}
+use Rattle.cancel_laws.specs.ButFor.{all_unnumbered, but_for, hushed_life}
+use Rattle.cancel_laws.specs.Cancels.{cancel_of, HasStarted, GoesOn}
+use Rattle.cancel_laws.proofs.Requests.{own_closed}
+use Rattle.cancel_laws.proofs.Names.{own_of}
+use Rattle.cancel_laws.proofs.Links.{none_from}
+use Rattle.cancel_laws.proofs.Kept.{There, AtCore, turn_kept}
+use Rattle.cancel_laws.proofs.Gone.{NoneQueued, NoneInRow, IsGone, IsHushed, hushed_kept, hushed_asks, quiet_life}
+use Rattle.cancel_laws.proofs.Bare.{own_left}
+use Rattle.cancel_laws.proofs.Once.{IsOnce, silenced_once, row_once}
+use Rattle.cancel_laws.proofs.Rest.{nothing_moves, left_idle}
+use Rattle.cancel_laws.proofs.Silent.{IsSilent}
+use Rattle.cancel_laws.proofs.Turns.{bare_core, above, more_after, AreAlike, turn_gone}
+use Rattle.cancel_laws.proofs.Ready.{IsReady, ready_on, opening_ready, number_on}
+use Rattle.cancel_laws.proofs.Shown.{shown_alike, alike_on, silent_shown}
+use Rattle.cancel_laws.proofs.Outcomes.{told-append, all_told_unnumbered, erased, other_outcome, erased_told, none_told}
+
+-- the turn of the cancel
+--
+or_false : (b : Bool) → (b || false) ≡ b
+or_false true = refl
+or_false false = refl
+
+-- where submission n is request p, the turn of its cancel is the request's cancel
+cancel_turn : (c : Core) (n : ℕ) (p : Pending) → IsReady c → slice_get c.table n ≡ Some (Some p)
+    → turn c (event.Cancel n) ≡ record { core = record c { turns = c.turns + 1; single = record c.single { connection = left c.single.connection p.number } }; acts = [] }
+unfolding turn
+cancel_turn c n p r there =
+    let t = heard (counted c) (event.Cancel n) in
+    let d = left_by t (Some (Some p)) in
+    ap (λ (who : Option (Option Pending)). moved_on (left_by t who)) there
+    ∙ ap (with_work d) (nothing_moves (work_of d) (left_idle c.single.connection p.number r.idle))
+    ∙ ap
+    (λ (b : Bool). record { core = record c { turns = c.turns + 1; shut = b; single = record c.single { connection = left c.single.connection p.number } }; acts = [] })
+    (or_false c.shut)
+
+started_gone : (n : ℕ) (c : Core) (h : HasStarted n c) → IsReady c → AtCore (There (IsGone n h.pending.number)) c
+started_gone n c h r =
+    let p = h.pending.number in
+    record {
+      there = get_within c.single.connection.requests p h.request h.known;
+      own = own_of n h.pending c.table _ r.named h.there;
+      past = ap (if_there is_waiting) h.known ∙ ap is_waiting h.placed;
+      none = subst (NoneQueued p) (sym h.up) (none_from p h.link.queue h.gone);
+    }
+
+started_open : (n : ℕ) (c : Core) (h : HasStarted n c) → is_open_at c.single.connection.requests h.pending.number ≡ true
+started_open n c h = ap (if_there is_open) h.known ∙ ap is_open h.placed
+
+cancel_alike : (n : ℕ) (c : Core) (h : HasStarted n c) → IsReady c → AreAlike n h.pending.number c (turn c (event.Cancel n)).core
+cancel_alike n c h r =
+    let p = h.pending.number in
+    let gone = started_gone n c h r in
+    let within = get_within c.table n (Some h.pending) h.there in
+    let own = own_left p c.single.connection gone.none in
+    record {
+      same =
+          ap (λ (x : MultiplexedConnection). record (bare_core p c) { single = record c.single { connection = x } }) (sym own)
+          ∙ ap (λ (x : Turning). bare_core p x.core) (sym (cancel_turn c n h.pending r h.there));
+      within = within;
+      within_too = more_after n c (event.Cancel n) within;
+      gone = gone;
+      gone_too = turn_gone n p c (event.Cancel n) within gone;
+    }
+
+left_closed : (c : MultiplexedConnection) (p : ℕ) → is_open_at (left c p).requests p ≡ false
+left_closed c p = chosen (λ (x : MultiplexedConnection). is_open_at x.requests p ≡ false) (is_open_at c.requests p) _ c (λ t. own_closed c.requests p) (λ f. f)
+
+cancel_silent : (n : ℕ) (c : Core) (h : HasStarted n c) → IsReady c → AtCore (IsSilent n h.pending.number) (turn c (event.Cancel n)).core
+cancel_silent n c h r =
+    let p = h.pending.number in
+    let g = (cancel_alike n c h r).gone_too in
+    record {
+      there = g.there;
+      own = g.own;
+      closed = ap (λ (x : Turning). is_open_at x.core.single.connection.requests p) (cancel_turn c n h.pending r h.there) ∙ left_closed c.single.connection p;
+      unshown = refl;
+    }
+
+-- nobody awaits what the link of a cancelled request has for it
+left_quiet : (c : MultiplexedConnection) (p : ℕ) → is_open_at c.requests p ≡ true → NoneInRow p (cancelled_in c.life p) → NoneInRow p (left c p).life
+left_quiet c p t h = chosen (λ (x : MultiplexedConnection). NoneInRow p x.life) (is_open_at c.requests p) _ c (λ u. h) (λ f. absurd (not_both (is_open_at c.requests p) f t))
+
+cancel_hushed : (n : ℕ) (c : Core) (h : HasStarted n c) → IsReady c → AtCore (There (IsHushed n h.pending.number)) (turn c (event.Cancel n)).core
+cancel_hushed n c h r =
+    let p = h.pending.number in
+    let x = c.single.connection in
+    let once : IsOnce p x.requests (Ready h.link) = subst (IsOnce p x.requests) h.up (r.once p) in
+    let quiet : NoneInRow p (cancelled_in x.life p) =
+    subst (λ (life : Life). NoneInRow p (cancelled_in life p)) (sym h.up) (silenced_once p h.link.row (row_once p x.requests h.link h.request once h.known)) in
+    record {
+      gone = (cancel_alike n c h r).gone_too;
+      quiet = subst (λ (y : Turning). NoneInRow p y.core.single.connection.life) (sym (cancel_turn c n h.pending r h.there)) (left_quiet x p (started_open n c h) quiet);
+    }
+
+hushed_on : (n p : ℕ) (c : Core) (es : List Event) → n < length c.table → AtCore (There (IsHushed n p)) c → AtCore (There (IsHushed n p)) (run_on c es)
+hushed_on n p c [] l h = h
+hushed_on n p c (e ∷ es) l h =
+    hushed_on n p (turn c e.kind).core es (more_after n c e.kind l) (turn_kept (hushed_kept n p) c (hushed_asks n p (length c.table) (above n c.table l)) e.kind h)
+
+cancel_shows : (c : Core) (draw n : ℕ) (p : Pending) → IsReady c → slice_get c.table n ≡ Some (Some p) → actions_of c (cancel_of draw n) ≡ action.Turn c.turns (cause.Event (cancel_of draw n)) ∷ []
+cancel_shows c draw n p r there = ap (λ (x : Turning). action.Turn c.turns (cause.Event (cancel_of draw n)) ∷ shown_each c.single.link x.acts) (cancel_turn c n p r there)
+
+-- histories
+--
+run_on-append : (c : Core) (xs ys : List Event) → run_on c (xs ++ ys) ≡ run_on (run_on c xs) ys
+run_on-append c [] ys = refl
+run_on-append c (x ∷ xs) ys = run_on-append (turn c x.kind).core xs ys
+
+turns_on-append : (c : Core) (xs ys : List Event) → turns_on c (xs ++ ys) ≡ turns_on c xs ++ turns_on (run_on c xs) ys
+turns_on-append c [] ys = refl
+turns_on-append c (x ∷ xs) ys = ap (λ (zs : List Action). actions_of c x ++ zs) (turns_on-append (turn c x.kind).core xs ys) ∙ sym (append_assoc (actions_of c x) _ _)
+
+state_split : (config : Config) (word : ℕ) (before after : List Event) → state_after config word (before ++ after) ≡ run_on (state_after config word before) after
+unfolding state_after
+state_split config word before after = run_on-append (opening config word) before after
+
+trace_split : (config : Config) (word : ℕ) (before after : List Event) → trace_of config word (before ++ after) ≡ trace_of config word before ++ turns_on (state_after config word before) after
+unfolding state_after trace_of
+trace_split config word before after =
+    ap (λ (xs : List Action). opening_actions config word ++ xs) (turns_on-append (opening config word) before after)
+    ∙ sym (append_assoc (opening_actions config word) (turns_on (opening config word) before) _)
+
+ready_after : (config : Config) (word : ℕ) (before : List Event) → IsReady (state_after config word before)
+unfolding state_after
+ready_after config word before = ready_on (opening config word) before (opening_ready config word)
+
+number_after : (config : Config) (word : ℕ) (before : List Event) → (state_after config word before).turns ≡ length before + 1
+unfolding state_after
+number_after config word before = omega (arith, number_on (opening config word) before)
+
+alike_after : (config : Config) (word draw n : ℕ) (before after : List Event) (h : HasStarted n (state_after config word before))
+    → AreAlike n h.pending.number (state_after config word (before ++ after)) (state_after config word (before ++ cancel_of draw n ∷ after))
+alike_after config word draw n before after h =
+    let c = state_after config word before in
+    let p = h.pending.number in
+    let d = (turn c (event.Cancel n)).core in
+    subst (λ (x : Core). AreAlike n p x (state_after config word (before ++ cancel_of draw n ∷ after))) (sym (state_split config word before after))
+    (subst (AreAlike n p (run_on c after)) (sym (state_split config word before (cancel_of draw n ∷ after))) (alike_on n p c d after (cancel_alike n c h (ready_after config word before))))
+
+-- what the turns show, and what outcomes they tell
+--
+silent_after : (config : Config) (word n : ℕ) (before after : List Event) (h : HasStarted n (state_after config word before))
+    → but_for n (turns_on (turn (state_after config word before) (event.Cancel n)).core after) ≡ all_unnumbered (turns_on (turn (state_after config word before) (event.Cancel n)).core after)
+silent_after config word n before after h =
+    let c = state_after config word before in
+    let r = ready_after config word before in
+    silent_shown n h.pending.number (turn c (event.Cancel n)).core after (cancel_alike n c h r).within_too (cancel_silent n c h r)
+
+pub goes_on : (config : Config) (word draw n : ℕ) (before after : List Event) → HasStarted n (state_after config word before) → GoesOn config word n before (cancel_of draw n) after
+goes_on config word draw n before after h =
+    let c = state_after config word before in
+    let d = (turn c (event.Cancel n)).core in
+    let r = ready_after config word before in
+    let number = ap (λ (k : ℕ). action.Turn k (cause.Event (cancel_of draw n)) ∷ []) (number_after config word before) in
+    record {
+      later = turns_on c after;
+      later_with = turns_on d after;
+      plain = trace_split config word before after;
+      with_more = trace_split config word before (cancel_of draw n ∷ after)
+          ∙ ap (λ (xs : List Action). trace_of config word before ++ (xs ++ turns_on d after)) (cancel_shows c draw n h.pending r h.there ∙ number);
+      alike = shown_alike n h.pending.number c d after (cancel_alike n c h r) ∙ silent_after config word n before after h;
+    }
+
+-- one submission's outcomes aside, a trace tells the same with the turn of the cancel and without it
+same_told : (n m k draw : ℕ) (trace later later_with : List Action) → m ≢ n → but_for n later ≡ but_for n later_with
+    → outcome_at (told_each [] (trace ++ later)) m ≡ outcome_at (told_each [] (trace ++ action.Turn k (cause.Event (cancel_of draw n)) ∷ later_with)) m
+same_told n m k draw trace later later_with o e =
+    let os = told_each [] trace in
+    ap (λ (ps : List (Option Outcome)). outcome_at ps m) (told-append [] trace later) ∙ other_outcome (told_each os later) n m o
+    ∙ ap (λ (ps : List (Option Outcome)). outcome_at ps m) (erased_told n os later ∙ ap (told_each (erased n os)) e ∙ sym (erased_told n os later_with))
+    ∙ sym (other_outcome (told_each os later_with) n m o)
+    ∙ sym (ap (λ (ps : List (Option Outcome)). outcome_at ps m) (told-append [] trace (action.Turn k (cause.Event (cancel_of draw n)) ∷ later_with)))
+
+pub same_outcomes : (config : Config) (word draw n m : ℕ) (before after : List Event) → HasStarted n (state_after config word before) → m ≢ n
+    → outcome_at (outcomes_in (trace_of config word (before ++ after))) m ≡ outcome_at (outcomes_in (trace_of config word (before ++ cancel_of draw n ∷ after))) m
+unfolding outcomes_in goes_on
+same_outcomes config word draw n m before after h o =
+    let g = goes_on config word draw n before after h in
+    let e = g.alike ∙ sym (silent_after config word n before after h) in
+    ap (λ (xs : List Action). outcome_at (told_each [] xs) m) g.plain ∙ same_told n m (length before + 1) draw (trace_of config word before) g.later g.later_with o e
+    ∙ sym (ap (λ (xs : List Action). outcome_at (told_each [] xs) m) g.with_more)
+
+pub no_outcome : (config : Config) (word draw n : ℕ) (before after : List Event) → HasStarted n (state_after config word before)
+    → outcome_at (outcomes_in (trace_of config word (before ++ cancel_of draw n ∷ after))) n ≡ outcome_at (outcomes_in (trace_of config word before)) n
+unfolding outcomes_in goes_on
+no_outcome config word draw n before after h =
+    let g = goes_on config word draw n before after h in
+    let trace = trace_of config word before in
+    let os = told_each [] trace in
+    ap (λ (xs : List Action). outcome_at (told_each [] xs) n) g.with_more
+    ∙ ap (λ (ps : List (Option Outcome)). outcome_at ps n)
+    (told-append [] trace (action.Turn (length before + 1) (cause.Event (cancel_of draw n)) ∷ g.later_with)
+    ∙ sym (all_told_unnumbered os g.later_with) ∙ ap (told_each os) (sym (silent_after config word n before after h)))
+    ∙ none_told n os g.later_with
+
+-- items, and events
+--
+pub same_items : (config : Config) (word draw n : ℕ) (before after : List Event) (h : HasStarted n (state_after config word before))
+    → hushed_life h.pending.number (state_after config word (before ++ after)).single.connection.life ≡ (state_after config word (before ++ cancel_of draw n ∷ after)).single.connection.life
+same_items config word draw n before after h =
+    let c = state_after config word before in
+    let p = h.pending.number in
+    let r = ready_after config word before in
+    let d = (turn c (event.Cancel n)).core in
+    let s = hushed_on n p d after (cancel_alike n c h r).within_too (cancel_hushed n c h r) in
+    ap (λ (x : Core). x.single.connection.life) (alike_after config word draw n before after h).same
+    ∙ subst (λ (x : Core). hushed_life p x.single.connection.life ≡ x.single.connection.life) (sym (state_split config word before (cancel_of draw n ∷ after)))
+    (quiet_life p (run_on d after).single.connection.life s.quiet)
+
+too_much_same : (p count : ℕ) (life : Life) → takes_too_much life count ≡ takes_too_much (hushed_life p life) count
+too_much_same p count Dialing = refl
+too_much_same p count (Ready l) = refl
+too_much_same p count Ended = refl
+
+bare_bad : (p : ℕ) (c : Core) (kind : EventKind) → is_bad c kind ≡ is_bad (bare_core p c) kind
+unfolding is_bad
+bare_bad p c (event.Submit s) = refl
+bare_bad p c (event.Cancel m) = refl
+bare_bad p c (event.Connected l) = refl
+bare_bad p c (event.Wrote l count) = ap (λ (b : Bool). nat_le c.links l || ((l == c.single.link) && b)) (too_much_same p count c.single.connection.life)
+bare_bad p c (event.Bytes l piece) = refl
+bare_bad p c (event.Ended l) = refl
+bare_bad p c (event.ReadFault l fault) = refl
+bare_bad p c (event.WriteFault l fault) = refl
+bare_bad p c event.Shutdown = refl
+
+pub same_bad : (config : Config) (word draw n : ℕ) (before after : List Event) (e : Event) → HasStarted n (state_after config word before)
+    → is_bad_after config word (before ++ after) e ≡ is_bad_after config word (before ++ cancel_of draw n ∷ after) e
+same_bad config word draw n before after e h =
+    let p = h.pending.number in
+    bare_bad p (state_after config word (before ++ after)) e.kind ∙ ap (λ (x : Core). is_bad x e.kind) (alike_after config word draw n before after h).same
+    ∙ sym (bare_bad p (state_after config word (before ++ cancel_of draw n ∷ after)) e.kind)
+
+pub good_cancel : (config : Config) (word draw n : ℕ) (before : List Event) → HasStarted n (state_after config word before) → is_bad_after config word before (cancel_of draw n) ≡ false
+unfolding is_bad
+good_cancel config word draw n before h =
+    let table = (state_after config word before).table in
+    not_le_test (length table) n (get_within table n (Some h.pending) h.there)

@@ -1,0 +1,96 @@
+-- A submission that is handed in after the link's connect has started.
+use Rattle.std.proofs.Common.{◌≡◌, ◌≢◌, ℕ, ◌==◌, Bool, true, false, List, [], ◌∷◌, length, Some, slice_get, refl, sym, ◌∙◌, subst, arith}
+use Rattle.containers.proofs.Tests.{chosen, ne_test, not_both}
+use Rattle.driver_model.specs.declared.config.Config.{Config}
+use Rattle.driver_model.specs.declared.event.EventKind.TheVariants as event
+use Rattle.driver_model.specs.declared.event.Submission.{Submission}
+use Rattle.driver_model.specs.declared.event.Submission.TheVariants.{Cmd, Pipe, Multi}
+use Rattle.driver_model.specs.Request.{packed, shape_of, awaits_reply}
+use Rattle.link_core.specs.Link.{LinkState, offered_of}
+use Rattle.link_core.specs.Outbox.{can_offer}
+use Rattle.link_core.specs.Waiting.{without}
+use Rattle.mux_conn.specs.declared.connection.MultiplexedConnection.{MultiplexedConnection}
+use Rattle.mux_conn.specs.declared.life.Life.{Life}
+use Rattle.mux_conn.specs.declared.life.Life.TheVariants.{Dialing, Ready, Ended}
+use Rattle.mux_conn.specs.declared.request.Pending.{Pending}
+use Rattle.mux_conn.specs.declared.request.Progress.TheVariants as progress
+use Rattle.mux_conn.specs.declared.request.Request.{Request}
+use Rattle.mux_conn.specs.Connection.{Work}
+use Rattle.mux_conn.specs.Requests.{asked}
+use Rattle.mux_conn.specs.Passes.{passed}
+use Rattle.mux_conn.specs.Turn.{written_at, written, flushed}
+use Rattle.shared_session.specs.declared.core_state.Core.{Core}
+use Rattle.shared_session.specs.Turn.{Turning, pending, work_of, heard, counted, moved_on, turn}
+use Rattle.shared_session.specs.Replay.{opening, state_after}
+use Rattle.cancel_laws.specs.Cancels.{connected_at, handed_in_after_connect, HasStarted}
+use Rattle.cancel_laws.proofs.Rest.{waits_conn}
+
+-- request p has had its place, and its message has left the queue of the link, which is up
+record IsStarted (p : ℕ) (c : MultiplexedConnection) : Type 0 where
+  pub request : Request
+  pub known : slice_get c.requests p ≡ Some request
+  pub placed : request.progress ≡ progress.Placed
+  pub link : LinkState
+  pub up : c.life ≡ Ready link
+  pub gone : without link.queue p ≡ link.queue
+
+same_link : (k l : LinkState) → Ready k ≡ Ready l → k ≡ l
+same_link k l e = cc
+
+written_from : (p : ℕ) (w : Work) (life : Life) → w.conn.life ≡ life → IsStarted p w.conn → IsStarted p (written_at w life).conn
+written_from p w (Ready l) e h =
+    let same = same_link h.link l (sym h.up ∙ e) in
+    chosen (λ (x : Work). IsStarted p x.conn) (can_offer l.outbox) _ w
+    (λ t. record {
+      request = h.request;
+      known = h.known;
+      placed = h.placed;
+      link = offered_of l;
+      up = refl;
+      gone = subst (λ (x : LinkState). without x.queue p ≡ x.queue) same h.gone;
+    })
+    (λ f. h)
+written_from p w Dialing e h = h
+written_from p w Ended e h = h
+
+-- what a turn ends with leaves a started message as it is
+all_flushed : (p : ℕ) (w : Work) → IsStarted p w.conn → IsStarted p (flushed w).conn
+all_flushed p w h =
+    let d = written w in
+    let g = written_from p w w.conn.life refl h in
+    let c : MultiplexedConnection = record d.conn { fresh = [] } in
+    subst (IsStarted p) (sym (waits_conn (record d { conn = c }) d.conn.fresh))
+    (record { request = g.request; known = g.known; placed = g.placed; link = g.link; up = g.up; gone = g.gone })
+
+has_started : (n : ℕ) (c : Core) (p : Pending) → slice_get c.table n ≡ Some (Some p) → IsStarted p.number c.single.connection → HasStarted n c
+has_started n c p there h = record { pending = p; there = there; request = h.request; known = h.known; placed = h.placed; link = h.link; up = h.up; gone = h.gone }
+
+no_bytes : (xs : List ℕ) → xs ≢ [] → (length xs == 0) ≡ false
+no_bytes [] some = absurd (some refl)
+no_bytes (x ∷ xs) some = ne_test (length (x ∷ xs)) 0 (λ e. omega arith)
+
+pub any_started : (config : Config) (word draw later : ℕ) (s : Submission) → packed s ≢ [] → awaits_reply s ≡ true → HasStarted 0 (handed_in_after_connect config word draw later s)
+unfolding state_after turn
+any_started config word draw later s some awaited =
+    let c = (turn (opening config word) (connected_at draw).kind).core in
+    let t = heard (counted c) (event.Submit s) in
+    let asks : Bool → Turning = λ b. record t {
+      core = record t.core { table = Some (pending 0) ∷ []; single = record t.core.single { connection = asked t.core.single.connection 0 (packed s) (shape_of s) b } };
+    } in
+    let w = passed (work_of (asks true)) in
+    let f : HasStarted 0 (moved_on (asks true)).core =
+    has_started 0 (moved_on (asks true)).core (pending 0) refl
+    (all_flushed 0 w (record { request = record { name = 0; progress = progress.Placed }; known = refl; placed = refl; link = _; up = refl; gone = refl })) in
+    let g : HasStarted 0 (moved_on (asks (awaits_reply s))).core = subst (λ (b : Bool). HasStarted 0 (moved_on (asks b)).core) (sym awaited) f in
+    chosen (λ (x : Turning). HasStarted 0 (moved_on x).core) (length (packed s) == 0) _ (asks (awaits_reply s))
+    (λ e. absurd (not_both (length (packed s) == 0) (no_bytes (packed s) some) e))
+    (λ n. g)
+
+pub command_started : (config : Config) (word draw later : ℕ) (name : List ℕ) (args : List (List ℕ)) → HasStarted 0 (handed_in_after_connect config word draw later (Cmd (name ∷ args)))
+command_started config word draw later name args = any_started config word draw later (Cmd (name ∷ args)) (λ e. cc) refl
+
+pub pipeline_started : (config : Config) (word draw later : ℕ) (name : List ℕ) (args : List (List ℕ)) (more : List (List (List ℕ))) → HasStarted 0 (handed_in_after_connect config word draw later (Pipe ((name ∷ args) ∷ more)))
+pipeline_started config word draw later name args more = any_started config word draw later (Pipe ((name ∷ args) ∷ more)) (λ e. cc) refl
+
+pub transaction_started : (config : Config) (word draw later : ℕ) (args : List (List ℕ)) (more : List (List (List ℕ))) → HasStarted 0 (handed_in_after_connect config word draw later (Multi (args ∷ more)))
+transaction_started config word draw later args more = any_started config word draw later (Multi (args ∷ more)) (λ e. cc) refl
