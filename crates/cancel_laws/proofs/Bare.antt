@@ -32,7 +32,7 @@ use Rattle.mux_conn.specs.Effects.{new_link, settled_each, closed, closed_each, 
 use Rattle.mux_conn.specs.Passes.{shown_each, starts_with, started_at, started, message_of, placed_at, told_at_place, moved_at, moved, still_waiting, moved_each, moved_all, passed}
 use Rattle.mux_conn.specs.Turn.{written_at, written, wait_shown, waits_each, waits_shown, flushed}
 use Rattle.cancel_laws.specs.ButFor.{hushed_link, hushed_life}
-use Rattle.cancel_laws.proofs.Requests.{names, name_stays, progress_twice, progress_apart, progress_push, progress_count, own_closed, open_other, waiting_same, other_number, other_open}
+use Rattle.cancel_laws.proofs.Requests.{names, name_stays, progress_twice, progress_apart, progress_push, progress_count, own_closed, open_other, closed_set, waiting_same, other_number}
 use Rattle.cancel_laws.proofs.Names.{IsOwn, own_name, other_name}
 use Rattle.cancel_laws.proofs.Links.{alike_hushed, none_leaves, hushed_started, hushed_came, hushed_cancelled, own_cancelled}
 use Rattle.cancel_laws.proofs.Kept.{other_act, IsPlain, At, There, answered_kept, settled_kept, over_kept, started_kept, told_kept, moved_kept, written_kept, wait_kept}
@@ -53,20 +53,25 @@ bare n p w = record { conn = bare_conn p w.conn; acts = other_acts n w.acts }
 
 -- acts
 --
+-- acts one after another
 acts-append : (n : ℕ) (xs ys : List LinkAct) → other_acts n (xs ++ ys) ≡ other_acts n xs ++ other_acts n ys
 acts-append n [] ys = refl
 acts-append n (a ∷ xs) ys = ap (λ (zs : List LinkAct). other_act n a ++ zs) (acts-append n xs ys) ∙ sym (append_assoc (other_act n a) (other_acts n xs) (other_acts n ys))
 
-pub acts_more : (n : ℕ) (xs : List LinkAct) (a : LinkAct) → other_acts n (xs ++ a ∷ []) ≡ other_acts n xs ++ other_act n a
+-- one more act
+acts_more : (n : ℕ) (xs : List LinkAct) (a : LinkAct) → other_acts n (xs ++ a ∷ []) ≡ other_acts n xs ++ other_act n a
 acts_more n xs a = acts-append n xs (a ∷ []) ∙ ap (λ (zs : List LinkAct). other_acts n xs ++ zs) (append-nil (other_act n a))
 
+-- and one that answers nobody
 pub acts_plain : (n : ℕ) (xs : List LinkAct) (a : LinkAct) → IsPlain a → other_acts n (xs ++ a ∷ []) ≡ other_acts n xs ++ a ∷ []
 acts_plain n xs a p = acts_more n xs a ∙ ap (λ (zs : List LinkAct). other_acts n xs ++ zs) (p n)
 
+-- submission n's own outcome doesn't count
 acts_own : (n m : ℕ) (xs : List LinkAct) (o : Outcome) → m ≡ n → other_acts n (xs ++ act.Outcome m o ∷ []) ≡ other_acts n xs
 acts_own n m xs o e =
     acts_more n xs (act.Outcome m o) ∙ ap (λ (zs : List LinkAct). other_acts n xs ++ zs) (taken_if (m == n) [] (act.Outcome m o ∷ []) (eq_test m n e)) ∙ append-nil (other_acts n xs)
 
+-- any other does
 pub acts_other : (n m : ℕ) (xs : List LinkAct) (o : Outcome) → m ≢ n → other_acts n (xs ++ act.Outcome m o ∷ []) ≡ other_acts n xs ++ act.Outcome m o ∷ []
 acts_other n m xs o e = acts_more n xs (act.Outcome m o) ∙ ap (λ (zs : List LinkAct). other_acts n xs ++ zs) (left_if (m == n) [] (act.Outcome m o ∷ []) (ne_test m n e))
 
@@ -76,6 +81,7 @@ bare_acted n p w a plain = ap (λ (xs : List LinkAct). record (bare n p w) { act
 
 -- answers
 --
+-- all others are as open as they were
 open_same : (r : List Request) (p q : ℕ) → q ≢ p → is_open_at r q ≡ is_open_at (at_progress r p progress.Closed) q
 open_same r p q o = sym (open_other r p q progress.Closed (λ e. o (sym e)))
 
@@ -83,6 +89,7 @@ open_same r p q o = sym (open_other r p q progress.Closed (λ e. o (sym e)))
 closed_stays : (w : Work) (q : ℕ) (o : Outcome) → is_open_at w.conn.requests q ≡ false → answered w q o ≡ w
 closed_stays w q o f = left_if (is_open_at w.conn.requests q) _ w f
 
+-- an answer of request p counts for nothing
 answered_own : (n p : ℕ) (w : Work) (o : Outcome) → IsOwn n p (names w.conn.requests) → bare n p (answered w p o) ≡ bare n p w
 answered_own n p w o own = own_case (is_open_at w.conn.requests p) (λ t. same t)
   where
@@ -97,6 +104,7 @@ answered_own n p w o own = own_case (is_open_at w.conn.requests p) (λ t. same t
     own_case true e = e refl
     own_case false e = refl
 
+-- any other answer counts
 answered_other : (n p : ℕ) (w : Work) (q : ℕ) (o : Outcome) → IsOwn n p (names w.conn.requests) → q ≢ p → bare n p (answered w q o) ≡ answered (bare n p w) q o
 answered_other n p w q o own apart =
     either_by (bare n p) (is_open_at w.conn.requests q) (is_open_at (at_progress w.conn.requests p progress.Closed) q) _ w _ (bare n p w) (open_same w.conn.requests p q apart)
@@ -112,6 +120,7 @@ answered_other n p w q o own apart =
         ∙ ap (λ (m : ℕ). other_acts n w.acts ++ act.Outcome m o ∷ []) (sym (name_stays w.conn.requests p q progress.Closed)) in
         λ i. record { conn = record (bare_conn p w.conn) { requests = r i }; acts = xs i }
 
+-- an answer
 bare_answered : (n p : ℕ) (w : Work) (q : ℕ) (o : Outcome) → At (There (IsGone n p)) w → bare n p (answered w q o) ≡ answered (bare n p w) q o
 bare_answered n p w q o h =
     by_test (q == p) _
@@ -120,6 +129,7 @@ bare_answered n p w q o h =
     ap (λ (k : ℕ). bare n p (answered w k o)) e ∙ answered_own n p w o h.own ∙ sym (closed_stays (bare n p w) p o (own_closed w.conn.requests p)) ∙ ap (λ (k : ℕ). answered (bare n p w) k o) (sym e))
     (λ f. answered_other n p w q o h.own (ne_from q p f))
 
+-- what the link settled
 bare_settled : (n p : ℕ) (w : Work) (ss : List Settled) → At (There (IsGone n p)) w → bare n p (settled_each w ss) ≡ settled_each (bare n p w) ss
 bare_settled n p w [] h = refl
 bare_settled n p w (s ∷ ss) h =
@@ -130,9 +140,10 @@ bare_settled n p w (s ∷ ss) h =
 closed_still : (w : Work) (p q : ℕ) (o : Outcome) → is_open_at w.conn.requests p ≡ false → is_open_at (answered w q o).conn.requests p ≡ false
 closed_still w p q o f =
     chosen (λ (x : Work). is_open_at x.conn.requests p ≡ false) (is_open_at w.conn.requests q) _ w
-    (λ t. open_other w.conn.requests q p progress.Closed (other_open w.conn.requests q p t f) ∙ f)
+    (λ t. closed_set w.conn.requests q p progress.Closed t f)
     (λ g. f)
 
+-- and so for all that a link settled
 others_settled : (w : Work) (p : ℕ) (ss : List Settled) → is_open_at w.conn.requests p ≡ false → settled_each w (others p ss) ≡ settled_each w ss
 others_settled w p [] f = refl
 others_settled w p (s ∷ ss) f =
@@ -149,11 +160,13 @@ bare_settled_same n p w ss later h e =
     let f = own_closed w.conn.requests p in
     bare_settled n p w ss h ∙ sym (others_settled (bare n p w) p ss f) ∙ ap (settled_each (bare n p w)) e ∙ others_settled (bare n p w) p later f
 
+-- those that wait, on a link that has ended
 bare_closed : (n p : ℕ) (w : Work) (qs : List Waiting) → At (There (IsGone n p)) w → bare n p (closed_each w qs) ≡ closed_each (bare n p w) qs
 bare_closed n p w [] h = refl
 bare_closed n p w (q ∷ qs) h =
     bare_closed n p (answered w q.number closed) qs (answered_kept (gone_kept n p) w q.number closed h) ∙ ap (λ (x : Work). closed_each x qs) (bare_answered n p w q.number closed h)
 
+-- the end of a link
 bare_ended : (n p : ℕ) (w : Work) (ss later : List Settled) → At (There (IsGone n p)) w → others p ss ≡ others p later → bare n p (ended w ss) ≡ ended (bare n p w) later
 bare_ended n p w ss later h e =
     let d = acted (at_life w Ended) act.Close in
@@ -165,24 +178,29 @@ bare_ended n p w ss later h e =
 
 -- news
 --
+-- a fault of the link
 bare_failed : (n p : ℕ) (w : Work) (f : LinkFault) (life : Life) → At (There (IsGone n p)) w → bare n p (failed_at w f life) ≡ failed_at (bare n p w) f (hushed_life p life)
 bare_failed n p w f (Ready l) h = bare_ended n p w _ _ h (fault_alike p f l (hushed_link p l) [] [] (alike_hushed p l) refl).out
 bare_failed n p w f Dialing h = refl
 bare_failed n p w f Ended h = refl
 
+-- the connect
 bare_connected : (n p : ℕ) (w : Work) (life : Life) → bare n p (connected_at w life) ≡ connected_at (bare n p w) (hushed_life p life)
 bare_connected n p w Dialing = bare_acted n p (with_link w new_link) act.Created (λ m. refl)
 bare_connected n p w (Ready l) = refl
 bare_connected n p w Ended = refl
 
+-- bytes were taken
 bare_taken : (n p : ℕ) (w : Work) (count : ℕ) (life : Life) → bare n p (taken_at w count life) ≡ taken_at (bare n p w) count (hushed_life p life)
 bare_taken n p w count Dialing = refl
 bare_taken n p w count (Ready l) = refl
 bare_taken n p w count Ended = refl
 
+-- bytes that begin no value
 bare_broken : (n p : ℕ) (b : Bool) (w : Work) → At (There (IsGone n p)) w → bare n p (broken_at b w) ≡ broken_at b (bare n p w)
 bare_broken n p b w h = either (bare n p) b _ w _ (bare n p w) (λ t. bare_failed n p w fault.Parse w.conn.life h) (λ f. refl)
 
+-- what a link settled by bytes
 bare_read : (n p : ℕ) (w : Work) (s t : Settling) → IsGone n p w.conn.requests (Ready s.link) → hushed_link p s.link ≡ t.link → others p s.out ≡ others p t.out → bare n p (read_to w s) ≡ read_to (bare n p w) t
 bare_read n p w s t h link out =
     let d = with_link w s.link in
@@ -190,6 +208,7 @@ bare_read n p w s t h link out =
     ∙ ap (broken_at s.link.broken) (bare_settled_same n p d s.out t.out h out)
     ∙ ap (λ (l : LinkState). broken_at l.broken (settled_each (with_link (bare n p w) l) t.out)) link
 
+-- bytes come
 bare_came : (n p : ℕ) (w : Work) (piece : List ℕ) (life : Life) → IsGone n p w.conn.requests life → bare n p (read_at w piece life) ≡ read_at (bare n p w) piece (hushed_life p life)
 bare_came n p w piece (Ready l) h =
     bare_read n p w (came (record { link = l; out = [] }) piece) (came (record { link = hushed_link p l; out = [] }) piece) ((gone_kept n p).come w.conn.requests l w.acts piece h)
@@ -197,11 +216,13 @@ bare_came n p w piece (Ready l) h =
 bare_came n p w piece Dialing h = refl
 bare_came n p w piece Ended h = refl
 
+-- the shutdown
 bare_shut : (n p : ℕ) (w : Work) (life : Life) → At (There (IsGone n p)) w → bare n p (shut_at w life) ≡ shut_at (bare n p w) (hushed_life p life)
 bare_shut n p w (Ready l) h = bare_ended n p w _ _ h (close_alike p l (hushed_link p l) [] [] (alike_hushed p l) refl).out
 bare_shut n p w Dialing h = bare_ended n p w [] [] h refl
 bare_shut n p w Ended h = refl
 
+-- all news
 pub bare_applied : (n p : ℕ) (w : Work) (what : News) → At (There (IsGone n p)) w → bare n p (applied w what) ≡ applied (bare n p w) what
 bare_applied n p w silence h = refl
 bare_applied n p w connected h = bare_connected n p w w.conn.life
@@ -212,6 +233,7 @@ bare_applied n p w shut h = bare_shut n p w w.conn.life h
 
 -- requests
 --
+-- one more request
 pub bare_asked : (p : ℕ) (c : MultiplexedConnection) (name : ℕ) (packed : List ℕ) (shape : Shape) (awaited : Bool) → p < length c.requests
     → bare_conn p (asked c name packed shape awaited) ≡ asked (bare_conn p c) name packed shape awaited
 bare_asked p c name packed shape awaited l =
@@ -226,6 +248,7 @@ own_life p Dialing h = refl
 own_life p (Ready l) h = ap Ready (own_cancelled p l (none_leaves p l.queue h))
 own_life p Ended h = refl
 
+-- so nothing else changes
 pub own_left : (p : ℕ) (c : MultiplexedConnection) → NoneQueued p c.life → bare_conn p (left c p) ≡ bare_conn p c
 own_left p c none =
     let r = progress_twice c.requests p progress.Closed progress.Closed in
@@ -237,11 +260,13 @@ own_left p c none =
     own_case true e = e
     own_case false e = refl
 
+-- the cancel of another request, on the link
 other_life : (p q : ℕ) (life : Life) → hushed_life p (cancelled_in life q) ≡ cancelled_in (hushed_life p life) q
 other_life p q Dialing = refl
 other_life p q (Ready l) = ap Ready (hushed_cancelled p q l)
 other_life p q Ended = refl
 
+-- and in the connection
 other_left : (p q : ℕ) (c : MultiplexedConnection) → q ≢ p → bare_conn p (left c q) ≡ left (bare_conn p c) q
 other_left p q c apart =
     let r = progress_apart c.requests q p progress.Closed progress.Closed apart in
@@ -250,9 +275,11 @@ other_left p q c apart =
     (λ t. λ i. record c { requests = r i; life = l i })
     (λ g. refl)
 
+-- request p is closed already
 left_stays : (p : ℕ) (c : MultiplexedConnection) → left (bare_conn p c) p ≡ bare_conn p c
 left_stays p c = left_if (is_open_at (at_progress c.requests p progress.Closed) p) _ (bare_conn p c) (own_closed c.requests p)
 
+-- any cancel
 pub bare_left : (p q : ℕ) (c : MultiplexedConnection) → NoneQueued p c.life → bare_conn p (left c q) ≡ left (bare_conn p c) q
 bare_left p q c none =
     by_test (q == p) _
@@ -261,6 +288,7 @@ bare_left p q c none =
 
 -- moves
 --
+-- starts are shown by names, which stay
 bare_shown : (n p : ℕ) (w : Work) (ss : List Started) → bare n p (shown_each w ss) ≡ shown_each (bare n p w) ss
 bare_shown n p w [] = refl
 bare_shown n p w (s ∷ ss) =
@@ -269,6 +297,7 @@ bare_shown n p w (s ∷ ss) =
     ∙ ap (λ (x : Work). shown_each x ss) (bare_acted n p w a (λ m. refl)
     ∙ ap (λ (m : ℕ). acted (bare n p w) (act.Start s.msg m s.need s.len)) (sym (name_stays w.conn.requests p s.id progress.Closed)))
 
+-- messages start
 bare_started_at : (n p : ℕ) (w : Work) (life : Life) → NoneQueued p life → bare n p (started_at w life) ≡ started_at (bare n p w) (hushed_life p life)
 bare_started_at n p w (Ready l) none =
     let s = started_all (record { link = l; out = [] }) in
@@ -279,18 +308,22 @@ bare_started_at n p w (Ready l) none =
 bare_started_at n p w Dialing none = refl
 bare_started_at n p w Ended none = refl
 
+-- on the link that the connection has
 bare_started : (n p : ℕ) (w : Work) → At (There (IsGone n p)) w → bare n p (started w) ≡ started (bare n p w)
 bare_started n p w h = bare_started_at n p w w.conn.life h.none
 
+-- a request takes its place
 bare_placed : (n p : ℕ) (w : Work) (q : Waiting) (l : LinkState) → q.number ≢ p → bare n p (placed_at w q (Ready l)) ≡ placed_at (bare n p w) q (Ready (hushed_link p l))
 bare_placed n p w q l o =
     ap (λ (r : List Request). record (bare n p w) { conn = record (bare_conn p w.conn) { requests = r; life = Ready (enqueued (hushed_link p l) (message_of q)) } })
     (progress_apart w.conn.requests q.number p progress.Placed progress.Closed o)
 
+-- and is answered there, if nobody awaits its reply
 bare_told : (n p : ℕ) (w : Work) (q : Waiting) → At (There (IsGone n p)) w → bare n p (told_at_place w q) ≡ told_at_place (bare n p w) q
 bare_told n p w q h =
     either (bare n p) q.awaited w (answered w q.number (outcome.One Nil)) (bare n p w) (answered (bare n p w) q.number (outcome.One Nil)) (λ t. refl) (λ f. bare_answered n p w q.number (outcome.One Nil) h)
 
+-- a request that waits is moved
 bare_moved_at : (n p : ℕ) (w : Work) (q : Waiting) (life : Life) → is_waiting_at w.conn.requests q.number ≡ true → IsGone n p w.conn.requests life → At (There (IsGone n p)) w
     → bare n p (moved_at w q life) ≡ moved_at (bare n p w) q (hushed_life p life)
 bare_moved_at n p w q (Ready l) t g h =
@@ -301,6 +334,7 @@ bare_moved_at n p w q (Ready l) t g h =
 bare_moved_at n p w q Ended t g h = bare_answered n p w q.number closed h
 bare_moved_at n p w q Dialing t g h = refl
 
+-- and any other stays
 bare_moved : (n p : ℕ) (w : Work) (q : Waiting) → At (There (IsGone n p)) w → bare n p (moved w q) ≡ moved (bare n p w) q
 bare_moved n p w q h =
     either_by (bare n p) (is_waiting_at w.conn.requests q.number) (is_waiting_at (at_progress w.conn.requests p progress.Closed) q.number) (moved_at w q w.conn.life) w _ (bare n p w)
@@ -308,17 +342,20 @@ bare_moved n p w q h =
     (λ t. bare_moved_at n p w q w.conn.life t h h)
     (λ f. refl)
 
+-- whether requests can be moved doesn't depend on the row
 stuck_same : (p : ℕ) (life : Life) → is_stuck life ≡ is_stuck (hushed_life p life)
 stuck_same p Dialing = refl
 stuck_same p (Ready l) = refl
 stuck_same p Ended = refl
 
+-- all that wait are moved
 bare_moved_each : (n p : ℕ) (w : Work) (qs : List Waiting) → At (There (IsGone n p)) w → bare n p (moved_each w qs) ≡ moved_each (bare n p w) qs
 bare_moved_each n p w [] h = refl
 bare_moved_each n p w (q ∷ qs) h =
     either_by (bare n p) (is_stuck w.conn.life) (is_stuck (hushed_life p w.conn.life)) _ _ _ _ (stuck_same p w.conn.life) (λ t. refl)
     (λ f. bare_moved_each n p (moved w q) qs (moved_kept (gone_kept n p) w q h) ∙ ap (λ (x : Work). moved_each x qs) (bare_moved n p w q h))
 
+-- what a turn moves
 pub bare_passed : (n p : ℕ) (w : Work) → At (There (IsGone n p)) w → bare n p (passed w) ≡ passed (bare n p w)
 bare_passed n p w h =
     let d = started w in
@@ -326,17 +363,20 @@ bare_passed n p w h =
 
 -- what a turn ends with
 --
+-- bytes are offered
 bare_written_at : (n p : ℕ) (w : Work) (life : Life) → bare n p (written_at w life) ≡ written_at (bare n p w) (hushed_life p life)
 bare_written_at n p w (Ready l) =
     either (bare n p) (can_offer l.outbox) _ w _ (bare n p w) (λ t. bare_acted n p (with_link w (offered_of l)) (act.Write l.outbox.unwritten) (λ m. refl)) (λ f. refl)
 bare_written_at n p w Dialing = refl
 bare_written_at n p w Ended = refl
 
+-- nor does it whether the connect is answered
 dialing_same : (p : ℕ) (life : Life) → is_dialing life ≡ is_dialing (hushed_life p life)
 dialing_same p Dialing = refl
 dialing_same p (Ready l) = refl
 dialing_same p Ended = refl
 
+-- a wait is shown
 bare_wait : (n p : ℕ) (w : Work) (q : ℕ) → At (There (IsGone n p)) w → bare n p (wait_shown w q) ≡ wait_shown (bare n p w) q
 bare_wait n p w q h =
     either_by (bare n p) (is_waiting_at w.conn.requests q) (is_waiting_at (at_progress w.conn.requests p progress.Closed) q) _ w _ (bare n p w) (waiting_same w.conn.requests p q h.past)
@@ -348,10 +388,12 @@ bare_wait n p w q h =
     (λ f. refl))
     (λ f. refl)
 
+-- all waits of a turn
 bare_waits : (n p : ℕ) (w : Work) (qs : List ℕ) → At (There (IsGone n p)) w → bare n p (waits_each w qs) ≡ waits_each (bare n p w) qs
 bare_waits n p w [] h = refl
 bare_waits n p w (q ∷ qs) h = bare_waits n p (wait_shown w q) qs (wait_kept (gone_kept n p) w q h) ∙ ap (λ (x : Work). waits_each x qs) (bare_wait n p w q h)
 
+-- what a turn ends with
 pub bare_flushed : (n p : ℕ) (w : Work) → At (There (IsGone n p)) w → bare n p (flushed w) ≡ flushed (bare n p w)
 bare_flushed n p w h =
     let d = written w in

@@ -37,6 +37,7 @@ use Rattle.cancel_laws.proofs.Outcomes.{told-append, all_told_unnumbered, erased
 
 -- the turn of the cancel
 --
+-- what is true or false
 or_false : (b : Bool) → (b || false) ≡ b
 or_false true = refl
 or_false false = refl
@@ -54,6 +55,7 @@ cancel_turn c n p r there =
     (λ (b : Bool). record { core = record c { turns = c.turns + 1; shut = b; single = record c.single { connection = left c.single.connection p.number } }; acts = [] })
     (or_false c.shut)
 
+-- a started request is gone from the queue
 started_gone : (n : ℕ) (c : Core) (h : HasStarted n c) → IsReady c → AtCore (There (IsGone n h.pending.number)) c
 started_gone n c h r =
     let p = h.pending.number in
@@ -64,9 +66,11 @@ started_gone n c h r =
       none = subst (NoneQueued p) (sym h.up) (none_from p h.link.queue h.gone);
     }
 
+-- and it is open
 started_open : (n : ℕ) (c : Core) (h : HasStarted n c) → is_open_at c.single.connection.requests h.pending.number ≡ true
 started_open n c h = ap (if_there is_open) h.known ∙ ap is_open h.placed
 
+-- its cancel leads to a session that is alike
 cancel_alike : (n : ℕ) (c : Core) (h : HasStarted n c) → IsReady c → AreAlike n h.pending.number c (turn c (event.Cancel n)).core
 cancel_alike n c h r =
     let p = h.pending.number in
@@ -83,9 +87,11 @@ cancel_alike n c h r =
       gone_too = turn_gone n p c (event.Cancel n) within gone;
     }
 
+-- a request that was left is closed
 left_closed : (c : MultiplexedConnection) (p : ℕ) → is_open_at (left c p).requests p ≡ false
 left_closed c p = chosen (λ (x : MultiplexedConnection). is_open_at x.requests p ≡ false) (is_open_at c.requests p) _ c (λ t. own_closed c.requests p) (λ f. f)
 
+-- and it is silent from then on
 cancel_silent : (n : ℕ) (c : Core) (h : HasStarted n c) → IsReady c → AtCore (IsSilent n h.pending.number) (turn c (event.Cancel n)).core
 cancel_silent n c h r =
     let p = h.pending.number in
@@ -101,6 +107,7 @@ cancel_silent n c h r =
 left_quiet : (c : MultiplexedConnection) (p : ℕ) → is_open_at c.requests p ≡ true → NoneInRow p (cancelled_in c.life p) → NoneInRow p (left c p).life
 left_quiet c p t h = chosen (λ (x : MultiplexedConnection). NoneInRow p x.life) (is_open_at c.requests p) _ c (λ u. h) (λ f. absurd (not_both (is_open_at c.requests p) f t))
 
+-- so from the cancel on its verdict is not wanted
 cancel_hushed : (n : ℕ) (c : Core) (h : HasStarted n c) → IsReady c → AtCore (There (IsHushed n h.pending.number)) (turn c (event.Cancel n)).core
 cancel_hushed n c h r =
     let p = h.pending.number in
@@ -113,42 +120,51 @@ cancel_hushed n c h r =
       quiet = subst (λ (y : Turning). NoneInRow p y.core.single.connection.life) (sym (cancel_turn c n h.pending r h.there)) (left_quiet x p (started_open n c h) quiet);
     }
 
+-- and never again
 hushed_on : (n p : ℕ) (c : Core) (es : List Event) → n < length c.table → AtCore (There (IsHushed n p)) c → AtCore (There (IsHushed n p)) (run_on c es)
 hushed_on n p c [] l h = h
 hushed_on n p c (e ∷ es) l h =
     hushed_on n p (turn c e.kind).core es (more_after n c e.kind l) (turn_kept (hushed_kept n p) c (hushed_asks n p (length c.table) (above n c.table l)) e.kind h)
 
+-- the turn of the cancel shows nothing
 cancel_shows : (c : Core) (draw n : ℕ) (p : Pending) → IsReady c → slice_get c.table n ≡ Some (Some p) → actions_of c (cancel_of draw n) ≡ action.Turn c.turns (cause.Event (cancel_of draw n)) ∷ []
 cancel_shows c draw n p r there = ap (λ (x : Turning). action.Turn c.turns (cause.Event (cancel_of draw n)) ∷ shown_each c.single.link x.acts) (cancel_turn c n p r there)
 
 -- histories
 --
+-- where events lead
 run_on-append : (c : Core) (xs ys : List Event) → run_on c (xs ++ ys) ≡ run_on (run_on c xs) ys
 run_on-append c [] ys = refl
 run_on-append c (x ∷ xs) ys = run_on-append (turn c x.kind).core xs ys
 
+-- and what their turns show
 turns_on-append : (c : Core) (xs ys : List Event) → turns_on c (xs ++ ys) ≡ turns_on c xs ++ turns_on (run_on c xs) ys
 turns_on-append c [] ys = refl
 turns_on-append c (x ∷ xs) ys = ap (λ (zs : List Action). actions_of c x ++ zs) (turns_on-append (turn c x.kind).core xs ys) ∙ sym (append_assoc (actions_of c x) _ _)
 
+-- where a history leads that goes on
 state_split : (config : Config) (word : ℕ) (before after : List Event) → state_after config word (before ++ after) ≡ run_on (state_after config word before) after
 unfolding state_after
 state_split config word before after = run_on-append (opening config word) before after
 
+-- and its trace
 trace_split : (config : Config) (word : ℕ) (before after : List Event) → trace_of config word (before ++ after) ≡ trace_of config word before ++ turns_on (state_after config word before) after
 unfolding state_after trace_of
 trace_split config word before after =
     ap (λ (xs : List Action). opening_actions config word ++ xs) (turns_on-append (opening config word) before after)
     ∙ sym (append_assoc (opening_actions config word) (turns_on (opening config word) before) _)
 
+-- what is true after each history
 ready_after : (config : Config) (word : ℕ) (before : List Event) → IsReady (state_after config word before)
 unfolding state_after
 ready_after config word before = ready_on (opening config word) before (opening_ready config word)
 
+-- the number of the next turn
 number_after : (config : Config) (word : ℕ) (before : List Event) → (state_after config word before).turns ≡ length before + 1
 unfolding state_after
 number_after config word before = omega (arith, number_on (opening config word) before)
 
+-- the two sessions are alike after all later events
 alike_after : (config : Config) (word draw n : ℕ) (before after : List Event) (h : HasStarted n (state_after config word before))
     → AreAlike n h.pending.number (state_after config word (before ++ after)) (state_after config word (before ++ cancel_of draw n ∷ after))
 alike_after config word draw n before after h =
@@ -160,6 +176,7 @@ alike_after config word draw n before after h =
 
 -- what the turns show, and what outcomes they tell
 --
+-- later turns show no outcome of the cancelled submission
 silent_after : (config : Config) (word n : ℕ) (before after : List Event) (h : HasStarted n (state_after config word before))
     → but_for n (turns_on (turn (state_after config word before) (event.Cancel n)).core after) ≡ all_unnumbered (turns_on (turn (state_after config word before) (event.Cancel n)).core after)
 silent_after config word n before after h =
@@ -167,6 +184,7 @@ silent_after config word n before after h =
     let r = ready_after config word before in
     silent_shown n h.pending.number (turn c (event.Cancel n)).core after (cancel_alike n c h r).within_too (cancel_silent n c h r)
 
+-- the trace with the cancel goes on as the one without it
 pub goes_on : (config : Config) (word draw n : ℕ) (before after : List Event) → HasStarted n (state_after config word before) → GoesOn config word n before (cancel_of draw n) after
 goes_on config word draw n before after h =
     let c = state_after config word before in
@@ -192,6 +210,7 @@ same_told n m k draw trace later later_with o e =
     ∙ sym (other_outcome (told_each os later_with) n m o)
     ∙ sym (ap (λ (ps : List (Option Outcome)). outcome_at ps m) (told-append [] trace (action.Turn k (cause.Event (cancel_of draw n)) ∷ later_with)))
 
+-- all other submissions have the same outcomes
 pub same_outcomes : (config : Config) (word draw n m : ℕ) (before after : List Event) → HasStarted n (state_after config word before) → m ≢ n
     → outcome_at (outcomes_in (trace_of config word (before ++ after))) m ≡ outcome_at (outcomes_in (trace_of config word (before ++ cancel_of draw n ∷ after))) m
 unfolding outcomes_in goes_on
@@ -201,6 +220,7 @@ same_outcomes config word draw n m before after h o =
     ap (λ (xs : List Action). outcome_at (told_each [] xs) m) g.plain ∙ same_told n m (length before + 1) draw (trace_of config word before) g.later g.later_with o e
     ∙ sym (ap (λ (xs : List Action). outcome_at (told_each [] xs) m) g.with_more)
 
+-- the cancelled one has the outcome that it had before: none
 pub no_outcome : (config : Config) (word draw n : ℕ) (before after : List Event) → HasStarted n (state_after config word before)
     → outcome_at (outcomes_in (trace_of config word (before ++ cancel_of draw n ∷ after))) n ≡ outcome_at (outcomes_in (trace_of config word before)) n
 unfolding outcomes_in goes_on
@@ -216,6 +236,7 @@ no_outcome config word draw n before after h =
 
 -- items, and events
 --
+-- the links are the same, but for the verdict that is not wanted
 pub same_items : (config : Config) (word draw n : ℕ) (before after : List Event) (h : HasStarted n (state_after config word before))
     → hushed_life h.pending.number (state_after config word (before ++ after)).single.connection.life ≡ (state_after config word (before ++ cancel_of draw n ∷ after)).single.connection.life
 same_items config word draw n before after h =
@@ -228,11 +249,13 @@ same_items config word draw n before after h =
     ∙ subst (λ (x : Core). hushed_life p x.single.connection.life ≡ x.single.connection.life) (sym (state_split config word before (cancel_of draw n ∷ after)))
     (quiet_life p (run_on d after).single.connection.life s.quiet)
 
+-- how many bytes are offered doesn't depend on the row
 too_much_same : (p count : ℕ) (life : Life) → takes_too_much life count ≡ takes_too_much (hushed_life p life) count
 too_much_same p count Dialing = refl
 too_much_same p count (Ready l) = refl
 too_much_same p count Ended = refl
 
+-- nor does it which events are bad
 bare_bad : (p : ℕ) (c : Core) (kind : EventKind) → is_bad c kind ≡ is_bad (bare_core p c) kind
 unfolding is_bad
 bare_bad p c (event.Submit s) = refl
@@ -245,6 +268,7 @@ bare_bad p c (event.ReadFault l fault) = refl
 bare_bad p c (event.WriteFault l fault) = refl
 bare_bad p c event.Shutdown = refl
 
+-- so the same events are bad
 pub same_bad : (config : Config) (word draw n : ℕ) (before after : List Event) (e : Event) → HasStarted n (state_after config word before)
     → is_bad_after config word (before ++ after) e ≡ is_bad_after config word (before ++ cancel_of draw n ∷ after) e
 same_bad config word draw n before after e h =
@@ -252,6 +276,7 @@ same_bad config word draw n before after e h =
     bare_bad p (state_after config word (before ++ after)) e.kind ∙ ap (λ (x : Core). is_bad x e.kind) (alike_after config word draw n before after h).same
     ∙ sym (bare_bad p (state_after config word (before ++ cancel_of draw n ∷ after)) e.kind)
 
+-- and the cancel itself is not
 pub good_cancel : (config : Config) (word draw n : ℕ) (before : List Event) → HasStarted n (state_after config word before) → is_bad_after config word before (cancel_of draw n) ≡ false
 unfolding is_bad
 good_cancel config word draw n before h =

@@ -37,21 +37,26 @@ pub record IsGone (n p : ℕ) (r : List Request) (life : Life) : Type 0 where
 
 -- a change of progress
 --
+-- names stay with their requests
 pub own_kept : (n p : ℕ) (r : List Request) (q : ℕ) (now : Progress) → IsOwn n p (names r) → IsOwn n p (names (at_progress r q now))
 own_kept n p r q now h = subst (IsOwn n p) (sym (names_stay r q now)) h
 
+-- and requests stay
 pub within_kept : (r : List Request) (p q : ℕ) (now : Progress) → p < length r → p < length (at_progress r q now)
 within_kept r p q now l = omega (arith, progress_count r q now)
 
+-- a cancel puts nothing into the queue
 none_cancelled : (p q : ℕ) (life : Life) → NoneQueued p life → NoneQueued p (cancelled_in life q)
 none_cancelled p q Dialing h = h
 none_cancelled p q (Ready l) h = none_without p q l.queue h
 none_cancelled p q Ended h = h
 
+-- a message of another request is another one
 not_awaited : (p q : ℕ) (awaited : Bool) → q ≢ p → ((q == p) && awaited) ≡ false
 not_awaited p q awaited o = ap (λ (b : Bool). b && awaited) (ne_test q p o)
 
-pub gone_there : (n p : ℕ) → IsKeptThere (IsGone n p)
+-- each single change keeps that
+gone_there : (n p : ℕ) → IsKeptThere (IsGone n p)
 gone_there n p = record {
   answer = λ r life q h. record { there = within_kept r p q progress.Closed h.there; own = own_kept n p r q progress.Closed h.own; past = past_set r q p progress.Closed refl h.past; none = h.none };
   cancel = λ r life q h. record {
@@ -74,6 +79,7 @@ gone_there n p = record {
   end = λ r life h. record { there = h.there; own = h.own; past = h.past; none = tt };
 }
 
+-- so each part of a turn does
 pub gone_kept : (n p : ℕ) → IsKept (There (IsGone n p))
 gone_kept n p = kept_there (gone_there n p)
 
@@ -88,20 +94,24 @@ gone_asked n p m r life o h =
       none = h.none;
     }
 
+-- and one more submission does
 pub gone_asks : (n p m : ℕ) → m ≢ n → CanAsk (There (IsGone n p)) m
 gone_asks n p m o = record { ask = λ r life xs h. gone_asked n p m r life o h; refuse = λ r life xs x h. h }
 
 -- where its verdict is not wanted
 --
+-- that request, where nobody awaits its message in the row either
 pub record IsHushed (n p : ℕ) (r : List Request) (life : Life) : Type 0 where
   pub gone : IsGone n p r life
   pub quiet : NoneInRow p life
 
+-- a cancel makes nobody await a message
 quiet_cancelled : (p q : ℕ) (life : Life) → NoneInRow p life → NoneInRow p (cancelled_in life q)
 quiet_cancelled p q Dialing h = h
 quiet_cancelled p q (Ready l) h = quiet_silenced p q l.row h
 quiet_cancelled p q Ended h = h
 
+-- each single change keeps that too
 hushed_there : (n p : ℕ) → IsKeptThere (IsHushed n p)
 hushed_there n p = record {
   answer = λ r life q h. record { gone = (gone_there n p).answer r life q h.gone; quiet = h.quiet };
@@ -115,12 +125,15 @@ hushed_there n p = record {
   end = λ r life h. record { gone = (gone_there n p).end r life h.gone; quiet = tt };
 }
 
+-- so each part of a turn does
 pub hushed_kept : (n p : ℕ) → IsKept (There (IsHushed n p))
 hushed_kept n p = kept_there (hushed_there n p)
 
+-- and one more submission does
 pub hushed_asks : (n p m : ℕ) → m ≢ n → CanAsk (There (IsHushed n p)) m
 hushed_asks n p m o = record { ask = λ r life xs h. record { gone = gone_asked n p m r life o h.gone; quiet = h.quiet }; refuse = λ r life xs x h. h }
 
+-- where nobody awaits it, its verdict is not wanted
 pub quiet_life : (p : ℕ) (life : Life) → NoneInRow p life → hushed_life p life ≡ life
 quiet_life p Dialing h = refl
 quiet_life p (Ready l) h = ap (λ (row : List Entry). Ready (record l { row = row })) (quiet_stays p l.row h)

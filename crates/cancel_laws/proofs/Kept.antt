@@ -74,9 +74,11 @@ pub record IsKeptThere (P : List Request → Life → Type 0) : Type 0 where
   pub come : (r : List Request) (l : LinkState) (piece : List ℕ) → P r (Ready l) → P r (Ready (came (record { link = l; out = [] }) piece).link)
   pub end : (r : List Request) (life : Life) → P r life → P r Ended
 
+-- a fact of the requests and the life, whatever a turn has shown
 abbrev pub There : (List Request → Life → Type 0) → List Request → Life → List LinkAct → Type 0
 There P r life xs = P r life
 
+-- it is kept where its parts are
 pub kept_there : {P : List Request → Life → Type 0} → IsKeptThere P → IsKept (There P)
 kept_there k = record {
   answer = λ r life xs q o t h. k.answer r life q h;
@@ -91,25 +93,31 @@ kept_there k = record {
   show = λ r life xs a p h. h;
 }
 
+-- the fact where a turn stands
 abbrev pub At : (List Request → Life → List LinkAct → Type 0) → Work → Type 0
 At P w = P w.conn.requests w.conn.life w.acts
 
 -- answers
 --
+-- an answer
 pub answered_kept : {P : List Request → Life → List LinkAct → Type 0} → IsKept P → (w : Work) (q : ℕ) (o : Outcome) → At P w → At P (answered w q o)
 answered_kept {P = P} k w q o h = chosen (At P) (is_open_at w.conn.requests q) _ w (λ t. k.answer w.conn.requests w.conn.life w.acts q o t h) (λ f. h)
 
+-- what the link settled
 pub settled_kept : {P : List Request → Life → List LinkAct → Type 0} → IsKept P → (w : Work) (ss : List Settled) → At P w → At P (settled_each w ss)
 settled_kept k w [] h = h
 settled_kept k w (s ∷ ss) h = settled_kept k (answered w s.id (outcome_of s.verdict)) ss (answered_kept k w s.id (outcome_of s.verdict) h)
 
+-- those that wait, on a link that has ended
 closed_kept : {P : List Request → Life → List LinkAct → Type 0} → IsKept P → (w : Work) (qs : List Waiting) → At P w → At P (closed_each w qs)
 closed_kept k w [] h = h
 closed_kept k w (q ∷ qs) h = closed_kept k (answered w q.number closed) qs (answered_kept k w q.number closed h)
 
+-- the link is over
 pub over_kept : {P : List Request → Life → List LinkAct → Type 0} → IsKept P → (w : Work) → At P w → At P (acted (at_life w Ended) act.Close)
 over_kept k w h = k.show w.conn.requests Ended w.acts act.Close (λ n. refl) (k.end w.conn.requests w.conn.life w.acts h)
 
+-- the end of the link
 ended_kept : {P : List Request → Life → List LinkAct → Type 0} → IsKept P → (w : Work) (out : List Settled) → At P w → At P (ended w out)
 ended_kept k w out h =
     let d = acted (at_life w Ended) act.Close in
@@ -124,32 +132,38 @@ connected_kept k w Dialing g h = k.show w.conn.requests (Ready new_link) w.acts 
 connected_kept k w (Ready l) g h = h
 connected_kept k w Ended g h = h
 
+-- bytes were taken
 taken_kept : {P : List Request → Life → List LinkAct → Type 0} → IsKept P → (w : Work) (count : ℕ) (life : Life) → P w.conn.requests life w.acts → At P w → At P (taken_at w count life)
 taken_kept k w count (Ready l) g h = k.write w.conn.requests l w.acts count g
 taken_kept k w count Dialing g h = h
 taken_kept k w count Ended g h = h
 
+-- a fault
 failed_kept : {P : List Request → Life → List LinkAct → Type 0} → IsKept P → (w : Work) (f : LinkFault) (life : Life) → At P w → At P (failed_at w f life)
 failed_kept k w f (Ready l) h = ended_kept k w (faulted (record { link = l; out = [] }) f).out h
 failed_kept k w f Dialing h = h
 failed_kept k w f Ended h = h
 
+-- what the link settled by bytes
 read_kept : {P : List Request → Life → List LinkAct → Type 0} → IsKept P → (w : Work) (s : Settling) → P w.conn.requests (Ready s.link) w.acts → At P (read_to w s)
 read_kept {P = P} k w s h =
     let e = settled_each (with_link w s.link) s.out in
     let g = settled_kept k (with_link w s.link) s.out h in
     chosen (At P) s.link.broken (failed_at e fault.Parse e.conn.life) e (λ t. failed_kept k e fault.Parse e.conn.life g) (λ f. g)
 
+-- bytes come
 came_kept : {P : List Request → Life → List LinkAct → Type 0} → IsKept P → (w : Work) (piece : List ℕ) (life : Life) → P w.conn.requests life w.acts → At P w → At P (read_at w piece life)
 came_kept k w piece (Ready l) g h = read_kept k w (came (record { link = l; out = [] }) piece) (k.come w.conn.requests l w.acts piece g)
 came_kept k w piece Dialing g h = h
 came_kept k w piece Ended g h = h
 
+-- the shutdown
 shut_kept : {P : List Request → Life → List LinkAct → Type 0} → IsKept P → (w : Work) (life : Life) → At P w → At P (shut_at w life)
 shut_kept k w (Ready l) h = ended_kept k w (closed_all (record { link = l; out = [] })).out h
 shut_kept k w Dialing h = ended_kept k w [] h
 shut_kept k w Ended h = h
 
+-- all news
 applied_kept : {P : List Request → Life → List LinkAct → Type 0} → IsKept P → (w : Work) (what : News) → At P w → At P (applied w what)
 applied_kept k w silence h = h
 applied_kept k w connected h = connected_kept k w w.conn.life h h
@@ -160,12 +174,14 @@ applied_kept k w shut h = shut_kept k w w.conn.life h
 
 -- moves
 --
+-- starts are shown
 shown_kept : {P : List Request → Life → List LinkAct → Type 0} → IsKept P → (w : Work) (ss : List Started) → At P w → At P (shown_each w ss)
 shown_kept k w [] h = h
 shown_kept k w (s ∷ ss) h =
     let a = act.Start s.msg (name_at w.conn.requests s.id) s.need s.len in
     shown_kept k (acted w a) ss (k.show w.conn.requests w.conn.life w.acts a (λ n. refl) h)
 
+-- messages start
 started_at_kept : {P : List Request → Life → List LinkAct → Type 0} → IsKept P → (w : Work) (life : Life) → P w.conn.requests life w.acts → At P w → At P (started_at w life)
 started_at_kept k w (Ready l) g h =
     let s = started_all (record { link = l; out = [] }) in
@@ -173,12 +189,15 @@ started_at_kept k w (Ready l) g h =
 started_at_kept k w Dialing g h = h
 started_at_kept k w Ended g h = h
 
+-- on the link that the connection has
 pub started_kept : {P : List Request → Life → List LinkAct → Type 0} → IsKept P → (w : Work) → At P w → At P (started w)
 started_kept k w h = started_at_kept k w w.conn.life h h
 
+-- an answer at its place
 pub told_kept : {P : List Request → Life → List LinkAct → Type 0} → IsKept P → (w : Work) (q : Waiting) → At P w → At P (told_at_place w q)
 told_kept {P = P} k w q h = chosen (At P) q.awaited w (answered w q.number (outcome.One Nil)) (λ t. h) (λ f. answered_kept k w q.number (outcome.One Nil) h)
 
+-- a request that waits is moved
 moved_at_kept : {P : List Request → Life → List LinkAct → Type 0} → IsKept P → (w : Work) (q : Waiting) (life : Life) → is_waiting_at w.conn.requests q.number ≡ true → P w.conn.requests life w.acts → At P w → At P (moved_at w q life)
 moved_at_kept k w q (Ready l) t g h =
     let d = placed_at w q (Ready l) in
@@ -186,18 +205,22 @@ moved_at_kept k w q (Ready l) t g h =
 moved_at_kept k w q Ended t g h = answered_kept k w q.number closed h
 moved_at_kept k w q Dialing t g h = h
 
+-- and any other stays
 pub moved_kept : {P : List Request → Life → List LinkAct → Type 0} → IsKept P → (w : Work) (q : Waiting) → At P w → At P (moved w q)
 moved_kept {P = P} k w q h = chosen (At P) (is_waiting_at w.conn.requests q.number) (moved_at w q w.conn.life) w (λ t. moved_at_kept k w q w.conn.life t h h) (λ f. h)
 
+-- all that wait
 moved_each_kept : {P : List Request → Life → List LinkAct → Type 0} → IsKept P → (w : Work) (qs : List Waiting) → At P w → At P (moved_each w qs)
 moved_each_kept k w [] h = h
 moved_each_kept {P = P} k w (q ∷ qs) h = chosen (At P) (is_stuck w.conn.life) _ _ (λ t. h) (λ f. moved_each_kept k (moved w q) qs (moved_kept k w q h))
 
+-- what a turn moves
 pub passed_kept : {P : List Request → Life → List LinkAct → Type 0} → IsKept P → (w : Work) → At P w → At P (passed w)
 passed_kept k w h = let d = started w in moved_each_kept k (still_waiting d []) d.conn.waiting (started_kept k w h)
 
 -- what a turn ends with
 --
+-- bytes are offered
 written_at_kept : {P : List Request → Life → List LinkAct → Type 0} → IsKept P → (w : Work) (life : Life) → P w.conn.requests life w.acts → At P w → At P (written_at w life)
 written_at_kept {P = P} k w (Ready l) g h =
     chosen (At P) (can_offer l.outbox) _ w
@@ -206,19 +229,23 @@ written_at_kept {P = P} k w (Ready l) g h =
 written_at_kept k w Dialing g h = h
 written_at_kept k w Ended g h = h
 
+-- on the link that the connection has
 pub written_kept : {P : List Request → Life → List LinkAct → Type 0} → IsKept P → (w : Work) → At P w → At P (written w)
 written_kept k w h = written_at_kept k w w.conn.life h h
 
+-- a wait is shown
 pub wait_kept : {P : List Request → Life → List LinkAct → Type 0} → IsKept P → (w : Work) (q : ℕ) → At P w → At P (wait_shown w q)
 wait_kept {P = P} k w q h =
     chosen (At P) (is_waiting_at w.conn.requests q) _ w
     (λ t. chosen (At P) (is_dialing w.conn.life) _ w (λ u. k.show w.conn.requests w.conn.life w.acts (act.Wait (name_at w.conn.requests q) wait.Connect) (λ n. refl) h) (λ f. h))
     (λ f. h)
 
+-- all waits of a turn
 waits_kept : {P : List Request → Life → List LinkAct → Type 0} → IsKept P → (w : Work) (qs : List ℕ) → At P w → At P (waits_each w qs)
 waits_kept k w [] h = h
 waits_kept k w (q ∷ qs) h = waits_kept k (wait_shown w q) qs (wait_kept k w q h)
 
+-- what a turn ends with
 pub flushed_kept : {P : List Request → Life → List LinkAct → Type 0} → IsKept P → (w : Work) → At P w → At P (flushed w)
 flushed_kept k w h = let d = written w in waits_kept k (record d { conn = record d.conn { fresh = [] } }) d.conn.fresh (written_kept k w h)
 
@@ -229,23 +256,28 @@ pub record CanAsk (P : List Request → Life → List LinkAct → Type 0) (m : �
   pub ask : (r : List Request) (life : Life) (xs : List LinkAct) → P r life xs → P (r ++ record { name = m; progress = progress.Waiting } ∷ []) life xs
   pub refuse : (r : List Request) (life : Life) (xs : List LinkAct) (o : Outcome) → P r life xs → P r life (xs ++ act.Outcome m o ∷ [])
 
+-- the connection hears its link's news
 pub heard_kept : {P : List Request → Life → List LinkAct → Type 0} → IsKept P → (t : Turning) (kind : EventKind) → At P (work_of t) → At P (work_of (heard t kind))
 heard_kept k t kind h = applied_kept k (work_of t) (news t.core.single.link kind) h
 
+-- a request is left
 left_kept : {P : List Request → Life → List LinkAct → Type 0} → IsKept P → (c : MultiplexedConnection) (xs : List LinkAct) (q : ℕ) → P c.requests c.life xs → P (left c q).requests (left c q).life xs
 left_kept {P = P} k c xs q h = chosen (λ (x : MultiplexedConnection). P x.requests x.life xs) (is_open_at c.requests q) _ c (λ t. k.cancel c.requests c.life xs q t h) (λ f. h)
 
+-- a submission is left
 pub left_by_kept : {P : List Request → Life → List LinkAct → Type 0} → IsKept P → (t : Turning) (who : Option (Option Pending)) → At P (work_of t) → At P (work_of (left_by t who))
 left_by_kept k t None h = h
 left_by_kept k t (Some None) h = h
 left_by_kept k t (Some (Some p)) h = left_kept k t.core.single.connection t.acts p.number h
 
+-- a submission is handed in
 submitted_kept : {P : List Request → Life → List LinkAct → Type 0} → (t : Turning) → CanAsk P (length t.core.table) → (s : Submission) → At P (work_of t) → At P (work_of (submitted t s))
 submitted_kept {P = P} t k s h =
     let c = t.core.single.connection in
     chosen (λ (x : Turning). At P (work_of x)) t.core.shut _ _ (λ u. k.refuse c.requests c.life t.acts closed h)
     (λ f. chosen (λ (x : Turning). At P (work_of x)) (length (packed s) == 0) _ _ (λ u. k.refuse c.requests c.life t.acts (outcome.Fault error.EmptyCommand) h) (λ g. k.ask c.requests c.life t.acts h))
 
+-- what an event is to the submissions
 requested_kept : {P : List Request → Life → List LinkAct → Type 0} → IsKept P → (t : Turning) → CanAsk P (length t.core.table) → (kind : EventKind) → At P (work_of t) → At P (work_of (requested t kind))
 requested_kept k t a (event.Submit s) h = submitted_kept t a s h
 requested_kept k t a (event.Cancel n) h = left_by_kept k t (slice_get t.core.table n) h
@@ -257,12 +289,15 @@ requested_kept k t a (event.ReadFault l kind) h = h
 requested_kept k t a (event.WriteFault l kind) h = h
 requested_kept k t a event.Shutdown h = h
 
+-- the event's own effect
 pub effect_kept : {P : List Request → Life → List LinkAct → Type 0} → IsKept P → (t : Turning) → CanAsk P (length t.core.table) → (kind : EventKind) → At P (work_of t) → At P (work_of (effect t kind))
 effect_kept k t a kind h = requested_kept k (heard t kind) a kind (heard_kept k t kind h)
 
+-- the fact between turns
 abbrev pub AtCore : (List Request → Life → List LinkAct → Type 0) → Core → Type 0
 AtCore P c = P c.single.connection.requests c.single.connection.life []
 
+-- a whole turn
 pub turn_kept : {P : List Request → Life → List LinkAct → Type 0} → IsKept P → (c : Core) → CanAsk P (length c.table) → (kind : EventKind) → AtCore P c → At P (work_of (turn c kind))
 unfolding turn
 turn_kept k c a kind h =

@@ -16,31 +16,38 @@ use Rattle.cancel_laws.specs.ButFor.{hushed, hushed_each, hushed_link}
 
 -- nobody awaits message p in the queue, and in the row
 --
+-- in the queue
 abbrev pub NoneOf : ℕ → List Queued → Type 0
 NoneOf p [] = Unit {0}
 NoneOf p (q ∷ qs) = (awaits p q ≡ false) × NoneOf p qs
 
+-- and in the row
 abbrev pub NoneWanted : ℕ → List Entry → Type 0
 NoneWanted p [] = Unit {0}
 NoneWanted p (e ∷ es) = (((e.id == p) && e.awaited) ≡ false) × NoneWanted p es
 
 -- the queue
 --
+-- one more message, which is not that one
 pub none_push : (p : ℕ) (queue : List Queued) (q : Queued) → NoneOf p queue → awaits p q ≡ false → NoneOf p (queue ++ q ∷ [])
 none_push p [] q h e = (e, tt)
 none_push p (x ∷ xs) q h e = (h.0, none_push p xs q h.1 e)
 
+-- one message less
 pub none_without : (p m : ℕ) (queue : List Queued) → NoneOf p queue → NoneOf p (without queue m)
 none_without p m [] h = tt
 none_without p m (q ∷ qs) h = chosen (NoneOf p) (awaits m q) _ _ (λ t. h.1) (λ f. (h.0, none_without p m qs h.1))
 
+-- some messages start
 pub none_started : (p : ℕ) (s : Starting) (queue : List Queued) → NoneOf p queue → NoneOf p (started_each s queue).link.queue
 none_started p s [] h = tt
 none_started p s (q ∷ qs) h = chosen (λ (x : Starting). NoneOf p x.link.queue) (is_held_back s.link) _ _ (λ t. h) (λ f. none_started p (started_one s q) qs h.1)
 
+-- bytes come
 pub none_came : (p : ℕ) (l : LinkState) (piece : List ℕ) → NoneOf p l.queue → NoneOf p (came (record { link = l; out = [] }) piece).link.queue
 none_came p l piece h = chosen (λ (x : Settling). NoneOf p x.link.queue) l.broken _ _ (λ t. h) (λ f. h)
 
+-- a list with one item less is not the same
 one_less : (p : ℕ) (q : Queued) (qs : List Queued) (b : Bool) → (if b then qs else q ∷ without qs p) ≡ q ∷ qs → (b ≡ false) × (without qs p ≡ qs)
 one_less p q qs true e = absurd (let l : length qs ≡ length (q ∷ qs) = ap length e in omega arith)
 one_less p q qs false e = (refl, cc)
@@ -50,80 +57,98 @@ pub none_from : (p : ℕ) (queue : List Queued) → without queue p ≡ queue �
 none_from p [] e = tt
 none_from p (q ∷ qs) e = let h = one_less p q qs (awaits p q) e in (h.0, none_from p qs h.1)
 
+-- and what has no such message a cancel leaves as it is
 pub none_leaves : (p : ℕ) (queue : List Queued) → NoneOf p queue → without queue p ≡ queue
 none_leaves p [] h = refl
 none_leaves p (q ∷ qs) h = left_if (awaits p q) qs (q ∷ without qs p) h.0 ∙ ap (λ (xs : List Queued). q ∷ xs) (none_leaves p qs h.1)
 
 -- the row
 --
-pub quiet_behind : (p : ℕ) (row : List Entry) (q : Queued) → awaits p q ≡ false → NoneWanted p row → NoneWanted p (row ++ entry_of q ∷ [])
+-- one more entry, of another message
+quiet_behind : (p : ℕ) (row : List Entry) (q : Queued) → awaits p q ≡ false → NoneWanted p row → NoneWanted p (row ++ entry_of q ∷ [])
 quiet_behind p [] q e h = (e, tt)
 quiet_behind p (x ∷ row) q e h = (h.0, quiet_behind p row q e h.1)
 
+-- some messages start
 pub quiet_starts : (p : ℕ) (s : Starting) (queue : List Queued) → NoneOf p queue → NoneWanted p s.link.row → NoneWanted p (started_each s queue).link.row
 quiet_starts p s [] n h = h
 quiet_starts p s (q ∷ qs) n h =
     chosen (λ (x : Starting). NoneWanted p x.link.row) (is_held_back s.link) _ _ (λ t. h) (λ f. quiet_starts p (started_one s q) qs n.1 (quiet_behind p s.link.row q n.0 h))
 
+-- an item is dealt
 quiet_dealt_to : (p : ℕ) (d : Dealing) (item : Data) (row : List Entry) → NoneWanted p d.row → NoneWanted p row → NoneWanted p (dealt_to d item row).row
 quiet_dealt_to p d item [] h r = h
 quiet_dealt_to p d item (e ∷ es) h r = chosen (λ (x : Dealing). NoneWanted p x.row) (nat_lt (length (with_item e item).got) (need e.shape)) _ _ (λ t. (r.0, r.1)) (λ f. r.1)
 
+-- and more
 quiet_dealt : (p : ℕ) (d : Dealing) (items : List Data) → NoneWanted p d.row → NoneWanted p (dealt_each d items).row
 quiet_dealt p d [] h = h
 quiet_dealt p d (v ∷ vs) h = quiet_dealt p (dealt d v) vs (quiet_dealt_to p d v d.row h h)
 
+-- bytes come
 pub quiet_came : (p : ℕ) (l : LinkState) (piece : List ℕ) → NoneWanted p l.row → NoneWanted p (came (record { link = l; out = [] }) piece).link.row
 quiet_came p l piece h =
     chosen (λ (x : Settling). NoneWanted p x.link.row) l.broken _ _ (λ t. h) (λ f. quiet_dealt p (record { row = l.row; out = [] }) (items (l.rest ++ piece)) h)
 
+-- never both where one is false
 pub and_none : (b : Bool) → (b && false) ≡ false
 and_none true = refl
 and_none false = refl
 
+-- one more verdict is not wanted
 pub quiet_silenced : (p m : ℕ) (row : List Entry) → NoneWanted p row → NoneWanted p (silenced row m)
 quiet_silenced p m [] h = tt
 quiet_silenced p m (e ∷ es) h = chosen (NoneWanted p) (e.id == m) _ _ (λ t. (and_none (e.id == p), h.1)) (λ f. (h.0, quiet_silenced p m es h.1))
 
 -- an entry, and a row, whose verdict is not wanted
 --
+-- not wanted and wanted
 unwanted : (t b : Bool) → (t && (b && not t)) ≡ false
 unwanted true true = refl
 unwanted true false = refl
 unwanted false b = refl
 
-pub hushed_quiet : (p : ℕ) (row : List Entry) → NoneWanted p (hushed_each p row)
+-- where the verdict of message p is not wanted, nobody awaits it
+hushed_quiet : (p : ℕ) (row : List Entry) → NoneWanted p (hushed_each p row)
 hushed_quiet p [] = tt
 hushed_quiet p (e ∷ es) = (unwanted (e.id == p) e.awaited, hushed_quiet p es)
 
+-- wanted, where it is not that message's
 wanted_still : (t b : Bool) → (t && b) ≡ false → (b && not t) ≡ b
 wanted_still true true e = cc
 wanted_still true false e = refl
 wanted_still false true e = refl
 wanted_still false false e = refl
 
+-- where nobody awaits it, nothing changes
 pub quiet_stays : (p : ℕ) (row : List Entry) → NoneWanted p row → hushed_each p row ≡ row
 quiet_stays p [] h = refl
 quiet_stays p (e ∷ es) h =
     ap (λ (b : Bool). record e { awaited = b } ∷ hushed_each p es) (wanted_still (e.id == p) e.awaited h.0) ∙ ap (λ (xs : List Entry). e ∷ xs) (quiet_stays p es h.1)
 
+-- its own entry is silent
 own_silent : (p : ℕ) (e : Entry) → (e.id == p) ≡ true → hushed p e ≡ silent e
 own_silent p e t = ap (λ (b : Bool). record e { awaited = e.awaited && not b }) t ∙ ap (λ (b : Bool). record e { awaited = b }) (and_none e.awaited)
 
+-- any other stays
 other_stays : (p : ℕ) (e : Entry) → (e.id == p) ≡ false → hushed p e ≡ e
 other_stays p e f = ap (λ (b : Bool). record e { awaited = b }) (wanted_still (e.id == p) e.awaited (ap (λ (b : Bool). b && e.awaited) f))
 
+-- so the entries are the same in the sense of the laws of links
 same_entry : (p : ℕ) (e : Entry) → SameEntry p e (hushed p e)
 same_entry p e = by_test (e.id == p) (SameEntry p e (hushed p e)) (λ t. inr (eq_from e.id p t, own_silent p e t)) (λ f. inl (sym (other_stays p e f)))
 
+-- and so are the rows
 same_row : (p : ℕ) (row : List Entry) → SameRow p row (hushed_each p row)
 same_row p [] = tt
 same_row p (e ∷ es) = (same_entry p e, same_row p es)
 
+-- what is the same in that sense is so without the verdict
 hushed_entry : (p : ℕ) (e f : Entry) → SameEntry p e f → hushed p e ≡ hushed p f
 hushed_entry p e f (inl s) = ap (hushed p) s
 hushed_entry p e f (inr s) = own_silent p e (eq_test e.id p s.0) ∙ ap (hushed p) (sym s.1)
 
+-- and so are rows
 hushed_row : (p : ℕ) (row row' : List Entry) → SameRow p row row' → hushed_each p row ≡ hushed_each p row'
 hushed_row p [] [] h = refl
 hushed_row p (e ∷ es) (f ∷ fs) h = ap (λ (x : Entry). x ∷ hushed_each p es) (hushed_entry p e f h.0) ∙ ap (λ (xs : List Entry). hushed p f ∷ xs) (hushed_row p es fs h.1)
@@ -132,14 +157,16 @@ hushed_row p (e ∷ es) [] h = absurd h
 
 -- whole links
 --
+-- a link is alike to itself without the verdict
 pub alike_hushed : (p : ℕ) (l : LinkState) → SameLink p l (hushed_link p l)
 alike_hushed p l = record { row = same_row p l.row; rest = refl }
 
+-- links that are alike are the same without it
 both_hushed : (p : ℕ) (s t : LinkState) → SameLink p s t → hushed_link p s ≡ hushed_link p t
 both_hushed p s t h = ap (λ (row : List Entry). record s { row = row }) (hushed_row p s.row t.row h.row) ∙ ap (hushed_link p) (sym h.rest)
 
 -- a link that is alike, and in which the verdict is not wanted
-pub hushed_is : (p : ℕ) (s t : LinkState) → SameLink p s t → NoneWanted p t.row → hushed_link p s ≡ t
+hushed_is : (p : ℕ) (s t : LinkState) → SameLink p s t → NoneWanted p t.row → hushed_link p s ≡ t
 hushed_is p s t h q = both_hushed p s t h ∙ ap (λ (row : List Entry). record t { row = row }) (quiet_stays p t.row q)
 
 -- messages start

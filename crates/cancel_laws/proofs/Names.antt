@@ -1,10 +1,10 @@
 -- Each request has the name of a submission of its own.
 use Rattle.std.proofs.Common.{◌≡◌, ◌≢◌, ℕ, zero, suc, List, [], ◌∷◌, ◌++◌, length, Option, Some, None, slice_get, refl, sym, ap, ◌∙◌, true}
-use Rattle.containers.proofs.Places.{get_within}
-use Rattle.link_laws.proofs.Lists.{get_before, get_last}
+use Rattle.link_laws.proofs.Lists.{get_last}
 use Rattle.mux_conn.specs.declared.request.Pending.{Pending}
 use Rattle.mux_conn.specs.declared.request.Request.{Request}
 use Rattle.mux_conn.specs.Requests.{is_open_at, name_at}
+use Rattle.cancel_laws.proofs.Lists.{get_push}
 use Rattle.cancel_laws.proofs.Requests.{names, name_there}
 
 -- request p has the name n, and no other has it
@@ -12,9 +12,11 @@ pub record IsOwn (n p : ℕ) (ns : List ℕ) : Type 0 where
   pub own : slice_get ns p ≡ Some n
   pub only : (q : ℕ) → slice_get ns q ≡ Some n → q ≡ p
 
+-- that request's name, where it is open
 pub own_name : (n p : ℕ) (r : List Request) → IsOwn n p (names r) → is_open_at r p ≡ true → name_at r p ≡ n
 own_name n p r h t = let there = name_there r p t in let own = h.own in cc
 
+-- and that of another that is open
 pub other_name : (n p q : ℕ) (r : List Request) → IsOwn n p (names r) → is_open_at r q ≡ true → q ≢ p → name_at r q ≢ n
 other_name n p q r h t o = λ e. o (h.only q (name_there r q t ∙ ap Some e))
 
@@ -27,9 +29,7 @@ push_cases [] x y (suc q) P e before last = cc
 push_cases (z ∷ xs) x y zero P e before last = before e
 push_cases (z ∷ xs) x y (suc q) P e before last = push_cases xs x y q P e before (λ k s. last (ap suc k) s)
 
-pub get_push : {X : Type 0} (xs : List X) (q : ℕ) (x y : X) → slice_get xs q ≡ Some x → slice_get (xs ++ y ∷ []) q ≡ Some x
-get_push xs q x y e = get_before xs (y ∷ []) q (get_within xs q x e) ∙ e
-
+-- one more request, of another name
 pub own_push : (n p m : ℕ) (ns : List ℕ) → m ≢ n → IsOwn n p ns → IsOwn n p (ns ++ m ∷ [])
 own_push n p m ns o h = record {
   own = get_push ns p n m h.own;
@@ -43,21 +43,26 @@ pub record AreNamed (table : List (Option Pending)) (ns : List ℕ) : Type 0 whe
   pub to : (n : ℕ) (p : Pending) → slice_get table n ≡ Some (Some p) → slice_get ns p.number ≡ Some n
   pub back : (q n : ℕ) → slice_get ns q ≡ Some n → slice_get table n ≡ Some (Some (record { number = q }))
 
+-- one request
 same_pending : (p : Pending) (q : ℕ) → ◌≡◌ {A = Option (Option Pending)} (Some (Some p)) (Some (Some (record { number = q }))) → q ≡ p.number
 same_pending p q e = cc
 
+-- and its number
 same_some : (k : ℕ) (p : Pending) → ◌≡◌ {A = Option Pending} (Some (record { number = k })) (Some p) → k ≡ p.number
 same_some k p s = cc
 
+-- a request of the table is the only one of its submission's name
 pub own_of : (n : ℕ) (p : Pending) (table : List (Option Pending)) (ns : List ℕ) → AreNamed table ns → slice_get table n ≡ Some (Some p) → IsOwn n p.number ns
 own_of n p table ns h e = record { own = h.to n p e; only = λ q k. same_pending p q (sym e ∙ h.back q n k) }
 
+-- a submission that has no request
 pub named_refused : (table : List (Option Pending)) (ns : List ℕ) → AreNamed table ns → AreNamed (table ++ None ∷ []) ns
 named_refused table ns h = record {
   to = λ n p e. push_cases table (Some p) None n (slice_get ns p.number ≡ Some n) e (h.to n p) (λ k s. cc);
   back = λ q n e. get_push table n (Some (record { number = q })) None (h.back q n e);
 }
 
+-- a submission with a request of its name
 pub named_asked : (table : List (Option Pending)) (ns : List ℕ) (k : ℕ) → length ns ≡ k → AreNamed table ns → AreNamed (table ++ Some (record { number = k }) ∷ []) (ns ++ length table ∷ [])
 named_asked table ns k c h = record {
   to = λ n p e.

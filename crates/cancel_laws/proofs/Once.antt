@@ -25,6 +25,7 @@ use Rattle.cancel_laws.proofs.Kept.{IsKept, IsKeptThere, There, kept_there, CanA
 abbrev pub one : ℕ → ℕ → ℕ
 one p m = if m == p then 1 else 0
 
+-- one message at most
 one_at_most : (p m : ℕ) → one p m ≤ 1
 one_at_most p m = chosen (λ (k : ℕ). k ≤ 1) (m == p) 1 0 (λ t. omega arith) (λ f. omega arith)
 
@@ -33,10 +34,12 @@ abbrev pub times : ℕ → List Entry → ℕ
 times p [] = 0
 times p (e ∷ es) = one p e.id + times p es
 
+-- and in a queue
 abbrev pub places : ℕ → List Queued → ℕ
 places p [] = 0
 places p (q ∷ qs) = one p q.id + places p qs
 
+-- and on a link
 abbrev pub all_of : ℕ → Life → ℕ
 all_of p Dialing = 0
 all_of p (Ready l) = times p l.row + places p l.queue
@@ -48,33 +51,40 @@ share_by progress.Waiting = 0
 share_by progress.Placed = 1
 share_by progress.Closed = 1
 
+-- and where there is no such request, it may not
 abbrev pub share_of : Option Request → ℕ
 share_of None = 0
 share_of (Some r) = share_by r.progress
 
+-- of request p
 abbrev pub share : List Request → ℕ → ℕ
 share r p = share_of (slice_get r p)
 
+-- request p has no more messages on its link than it may have
 pub record IsOnce (p : ℕ) (r : List Request) (life : Life) : Type 0 where
   pub within : all_of p life ≤ share r p
 
 -- progress
 --
+-- one that doesn't wait may have one
 share_whole : (x : Progress) → is_waiting x ≡ false → share_by x ≡ 1
 share_whole progress.Waiting e = cc
 share_whole progress.Placed e = refl
 share_whole progress.Closed e = refl
 
+-- and no request may have more
 share_most : (x : Progress) → share_by x ≤ 1
 share_most progress.Waiting = omega arith
 share_most progress.Placed = omega arith
 share_most progress.Closed = omega arith
 
+-- one that waits may have none
 share_least : (x : Progress) → is_waiting x ≡ true → share_by x ≡ 0
 share_least progress.Waiting e = refl
 share_least progress.Placed e = cc
 share_least progress.Closed e = cc
 
+-- a request that goes on may have no less
 share_set : (r : List Request) (p q : ℕ) (x : Progress) → is_waiting x ≡ false → share r p ≤ share (at_progress r q x) p
 share_set [] p q x e = omega arith
 share_set (y ∷ r) zero zero x e = omega (arith, share_most y.progress, share_whole x e)
@@ -82,11 +92,13 @@ share_set (y ∷ r) zero (suc q) x e = omega arith
 share_set (y ∷ r) (suc p) zero x e = omega arith
 share_set (y ∷ r) (suc p) (suc q) x e = share_set r p q x e
 
+-- one more request takes nothing away
 share_push : (r : List Request) (p : ℕ) (x : Request) → share r p ≤ share (r ++ x ∷ []) p
 share_push [] p x = omega arith
 share_push (y ∷ r) zero x = omega arith
 share_push (y ∷ r) (suc p) x = share_push r p x
 
+-- one that has waited may have one more
 share_waits : (r : List Request) (p : ℕ) (x : Progress) → is_waiting x ≡ false → is_waiting_at r p ≡ true → share r p + 1 ≤ share (at_progress r p x) p
 share_waits [] p x e t = cc
 share_waits (y ∷ r) zero x e t = omega (arith, share_whole x e, share_least y.progress t)
@@ -94,42 +106,51 @@ share_waits (y ∷ r) (suc p) x e t = share_waits r p x e t
 
 -- the row and the queue
 --
+-- one more entry
 times_push : (p : ℕ) (row : List Entry) (e : Entry) → times p (row ++ e ∷ []) ≡ times p row + one p e.id
 times_push p [] e = omega arith
 times_push p (x ∷ row) e = omega (arith, times_push p row e)
 
+-- one more message
 places_push : (p : ℕ) (queue : List Queued) (q : Queued) → places p (queue ++ q ∷ []) ≡ places p queue + one p q.id
 places_push p [] q = omega arith
 places_push p (x ∷ queue) q = omega (arith, places_push p queue q)
 
+-- all entries stay where one's verdict is not wanted
 times_silenced : (p m : ℕ) (row : List Entry) → times p (silenced row m) ≡ times p row
 times_silenced p m [] = refl
 times_silenced p m (e ∷ es) = chosen (λ (xs : List Entry). times p xs ≡ times p (e ∷ es)) (e.id == m) _ _ (λ t. refl) (λ f. ap (λ (k : ℕ). one p e.id + k) (times_silenced p m es))
 
+-- no message comes where one leaves
 places_without : (p m : ℕ) (queue : List Queued) → places p (without queue m) ≤ places p queue
 places_without p m [] = omega arith
 places_without p m (q ∷ qs) = chosen (λ (xs : List Queued). places p xs ≤ places p (q ∷ qs)) (awaits m q) _ _ (λ t. omega arith) (λ f. omega (arith, places_without p m qs))
 
+-- nor where an item is dealt
 times_dealt_to : (p : ℕ) (d : Dealing) (item : Data) (row : List Entry) → times p d.row ≤ times p row → times p (dealt_to d item row).row ≤ times p row
 times_dealt_to p d item [] l = l
 times_dealt_to p d item (e ∷ es) l =
     chosen (λ (x : Dealing). times p x.row ≤ times p (e ∷ es)) (nat_lt (length (with_item e item).got) (need e.shape)) _ _ (λ t. omega arith) (λ f. omega arith)
 
+-- nor where more are
 times_dealt : (p : ℕ) (d : Dealing) (items : List Data) → times p (dealt_each d items).row ≤ times p d.row
 times_dealt p d [] = omega arith
 times_dealt p d (v ∷ vs) = omega (arith, times_dealt p (dealt d v) vs, times_dealt_to p d v d.row (omega arith))
 
+-- who starts is on the link before and after
 starts_same : (p : ℕ) (s : Starting) (queue : List Queued) → all_of p (Ready (started_each s queue).link) ≡ times p s.link.row + places p queue
 starts_same p s [] = omega arith
 starts_same p s (q ∷ qs) =
     chosen (λ (x : Starting). all_of p (Ready x.link) ≡ times p s.link.row + places p (q ∷ qs)) (is_held_back s.link) _ _ (λ t. refl)
     (λ f. omega (arith, starts_same p (started_one s q) qs, times_push p s.link.row (entry_of q)))
 
+-- a cancel brings no message
 cancelled_once : (p q : ℕ) (life : Life) → all_of p (cancelled_in life q) ≤ all_of p life
 cancelled_once p q Dialing = omega arith
 cancelled_once p q (Ready l) = omega (arith, times_silenced p q l.row, places_without p q l.queue)
 cancelled_once p q Ended = omega arith
 
+-- a request that takes its place brings one, and may have it
 placed_once : (p q : ℕ) (r : List Request) (before : ℕ) → is_waiting_at r q ≡ true → before ≤ share r p → before + one p q ≤ share (at_progress r q progress.Placed) p
 placed_once p q r before t l =
     by_test (q == p) _
@@ -139,6 +160,7 @@ placed_once p q r before t l =
     omega (arith, one_at_most p q))
     (λ f. let z : one p q ≡ 0 = left_if (q == p) 1 0 f in omega (arith, share_set r p q progress.Placed refl))
 
+-- each single change keeps that
 once_there : (p : ℕ) → IsKeptThere (IsOnce p)
 once_there p = record {
   answer = λ r life q h. record { within = omega (arith, h.within, share_set r p q progress.Closed refl) };
@@ -153,9 +175,11 @@ once_there p = record {
   end = λ r life h. record { within = omega arith };
 }
 
+-- so each part of a turn does
 pub once_kept : (p : ℕ) → IsKept (There (IsOnce p))
 once_kept p = kept_there (once_there p)
 
+-- and one more submission does
 pub once_asks : (p m : ℕ) → CanAsk (There (IsOnce p)) m
 once_asks p m = record {
   ask = λ r life xs h. record { within = omega (arith, h.within, share_push r p (record { name = m; progress = progress.Waiting })) };
@@ -164,12 +188,14 @@ once_asks p m = record {
 
 -- a cancel silences all that there is of the message
 --
+-- where it has no entry, nobody awaits one
 none_left : (p : ℕ) (row : List Entry) → times p row ≡ 0 → NoneWanted p row
 none_left p [] z = tt
 none_left p (e ∷ es) z =
     by_test (e.id == p) _ (λ t. absurd (let k : one p e.id ≡ 1 = taken_if (e.id == p) 1 0 t in omega arith))
     (λ f. (ap (λ (b : Bool). b && e.awaited) f, none_left p es (omega arith)))
 
+-- so after the cancel nobody awaits its message
 pub silenced_once : (p : ℕ) (row : List Entry) → times p row ≤ 1 → NoneWanted p (silenced row p)
 silenced_once p [] l = tt
 silenced_once p (e ∷ es) l =
@@ -177,5 +203,6 @@ silenced_once p (e ∷ es) l =
     (λ t. let k : one p e.id ≡ 1 = taken_if (e.id == p) 1 0 t in (and_none (e.id == p), none_left p es (omega arith)))
     (λ f. (ap (λ (b : Bool). b && e.awaited) f, silenced_once p es (omega arith)))
 
+-- a request has one entry at most
 pub row_once : (p : ℕ) (r : List Request) (l : LinkState) (x : Request) → IsOnce p r (Ready l) → slice_get r p ≡ Some x → times p l.row ≤ 1
 row_once p r l x h e = let k : share r p ≡ share_by x.progress = ap share_of e in omega (arith, h.within, share_most x.progress)

@@ -22,9 +22,11 @@ use Rattle.cancel_laws.proofs.Rest.{IsWide, wide_kept, wide_asks, IsIdle, moves_
 
 -- names
 --
+-- the requests have these names
 abbrev HasNames : List ℕ → List Request → Life → Type 0
 HasNames ns r life = names r ≡ ns
 
+-- each single change keeps names
 names_there : (ns : List ℕ) → IsKeptThere (HasNames ns)
 names_there ns = record {
   answer = λ r life q h. names_stay r q progress.Closed ∙ h;
@@ -38,23 +40,29 @@ names_there ns = record {
   end = λ r life h. h;
 }
 
+-- so each part of a turn does
 names_kept : (ns : List ℕ) → IsKept (There (HasNames ns))
 names_kept ns = kept_there (names_there ns)
 
+-- each request has the name of a submission of its own
 abbrev pub NamedIn : Turning → Type 0
 NamedIn t = AreNamed t.core.table (names t.core.single.connection.requests)
 
+-- the connection hears its link's news
 named_heard : (t : Turning) (kind : EventKind) → NamedIn t → NamedIn (heard t kind)
 named_heard t kind h = subst (AreNamed t.core.table) (sym (heard_kept (names_kept (names t.core.single.connection.requests)) t kind refl)) h
 
+-- where a submission is left, names stay
 named_left : (t : Turning) (who : Option (Option Pending)) → NamedIn t → AreNamed t.core.table (names (left_by t who).core.single.connection.requests)
 named_left t who h = subst (AreNamed t.core.table) (sym (left_by_kept (names_kept (names t.core.single.connection.requests)) t who refl)) h
 
+-- and so does the table
 named_left_by : (t : Turning) (who : Option (Option Pending)) → NamedIn t → NamedIn (left_by t who)
 named_left_by t None h = h
 named_left_by t (Some None) h = h
 named_left_by t (Some (Some p)) h = named_left t (Some (Some p)) h
 
+-- what an event is to the submissions
 named_requested : (t : Turning) (kind : EventKind) → NamedIn t → NamedIn (requested t kind)
 named_requested t (event.Submit s) h =
     let r = t.core.single.connection.requests in
@@ -71,6 +79,7 @@ named_requested t (event.ReadFault l kind) h = h
 named_requested t (event.WriteFault l kind) h = h
 named_requested t event.Shutdown h = h
 
+-- and the rest of the turn
 named_moved_on : (t : Turning) → NamedIn t → NamedIn (moved_on t)
 named_moved_on t h =
     let k = names_kept (names t.core.single.connection.requests) in
@@ -78,12 +87,14 @@ named_moved_on t h =
 
 -- where a history leads
 --
+-- nothing holds messages back and nothing is left to do, and requests have one message at most and names of their own
 pub record IsReady (c : Core) : Type 0 where
   pub wide : IsWide c.single.connection.life
   pub idle : IsIdle c.single.connection
   pub once : (p : ℕ) → IsOnce p c.single.connection.requests c.single.connection.life
   pub named : AreNamed c.table (names c.single.connection.requests)
 
+-- a turn
 ready_turn : (c : Core) (kind : EventKind) → IsReady c → IsReady (turn c kind).core
 unfolding turn
 ready_turn c kind h =
@@ -95,10 +106,12 @@ ready_turn c kind h =
       named = named_moved_on t (named_requested (heard (counted c) kind) kind (named_heard (counted c) kind h.named));
     }
 
+-- and more of them
 pub ready_on : (c : Core) (es : List Event) → IsReady c → IsReady (run_on c es)
 ready_on c [] h = h
 ready_on c (e ∷ es) h = ready_on (turn c e.kind).core es (ready_turn c e.kind h)
 
+-- the opening
 pub opening_ready : (config : Config) (word : ℕ) → IsReady (opening config word)
 opening_ready config word = record {
   wide = tt;
@@ -109,11 +122,13 @@ opening_ready config word = record {
 
 -- the numbers of turns
 --
+-- a submission is left
 left_turns : (t : Turning) (who : Option (Option Pending)) → (left_by t who).core.turns ≡ t.core.turns
 left_turns t None = refl
 left_turns t (Some None) = refl
 left_turns t (Some (Some p)) = refl
 
+-- what an event is to the submissions
 requested_turns : (t : Turning) (kind : EventKind) → (requested t kind).core.turns ≡ t.core.turns
 requested_turns t (event.Submit s) =
     chosen (λ (x : Turning). x.core.turns ≡ t.core.turns) t.core.shut _ _ (λ u. refl)
@@ -127,10 +142,12 @@ requested_turns t (event.ReadFault l kind) = refl
 requested_turns t (event.WriteFault l kind) = refl
 requested_turns t event.Shutdown = refl
 
+-- a turn counts one
 turn_number : (c : Core) (kind : EventKind) → (turn c kind).core.turns ≡ c.turns + 1
 unfolding turn
 turn_number c kind = requested_turns (heard (counted c) kind) kind
 
+-- and more of them count theirs
 pub number_on : (c : Core) (es : List Event) → (run_on c es).turns ≡ c.turns + length es
 number_on c [] = omega arith
 number_on c (e ∷ es) = omega (arith, number_on (turn c e.kind).core es, turn_number c e.kind)

@@ -24,25 +24,30 @@ pub record IsWideLink (l : LinkState) : Type 0 where
   pub size : 0 < l.size
   pub free : nat_lt l.boundary no_boundary ≡ false
 
+-- the same of a link that is up
 abbrev pub IsWide : Life → Type 0
 IsWide Dialing = Unit {0}
 IsWide (Ready l) = IsWideLink l
 IsWide Ended = Unit {0}
 
+-- and whatever the requests are
 abbrev pub Wide : List Request → Life → Type 0
 Wide r life = IsWide life
 
+-- that stays where messages start
 wide_starts : (s : Starting) (queue : List Queued) → IsWideLink s.link → IsWideLink (started_each s queue).link
 wide_starts s [] h = record { size = h.size; free = h.free }
 wide_starts s (q ∷ qs) h =
     chosen (λ (x : Starting). IsWideLink x.link) (is_held_back s.link) _ _ (λ t. record { size = h.size; free = h.free })
     (λ f. wide_starts (started_one s q) qs (record { size = h.size; free = h.free }))
 
+-- that stays where one is cancelled
 wide_cancelled : (q : ℕ) (life : Life) → IsWide life → IsWide (cancelled_in life q)
 wide_cancelled q Dialing h = h
 wide_cancelled q (Ready l) h = record { size = h.size; free = h.free }
 wide_cancelled q Ended h = h
 
+-- each single change keeps that
 wide_there : IsKeptThere Wide
 wide_there = record {
   answer = λ r life q h. h;
@@ -56,19 +61,23 @@ wide_there = record {
   end = λ r life h. tt;
 }
 
+-- so each part of a turn does
 pub wide_kept : IsKept (There Wide)
 wide_kept = kept_there wide_there
 
+-- and one more submission does
 pub wide_asks : (m : ℕ) → CanAsk (There Wide) m
 wide_asks m = record { ask = λ r life xs h. h; refuse = λ r life xs o h. h }
 
 -- the queue of a link that is up is empty, and all bytes are offered or an offer is unanswered
 --
+-- the queue
 abbrev pub HasStartedAll : Life → Type 0
 HasStartedAll Dialing = Unit {0}
 HasStartedAll (Ready l) = l.queue ≡ []
 HasStartedAll Ended = Unit {0}
 
+-- and the bytes
 abbrev pub HasOffered : Life → Type 0
 HasOffered Dialing = Unit {0}
 HasOffered (Ready l) = can_offer l.outbox ≡ false
@@ -83,14 +92,17 @@ pub record IsIdle (c : MultiplexedConnection) : Type 0 where
 
 -- how a turn comes to that
 --
+-- such a link holds nothing back
 not_held : (l : LinkState) → nat_lt l.boundary no_boundary ≡ false → is_held_back l ≡ false
 not_held l f = ap (λ (b : Bool). b && (nat_lt 0 (length l.outbox.unwritten) && nat_le l.boundary (length l.outbox.unwritten))) f
 
+-- so all messages of its queue start
 queue_starts : (s : Starting) (queue : List Queued) → nat_lt s.link.boundary no_boundary ≡ false → (started_each s queue).link.queue ≡ []
 queue_starts s [] f = refl
 queue_starts s (q ∷ qs) f =
     chosen (λ (x : Starting). x.link.queue ≡ []) (is_held_back s.link) _ _ (λ t. absurd (not_both (is_held_back s.link) (not_held s.link f) t)) (λ g. queue_starts (started_one s q) qs f)
 
+-- what is shown changes no life
 life_shown : (P : Life → Type 0) (w : Work) (ss : List Started) → P w.conn.life → P (shown_each w ss).conn.life
 life_shown P w [] h = h
 life_shown P w (s ∷ ss) h = life_shown P (acted w (act.Start s.msg (name_at w.conn.requests s.id) s.need s.len)) ss h
@@ -103,9 +115,11 @@ started_from w (Ready l) e h =
 started_from w Dialing e h = subst HasStartedAll (sym e) tt
 started_from w Ended e h = subst HasStartedAll (sym e) tt
 
+-- all messages start on the link that the connection has
 all_started : (w : Work) → At (There Wide) w → HasStartedAll (started w).conn.life
 all_started w h = started_from w w.conn.life refl h
 
+-- also behind a request that is moved
 one_moved_at : (w : Work) (q : Waiting) (life : Life) → IsWide life → HasStartedAll w.conn.life → HasStartedAll (moved_at w q life).conn.life
 one_moved_at w q (Ready l) h e =
     let d = placed_at w q (Ready l) in
@@ -113,21 +127,26 @@ one_moved_at w q (Ready l) h e =
 one_moved_at w q Ended h e = chosen (λ (x : Work). HasStartedAll x.conn.life) (is_open_at w.conn.requests q.number) _ w (λ t. e) (λ f. e)
 one_moved_at w q Dialing h e = e
 
+-- and behind one that isn't
 one_moved : (w : Work) (q : Waiting) → At (There Wide) w → HasStartedAll w.conn.life → HasStartedAll (moved w q).conn.life
 one_moved w q h e = chosen (λ (x : Work). HasStartedAll x.conn.life) (is_waiting_at w.conn.requests q.number) (moved_at w q w.conn.life) w (λ t. one_moved_at w q w.conn.life h e) (λ f. e)
 
+-- an empty queue has room
 not_full : (l : LinkState) → 0 < l.size → l.queue ≡ [] → is_full l ≡ false
 not_full l s e = ap (λ (q : List Queued). nat_le l.size (length q)) e ∙ not_le_test l.size 0 s
 
+-- so requests can't be moved only where the connect isn't answered
 stuck_dials : (life : Life) → IsWide life → HasStartedAll life → is_stuck life ≡ true → is_dialing life ≡ true
 stuck_dials Dialing h e t = refl
 stuck_dials (Ready l) h e t = absurd (not_both (is_full l) (not_full l h.size e) t)
 stuck_dials Ended h e t = t
 
+-- all has moved that can
 record IsMoved (w : Work) : Type 0 where
   pub queue : HasStartedAll w.conn.life
   pub waiting : is_dialing w.conn.life ≡ false → w.conn.waiting ≡ []
 
+-- all that wait
 each_moved : (w : Work) (qs : List Waiting) → At (There Wide) w → HasStartedAll w.conn.life → IsMoved (moved_each w qs)
 each_moved w [] h e = record { queue = e; waiting = λ f. refl }
 each_moved w (q ∷ qs) h e =
@@ -135,17 +154,21 @@ each_moved w (q ∷ qs) h e =
     (λ t. record { queue = e; waiting = λ f. absurd (not_both (is_dialing w.conn.life) f (stuck_dials w.conn.life h e t)) })
     (λ f. each_moved (moved w q) qs (moved_kept wide_kept w q h) (one_moved w q h e))
 
+-- what a turn moves
 all_moved : (w : Work) → At (There Wide) w → IsMoved (passed w)
 all_moved w h = let d = started w in each_moved (still_waiting d []) d.conn.waiting (started_kept wide_kept w h) (all_started w h)
 
+-- where all is offered, there is nothing more to offer
 offered_none : (b : Bool) → (not b && b) ≡ false
 offered_none true = refl
 offered_none false = refl
 
+-- and all has been offered that can
 record IsWritten (w : Work) : Type 0 where
   pub moved : IsMoved w
   pub offered : HasOffered w.conn.life
 
+-- bytes are offered
 written_from : (w : Work) (life : Life) → w.conn.life ≡ life → IsMoved w → IsWritten (written_at w life)
 written_from w (Ready l) e h =
     chosen IsWritten (can_offer l.outbox) _ w
@@ -157,14 +180,17 @@ written_from w (Ready l) e h =
 written_from w Dialing e h = record { moved = h; offered = subst HasOffered (sym e) tt }
 written_from w Ended e h = record { moved = h; offered = subst HasOffered (sym e) tt }
 
+-- a wait that is shown changes no connection
 wait_conn : (w : Work) (q : ℕ) → (wait_shown w q).conn ≡ w.conn
 wait_conn w q =
     chosen (λ (x : Work). x.conn ≡ w.conn) (is_waiting_at w.conn.requests q) _ w (λ t. chosen (λ (x : Work). x.conn ≡ w.conn) (is_dialing w.conn.life) _ w (λ u. refl) (λ f. refl)) (λ f. refl)
 
+-- and more of them don't
 pub waits_conn : (w : Work) (qs : List ℕ) → (waits_each w qs).conn ≡ w.conn
 waits_conn w [] = refl
 waits_conn w (q ∷ qs) = waits_conn (wait_shown w q) qs ∙ wait_conn w q
 
+-- so a turn ends with nothing left to do
 flushed_idle : (w : Work) → IsMoved w → IsIdle (flushed w).conn
 flushed_idle w h =
     let d = written w in
@@ -172,11 +198,13 @@ flushed_idle w h =
     let e : MultiplexedConnection = record d.conn { fresh = [] } in
     subst IsIdle (sym (waits_conn (record d { conn = e }) d.conn.fresh)) (record { fresh = refl; queue = i.moved.queue; waiting = i.moved.waiting; offered = i.offered })
 
+-- whatever there was to do
 pub moves_idle : (w : Work) → At (There Wide) w → IsIdle (flushed (passed w)).conn
 moves_idle w h = flushed_idle (passed w) (all_moved w h)
 
 -- what stays where nothing is left to do
 --
+-- no message starts
 started_stays : (w : Work) (life : Life) → w.conn.life ≡ life → HasStartedAll life → started_at w life ≡ w
 started_stays w (Ready l) e h =
     ap (λ (queue : List Queued). starts_with w (started_each (record { link = l; out = [] }) queue)) h
@@ -184,6 +212,7 @@ started_stays w (Ready l) e h =
 started_stays w Dialing e h = refl
 started_stays w Ended e h = refl
 
+-- no request is moved
 none_moved : (w : Work) (qs : List Waiting) → (is_dialing w.conn.life ≡ false → qs ≡ []) → moved_each w qs ≡ still_waiting w qs
 none_moved w [] h = refl
 none_moved w (q ∷ qs) h = taken_if (is_stuck w.conn.life) _ _ (dials_stuck w.conn.life (λ f. cc (h f)))
@@ -193,15 +222,18 @@ none_moved w (q ∷ qs) h = taken_if (is_stuck w.conn.life) _ _ (dials_stuck w.c
     dials_stuck (Ready l) f = absurd (f refl)
     dials_stuck Ended f = absurd (f refl)
 
+-- no bytes are offered
 written_stays : (w : Work) (life : Life) → HasOffered life → written_at w life ≡ w
 written_stays w (Ready l) h = left_if (can_offer l.outbox) _ w h
 written_stays w Dialing h = refl
 written_stays w Ended h = refl
 
+-- no wait is shown
 waits_stays : (w : Work) → w.conn.fresh ≡ [] → waits_shown w ≡ w
 waits_stays w e =
     ap (λ (ps : List ℕ). waits_each (record w { conn = record w.conn { fresh = [] } }) ps) e ∙ ap (λ (ps : List ℕ). record w { conn = record w.conn { fresh = ps } }) (sym e)
 
+-- nothing happens
 pub nothing_moves : (w : Work) → IsIdle w.conn → flushed (passed w) ≡ w
 nothing_moves w h =
     ap (λ (x : Work). flushed (moved_all x)) (started_stays w w.conn.life refl h.queue) ∙ ap flushed (none_moved (still_waiting w []) w.conn.waiting h.waiting)

@@ -3,11 +3,10 @@ use Rattle.std.proofs.Common.{◌≡◌, ◌≢◌, ℕ, ◌<◌, false, List, [
 use Rattle.mux_conn.specs.declared.act.LinkAct.{LinkAct}
 use Rattle.mux_conn.specs.declared.act.LinkAct.TheVariants as act
 use Rattle.mux_conn.specs.declared.life.Life.{Life}
-use Rattle.mux_conn.specs.declared.request.Progress.{Progress}
 use Rattle.mux_conn.specs.declared.request.Progress.TheVariants as progress
 use Rattle.mux_conn.specs.declared.request.Request.{Request}
-use Rattle.mux_conn.specs.Requests.{is_open_at, at_progress}
-use Rattle.cancel_laws.proofs.Requests.{names, names_push, open_other, open_push, other_open, waiting_open}
+use Rattle.mux_conn.specs.Requests.{is_open_at}
+use Rattle.cancel_laws.proofs.Requests.{names, names_push, closed_set, open_push, other_open, waiting_open}
 use Rattle.cancel_laws.proofs.Names.{IsOwn, own_push, other_name}
 use Rattle.cancel_laws.proofs.Kept.{IsKept, CanAsk}
 use Rattle.cancel_laws.proofs.Gone.{own_kept, within_kept}
@@ -20,12 +19,11 @@ pub record IsSilent (n p : ℕ) (r : List Request) (life : Life) (xs : List Link
   pub closed : is_open_at r p ≡ false
   pub unshown : other_acts n xs ≡ xs
 
+-- one more act that is no outcome of submission n
 unshown_more : (n : ℕ) (xs : List LinkAct) (a : LinkAct) → other_acts n (xs ++ a ∷ []) ≡ other_acts n xs ++ a ∷ [] → other_acts n xs ≡ xs → other_acts n (xs ++ a ∷ []) ≡ xs ++ a ∷ []
 unshown_more n xs a more e = more ∙ ap (λ (ys : List LinkAct). ys ++ a ∷ []) e
 
-closed_still : (r : List Request) (q p : ℕ) (now : Progress) → q ≢ p → is_open_at r p ≡ false → is_open_at (at_progress r q now) p ≡ false
-closed_still r q p now o f = open_other r q p now o ∙ f
-
+-- each single change keeps that
 pub silent_kept : (n p : ℕ) → IsKept (IsSilent n p)
 silent_kept n p = record {
   answer = λ r life xs q o t h.
@@ -33,20 +31,20 @@ silent_kept n p = record {
       record {
         there = within_kept r p q progress.Closed h.there;
         own = own_kept n p r q progress.Closed h.own;
-        closed = closed_still r q p progress.Closed apart h.closed;
+        closed = closed_set r q p progress.Closed t h.closed;
         unshown = unshown_more n xs _ (acts_other n _ xs o (other_name n p q r h.own t apart)) h.unshown;
       };
   cancel = λ r life xs q t h. record {
     there = within_kept r p q progress.Closed h.there;
     own = own_kept n p r q progress.Closed h.own;
-    closed = closed_still r q p progress.Closed (other_open r q p t h.closed) h.closed;
+    closed = closed_set r q p progress.Closed t h.closed;
     unshown = h.unshown;
   };
   connect = λ r xs h. record { there = h.there; own = h.own; closed = h.closed; unshown = h.unshown };
   place = λ r l xs q t h. record {
     there = within_kept r p q.number progress.Placed h.there;
     own = own_kept n p r q.number progress.Placed h.own;
-    closed = closed_still r q.number p progress.Placed (other_open r q.number p (waiting_open r q.number t) h.closed) h.closed;
+    closed = closed_set r q.number p progress.Placed (waiting_open r q.number t) h.closed;
     unshown = h.unshown;
   };
   start = λ r l xs h. record { there = h.there; own = h.own; closed = h.closed; unshown = h.unshown };
@@ -57,6 +55,7 @@ silent_kept n p = record {
   show = λ r life xs a plain h. record { there = h.there; own = h.own; closed = h.closed; unshown = unshown_more n xs a (acts_plain n xs a plain) h.unshown };
 }
 
+-- and one more submission does
 pub silent_asks : (n p m : ℕ) → m ≢ n → CanAsk (IsSilent n p) m
 silent_asks n p m o = record {
   ask = λ r life xs h.

@@ -34,9 +34,11 @@ record IsStarted (p : ℕ) (c : MultiplexedConnection) : Type 0 where
   pub up : c.life ≡ Ready link
   pub gone : without link.queue p ≡ link.queue
 
+-- a link that is up is one
 same_link : (k l : LinkState) → Ready k ≡ Ready l → k ≡ l
 same_link k l e = cc
 
+-- bytes are offered
 written_from : (p : ℕ) (w : Work) (life : Life) → w.conn.life ≡ life → IsStarted p w.conn → IsStarted p (written_at w life).conn
 written_from p w (Ready l) e h =
     let same = same_link h.link l (sym h.up ∙ e) in
@@ -62,13 +64,16 @@ all_flushed p w h =
     subst (IsStarted p) (sym (waits_conn (record d { conn = c }) d.conn.fresh))
     (record { request = g.request; known = g.known; placed = g.placed; link = g.link; up = g.up; gone = g.gone })
 
+-- so has its submission
 has_started : (n : ℕ) (c : Core) (p : Pending) → slice_get c.table n ≡ Some (Some p) → IsStarted p.number c.single.connection → HasStarted n c
 has_started n c p there h = record { pending = p; there = there; request = h.request; known = h.known; placed = h.placed; link = h.link; up = h.up; gone = h.gone }
 
+-- a list with items has some
 no_bytes : (xs : List ℕ) → xs ≢ [] → (length xs == 0) ≡ false
 no_bytes [] some = absurd (some refl)
 no_bytes (x ∷ xs) some = ne_test (length (x ∷ xs)) 0 (λ e. omega arith)
 
+-- any submission that has bytes, and whose reply is awaited
 pub any_started : (config : Config) (word draw later : ℕ) (s : Submission) → packed s ≢ [] → awaits_reply s ≡ true → HasStarted 0 (handed_in_after_connect config word draw later s)
 unfolding state_after turn
 any_started config word draw later s some awaited =
@@ -86,11 +91,14 @@ any_started config word draw later s some awaited =
     (λ e. absurd (not_both (length (packed s) == 0) (no_bytes (packed s) some) e))
     (λ n. g)
 
+-- a command
 pub command_started : (config : Config) (word draw later : ℕ) (name : List ℕ) (args : List (List ℕ)) → HasStarted 0 (handed_in_after_connect config word draw later (Cmd (name ∷ args)))
 command_started config word draw later name args = any_started config word draw later (Cmd (name ∷ args)) (λ e. cc) refl
 
+-- a pipeline whose first command has a name
 pub pipeline_started : (config : Config) (word draw later : ℕ) (name : List ℕ) (args : List (List ℕ)) (more : List (List (List ℕ))) → HasStarted 0 (handed_in_after_connect config word draw later (Pipe ((name ∷ args) ∷ more)))
 pipeline_started config word draw later name args more = any_started config word draw later (Pipe ((name ∷ args) ∷ more)) (λ e. cc) refl
 
+-- a transaction
 pub transaction_started : (config : Config) (word draw later : ℕ) (args : List (List ℕ)) (more : List (List (List ℕ))) → HasStarted 0 (handed_in_after_connect config word draw later (Multi (args ∷ more)))
 transaction_started config word draw later args more = any_started config word draw later (Multi (args ∷ more)) (λ e. cc) refl

@@ -32,17 +32,21 @@ bare_turning n p t = record { core = bare_core p t.core; acts = other_acts n t.a
 
 -- the parts of a turn
 --
+-- the connection hears its link's news
 bare_heard : (n p : ℕ) (t : Turning) (kind : EventKind) → At (There (IsGone n p)) (work_of t) → bare_turning n p (heard t kind) ≡ heard (bare_turning n p t) kind
 bare_heard n p t kind h =
     ap (with_work (bare_turning n p (record t { core = shut_by t.core kind }))) (bare_applied n p (work_of t) (news t.core.single.link kind) h)
 
+-- the next submission is another one
 pub above : (n : ℕ) (table : List (Option Pending)) → n < length table → length table ≢ n
 above n table l = λ e. omega arith
 
+-- a submission that is answered at once
 bare_refused : (n p : ℕ) (t : Turning) (e : RedisError) → n < length t.core.table → bare_turning n p (refused t e) ≡ refused (bare_turning n p t) e
 bare_refused n p t e l =
     ap (λ (xs : List LinkAct). record (bare_turning n p (refused t e)) { acts = xs }) (acts_other n (length t.core.table) t.acts (outcome.Fault e) (above n t.core.table l))
 
+-- one that is a request
 bare_asked_for : (n p : ℕ) (t : Turning) (s : Submission) → p < length t.core.single.connection.requests → bare_turning n p (asked_for t s) ≡ asked_for (bare_turning n p t) s
 bare_asked_for n p t s l =
     let c = t.core.single.connection in
@@ -52,12 +56,14 @@ bare_asked_for n p t s l =
       core = record (bare_core p t.core) { table = t.core.table ++ Some (pending (count i)) ∷ []; single = record t.core.single { connection = conn i } };
     }
 
+-- one that is handed in
 bare_submitted : (n p : ℕ) (t : Turning) (s : Submission) → n < length t.core.table → p < length t.core.single.connection.requests
     → bare_turning n p (submitted t s) ≡ submitted (bare_turning n p t) s
 bare_submitted n p t s l k =
     either (bare_turning n p) t.core.shut _ _ _ _ (λ u. bare_refused n p t error.Closed l)
     (λ f. either (bare_turning n p) (length (packed s) == 0) _ _ _ _ (λ u. bare_refused n p t error.EmptyCommand l) (λ g. bare_asked_for n p t s k))
 
+-- one that is left
 bare_left_by : (n p : ℕ) (t : Turning) (who : Option (Option Pending)) → At (There (IsGone n p)) (work_of t) → bare_turning n p (left_by t who) ≡ left_by (bare_turning n p t) who
 bare_left_by n p t None h = refl
 bare_left_by n p t (Some None) h = refl
@@ -65,6 +71,7 @@ bare_left_by n p t (Some (Some q)) h =
     ap (λ (c : MultiplexedConnection). record (bare_turning n p t) { core = record (bare_core p t.core) { single = record t.core.single { connection = c } } })
     (bare_left p q.number t.core.single.connection h.none)
 
+-- what an event is to the submissions
 bare_requested : (n p : ℕ) (t : Turning) (kind : EventKind) → n < length t.core.table → At (There (IsGone n p)) (work_of t) → bare_turning n p (requested t kind) ≡ requested (bare_turning n p t) kind
 bare_requested n p t (event.Submit s) l h = bare_submitted n p t s l h.there
 bare_requested n p t (event.Cancel m) l h = bare_left_by n p t (slice_get t.core.table m) h
@@ -76,10 +83,12 @@ bare_requested n p t (event.ReadFault m kind) l h = refl
 bare_requested n p t (event.WriteFault m kind) l h = refl
 bare_requested n p t event.Shutdown l h = refl
 
+-- the event's own effect
 bare_effect : (n p : ℕ) (t : Turning) (kind : EventKind) → n < length t.core.table → At (There (IsGone n p)) (work_of t) → bare_turning n p (effect t kind) ≡ effect (bare_turning n p t) kind
 bare_effect n p t kind l h =
     bare_requested n p (heard t kind) kind l (heard_kept (gone_kept n p) t kind h) ∙ ap (λ (x : Turning). requested x kind) (bare_heard n p t kind h)
 
+-- the rest of the turn
 bare_moved_on : (n p : ℕ) (t : Turning) → At (There (IsGone n p)) (work_of t) → bare_turning n p (moved_on t) ≡ moved_on (bare_turning n p t)
 bare_moved_on n p t h =
     let w = work_of t in
@@ -94,6 +103,7 @@ bare_turn n p c kind l h =
 
 -- tables
 --
+-- what an event is to the submissions takes none away
 more_requested : (n : ℕ) (t : Turning) (kind : EventKind) → n < length t.core.table → n < length (requested t kind).core.table
 more_requested n t (event.Submit s) l =
     chosen (λ (x : Turning). n < length x.core.table) t.core.shut _ _ (λ u. omega (arith, length-append t.core.table (None ∷ [])))
@@ -113,6 +123,7 @@ more_requested n t (event.ReadFault m kind) l = l
 more_requested n t (event.WriteFault m kind) l = l
 more_requested n t event.Shutdown l = l
 
+-- nor does a turn
 pub more_after : (n : ℕ) (c : Core) (kind : EventKind) → n < length c.table → n < length (turn c kind).core.table
 unfolding turn
 more_after n c kind l = more_requested n (heard (counted c) kind) kind l
@@ -125,13 +136,16 @@ pub record AreAlike (n p : ℕ) (c d : Core) : Type 0 where
   pub gone : AtCore (There (IsGone n p)) c
   pub gone_too : AtCore (There (IsGone n p)) d
 
+-- a turn of each does the same
 pub turns_same : (n p : ℕ) (c d : Core) (kind : EventKind) → AreAlike n p c d → bare_turning n p (turn c kind) ≡ bare_turning n p (turn d kind)
 turns_same n p c d kind h =
     bare_turn n p c kind h.within h.gone ∙ ap (λ (x : Core). run (record { core = x; acts = [] }) kind) h.same ∙ sym (bare_turn n p d kind h.within_too h.gone_too)
 
+-- the message stays gone
 pub turn_gone : (n p : ℕ) (c : Core) (kind : EventKind) → n < length c.table → AtCore (There (IsGone n p)) c → AtCore (There (IsGone n p)) (turn c kind).core
 turn_gone n p c kind l h = turn_kept (gone_kept n p) c (gone_asks n p (length c.table) (above n c.table l)) kind h
 
+-- so they stay alike
 pub alike_turn : (n p : ℕ) (c d : Core) (kind : EventKind) → AreAlike n p c d → AreAlike n p (turn c kind).core (turn d kind).core
 alike_turn n p c d kind h = record {
   same = ap (λ (t : Turning). t.core) (turns_same n p c d kind h);

@@ -43,6 +43,7 @@ but_for n (a ∷ more) = shown_of n a ++ but_for n more
 abbrev pub hushed : ℕ → Entry → Entry
 hushed p e = record e { awaited = e.awaited && not (e.id == p) }
 
+-- and so each entry of a row
 abbrev pub hushed_each : ℕ → List Entry → List Entry
 hushed_each p [] = []
 hushed_each p (e ∷ es) = hushed p e ∷ hushed_each p es
