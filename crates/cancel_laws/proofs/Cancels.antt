@@ -1,5 +1,6 @@
 -- Over whole histories, the cancel of a started request changes nothing but its own outcome.
 use Rattle.std.proofs.Common.{◌≡◌, ◌≢◌, ℕ, ◌+◌, ◌<◌, nat_le, ◌||◌, Bool, true, false, List, [], ◌∷◌, ◌++◌, length, Option, Some, slice_get, refl, sym, ap, ◌∙◌, subst, append_assoc, arith, ◌==◌, ◌&&◌}
+use Rattle.std.proofs.Math.Bool.{or-false}
 use Rattle.containers.proofs.Tests.{chosen, not_le_test, not_both}
 use Rattle.containers.proofs.Places.{get_within}
 use Rattle.driver_model.specs.declared.action.Action.{Action}
@@ -37,11 +38,6 @@ use Rattle.cancel_laws.proofs.Outcomes.{told-append, all_told_unnumbered, erased
 
 -- the turn of the cancel
 --
--- what is true or false
-or_false : (b : Bool) → (b || false) ≡ b
-or_false true = refl
-or_false false = refl
-
 -- where submission n is request p, the turn of its cancel is the request's cancel
 cancel_turn : (c : Core) (n : ℕ) (p : Pending) → IsReady c → slice_get c.table n ≡ Some (Some p)
     → turn c (event.Cancel n) ≡ record { core = record c { turns = c.turns + 1; single = record c.single { connection = left c.single.connection p.number } }; acts = [] }
@@ -53,7 +49,7 @@ cancel_turn c n p r there =
     ∙ ap (with_work d) (nothing_moves (work_of d) (left_idle c.single.connection p.number r.idle))
     ∙ ap
     (λ (b : Bool). record { core = record c { turns = c.turns + 1; shut = b; single = record c.single { connection = left c.single.connection p.number } }; acts = [] })
-    (or_false c.shut)
+    (or-false c.shut)
 
 -- a started request is gone from the queue
 started_gone : (n : ℕ) (c : Core) (h : HasStarted n c) → IsReady c → AtCore (There (IsGone n h.pending.number)) c

@@ -1,5 +1,6 @@
 -- A link does the same where the verdict of one message is not wanted.
 use Rattle.std.proofs.Common.{◌≡◌, ℕ, ◌==◌, ◌&&◌, not, nat_lt, Bool, true, false, List, [], ◌∷◌, ◌++◌, length, if◌then◌else◌, refl, sym, ap, ◌∙◌, inl, inr, arith}
+use Rattle.std.proofs.Math.Bool.{and-false}
 use Rattle.containers.proofs.Tests.{by_test, chosen, left_if, eq_from, eq_test}
 use Rattle.resp_value.specs.Data.{Data}
 use Rattle.resp_read.specs.Items.{items}
@@ -90,15 +91,10 @@ pub quiet_came : (p : ℕ) (l : LinkState) (piece : List ℕ) → NoneWanted p l
 quiet_came p l piece h =
     chosen (λ (x : Settling). NoneWanted p x.link.row) l.broken _ _ (λ t. h) (λ f. quiet_dealt p (record { row = l.row; out = [] }) (items (l.rest ++ piece)) h)
 
--- never both where one is false
-pub and_none : (b : Bool) → (b && false) ≡ false
-and_none true = refl
-and_none false = refl
-
 -- one more verdict is not wanted
 pub quiet_silenced : (p m : ℕ) (row : List Entry) → NoneWanted p row → NoneWanted p (silenced row m)
 quiet_silenced p m [] h = tt
-quiet_silenced p m (e ∷ es) h = chosen (NoneWanted p) (e.id == m) _ _ (λ t. (and_none (e.id == p), h.1)) (λ f. (h.0, quiet_silenced p m es h.1))
+quiet_silenced p m (e ∷ es) h = chosen (NoneWanted p) (e.id == m) _ _ (λ t. (and-false (e.id == p), h.1)) (λ f. (h.0, quiet_silenced p m es h.1))
 
 -- an entry, and a row, whose verdict is not wanted
 --
@@ -128,7 +124,7 @@ quiet_stays p (e ∷ es) h =
 
 -- its own entry is silent
 own_silent : (p : ℕ) (e : Entry) → (e.id == p) ≡ true → hushed p e ≡ silent e
-own_silent p e t = ap (λ (b : Bool). record e { awaited = e.awaited && not b }) t ∙ ap (λ (b : Bool). record e { awaited = b }) (and_none e.awaited)
+own_silent p e t = ap (λ (b : Bool). record e { awaited = e.awaited && not b }) t ∙ ap (λ (b : Bool). record e { awaited = b }) (and-false e.awaited)
 
 -- any other stays
 other_stays : (p : ℕ) (e : Entry) → (e.id == p) ≡ false → hushed p e ≡ e

@@ -1,5 +1,6 @@
 -- A request has at most one message on its link.
 use Rattle.std.proofs.Common.{◌≡◌, ℕ, zero, suc, ◌+◌, ◌≤◌, ◌==◌, nat_lt, ◌&&◌, Bool, true, false, List, [], ◌∷◌, ◌++◌, length, Option, Some, None, slice_get, if◌then◌else◌, refl, ap, subst, arith}
+use Rattle.std.proofs.Math.Bool.{and-false}
 use Rattle.containers.proofs.Tests.{by_test, chosen, taken_if, left_if, eq_from}
 use Rattle.resp_value.specs.Data.{Data}
 use Rattle.resp_read.specs.Items.{items}
@@ -18,7 +19,7 @@ use Rattle.mux_conn.specs.declared.request.Request.{Request}
 use Rattle.mux_conn.specs.Requests.{is_waiting, is_waiting_at, at_progress}
 use Rattle.mux_conn.specs.Effects.{cancelled_in}
 use Rattle.mux_conn.specs.Passes.{message_of}
-use Rattle.cancel_laws.proofs.Links.{NoneWanted, and_none}
+use Rattle.cancel_laws.proofs.Links.{NoneWanted}
 use Rattle.cancel_laws.proofs.Kept.{IsKept, IsKeptThere, There, kept_there, CanAsk}
 
 -- 1 for that message, and 0 for any other
@@ -200,7 +201,7 @@ pub silenced_once : (p : ℕ) (row : List Entry) → times p row ≤ 1 → NoneW
 silenced_once p [] l = tt
 silenced_once p (e ∷ es) l =
     chosen (NoneWanted p) (e.id == p) _ _
-    (λ t. let k : one p e.id ≡ 1 = taken_if (e.id == p) 1 0 t in (and_none (e.id == p), none_left p es (omega arith)))
+    (λ t. let k : one p e.id ≡ 1 = taken_if (e.id == p) 1 0 t in (and-false (e.id == p), none_left p es (omega arith)))
     (λ f. (ap (λ (b : Bool). b && e.awaited) f, silenced_once p es (omega arith)))
 
 -- a request has one entry at most
