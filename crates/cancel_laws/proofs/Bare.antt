@@ -1,318 +1,400 @@
--- A turn does the same where one submission's outcome is looked away from, once its message has left the queue.
-use Rattle.std.proofs.Common.{◌≡◌, ◌≢◌, ℕ, zero, suc, ◌<◌, ◌==◌, Bool, true, false, List, [], ◌∷◌, ◌++◌, length, slice_set, if◌then◌else◌, refl, sym, ap, ◌∙◌, append_assoc, length-set}
+-- A connection does the same where one request's outcome is looked away from, once its message has left the queue.
+use Rattle.std.proofs.Common.{◌≡◌, ◌≢◌, ℕ, ◌<◌, ◌==◌, Bool, true, false, List, [], ◌∷◌, ◌++◌, length, if◌then◌else◌, refl, sym, ap, ◌∙◌, append_assoc}
 use Rattle.std.proofs.lemmas.List.{append-nil}
-use Rattle.redis_error.specs.declared.redis_error.RedisError.TheVariants as error
+use Rattle.containers.proofs.Tests.{by_test, chosen, either, either_by, taken_if, left_if, eq_from, ne_from, eq_test, ne_test}
 use Rattle.resp_value.specs.declared.value.Value.TheVariants.{Nil}
-use Rattle.driver_model.specs.declared.action.Action.{Action}
-use Rattle.driver_model.specs.declared.action.Action.TheVariants as action
-use Rattle.driver_model.specs.declared.action.Owner.TheVariants as owner
 use Rattle.driver_model.specs.declared.action.WaitKind.TheVariants as wait
-use Rattle.driver_model.specs.declared.event.EventKind.{EventKind}
-use Rattle.driver_model.specs.declared.event.EventKind.TheVariants as event
-use Rattle.driver_model.specs.declared.event.Submission.{Submission}
-use Rattle.driver_model.specs.declared.outcome.Outcome.{Outcome}
-use Rattle.driver_model.specs.declared.outcome.Outcome.TheVariants as outcome
-use Rattle.driver_model.specs.Shape.{outcome_of}
-use Rattle.driver_model.specs.Request.{packed}
 use Rattle.driver_model.specs.declared.news.LinkFault.{LinkFault}
 use Rattle.driver_model.specs.declared.news.LinkFault.TheVariants as fault
-use Rattle.link_core.specs.declared.message.Queued.{Queued}
+use Rattle.driver_model.specs.declared.outcome.Outcome.{Outcome}
+use Rattle.driver_model.specs.declared.outcome.Outcome.TheVariants as outcome
+use Rattle.driver_model.specs.declared.outcome.Shape.{Shape}
+use Rattle.driver_model.specs.News.{News, silence, connected, took, failed, shut}
+use Rattle.driver_model.specs.News.{came as came_news}
+use Rattle.driver_model.specs.Shape.{outcome_of}
 use Rattle.link_core.specs.declared.message.Settled.{Settled}
 use Rattle.link_core.specs.declared.message.Started.{Started}
-use Rattle.link_core.specs.Link.{Starting, Settling, is_full, enqueued, started_all, offered_of, cancelled, came, faulted, closed_all}
+use Rattle.link_core.specs.Link.{LinkState, Settling, enqueued, started_all, offered_of, came}
 use Rattle.link_core.specs.Outbox.{can_offer}
-use Rattle.link_core.specs.Waiting.{awaits, without}
 use Rattle.link_laws.specs.Alike.{others}
-use Rattle.shared_session.specs.declared.connection.Connection.{Connection}
-use Rattle.shared_session.specs.declared.connection.Done.{Done}
-use Rattle.shared_session.specs.declared.connection.Phase.TheVariants as phase
-use Rattle.shared_session.specs.declared.connection.Progress.{Progress}
-use Rattle.shared_session.specs.declared.connection.Progress.TheVariants as progress
-use Rattle.shared_session.specs.declared.connection.Waiting.{Waiting}
-use Rattle.shared_session.specs.Requests.{if_there, is_open, is_waiting, is_open_at, is_waiting_at}
-use Rattle.shared_session.specs.Steps.{acts, at_progress, is_dialing, is_up, is_ended, answered, settled_each, closed, closed_each, waiting_closed, ends, ended_by, checked, submitted, left, read_to, faulted_by, shown_each, starts_with, started, message_of, placed, told_at_place, advanced, advanced_each, advanced_all, passes, offers, writes, waits_shown, waits_each, waits, flushed}
-use Rattle.shared_session.specs.Turn.{applied}
-use Rattle.cancel_laws.specs.ButFor.{shown_of, but_for, hushed_link}
-use Rattle.containers.proofs.Tests.{by_test, either, either_by, taken_if, left_if, eq_from, ne_from, eq_test}
-use Rattle.containers.proofs.Places.{get_set_other}
-use Rattle.cancel_laws.proofs.Lists.{set_twice, set_apart, set_push}
-use Rattle.cancel_laws.proofs.Links.{NoneOf, hushed_settling, hushed_came, hushed_close, hushed_fault, hushed_started, hushed_cancelled, own_cancelled}
-use Rattle.cancel_laws.proofs.Kept.{At, There, settled_kept, started_kept, told_kept, advanced_kept, writes_kept, waits_shown_kept}
-use Rattle.cancel_laws.proofs.Gone.{IsGone, gone_kept, other_number}
+use Rattle.link_laws.proofs.Cancels.{start_alike, bytes_alike, close_alike, fault_alike}
+use Rattle.mux_conn.specs.declared.act.LinkAct.{LinkAct}
+use Rattle.mux_conn.specs.declared.act.LinkAct.TheVariants as act
+use Rattle.mux_conn.specs.declared.connection.MultiplexedConnection.{MultiplexedConnection}
+use Rattle.mux_conn.specs.declared.life.Life.{Life}
+use Rattle.mux_conn.specs.declared.life.Life.TheVariants.{Dialing, Ready, Ended}
+use Rattle.mux_conn.specs.declared.request.Progress.TheVariants as progress
+use Rattle.mux_conn.specs.declared.request.Request.{Request}
+use Rattle.mux_conn.specs.declared.request.Waiting.{Waiting}
+use Rattle.mux_conn.specs.Connection.{Work, acted, at_life, with_link, is_dialing, is_stuck}
+use Rattle.mux_conn.specs.Requests.{is_open_at, is_waiting_at, name_at, at_progress, progressed, answered, waiting_of, asked}
+use Rattle.mux_conn.specs.Effects.{new_link, settled_each, closed, closed_each, waiting_closed, ended, connected_at, taken_at, failed_at, broken_at, read_to, read_at, shut_at, applied, cancelled_in, left}
+use Rattle.mux_conn.specs.Passes.{shown_each, starts_with, started_at, started, message_of, placed_at, told_at_place, moved_at, moved, still_waiting, moved_each, moved_all, passed}
+use Rattle.mux_conn.specs.Turn.{written_at, written, wait_shown, waits_each, waits_shown, flushed}
+use Rattle.cancel_laws.specs.ButFor.{hushed_link, hushed_life}
+use Rattle.cancel_laws.proofs.Requests.{names, name_stays, progress_twice, progress_apart, progress_push, progress_count, own_closed, open_other, closed_set, waiting_same, other_number}
+use Rattle.cancel_laws.proofs.Names.{IsOwn, own_name, other_name}
+use Rattle.cancel_laws.proofs.Links.{alike_hushed, none_leaves, hushed_started, hushed_came, hushed_cancelled, own_cancelled}
+use Rattle.cancel_laws.proofs.Kept.{other_act, IsPlain, At, There, answered_kept, settled_kept, over_kept, started_kept, told_kept, moved_kept, written_kept, wait_kept}
+use Rattle.cancel_laws.proofs.Gone.{NoneQueued, IsGone, gone_kept}
 
--- the outcomes of a turn, but for those of submission n
-abbrev pub other_outcomes : ℕ → List Done → List Done
-other_outcomes n [] = []
-other_outcomes n (d ∷ ds) = if d.submission == n then other_outcomes n ds else d ∷ other_outcomes n ds
+-- the acts of a turn, but for the outcomes of submission n
+abbrev pub other_acts : ℕ → List LinkAct → List LinkAct
+other_acts n [] = []
+other_acts n (a ∷ more) = other_act n a ++ other_acts n more
 
--- all of a connection, but for how far submission n has come and for its outcome
-abbrev pub bare : ℕ → Connection → Connection
-bare n c = record {
-  phase = c.phase;
-  shut = c.shut;
-  link = hushed_link n c.link;
-  requests = slice_set c.requests n progress.Cancelled;
-  waiting = c.waiting;
-  fresh = c.fresh;
-  done = other_outcomes n c.done;
-  acts = but_for n c.acts;
-}
+-- all of a connection, but for how far request p has come and whether its verdict is wanted
+abbrev pub bare_conn : ℕ → MultiplexedConnection → MultiplexedConnection
+bare_conn p c = record c { life = hushed_life p c.life; requests = at_progress c.requests p progress.Closed }
 
--- lists
+-- and but for the outcomes of submission n, whose request it is
+abbrev pub bare : ℕ → ℕ → Work → Work
+bare n p w = record { conn = bare_conn p w.conn; acts = other_acts n w.acts }
+
+-- acts
 --
-pub but_for-append : (n : ℕ) (xs ys : List Action) → but_for n (xs ++ ys) ≡ but_for n xs ++ but_for n ys
-but_for-append n [] ys = refl
-but_for-append n (a ∷ xs) ys = ap (λ zs. shown_of n a ++ zs) (but_for-append n xs ys) ∙ sym (append_assoc (shown_of n a) (but_for n xs) (but_for n ys))
+-- acts one after another
+acts-append : (n : ℕ) (xs ys : List LinkAct) → other_acts n (xs ++ ys) ≡ other_acts n xs ++ other_acts n ys
+acts-append n [] ys = refl
+acts-append n (a ∷ xs) ys = ap (λ (zs : List LinkAct). other_act n a ++ zs) (acts-append n xs ys) ∙ sym (append_assoc (other_act n a) (other_acts n xs) (other_acts n ys))
 
-pub but_for-more : (n : ℕ) (xs : List Action) (a : Action) → but_for n (xs ++ a ∷ []) ≡ but_for n xs ++ shown_of n a
-but_for-more n xs a = but_for-append n xs (a ∷ []) ∙ ap (λ zs. but_for n xs ++ zs) (append-nil (shown_of n a))
+-- one more act
+acts_more : (n : ℕ) (xs : List LinkAct) (a : LinkAct) → other_acts n (xs ++ a ∷ []) ≡ other_acts n xs ++ other_act n a
+acts_more n xs a = acts-append n xs (a ∷ []) ∙ ap (λ (zs : List LinkAct). other_acts n xs ++ zs) (append-nil (other_act n a))
 
-done_before : (b : Bool) (d : Done) (xs ys : List Done) → (if b then xs ++ ys else d ∷ (xs ++ ys)) ≡ (if b then xs else d ∷ xs) ++ ys
-done_before true d xs ys = refl
-done_before false d xs ys = refl
+-- and one that answers nobody
+pub acts_plain : (n : ℕ) (xs : List LinkAct) (a : LinkAct) → IsPlain a → other_acts n (xs ++ a ∷ []) ≡ other_acts n xs ++ a ∷ []
+acts_plain n xs a p = acts_more n xs a ∙ ap (λ (zs : List LinkAct). other_acts n xs ++ zs) (p n)
 
-others_done : (n : ℕ) (xs ys : List Done) → other_outcomes n (xs ++ ys) ≡ other_outcomes n xs ++ other_outcomes n ys
-others_done n [] ys = refl
-others_done n (d ∷ xs) ys = ap (λ zs. if d.submission == n then zs else d ∷ zs) (others_done n xs ys) ∙ done_before (d.submission == n) d (other_outcomes n xs) (other_outcomes n ys)
+-- submission n's own outcome doesn't count
+acts_own : (n m : ℕ) (xs : List LinkAct) (o : Outcome) → m ≡ n → other_acts n (xs ++ act.Outcome m o ∷ []) ≡ other_acts n xs
+acts_own n m xs o e =
+    acts_more n xs (act.Outcome m o) ∙ ap (λ (zs : List LinkAct). other_acts n xs ++ zs) (taken_if (m == n) [] (act.Outcome m o ∷ []) (eq_test m n e)) ∙ append-nil (other_acts n xs)
 
-done_own : (n : ℕ) (xs : List Done) (d : Done) → (d.submission == n) ≡ true → other_outcomes n (xs ++ d ∷ []) ≡ other_outcomes n xs
-done_own n xs d t = others_done n xs (d ∷ []) ∙ ap (λ zs. other_outcomes n xs ++ zs) (taken_if (d.submission == n) [] (d ∷ []) t) ∙ append-nil (other_outcomes n xs)
+-- any other does
+pub acts_other : (n m : ℕ) (xs : List LinkAct) (o : Outcome) → m ≢ n → other_acts n (xs ++ act.Outcome m o ∷ []) ≡ other_acts n xs ++ act.Outcome m o ∷ []
+acts_other n m xs o e = acts_more n xs (act.Outcome m o) ∙ ap (λ (zs : List LinkAct). other_acts n xs ++ zs) (left_if (m == n) [] (act.Outcome m o ∷ []) (ne_test m n e))
 
-done_other : (n : ℕ) (xs : List Done) (d : Done) → (d.submission == n) ≡ false → other_outcomes n (xs ++ d ∷ []) ≡ other_outcomes n xs ++ d ∷ []
-done_other n xs d f = others_done n xs (d ∷ []) ∙ ap (λ zs. other_outcomes n xs ++ zs) (left_if (d.submission == n) [] (d ∷ []) f)
-
-acts_own : (n m : ℕ) (xs : List Action) (o : Outcome) → (m == n) ≡ true → but_for n (xs ++ action.Outcome m o ∷ []) ≡ but_for n xs
-acts_own n m xs o t = but_for-more n xs (action.Outcome m o) ∙ ap (λ zs. but_for n xs ++ zs) (taken_if (m == n) [] (action.Outcome m o ∷ []) t) ∙ append-nil (but_for n xs)
-
-pub acts_other : (n m : ℕ) (xs : List Action) (o : Outcome) → (m == n) ≡ false → but_for n (xs ++ action.Outcome m o ∷ []) ≡ but_for n xs ++ action.Outcome m o ∷ []
-acts_other n m xs o f = but_for-more n xs (action.Outcome m o) ∙ ap (λ zs. but_for n xs ++ zs) (left_if (m == n) [] (action.Outcome m o ∷ []) f)
-
--- progress
---
-own_closed : (r : List Progress) (n : ℕ) → is_open_at (slice_set r n progress.Cancelled) n ≡ false
-own_closed [] n = refl
-own_closed (p ∷ r) zero = refl
-own_closed (p ∷ r) (suc n) = own_closed r n
-
-own_past : (r : List Progress) (n : ℕ) → is_waiting_at (slice_set r n progress.Cancelled) n ≡ false
-own_past [] n = refl
-own_past (p ∷ r) zero = refl
-own_past (p ∷ r) (suc n) = own_past r n
-
-waiting_same : (r : List Progress) (n m : ℕ) → is_waiting_at r n ≡ false → is_waiting_at r m ≡ is_waiting_at (slice_set r n progress.Cancelled) m
-waiting_same r n m past =
-    by_test (m == n) _
-    (λ t. let e = eq_from m n t in ap (is_waiting_at r) e ∙ past ∙ sym (own_past r n) ∙ ap (is_waiting_at (slice_set r n progress.Cancelled)) (sym e))
-    (λ f. let o = ne_from m n f in ap (if_there is_waiting) (sym (get_set_other r n m progress.Cancelled (λ e. o (sym e)))))
-
-open_same : (r : List Progress) (n m : ℕ) → n ≢ m → is_open_at r m ≡ is_open_at (slice_set r n progress.Cancelled) m
-open_same r n m o = ap (if_there is_open) (sym (get_set_other r n m progress.Cancelled o))
+-- one more act that answers nobody
+bare_acted : (n p : ℕ) (w : Work) (a : LinkAct) → IsPlain a → bare n p (acted w a) ≡ acted (bare n p w) a
+bare_acted n p w a plain = ap (λ (xs : List LinkAct). record (bare n p w) { acts = xs }) (acts_plain n w.acts a plain)
 
 -- answers
 --
+-- all others are as open as they were
+open_same : (r : List Request) (p q : ℕ) → q ≢ p → is_open_at r q ≡ is_open_at (at_progress r p progress.Closed) q
+open_same r p q o = sym (open_other r p q progress.Closed (λ e. o (sym e)))
+
 -- one that is closed stays as it is
-closed_stays : (c : Connection) (m : ℕ) (o : Outcome) → is_open_at c.requests m ≡ false → answered c m o ≡ c
-closed_stays c m o f = left_if (is_open_at c.requests m) _ c f
+closed_stays : (w : Work) (q : ℕ) (o : Outcome) → is_open_at w.conn.requests q ≡ false → answered w q o ≡ w
+closed_stays w q o f = left_if (is_open_at w.conn.requests q) _ w f
 
-bare_stays : (n : ℕ) (c : Connection) (m : ℕ) (o : Outcome) → (m == n) ≡ true → answered (bare n c) m o ≡ bare n c
-bare_stays n c m o t = closed_stays (bare n c) m o (ap (is_open_at (slice_set c.requests n progress.Cancelled)) (eq_from m n t) ∙ own_closed c.requests n)
-
-answered_own : (n : ℕ) (c : Connection) (o : Outcome) → bare n (answered c n o) ≡ bare n c
-answered_own n c o =
-    let d : Done = record { submission = n; outcome = o } in
-    let r = set_twice c.requests n progress.Answered progress.Cancelled in
-    let ds = done_own n c.done d (eq_test n n refl) in
-    let shown = acts_own n n c.acts o (eq_test n n refl) in
-    own_case (is_open_at c.requests n) (λ i. record (bare n c) { requests = r i; done = ds i; acts = shown i })
+-- an answer of request p counts for nothing
+answered_own : (n p : ℕ) (w : Work) (o : Outcome) → IsOwn n p (names w.conn.requests) → bare n p (answered w p o) ≡ bare n p w
+answered_own n p w o own = own_case (is_open_at w.conn.requests p) (λ t. same t)
   where
-    own_case : (b : Bool) → bare n (acts (record (at_progress c n progress.Answered) { done = c.done ++ record { submission = n; outcome = o } ∷ [] }) (action.Outcome n o)) ≡ bare n c
-        → bare n (if b then acts (record (at_progress c n progress.Answered) { done = c.done ++ record { submission = n; outcome = o } ∷ [] }) (action.Outcome n o) else c) ≡ bare n c
-    own_case true e = e
+    same : is_open_at w.conn.requests p ≡ true → bare n p (acted (progressed w p progress.Closed) (act.Outcome (name_at w.conn.requests p) o)) ≡ bare n p w
+    same t =
+        let r = progress_twice w.conn.requests p progress.Closed progress.Closed in
+        let xs = acts_own n (name_at w.conn.requests p) w.acts o (own_name n p w.conn.requests own t) in
+        λ i. record { conn = record (bare_conn p w.conn) { requests = r i }; acts = xs i }
+
+    own_case : (b : Bool) → (b ≡ true → bare n p (acted (progressed w p progress.Closed) (act.Outcome (name_at w.conn.requests p) o)) ≡ bare n p w)
+        → bare n p (if b then acted (progressed w p progress.Closed) (act.Outcome (name_at w.conn.requests p) o) else w) ≡ bare n p w
+    own_case true e = e refl
     own_case false e = refl
 
-answered_other : (n : ℕ) (c : Connection) (m : ℕ) (o : Outcome) → (m == n) ≡ false → bare n (answered c m o) ≡ answered (bare n c) m o
-answered_other n c m o f =
-    let apart = ne_from m n f in
-    let d : Done = record { submission = m; outcome = o } in
-    let r = set_apart c.requests m n progress.Answered progress.Cancelled apart in
-    let ds = done_other n c.done d f in
-    let shown = acts_other n m c.acts o f in
-    either_by (bare n) (is_open_at c.requests m) (is_open_at (slice_set c.requests n progress.Cancelled) m) _ c _ (bare n c) (open_same c.requests n m (λ e. apart (sym e)))
-    (λ t. λ i. record (bare n c) { requests = r i; done = ds i; acts = shown i })
-    (λ g. refl)
-
-pub bare_answered : (n : ℕ) (c : Connection) (m : ℕ) (o : Outcome) → bare n (answered c m o) ≡ answered (bare n c) m o
-bare_answered n c m o =
-    by_test (m == n) _
-    (λ t. ap (λ k. bare n (answered c k o)) (eq_from m n t) ∙ answered_own n c o ∙ sym (bare_stays n c m o t))
-    (answered_other n c m o)
-
--- what the link settled, also without what it settled for submission n
-bare_settled : (n : ℕ) (c : Connection) (ss : List Settled) → bare n (settled_each c ss) ≡ settled_each (bare n c) (others n ss)
-bare_settled n c [] = refl
-bare_settled n c (s ∷ ss) =
-    let o = outcome_of s.verdict in
-    bare_settled n (answered c s.id o) ss ∙ ap (λ x. settled_each x (others n ss)) (bare_answered n c s.id o)
-    ∙ by_test (s.id == n) _
-    (λ t. ap (λ x. settled_each x (others n ss)) (bare_stays n c s.id o t) ∙ ap (settled_each (bare n c)) (sym (taken_if (s.id == n) (others n ss) (s ∷ others n ss) t)))
-    (λ f. ap (settled_each (bare n c)) (sym (left_if (s.id == n) (others n ss) (s ∷ others n ss) f)))
-
-bare_closed : (n : ℕ) (c : Connection) (ws : List Waiting) → bare n (closed_each c ws) ≡ closed_each (bare n c) ws
-bare_closed n c [] = refl
-bare_closed n c (w ∷ ws) = bare_closed n (answered c w.number closed) ws ∙ ap (λ x. closed_each x ws) (bare_answered n c w.number closed)
-
-bare_waiting_closed : (n : ℕ) (c : Connection) → bare n (waiting_closed c) ≡ waiting_closed (bare n c)
-bare_waiting_closed n c = bare_closed n (record c { waiting = [] }) c.waiting
-
-bare_ends : (n : ℕ) (c : Connection) (s : Settling) → bare n (ends c s) ≡ ends (bare n c) (hushed_settling n s)
-bare_ends n c s =
-    let d = record (acts (record c { phase = phase.Ended }) (action.Close 0)) { link = s.link } in
-    bare_waiting_closed n (settled_each d s.out) ∙ ap waiting_closed (bare_settled n d s.out)
-    ∙ ap (λ (xs : List Action). waiting_closed (settled_each (record (bare n c) { phase = phase.Ended; acts = xs; link = hushed_link n s.link }) (others n s.out))) (but_for-more n c.acts (action.Close 0))
-
-bare_ended : (n : ℕ) (c : Connection) (f : LinkFault) → At (There (IsGone n)) c → bare n (ended_by c f) ≡ ended_by (bare n c) f
-bare_ended n c f h =
-    let s : Settling = record { link = c.link; out = [] } in
-    bare_ends n c (faulted s f) ∙ ap (ends (bare n c)) (hushed_fault n s f h.none)
-
--- events
---
-bare_checked : (n : ℕ) (c : Connection) (m : ℕ) (s : Submission) → bare n (checked c m s) ≡ checked (bare n c) m s
-bare_checked n c m s =
-    either (bare n) c.shut _ _ _ _ (λ t. bare_answered n c m closed)
-    (λ f. either (bare n) (length (packed s) == 0) _ _ _ _ (λ t. bare_answered n c m (outcome.Fault error.EmptyCommand))
-    (λ g. either (bare n) (is_ended c.phase) _ _ _ _ (λ t. bare_answered n c m closed) (λ e. refl)))
-
-bare_submitted : (n : ℕ) (c : Connection) (s : Submission) → n < length c.requests → bare n (submitted c s) ≡ submitted (bare n c) s
-bare_submitted n c s l =
-    bare_checked n (record c { requests = c.requests ++ progress.Waiting ∷ [] }) (length c.requests) s
-    ∙ ap (λ (r : List Progress). checked (record (bare n c) { requests = r }) (length c.requests) s) (set_push c.requests n progress.Cancelled progress.Waiting l)
-    ∙ ap (λ (k : ℕ). checked (record (bare n c) { requests = slice_set c.requests n progress.Cancelled ++ progress.Waiting ∷ [] }) k s) (sym (length-set c.requests n progress.Cancelled))
-
--- the cancel of submission n itself
-pub own_left : (n : ℕ) (c : Connection) → without c.link.queue n ≡ c.link.queue → bare n (left c n) ≡ bare n c
-own_left n c gone =
-    let r = set_twice c.requests n progress.Cancelled progress.Cancelled in
-    let l = own_cancelled n c.link gone in
-    own_case (is_open_at c.requests n) (λ i. record (bare n c) { requests = r i; link = l i })
-  where
-    own_case : (b : Bool) → bare n (record (at_progress c n progress.Cancelled) { link = cancelled c.link n }) ≡ bare n c → bare n (if b then record (at_progress c n progress.Cancelled) { link = cancelled c.link n } else c) ≡ bare n c
-    own_case true e = e
-    own_case false e = refl
-
-other_left : (n m : ℕ) (c : Connection) → (m == n) ≡ false → bare n (left c m) ≡ left (bare n c) m
-other_left n m c f =
-    let apart = ne_from m n f in
-    let r = set_apart c.requests m n progress.Cancelled progress.Cancelled apart in
-    let l = hushed_cancelled n m c.link in
-    either_by (bare n) (is_open_at c.requests m) (is_open_at (slice_set c.requests n progress.Cancelled) m) _ c _ (bare n c) (open_same c.requests n m (λ e. apart (sym e)))
-    (λ t. λ i. record (bare n c) { requests = r i; link = l i })
-    (λ g. refl)
-
-left_stays : (n : ℕ) (c : Connection) → left (bare n c) n ≡ bare n c
-left_stays n c = left_if (is_open_at (slice_set c.requests n progress.Cancelled) n) _ (bare n c) (own_closed c.requests n)
-
-none_without : (n : ℕ) (queue : List Queued) → NoneOf n queue → without queue n ≡ queue
-none_without n [] h = refl
-none_without n (q ∷ qs) h = left_if (awaits n q) qs (q ∷ without qs n) h.0 ∙ ap (λ xs. q ∷ xs) (none_without n qs h.1)
-
-bare_left : (n m : ℕ) (c : Connection) → At (There (IsGone n)) c → bare n (left c m) ≡ left (bare n c) m
-bare_left n m c h =
-    by_test (m == n) _
-    (λ t. let e = eq_from m n t in ap (λ k. bare n (left c k)) e ∙ own_left n c (none_without n c.link.queue h.none) ∙ sym (left_stays n c) ∙ ap (left (bare n c)) (sym e))
-    (other_left n m c)
-
-bare_read : (n : ℕ) (c : Connection) (s : Settling) → IsGone n c.requests s.link → bare n (read_to c s) ≡ read_to (bare n c) (hushed_settling n s)
-bare_read n c s h =
-    let d = record c { link = s.link } in
-    let e = settled_each d s.out in
-    either (bare n) s.link.broken (ended_by e fault.Parse) e _ _
-    (λ t. bare_ended n e fault.Parse (settled_kept (gone_kept n) d s.out h) ∙ ap (λ x. ended_by x fault.Parse) (bare_settled n d s.out))
-    (λ f. bare_settled n d s.out)
-
-bare_faulted : (n : ℕ) (c : Connection) (f : LinkFault) → At (There (IsGone n)) c → bare n (faulted_by c f) ≡ faulted_by (bare n c) f
-bare_faulted n c f h = either (bare n) (is_up c.phase) (ended_by c f) c (ended_by (bare n c) f) (bare n c) (λ t. bare_ended n c f h) (λ g. refl)
-
-pub bare_applied : (n : ℕ) (c : Connection) (kind : EventKind) → At (There (IsGone n)) c → bare n (applied c kind) ≡ applied (bare n c) kind
-bare_applied n c (event.Submit s) h = bare_submitted n c s h.there
-bare_applied n c (event.Cancel m) h = bare_left n m c h
-bare_applied n c (event.Connected l) h =
-    either (bare n) (is_dialing c.phase) _ c _ (bare n c) (λ t. ap (λ (xs : List Action). record (bare n c) { phase = phase.Up; acts = xs }) (but_for-more n c.acts action.Created)) (λ f. refl)
-bare_applied n c (event.Wrote l k) h = either (bare n) (is_up c.phase) _ c _ (bare n c) (λ t. refl) (λ f. refl)
-bare_applied n c (event.Bytes l piece) h =
-    let s : Settling = record { link = c.link; out = [] } in
-    either (bare n) (is_up c.phase) _ c _ (bare n c)
-    (λ t. bare_read n c (came s piece) ((gone_kept n).come c.requests c.link c.done c.acts piece h) ∙ ap (read_to (bare n c)) (hushed_came n s piece))
+-- any other answer counts
+answered_other : (n p : ℕ) (w : Work) (q : ℕ) (o : Outcome) → IsOwn n p (names w.conn.requests) → q ≢ p → bare n p (answered w q o) ≡ answered (bare n p w) q o
+answered_other n p w q o own apart =
+    either_by (bare n p) (is_open_at w.conn.requests q) (is_open_at (at_progress w.conn.requests p progress.Closed) q) _ w _ (bare n p w) (open_same w.conn.requests p q apart)
+    (λ t. same t)
     (λ f. refl)
-bare_applied n c (event.Ended l) h = bare_faulted n c fault.Ended h
-bare_applied n c (event.ReadFault l kind) h = bare_faulted n c (fault.Io kind) h
-bare_applied n c (event.WriteFault l kind) h = bare_faulted n c (fault.Io kind) h
-bare_applied n c event.Shutdown h =
-    let s : Settling = record { link = c.link; out = [] } in
-    let d = record c { shut = true } in
-    either (bare n) (is_ended c.phase) d (ends d (closed_all s)) _ _ (λ t. refl) (λ f. bare_ends n d (closed_all s) ∙ ap (ends (bare n d)) (hushed_close n s h.none))
+  where
+    same : is_open_at w.conn.requests q ≡ true
+        → bare n p (acted (progressed w q progress.Closed) (act.Outcome (name_at w.conn.requests q) o))
+        ≡ acted (progressed (bare n p w) q progress.Closed) (act.Outcome (name_at (bare n p w).conn.requests q) o)
+    same t =
+        let r = progress_apart w.conn.requests q p progress.Closed progress.Closed apart in
+        let xs = acts_other n (name_at w.conn.requests q) w.acts o (other_name n p q w.conn.requests own t apart)
+        ∙ ap (λ (m : ℕ). other_acts n w.acts ++ act.Outcome m o ∷ []) (sym (name_stays w.conn.requests p q progress.Closed)) in
+        λ i. record { conn = record (bare_conn p w.conn) { requests = r i }; acts = xs i }
+
+-- an answer
+bare_answered : (n p : ℕ) (w : Work) (q : ℕ) (o : Outcome) → At (There (IsGone n p)) w → bare n p (answered w q o) ≡ answered (bare n p w) q o
+bare_answered n p w q o h =
+    by_test (q == p) _
+    (λ t.
+    let e = eq_from q p t in
+    ap (λ (k : ℕ). bare n p (answered w k o)) e ∙ answered_own n p w o h.own ∙ sym (closed_stays (bare n p w) p o (own_closed w.conn.requests p)) ∙ ap (λ (k : ℕ). answered (bare n p w) k o) (sym e))
+    (λ f. answered_other n p w q o h.own (ne_from q p f))
+
+-- what the link settled
+bare_settled : (n p : ℕ) (w : Work) (ss : List Settled) → At (There (IsGone n p)) w → bare n p (settled_each w ss) ≡ settled_each (bare n p w) ss
+bare_settled n p w [] h = refl
+bare_settled n p w (s ∷ ss) h =
+    let o = outcome_of s.verdict in
+    bare_settled n p (answered w s.id o) ss (answered_kept (gone_kept n p) w s.id o h) ∙ ap (λ (x : Work). settled_each x ss) (bare_answered n p w s.id o h)
+
+-- where a request is closed, what is settled for it counts for nothing
+closed_still : (w : Work) (p q : ℕ) (o : Outcome) → is_open_at w.conn.requests p ≡ false → is_open_at (answered w q o).conn.requests p ≡ false
+closed_still w p q o f =
+    chosen (λ (x : Work). is_open_at x.conn.requests p ≡ false) (is_open_at w.conn.requests q) _ w
+    (λ t. closed_set w.conn.requests q p progress.Closed t f)
+    (λ g. f)
+
+-- and so for all that a link settled
+others_settled : (w : Work) (p : ℕ) (ss : List Settled) → is_open_at w.conn.requests p ≡ false → settled_each w (others p ss) ≡ settled_each w ss
+others_settled w p [] f = refl
+others_settled w p (s ∷ ss) f =
+    let o = outcome_of s.verdict in
+    by_test (s.id == p) _
+    (λ t.
+    ap (settled_each w) (taken_if (s.id == p) (others p ss) (s ∷ others p ss) t) ∙ others_settled w p ss f
+    ∙ ap (λ (x : Work). settled_each x ss) (sym (closed_stays w s.id o (ap (is_open_at w.conn.requests) (eq_from s.id p t) ∙ f))))
+    (λ g. ap (settled_each w) (left_if (s.id == p) (others p ss) (s ∷ others p ss) g) ∙ others_settled (answered w s.id o) p ss (closed_still w p s.id o f))
+
+-- what one link settled, and what another did that settled the same for all other messages
+bare_settled_same : (n p : ℕ) (w : Work) (ss later : List Settled) → At (There (IsGone n p)) w → others p ss ≡ others p later → bare n p (settled_each w ss) ≡ settled_each (bare n p w) later
+bare_settled_same n p w ss later h e =
+    let f = own_closed w.conn.requests p in
+    bare_settled n p w ss h ∙ sym (others_settled (bare n p w) p ss f) ∙ ap (settled_each (bare n p w)) e ∙ others_settled (bare n p w) p later f
+
+-- those that wait, on a link that has ended
+bare_closed : (n p : ℕ) (w : Work) (qs : List Waiting) → At (There (IsGone n p)) w → bare n p (closed_each w qs) ≡ closed_each (bare n p w) qs
+bare_closed n p w [] h = refl
+bare_closed n p w (q ∷ qs) h =
+    bare_closed n p (answered w q.number closed) qs (answered_kept (gone_kept n p) w q.number closed h) ∙ ap (λ (x : Work). closed_each x qs) (bare_answered n p w q.number closed h)
+
+-- the end of a link
+bare_ended : (n p : ℕ) (w : Work) (ss later : List Settled) → At (There (IsGone n p)) w → others p ss ≡ others p later → bare n p (ended w ss) ≡ ended (bare n p w) later
+bare_ended n p w ss later h e =
+    let d = acted (at_life w Ended) act.Close in
+    let g : At (There (IsGone n p)) d = over_kept (gone_kept n p) w h in
+    let v = settled_each d ss in
+    let k : At (There (IsGone n p)) v = settled_kept (gone_kept n p) d ss g in
+    bare_closed n p (record v { conn = record v.conn { waiting = [] } }) v.conn.waiting k
+    ∙ ap waiting_closed (bare_settled_same n p d ss later g e ∙ ap (λ (x : Work). settled_each x later) (bare_acted n p (at_life w Ended) act.Close (λ m. refl)))
+
+-- news
+--
+-- a fault of the link
+bare_failed : (n p : ℕ) (w : Work) (f : LinkFault) (life : Life) → At (There (IsGone n p)) w → bare n p (failed_at w f life) ≡ failed_at (bare n p w) f (hushed_life p life)
+bare_failed n p w f (Ready l) h = bare_ended n p w _ _ h (fault_alike p f l (hushed_link p l) [] [] (alike_hushed p l) refl).out
+bare_failed n p w f Dialing h = refl
+bare_failed n p w f Ended h = refl
+
+-- the connect
+bare_connected : (n p : ℕ) (w : Work) (life : Life) → bare n p (connected_at w life) ≡ connected_at (bare n p w) (hushed_life p life)
+bare_connected n p w Dialing = bare_acted n p (with_link w new_link) act.Created (λ m. refl)
+bare_connected n p w (Ready l) = refl
+bare_connected n p w Ended = refl
+
+-- bytes were taken
+bare_taken : (n p : ℕ) (w : Work) (count : ℕ) (life : Life) → bare n p (taken_at w count life) ≡ taken_at (bare n p w) count (hushed_life p life)
+bare_taken n p w count Dialing = refl
+bare_taken n p w count (Ready l) = refl
+bare_taken n p w count Ended = refl
+
+-- bytes that begin no value
+bare_broken : (n p : ℕ) (b : Bool) (w : Work) → At (There (IsGone n p)) w → bare n p (broken_at b w) ≡ broken_at b (bare n p w)
+bare_broken n p b w h = either (bare n p) b _ w _ (bare n p w) (λ t. bare_failed n p w fault.Parse w.conn.life h) (λ f. refl)
+
+-- what a link settled by bytes
+bare_read : (n p : ℕ) (w : Work) (s t : Settling) → IsGone n p w.conn.requests (Ready s.link) → hushed_link p s.link ≡ t.link → others p s.out ≡ others p t.out → bare n p (read_to w s) ≡ read_to (bare n p w) t
+bare_read n p w s t h link out =
+    let d = with_link w s.link in
+    bare_broken n p s.link.broken (settled_each d s.out) (settled_kept (gone_kept n p) d s.out h)
+    ∙ ap (broken_at s.link.broken) (bare_settled_same n p d s.out t.out h out)
+    ∙ ap (λ (l : LinkState). broken_at l.broken (settled_each (with_link (bare n p w) l) t.out)) link
+
+-- bytes come
+bare_came : (n p : ℕ) (w : Work) (piece : List ℕ) (life : Life) → IsGone n p w.conn.requests life → bare n p (read_at w piece life) ≡ read_at (bare n p w) piece (hushed_life p life)
+bare_came n p w piece (Ready l) h =
+    bare_read n p w (came (record { link = l; out = [] }) piece) (came (record { link = hushed_link p l; out = [] }) piece) ((gone_kept n p).come w.conn.requests l w.acts piece h)
+    (hushed_came p l piece) (bytes_alike p l (hushed_link p l) [] [] piece (alike_hushed p l) refl).out
+bare_came n p w piece Dialing h = refl
+bare_came n p w piece Ended h = refl
+
+-- the shutdown
+bare_shut : (n p : ℕ) (w : Work) (life : Life) → At (There (IsGone n p)) w → bare n p (shut_at w life) ≡ shut_at (bare n p w) (hushed_life p life)
+bare_shut n p w (Ready l) h = bare_ended n p w _ _ h (close_alike p l (hushed_link p l) [] [] (alike_hushed p l) refl).out
+bare_shut n p w Dialing h = bare_ended n p w [] [] h refl
+bare_shut n p w Ended h = refl
+
+-- all news
+pub bare_applied : (n p : ℕ) (w : Work) (what : News) → At (There (IsGone n p)) w → bare n p (applied w what) ≡ applied (bare n p w) what
+bare_applied n p w silence h = refl
+bare_applied n p w connected h = bare_connected n p w w.conn.life
+bare_applied n p w (took count) h = bare_taken n p w count w.conn.life
+bare_applied n p w (came_news piece) h = bare_came n p w piece w.conn.life h
+bare_applied n p w (failed f) h = bare_failed n p w f w.conn.life h
+bare_applied n p w shut h = bare_shut n p w w.conn.life h
+
+-- requests
+--
+-- one more request
+pub bare_asked : (p : ℕ) (c : MultiplexedConnection) (name : ℕ) (packed : List ℕ) (shape : Shape) (awaited : Bool) → p < length c.requests
+    → bare_conn p (asked c name packed shape awaited) ≡ asked (bare_conn p c) name packed shape awaited
+bare_asked p c name packed shape awaited l =
+    let x : Request = record { name = name; progress = progress.Waiting } in
+    let r = progress_push c.requests p progress.Closed x l in
+    let k = sym (progress_count c.requests p progress.Closed) in
+    λ i. record (bare_conn p c) { requests = r i; waiting = c.waiting ++ waiting_of (k i) packed shape awaited ∷ []; fresh = c.fresh ++ k i ∷ [] }
+
+-- the cancel of request p itself
+own_life : (p : ℕ) (life : Life) → NoneQueued p life → hushed_life p (cancelled_in life p) ≡ hushed_life p life
+own_life p Dialing h = refl
+own_life p (Ready l) h = ap Ready (own_cancelled p l (none_leaves p l.queue h))
+own_life p Ended h = refl
+
+-- so nothing else changes
+pub own_left : (p : ℕ) (c : MultiplexedConnection) → NoneQueued p c.life → bare_conn p (left c p) ≡ bare_conn p c
+own_left p c none =
+    let r = progress_twice c.requests p progress.Closed progress.Closed in
+    let l = own_life p c.life none in
+    own_case (is_open_at c.requests p) (λ i. record c { requests = r i; life = l i })
+  where
+    own_case : (b : Bool) → bare_conn p (record c { requests = at_progress c.requests p progress.Closed; life = cancelled_in c.life p }) ≡ bare_conn p c
+        → bare_conn p (if b then record c { requests = at_progress c.requests p progress.Closed; life = cancelled_in c.life p } else c) ≡ bare_conn p c
+    own_case true e = e
+    own_case false e = refl
+
+-- the cancel of another request, on the link
+other_life : (p q : ℕ) (life : Life) → hushed_life p (cancelled_in life q) ≡ cancelled_in (hushed_life p life) q
+other_life p q Dialing = refl
+other_life p q (Ready l) = ap Ready (hushed_cancelled p q l)
+other_life p q Ended = refl
+
+-- and in the connection
+other_left : (p q : ℕ) (c : MultiplexedConnection) → q ≢ p → bare_conn p (left c q) ≡ left (bare_conn p c) q
+other_left p q c apart =
+    let r = progress_apart c.requests q p progress.Closed progress.Closed apart in
+    let l = other_life p q c.life in
+    either_by (bare_conn p) (is_open_at c.requests q) (is_open_at (at_progress c.requests p progress.Closed) q) _ c _ (bare_conn p c) (open_same c.requests p q apart)
+    (λ t. λ i. record c { requests = r i; life = l i })
+    (λ g. refl)
+
+-- request p is closed already
+left_stays : (p : ℕ) (c : MultiplexedConnection) → left (bare_conn p c) p ≡ bare_conn p c
+left_stays p c = left_if (is_open_at (at_progress c.requests p progress.Closed) p) _ (bare_conn p c) (own_closed c.requests p)
+
+-- any cancel
+pub bare_left : (p q : ℕ) (c : MultiplexedConnection) → NoneQueued p c.life → bare_conn p (left c q) ≡ left (bare_conn p c) q
+bare_left p q c none =
+    by_test (q == p) _
+    (λ t. let e = eq_from q p t in ap (λ (k : ℕ). bare_conn p (left c k)) e ∙ own_left p c none ∙ sym (left_stays p c) ∙ ap (left (bare_conn p c)) (sym e))
+    (λ f. other_left p q c (ne_from q p f))
 
 -- moves
 --
-bare_shown : (n : ℕ) (c : Connection) (ss : List Started) → bare n (shown_each c ss) ≡ shown_each (bare n c) ss
-bare_shown n c [] = refl
-bare_shown n c (s ∷ ss) =
-    let a = action.Start 0 s.msg (owner.Try s.id 0) s.need s.len in
-    bare_shown n (acts c a) ss ∙ ap (λ (xs : List Action). shown_each (record (bare n c) { acts = xs }) ss) (but_for-more n c.acts a)
+-- starts are shown by names, which stay
+bare_shown : (n p : ℕ) (w : Work) (ss : List Started) → bare n p (shown_each w ss) ≡ shown_each (bare n p w) ss
+bare_shown n p w [] = refl
+bare_shown n p w (s ∷ ss) =
+    let a = act.Start s.msg (name_at w.conn.requests s.id) s.need s.len in
+    bare_shown n p (acted w a) ss
+    ∙ ap (λ (x : Work). shown_each x ss) (bare_acted n p w a (λ m. refl)
+    ∙ ap (λ (m : ℕ). acted (bare n p w) (act.Start s.msg m s.need s.len)) (sym (name_stays w.conn.requests p s.id progress.Closed)))
 
-bare_started : (n : ℕ) (c : Connection) → At (There (IsGone n)) c → bare n (started c) ≡ started (bare n c)
-bare_started n c h =
-    let s : Starting = record { link = c.link; out = [] } in
-    let t = started_all s in
-    bare_shown n (record c { link = t.link }) t.out ∙ ap (starts_with (bare n c)) (hushed_started n s h.none)
+-- messages start
+bare_started_at : (n p : ℕ) (w : Work) (life : Life) → NoneQueued p life → bare n p (started_at w life) ≡ started_at (bare n p w) (hushed_life p life)
+bare_started_at n p w (Ready l) none =
+    let s = started_all (record { link = l; out = [] }) in
+    let t = started_all (record { link = hushed_link p l; out = [] }) in
+    let link = hushed_started p l none in
+    let out = (start_alike p l (hushed_link p l) [] (alike_hushed p l)).out in
+    bare_shown n p (with_link w s.link) s.out ∙ (λ i. starts_with (bare n p w) (record { link = link i; out = out i }))
+bare_started_at n p w Dialing none = refl
+bare_started_at n p w Ended none = refl
 
-bare_placed : (n : ℕ) (c : Connection) (w : Waiting) → w.number ≢ n → bare n (placed c w) ≡ placed (bare n c) w
-bare_placed n c w o = ap (λ (r : List Progress). record (bare n c) { requests = r; link = enqueued (hushed_link n c.link) (message_of w) }) (set_apart c.requests w.number n progress.Placed progress.Cancelled o)
+-- on the link that the connection has
+bare_started : (n p : ℕ) (w : Work) → At (There (IsGone n p)) w → bare n p (started w) ≡ started (bare n p w)
+bare_started n p w h = bare_started_at n p w w.conn.life h.none
 
-bare_told : (n : ℕ) (c : Connection) (w : Waiting) → bare n (told_at_place c w) ≡ told_at_place (bare n c) w
-bare_told n c w = either (bare n) w.awaited c (answered c w.number (outcome.One Nil)) (bare n c) (answered (bare n c) w.number (outcome.One Nil)) (λ t. refl) (λ f. bare_answered n c w.number (outcome.One Nil))
+-- a request takes its place
+bare_placed : (n p : ℕ) (w : Work) (q : Waiting) (l : LinkState) → q.number ≢ p → bare n p (placed_at w q (Ready l)) ≡ placed_at (bare n p w) q (Ready (hushed_link p l))
+bare_placed n p w q l o =
+    ap (λ (r : List Request). record (bare n p w) { conn = record (bare_conn p w.conn) { requests = r; life = Ready (enqueued (hushed_link p l) (message_of q)) } })
+    (progress_apart w.conn.requests q.number p progress.Placed progress.Closed o)
 
-bare_advanced : (n : ℕ) (c : Connection) (w : Waiting) → At (There (IsGone n)) c → bare n (advanced c w) ≡ advanced (bare n c) w
-bare_advanced n c w h =
-    let d = placed c w in
-    either_by (bare n) (is_waiting_at c.requests w.number) (is_waiting_at (slice_set c.requests n progress.Cancelled) w.number) (started (told_at_place d w)) c _ (bare n c) (waiting_same c.requests n w.number h.past)
+-- and is answered there, if nobody awaits its reply
+bare_told : (n p : ℕ) (w : Work) (q : Waiting) → At (There (IsGone n p)) w → bare n p (told_at_place w q) ≡ told_at_place (bare n p w) q
+bare_told n p w q h =
+    either (bare n p) q.awaited w (answered w q.number (outcome.One Nil)) (bare n p w) (answered (bare n p w) q.number (outcome.One Nil)) (λ t. refl) (λ f. bare_answered n p w q.number (outcome.One Nil) h)
+
+-- a request that waits is moved
+bare_moved_at : (n p : ℕ) (w : Work) (q : Waiting) (life : Life) → is_waiting_at w.conn.requests q.number ≡ true → IsGone n p w.conn.requests life → At (There (IsGone n p)) w
+    → bare n p (moved_at w q life) ≡ moved_at (bare n p w) q (hushed_life p life)
+bare_moved_at n p w q (Ready l) t g h =
+    let d = placed_at w q (Ready l) in
+    let k : At (There (IsGone n p)) d = (gone_kept n p).place w.conn.requests l w.acts q t g in
+    bare_started n p (told_at_place d q) (told_kept (gone_kept n p) d q k) ∙ ap started (bare_told n p d q k)
+    ∙ ap (λ (x : Work). started (told_at_place x q)) (bare_placed n p w q l (other_number w.conn.requests q.number p t g.past))
+bare_moved_at n p w q Ended t g h = bare_answered n p w q.number closed h
+bare_moved_at n p w q Dialing t g h = refl
+
+-- and any other stays
+bare_moved : (n p : ℕ) (w : Work) (q : Waiting) → At (There (IsGone n p)) w → bare n p (moved w q) ≡ moved (bare n p w) q
+bare_moved n p w q h =
+    either_by (bare n p) (is_waiting_at w.conn.requests q.number) (is_waiting_at (at_progress w.conn.requests p progress.Closed) q.number) (moved_at w q w.conn.life) w _ (bare n p w)
+    (waiting_same w.conn.requests p q.number h.past)
+    (λ t. bare_moved_at n p w q w.conn.life t h h)
+    (λ f. refl)
+
+-- whether requests can be moved doesn't depend on the row
+stuck_same : (p : ℕ) (life : Life) → is_stuck life ≡ is_stuck (hushed_life p life)
+stuck_same p Dialing = refl
+stuck_same p (Ready l) = refl
+stuck_same p Ended = refl
+
+-- all that wait are moved
+bare_moved_each : (n p : ℕ) (w : Work) (qs : List Waiting) → At (There (IsGone n p)) w → bare n p (moved_each w qs) ≡ moved_each (bare n p w) qs
+bare_moved_each n p w [] h = refl
+bare_moved_each n p w (q ∷ qs) h =
+    either_by (bare n p) (is_stuck w.conn.life) (is_stuck (hushed_life p w.conn.life)) _ _ _ _ (stuck_same p w.conn.life) (λ t. refl)
+    (λ f. bare_moved_each n p (moved w q) qs (moved_kept (gone_kept n p) w q h) ∙ ap (λ (x : Work). moved_each x qs) (bare_moved n p w q h))
+
+-- what a turn moves
+pub bare_passed : (n p : ℕ) (w : Work) → At (There (IsGone n p)) w → bare n p (passed w) ≡ passed (bare n p w)
+bare_passed n p w h =
+    let d = started w in
+    bare_moved_each n p (still_waiting d []) d.conn.waiting (started_kept (gone_kept n p) w h) ∙ ap moved_all (bare_started n p w h)
+
+-- what a turn ends with
+--
+-- bytes are offered
+bare_written_at : (n p : ℕ) (w : Work) (life : Life) → bare n p (written_at w life) ≡ written_at (bare n p w) (hushed_life p life)
+bare_written_at n p w (Ready l) =
+    either (bare n p) (can_offer l.outbox) _ w _ (bare n p w) (λ t. bare_acted n p (with_link w (offered_of l)) (act.Write l.outbox.unwritten) (λ m. refl)) (λ f. refl)
+bare_written_at n p w Dialing = refl
+bare_written_at n p w Ended = refl
+
+-- nor does it whether the connect is answered
+dialing_same : (p : ℕ) (life : Life) → is_dialing life ≡ is_dialing (hushed_life p life)
+dialing_same p Dialing = refl
+dialing_same p (Ready l) = refl
+dialing_same p Ended = refl
+
+-- a wait is shown
+bare_wait : (n p : ℕ) (w : Work) (q : ℕ) → At (There (IsGone n p)) w → bare n p (wait_shown w q) ≡ wait_shown (bare n p w) q
+bare_wait n p w q h =
+    either_by (bare n p) (is_waiting_at w.conn.requests q) (is_waiting_at (at_progress w.conn.requests p progress.Closed) q) _ w _ (bare n p w) (waiting_same w.conn.requests p q h.past)
     (λ t.
-    bare_started n (told_at_place d w) (told_kept (gone_kept n) d w ((gone_kept n).place c.requests c.link c.done c.acts w t h))
-    ∙ ap started (bare_told n d w)
-    ∙ ap (λ (x : Connection). started (told_at_place x w)) (bare_placed n c w (other_number c.requests n w.number t h.past)))
+    either_by (bare n p) (is_dialing w.conn.life) (is_dialing (hushed_life p w.conn.life)) _ w _ (bare n p w) (dialing_same p w.conn.life)
+    (λ u.
+    bare_acted n p w (act.Wait (name_at w.conn.requests q) wait.Connect) (λ m. refl)
+    ∙ ap (λ (m : ℕ). acted (bare n p w) (act.Wait m wait.Connect)) (sym (name_stays w.conn.requests p q progress.Closed)))
+    (λ f. refl))
     (λ f. refl)
 
-bare_advanced_each : (n : ℕ) (c : Connection) (ws : List Waiting) → At (There (IsGone n)) c → bare n (advanced_each c ws) ≡ advanced_each (bare n c) ws
-bare_advanced_each n c [] h = refl
-bare_advanced_each n c (w ∷ ws) h =
-    either (bare n) (is_full c.link) _ _ _ _ (λ t. refl)
-    (λ f. bare_advanced_each n (advanced c w) ws (advanced_kept (gone_kept n) c w h) ∙ ap (λ x. advanced_each x ws) (bare_advanced n c w h))
+-- all waits of a turn
+bare_waits : (n p : ℕ) (w : Work) (qs : List ℕ) → At (There (IsGone n p)) w → bare n p (waits_each w qs) ≡ waits_each (bare n p w) qs
+bare_waits n p w [] h = refl
+bare_waits n p w (q ∷ qs) h = bare_waits n p (wait_shown w q) qs (wait_kept (gone_kept n p) w q h) ∙ ap (λ (x : Work). waits_each x qs) (bare_wait n p w q h)
 
-bare_advanced_all : (n : ℕ) (c : Connection) → At (There (IsGone n)) c → bare n (advanced_all c) ≡ advanced_all (bare n c)
-bare_advanced_all n c h = bare_advanced_each n (record c { waiting = [] }) c.waiting h
-
-pub bare_passes : (n : ℕ) (c : Connection) → At (There (IsGone n)) c → bare n (passes c) ≡ passes (bare n c)
-bare_passes n c h =
-    either (bare n) (is_up c.phase) _ c _ (bare n c) (λ t. bare_advanced_all n (started c) (started_kept (gone_kept n) c h) ∙ ap advanced_all (bare_started n c h)) (λ f. refl)
-
-bare_writes : (n : ℕ) (c : Connection) → bare n (writes c) ≡ writes (bare n c)
-bare_writes n c =
-    either (bare n) (is_up c.phase) (offers c) c _ (bare n c)
-    (λ t. either (bare n) (can_offer c.link.outbox) _ c _ (bare n c)
-    (λ u. ap (λ (xs : List Action). record (bare n c) { acts = xs; link = offered_of (hushed_link n c.link) }) (but_for-more n c.acts (action.Write 0 c.link.outbox.unwritten))) (λ f. refl))
-    (λ f. refl)
-
-bare_wait : (n : ℕ) (c : Connection) (m : ℕ) → At (There (IsGone n)) c → bare n (waits_shown c m) ≡ waits_shown (bare n c) m
-bare_wait n c m h =
-    either_by (bare n) (is_waiting_at c.requests m) (is_waiting_at (slice_set c.requests n progress.Cancelled) m) _ c _ (bare n c) (waiting_same c.requests n m h.past)
-    (λ t. either (bare n) (is_dialing c.phase) _ c _ (bare n c) (λ u. ap (λ (xs : List Action). record (bare n c) { acts = xs }) (but_for-more n c.acts (action.Wait (owner.Try m 0) wait.Connect))) (λ f. refl))
-    (λ f. refl)
-
-bare_waits : (n : ℕ) (c : Connection) (ms : List ℕ) → At (There (IsGone n)) c → bare n (waits_each c ms) ≡ waits_each (bare n c) ms
-bare_waits n c [] h = refl
-bare_waits n c (m ∷ ms) h = bare_waits n (waits_shown c m) ms (waits_shown_kept (gone_kept n) c m h) ∙ ap (λ x. waits_each x ms) (bare_wait n c m h)
-
-pub bare_flushed : (n : ℕ) (c : Connection) → At (There (IsGone n)) c → bare n (flushed c) ≡ flushed (bare n c)
-bare_flushed n c h =
-    let d = writes c in
-    bare_waits n (record d { fresh = [] }) d.fresh (writes_kept (gone_kept n) c h) ∙ ap waits (bare_writes n c)
+-- what a turn ends with
+pub bare_flushed : (n p : ℕ) (w : Work) → At (There (IsGone n p)) w → bare n p (flushed w) ≡ flushed (bare n p w)
+bare_flushed n p w h =
+    let d = written w in
+    bare_waits n p (record d { conn = record d.conn { fresh = [] } }) d.conn.fresh (written_kept (gone_kept n p) w h) ∙ ap waits_shown (bare_written_at n p w w.conn.life)

@@ -1,98 +1,140 @@
--- A submission whose message has left the queue never waits again.
-use Rattle.std.proofs.Common.{◌≡◌, ◌≢◌, ℕ, zero, suc, ◌<◌, ◌==◌, ◌&&◌, Bool, true, false, List, [], ◌∷◌, ◌++◌, length, slice_set, if◌then◌else◌, refl, ap, ◌∙◌, arith, length-set, length-append}
-use Rattle.driver_model.specs.declared.event.EventKind.{EventKind}
-use Rattle.driver_model.specs.declared.event.EventKind.TheVariants as event
-use Rattle.link_core.specs.declared.message.Queued.{Queued}
-use Rattle.link_core.specs.Link.{LinkState, Starting, Settling, is_held_back, started_one, started_each}
-use Rattle.link_core.specs.Waiting.{awaits, without}
-use Rattle.shared_session.specs.declared.connection.Progress.{Progress}
-use Rattle.shared_session.specs.declared.connection.Progress.TheVariants as progress
-use Rattle.shared_session.specs.Requests.{is_waiting, is_waiting_at}
-use Rattle.shared_session.specs.Steps.{message_of}
-use Rattle.containers.proofs.Tests.{chosen, ne_test}
-use Rattle.cancel_laws.proofs.Links.{NoneOf}
-use Rattle.cancel_laws.proofs.Kept.{IsKept, IsKeptThere, There, kept_there, handed_in}
+-- A request whose message has left the queue never waits again, and where its verdict is not wanted, it never is again.
+use Rattle.std.proofs.Common.{◌≡◌, ◌≢◌, ℕ, ◌<◌, ◌==◌, ◌&&◌, Bool, false, List, [], ◌∷◌, ◌++◌, length, refl, sym, ap, ◌∙◌, subst, arith, length-append}
+use Rattle.containers.proofs.Tests.{ne_test}
+use Rattle.link_core.specs.declared.message.Entry.{Entry}
+use Rattle.mux_conn.specs.declared.life.Life.{Life}
+use Rattle.mux_conn.specs.declared.life.Life.TheVariants.{Dialing, Ready, Ended}
+use Rattle.mux_conn.specs.declared.request.Progress.{Progress}
+use Rattle.mux_conn.specs.declared.request.Progress.TheVariants as progress
+use Rattle.mux_conn.specs.declared.request.Request.{Request}
+use Rattle.mux_conn.specs.Requests.{is_waiting_at, at_progress}
+use Rattle.mux_conn.specs.Effects.{cancelled_in}
+use Rattle.mux_conn.specs.Passes.{message_of}
+use Rattle.cancel_laws.specs.ButFor.{hushed_life}
+use Rattle.cancel_laws.proofs.Requests.{names, names_stay, names_push, progress_count, past_set, past_push, other_number}
+use Rattle.cancel_laws.proofs.Names.{IsOwn, own_push}
+use Rattle.cancel_laws.proofs.Links.{NoneOf, NoneWanted, none_push, none_without, none_started, none_came, quiet_starts, quiet_came, quiet_silenced, quiet_stays}
+use Rattle.cancel_laws.proofs.Kept.{IsKept, IsKeptThere, There, kept_there, CanAsk}
 
--- it is handed in, doesn't wait for its place, and isn't in the queue
-pub record IsGone (n : ℕ) (r : List Progress) (l : LinkState) : Type 0 where
-  pub there : n < length r
-  pub past : is_waiting_at r n ≡ false
-  pub none : NoneOf n l.queue
+-- nobody awaits message p in the queue of a link that is up
+abbrev pub NoneQueued : ℕ → Life → Type 0
+NoneQueued p Dialing = Unit {0}
+NoneQueued p (Ready l) = NoneOf p l.queue
+NoneQueued p Ended = Unit {0}
 
--- the queue
+-- nor in its row
+abbrev pub NoneInRow : ℕ → Life → Type 0
+NoneInRow p Dialing = Unit {0}
+NoneInRow p (Ready l) = NoneWanted p l.row
+NoneInRow p Ended = Unit {0}
+
+-- request p has the name n, doesn't wait for its place, and isn't in the queue
+pub record IsGone (n p : ℕ) (r : List Request) (life : Life) : Type 0 where
+  pub there : p < length r
+  pub own : IsOwn n p (names r)
+  pub past : is_waiting_at r p ≡ false
+  pub none : NoneQueued p life
+
+-- a change of progress
 --
-none_push : (n : ℕ) (queue : List Queued) (q : Queued) → NoneOf n queue → awaits n q ≡ false → NoneOf n (queue ++ q ∷ [])
-none_push n [] q h e = (e, tt)
-none_push n (x ∷ xs) q h e = (h.0, none_push n xs q h.1 e)
+-- names stay with their requests
+pub own_kept : (n p : ℕ) (r : List Request) (q : ℕ) (now : Progress) → IsOwn n p (names r) → IsOwn n p (names (at_progress r q now))
+own_kept n p r q now h = subst (IsOwn n p) (sym (names_stay r q now)) h
 
-none_without : (n m : ℕ) (queue : List Queued) → NoneOf n queue → NoneOf n (without queue m)
-none_without n m [] h = tt
-none_without n m (q ∷ qs) h = chosen (NoneOf n) (awaits m q) _ _ (λ t. h.1) (λ f. (h.0, none_without n m qs h.1))
+-- and requests stay
+pub within_kept : (r : List Request) (p q : ℕ) (now : Progress) → p < length r → p < length (at_progress r q now)
+within_kept r p q now l = omega (arith, progress_count r q now)
 
-none_started : (n : ℕ) (s : Starting) (queue : List Queued) → NoneOf n queue → NoneOf n (started_each s queue).link.queue
-none_started n s [] h = tt
-none_started n s (q ∷ qs) h = chosen (λ (x : Starting). NoneOf n x.link.queue) (is_held_back s.link) _ _ (λ t. h) (λ f. none_started n (started_one s q) qs h.1)
+-- a cancel puts nothing into the queue
+none_cancelled : (p q : ℕ) (life : Life) → NoneQueued p life → NoneQueued p (cancelled_in life q)
+none_cancelled p q Dialing h = h
+none_cancelled p q (Ready l) h = none_without p q l.queue h
+none_cancelled p q Ended h = h
 
-one_less : (n : ℕ) (q : Queued) (qs : List Queued) (b : Bool) → (if b then qs else q ∷ without qs n) ≡ q ∷ qs → (b ≡ false) × (without qs n ≡ qs)
-one_less n q qs true e = absurd (let l : length qs ≡ length (q ∷ qs) = ap length e in omega arith)
-one_less n q qs false e = (refl, cc)
+-- a message of another request is another one
+not_awaited : (p q : ℕ) (awaited : Bool) → q ≢ p → ((q == p) && awaited) ≡ false
+not_awaited p q awaited o = ap (λ (b : Bool). b && awaited) (ne_test q p o)
 
--- what a cancel would leave as it is has no such message
-pub none_from : (n : ℕ) (queue : List Queued) → without queue n ≡ queue → NoneOf n queue
-none_from n [] e = tt
-none_from n (q ∷ qs) e = let h = one_less n q qs (awaits n q) e in (h.0, none_from n qs h.1)
-
--- progress
---
-pub past_set : (r : List Progress) (n m : ℕ) (p : Progress) → is_waiting p ≡ false → is_waiting_at r n ≡ false → is_waiting_at (slice_set r m p) n ≡ false
-past_set [] n m p e h = h
-past_set (x ∷ xs) zero zero p e h = e
-past_set (x ∷ xs) zero (suc m) p e h = h
-past_set (x ∷ xs) (suc n) zero p e h = h
-past_set (x ∷ xs) (suc n) (suc m) p e h = past_set xs n m p e h
-
-past_push : (r : List Progress) (n : ℕ) (p : Progress) → n < length r → is_waiting_at (r ++ p ∷ []) n ≡ is_waiting_at r n
-past_push [] n p l = absurd (omega arith)
-past_push (x ∷ xs) zero p l = refl
-past_push (x ∷ xs) (suc n) p l = past_push xs n p (omega arith)
-
-within_set : (r : List Progress) (n m : ℕ) (p : Progress) → n < length r → n < length (slice_set r m p)
-within_set r n m p l = omega (arith, length-set r m p)
-
-pub other_number : (r : List Progress) (n m : ℕ) → is_waiting_at r m ≡ true → is_waiting_at r n ≡ false → m ≢ n
-other_number r n m t f = λ e. let same : is_waiting_at r m ≡ is_waiting_at r n = ap (is_waiting_at r) e in cc
-
-not_awaited : (n m : ℕ) (awaited : Bool) → m ≢ n → ((m == n) && awaited) ≡ false
-not_awaited n m awaited o = ap (λ b. b && awaited) (ne_test m n o)
-
-pub gone_there : (n : ℕ) → IsKeptThere (IsGone n)
-gone_there n = record {
-  answer = λ r l m h. record { there = within_set r n m progress.Answered h.there; past = past_set r n m progress.Answered refl h.past; none = h.none };
-  cancel = λ r l m h. record { there = within_set r n m progress.Cancelled h.there; past = past_set r n m progress.Cancelled refl h.past; none = none_without n m l.queue h.none };
-  place = λ r l w t h. record {
-    there = within_set r n w.number progress.Placed h.there;
-    past = past_set r n w.number progress.Placed refl h.past;
-    none = none_push n l.queue (message_of w) h.none (not_awaited n w.number w.awaited (other_number r n w.number t h.past));
+-- each single change keeps that
+gone_there : (n p : ℕ) → IsKeptThere (IsGone n p)
+gone_there n p = record {
+  answer = λ r life q h. record { there = within_kept r p q progress.Closed h.there; own = own_kept n p r q progress.Closed h.own; past = past_set r q p progress.Closed refl h.past; none = h.none };
+  cancel = λ r life q h. record {
+    there = within_kept r p q progress.Closed h.there;
+    own = own_kept n p r q progress.Closed h.own;
+    past = past_set r q p progress.Closed refl h.past;
+    none = none_cancelled p q life h.none;
   };
-  start = λ r l h. record { there = h.there; past = h.past; none = none_started n (record { link = l; out = [] }) l.queue h.none };
-  offer = λ r l h. record { there = h.there; past = h.past; none = h.none };
-  write = λ r l k h. record { there = h.there; past = h.past; none = h.none };
-  come = λ r l piece h. record { there = h.there; past = h.past; none = chosen (λ (x : Settling). NoneOf n x.link.queue) l.broken _ _ (λ t. h.none) (λ f. h.none) };
-  fail = λ r l f h. record { there = h.there; past = h.past; none = tt };
-  close = λ r l h. record { there = h.there; past = h.past; none = tt };
+  connect = λ r h. record { there = h.there; own = h.own; past = h.past; none = tt };
+  place = λ r l q t h. record {
+    there = within_kept r p q.number progress.Placed h.there;
+    own = own_kept n p r q.number progress.Placed h.own;
+    past = past_set r q.number p progress.Placed refl h.past;
+    none = none_push p l.queue (message_of q) h.none (not_awaited p q.number q.awaited (other_number r q.number p t h.past));
+  };
+  start = λ r l h. record { there = h.there; own = h.own; past = h.past; none = none_started p (record { link = l; out = [] }) l.queue h.none };
+  offer = λ r l h. record { there = h.there; own = h.own; past = h.past; none = h.none };
+  write = λ r l k h. record { there = h.there; own = h.own; past = h.past; none = h.none };
+  come = λ r l piece h. record { there = h.there; own = h.own; past = h.past; none = none_came p l piece h.none };
+  end = λ r life h. record { there = h.there; own = h.own; past = h.past; none = tt };
 }
 
-pub gone_kept : (n : ℕ) → IsKept (There (IsGone n))
-gone_kept n = kept_there (gone_there n)
+-- so each part of a turn does
+pub gone_kept : (n p : ℕ) → IsKept (There (IsGone n p))
+gone_kept n p = kept_there (gone_there n p)
 
--- and one more submission changes nothing of that
-pub gone_handed_in : (n : ℕ) (kind : EventKind) (r : List Progress) (l : LinkState) → IsGone n r l → IsGone n (handed_in kind r) l
-gone_handed_in n (event.Submit s) r l h = record { there = omega (arith, h.there, length-append r (progress.Waiting ∷ [])); past = past_push r n progress.Waiting h.there ∙ h.past; none = h.none }
-gone_handed_in n (event.Cancel m) r l h = h
-gone_handed_in n (event.Connected m) r l h = h
-gone_handed_in n (event.Wrote m k) r l h = h
-gone_handed_in n (event.Bytes m piece) r l h = h
-gone_handed_in n (event.Ended m) r l h = h
-gone_handed_in n (event.ReadFault m kind) r l h = h
-gone_handed_in n (event.WriteFault m kind) r l h = h
-gone_handed_in n event.Shutdown r l h = h
+-- one more request, of another name
+gone_asked : (n p m : ℕ) (r : List Request) (life : Life) → m ≢ n → IsGone n p r life → IsGone n p (r ++ record { name = m; progress = progress.Waiting } ∷ []) life
+gone_asked n p m r life o h =
+    let x : Request = record { name = m; progress = progress.Waiting } in
+    record {
+      there = omega (arith, h.there, length-append r (x ∷ []));
+      own = subst (IsOwn n p) (sym (names_push r x)) (own_push n p m (names r) o h.own);
+      past = past_push r p x h.there ∙ h.past;
+      none = h.none;
+    }
+
+-- and one more submission does
+pub gone_asks : (n p m : ℕ) → m ≢ n → CanAsk (There (IsGone n p)) m
+gone_asks n p m o = record { ask = λ r life xs h. gone_asked n p m r life o h; refuse = λ r life xs x h. h }
+
+-- where its verdict is not wanted
+--
+-- that request, where nobody awaits its message in the row either
+pub record IsHushed (n p : ℕ) (r : List Request) (life : Life) : Type 0 where
+  pub gone : IsGone n p r life
+  pub quiet : NoneInRow p life
+
+-- a cancel makes nobody await a message
+quiet_cancelled : (p q : ℕ) (life : Life) → NoneInRow p life → NoneInRow p (cancelled_in life q)
+quiet_cancelled p q Dialing h = h
+quiet_cancelled p q (Ready l) h = quiet_silenced p q l.row h
+quiet_cancelled p q Ended h = h
+
+-- each single change keeps that too
+hushed_there : (n p : ℕ) → IsKeptThere (IsHushed n p)
+hushed_there n p = record {
+  answer = λ r life q h. record { gone = (gone_there n p).answer r life q h.gone; quiet = h.quiet };
+  cancel = λ r life q h. record { gone = (gone_there n p).cancel r life q h.gone; quiet = quiet_cancelled p q life h.quiet };
+  connect = λ r h. record { gone = (gone_there n p).connect r h.gone; quiet = tt };
+  place = λ r l q t h. record { gone = (gone_there n p).place r l q t h.gone; quiet = h.quiet };
+  start = λ r l h. record { gone = (gone_there n p).start r l h.gone; quiet = quiet_starts p (record { link = l; out = [] }) l.queue h.gone.none h.quiet };
+  offer = λ r l h. record { gone = (gone_there n p).offer r l h.gone; quiet = h.quiet };
+  write = λ r l k h. record { gone = (gone_there n p).write r l k h.gone; quiet = h.quiet };
+  come = λ r l piece h. record { gone = (gone_there n p).come r l piece h.gone; quiet = quiet_came p l piece h.quiet };
+  end = λ r life h. record { gone = (gone_there n p).end r life h.gone; quiet = tt };
+}
+
+-- so each part of a turn does
+pub hushed_kept : (n p : ℕ) → IsKept (There (IsHushed n p))
+hushed_kept n p = kept_there (hushed_there n p)
+
+-- and one more submission does
+pub hushed_asks : (n p m : ℕ) → m ≢ n → CanAsk (There (IsHushed n p)) m
+hushed_asks n p m o = record { ask = λ r life xs h. record { gone = gone_asked n p m r life o h.gone; quiet = h.quiet }; refuse = λ r life xs x h. h }
+
+-- where nobody awaits it, its verdict is not wanted
+pub quiet_life : (p : ℕ) (life : Life) → NoneInRow p life → hushed_life p life ≡ life
+quiet_life p Dialing h = refl
+quiet_life p (Ready l) h = ap (λ (row : List Entry). Ready (record l { row = row })) (quiet_stays p l.row h)
+quiet_life p Ended h = refl

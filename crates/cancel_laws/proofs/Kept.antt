@@ -1,206 +1,305 @@
--- What each part of a turn keeps: a fact of the submissions' progress, of the link, and of what the turn has shown.
-use Rattle.std.proofs.Common.{◌≡◌, ℕ, ◌==◌, true, List, [], ◌∷◌, ◌++◌, length, slice_set, refl}
+-- What each part of a turn keeps: a fact of the requests, of the link's life, and of what the turn has shown.
+use Rattle.std.proofs.Common.{◌≡◌, ℕ, ◌==◌, true, List, [], ◌∷◌, ◌++◌, length, Option, Some, None, slice_get, if◌then◌else◌, refl}
+use Rattle.containers.proofs.Tests.{chosen}
 use Rattle.redis_error.specs.declared.redis_error.RedisError.TheVariants as error
 use Rattle.resp_value.specs.declared.value.Value.TheVariants.{Nil}
-use Rattle.driver_model.specs.declared.action.Action.{Action}
-use Rattle.driver_model.specs.declared.action.Action.TheVariants as action
-use Rattle.driver_model.specs.declared.action.Cause.TheVariants as cause
-use Rattle.driver_model.specs.declared.action.Owner.TheVariants as owner
 use Rattle.driver_model.specs.declared.action.WaitKind.TheVariants as wait
-use Rattle.driver_model.specs.declared.event.Event.{Event}
 use Rattle.driver_model.specs.declared.event.EventKind.{EventKind}
 use Rattle.driver_model.specs.declared.event.EventKind.TheVariants as event
 use Rattle.driver_model.specs.declared.event.Submission.{Submission}
-use Rattle.driver_model.specs.declared.outcome.Outcome.{Outcome}
-use Rattle.driver_model.specs.declared.outcome.Outcome.TheVariants as outcome
-use Rattle.driver_model.specs.Shape.{outcome_of}
-use Rattle.driver_model.specs.Request.{packed}
 use Rattle.driver_model.specs.declared.news.LinkFault.{LinkFault}
 use Rattle.driver_model.specs.declared.news.LinkFault.TheVariants as fault
+use Rattle.driver_model.specs.declared.outcome.Outcome.{Outcome}
+use Rattle.driver_model.specs.declared.outcome.Outcome.TheVariants as outcome
+use Rattle.driver_model.specs.News.{News, news, silence, connected, took, failed, shut}
+use Rattle.driver_model.specs.News.{came as came_news}
+use Rattle.driver_model.specs.Request.{packed}
+use Rattle.driver_model.specs.Shape.{outcome_of}
 use Rattle.link_core.specs.declared.message.Settled.{Settled}
 use Rattle.link_core.specs.declared.message.Started.{Started}
-use Rattle.link_core.specs.Link.{LinkState, Settling, is_full, enqueued, started_all, offered_of, wrote_of, cancelled, came, faulted, closed_all}
+use Rattle.link_core.specs.Link.{LinkState, Settling, enqueued, started_all, offered_of, wrote_of, came, faulted, closed_all}
 use Rattle.link_core.specs.Outbox.{can_offer}
-use Rattle.shared_session.specs.declared.connection.Connection.{Connection}
-use Rattle.shared_session.specs.declared.connection.Done.{Done}
-use Rattle.shared_session.specs.declared.connection.Phase.TheVariants as phase
-use Rattle.shared_session.specs.declared.connection.Progress.{Progress}
-use Rattle.shared_session.specs.declared.connection.Progress.TheVariants as progress
-use Rattle.shared_session.specs.declared.connection.Waiting.{Waiting}
+use Rattle.mux_conn.specs.declared.act.LinkAct.{LinkAct}
+use Rattle.mux_conn.specs.declared.act.LinkAct.TheVariants as act
+use Rattle.mux_conn.specs.declared.connection.MultiplexedConnection.{MultiplexedConnection}
+use Rattle.mux_conn.specs.declared.life.Life.{Life}
+use Rattle.mux_conn.specs.declared.life.Life.TheVariants.{Dialing, Ready, Ended}
+use Rattle.mux_conn.specs.declared.request.Pending.{Pending}
+use Rattle.mux_conn.specs.declared.request.Progress.TheVariants as progress
+use Rattle.mux_conn.specs.declared.request.Request.{Request}
+use Rattle.mux_conn.specs.declared.request.Waiting.{Waiting}
+use Rattle.mux_conn.specs.Connection.{Work, acted, at_life, with_link, is_dialing, is_stuck}
+use Rattle.mux_conn.specs.Requests.{is_open_at, is_waiting_at, name_at, at_progress, answered}
+use Rattle.mux_conn.specs.Effects.{new_link, settled_each, closed, closed_each, ended, connected_at, taken_at, failed_at, read_to, read_at, shut_at, applied, cancelled_in, left}
+use Rattle.mux_conn.specs.Passes.{shown_each, started_at, started, message_of, placed_at, told_at_place, moved_at, moved, still_waiting, moved_each, passed}
+use Rattle.mux_conn.specs.Turn.{written_at, written, wait_shown, waits_each, flushed}
 use Rattle.shared_session.specs.declared.core_state.Core.{Core}
-use Rattle.shared_session.specs.Requests.{is_open_at, is_waiting_at}
-use Rattle.shared_session.specs.Steps.{acts, is_dialing, is_up, is_ended, answered, settled_each, closed, closed_each, ends, ended_by, checked, read_to, faulted_by, shown_each, started, message_of, placed, told_at_place, advanced, advanced_each, advanced_all, passes, offers, writes, waits_shown, waits_each, flushed}
-use Rattle.shared_session.specs.Turn.{applied, turn}
-use Rattle.cancel_laws.specs.ButFor.{unnumbered, shown_of}
-use Rattle.containers.proofs.Tests.{chosen}
+use Rattle.shared_session.specs.Turn.{Turning, work_of, heard, counted, submitted, left_by, requested, effect, turn}
 
--- an action that begins no turn and answers nobody
-pub record IsPlain (a : Action) : Type 0 where
-  pub shown : (n : ℕ) → shown_of n a ≡ a ∷ []
-  pub numberless : unnumbered a ≡ a
+-- what an act shows, if it is not the outcome of submission n
+abbrev pub other_act : ℕ → LinkAct → List LinkAct
+other_act n act.Created = act.Created ∷ []
+other_act n act.Close = act.Close ∷ []
+other_act n (act.Write bytes) = act.Write bytes ∷ []
+other_act n (act.Wait m kind) = act.Wait m kind ∷ []
+other_act n (act.Start message m need len) = act.Start message m need len ∷ []
+other_act n (act.Outcome m o) = if m == n then [] else act.Outcome m o ∷ []
 
--- a fact of the progress, the link, and the outcomes and actions of a turn, that each single change keeps
-pub record IsKept (P : List Progress → LinkState → List Done → List Action → Type 0) : Type 0 where
-  pub answer : (r : List Progress) (l : LinkState) (ds : List Done) (xs : List Action) (m : ℕ) (o : Outcome) → is_open_at r m ≡ true → P r l ds xs
-      → P (slice_set r m progress.Answered) l (ds ++ record { submission = m; outcome = o } ∷ []) (xs ++ action.Outcome m o ∷ [])
-  pub cancel : (r : List Progress) (l : LinkState) (ds : List Done) (xs : List Action) (m : ℕ) → is_open_at r m ≡ true → P r l ds xs → P (slice_set r m progress.Cancelled) (cancelled l m) ds xs
-  pub place : (r : List Progress) (l : LinkState) (ds : List Done) (xs : List Action) (w : Waiting) → is_waiting_at r w.number ≡ true → P r l ds xs → P (slice_set r w.number progress.Placed) (enqueued l (message_of w)) ds xs
-  pub start : (r : List Progress) (l : LinkState) (ds : List Done) (xs : List Action) → P r l ds xs → P r (started_all (record { link = l; out = [] })).link ds xs
-  pub offer : (r : List Progress) (l : LinkState) (ds : List Done) (xs : List Action) → P r l ds xs → P r (offered_of l) ds xs
-  pub write : (r : List Progress) (l : LinkState) (ds : List Done) (xs : List Action) (k : ℕ) → P r l ds xs → P r (wrote_of l k) ds xs
-  pub come : (r : List Progress) (l : LinkState) (ds : List Done) (xs : List Action) (piece : List ℕ) → P r l ds xs → P r (came (record { link = l; out = [] }) piece).link ds xs
-  pub fail : (r : List Progress) (l : LinkState) (ds : List Done) (xs : List Action) (f : LinkFault) → P r l ds xs → P r (faulted (record { link = l; out = [] }) f).link ds xs
-  pub close : (r : List Progress) (l : LinkState) (ds : List Done) (xs : List Action) → P r l ds xs → P r (closed_all (record { link = l; out = [] })).link ds xs
-  pub show : (r : List Progress) (l : LinkState) (ds : List Done) (xs : List Action) (a : Action) → IsPlain a → P r l ds xs → P r l ds (xs ++ a ∷ [])
+-- an act that answers nobody
+abbrev pub IsPlain : LinkAct → Type 0
+IsPlain a = (n : ℕ) → other_act n a ≡ a ∷ []
 
--- the same of the progress and the link alone
-pub record IsKeptThere (P : List Progress → LinkState → Type 0) : Type 0 where
-  pub answer : (r : List Progress) (l : LinkState) (m : ℕ) → P r l → P (slice_set r m progress.Answered) l
-  pub cancel : (r : List Progress) (l : LinkState) (m : ℕ) → P r l → P (slice_set r m progress.Cancelled) (cancelled l m)
-  pub place : (r : List Progress) (l : LinkState) (w : Waiting) → is_waiting_at r w.number ≡ true → P r l → P (slice_set r w.number progress.Placed) (enqueued l (message_of w))
-  pub start : (r : List Progress) (l : LinkState) → P r l → P r (started_all (record { link = l; out = [] })).link
-  pub offer : (r : List Progress) (l : LinkState) → P r l → P r (offered_of l)
-  pub write : (r : List Progress) (l : LinkState) (k : ℕ) → P r l → P r (wrote_of l k)
-  pub come : (r : List Progress) (l : LinkState) (piece : List ℕ) → P r l → P r (came (record { link = l; out = [] }) piece).link
-  pub fail : (r : List Progress) (l : LinkState) (f : LinkFault) → P r l → P r (faulted (record { link = l; out = [] }) f).link
-  pub close : (r : List Progress) (l : LinkState) → P r l → P r (closed_all (record { link = l; out = [] })).link
+-- a fact of the requests, of the link's life, and of the acts of a turn, that each single change keeps
+pub record IsKept (P : List Request → Life → List LinkAct → Type 0) : Type 0 where
+  pub answer : (r : List Request) (life : Life) (xs : List LinkAct) (q : ℕ) (o : Outcome) → is_open_at r q ≡ true → P r life xs → P (at_progress r q progress.Closed) life (xs ++ act.Outcome (name_at r q) o ∷ [])
+  pub cancel : (r : List Request) (life : Life) (xs : List LinkAct) (q : ℕ) → is_open_at r q ≡ true → P r life xs → P (at_progress r q progress.Closed) (cancelled_in life q) xs
+  pub connect : (r : List Request) (xs : List LinkAct) → P r Dialing xs → P r (Ready new_link) xs
+  pub place : (r : List Request) (l : LinkState) (xs : List LinkAct) (q : Waiting) → is_waiting_at r q.number ≡ true → P r (Ready l) xs → P (at_progress r q.number progress.Placed) (Ready (enqueued l (message_of q))) xs
+  pub start : (r : List Request) (l : LinkState) (xs : List LinkAct) → P r (Ready l) xs → P r (Ready (started_all (record { link = l; out = [] })).link) xs
+  pub offer : (r : List Request) (l : LinkState) (xs : List LinkAct) → P r (Ready l) xs → P r (Ready (offered_of l)) xs
+  pub write : (r : List Request) (l : LinkState) (xs : List LinkAct) (k : ℕ) → P r (Ready l) xs → P r (Ready (wrote_of l k)) xs
+  pub come : (r : List Request) (l : LinkState) (xs : List LinkAct) (piece : List ℕ) → P r (Ready l) xs → P r (Ready (came (record { link = l; out = [] }) piece).link) xs
+  pub end : (r : List Request) (life : Life) (xs : List LinkAct) → P r life xs → P r Ended xs
+  pub show : (r : List Request) (life : Life) (xs : List LinkAct) (a : LinkAct) → IsPlain a → P r life xs → P r life (xs ++ a ∷ [])
 
-abbrev pub There : (List Progress → LinkState → Type 0) → List Progress → LinkState → List Done → List Action → Type 0
-There P r l ds xs = P r l
+-- the same of the requests and the life alone
+pub record IsKeptThere (P : List Request → Life → Type 0) : Type 0 where
+  pub answer : (r : List Request) (life : Life) (q : ℕ) → P r life → P (at_progress r q progress.Closed) life
+  pub cancel : (r : List Request) (life : Life) (q : ℕ) → P r life → P (at_progress r q progress.Closed) (cancelled_in life q)
+  pub connect : (r : List Request) → P r Dialing → P r (Ready new_link)
+  pub place : (r : List Request) (l : LinkState) (q : Waiting) → is_waiting_at r q.number ≡ true → P r (Ready l) → P (at_progress r q.number progress.Placed) (Ready (enqueued l (message_of q)))
+  pub start : (r : List Request) (l : LinkState) → P r (Ready l) → P r (Ready (started_all (record { link = l; out = [] })).link)
+  pub offer : (r : List Request) (l : LinkState) → P r (Ready l) → P r (Ready (offered_of l))
+  pub write : (r : List Request) (l : LinkState) (k : ℕ) → P r (Ready l) → P r (Ready (wrote_of l k))
+  pub come : (r : List Request) (l : LinkState) (piece : List ℕ) → P r (Ready l) → P r (Ready (came (record { link = l; out = [] }) piece).link)
+  pub end : (r : List Request) (life : Life) → P r life → P r Ended
 
-pub kept_there : {P : List Progress → LinkState → Type 0} → IsKeptThere P → IsKept (There P)
+-- a fact of the requests and the life, whatever a turn has shown
+abbrev pub There : (List Request → Life → Type 0) → List Request → Life → List LinkAct → Type 0
+There P r life xs = P r life
+
+-- it is kept where its parts are
+pub kept_there : {P : List Request → Life → Type 0} → IsKeptThere P → IsKept (There P)
 kept_there k = record {
-  answer = λ r l ds xs m o t h. k.answer r l m h;
-  cancel = λ r l ds xs m t h. k.cancel r l m h;
-  place = λ r l ds xs w t h. k.place r l w t h;
-  start = λ r l ds xs h. k.start r l h;
-  offer = λ r l ds xs h. k.offer r l h;
-  write = λ r l ds xs n h. k.write r l n h;
-  come = λ r l ds xs piece h. k.come r l piece h;
-  fail = λ r l ds xs f h. k.fail r l f h;
-  close = λ r l ds xs h. k.close r l h;
-  show = λ r l ds xs a p h. h;
+  answer = λ r life xs q o t h. k.answer r life q h;
+  cancel = λ r life xs q t h. k.cancel r life q h;
+  connect = λ r xs h. k.connect r h;
+  place = λ r l xs q t h. k.place r l q t h;
+  start = λ r l xs h. k.start r l h;
+  offer = λ r l xs h. k.offer r l h;
+  write = λ r l xs n h. k.write r l n h;
+  come = λ r l xs piece h. k.come r l piece h;
+  end = λ r life xs h. k.end r life h;
+  show = λ r life xs a p h. h;
 }
 
--- the submissions with the one that an event hands in
-abbrev pub handed_in : EventKind → List Progress → List Progress
-handed_in (event.Submit s) r = r ++ progress.Waiting ∷ []
-handed_in (event.Cancel n) r = r
-handed_in (event.Connected l) r = r
-handed_in (event.Wrote l n) r = r
-handed_in (event.Bytes l piece) r = r
-handed_in (event.Ended l) r = r
-handed_in (event.ReadFault l kind) r = r
-handed_in (event.WriteFault l kind) r = r
-handed_in event.Shutdown r = r
+-- the fact where a turn stands
+abbrev pub At : (List Request → Life → List LinkAct → Type 0) → Work → Type 0
+At P w = P w.conn.requests w.conn.life w.acts
 
-abbrev pub At : (List Progress → LinkState → List Done → List Action → Type 0) → Connection → Type 0
-At P c = P c.requests c.link c.done c.acts
+-- answers
+--
+-- an answer
+pub answered_kept : {P : List Request → Life → List LinkAct → Type 0} → IsKept P → (w : Work) (q : ℕ) (o : Outcome) → At P w → At P (answered w q o)
+answered_kept {P = P} k w q o h = chosen (At P) (is_open_at w.conn.requests q) _ w (λ t. k.answer w.conn.requests w.conn.life w.acts q o t h) (λ f. h)
 
-pub answered_kept : {P : List Progress → LinkState → List Done → List Action → Type 0} → IsKept P → (c : Connection) (n : ℕ) (o : Outcome) → At P c → At P (answered c n o)
-answered_kept {P = P} k c n o h = chosen (At P) (is_open_at c.requests n) _ c (λ t. k.answer c.requests c.link c.done c.acts n o t h) (λ f. h)
+-- what the link settled
+pub settled_kept : {P : List Request → Life → List LinkAct → Type 0} → IsKept P → (w : Work) (ss : List Settled) → At P w → At P (settled_each w ss)
+settled_kept k w [] h = h
+settled_kept k w (s ∷ ss) h = settled_kept k (answered w s.id (outcome_of s.verdict)) ss (answered_kept k w s.id (outcome_of s.verdict) h)
 
-pub settled_kept : {P : List Progress → LinkState → List Done → List Action → Type 0} → IsKept P → (c : Connection) (ss : List Settled) → At P c → At P (settled_each c ss)
-settled_kept k c [] h = h
-settled_kept k c (s ∷ ss) h = settled_kept k (answered c s.id (outcome_of s.verdict)) ss (answered_kept k c s.id (outcome_of s.verdict) h)
+-- those that wait, on a link that has ended
+closed_kept : {P : List Request → Life → List LinkAct → Type 0} → IsKept P → (w : Work) (qs : List Waiting) → At P w → At P (closed_each w qs)
+closed_kept k w [] h = h
+closed_kept k w (q ∷ qs) h = closed_kept k (answered w q.number closed) qs (answered_kept k w q.number closed h)
 
-closed_kept : {P : List Progress → LinkState → List Done → List Action → Type 0} → IsKept P → (c : Connection) (ws : List Waiting) → At P c → At P (closed_each c ws)
-closed_kept k c [] h = h
-closed_kept k c (w ∷ ws) h = closed_kept k (answered c w.number closed) ws (answered_kept k c w.number closed h)
+-- the link is over
+pub over_kept : {P : List Request → Life → List LinkAct → Type 0} → IsKept P → (w : Work) → At P w → At P (acted (at_life w Ended) act.Close)
+over_kept k w h = k.show w.conn.requests Ended w.acts act.Close (λ n. refl) (k.end w.conn.requests w.conn.life w.acts h)
 
-ends_kept : {P : List Progress → LinkState → List Done → List Action → Type 0} → IsKept P → (c : Connection) (s : Settling) → P c.requests s.link c.done c.acts → At P (ends c s)
-ends_kept k c s h =
-    let d = record (acts (record c { phase = phase.Ended }) (action.Close 0)) { link = s.link } in
-    let e = settled_each d s.out in
-    closed_kept k (record e { waiting = [] }) e.waiting (settled_kept k d s.out (k.show c.requests s.link c.done c.acts (action.Close 0) (record { shown = λ n. refl; numberless = refl }) h))
+-- the end of the link
+ended_kept : {P : List Request → Life → List LinkAct → Type 0} → IsKept P → (w : Work) (out : List Settled) → At P w → At P (ended w out)
+ended_kept k w out h =
+    let d = acted (at_life w Ended) act.Close in
+    let e = settled_each d out in
+    closed_kept k (record e { conn = record e.conn { waiting = [] } }) e.conn.waiting (settled_kept k d out (over_kept k w h))
 
-ended_kept : {P : List Progress → LinkState → List Done → List Action → Type 0} → IsKept P → (c : Connection) (f : LinkFault) → At P c → At P (ended_by c f)
-ended_kept k c f h = ends_kept k c (faulted (record { link = c.link; out = [] }) f) (k.fail c.requests c.link c.done c.acts f h)
+-- news
+--
+-- a function of the life that a connection has is looked at with any life of which the fact is true
+connected_kept : {P : List Request → Life → List LinkAct → Type 0} → IsKept P → (w : Work) (life : Life) → P w.conn.requests life w.acts → At P w → At P (connected_at w life)
+connected_kept k w Dialing g h = k.show w.conn.requests (Ready new_link) w.acts act.Created (λ n. refl) (k.connect w.conn.requests w.acts g)
+connected_kept k w (Ready l) g h = h
+connected_kept k w Ended g h = h
 
-faulted_kept : {P : List Progress → LinkState → List Done → List Action → Type 0} → IsKept P → (c : Connection) (f : LinkFault) → At P c → At P (faulted_by c f)
-faulted_kept {P = P} k c f h = chosen (At P) (is_up c.phase) (ended_by c f) c (λ t. ended_kept k c f h) (λ g. h)
+-- bytes were taken
+taken_kept : {P : List Request → Life → List LinkAct → Type 0} → IsKept P → (w : Work) (count : ℕ) (life : Life) → P w.conn.requests life w.acts → At P w → At P (taken_at w count life)
+taken_kept k w count (Ready l) g h = k.write w.conn.requests l w.acts count g
+taken_kept k w count Dialing g h = h
+taken_kept k w count Ended g h = h
 
-checked_kept : {P : List Progress → LinkState → List Done → List Action → Type 0} → IsKept P → (c : Connection) (n : ℕ) (s : Submission) → At P c → At P (checked c n s)
-checked_kept {P = P} k c n s h =
-    chosen (At P) c.shut _ _ (λ t. answered_kept k c n closed h)
-    (λ f. chosen (At P) (length (packed s) == 0) _ _ (λ t. answered_kept k c n (outcome.Fault error.EmptyCommand) h)
-    (λ g. chosen (At P) (is_ended c.phase) _ _ (λ t. answered_kept k c n closed h) (λ e. h)))
+-- a fault
+failed_kept : {P : List Request → Life → List LinkAct → Type 0} → IsKept P → (w : Work) (f : LinkFault) (life : Life) → At P w → At P (failed_at w f life)
+failed_kept k w f (Ready l) h = ended_kept k w (faulted (record { link = l; out = [] }) f).out h
+failed_kept k w f Dialing h = h
+failed_kept k w f Ended h = h
 
-read_kept : {P : List Progress → LinkState → List Done → List Action → Type 0} → IsKept P → (c : Connection) (s : Settling) → P c.requests s.link c.done c.acts → At P (read_to c s)
-read_kept {P = P} k c s h =
-    let d = record c { link = s.link } in
-    let e = settled_each d s.out in
-    chosen (At P) s.link.broken (ended_by e fault.Parse) e (λ t. ended_kept k e fault.Parse (settled_kept k d s.out h)) (λ f. settled_kept k d s.out h)
+-- what the link settled by bytes
+read_kept : {P : List Request → Life → List LinkAct → Type 0} → IsKept P → (w : Work) (s : Settling) → P w.conn.requests (Ready s.link) w.acts → At P (read_to w s)
+read_kept {P = P} k w s h =
+    let e = settled_each (with_link w s.link) s.out in
+    let g = settled_kept k (with_link w s.link) s.out h in
+    chosen (At P) s.link.broken (failed_at e fault.Parse e.conn.life) e (λ t. failed_kept k e fault.Parse e.conn.life g) (λ f. g)
 
-applied_kept : {P : List Progress → LinkState → List Done → List Action → Type 0} → IsKept P → (c : Connection) (kind : EventKind) → P (handed_in kind c.requests) c.link c.done c.acts → At P (applied c kind)
-applied_kept k c (event.Submit s) h = checked_kept k (record c { requests = c.requests ++ progress.Waiting ∷ [] }) (length c.requests) s h
-applied_kept {P = P} k c (event.Cancel n) h = chosen (At P) (is_open_at c.requests n) _ c (λ t. k.cancel c.requests c.link c.done c.acts n t h) (λ f. h)
-applied_kept {P = P} k c (event.Connected l) h = chosen (At P) (is_dialing c.phase) _ c (λ t. k.show c.requests c.link c.done c.acts action.Created (record { shown = λ n. refl; numberless = refl }) h) (λ f. h)
-applied_kept {P = P} k c (event.Wrote l n) h = chosen (At P) (is_up c.phase) _ c (λ t. k.write c.requests c.link c.done c.acts n h) (λ f. h)
-applied_kept {P = P} k c (event.Bytes l piece) h =
-    let s = came (record { link = c.link; out = [] }) piece in
-    chosen (At P) (is_up c.phase) (read_to c s) c (λ t. read_kept k c s (k.come c.requests c.link c.done c.acts piece h)) (λ f. h)
-applied_kept k c (event.Ended l) h = faulted_kept k c fault.Ended h
-applied_kept k c (event.ReadFault l kind) h = faulted_kept k c (fault.Io kind) h
-applied_kept k c (event.WriteFault l kind) h = faulted_kept k c (fault.Io kind) h
-applied_kept {P = P} k c event.Shutdown h =
-    let d = record c { shut = true } in
-    let s = closed_all (record { link = c.link; out = [] }) in
-    chosen (At P) (is_ended c.phase) d (ends d s) (λ t. h) (λ f. ends_kept k d s (k.close c.requests c.link c.done c.acts h))
+-- bytes come
+came_kept : {P : List Request → Life → List LinkAct → Type 0} → IsKept P → (w : Work) (piece : List ℕ) (life : Life) → P w.conn.requests life w.acts → At P w → At P (read_at w piece life)
+came_kept k w piece (Ready l) g h = read_kept k w (came (record { link = l; out = [] }) piece) (k.come w.conn.requests l w.acts piece g)
+came_kept k w piece Dialing g h = h
+came_kept k w piece Ended g h = h
 
-shown_kept : {P : List Progress → LinkState → List Done → List Action → Type 0} → IsKept P → (c : Connection) (ss : List Started) → At P c → At P (shown_each c ss)
-shown_kept k c [] h = h
-shown_kept k c (s ∷ ss) h =
-    let a = action.Start 0 s.msg (owner.Try s.id 0) s.need s.len in
-    shown_kept k (acts c a) ss (k.show c.requests c.link c.done c.acts a (record { shown = λ n. refl; numberless = refl }) h)
+-- the shutdown
+shut_kept : {P : List Request → Life → List LinkAct → Type 0} → IsKept P → (w : Work) (life : Life) → At P w → At P (shut_at w life)
+shut_kept k w (Ready l) h = ended_kept k w (closed_all (record { link = l; out = [] })).out h
+shut_kept k w Dialing h = ended_kept k w [] h
+shut_kept k w Ended h = h
 
-pub started_kept : {P : List Progress → LinkState → List Done → List Action → Type 0} → IsKept P → (c : Connection) → At P c → At P (started c)
-started_kept k c h = let s = started_all (record { link = c.link; out = [] }) in shown_kept k (record c { link = s.link }) s.out (k.start c.requests c.link c.done c.acts h)
+-- all news
+applied_kept : {P : List Request → Life → List LinkAct → Type 0} → IsKept P → (w : Work) (what : News) → At P w → At P (applied w what)
+applied_kept k w silence h = h
+applied_kept k w connected h = connected_kept k w w.conn.life h h
+applied_kept k w (took count) h = taken_kept k w count w.conn.life h h
+applied_kept k w (came_news piece) h = came_kept k w piece w.conn.life h h
+applied_kept k w (failed f) h = failed_kept k w f w.conn.life h
+applied_kept k w shut h = shut_kept k w w.conn.life h
 
-pub told_kept : {P : List Progress → LinkState → List Done → List Action → Type 0} → IsKept P → (c : Connection) (w : Waiting) → At P c → At P (told_at_place c w)
-told_kept {P = P} k c w h = chosen (At P) w.awaited c (answered c w.number (outcome.One Nil)) (λ t. h) (λ f. answered_kept k c w.number (outcome.One Nil) h)
+-- moves
+--
+-- starts are shown
+shown_kept : {P : List Request → Life → List LinkAct → Type 0} → IsKept P → (w : Work) (ss : List Started) → At P w → At P (shown_each w ss)
+shown_kept k w [] h = h
+shown_kept k w (s ∷ ss) h =
+    let a = act.Start s.msg (name_at w.conn.requests s.id) s.need s.len in
+    shown_kept k (acted w a) ss (k.show w.conn.requests w.conn.life w.acts a (λ n. refl) h)
 
-pub advanced_kept : {P : List Progress → LinkState → List Done → List Action → Type 0} → IsKept P → (c : Connection) (w : Waiting) → At P c → At P (advanced c w)
-advanced_kept {P = P} k c w h =
-    let d = placed c w in
-    chosen (At P) (is_waiting_at c.requests w.number) (started (told_at_place d w)) c (λ t. started_kept k (told_at_place d w) (told_kept k d w (k.place c.requests c.link c.done c.acts w t h))) (λ f. h)
+-- messages start
+started_at_kept : {P : List Request → Life → List LinkAct → Type 0} → IsKept P → (w : Work) (life : Life) → P w.conn.requests life w.acts → At P w → At P (started_at w life)
+started_at_kept k w (Ready l) g h =
+    let s = started_all (record { link = l; out = [] }) in
+    shown_kept k (with_link w s.link) s.out (k.start w.conn.requests l w.acts g)
+started_at_kept k w Dialing g h = h
+started_at_kept k w Ended g h = h
 
-advanced_each_kept : {P : List Progress → LinkState → List Done → List Action → Type 0} → IsKept P → (c : Connection) (ws : List Waiting) → At P c → At P (advanced_each c ws)
-advanced_each_kept k c [] h = h
-advanced_each_kept {P = P} k c (w ∷ ws) h = chosen (At P) (is_full c.link) _ _ (λ t. h) (λ f. advanced_each_kept k (advanced c w) ws (advanced_kept k c w h))
+-- on the link that the connection has
+pub started_kept : {P : List Request → Life → List LinkAct → Type 0} → IsKept P → (w : Work) → At P w → At P (started w)
+started_kept k w h = started_at_kept k w w.conn.life h h
 
-pub passes_kept : {P : List Progress → LinkState → List Done → List Action → Type 0} → IsKept P → (c : Connection) → At P c → At P (passes c)
-passes_kept {P = P} k c h =
-    let d = started c in
-    chosen (At P) (is_up c.phase) (advanced_all d) c (λ t. advanced_each_kept k (record d { waiting = [] }) d.waiting (started_kept k c h)) (λ f. h)
+-- an answer at its place
+pub told_kept : {P : List Request → Life → List LinkAct → Type 0} → IsKept P → (w : Work) (q : Waiting) → At P w → At P (told_at_place w q)
+told_kept {P = P} k w q h = chosen (At P) q.awaited w (answered w q.number (outcome.One Nil)) (λ t. h) (λ f. answered_kept k w q.number (outcome.One Nil) h)
 
-pub writes_kept : {P : List Progress → LinkState → List Done → List Action → Type 0} → IsKept P → (c : Connection) → At P c → At P (writes c)
-writes_kept {P = P} k c h =
-    chosen (At P) (is_up c.phase) (offers c) c
-    (λ t. chosen (At P) (can_offer c.link.outbox) _ c (λ u. k.show c.requests (offered_of c.link) c.done c.acts (action.Write 0 c.link.outbox.unwritten) (record { shown = λ n. refl; numberless = refl }) (k.offer c.requests c.link c.done c.acts h)) (λ f. h))
+-- a request that waits is moved
+moved_at_kept : {P : List Request → Life → List LinkAct → Type 0} → IsKept P → (w : Work) (q : Waiting) (life : Life) → is_waiting_at w.conn.requests q.number ≡ true → P w.conn.requests life w.acts → At P w → At P (moved_at w q life)
+moved_at_kept k w q (Ready l) t g h =
+    let d = placed_at w q (Ready l) in
+    started_kept k (told_at_place d q) (told_kept k d q (k.place w.conn.requests l w.acts q t g))
+moved_at_kept k w q Ended t g h = answered_kept k w q.number closed h
+moved_at_kept k w q Dialing t g h = h
+
+-- and any other stays
+pub moved_kept : {P : List Request → Life → List LinkAct → Type 0} → IsKept P → (w : Work) (q : Waiting) → At P w → At P (moved w q)
+moved_kept {P = P} k w q h = chosen (At P) (is_waiting_at w.conn.requests q.number) (moved_at w q w.conn.life) w (λ t. moved_at_kept k w q w.conn.life t h h) (λ f. h)
+
+-- all that wait
+moved_each_kept : {P : List Request → Life → List LinkAct → Type 0} → IsKept P → (w : Work) (qs : List Waiting) → At P w → At P (moved_each w qs)
+moved_each_kept k w [] h = h
+moved_each_kept {P = P} k w (q ∷ qs) h = chosen (At P) (is_stuck w.conn.life) _ _ (λ t. h) (λ f. moved_each_kept k (moved w q) qs (moved_kept k w q h))
+
+-- what a turn moves
+pub passed_kept : {P : List Request → Life → List LinkAct → Type 0} → IsKept P → (w : Work) → At P w → At P (passed w)
+passed_kept k w h = let d = started w in moved_each_kept k (still_waiting d []) d.conn.waiting (started_kept k w h)
+
+-- what a turn ends with
+--
+-- bytes are offered
+written_at_kept : {P : List Request → Life → List LinkAct → Type 0} → IsKept P → (w : Work) (life : Life) → P w.conn.requests life w.acts → At P w → At P (written_at w life)
+written_at_kept {P = P} k w (Ready l) g h =
+    chosen (At P) (can_offer l.outbox) _ w
+    (λ t. k.show w.conn.requests (Ready (offered_of l)) w.acts (act.Write l.outbox.unwritten) (λ n. refl) (k.offer w.conn.requests l w.acts g))
+    (λ f. h)
+written_at_kept k w Dialing g h = h
+written_at_kept k w Ended g h = h
+
+-- on the link that the connection has
+pub written_kept : {P : List Request → Life → List LinkAct → Type 0} → IsKept P → (w : Work) → At P w → At P (written w)
+written_kept k w h = written_at_kept k w w.conn.life h h
+
+-- a wait is shown
+pub wait_kept : {P : List Request → Life → List LinkAct → Type 0} → IsKept P → (w : Work) (q : ℕ) → At P w → At P (wait_shown w q)
+wait_kept {P = P} k w q h =
+    chosen (At P) (is_waiting_at w.conn.requests q) _ w
+    (λ t. chosen (At P) (is_dialing w.conn.life) _ w (λ u. k.show w.conn.requests w.conn.life w.acts (act.Wait (name_at w.conn.requests q) wait.Connect) (λ n. refl) h) (λ f. h))
     (λ f. h)
 
-pub waits_shown_kept : {P : List Progress → LinkState → List Done → List Action → Type 0} → IsKept P → (c : Connection) (n : ℕ) → At P c → At P (waits_shown c n)
-waits_shown_kept {P = P} k c n h =
-    chosen (At P) (is_waiting_at c.requests n) _ c
-    (λ t. chosen (At P) (is_dialing c.phase) _ c (λ u. k.show c.requests c.link c.done c.acts (action.Wait (owner.Try n 0) wait.Connect) (record { shown = λ m. refl; numberless = refl }) h) (λ f. h))
-    (λ f. h)
+-- all waits of a turn
+waits_kept : {P : List Request → Life → List LinkAct → Type 0} → IsKept P → (w : Work) (qs : List ℕ) → At P w → At P (waits_each w qs)
+waits_kept k w [] h = h
+waits_kept k w (q ∷ qs) h = waits_kept k (wait_shown w q) qs (wait_kept k w q h)
 
-waits_kept : {P : List Progress → LinkState → List Done → List Action → Type 0} → IsKept P → (c : Connection) (ns : List ℕ) → At P c → At P (waits_each c ns)
-waits_kept k c [] h = h
-waits_kept k c (n ∷ ns) h = waits_kept k (waits_shown c n) ns (waits_shown_kept k c n h)
+-- what a turn ends with
+pub flushed_kept : {P : List Request → Life → List LinkAct → Type 0} → IsKept P → (w : Work) → At P w → At P (flushed w)
+flushed_kept k w h = let d = written w in waits_kept k (record d { conn = record d.conn { fresh = [] } }) d.conn.fresh (written_kept k w h)
 
-pub flushed_kept : {P : List Progress → LinkState → List Done → List Action → Type 0} → IsKept P → (c : Connection) → At P c → At P (flushed c)
-flushed_kept k c h = let d = writes c in waits_kept k (record d { fresh = [] }) d.fresh (writes_kept k c h)
+-- whole turns
+--
+-- a fact that the next submission, of that number, keeps too
+pub record CanAsk (P : List Request → Life → List LinkAct → Type 0) (m : ℕ) : Type 0 where
+  pub ask : (r : List Request) (life : Life) (xs : List LinkAct) → P r life xs → P (r ++ record { name = m; progress = progress.Waiting } ∷ []) life xs
+  pub refuse : (r : List Request) (life : Life) (xs : List LinkAct) (o : Outcome) → P r life xs → P r life (xs ++ act.Outcome m o ∷ [])
 
--- after the event's own effect
-pub effect_kept : {P : List Progress → LinkState → List Done → List Action → Type 0} → IsKept P → (c : Core) (e : Event) → P (handed_in e.kind c.connection.requests) c.connection.link c.connection.done (c.connection.acts ++ action.Turn c.turns (cause.Event e) ∷ [])
-    → At P (applied (acts c.connection (action.Turn c.turns (cause.Event e))) e.kind)
-effect_kept k c e h = applied_kept k (acts c.connection (action.Turn c.turns (cause.Event e))) e.kind h
+-- the connection hears its link's news
+pub heard_kept : {P : List Request → Life → List LinkAct → Type 0} → IsKept P → (t : Turning) (kind : EventKind) → At P (work_of t) → At P (work_of (heard t kind))
+heard_kept k t kind h = applied_kept k (work_of t) (news t.core.single.link kind) h
 
--- after a turn
-pub turn_kept : {P : List Progress → LinkState → List Done → List Action → Type 0} → IsKept P → (c : Core) (e : Event) → P (handed_in e.kind c.connection.requests) c.connection.link c.connection.done (c.connection.acts ++ action.Turn c.turns (cause.Event e) ∷ []) → At P (turn c e).connection
+-- a request is left
+left_kept : {P : List Request → Life → List LinkAct → Type 0} → IsKept P → (c : MultiplexedConnection) (xs : List LinkAct) (q : ℕ) → P c.requests c.life xs → P (left c q).requests (left c q).life xs
+left_kept {P = P} k c xs q h = chosen (λ (x : MultiplexedConnection). P x.requests x.life xs) (is_open_at c.requests q) _ c (λ t. k.cancel c.requests c.life xs q t h) (λ f. h)
+
+-- a submission is left
+pub left_by_kept : {P : List Request → Life → List LinkAct → Type 0} → IsKept P → (t : Turning) (who : Option (Option Pending)) → At P (work_of t) → At P (work_of (left_by t who))
+left_by_kept k t None h = h
+left_by_kept k t (Some None) h = h
+left_by_kept k t (Some (Some p)) h = left_kept k t.core.single.connection t.acts p.number h
+
+-- a submission is handed in
+submitted_kept : {P : List Request → Life → List LinkAct → Type 0} → (t : Turning) → CanAsk P (length t.core.table) → (s : Submission) → At P (work_of t) → At P (work_of (submitted t s))
+submitted_kept {P = P} t k s h =
+    let c = t.core.single.connection in
+    chosen (λ (x : Turning). At P (work_of x)) t.core.shut _ _ (λ u. k.refuse c.requests c.life t.acts closed h)
+    (λ f. chosen (λ (x : Turning). At P (work_of x)) (length (packed s) == 0) _ _ (λ u. k.refuse c.requests c.life t.acts (outcome.Fault error.EmptyCommand) h) (λ g. k.ask c.requests c.life t.acts h))
+
+-- what an event is to the submissions
+requested_kept : {P : List Request → Life → List LinkAct → Type 0} → IsKept P → (t : Turning) → CanAsk P (length t.core.table) → (kind : EventKind) → At P (work_of t) → At P (work_of (requested t kind))
+requested_kept k t a (event.Submit s) h = submitted_kept t a s h
+requested_kept k t a (event.Cancel n) h = left_by_kept k t (slice_get t.core.table n) h
+requested_kept k t a (event.Connected l) h = h
+requested_kept k t a (event.Wrote l count) h = h
+requested_kept k t a (event.Bytes l piece) h = h
+requested_kept k t a (event.Ended l) h = h
+requested_kept k t a (event.ReadFault l kind) h = h
+requested_kept k t a (event.WriteFault l kind) h = h
+requested_kept k t a event.Shutdown h = h
+
+-- the event's own effect
+pub effect_kept : {P : List Request → Life → List LinkAct → Type 0} → IsKept P → (t : Turning) → CanAsk P (length t.core.table) → (kind : EventKind) → At P (work_of t) → At P (work_of (effect t kind))
+effect_kept k t a kind h = requested_kept k (heard t kind) a kind (heard_kept k t kind h)
+
+-- the fact between turns
+abbrev pub AtCore : (List Request → Life → List LinkAct → Type 0) → Core → Type 0
+AtCore P c = P c.single.connection.requests c.single.connection.life []
+
+-- a whole turn
+pub turn_kept : {P : List Request → Life → List LinkAct → Type 0} → IsKept P → (c : Core) → CanAsk P (length c.table) → (kind : EventKind) → AtCore P c → At P (work_of (turn c kind))
 unfolding turn
-turn_kept k c e h =
-    let d = applied (acts c.connection (action.Turn c.turns (cause.Event e))) e.kind in
-    flushed_kept k (passes d) (passes_kept k d (effect_kept k c e h))
+turn_kept k c a kind h =
+    let w = work_of (effect (counted c) kind) in
+    flushed_kept k (passed w) (passed_kept k w (effect_kept k (counted c) a kind h))

@@ -1,184 +1,183 @@
 -- A link does the same where the verdict of one message is not wanted.
-use Rattle.std.proofs.Common.{◌≡◌, ℕ, ◌==◌, ◌&&◌, not, nat_lt, Bool, true, false, List, [], ◌∷◌, ◌++◌, length, if◌then◌else◌, refl, sym, ap, ◌∙◌}
+use Rattle.std.proofs.Common.{◌≡◌, ℕ, ◌==◌, ◌&&◌, not, nat_lt, Bool, true, false, List, [], ◌∷◌, ◌++◌, length, if◌then◌else◌, refl, sym, ap, ◌∙◌, inl, inr, arith}
+use Rattle.std.proofs.Math.Bool.{and-false}
+use Rattle.containers.proofs.Tests.{by_test, chosen, left_if, eq_from, eq_test}
 use Rattle.resp_value.specs.Data.{Data}
-use Rattle.redis_error.specs.declared.redis_error.RedisError.{RedisError}
-use Rattle.redis_error.specs.declared.redis_error.RedisError.TheVariants as error
 use Rattle.resp_read.specs.Items.{items}
-use Rattle.driver_model.specs.Shape.{need, verdict}
-use Rattle.driver_model.specs.declared.outcome.Verdict.TheVariants.{Fault}
-use Rattle.driver_model.specs.declared.news.LinkFault.{LinkFault}
+use Rattle.driver_model.specs.Shape.{need}
 use Rattle.link_core.specs.declared.message.Entry.{Entry}
 use Rattle.link_core.specs.declared.message.Queued.{Queued}
-use Rattle.link_core.specs.declared.message.Settled.{Settled}
-use Rattle.link_core.specs.Dealing.{Dealing, with_item, settled_by, given, dealt_to, dealt, dealt_each}
-use Rattle.link_core.specs.Ends.{failed_by, hit_by, row_closed, row_hit, queue_closed}
-use Rattle.link_core.specs.Link.{LinkState, Starting, Settling, entry_of, is_held_back, started_one, started_each, started_all, cancelled, read_on, came_all, came, emptied, closed_all, faulted}
+use Rattle.link_core.specs.Dealing.{Dealing, with_item, dealt_to, dealt, dealt_each}
+use Rattle.link_core.specs.Link.{LinkState, Starting, Settling, entry_of, is_held_back, started_one, started_each, started_all, cancelled, came}
 use Rattle.link_core.specs.Row.{silent, silenced}
 use Rattle.link_core.specs.Waiting.{awaits, without}
-use Rattle.link_laws.specs.Alike.{others}
-use Rattle.link_laws.proofs.Alike.{others_append}
+use Rattle.link_laws.specs.Alike.{SameEntry, SameRow, SameLink}
+use Rattle.link_laws.proofs.Cancels.{cancel_stays, cancel_alike, start_alike, bytes_alike}
 use Rattle.cancel_laws.specs.ButFor.{hushed, hushed_each, hushed_link}
-use Rattle.containers.proofs.Tests.{either}
 
-abbrev pub hushed_dealing : ℕ → Dealing → Dealing
-hushed_dealing n d = record { row = hushed_each n d.row; out = others n d.out }
-
-abbrev pub hushed_starting : ℕ → Starting → Starting
-hushed_starting n s = record { link = hushed_link n s.link; out = s.out }
-
-abbrev pub hushed_settling : ℕ → Settling → Settling
-hushed_settling n s = record { link = hushed_link n s.link; out = others n s.out }
-
--- message n has no place in the queue
+-- nobody awaits message p in the queue, and in the row
+--
+-- in the queue
 abbrev pub NoneOf : ℕ → List Queued → Type 0
-NoneOf n [] = Unit {0}
-NoneOf n (q ∷ qs) = (awaits n q ≡ false) × NoneOf n qs
+NoneOf p [] = Unit {0}
+NoneOf p (q ∷ qs) = (awaits p q ≡ false) × NoneOf p qs
 
--- what an entry comes to
+-- and in the row
+abbrev pub NoneWanted : ℕ → List Entry → Type 0
+NoneWanted p [] = Unit {0}
+NoneWanted p (e ∷ es) = (((e.id == p) && e.awaited) ≡ false) × NoneWanted p es
+
+-- the queue
 --
-flipped : (t : Bool) (s : Settled) → (if not t then s ∷ [] else []) ≡ (if t then [] else s ∷ [])
-flipped true s = refl
-flipped false s = refl
+-- one more message, which is not that one
+pub none_push : (p : ℕ) (queue : List Queued) (q : Queued) → NoneOf p queue → awaits p q ≡ false → NoneOf p (queue ++ q ∷ [])
+none_push p [] q h e = (e, tt)
+none_push p (x ∷ xs) q h e = (h.0, none_push p xs q h.1 e)
 
-awaited_out : (n : ℕ) (b : Bool) (s : Settled) → (if b && not (s.id == n) then s ∷ [] else []) ≡ others n (if b then s ∷ [] else [])
-awaited_out n true s = flipped (s.id == n) s
-awaited_out n false s = refl
+-- one message less
+pub none_without : (p m : ℕ) (queue : List Queued) → NoneOf p queue → NoneOf p (without queue m)
+none_without p m [] h = tt
+none_without p m (q ∷ qs) h = chosen (NoneOf p) (awaits m q) _ _ (λ t. h.1) (λ f. (h.0, none_without p m qs h.1))
 
-hushed_settled : (n : ℕ) (e : Entry) → settled_by (hushed n e) ≡ others n (settled_by e)
-hushed_settled n e = awaited_out n e.awaited (record { id = e.id; verdict = verdict e.shape e.got })
-
-hushed_failed : (n : ℕ) (e : Entry) (r : RedisError) → failed_by (hushed n e).awaited e.id r ≡ others n (failed_by e.awaited e.id r)
-hushed_failed n e r = awaited_out n e.awaited (record { id = e.id; verdict = Fault r })
-
--- items
---
-hushed_given : (n : ℕ) (d : Dealing) (e : Entry) (es : List Entry) → hushed_dealing n (given d e es) ≡ given (hushed_dealing n d) (hushed n e) (hushed_each n es)
-hushed_given n d e es =
-    either (hushed_dealing n) (nat_lt (length e.got) (need e.shape)) _ _ _ _ (λ t. refl)
-    (λ f. ap (λ out. record { row = hushed_each n es; out = out }) (others_append n d.out (settled_by e) ∙ ap (λ ss. others n d.out ++ ss) (sym (hushed_settled n e))))
-
-hushed_dealt_to : (n : ℕ) (d : Dealing) (item : Data) (row : List Entry) → hushed_dealing n (dealt_to d item row) ≡ dealt_to (hushed_dealing n d) item (hushed_each n row)
-hushed_dealt_to n d item [] = refl
-hushed_dealt_to n d item (e ∷ es) = hushed_given n d (with_item e item) es
-
-hushed_dealt : (n : ℕ) (d : Dealing) (items : List Data) → hushed_dealing n (dealt_each d items) ≡ dealt_each (hushed_dealing n d) items
-hushed_dealt n d [] = refl
-hushed_dealt n d (v ∷ vs) = hushed_dealt n (dealt d v) vs ∙ ap (λ x. dealt_each x vs) (hushed_dealt_to n d v d.row)
-
-hushed_all : (n : ℕ) (s : Settling) (bytes : List ℕ) → hushed_settling n (came_all s bytes) ≡ came_all (hushed_settling n s) bytes
-hushed_all n s bytes =
-    let first : Dealing = record { row = s.link.row; out = [] } in
-    let d = dealt_each first (items bytes) in
-    let l = read_on s.link bytes in
-    ap (λ out. record { link = record l { row = hushed_each n d.row }; out = out }) (others_append n s.out d.out)
-    ∙ ap (λ (x : Dealing). record { link = record l { row = x.row }; out = others n s.out ++ x.out }) (hushed_dealt n first (items bytes))
+-- some messages start
+pub none_started : (p : ℕ) (s : Starting) (queue : List Queued) → NoneOf p queue → NoneOf p (started_each s queue).link.queue
+none_started p s [] h = tt
+none_started p s (q ∷ qs) h = chosen (λ (x : Starting). NoneOf p x.link.queue) (is_held_back s.link) _ _ (λ t. h) (λ f. none_started p (started_one s q) qs h.1)
 
 -- bytes come
-pub hushed_came : (n : ℕ) (s : Settling) (piece : List ℕ) → hushed_settling n (came s piece) ≡ came (hushed_settling n s) piece
-hushed_came n s piece = either (hushed_settling n) s.link.broken _ _ _ _ (λ t. refl) (λ f. hushed_all n s (s.link.rest ++ piece))
+pub none_came : (p : ℕ) (l : LinkState) (piece : List ℕ) → NoneOf p l.queue → NoneOf p (came (record { link = l; out = [] }) piece).link.queue
+none_came p l piece h = chosen (λ (x : Settling). NoneOf p x.link.queue) l.broken _ _ (λ t. h) (λ f. h)
 
--- ends
+-- a list with one item less is not the same
+one_less : (p : ℕ) (q : Queued) (qs : List Queued) (b : Bool) → (if b then qs else q ∷ without qs p) ≡ q ∷ qs → (b ≡ false) × (without qs p ≡ qs)
+one_less p q qs true e = absurd (let l : length qs ≡ length (q ∷ qs) = ap length e in omega arith)
+one_less p q qs false e = (refl, cc)
+
+-- what a cancel would leave as it is has no such message
+pub none_from : (p : ℕ) (queue : List Queued) → without queue p ≡ queue → NoneOf p queue
+none_from p [] e = tt
+none_from p (q ∷ qs) e = let h = one_less p q qs (awaits p q) e in (h.0, none_from p qs h.1)
+
+-- and what has no such message a cancel leaves as it is
+pub none_leaves : (p : ℕ) (queue : List Queued) → NoneOf p queue → without queue p ≡ queue
+none_leaves p [] h = refl
+none_leaves p (q ∷ qs) h = left_if (awaits p q) qs (q ∷ without qs p) h.0 ∙ ap (λ (xs : List Queued). q ∷ xs) (none_leaves p qs h.1)
+
+-- the row
 --
-hushed_closed : (n : ℕ) (row : List Entry) → others n (row_closed row) ≡ row_closed (hushed_each n row)
-hushed_closed n [] = refl
-hushed_closed n (e ∷ es) =
-    others_append n (failed_by e.awaited e.id error.Closed) (row_closed es)
-    ∙ ap (λ ss. ss ++ others n (row_closed es)) (sym (hushed_failed n e error.Closed)) ∙ ap (λ ss. failed_by (hushed n e).awaited e.id error.Closed ++ ss) (hushed_closed n es)
+-- one more entry, of another message
+quiet_behind : (p : ℕ) (row : List Entry) (q : Queued) → awaits p q ≡ false → NoneWanted p row → NoneWanted p (row ++ entry_of q ∷ [])
+quiet_behind p [] q e h = (e, tt)
+quiet_behind p (x ∷ row) q e h = (h.0, quiet_behind p row q e h.1)
 
-hushed_hit : (n : ℕ) (f : LinkFault) (row : List Entry) → others n (row_hit f row) ≡ row_hit f (hushed_each n row)
-hushed_hit n f [] = refl
-hushed_hit n f (e ∷ es) =
-    let r = hit_by f e.shape in
-    others_append n (failed_by e.awaited e.id r) (row_closed es)
-    ∙ ap (λ ss. ss ++ others n (row_closed es)) (sym (hushed_failed n e r)) ∙ ap (λ ss. failed_by (hushed n e).awaited e.id r ++ ss) (hushed_closed n es)
+-- some messages start
+pub quiet_starts : (p : ℕ) (s : Starting) (queue : List Queued) → NoneOf p queue → NoneWanted p s.link.row → NoneWanted p (started_each s queue).link.row
+quiet_starts p s [] n h = h
+quiet_starts p s (q ∷ qs) n h =
+    chosen (λ (x : Starting). NoneWanted p x.link.row) (is_held_back s.link) _ _ (λ t. h) (λ f. quiet_starts p (started_one s q) qs n.1 (quiet_behind p s.link.row q n.0 h))
 
-kept_in : (t b : Bool) (s : Settled) → (t && b) ≡ false → (if b then (if t then [] else s ∷ []) else []) ≡ (if b then s ∷ [] else [])
-kept_in true true s e = cc
-kept_in true false s e = refl
-kept_in false true s e = refl
-kept_in false false s e = refl
+-- an item is dealt
+quiet_dealt_to : (p : ℕ) (d : Dealing) (item : Data) (row : List Entry) → NoneWanted p d.row → NoneWanted p row → NoneWanted p (dealt_to d item row).row
+quiet_dealt_to p d item [] h r = h
+quiet_dealt_to p d item (e ∷ es) h r = chosen (λ (x : Dealing). NoneWanted p x.row) (nat_lt (length (with_item e item).got) (need e.shape)) _ _ (λ t. (r.0, r.1)) (λ f. r.1)
 
-others_if : (n : ℕ) (b : Bool) (s : Settled) → others n (if b then s ∷ [] else []) ≡ (if b then (if s.id == n then [] else s ∷ []) else [])
-others_if n true s = refl
-others_if n false s = refl
+-- and more
+quiet_dealt : (p : ℕ) (d : Dealing) (items : List Data) → NoneWanted p d.row → NoneWanted p (dealt_each d items).row
+quiet_dealt p d [] h = h
+quiet_dealt p d (v ∷ vs) h = quiet_dealt p (dealt d v) vs (quiet_dealt_to p d v d.row h h)
 
-queue_failed : (n : ℕ) (q : Queued) (r : RedisError) → awaits n q ≡ false → others n (failed_by q.awaited q.id r) ≡ failed_by q.awaited q.id r
-queue_failed n q r e =
-    let s : Settled = record { id = q.id; verdict = Fault r } in
-    others_if n q.awaited s ∙ kept_in (q.id == n) q.awaited s e
+-- bytes come
+pub quiet_came : (p : ℕ) (l : LinkState) (piece : List ℕ) → NoneWanted p l.row → NoneWanted p (came (record { link = l; out = [] }) piece).link.row
+quiet_came p l piece h =
+    chosen (λ (x : Settling). NoneWanted p x.link.row) l.broken _ _ (λ t. h) (λ f. quiet_dealt p (record { row = l.row; out = [] }) (items (l.rest ++ piece)) h)
 
-queue_same : (n : ℕ) (queue : List Queued) → NoneOf n queue → others n (queue_closed queue) ≡ queue_closed queue
-queue_same n [] h = refl
-queue_same n (q ∷ qs) h =
-    others_append n (failed_by q.awaited q.id error.Closed) (queue_closed qs)
-    ∙ ap (λ ss. ss ++ others n (queue_closed qs)) (queue_failed n q error.Closed h.0) ∙ ap (λ ss. failed_by q.awaited q.id error.Closed ++ ss) (queue_same n qs h.1)
+-- one more verdict is not wanted
+pub quiet_silenced : (p m : ℕ) (row : List Entry) → NoneWanted p row → NoneWanted p (silenced row m)
+quiet_silenced p m [] h = tt
+quiet_silenced p m (e ∷ es) h = chosen (NoneWanted p) (e.id == m) _ _ (λ t. (and-false (e.id == p), h.1)) (λ f. (h.0, quiet_silenced p m es h.1))
 
-hushed_ended : (n : ℕ) (s : Settling) (row row' : List Settled) → NoneOf n s.link.queue → others n row ≡ row'
-    → hushed_settling n (emptied s (row ++ queue_closed s.link.queue)) ≡ emptied (hushed_settling n s) (row' ++ queue_closed s.link.queue)
-hushed_ended n s row row' h e =
-    ap (λ out. record { link = record s.link { queue = []; row = [] }; out = out })
-    (others_append n s.out (row ++ queue_closed s.link.queue) ∙ ap (λ ss. others n s.out ++ ss)
-    (others_append n row (queue_closed s.link.queue) ∙ ap (λ ss. ss ++ others n (queue_closed s.link.queue)) e ∙ ap (λ ss. row' ++ ss) (queue_same n s.link.queue h)))
-
-pub hushed_close : (n : ℕ) (s : Settling) → NoneOf n s.link.queue → hushed_settling n (closed_all s) ≡ closed_all (hushed_settling n s)
-hushed_close n s h = hushed_ended n s (row_closed s.link.row) _ h (hushed_closed n s.link.row)
-
-pub hushed_fault : (n : ℕ) (s : Settling) (f : LinkFault) → NoneOf n s.link.queue → hushed_settling n (faulted s f) ≡ faulted (hushed_settling n s) f
-hushed_fault n s f h = hushed_ended n s (row_hit f s.link.row) _ h (hushed_hit n f s.link.row)
-
--- starts
+-- an entry, and a row, whose verdict is not wanted
 --
-pub wanted_still : (t b : Bool) → (t && b) ≡ false → (b && not t) ≡ b
+-- not wanted and wanted
+unwanted : (t b : Bool) → (t && (b && not t)) ≡ false
+unwanted true true = refl
+unwanted true false = refl
+unwanted false b = refl
+
+-- where the verdict of message p is not wanted, nobody awaits it
+hushed_quiet : (p : ℕ) (row : List Entry) → NoneWanted p (hushed_each p row)
+hushed_quiet p [] = tt
+hushed_quiet p (e ∷ es) = (unwanted (e.id == p) e.awaited, hushed_quiet p es)
+
+-- wanted, where it is not that message's
+wanted_still : (t b : Bool) → (t && b) ≡ false → (b && not t) ≡ b
 wanted_still true true e = cc
 wanted_still true false e = refl
 wanted_still false true e = refl
 wanted_still false false e = refl
 
-hushed_entry : (n : ℕ) (q : Queued) → awaits n q ≡ false → hushed n (entry_of q) ≡ entry_of q
-hushed_entry n q e = ap (λ b. record (entry_of q) { awaited = b }) (wanted_still (q.id == n) q.awaited e)
+-- where nobody awaits it, nothing changes
+pub quiet_stays : (p : ℕ) (row : List Entry) → NoneWanted p row → hushed_each p row ≡ row
+quiet_stays p [] h = refl
+quiet_stays p (e ∷ es) h =
+    ap (λ (b : Bool). record e { awaited = b } ∷ hushed_each p es) (wanted_still (e.id == p) e.awaited h.0) ∙ ap (λ (xs : List Entry). e ∷ xs) (quiet_stays p es h.1)
 
-hushed_behind : (n : ℕ) (row : List Entry) (q : Queued) → awaits n q ≡ false → hushed_each n (row ++ entry_of q ∷ []) ≡ hushed_each n row ++ entry_of q ∷ []
-hushed_behind n [] q e = ap (λ x. x ∷ []) (hushed_entry n q e)
-hushed_behind n (x ∷ row) q e = ap (λ xs. hushed n x ∷ xs) (hushed_behind n row q e)
+-- its own entry is silent
+own_silent : (p : ℕ) (e : Entry) → (e.id == p) ≡ true → hushed p e ≡ silent e
+own_silent p e t = ap (λ (b : Bool). record e { awaited = e.awaited && not b }) t ∙ ap (λ (b : Bool). record e { awaited = b }) (and-false e.awaited)
 
-hushed_one : (n : ℕ) (s : Starting) (q : Queued) → awaits n q ≡ false → hushed_starting n (started_one s q) ≡ started_one (hushed_starting n s) q
-hushed_one n s q e = ap (λ row. record { link = record (started_one s q).link { row = row }; out = (started_one s q).out }) (hushed_behind n s.link.row q e)
+-- any other stays
+other_stays : (p : ℕ) (e : Entry) → (e.id == p) ≡ false → hushed p e ≡ e
+other_stays p e f = ap (λ (b : Bool). record e { awaited = b }) (wanted_still (e.id == p) e.awaited (ap (λ (b : Bool). b && e.awaited) f))
 
-hushed_starts : (n : ℕ) (s : Starting) (queue : List Queued) → NoneOf n queue → hushed_starting n (started_each s queue) ≡ started_each (hushed_starting n s) queue
-hushed_starts n s [] h = refl
-hushed_starts n s (q ∷ qs) h =
-    either (hushed_starting n) (is_held_back s.link) _ _ _ _ (λ t. refl)
-    (λ f. hushed_starts n (started_one s q) qs h.1 ∙ ap (λ x. started_each x qs) (hushed_one n s q h.0))
+-- so the entries are the same in the sense of the laws of links
+same_entry : (p : ℕ) (e : Entry) → SameEntry p e (hushed p e)
+same_entry p e = by_test (e.id == p) (SameEntry p e (hushed p e)) (λ t. inr (eq_from e.id p t, own_silent p e t)) (λ f. inl (sym (other_stays p e f)))
 
-pub hushed_started : (n : ℕ) (s : Starting) → NoneOf n s.link.queue → hushed_starting n (started_all s) ≡ started_all (hushed_starting n s)
-hushed_started n s h = hushed_starts n s s.link.queue h
+-- and so are the rows
+same_row : (p : ℕ) (row : List Entry) → SameRow p row (hushed_each p row)
+same_row p [] = tt
+same_row p (e ∷ es) = (same_entry p e, same_row p es)
 
--- cancels
+-- what is the same in that sense is so without the verdict
+hushed_entry : (p : ℕ) (e f : Entry) → SameEntry p e f → hushed p e ≡ hushed p f
+hushed_entry p e f (inl s) = ap (hushed p) s
+hushed_entry p e f (inr s) = own_silent p e (eq_test e.id p s.0) ∙ ap (hushed p) (sym s.1)
+
+-- and so are rows
+hushed_row : (p : ℕ) (row row' : List Entry) → SameRow p row row' → hushed_each p row ≡ hushed_each p row'
+hushed_row p [] [] h = refl
+hushed_row p (e ∷ es) (f ∷ fs) h = ap (λ (x : Entry). x ∷ hushed_each p es) (hushed_entry p e f h.0) ∙ ap (λ (xs : List Entry). hushed p f ∷ xs) (hushed_row p es fs h.1)
+hushed_row p [] (f ∷ fs) h = absurd h
+hushed_row p (e ∷ es) [] h = absurd h
+
+-- whole links
 --
-hushed_silenced : (n m : ℕ) (row : List Entry) → hushed_each n (silenced row m) ≡ silenced (hushed_each n row) m
-hushed_silenced n m [] = refl
-hushed_silenced n m (e ∷ es) = either (hushed_each n) (e.id == m) _ _ _ _ (λ t. refl) (λ f. ap (λ xs. hushed n e ∷ xs) (hushed_silenced n m es))
+-- a link is alike to itself without the verdict
+pub alike_hushed : (p : ℕ) (l : LinkState) → SameLink p l (hushed_link p l)
+alike_hushed p l = record { row = same_row p l.row; rest = refl }
 
-pub hushed_cancelled : (n m : ℕ) (l : LinkState) → hushed_link n (cancelled l m) ≡ cancelled (hushed_link n l) m
-hushed_cancelled n m l = ap (λ row. record l { queue = without l.queue m; row = row }) (hushed_silenced n m l.row)
+-- links that are alike are the same without it
+both_hushed : (p : ℕ) (s t : LinkState) → SameLink p s t → hushed_link p s ≡ hushed_link p t
+both_hushed p s t h = ap (λ (row : List Entry). record s { row = row }) (hushed_row p s.row t.row h.row) ∙ ap (hushed_link p) (sym h.rest)
 
-unwanted : (t b : Bool) → t ≡ true → (b && not t) ≡ false
-unwanted true true e = refl
-unwanted true false e = refl
-unwanted false b e = cc
+-- a link that is alike, and in which the verdict is not wanted
+hushed_is : (p : ℕ) (s t : LinkState) → SameLink p s t → NoneWanted p t.row → hushed_link p s ≡ t
+hushed_is p s t h q = both_hushed p s t h ∙ ap (λ (row : List Entry). record t { row = row }) (quiet_stays p t.row q)
 
-own_silent : (n : ℕ) (e : Entry) → (e.id == n) ≡ true → hushed n (silent e) ≡ hushed n e
-own_silent n e t = ap (λ b. record e { awaited = b }) (sym (unwanted (e.id == n) e.awaited t))
+-- messages start
+pub hushed_started : (p : ℕ) (l : LinkState) → NoneOf p l.queue → hushed_link p (started_all (record { link = l; out = [] })).link ≡ (started_all (record { link = hushed_link p l; out = [] })).link
+hushed_started p l none =
+    hushed_is p _ _ (start_alike p l (hushed_link p l) [] (alike_hushed p l)).link (quiet_starts p (record { link = hushed_link p l; out = [] }) l.queue none (hushed_quiet p l.row))
 
-own_row : (n : ℕ) (row : List Entry) → hushed_each n (silenced row n) ≡ hushed_each n row
-own_row n [] = refl
-own_row n (e ∷ es) = own_choice (e.id == n) (λ t. ap (λ x. x ∷ hushed_each n es) (own_silent n e t)) (ap (λ xs. hushed n e ∷ xs) (own_row n es))
-  where
-    own_choice : (b : Bool) → (b ≡ true → hushed_each n (silent e ∷ es) ≡ hushed_each n (e ∷ es)) → hushed_each n (e ∷ silenced es n) ≡ hushed_each n (e ∷ es)
-        → hushed_each n (if b then silent e ∷ es else e ∷ silenced es n) ≡ hushed_each n (e ∷ es)
-    own_choice true t f = t refl
-    own_choice false t f = f
+-- bytes come
+pub hushed_came : (p : ℕ) (l : LinkState) (piece : List ℕ) → hushed_link p (came (record { link = l; out = [] }) piece).link ≡ (came (record { link = hushed_link p l; out = [] }) piece).link
+hushed_came p l piece = hushed_is p _ _ (bytes_alike p l (hushed_link p l) [] [] piece (alike_hushed p l) refl).link (quiet_came p (hushed_link p l) piece (hushed_quiet p l.row))
 
--- the cancel of message n itself
-pub own_cancelled : (n : ℕ) (l : LinkState) → without l.queue n ≡ l.queue → hushed_link n (cancelled l n) ≡ hushed_link n l
-own_cancelled n l e = ap (λ queue. record l { queue = queue; row = hushed_each n (silenced l.row n) }) e ∙ ap (λ row. record l { row = row }) (own_row n l.row)
+-- the caller of another message goes
+pub hushed_cancelled : (p m : ℕ) (l : LinkState) → hushed_link p (cancelled l m) ≡ cancelled (hushed_link p l) m
+hushed_cancelled p m l = hushed_is p _ _ (cancel_alike p m l (hushed_link p l) (alike_hushed p l)) (quiet_silenced p m (hushed_each p l.row) (hushed_quiet p l.row))
+
+-- and that of message p itself
+pub own_cancelled : (p : ℕ) (l : LinkState) → without l.queue p ≡ l.queue → hushed_link p (cancelled l p) ≡ hushed_link p l
+own_cancelled p l gone = sym (both_hushed p l (cancelled l p) (cancel_stays p l gone))

@@ -1,289 +1,259 @@
--- After each turn of a replay nothing is left to do: a turn that changes nothing shows nothing.
-use Rattle.std.proofs.Common.{◌≡◌, ◌⊎◌, inl, inr, ℕ, ◌+◌, ◌<◌, ◌==◌, nat_lt, nat_le, ◌&&◌, not, Bool, true, false, List, [], ◌∷◌, length, Option, Some, None, slice_set, refl, sym, ap, ◌∙◌, subst, arith, length-set, length-append}
-use Rattle.std.proofs.lemmas.Bool.Decides.{nat_tests}
-use Rattle.driver_model.specs.declared.action.Action.TheVariants as action
-use Rattle.driver_model.specs.declared.action.Cause.TheVariants as cause
-use Rattle.driver_model.specs.declared.action.Owner.TheVariants as owner
-use Rattle.driver_model.specs.declared.config.Config.{Config}
-use Rattle.driver_model.specs.declared.event.Event.{Event}
-use Rattle.driver_model.specs.declared.event.EventKind.{EventKind}
-use Rattle.driver_model.specs.declared.event.EventKind.TheVariants as event
-use Rattle.driver_model.specs.declared.outcome.Outcome.{Outcome}
+-- After each turn nothing is left to do, and a turn that changes nothing shows nothing.
+use Rattle.std.proofs.Common.{◌≡◌, ℕ, ◌<◌, ◌==◌, nat_lt, nat_le, ◌&&◌, not, Bool, true, false, List, [], ◌∷◌, length, refl, sym, ap, ◌∙◌, subst, arith}
+use Rattle.containers.proofs.Tests.{chosen, taken_if, left_if, not_le_test, not_both}
 use Rattle.link_core.specs.declared.message.Queued.{Queued}
 use Rattle.link_core.specs.declared.message.Started.{Started}
-use Rattle.link_core.specs.Link.{LinkState, Starting, Settling, is_full, no_boundary, is_held_back, started_one, started_each, started_all}
+use Rattle.link_core.specs.Link.{LinkState, Starting, Settling, no_boundary, is_full, is_held_back, started_one, started_each, started_all}
 use Rattle.link_core.specs.Outbox.{can_offer}
 use Rattle.link_core.specs.Waiting.{without}
-use Rattle.shared_session.specs.declared.connection.Connection.{Connection}
-use Rattle.shared_session.specs.declared.connection.Done.{Done}
-use Rattle.shared_session.specs.declared.connection.Progress.{Progress}
-use Rattle.shared_session.specs.declared.connection.Progress.TheVariants as progress
-use Rattle.shared_session.specs.declared.connection.Waiting.{Waiting}
-use Rattle.shared_session.specs.declared.core_state.Core.{Core}
-use Rattle.shared_session.specs.Requests.{is_open_at, is_waiting_at}
-use Rattle.shared_session.specs.Steps.{acts, is_dialing, is_up, left, shown_each, starts_with, started, placed, told_at_place, advanced, advanced_each, advanced_all, passes, offers, writes, waits_shown, waits_each, waits, flushed}
-use Rattle.shared_session.specs.Turn.{applied, quiet, turn}
-use Rattle.shared_session.specs.Replay.{opening, run_on, put_each, with_room, outcomes_with, outcomes_on}
-use Rattle.cancel_laws.specs.Cancels.{cancel_of}
-use Rattle.containers.proofs.Tests.{chosen}
-use Rattle.cancel_laws.proofs.Once.{IsOnce, once_kept, once_handed_in, none_yet}
-use Rattle.cancel_laws.proofs.Kept.{IsKept, IsKeptThere, There, kept_there, handed_in, told_kept, advanced_kept, started_kept, effect_kept, turn_kept}
+use Rattle.mux_conn.specs.declared.act.LinkAct.TheVariants as act
+use Rattle.mux_conn.specs.declared.connection.MultiplexedConnection.{MultiplexedConnection}
+use Rattle.mux_conn.specs.declared.life.Life.{Life}
+use Rattle.mux_conn.specs.declared.life.Life.TheVariants.{Dialing, Ready, Ended}
+use Rattle.mux_conn.specs.declared.request.Request.{Request}
+use Rattle.mux_conn.specs.declared.request.Waiting.{Waiting}
+use Rattle.mux_conn.specs.Connection.{Work, acted, at_life, with_link, is_dialing, is_stuck}
+use Rattle.mux_conn.specs.Requests.{is_open_at, is_waiting_at, name_at}
+use Rattle.mux_conn.specs.Effects.{cancelled_in, left}
+use Rattle.mux_conn.specs.Passes.{shown_each, starts_with, started_at, started, placed_at, told_at_place, moved_at, moved, still_waiting, moved_each, moved_all, passed}
+use Rattle.mux_conn.specs.Turn.{written_at, written, wait_shown, waits_each, waits_shown, flushed}
+use Rattle.cancel_laws.proofs.Kept.{IsKept, IsKeptThere, There, At, kept_there, CanAsk, told_kept, moved_kept, started_kept}
 
 -- a queue with room, and nothing that holds messages back
-pub record IsWide (r : List Progress) (l : LinkState) : Type 0 where
+pub record IsWideLink (l : LinkState) : Type 0 where
   pub size : 0 < l.size
   pub free : nat_lt l.boundary no_boundary ≡ false
 
-same_wide : (r p : List Progress) (l : LinkState) → IsWide r l → IsWide p l
-same_wide r p l h = record { size = h.size; free = h.free }
+-- the same of a link that is up
+abbrev pub IsWide : Life → Type 0
+IsWide Dialing = Unit {0}
+IsWide (Ready l) = IsWideLink l
+IsWide Ended = Unit {0}
 
-started_wide : (r : List Progress) (s : Starting) (queue : List Queued) → IsWide r s.link → IsWide r (started_each s queue).link
-started_wide r s [] h = record { size = h.size; free = h.free }
-started_wide r s (q ∷ qs) h =
-    chosen (λ (x : Starting). IsWide r x.link) (is_held_back s.link) _ _ (λ t. record { size = h.size; free = h.free })
-    (λ f. started_wide r (started_one s q) qs (record { size = h.size; free = h.free }))
+-- and whatever the requests are
+abbrev pub Wide : List Request → Life → Type 0
+Wide r life = IsWide life
 
-wide_there : IsKeptThere IsWide
+-- that stays where messages start
+wide_starts : (s : Starting) (queue : List Queued) → IsWideLink s.link → IsWideLink (started_each s queue).link
+wide_starts s [] h = record { size = h.size; free = h.free }
+wide_starts s (q ∷ qs) h =
+    chosen (λ (x : Starting). IsWideLink x.link) (is_held_back s.link) _ _ (λ t. record { size = h.size; free = h.free })
+    (λ f. wide_starts (started_one s q) qs (record { size = h.size; free = h.free }))
+
+-- that stays where one is cancelled
+wide_cancelled : (q : ℕ) (life : Life) → IsWide life → IsWide (cancelled_in life q)
+wide_cancelled q Dialing h = h
+wide_cancelled q (Ready l) h = record { size = h.size; free = h.free }
+wide_cancelled q Ended h = h
+
+-- each single change keeps that
+wide_there : IsKeptThere Wide
 wide_there = record {
-  answer = λ r l m h. record { size = h.size; free = h.free };
-  cancel = λ r l m h. record { size = h.size; free = h.free };
-  place = λ r l w t h. record { size = h.size; free = h.free };
-  start = λ r l h. started_wide r (record { link = l; out = [] }) l.queue h;
+  answer = λ r life q h. h;
+  cancel = λ r life q h. wide_cancelled q life h;
+  connect = λ r h. record { size = omega arith; free = refl };
+  place = λ r l q t h. record { size = h.size; free = h.free };
+  start = λ r l h. wide_starts (record { link = l; out = [] }) l.queue h;
   offer = λ r l h. record { size = h.size; free = h.free };
   write = λ r l k h. record { size = h.size; free = h.free };
-  come = λ r l piece h. chosen (λ (x : Settling). IsWide r x.link) l.broken _ _ (λ t. h) (λ f. record { size = h.size; free = h.free });
-  fail = λ r l f h. record { size = h.size; free = h.free };
-  close = λ r l h. record { size = h.size; free = h.free };
+  come = λ r l piece h. chosen (λ (x : Settling). IsWideLink x.link) l.broken _ _ (λ t. h) (λ f. record { size = h.size; free = h.free });
+  end = λ r life h. tt;
 }
 
-wide_kept : IsKept (There IsWide)
+-- so each part of a turn does
+pub wide_kept : IsKept (There Wide)
 wide_kept = kept_there wide_there
 
--- so many submissions
-abbrev Counts : ℕ → List Progress → LinkState → Type 0
-Counts k r l = length r ≡ k
+-- and one more submission does
+pub wide_asks : (m : ℕ) → CanAsk (There Wide) m
+wide_asks m = record { ask = λ r life xs h. h; refuse = λ r life xs o h. h }
 
-count_there : (k : ℕ) → IsKeptThere (Counts k)
-count_there k = record {
-  answer = λ r l m h. length-set r m progress.Answered ∙ h;
-  cancel = λ r l m h. length-set r m progress.Cancelled ∙ h;
-  place = λ r l w t h. length-set r w.number progress.Placed ∙ h;
-  start = λ r l h. h;
-  offer = λ r l h. h;
-  write = λ r l j h. h;
-  come = λ r l piece h. h;
-  fail = λ r l f h. h;
-  close = λ r l h. h;
-}
+-- the queue of a link that is up is empty, and all bytes are offered or an offer is unanswered
+--
+-- the queue
+abbrev pub HasStartedAll : Life → Type 0
+HasStartedAll Dialing = Unit {0}
+HasStartedAll (Ready l) = l.queue ≡ []
+HasStartedAll Ended = Unit {0}
 
-count_kept : (k : ℕ) → IsKept (There (Counts k))
-count_kept k = kept_there (count_there k)
+-- and the bytes
+abbrev pub HasOffered : Life → Type 0
+HasOffered Dialing = Unit {0}
+HasOffered (Ready l) = can_offer l.outbox ≡ false
+HasOffered Ended = Unit {0}
 
 -- where nothing is left to do
-pub record IsIdle (c : Connection) : Type 0 where
+pub record IsIdle (c : MultiplexedConnection) : Type 0 where
   pub fresh : c.fresh ≡ []
-  pub queue : is_up c.phase ≡ true → c.link.queue ≡ []
-  pub waiting : is_up c.phase ≡ true → c.waiting ≡ []
-  pub offered : is_up c.phase ≡ true → can_offer c.link.outbox ≡ false
+  pub queue : HasStartedAll c.life
+  pub waiting : is_dialing c.life ≡ false → c.waiting ≡ []
+  pub offered : HasOffered c.life
 
 -- how a turn comes to that
 --
+-- such a link holds nothing back
 not_held : (l : LinkState) → nat_lt l.boundary no_boundary ≡ false → is_held_back l ≡ false
-not_held l f = ap (λ b. b && (nat_lt 0 (length l.outbox.unwritten) && nat_le l.boundary (length l.outbox.unwritten))) f
+not_held l f = ap (λ (b : Bool). b && (nat_lt 0 (length l.outbox.unwritten) && nat_le l.boundary (length l.outbox.unwritten))) f
 
+-- so all messages of its queue start
 queue_starts : (s : Starting) (queue : List Queued) → nat_lt s.link.boundary no_boundary ≡ false → (started_each s queue).link.queue ≡ []
 queue_starts s [] f = refl
-queue_starts s (q ∷ qs) f = chosen (λ (x : Starting). x.link.queue ≡ []) (is_held_back s.link) _ _ (λ t. let n = not_held s.link f in cc) (λ g. queue_starts (started_one s q) qs f)
+queue_starts s (q ∷ qs) f =
+    chosen (λ (x : Starting). x.link.queue ≡ []) (is_held_back s.link) _ _ (λ t. absurd (not_both (is_held_back s.link) (not_held s.link f) t)) (λ g. queue_starts (started_one s q) qs f)
 
-shown_link : (c : Connection) (ss : List Started) → (shown_each c ss).link ≡ c.link
-shown_link c [] = refl
-shown_link c (s ∷ ss) = shown_link (acts c (action.Start 0 s.msg (owner.Try s.id 0) s.need s.len)) ss
+-- what is shown changes no life
+life_shown : (P : Life → Type 0) (w : Work) (ss : List Started) → P w.conn.life → P (shown_each w ss).conn.life
+life_shown P w [] h = h
+life_shown P w (s ∷ ss) h = life_shown P (acted w (act.Start s.msg (name_at w.conn.requests s.id) s.need s.len)) ss h
 
-all_started : (c : Connection) → IsWide c.requests c.link → (started c).link.queue ≡ []
-all_started c h =
-    let s = started_all (record { link = c.link; out = [] }) in
-    ap (λ (l : LinkState). l.queue) (shown_link (record c { link = s.link }) s.out) ∙ queue_starts (record { link = c.link; out = [] }) c.link.queue h.free
+-- a function of the life that a connection has is looked at with a life that is known to be it
+started_from : (w : Work) (life : Life) → w.conn.life ≡ life → IsWide life → HasStartedAll (started_at w life).conn.life
+started_from w (Ready l) e h =
+    let s = started_all (record { link = l; out = [] }) in
+    life_shown HasStartedAll (with_link w s.link) s.out (queue_starts (record { link = l; out = [] }) l.queue h.free)
+started_from w Dialing e h = subst HasStartedAll (sym e) tt
+started_from w Ended e h = subst HasStartedAll (sym e) tt
 
-one_advanced : (c : Connection) (w : Waiting) → IsWide c.requests c.link → c.link.queue ≡ [] → (advanced c w).link.queue ≡ []
-one_advanced c w h e =
-    let d = told_at_place (placed c w) w in
-    chosen (λ (x : Connection). x.link.queue ≡ []) (is_waiting_at c.requests w.number) (started d) c (λ t. all_started d (told_kept wide_kept (placed c w) w (record { size = h.size; free = h.free }))) (λ f. e)
+-- all messages start on the link that the connection has
+all_started : (w : Work) → At (There Wide) w → HasStartedAll (started w).conn.life
+all_started w h = started_from w w.conn.life refl h
 
+-- also behind a request that is moved
+one_moved_at : (w : Work) (q : Waiting) (life : Life) → IsWide life → HasStartedAll w.conn.life → HasStartedAll (moved_at w q life).conn.life
+one_moved_at w q (Ready l) h e =
+    let d = placed_at w q (Ready l) in
+    all_started (told_at_place d q) (told_kept wide_kept d q (record { size = h.size; free = h.free }))
+one_moved_at w q Ended h e = chosen (λ (x : Work). HasStartedAll x.conn.life) (is_open_at w.conn.requests q.number) _ w (λ t. e) (λ f. e)
+one_moved_at w q Dialing h e = e
+
+-- and behind one that isn't
+one_moved : (w : Work) (q : Waiting) → At (There Wide) w → HasStartedAll w.conn.life → HasStartedAll (moved w q).conn.life
+one_moved w q h e = chosen (λ (x : Work). HasStartedAll x.conn.life) (is_waiting_at w.conn.requests q.number) (moved_at w q w.conn.life) w (λ t. one_moved_at w q w.conn.life h e) (λ f. e)
+
+-- an empty queue has room
 not_full : (l : LinkState) → 0 < l.size → l.queue ≡ [] → is_full l ≡ false
-not_full l s e = ap (λ (q : List Queued). nat_le l.size (length q)) e ∙ above l.size s
-  where
-    above : (n : ℕ) → 0 < n → nat_le n 0 ≡ false
-    above n l = grind (arith, nat_tests)
+not_full l s e = ap (λ (q : List Queued). nat_le l.size (length q)) e ∙ not_le_test l.size 0 s
 
-record IsEmptied (c : Connection) : Type 0 where
-  pub queue : c.link.queue ≡ []
-  pub waiting : c.waiting ≡ []
+-- so requests can't be moved only where the connect isn't answered
+stuck_dials : (life : Life) → IsWide life → HasStartedAll life → is_stuck life ≡ true → is_dialing life ≡ true
+stuck_dials Dialing h e t = refl
+stuck_dials (Ready l) h e t = absurd (not_both (is_full l) (not_full l h.size e) t)
+stuck_dials Ended h e t = t
 
-each_advanced : (c : Connection) (ws : List Waiting) → IsWide c.requests c.link → c.link.queue ≡ [] → IsEmptied (advanced_each c ws)
-each_advanced c [] h e = record { queue = e; waiting = refl }
-each_advanced c (w ∷ ws) h e =
-    chosen IsEmptied (is_full c.link) _ _ (λ t. let f = not_full c.link h.size e in absurd (cc))
-    (λ f. each_advanced (advanced c w) ws (advanced_kept wide_kept c w h) (one_advanced c w h e))
+-- all has moved that can
+record IsMoved (w : Work) : Type 0 where
+  pub queue : HasStartedAll w.conn.life
+  pub waiting : is_dialing w.conn.life ≡ false → w.conn.waiting ≡ []
 
-abbrev UpEmptied : Connection → Type 0
-UpEmptied c = is_up c.phase ≡ true → IsEmptied c
+-- all that wait
+each_moved : (w : Work) (qs : List Waiting) → At (There Wide) w → HasStartedAll w.conn.life → IsMoved (moved_each w qs)
+each_moved w [] h e = record { queue = e; waiting = λ f. refl }
+each_moved w (q ∷ qs) h e =
+    chosen IsMoved (is_stuck w.conn.life) _ _
+    (λ t. record { queue = e; waiting = λ f. absurd (not_both (is_dialing w.conn.life) f (stuck_dials w.conn.life h e t)) })
+    (λ f. each_moved (moved w q) qs (moved_kept wide_kept w q h) (one_moved w q h e))
 
-all_passed : (c : Connection) → IsWide c.requests c.link → UpEmptied (passes c)
-all_passed c h =
-    let d = started c in
-    chosen UpEmptied (is_up c.phase) (advanced_all d) c
-    (λ t u. each_advanced (record d { waiting = [] }) d.waiting (started_kept wide_kept c h) (all_started c h))
-    (λ f u. absurd (cc))
+-- what a turn moves
+all_moved : (w : Work) → At (There Wide) w → IsMoved (passed w)
+all_moved w h = let d = started w in each_moved (still_waiting d []) d.conn.waiting (started_kept wide_kept w h) (all_started w h)
 
-not_both : (b : Bool) → (not b && b) ≡ false
-not_both true = refl
-not_both false = refl
+-- where all is offered, there is nothing more to offer
+offered_none : (b : Bool) → (not b && b) ≡ false
+offered_none true = refl
+offered_none false = refl
 
-record IsWritten (c : Connection) : Type 0 where
-  pub emptied : UpEmptied c
-  pub offered : is_up c.phase ≡ true → can_offer c.link.outbox ≡ false
+-- and all has been offered that can
+record IsWritten (w : Work) : Type 0 where
+  pub moved : IsMoved w
+  pub offered : HasOffered w.conn.life
 
-all_written : (c : Connection) → UpEmptied c → IsWritten (writes c)
-all_written c h =
-    chosen IsWritten (is_up c.phase) (offers c) c
-    (λ t. chosen IsWritten (can_offer c.link.outbox) _ c
-    (λ u. record { emptied = λ v. record { queue = (h v).queue; waiting = (h v).waiting }; offered = λ v. not_both (length c.link.outbox.unwritten == 0) })
-    (λ f. record { emptied = h; offered = λ v. f }))
-    (λ f. record { emptied = h; offered = λ v. cc })
+-- bytes are offered
+written_from : (w : Work) (life : Life) → w.conn.life ≡ life → IsMoved w → IsWritten (written_at w life)
+written_from w (Ready l) e h =
+    chosen IsWritten (can_offer l.outbox) _ w
+    (λ t. record {
+      moved = record { queue = subst HasStartedAll e h.queue; waiting = λ f. h.waiting (ap is_dialing e) };
+      offered = offered_none (length l.outbox.unwritten == 0);
+    })
+    (λ f. record { moved = h; offered = subst HasOffered (sym e) f })
+written_from w Dialing e h = record { moved = h; offered = subst HasOffered (sym e) tt }
+written_from w Ended e h = record { moved = h; offered = subst HasOffered (sym e) tt }
 
-wait_idle : (c : Connection) (n : ℕ) → IsIdle c → IsIdle (waits_shown c n)
-wait_idle c n h =
-    chosen IsIdle (is_waiting_at c.requests n) _ c
-    (λ t. chosen IsIdle (is_dialing c.phase) _ c (λ u. record { fresh = h.fresh; queue = h.queue; waiting = h.waiting; offered = h.offered }) (λ f. h))
-    (λ f. h)
+-- a wait that is shown changes no connection
+wait_conn : (w : Work) (q : ℕ) → (wait_shown w q).conn ≡ w.conn
+wait_conn w q =
+    chosen (λ (x : Work). x.conn ≡ w.conn) (is_waiting_at w.conn.requests q) _ w (λ t. chosen (λ (x : Work). x.conn ≡ w.conn) (is_dialing w.conn.life) _ w (λ u. refl) (λ f. refl)) (λ f. refl)
 
-waits_idle : (c : Connection) (ns : List ℕ) → IsIdle c → IsIdle (waits_each c ns)
-waits_idle c [] h = h
-waits_idle c (n ∷ ns) h = waits_idle (waits_shown c n) ns (wait_idle c n h)
+-- and more of them don't
+pub waits_conn : (w : Work) (qs : List ℕ) → (waits_each w qs).conn ≡ w.conn
+waits_conn w [] = refl
+waits_conn w (q ∷ qs) = waits_conn (wait_shown w q) qs ∙ wait_conn w q
 
-all_flushed : (c : Connection) → UpEmptied c → IsIdle (flushed c)
-all_flushed c h =
-    let d = writes c in
-    let w = all_written c h in
-    waits_idle (record d { fresh = [] }) d.fresh (record { fresh = refl; queue = λ u. (w.emptied u).queue; waiting = λ u. (w.emptied u).waiting; offered = w.offered })
+-- so a turn ends with nothing left to do
+flushed_idle : (w : Work) → IsMoved w → IsIdle (flushed w).conn
+flushed_idle w h =
+    let d = written w in
+    let i = written_from w w.conn.life refl h in
+    let e : MultiplexedConnection = record d.conn { fresh = [] } in
+    subst IsIdle (sym (waits_conn (record d { conn = e }) d.conn.fresh)) (record { fresh = refl; queue = i.moved.queue; waiting = i.moved.waiting; offered = i.offered })
 
-turn_idle : (c : Core) (e : Event) → IsWide c.connection.requests c.connection.link → IsIdle (turn c e).connection
-unfolding turn
-turn_idle c e h =
-    let d = applied (acts c.connection (action.Turn c.turns (cause.Event e))) e.kind in
-    all_flushed (passes d) (all_passed d (effect_kept wide_kept c e (same_wide c.connection.requests (handed_in e.kind c.connection.requests) c.connection.link h)))
+-- whatever there was to do
+pub moves_idle : (w : Work) → At (There Wide) w → IsIdle (flushed (passed w)).conn
+moves_idle w h = flushed_idle (passed w) (all_moved w h)
 
 -- what stays where nothing is left to do
 --
-started_stays : (c : Connection) → c.link.queue ≡ [] → started c ≡ c
-started_stays c e =
-    ap (λ (queue : List Queued). starts_with c (started_each (record { link = c.link; out = [] }) queue)) e
-    ∙ ap (λ (queue : List Queued). record c { link = record c.link { queue = queue } }) (sym e)
+-- no message starts
+started_stays : (w : Work) (life : Life) → w.conn.life ≡ life → HasStartedAll life → started_at w life ≡ w
+started_stays w (Ready l) e h =
+    ap (λ (queue : List Queued). starts_with w (started_each (record { link = l; out = [] }) queue)) h
+    ∙ ap (λ (queue : List Queued). with_link w (record l { queue = queue })) (sym h) ∙ ap (at_life w) (sym e)
+started_stays w Dialing e h = refl
+started_stays w Ended e h = refl
 
-advanced_stays : (c : Connection) → c.waiting ≡ [] → advanced_all c ≡ c
-advanced_stays c e = ap (λ (ws : List Waiting). advanced_each (record c { waiting = [] }) ws) e ∙ ap (λ (ws : List Waiting). record c { waiting = ws }) (sym e)
-
-passes_stays : (c : Connection) → IsIdle c → passes c ≡ c
-passes_stays c h = chosen (λ (x : Connection). x ≡ c) (is_up c.phase) (advanced_all (started c)) c (λ t. ap advanced_all (started_stays c (h.queue t)) ∙ advanced_stays c (h.waiting t)) (λ f. refl)
-
-writes_stays : (c : Connection) → IsIdle c → writes c ≡ c
-writes_stays c h =
-    chosen (λ (x : Connection). x ≡ c) (is_up c.phase) (offers c) c
-    (λ t. chosen (λ (x : Connection). x ≡ c) (can_offer c.link.outbox) _ c (λ u. let f = h.offered t in absurd (cc)) (λ f. refl))
-    (λ f. refl)
-
-waits_stays : (c : Connection) → c.fresh ≡ [] → waits c ≡ c
-waits_stays c e = ap (λ (ns : List ℕ). waits_each (record c { fresh = [] }) ns) e ∙ ap (λ (ns : List ℕ). record c { fresh = ns }) (sym e)
-
-nothing_moves : (c : Connection) → IsIdle c → flushed (passes c) ≡ c
-nothing_moves c h = ap flushed (passes_stays c h) ∙ ap waits (writes_stays c h) ∙ waits_stays c h.fresh
-
-left_idle : (c : Connection) (n : ℕ) → IsIdle c → IsIdle (left c n)
-left_idle c n h =
-    chosen IsIdle (is_open_at c.requests n) _ c
-    (λ t. record { fresh = h.fresh; queue = λ u. ap (λ (q : List Queued). without q n) (h.queue u); waiting = h.waiting; offered = h.offered }) (λ f. h)
-
--- the turn of a cancel is the cancel
-pub cancel_turn : (c : Core) (draw n : ℕ) → IsIdle c.connection → (turn c (cancel_of draw n)).connection ≡ left (acts c.connection (action.Turn c.turns (cause.Event (cancel_of draw n)))) n
-unfolding turn
-cancel_turn c draw n h =
-    let d = acts c.connection (action.Turn c.turns (cause.Event (cancel_of draw n))) in
-    nothing_moves (left d n) (left_idle d n (record { fresh = h.fresh; queue = h.queue; waiting = h.waiting; offered = h.offered }))
-
--- places for outcomes
---
-put_count : (os : List (Option Outcome)) (ds : List Done) → length (put_each os ds) ≡ length os
-put_count os [] = refl
-put_count os (d ∷ ds) = put_count (slice_set os d.submission (Some d.outcome)) ds ∙ length-set os d.submission (Some d.outcome)
-
-room_count : (os : List (Option Outcome)) (k : ℕ) → (k ≡ length os) ⊎ (k ≡ length os + 1) → length (with_room os k) ≡ k
-room_count os k h =
-    chosen (λ (x : List (Option Outcome)). length x ≡ k) (nat_lt (length os) k) _ os
-    (λ t. length-append os (None ∷ []) ∙ more (length os) k h t) (λ f. enough (length os) k h f)
+-- no request is moved
+none_moved : (w : Work) (qs : List Waiting) → (is_dialing w.conn.life ≡ false → qs ≡ []) → moved_each w qs ≡ still_waiting w qs
+none_moved w [] h = refl
+none_moved w (q ∷ qs) h = taken_if (is_stuck w.conn.life) _ _ (dials_stuck w.conn.life (λ f. cc (h f)))
   where
-    not_less : (n : ℕ) → nat_lt n n ≡ false
-    not_less n = grind (arith, nat_tests)
+    dials_stuck : (life : Life) → (is_dialing life ≡ false → ⊥) → is_stuck life ≡ true
+    dials_stuck Dialing f = refl
+    dials_stuck (Ready l) f = absurd (f refl)
+    dials_stuck Ended f = absurd (f refl)
 
-    less : (n : ℕ) → nat_lt n (n + 1) ≡ true
-    less n = grind (arith, nat_tests)
+-- no bytes are offered
+written_stays : (w : Work) (life : Life) → HasOffered life → written_at w life ≡ w
+written_stays w (Ready l) h = left_if (can_offer l.outbox) _ w h
+written_stays w Dialing h = refl
+written_stays w Ended h = refl
 
-    more : (n k : ℕ) → (k ≡ n) ⊎ (k ≡ n + 1) → nat_lt n k ≡ true → n + 1 ≡ k
-    more n k (inl e) t = absurd (let f : nat_lt n n ≡ false = not_less n in let s : nat_lt n k ≡ nat_lt n n = ap (nat_lt n) e in cc)
-    more n k (inr e) t = sym e
+-- no wait is shown
+waits_stays : (w : Work) → w.conn.fresh ≡ [] → waits_shown w ≡ w
+waits_stays w e =
+    ap (λ (ps : List ℕ). waits_each (record w { conn = record w.conn { fresh = [] } }) ps) e ∙ ap (λ (ps : List ℕ). record w { conn = record w.conn { fresh = ps } }) (sym e)
 
-    enough : (n k : ℕ) → (k ≡ n) ⊎ (k ≡ n + 1) → nat_lt n k ≡ false → n ≡ k
-    enough n k (inl e) f = sym e
-    enough n k (inr e) f = absurd (let t : nat_lt n (n + 1) ≡ true = less n in let s : nat_lt n k ≡ nat_lt n (n + 1) = ap (nat_lt n) e in cc)
+-- nothing happens
+pub nothing_moves : (w : Work) → IsIdle w.conn → flushed (passed w) ≡ w
+nothing_moves w h =
+    ap (λ (x : Work). flushed (moved_all x)) (started_stays w w.conn.life refl h.queue) ∙ ap flushed (none_moved (still_waiting w []) w.conn.waiting h.waiting)
+    ∙ ap waits_shown (written_stays w w.conn.life h.offered) ∙ waits_stays w h.fresh
 
-count_handed_in : (kind : EventKind) (r : List Progress) → (length (handed_in kind r) ≡ length r) ⊎ (length (handed_in kind r) ≡ length r + 1)
-count_handed_in (event.Submit s) r = inr (length-append r (progress.Waiting ∷ []))
-count_handed_in (event.Cancel n) r = inl refl
-count_handed_in (event.Connected l) r = inl refl
-count_handed_in (event.Wrote l n) r = inl refl
-count_handed_in (event.Bytes l piece) r = inl refl
-count_handed_in (event.Ended l) r = inl refl
-count_handed_in (event.ReadFault l kind) r = inl refl
-count_handed_in (event.WriteFault l kind) r = inl refl
-count_handed_in event.Shutdown r = inl refl
+-- a cancel leaves nothing to do
+pub left_idle : (c : MultiplexedConnection) (p : ℕ) → IsIdle c → IsIdle (left c p)
+left_idle c p h = chosen IsIdle (is_open_at c.requests p) _ c (λ t. record { fresh = h.fresh; queue = queue_left c.life h.queue; waiting = λ f. h.waiting (dials_left c.life f); offered = offered_left c.life h.offered }) (λ f. h)
+  where
+    queue_left : (life : Life) → HasStartedAll life → HasStartedAll (cancelled_in life p)
+    queue_left Dialing e = e
+    queue_left (Ready l) e = ap (λ (q : List Queued). without q p) e
+    queue_left Ended e = e
 
--- where a history leads
-pub record IsReady (c : Core) (os : List (Option Outcome)) : Type 0 where
-  pub wide : IsWide c.connection.requests c.connection.link
-  pub idle : IsIdle c.connection
-  pub once : (n : ℕ) → IsOnce n c.connection.requests c.connection.link
-  pub count : length os ≡ length c.connection.requests
-  pub acts : c.connection.acts ≡ []
-  pub done : c.connection.done ≡ []
+    dials_left : (life : Life) → is_dialing (cancelled_in life p) ≡ false → is_dialing life ≡ false
+    dials_left Dialing f = f
+    dials_left (Ready l) f = f
+    dials_left Ended f = f
 
-ready_turn : (c : Core) (os : List (Option Outcome)) (e : Event) → IsReady c os → IsReady (quiet (turn c e)) (outcomes_with os (turn c e).connection)
-ready_turn c os e h =
-    let t = (turn c e).connection in
-    let r = c.connection.requests in
-    let l = c.connection.link in
-    let w : IsWide t.requests t.link = turn_kept wide_kept c e (same_wide r (handed_in e.kind r) l h.wide) in
-    let i : IsIdle t = turn_idle c e h.wide in
-    let k : length t.requests ≡ length (handed_in e.kind r) = turn_kept (count_kept (length (handed_in e.kind r))) c e refl in
-    let room : (length t.requests ≡ length os) ⊎ (length t.requests ≡ length os + 1) =
-    subst (λ (n : ℕ). (n ≡ length os) ⊎ (n ≡ length os + 1)) (sym k) (subst (λ (n : ℕ). (length (handed_in e.kind r) ≡ n) ⊎ (length (handed_in e.kind r) ≡ n + 1)) (sym h.count) (count_handed_in e.kind r)) in
-    record {
-      wide = record { size = w.size; free = w.free };
-      idle = record { fresh = i.fresh; queue = i.queue; waiting = i.waiting; offered = i.offered };
-      once = λ n. turn_kept (once_kept n) c e (once_handed_in n e.kind r l (h.once n));
-      count = put_count (with_room os (length t.requests)) t.done ∙ room_count os (length t.requests) room;
-      acts = refl;
-      done = refl;
-    }
-
-pub ready_on : (c : Core) (os : List (Option Outcome)) (es : List Event) → IsReady c os → IsReady (run_on c es) (outcomes_on c os es)
-ready_on c os [] h = h
-ready_on c os (e ∷ es) h = ready_on (quiet (turn c e)) (outcomes_with os (turn c e).connection) es (ready_turn c os e h)
-
-pub opening_ready : (config : Config) (word : ℕ) → IsReady (quiet (opening config word)) []
-opening_ready config word = record {
-  wide = record { size = omega arith; free = refl };
-  idle = record { fresh = refl; queue = λ u. refl; waiting = λ u. refl; offered = λ u. refl };
-  once = λ n. none_yet n [] (opening config word).connection.link refl refl;
-  count = refl;
-  acts = refl;
-  done = refl;
-}
+    offered_left : (life : Life) → HasOffered life → HasOffered (cancelled_in life p)
+    offered_left Dialing e = e
+    offered_left (Ready l) e = e
+    offered_left Ended e = e

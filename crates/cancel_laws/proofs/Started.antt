@@ -1,63 +1,104 @@
 -- A submission that is handed in after the link's connect has started.
-use Rattle.std.proofs.Common.{◌≡◌, ◌≢◌, ℕ, ◌<◌, ◌==◌, Bool, true, false, List, [], ◌∷◌, length, refl, sym, subst, arith}
-use Rattle.std.proofs.lemmas.Bool.Decides.{nat_tests}
-use Rattle.driver_model.specs.declared.action.Action.TheVariants as action
-use Rattle.driver_model.specs.declared.action.Cause.TheVariants as cause
+use Rattle.std.proofs.Common.{◌≡◌, ◌≢◌, ℕ, ◌==◌, Bool, true, false, List, [], ◌∷◌, length, Some, slice_get, refl, sym, ◌∙◌, subst, arith}
+use Rattle.containers.proofs.Tests.{chosen, ne_test, not_both}
 use Rattle.driver_model.specs.declared.config.Config.{Config}
+use Rattle.driver_model.specs.declared.event.EventKind.TheVariants as event
 use Rattle.driver_model.specs.declared.event.Submission.{Submission}
 use Rattle.driver_model.specs.declared.event.Submission.TheVariants.{Cmd, Pipe, Multi}
 use Rattle.driver_model.specs.Request.{packed, shape_of, awaits_reply}
+use Rattle.link_core.specs.Link.{LinkState, offered_of}
 use Rattle.link_core.specs.Outbox.{can_offer}
-use Rattle.shared_session.specs.declared.connection.Connection.{Connection}
-use Rattle.shared_session.specs.declared.connection.Progress.TheVariants as progress
-use Rattle.shared_session.specs.Requests.{is_waiting_at}
-use Rattle.shared_session.specs.Steps.{acts, is_dialing, is_up, passes, offers, writes, waits_shown, waits_each, flushed}
-use Rattle.shared_session.specs.Turn.{applied, quiet, turn}
+use Rattle.link_core.specs.Waiting.{without}
+use Rattle.mux_conn.specs.declared.connection.MultiplexedConnection.{MultiplexedConnection}
+use Rattle.mux_conn.specs.declared.life.Life.{Life}
+use Rattle.mux_conn.specs.declared.life.Life.TheVariants.{Dialing, Ready, Ended}
+use Rattle.mux_conn.specs.declared.request.Pending.{Pending}
+use Rattle.mux_conn.specs.declared.request.Progress.TheVariants as progress
+use Rattle.mux_conn.specs.declared.request.Request.{Request}
+use Rattle.mux_conn.specs.Connection.{Work}
+use Rattle.mux_conn.specs.Requests.{asked}
+use Rattle.mux_conn.specs.Passes.{passed}
+use Rattle.mux_conn.specs.Turn.{written_at, written, flushed}
+use Rattle.shared_session.specs.declared.core_state.Core.{Core}
+use Rattle.shared_session.specs.Turn.{Turning, pending, work_of, heard, counted, moved_on, turn}
 use Rattle.shared_session.specs.Replay.{opening, state_after}
-use Rattle.cancel_laws.specs.Cancels.{connected_at, handed_in_at, handed_in_after_connect, HasStarted}
-use Rattle.containers.proofs.Tests.{chosen}
+use Rattle.cancel_laws.specs.Cancels.{connected_at, handed_in_after_connect, HasStarted}
+use Rattle.cancel_laws.proofs.Rest.{waits_conn}
 
-written : (n : ℕ) (c : Connection) → HasStarted n c → HasStarted n (writes c)
-written n c h =
-    chosen (HasStarted n) (is_up c.phase) (offers c) c (λ t. chosen (HasStarted n) (can_offer c.link.outbox) _ c (λ u. record { placed = h.placed; gone = h.gone }) (λ f. h)) (λ f. h)
+-- request p has had its place, and its message has left the queue of the link, which is up
+record IsStarted (p : ℕ) (c : MultiplexedConnection) : Type 0 where
+  pub request : Request
+  pub known : slice_get c.requests p ≡ Some request
+  pub placed : request.progress ≡ progress.Placed
+  pub link : LinkState
+  pub up : c.life ≡ Ready link
+  pub gone : without link.queue p ≡ link.queue
 
-waited : (n : ℕ) (c : Connection) (m : ℕ) → HasStarted n c → HasStarted n (waits_shown c m)
-waited n c m h =
-    chosen (HasStarted n) (is_waiting_at c.requests m) _ c (λ t. chosen (HasStarted n) (is_dialing c.phase) _ c (λ u. record { placed = h.placed; gone = h.gone }) (λ f. h)) (λ f. h)
+-- a link that is up is one
+same_link : (k l : LinkState) → Ready k ≡ Ready l → k ≡ l
+same_link k l e = cc
 
-all_waited : (n : ℕ) (c : Connection) (ms : List ℕ) → HasStarted n c → HasStarted n (waits_each c ms)
-all_waited n c [] h = h
-all_waited n c (m ∷ ms) h = all_waited n (waits_shown c m) ms (waited n c m h)
+-- bytes are offered
+written_from : (p : ℕ) (w : Work) (life : Life) → w.conn.life ≡ life → IsStarted p w.conn → IsStarted p (written_at w life).conn
+written_from p w (Ready l) e h =
+    let same = same_link h.link l (sym h.up ∙ e) in
+    chosen (λ (x : Work). IsStarted p x.conn) (can_offer l.outbox) _ w
+    (λ t. record {
+      request = h.request;
+      known = h.known;
+      placed = h.placed;
+      link = offered_of l;
+      up = refl;
+      gone = subst (λ (x : LinkState). without x.queue p ≡ x.queue) same h.gone;
+    })
+    (λ f. h)
+written_from p w Dialing e h = h
+written_from p w Ended e h = h
 
 -- what a turn ends with leaves a started message as it is
-all_flushed : (n : ℕ) (c : Connection) → HasStarted n c → HasStarted n (flushed c)
-all_flushed n c h = let d = writes c in let w = written n c h in all_waited n (record d { fresh = [] }) d.fresh (record { placed = w.placed; gone = w.gone })
+all_flushed : (p : ℕ) (w : Work) → IsStarted p w.conn → IsStarted p (flushed w).conn
+all_flushed p w h =
+    let d = written w in
+    let g = written_from p w w.conn.life refl h in
+    let c : MultiplexedConnection = record d.conn { fresh = [] } in
+    subst (IsStarted p) (sym (waits_conn (record d { conn = c }) d.conn.fresh))
+    (record { request = g.request; known = g.known; placed = g.placed; link = g.link; up = g.up; gone = g.gone })
 
+-- so has its submission
+has_started : (n : ℕ) (c : Core) (p : Pending) → slice_get c.table n ≡ Some (Some p) → IsStarted p.number c.single.connection → HasStarted n c
+has_started n c p there h = record { pending = p; there = there; request = h.request; known = h.known; placed = h.placed; link = h.link; up = h.up; gone = h.gone }
+
+-- a list with items has some
 no_bytes : (xs : List ℕ) → xs ≢ [] → (length xs == 0) ≡ false
 no_bytes [] some = absurd (some refl)
-no_bytes (x ∷ xs) some = not_none (length (x ∷ xs)) (omega arith)
-  where
-    not_none : (n : ℕ) → 0 < n → (n == 0) ≡ false
-    not_none n l = grind (arith, nat_tests)
+no_bytes (x ∷ xs) some = ne_test (length (x ∷ xs)) 0 (λ e. omega arith)
 
+-- any submission that has bytes, and whose reply is awaited
 pub any_started : (config : Config) (word draw later : ℕ) (s : Submission) → packed s ≢ [] → awaits_reply s ≡ true → HasStarted 0 (handed_in_after_connect config word draw later s)
 unfolding state_after turn
 any_started config word draw later s some awaited =
-    let c = quiet (turn (quiet (opening config word)) (connected_at draw)) in
-    let e = handed_in_at later s in
-    let d = acts c.connection (action.Turn c.turns (cause.Event e)) in
-    let w : Bool → Connection = λ b. record d { requests = progress.Waiting ∷ []; waiting = record { number = 0; packed = packed s; shape = shape_of s; awaited = b } ∷ []; fresh = 0 ∷ [] } in
-    let f : HasStarted 0 (flushed (passes (w true))) = all_flushed 0 (passes (w true)) (record { placed = refl; gone = refl }) in
-    let g : HasStarted 0 (flushed (passes (w (awaits_reply s)))) = subst (λ (b : Bool). HasStarted 0 (flushed (passes (w b)))) (sym awaited) f in
-    let h : HasStarted 0 (flushed (passes (applied d e.kind))) =
-    chosen (λ (x : Connection). HasStarted 0 (flushed (passes x))) (length (packed s) == 0) _ (w (awaits_reply s)) (λ t. absurd (let n = no_bytes (packed s) some in cc)) (λ n. g) in
-    record { placed = h.placed; gone = h.gone }
+    let c = (turn (opening config word) (connected_at draw).kind).core in
+    let t = heard (counted c) (event.Submit s) in
+    let asks : Bool → Turning = λ b. record t {
+      core = record t.core { table = Some (pending 0) ∷ []; single = record t.core.single { connection = asked t.core.single.connection 0 (packed s) (shape_of s) b } };
+    } in
+    let w = passed (work_of (asks true)) in
+    let f : HasStarted 0 (moved_on (asks true)).core =
+    has_started 0 (moved_on (asks true)).core (pending 0) refl
+    (all_flushed 0 w (record { request = record { name = 0; progress = progress.Placed }; known = refl; placed = refl; link = _; up = refl; gone = refl })) in
+    let g : HasStarted 0 (moved_on (asks (awaits_reply s))).core = subst (λ (b : Bool). HasStarted 0 (moved_on (asks b)).core) (sym awaited) f in
+    chosen (λ (x : Turning). HasStarted 0 (moved_on x).core) (length (packed s) == 0) _ (asks (awaits_reply s))
+    (λ e. absurd (not_both (length (packed s) == 0) (no_bytes (packed s) some) e))
+    (λ n. g)
 
+-- a command
 pub command_started : (config : Config) (word draw later : ℕ) (name : List ℕ) (args : List (List ℕ)) → HasStarted 0 (handed_in_after_connect config word draw later (Cmd (name ∷ args)))
 command_started config word draw later name args = any_started config word draw later (Cmd (name ∷ args)) (λ e. cc) refl
 
+-- a pipeline whose first command has a name
 pub pipeline_started : (config : Config) (word draw later : ℕ) (name : List ℕ) (args : List (List ℕ)) (more : List (List (List ℕ))) → HasStarted 0 (handed_in_after_connect config word draw later (Pipe ((name ∷ args) ∷ more)))
 pipeline_started config word draw later name args more = any_started config word draw later (Pipe ((name ∷ args) ∷ more)) (λ e. cc) refl
 
+-- a transaction
 pub transaction_started : (config : Config) (word draw later : ℕ) (args : List (List ℕ)) (more : List (List (List ℕ))) → HasStarted 0 (handed_in_after_connect config word draw later (Multi (args ∷ more)))
 transaction_started config word draw later args more = any_started config word draw later (Multi (args ∷ more)) (λ e. cc) refl

@@ -4,6 +4,8 @@ use Rattle.driver_model.specs.declared.action.Action.{Action}
 use Rattle.driver_model.specs.declared.action.Action.TheVariants as action
 use Rattle.link_core.specs.declared.message.Entry.{Entry}
 use Rattle.link_core.specs.Link.{LinkState}
+use Rattle.mux_conn.specs.declared.life.Life.{Life}
+use Rattle.mux_conn.specs.declared.life.Life.TheVariants.{Dialing, Ready, Ended}
 
 -- an action without the number of its turn
 abbrev pub unnumbered : Action → Action
@@ -37,14 +39,21 @@ abbrev pub but_for : ℕ → List Action → List Action
 but_for n [] = []
 but_for n (a ∷ more) = shown_of n a ++ but_for n more
 
--- an entry with its items; that of message n as one whose verdict is not wanted
+-- an entry with its items; that of message p as one whose verdict is not wanted
 abbrev pub hushed : ℕ → Entry → Entry
-hushed n e = record e { awaited = e.awaited && not (e.id == n) }
+hushed p e = record e { awaited = e.awaited && not (e.id == p) }
 
+-- and so each entry of a row
 abbrev pub hushed_each : ℕ → List Entry → List Entry
-hushed_each n [] = []
-hushed_each n (e ∷ es) = hushed n e ∷ hushed_each n es
+hushed_each p [] = []
+hushed_each p (e ∷ es) = hushed p e ∷ hushed_each p es
 
--- the link in which the verdict of message n is not wanted, and all else is as it was
+-- the link in which the verdict of message p is not wanted, and all else is as it was
 abbrev pub hushed_link : ℕ → LinkState → LinkState
-hushed_link n l = record l { row = hushed_each n l.row }
+hushed_link p l = record l { row = hushed_each p l.row }
+
+-- the same of a link's life
+abbrev pub hushed_life : ℕ → Life → Life
+hushed_life p Dialing = Dialing
+hushed_life p (Ready l) = Ready (hushed_link p l)
+hushed_life p Ended = Ended

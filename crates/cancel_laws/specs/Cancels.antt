@@ -7,10 +7,14 @@ use Rattle.driver_model.specs.declared.config.Config.{Config}
 use Rattle.driver_model.specs.declared.event.Event.{Event}
 use Rattle.driver_model.specs.declared.event.EventKind.TheVariants as event
 use Rattle.driver_model.specs.declared.event.Submission.{Submission}
+use Rattle.link_core.specs.Link.{LinkState}
 use Rattle.link_core.specs.Waiting.{without}
-use Rattle.shared_session.specs.declared.connection.Connection.{Connection}
-use Rattle.shared_session.specs.declared.connection.Progress.TheVariants as progress
-use Rattle.shared_session.specs.Replay.{state_after, trace_of}
+use Rattle.mux_conn.specs.declared.life.Life.TheVariants.{Ready}
+use Rattle.mux_conn.specs.declared.request.Pending.{Pending}
+use Rattle.mux_conn.specs.declared.request.Progress.TheVariants as progress
+use Rattle.mux_conn.specs.declared.request.Request.{Request}
+use Rattle.shared_session.specs.declared.core_state.Core.{Core}
+use Rattle.shared_session.specs.Replay.{first_link, state_after, trace_of}
 use Rattle.cancel_laws.specs.ButFor.{but_for, all_unnumbered}
 
 -- the caller of submission n drops its request
@@ -19,20 +23,27 @@ cancel_of word n = record { word = word; kind = event.Cancel n }
 
 -- the link's connect succeeded
 abbrev pub connected_at : ℕ → Event
-connected_at word = record { word = word; kind = event.Connected 0 }
+connected_at word = record { word = word; kind = event.Connected first_link }
 
 -- a submission is handed in
 abbrev pub handed_in_at : ℕ → Submission → Event
 handed_in_at word s = record { word = word; kind = event.Submit s }
 
 -- where a session is in which the link's connect succeeded, and this submission was handed in after it
-abbrev pub handed_in_after_connect : Config → ℕ → ℕ → ℕ → Submission → Connection
-handed_in_after_connect config word draw later s = (state_after config word (connected_at draw ∷ handed_in_at later s ∷ [])).connection
+abbrev pub handed_in_after_connect : Config → ℕ → ℕ → ℕ → Submission → Core
+handed_in_after_connect config word draw later s = state_after config word (connected_at draw ∷ handed_in_at later s ∷ [])
 
--- submission n is neither answered nor cancelled; it has had its place, and its message has left the queue
-pub record HasStarted (n : ℕ) (c : Connection) : Type 0 where
-  pub placed : slice_get c.requests n ≡ Some progress.Placed
-  pub gone : without c.link.queue n ≡ c.link.queue
+-- submission n is a request that is neither answered nor cancelled; it has had its place, and its message has left the
+-- queue of the link, which is up
+pub record HasStarted (n : ℕ) (core : Core) : Type 0 where
+  pub pending : Pending
+  pub there : slice_get core.table n ≡ Some (Some pending)
+  pub request : Request
+  pub known : slice_get core.single.connection.requests pending.number ≡ Some request
+  pub placed : request.progress ≡ progress.Placed
+  pub link : LinkState
+  pub up : core.single.connection.life ≡ Ready link
+  pub gone : without link.queue pending.number ≡ link.queue
 
 -- the two traces are the same up to the one more event; that event's turn shows nothing; and then the turns show the
 -- same, but for their numbers and for the outcomes of submission n, of which there are none where the event came

@@ -7,21 +7,21 @@ ghost use Rattle.driver_model.specs.declared.event.Event.{Event};
 ghost use Rattle.driver_model.specs.declared.event.Submission.{Submission};
 ghost use Rattle.driver_model.specs.declared.event.Submission.TheVariants.{Cmd, Pipe, Multi};
 ghost use Rattle.driver_model.specs.Request.{packed, awaits_reply};
-ghost use Rattle.shared_session.specs.Replay.{state_after, outcomes_after, outcome_at, is_bad_after};
-ghost use Rattle.cancel_laws.specs.ButFor.{hushed_link};
+ghost use Rattle.shared_session.specs.Replay.{state_after, trace_of, outcomes_in, outcome_at, is_bad_after};
+ghost use Rattle.cancel_laws.specs.ButFor.{hushed_life};
 ghost use Rattle.cancel_laws.specs.Cancels.{cancel_of, handed_in_after_connect, HasStarted, GoesOn};
 
 /// Does nothing. Its contract: where submission n has started and is open after a history, its cancel there changes
 /// nothing of what comes later but n's own outcome, which it never gets. All other submissions have the same outcomes;
-/// the turns show the same starts, offers, waits and closes in the same order; each item goes to the same message; and
-/// the same events are bad.
+/// the turns show the same starts, offers, waits and closes in the same order; each item goes to the same message, where n's
+/// own is not wanted; and the same events are bad.
 pub fn a_cancel_changes_one_outcome()
-    ensures good { (config : Config) (word draw n : ℕ) (before : List Event) → HasStarted n (state_after config word before).connection → is_bad_after config word before (cancel_of draw n) ≡ false }
-    ensures outcomes { (config : Config) (word draw n m : ℕ) (before after : List Event) → HasStarted n (state_after config word before).connection → m ≢ n → outcome_at (outcomes_after config word (before ++ after)) m ≡ outcome_at (outcomes_after config word (before ++ cancel_of draw n ∷ after)) m }
-    ensures none { (config : Config) (word draw n : ℕ) (before after : List Event) → HasStarted n (state_after config word before).connection → outcome_at (outcomes_after config word (before ++ cancel_of draw n ∷ after)) n ≡ outcome_at (outcomes_after config word before) n }
-    ensures turns { (config : Config) (word draw n : ℕ) (before after : List Event) → HasStarted n (state_after config word before).connection → GoesOn config word n before (cancel_of draw n) after }
-    ensures items { (config : Config) (word draw n : ℕ) (before after : List Event) → HasStarted n (state_after config word before).connection → hushed_link n (state_after config word (before ++ after)).connection.link ≡ (state_after config word (before ++ cancel_of draw n ∷ after)).connection.link }
-    ensures bad { (config : Config) (word draw n : ℕ) (before after : List Event) (e : Event) → HasStarted n (state_after config word before).connection → is_bad_after config word (before ++ after) e ≡ is_bad_after config word (before ++ cancel_of draw n ∷ after) e }
+    ensures good { (config : Config) (word draw n : ℕ) (before : List Event) → HasStarted n (state_after config word before) → is_bad_after config word before (cancel_of draw n) ≡ false }
+    ensures outcomes { (config : Config) (word draw n m : ℕ) (before after : List Event) → HasStarted n (state_after config word before) → m ≢ n → outcome_at (outcomes_in (trace_of config word (before ++ after))) m ≡ outcome_at (outcomes_in (trace_of config word (before ++ cancel_of draw n ∷ after))) m }
+    ensures none { (config : Config) (word draw n : ℕ) (before after : List Event) → HasStarted n (state_after config word before) → outcome_at (outcomes_in (trace_of config word (before ++ cancel_of draw n ∷ after))) n ≡ outcome_at (outcomes_in (trace_of config word before)) n }
+    ensures turns { (config : Config) (word draw n : ℕ) (before after : List Event) → HasStarted n (state_after config word before) → GoesOn config word n before (cancel_of draw n) after }
+    ensures items { (config : Config) (word draw n : ℕ) (before after : List Event) (h : HasStarted n (state_after config word before)) → hushed_life h.pending.number (state_after config word (before ++ after)).single.connection.life ≡ (state_after config word (before ++ cancel_of draw n ∷ after)).single.connection.life }
+    ensures bad { (config : Config) (word draw n : ℕ) (before after : List Event) (e : Event) → HasStarted n (state_after config word before) → is_bad_after config word (before ++ after) e ≡ is_bad_after config word (before ++ cancel_of draw n ∷ after) e }
 {}
 
 /// Does nothing. Its contract: such submissions exist. Any that has bytes, and whose reply is awaited, has started where

@@ -1,0 +1,153 @@
+-- What is true of a session after each history.
+use Rattle.std.proofs.Common.{◌≡◌, ℕ, ◌+◌, ◌==◌, List, [], ◌∷◌, ◌++◌, length, Option, Some, None, slice_get, refl, sym, ◌∙◌, subst, arith}
+use Rattle.containers.proofs.Tests.{chosen}
+use Rattle.driver_model.specs.declared.config.Config.{Config}
+use Rattle.driver_model.specs.declared.event.Event.{Event}
+use Rattle.driver_model.specs.declared.event.EventKind.{EventKind}
+use Rattle.driver_model.specs.declared.event.EventKind.TheVariants as event
+use Rattle.driver_model.specs.Request.{packed}
+use Rattle.mux_conn.specs.declared.life.Life.{Life}
+use Rattle.mux_conn.specs.declared.request.Pending.{Pending}
+use Rattle.mux_conn.specs.declared.request.Progress.TheVariants as progress
+use Rattle.mux_conn.specs.declared.request.Request.{Request}
+use Rattle.mux_conn.specs.Passes.{passed}
+use Rattle.shared_session.specs.declared.core_state.Core.{Core}
+use Rattle.shared_session.specs.Turn.{Turning, work_of, heard, left_by, requested, effect, counted, moved_on, turn}
+use Rattle.shared_session.specs.Replay.{opening, run_on}
+use Rattle.cancel_laws.proofs.Requests.{names, names_stay, names_push, names_count}
+use Rattle.cancel_laws.proofs.Names.{AreNamed, named_refused, named_asked}
+use Rattle.cancel_laws.proofs.Kept.{IsKept, IsKeptThere, There, kept_there, heard_kept, left_by_kept, effect_kept, passed_kept, flushed_kept, turn_kept}
+use Rattle.cancel_laws.proofs.Once.{IsOnce, once_kept, once_asks}
+use Rattle.cancel_laws.proofs.Rest.{IsWide, wide_kept, wide_asks, IsIdle, moves_idle}
+
+-- names
+--
+-- the requests have these names
+abbrev HasNames : List ℕ → List Request → Life → Type 0
+HasNames ns r life = names r ≡ ns
+
+-- each single change keeps names
+names_there : (ns : List ℕ) → IsKeptThere (HasNames ns)
+names_there ns = record {
+  answer = λ r life q h. names_stay r q progress.Closed ∙ h;
+  cancel = λ r life q h. names_stay r q progress.Closed ∙ h;
+  connect = λ r h. h;
+  place = λ r l q t h. names_stay r q.number progress.Placed ∙ h;
+  start = λ r l h. h;
+  offer = λ r l h. h;
+  write = λ r l k h. h;
+  come = λ r l piece h. h;
+  end = λ r life h. h;
+}
+
+-- so each part of a turn does
+names_kept : (ns : List ℕ) → IsKept (There (HasNames ns))
+names_kept ns = kept_there (names_there ns)
+
+-- each request has the name of a submission of its own
+abbrev pub NamedIn : Turning → Type 0
+NamedIn t = AreNamed t.core.table (names t.core.single.connection.requests)
+
+-- the connection hears its link's news
+named_heard : (t : Turning) (kind : EventKind) → NamedIn t → NamedIn (heard t kind)
+named_heard t kind h = subst (AreNamed t.core.table) (sym (heard_kept (names_kept (names t.core.single.connection.requests)) t kind refl)) h
+
+-- where a submission is left, names stay
+named_left : (t : Turning) (who : Option (Option Pending)) → NamedIn t → AreNamed t.core.table (names (left_by t who).core.single.connection.requests)
+named_left t who h = subst (AreNamed t.core.table) (sym (left_by_kept (names_kept (names t.core.single.connection.requests)) t who refl)) h
+
+-- and so does the table
+named_left_by : (t : Turning) (who : Option (Option Pending)) → NamedIn t → NamedIn (left_by t who)
+named_left_by t None h = h
+named_left_by t (Some None) h = h
+named_left_by t (Some (Some p)) h = named_left t (Some (Some p)) h
+
+-- what an event is to the submissions
+named_requested : (t : Turning) (kind : EventKind) → NamedIn t → NamedIn (requested t kind)
+named_requested t (event.Submit s) h =
+    let r = t.core.single.connection.requests in
+    let x : Request = record { name = length t.core.table; progress = progress.Waiting } in
+    chosen NamedIn t.core.shut _ _ (λ u. named_refused t.core.table (names r) h)
+    (λ f. chosen NamedIn (length (packed s) == 0) _ _ (λ u. named_refused t.core.table (names r) h)
+    (λ g. subst (AreNamed (t.core.table ++ Some (record { number = length r }) ∷ [])) (sym (names_push r x)) (named_asked t.core.table (names r) (length r) (names_count r) h)))
+named_requested t (event.Cancel n) h = named_left_by t (slice_get t.core.table n) h
+named_requested t (event.Connected l) h = h
+named_requested t (event.Wrote l count) h = h
+named_requested t (event.Bytes l piece) h = h
+named_requested t (event.Ended l) h = h
+named_requested t (event.ReadFault l kind) h = h
+named_requested t (event.WriteFault l kind) h = h
+named_requested t event.Shutdown h = h
+
+-- and the rest of the turn
+named_moved_on : (t : Turning) → NamedIn t → NamedIn (moved_on t)
+named_moved_on t h =
+    let k = names_kept (names t.core.single.connection.requests) in
+    subst (AreNamed t.core.table) (sym (flushed_kept k (passed (work_of t)) (passed_kept k (work_of t) refl))) h
+
+-- where a history leads
+--
+-- nothing holds messages back and nothing is left to do, and requests have one message at most and names of their own
+pub record IsReady (c : Core) : Type 0 where
+  pub wide : IsWide c.single.connection.life
+  pub idle : IsIdle c.single.connection
+  pub once : (p : ℕ) → IsOnce p c.single.connection.requests c.single.connection.life
+  pub named : AreNamed c.table (names c.single.connection.requests)
+
+-- a turn
+ready_turn : (c : Core) (kind : EventKind) → IsReady c → IsReady (turn c kind).core
+unfolding turn
+ready_turn c kind h =
+    let t = effect (counted c) kind in
+    record {
+      wide = turn_kept wide_kept c (wide_asks (length c.table)) kind h.wide;
+      idle = moves_idle (work_of t) (effect_kept wide_kept (counted c) (wide_asks (length c.table)) kind h.wide);
+      once = λ p. turn_kept (once_kept p) c (once_asks p (length c.table)) kind (h.once p);
+      named = named_moved_on t (named_requested (heard (counted c) kind) kind (named_heard (counted c) kind h.named));
+    }
+
+-- and more of them
+pub ready_on : (c : Core) (es : List Event) → IsReady c → IsReady (run_on c es)
+ready_on c [] h = h
+ready_on c (e ∷ es) h = ready_on (turn c e.kind).core es (ready_turn c e.kind h)
+
+-- the opening
+pub opening_ready : (config : Config) (word : ℕ) → IsReady (opening config word)
+opening_ready config word = record {
+  wide = tt;
+  idle = record { fresh = refl; queue = tt; waiting = λ f. refl; offered = tt };
+  once = λ p. record { within = omega arith };
+  named = record { to = λ n p e. cc; back = λ q n e. cc };
+}
+
+-- the numbers of turns
+--
+-- a submission is left
+left_turns : (t : Turning) (who : Option (Option Pending)) → (left_by t who).core.turns ≡ t.core.turns
+left_turns t None = refl
+left_turns t (Some None) = refl
+left_turns t (Some (Some p)) = refl
+
+-- what an event is to the submissions
+requested_turns : (t : Turning) (kind : EventKind) → (requested t kind).core.turns ≡ t.core.turns
+requested_turns t (event.Submit s) =
+    chosen (λ (x : Turning). x.core.turns ≡ t.core.turns) t.core.shut _ _ (λ u. refl)
+    (λ f. chosen (λ (x : Turning). x.core.turns ≡ t.core.turns) (length (packed s) == 0) _ _ (λ u. refl) (λ g. refl))
+requested_turns t (event.Cancel n) = left_turns t (slice_get t.core.table n)
+requested_turns t (event.Connected l) = refl
+requested_turns t (event.Wrote l count) = refl
+requested_turns t (event.Bytes l piece) = refl
+requested_turns t (event.Ended l) = refl
+requested_turns t (event.ReadFault l kind) = refl
+requested_turns t (event.WriteFault l kind) = refl
+requested_turns t event.Shutdown = refl
+
+-- a turn counts one
+turn_number : (c : Core) (kind : EventKind) → (turn c kind).core.turns ≡ c.turns + 1
+unfolding turn
+turn_number c kind = requested_turns (heard (counted c) kind) kind
+
+-- and more of them count theirs
+pub number_on : (c : Core) (es : List Event) → (run_on c es).turns ≡ c.turns + length es
+number_on c [] = omega arith
+number_on c (e ∷ es) = omega (arith, number_on (turn c e.kind).core es, turn_number c e.kind)

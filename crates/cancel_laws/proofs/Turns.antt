@@ -1,0 +1,156 @@
+-- A turn does the same where one submission's outcome is looked away from, once its message has left the queue.
+use Rattle.std.proofs.Common.{◌≡◌, ◌≢◌, ℕ, ◌<◌, ◌==◌, List, [], ◌∷◌, ◌++◌, length, Option, Some, None, slice_get, refl, sym, ap, ◌∙◌, arith, length-append}
+use Rattle.containers.proofs.Tests.{chosen, either}
+use Rattle.redis_error.specs.declared.redis_error.RedisError.{RedisError}
+use Rattle.redis_error.specs.declared.redis_error.RedisError.TheVariants as error
+use Rattle.driver_model.specs.declared.event.EventKind.{EventKind}
+use Rattle.driver_model.specs.declared.event.EventKind.TheVariants as event
+use Rattle.driver_model.specs.declared.event.Submission.{Submission}
+use Rattle.driver_model.specs.declared.outcome.Outcome.TheVariants as outcome
+use Rattle.driver_model.specs.News.{news}
+use Rattle.driver_model.specs.Request.{packed, shape_of, awaits_reply}
+use Rattle.mux_conn.specs.declared.act.LinkAct.{LinkAct}
+use Rattle.mux_conn.specs.declared.connection.MultiplexedConnection.{MultiplexedConnection}
+use Rattle.mux_conn.specs.declared.request.Pending.{Pending}
+use Rattle.mux_conn.specs.Passes.{passed}
+use Rattle.mux_conn.specs.Turn.{flushed}
+use Rattle.shared_session.specs.declared.core_state.Core.{Core}
+use Rattle.shared_session.specs.Turn.{Turning, work_of, with_work, shut_by, heard, refused, pending, asked_for, submitted, left_by, requested, effect, counted, moved_on, run, turn}
+use Rattle.mux_conn.specs.declared.request.Progress.TheVariants as progress
+use Rattle.cancel_laws.proofs.Requests.{progress_count}
+use Rattle.cancel_laws.proofs.Kept.{At, There, AtCore, heard_kept, effect_kept, passed_kept, turn_kept}
+use Rattle.cancel_laws.proofs.Gone.{IsGone, gone_kept, gone_asks}
+use Rattle.cancel_laws.proofs.Bare.{bare_conn, other_acts, acts_other, bare_applied, bare_asked, bare_left, bare_passed, bare_flushed}
+
+-- all of a session, but for the number of its turns, for how far request p has come, and whether its verdict is wanted
+abbrev pub bare_core : ℕ → Core → Core
+bare_core p c = record c { turns = 0; single = record c.single { connection = bare_conn p c.single.connection } }
+
+-- and but for the outcomes of submission n, whose request it is
+abbrev pub bare_turning : ℕ → ℕ → Turning → Turning
+bare_turning n p t = record { core = bare_core p t.core; acts = other_acts n t.acts }
+
+-- the parts of a turn
+--
+-- the connection hears its link's news
+bare_heard : (n p : ℕ) (t : Turning) (kind : EventKind) → At (There (IsGone n p)) (work_of t) → bare_turning n p (heard t kind) ≡ heard (bare_turning n p t) kind
+bare_heard n p t kind h =
+    ap (with_work (bare_turning n p (record t { core = shut_by t.core kind }))) (bare_applied n p (work_of t) (news t.core.single.link kind) h)
+
+-- the next submission is another one
+pub above : (n : ℕ) (table : List (Option Pending)) → n < length table → length table ≢ n
+above n table l = λ e. omega arith
+
+-- a submission that is answered at once
+bare_refused : (n p : ℕ) (t : Turning) (e : RedisError) → n < length t.core.table → bare_turning n p (refused t e) ≡ refused (bare_turning n p t) e
+bare_refused n p t e l =
+    ap (λ (xs : List LinkAct). record (bare_turning n p (refused t e)) { acts = xs }) (acts_other n (length t.core.table) t.acts (outcome.Fault e) (above n t.core.table l))
+
+-- one that is a request
+bare_asked_for : (n p : ℕ) (t : Turning) (s : Submission) → p < length t.core.single.connection.requests → bare_turning n p (asked_for t s) ≡ asked_for (bare_turning n p t) s
+bare_asked_for n p t s l =
+    let c = t.core.single.connection in
+    let count = sym (progress_count c.requests p progress.Closed) in
+    let conn = bare_asked p c (length t.core.table) (packed s) (shape_of s) (awaits_reply s) l in
+    λ i. record (bare_turning n p t) {
+      core = record (bare_core p t.core) { table = t.core.table ++ Some (pending (count i)) ∷ []; single = record t.core.single { connection = conn i } };
+    }
+
+-- one that is handed in
+bare_submitted : (n p : ℕ) (t : Turning) (s : Submission) → n < length t.core.table → p < length t.core.single.connection.requests
+    → bare_turning n p (submitted t s) ≡ submitted (bare_turning n p t) s
+bare_submitted n p t s l k =
+    either (bare_turning n p) t.core.shut _ _ _ _ (λ u. bare_refused n p t error.Closed l)
+    (λ f. either (bare_turning n p) (length (packed s) == 0) _ _ _ _ (λ u. bare_refused n p t error.EmptyCommand l) (λ g. bare_asked_for n p t s k))
+
+-- one that is left
+bare_left_by : (n p : ℕ) (t : Turning) (who : Option (Option Pending)) → At (There (IsGone n p)) (work_of t) → bare_turning n p (left_by t who) ≡ left_by (bare_turning n p t) who
+bare_left_by n p t None h = refl
+bare_left_by n p t (Some None) h = refl
+bare_left_by n p t (Some (Some q)) h =
+    ap (λ (c : MultiplexedConnection). record (bare_turning n p t) { core = record (bare_core p t.core) { single = record t.core.single { connection = c } } })
+    (bare_left p q.number t.core.single.connection h.none)
+
+-- what an event is to the submissions
+bare_requested : (n p : ℕ) (t : Turning) (kind : EventKind) → n < length t.core.table → At (There (IsGone n p)) (work_of t) → bare_turning n p (requested t kind) ≡ requested (bare_turning n p t) kind
+bare_requested n p t (event.Submit s) l h = bare_submitted n p t s l h.there
+bare_requested n p t (event.Cancel m) l h = bare_left_by n p t (slice_get t.core.table m) h
+bare_requested n p t (event.Connected m) l h = refl
+bare_requested n p t (event.Wrote m count) l h = refl
+bare_requested n p t (event.Bytes m piece) l h = refl
+bare_requested n p t (event.Ended m) l h = refl
+bare_requested n p t (event.ReadFault m kind) l h = refl
+bare_requested n p t (event.WriteFault m kind) l h = refl
+bare_requested n p t event.Shutdown l h = refl
+
+-- the event's own effect
+bare_effect : (n p : ℕ) (t : Turning) (kind : EventKind) → n < length t.core.table → At (There (IsGone n p)) (work_of t) → bare_turning n p (effect t kind) ≡ effect (bare_turning n p t) kind
+bare_effect n p t kind l h =
+    bare_requested n p (heard t kind) kind l (heard_kept (gone_kept n p) t kind h) ∙ ap (λ (x : Turning). requested x kind) (bare_heard n p t kind h)
+
+-- the rest of the turn
+bare_moved_on : (n p : ℕ) (t : Turning) → At (There (IsGone n p)) (work_of t) → bare_turning n p (moved_on t) ≡ moved_on (bare_turning n p t)
+bare_moved_on n p t h =
+    let w = work_of t in
+    ap (with_work (bare_turning n p t)) (bare_flushed n p (passed w) (passed_kept (gone_kept n p) w h) ∙ ap flushed (bare_passed n p w h))
+
+-- a whole turn
+bare_turn : (n p : ℕ) (c : Core) (kind : EventKind) → n < length c.table → AtCore (There (IsGone n p)) c → bare_turning n p (turn c kind) ≡ run (record { core = bare_core p c; acts = [] }) kind
+unfolding turn
+bare_turn n p c kind l h =
+    let t = counted c in
+    bare_moved_on n p (effect t kind) (effect_kept (gone_kept n p) t (gone_asks n p (length c.table) (above n c.table l)) kind h) ∙ ap moved_on (bare_effect n p t kind l h)
+
+-- tables
+--
+-- what an event is to the submissions takes none away
+more_requested : (n : ℕ) (t : Turning) (kind : EventKind) → n < length t.core.table → n < length (requested t kind).core.table
+more_requested n t (event.Submit s) l =
+    chosen (λ (x : Turning). n < length x.core.table) t.core.shut _ _ (λ u. omega (arith, length-append t.core.table (None ∷ [])))
+    (λ f. chosen (λ (x : Turning). n < length x.core.table) (length (packed s) == 0) _ _ (λ u. omega (arith, length-append t.core.table (None ∷ [])))
+    (λ g. omega (arith, length-append t.core.table (Some (pending (length t.core.single.connection.requests)) ∷ []))))
+more_requested n t (event.Cancel m) l = more_left (slice_get t.core.table m)
+  where
+    more_left : (who : Option (Option Pending)) → n < length (left_by t who).core.table
+    more_left None = l
+    more_left (Some None) = l
+    more_left (Some (Some p)) = l
+more_requested n t (event.Connected m) l = l
+more_requested n t (event.Wrote m count) l = l
+more_requested n t (event.Bytes m piece) l = l
+more_requested n t (event.Ended m) l = l
+more_requested n t (event.ReadFault m kind) l = l
+more_requested n t (event.WriteFault m kind) l = l
+more_requested n t event.Shutdown l = l
+
+-- nor does a turn
+pub more_after : (n : ℕ) (c : Core) (kind : EventKind) → n < length c.table → n < length (turn c kind).core.table
+unfolding turn
+more_after n c kind l = more_requested n (heard (counted c) kind) kind l
+
+-- two sessions that are alike but for submission n, whose message has left the queue of both
+pub record AreAlike (n p : ℕ) (c d : Core) : Type 0 where
+  pub same : bare_core p c ≡ bare_core p d
+  pub within : n < length c.table
+  pub within_too : n < length d.table
+  pub gone : AtCore (There (IsGone n p)) c
+  pub gone_too : AtCore (There (IsGone n p)) d
+
+-- a turn of each does the same
+pub turns_same : (n p : ℕ) (c d : Core) (kind : EventKind) → AreAlike n p c d → bare_turning n p (turn c kind) ≡ bare_turning n p (turn d kind)
+turns_same n p c d kind h =
+    bare_turn n p c kind h.within h.gone ∙ ap (λ (x : Core). run (record { core = x; acts = [] }) kind) h.same ∙ sym (bare_turn n p d kind h.within_too h.gone_too)
+
+-- the message stays gone
+pub turn_gone : (n p : ℕ) (c : Core) (kind : EventKind) → n < length c.table → AtCore (There (IsGone n p)) c → AtCore (There (IsGone n p)) (turn c kind).core
+turn_gone n p c kind l h = turn_kept (gone_kept n p) c (gone_asks n p (length c.table) (above n c.table l)) kind h
+
+-- so they stay alike
+pub alike_turn : (n p : ℕ) (c d : Core) (kind : EventKind) → AreAlike n p c d → AreAlike n p (turn c kind).core (turn d kind).core
+alike_turn n p c d kind h = record {
+  same = ap (λ (t : Turning). t.core) (turns_same n p c d kind h);
+  within = more_after n c kind h.within;
+  within_too = more_after n d kind h.within_too;
+  gone = turn_gone n p c kind h.within h.gone;
+  gone_too = turn_gone n p d kind h.within_too h.gone_too;
+}
