@@ -1,7 +1,7 @@
 use crate::{EnqueueError, LinkCore, LinkFault, PushAt, Settled, StartError};
 use driver_model::{Shape, Verdict};
 use redis_error::{FaultKind, RedisError};
-use resp_read::ReadError;
+use resp_read::{ReadError, Reader};
 use resp_value::Value;
 use std::alloc::{AllocError, Global};
 use std::process::Abort;
@@ -408,4 +408,46 @@ fn faults_hit_single_commands(rt: HostRuntime) -> Result<(), AllocError> {
     ];
     let wanted = "put; put; starts 2, open 3; 0 1 2 4; 1 2 1 1; 1 closed; 2 closed; ";
     run(&rt, alloc, 9, 1000, calls.as_slice(), wanted)
+}
+
+/// So long is a message, and a text, of a megabyte.
+const LONG: usize = 1_048_576;
+
+fn is_text_of(value: &Value, len: usize) -> bool {
+    match value {
+        Value::BulkString(text) => text.len() == len,
+        _ => false,
+    }
+}
+
+/// Whether a reader gives one text that long from this piece.
+fn reads_text(alloc: Global, piece: &[u8], len: usize) -> Result<bool, AllocError> {
+    let mut reader = Reader::new(alloc);
+    reader.feed(piece)?;
+    match reader.next_value(alloc) {
+        Ok(Some(value)) => Ok(is_text_of(&value, len)),
+        Ok(None) => Ok(false),
+        Err(_) => Ok(false),
+    }
+}
+
+fn takes_message(alloc: Global, packed: &[u8]) -> bool {
+    let mut link = LinkCore::new(alloc, 1, 1);
+    match link.enqueue(alloc, 7, packed, Shape::Single, false) {
+        Ok(()) => link.is_full(),
+        Err(_) => false,
+    }
+}
+
+#[test]
+fn a_megabyte_comes_through(rt: HostRuntime) -> Result<(), AllocError> {
+    let alloc = rt.alloc();
+    let text = vec![in alloc; b'x'; LONG]?;
+    assert!(rt; takes_message(alloc, text.as_slice()));
+    let mut piece = Vec::new(alloc);
+    piece.extend_from_slice(b"$1048576\r\n".as_slice())?;
+    piece.extend_from_slice(text.as_slice())?;
+    piece.extend_from_slice(b"\r\n".as_slice())?;
+    assert!(rt; reads_text(alloc, piece.as_slice(), LONG)?);
+    Ok(())
 }
