@@ -20,6 +20,8 @@ enum Call {
     Offer,
     Wrote(u64),
     Bytes(&'static str),
+    /// Bytes whose pushes nobody listens to.
+    Unheard(&'static str),
     Cancel(u64),
     Fault(LinkFault),
     Close,
@@ -179,6 +181,22 @@ fn bytes(
     }
 }
 
+fn unheard(
+    alloc: Global,
+    link: &mut LinkCore,
+    text: &str,
+    log: &mut Vec<u8>,
+) -> Result<(), AllocError> {
+    let mut settled = Vec::new(alloc);
+    let answer = link.bytes_unheard(alloc, text.as_bytes(), &mut settled);
+    describe_all(alloc, settled.as_slice(), log)?;
+    match answer {
+        Ok(()) => Ok(()),
+        Err(ReadError::Parse) => log.extend_from_slice(b"malformed; ".as_slice()),
+        Err(ReadError::NoMemory) => Err(AllocError),
+    }
+}
+
 fn fault(
     alloc: Global,
     link: &mut LinkCore,
@@ -226,6 +244,7 @@ fn make(
         Call::Offer => offer(link, log),
         Call::Wrote(count) => wrote(rt, alloc, link, *count, log),
         Call::Bytes(text) => bytes(alloc, link, text, log),
+        Call::Unheard(text) => unheard(alloc, link, text, log),
         Call::Cancel(id) => {
             link.cancel(*id);
             Ok(())
@@ -286,9 +305,13 @@ fn pushes_without_reply_answer_nobody(rt: HostRuntime) -> Result<(), AllocError>
         Call::Start,
         Call::Bytes(">2\r\n$7\r\nmessage\r\n:1\r\n+OK\r\n>3\r\n$9\r\nsubscribe\r\n$1\r\na"),
         Call::Bytes("\r\n:1\r\n>1\r\n+x\r\n"),
+        Call::Put(9, "c"),
+        Call::Start,
+        Call::Unheard(">2\r\n$7\r\nmessage\r\n:1\r\n:5\r\n?"),
     ];
     let wanted =
-        "put; put; starts 2, open 2; 0 7 1 1; 1 8 1 1; 7 okay; push behind 0 of 1; 8 other; push behind 0 of 2; push behind 1 of 0; ";
+        "put; put; starts 2, open 2; 0 7 1 1; 1 8 1 1; 7 okay; push behind 0 of 1; 8 other; push behind 0 of 2; push behind 1 of 0; \
+put; starts 1, open 1; 2 9 1 1; 9 5; malformed; ";
     run(&rt, rt.alloc(), 3, 1000, calls.as_slice(), wanted)
 }
 
