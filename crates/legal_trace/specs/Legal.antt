@@ -33,11 +33,15 @@ link_of b n = b.link (b.story n).link
 abbrev pub NoneIsOwed : Book → Type 0
 NoneIsOwed b = (n : ℕ) → IsOpen b n → owed b n ≡ None
 
+-- the same of those whose link has not ended: its values have given their outcomes
+abbrev pub VerdictsAreShown : Book → Type 0
+VerdictsAreShown b = (n : ℕ) → IsOpen b n → is_over (link_of b n) ≡ false → owed b n ≡ None
+
 -- no link must end
 abbrev pub NoneEnds : Book → Type 0
 NoneEnds b = (l : ℕ) → ending (b.link l) ≡ None
 
--- a link was asked for, and where the one that submissions go to is up, the creation was shown
+-- a link was asked for, and where a link is up, the creation was shown
 pub record IsCreated (b : Book) : Type 0 where
   pub asked : b.links ≢ 0
   pub shown : (l : ℕ) → (b.link l).up ≡ true → b.created ≢ 0
@@ -112,12 +116,12 @@ pub record MayConnect (b : Book) (l : ℕ) (host : List ℕ) (port : ℕ) : Type
   pub next : l ≡ b.links
   pub address : (host ≡ config.host) × (port ≡ config.port)
 
--- a link is closed by what must end it, in the order of their numbers, once the outcomes that its values gave are shown
+-- a link is closed by what must end it, in the order of their numbers, once the outcomes that values gave are shown
 pub record MayClose (b : Book) (l : ℕ) : Type 0 where
   pub why : Ending
   pub ends : ending (b.link l) ≡ Some why
   pub in_order : (m : ℕ) → m < l → ending (b.link m) ≡ None
-  pub answered : NoneIsOwed b
+  pub answered : VerdictsAreShown b
 
 -- the creation is shown once, when a link is up
 pub record MayBeCreated (b : Book) : Type 0 where
@@ -127,13 +131,13 @@ pub record MayBeCreated (b : Book) : Type 0 where
   pub answered : NoneIsOwed b
   pub ended : NoneEnds b
 
--- an open submission is answered with what it is owed, in the order of their numbers; where its link has ended, once all
--- links that must end have
+-- an open submission is answered with what it is owed: first those whose link has not ended, and then the others, once all
+-- links that must end have; each in the order of their numbers
 pub record MayAnswer (b : Book) (n : ℕ) (o : Outcome) : Type 0 where
   pub asked : IsOpen b n
   pub owes : owed b n ≡ Some o
-  pub in_order : (m : ℕ) → m < n → IsOpen b m → owed b m ≡ None
-  pub after_closes : is_over (link_of b n) ≡ true → NoneEnds b
+  pub in_order : (m : ℕ) → m < n → IsOpen b m → is_over (link_of b m) ≡ is_over (link_of b n) → owed b m ≡ None
+  pub after_closes : is_over (link_of b n) ≡ true → NoneEnds b × VerdictsAreShown b
 
 -- no submission before n has a message that may start
 abbrev pub IsFirstToMove : Book → ℕ → Type 0

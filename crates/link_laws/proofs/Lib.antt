@@ -1,3 +1,16 @@
 pub mod Alike
 pub mod Cancels
 pub mod Places
+pub mod Lists
+pub mod Rows
+pub mod Dealt
+pub mod Choices
+pub mod TiedLink
+pub mod Once
+pub mod Settles
+pub mod Runs
+pub mod RunsOnce
+pub mod Pieces
+pub mod Bounds
+pub mod AlikeRuns
+pub mod Started

@@ -1,2 +1,6 @@
 pub mod Alike
 pub mod Places
+pub mod Settles
+pub mod Starts
+pub mod Runs
+pub mod Pieces

@@ -1,10 +1,5 @@
--- Numbers that rise, and places of a list.
-use Rattle.std.proofs.Common.{◌≡◌, ◌⊎◌, inl, inr, ℕ, zero, suc, ◌+◌, ◌<◌, ◌≤◌, List, [], ◌∷◌, ◌++◌, length, Some, None, slice_get, refl, sym, ap, ◌∙◌, subst, arith}
-use Rattle.driver_model.specs.declared.action.Owner.{Owner}
-use Rattle.driver_model.specs.declared.action.Owner.TheVariants as owner
-use Rattle.trace_model.specs.LinkLedger.{Start}
-use Rattle.trace_model.specs.Legal.{IsBelow, AllBelow}
-use Rattle.session_laws.proofs.Rows.{StandsAs}
+-- Numbers that rise.
+use Rattle.std.proofs.Common.{◌≡◌, ◌⊎◌, inl, inr, ℕ, suc, ◌+◌, ◌<◌, ◌≤◌, List, [], ◌∷◌, ◌++◌, arith}
 
 abbrev pub IsIn : ℕ → List ℕ → Type 0
 IsIn n [] = ⊥
@@ -65,67 +60,3 @@ pub rising_apart : (lo : ℕ) (xs ys : List ℕ) (hi m n : ℕ) → Rising lo (x
 rising_apart lo [] ys hi m n h i j = absurd i
 rising_apart lo (x ∷ xs) ys hi m n h (inl e) j = let k = rising_in (suc x) ys hi n (rising_right (suc x) xs ys hi h.1) j in omega (arith, k.0)
 rising_apart lo (x ∷ xs) ys hi m n h (inr i) j = rising_apart (suc x) xs ys hi m n h.1 i j
-
--- the numbers of these messages' submissions
-abbrev pub number_of : Owner → ℕ
-number_of (owner.Try n round) = n
-
-abbrev pub owners : List Start → List ℕ
-owners [] = []
-owners (s ∷ ss) = number_of s.owner ∷ owners ss
-
-pub owners-append : (ss : List Start) (s : Start) → owners (ss ++ s ∷ []) ≡ owners ss ++ number_of s.owner ∷ []
-owners-append [] s = refl
-owners-append (x ∷ ss) s = ap (λ ns. number_of x.owner ∷ ns) (owners-append ss s)
-
-is_below : (n : ℕ) (who : Owner) → number_of who < n → IsBelow n who
-is_below n (owner.Try m round) l = l
-
-below_is : (n : ℕ) (who : Owner) → IsBelow n who → number_of who < n
-below_is n (owner.Try m round) l = l
-
--- a number above all of them
-pub all_below : (n : ℕ) (ss : List Start) → ((m : ℕ) → IsIn m (owners ss) → m < n) → AllBelow n ss
-all_below n [] h = tt
-all_below n (s ∷ ss) h = (is_below n s.owner (h (number_of s.owner) (inl refl)), all_below n ss (λ m i. h m (inr i)))
-
-pub below_all : (n : ℕ) (ss : List Start) (m : ℕ) → AllBelow n ss → IsIn m (owners ss) → m < n
-below_all n [] m h i = absurd i
-below_all n (s ∷ ss) m h (inl e) = let k = below_is n s.owner h.0 in omega arith
-below_all n (s ∷ ss) m h (inr i) = below_all n ss m h.1 i
-
-pub below_start : (n : ℕ) (ss : List Start) (s : Start) → AllBelow n (ss ++ s ∷ []) → AllBelow n ss × (number_of s.owner < n)
-below_start n ss s h = (
-  all_below n ss (λ m i. below_all n (ss ++ s ∷ []) m h (subst (IsIn m) (sym (owners-append ss s)) (in_left m (owners ss) (number_of s.owner ∷ []) i))),
-  below_all n (ss ++ s ∷ []) (number_of s.owner) h (subst (IsIn (number_of s.owner)) (sym (owners-append ss s)) (in_right (number_of s.owner) (owners ss) (number_of s.owner ∷ []) (inl refl))),
-)
-
--- who started is among the owners
-pub started_in : (ss : List Start) (k : ℕ) (who : Owner) → StandsAs ss who k → IsIn (number_of who) (owners ss)
-started_in [] k who h = let e = h.stands in cc
-started_in (s ∷ ss) zero who h = let e : s ≡ h.start = (let x = h.stands in cc) in inl (ap (λ (x : Start). number_of x.owner) e ∙ ap number_of h.owned)
-started_in (s ∷ ss) (suc k) who h = inr (started_in ss k who (record { start = h.start; stands = h.stands; owned = h.owned }))
-
--- and stands at one number
-pub stands_once : (lo : ℕ) (ss : List Start) (hi : ℕ) (who : Owner) (j k : ℕ) → Rising lo (owners ss) hi → StandsAs ss who j → StandsAs ss who k → j ≡ k
-stands_once lo [] hi who j k r h g = let e = h.stands in cc
-stands_once lo (s ∷ ss) hi who zero zero r h g = refl
-stands_once lo (s ∷ ss) hi who zero (suc k) r h g = absurd (let i = started_in ss k who (record { start = g.start; stands = g.stands; owned = g.owned }) in let m = rising_in (suc (number_of s.owner)) (owners ss) hi (number_of who) r.1 i in let e : s ≡ h.start = (let x = h.stands in cc) in let n : number_of s.owner ≡ number_of who = ap (λ (x : Start). number_of x.owner) e ∙ ap number_of h.owned in omega (arith, m.0))
-stands_once lo (s ∷ ss) hi who (suc j) zero r h g = absurd (let i = started_in ss j who (record { start = h.start; stands = h.stands; owned = h.owned }) in let m = rising_in (suc (number_of s.owner)) (owners ss) hi (number_of who) r.1 i in let e : s ≡ g.start = (let x = g.stands in cc) in let n : number_of s.owner ≡ number_of who = ap (λ (x : Start). number_of x.owner) e ∙ ap number_of g.owned in omega (arith, m.0))
-stands_once lo (s ∷ ss) hi who (suc j) (suc k) r h g =
-    ap suc (stands_once (suc (number_of s.owner)) ss hi who j k r.1 (record { start = h.start; stands = h.stands; owned = h.owned }) (record { start = g.start; stands = g.stands; owned = g.owned }))
-
--- places of a list
-pub get_before : {X : Type 0} (xs ys : List X) (n : ℕ) → n < length xs → slice_get (xs ++ ys) n ≡ slice_get xs n
-get_before [] ys n l = absurd (omega arith)
-get_before (x ∷ xs) ys zero l = refl
-get_before (x ∷ xs) ys (suc n) l = get_before xs ys n (omega arith)
-
-pub get_last : {X : Type 0} (xs : List X) (x : X) → slice_get (xs ++ x ∷ []) (length xs) ≡ Some x
-get_last [] x = refl
-get_last (y ∷ xs) x = get_last xs x
-
-pub get_past : {X : Type 0} (xs : List X) (n : ℕ) → length xs ≤ n → slice_get xs n ≡ None
-get_past [] n l = refl
-get_past (x ∷ xs) zero l = absurd (omega arith)
-get_past (x ∷ xs) (suc n) l = get_past xs n (omega arith)

@@ -1,169 +1,204 @@
--- What ties a connection to the account of its trace.
-use Rattle.std.proofs.Common.{◌≡◌, ◌≢◌, ◌⊎◌, ℕ, ◌<◌, ◌≤◌, Bool, true, false, List, [], ◌∷◌, ◌++◌, length, take, if◌then◌else◌, Some, None, slice_get, sym, subst, append_assoc}
+-- What ties a session to the book of its trace.
+use Rattle.std.proofs.Common.{◌≡◌, ◌≢◌, ◌⊎◌, ℕ, ◌+◌, ◌<◌, Bool, true, false, List, [], ◌∷◌, ◌++◌, length, Option, Some, None, slice_get}
 use Rattle.std.specs.List.{AllByRecursion}
+use Rattle.redis_error.specs.declared.redis_error.RedisError.{RedisError}
 use Rattle.resp_value.specs.declared.value.Value.TheVariants.{Nil}
-use Rattle.resp_read.specs.Values.{is_spoiled}
 use Rattle.driver_model.specs.declared.action.Action.{Action}
+use Rattle.driver_model.specs.declared.action.Owner.{Owner}
 use Rattle.driver_model.specs.declared.action.Owner.TheVariants as owner
 use Rattle.driver_model.specs.declared.action.WaitKind.TheVariants as wait
 use Rattle.driver_model.specs.declared.event.Submission.{Submission}
-use Rattle.driver_model.specs.declared.outcome.Outcome.{Outcome}
 use Rattle.driver_model.specs.declared.outcome.Outcome.TheVariants as outcome
 use Rattle.driver_model.specs.declared.outcome.Shape.{Shape}
-use Rattle.driver_model.specs.Request.{packed, shape_of, awaits_reply}
 use Rattle.link_core.specs.declared.message.Entry.{Entry}
 use Rattle.link_core.specs.declared.message.Queued.{Queued}
-use Rattle.link_core.specs.Link.{LinkState, no_boundary}
-use Rattle.shared_session.specs.declared.connection.Connection.{Connection}
-use Rattle.shared_session.specs.declared.connection.Phase.{Phase}
-use Rattle.shared_session.specs.declared.connection.Progress.{Progress}
-use Rattle.shared_session.specs.declared.connection.Waiting.{Waiting}
-use Rattle.shared_session.specs.Requests.{is_open_at, is_waiting_at}
-use Rattle.shared_session.specs.Steps.{is_dialing, is_up, is_ended}
-use Rattle.trace_model.specs.LinkLedger.{LinkLedger, Start, needs}
-use Rattle.trace_model.specs.Story.{Story, is_open}
-use Rattle.trace_model.specs.Submissions.{bytes_of}
-use Rattle.trace_model.specs.Legal.{joined, AllBelow, MayStand, AllStand}
-use Rattle.session_laws.proofs.Account.{Account, account, entered, account-append}
-use Rattle.session_laws.proofs.Standing.{stand-more}
-use Rattle.session_laws.proofs.Rows.{open_list, open_rows, AreNeedy, StandsAs}
-use Rattle.session_laws.proofs.Dealt.{wanted, AreEntries}
-use Rattle.session_laws.proofs.Numbers.{IsIn, Rising, owners}
+use Rattle.link_core.specs.Link.{LinkState}
+use Rattle.link_laws.specs.Settles.{wanted, awaited_ids}
+use Rattle.link_laws.proofs.TiedLink.{TiedLink}
+use Rattle.mux_conn.specs.declared.life.Life.{Life}
+use Rattle.mux_conn.specs.declared.life.Life.TheVariants.{Dialing, Ready, Ended}
+use Rattle.mux_conn.specs.declared.request.Pending.{Pending}
+use Rattle.mux_conn.specs.declared.request.Request.{Request}
+use Rattle.mux_conn.specs.declared.request.Waiting.{Waiting}
+use Rattle.mux_conn.specs.Requests.{name_at, is_open_at, is_waiting_at}
+use Rattle.mux_conn.specs.Effects.{new_link}
+use Rattle.shared_session.specs.declared.core_state.Core.{Core}
+use Rattle.legal_trace.specs.Ledger.{Ledger, Start}
+use Rattle.legal_trace.specs.Story.{Story, blank_story, is_open, bytes_of, shape, is_awaited}
+use Rattle.legal_trace.specs.Book.{Book, blank_book, book}
+use Rattle.legal_trace.specs.Legal.{AllStand}
+use Rattle.session_laws.proofs.Numbers.{IsIn, Rising}
 
--- what counts of a connection, and the submissions that are settled and not answered yet
+-- what counts of a session in the middle of a turn: how many turns it has begun, how many links it has asked for and which
+-- of them is its connection's, whether everything was shut down, the request of each submission; its connection's life and
+-- requests, those that still wait to be moved, those whose wait isn't shown yet; the requests that are settled and not
+-- answered yet; and the requests whose messages started, in order
 pub record Inner : Type 0 where
-  pub phase : Phase
+  pub turns : ℕ
+  pub links : ℕ
+  pub link : ℕ
   pub shut : Bool
-  pub link : LinkState
-  pub requests : List Progress
+  pub table : List (Option Pending)
+  pub life : Life
+  pub requests : List Request
   pub waiting : List Waiting
   pub fresh : List ℕ
   pub pending : List ℕ
+  pub started : List ℕ
+
+-- the link of a connection, which has no messages where it isn't up
+abbrev pub link_in : Life → LinkState
+link_in Dialing = new_link
+link_in (Ready link) = link
+link_in Ended = new_link
+
+-- whose message a request's is
+abbrev pub owner_of : List Request → ℕ → Owner
+owner_of requests p = owner.Try (name_at requests p) 0
 
 abbrev pub queue_ids : List Queued → List ℕ
 queue_ids [] = []
 queue_ids (q ∷ qs) = q.id ∷ queue_ids qs
 
--- the messages of a queue whose verdict is wanted
-abbrev pub awaited_ids : List Queued → List ℕ
-awaited_ids [] = []
-awaited_ids (q ∷ qs) = (if q.awaited then q.id ∷ [] else []) ++ awaited_ids qs
-
 abbrev pub waiting_ids : List Waiting → List ℕ
 waiting_ids [] = []
 waiting_ids (w ∷ ws) = w.number ∷ waiting_ids ws
 
-pub record TiedPhase (up over down : Bool) (created : ℕ) (phase : Phase) (shut : Bool) : Type 0 where
-  pub up_is : up ≡ is_up phase
-  pub over_is : over ≡ is_ended phase
-  pub down_is : down ≡ shut
-  pub uncreated : is_dialing phase ≡ true → created ≡ 0
-  pub created_is : is_up phase ≡ true → created ≡ 1
+-- the owners of starts, in order
+abbrev pub owners_of : List Start → List Owner
+owners_of [] = []
+owners_of (s ∷ ss) = s.owner ∷ owners_of ss
 
-abbrev pub HasBytes : List Submission → Start → Type 0
-HasBytes subs s = bytes_of subs s.owner ≢ []
+abbrev pub owners_each : List Request → List ℕ → List Owner
+owners_each requests [] = []
+owners_each requests (p ∷ ps) = owner_of requests p ∷ owners_each requests ps
 
-pub record TiedLink (l : LinkLedger) (subs : List Submission) (s : LinkState) : Type 0 where
-  pub sent : l.taken ++ s.outbox.unwritten ≡ joined subs l.starts
-  pub offer : l.offer ≡ take s.outbox.offered s.outbox.unwritten
-  pub bound : s.outbox.offered ≤ length s.outbox.unwritten
-  pub rest : l.rest ≡ s.rest
-  pub broken : s.broken ≡ is_spoiled s.rest
-  pub started : s.started ≡ length l.starts
-  pub needy : AreNeedy l.starts
-  pub bytes : AllByRecursion (HasBytes subs) l.starts
-  pub within : length l.dealt ≤ needs l.starts
-  pub size : 0 < s.size
-  pub boundary : s.boundary ≡ no_boundary
+-- the numbers that the session gives are those of the book, and its connection's link is the only one
+pub record TiedNumbers (b : Book) (t : Inner) : Type 0 where
+  pub turns : b.turns ≡ t.turns
+  pub links : b.links ≡ t.links
+  pub submissions : b.submissions ≡ length t.table
+  pub shut : b.shut ≡ t.shut
+  pub one : t.links ≡ t.link + 1
+  pub only : (m : ℕ) → m < t.links → m ≡ t.link
 
-pub record TiedStory (s : Story) (starts : List Start) (subs : List Submission) (down : Bool) (requests : List Progress) (n : ℕ) : Type 0 where
-  pub count : s.count ≡ length subs
-  pub submission : s.submission ≡ slice_get subs n
-  pub shut : s.shut ≡ down
-  pub open_is : is_open_at requests n ≡ is_open s
-  pub once : AllBelow n starts → s.starts ≡ 0
-  pub untold : length subs ≤ n → (s.outcomes ≡ []) × (s.cancelled ≡ false) × (s.waiting ≡ None)
+-- a link that was never asked for
+pub record IsUnknown (l : Ledger) : Type 0 where
+  pub asked : l.asked ≡ false
+  pub up : l.up ≡ false
+  pub end : l.end ≡ None
+
+-- how far the link has come
+abbrev pub TiedLife : Ledger → ℕ → Life → Type 0
+TiedLife l created Dialing = (l.asked ≡ true) × (l.up ≡ false) × (l.end ≡ None) × (created ≡ 0)
+TiedLife l created (Ready link) = (l.asked ≡ true) × (l.up ≡ true) × (l.end ≡ None) × (created ≢ 0)
+TiedLife l created Ended = (l.up ≡ false) × (l.end ≢ None)
+
+-- each request has the name of a submission, whose request it is, and names rise with the requests
+pub record TiedNames (table : List (Option Pending)) (requests : List Request) : Type 0 where
+  pub named : (p : ℕ) (r : Request) → slice_get requests p ≡ Some r → slice_get table r.name ≡ Some (Some (record { number = p }))
+  pub kept : (n : ℕ) (p : Pending) → slice_get table n ≡ Some (Some p) → (r : Request) × (slice_get requests p.number ≡ Some r) × (r.name ≡ n)
+  pub rising : (p q : ℕ) (r s : Request) → p < q → slice_get requests p ≡ Some r → slice_get requests q ≡ Some s → r.name < s.name
+
+-- a submission that was answered at once
+pub record IsRefused (s : Story) : Type 0 where
+  pub what : Submission
+  pub handed_in : s.submission ≡ Some what
+  pub untried : s.tries ≡ []
+  pub error : RedisError
+  pub answered : s.outcomes ≡ outcome.Fault error ∷ []
+
+-- a submission that is a request of the connection of that link
+pub record IsRequest (s : Story) (requests : List Request) (link p : ℕ) : Type 0 where
+  pub what : Submission
+  pub handed_in : s.submission ≡ Some what
+  pub in_time : s.late ≡ false
+  pub on : s.link ≡ link
+  pub some : bytes_of s ≢ []
+  pub open_is : is_open s ≡ is_open_at requests p
+
+-- what a submission's story says, by what the session keeps of it
+abbrev pub TiedStory : Story → List Request → ℕ → Option (Option Pending) → Type 0
+TiedStory s requests link None = s ≡ blank_story
+TiedStory s requests link (Some None) = IsRefused s
+TiedStory s requests link (Some (Some p)) = IsRequest s requests link p.number
+
+-- the messages that started, by the tries of their submissions; each has its submission's shape
+pub record TiedTries (l : Ledger) (story : ℕ → Story) (requests : List Request) (link : ℕ) (started : List ℕ) : Type 0 where
+  pub owners : owners_of l.starts ≡ owners_each requests started
+  pub shapes : (k : ℕ) (p : ℕ) (s : Start) → slice_get started k ≡ Some p → slice_get l.starts k ≡ Some s → s.shape ≡ shape (story (name_at requests p))
+  pub tried : (k p : ℕ) → slice_get started k ≡ Some p → (story (name_at requests p)).tries ≡ record { link = link; message = k } ∷ []
+  pub untried : (p : ℕ) (r : Request) → slice_get requests p ≡ Some r → (IsIn p started → ⊥) → (story r.name).tries ≡ []
 
 -- these are the bytes and the shape of a submission, and whether its reply is awaited
-pub record IsHandedIn (subs : List Submission) (n : ℕ) (bytes : List ℕ) (shape : Shape) (awaited : Bool) : Type 0 where
-  pub what : Submission
-  pub handed_in : slice_get subs n ≡ Some what
-  pub packs : bytes ≡ packed what
-  pub shape_is : shape ≡ shape_of what
-  pub awaited_is : awaited ≡ awaits_reply what
-  pub some : bytes ≢ []
+pub record IsOf (s : Story) (bytes : List ℕ) (of_shape : Shape) (awaited : Bool) : Type 0 where
+  pub packs : bytes ≡ bytes_of s
+  pub shape_is : of_shape ≡ shape s
+  pub awaited_is : awaited ≡ is_awaited s
 
-pub record IsQueued (subs : List Submission) (requests : List Progress) (q : Queued) : Type 0 where
-  pub asked : IsHandedIn subs q.id q.packed q.shape q.awaited
+-- a message of the queue: it is open while its reply is awaited, and else it was answered with Nil at its place
+pub record IsQueued (story : ℕ → Story) (requests : List Request) (q : Queued) : Type 0 where
+  pub is_of : IsOf (story (name_at requests q.id)) q.packed q.shape q.awaited
   pub open_at : q.awaited ≡ true → is_open_at requests q.id ≡ true
+  pub told : q.awaited ≡ false → (story (name_at requests q.id)).outcomes ≡ outcome.One Nil ∷ []
 
-abbrev pub IsPacked : List Submission → Waiting → Type 0
-IsPacked subs w = IsHandedIn subs w.number w.packed w.shape w.awaited
+-- a started message that takes more items: it is open while its verdict is wanted
+pub record IsEntry (requests : List Request) (e : Entry) : Type 0 where
+  pub below : e.id < length requests
+  pub open_at : e.awaited ≡ true → is_open_at requests e.id ≡ true
 
--- those that started, those that have a place in the queue, and those that wait for one, in the order of their numbers;
--- and each open submission is somewhere
-pub record TiedLines (starts : List Start) (subs : List Submission) (queue : List Queued) (row : List Entry) (requests : List Progress) (waiting : List Waiting) (pending : List ℕ) : Type 0 where
-  pub line : Rising 0 (owners starts ++ (queue_ids queue ++ waiting_ids waiting)) (length requests)
-  pub queued : AllByRecursion (IsQueued subs requests) queue
-  pub entries : AreEntries subs row
-  pub packs : AllByRecursion (IsPacked subs) waiting
-  pub apart : (n : ℕ) → IsIn n pending → IsIn n (queue_ids queue) → ⊥
-  pub there : (n : ℕ) → is_open_at requests n ≡ true
-      → IsIn n (pending ++ (wanted row ++ awaited_ids queue)) ⊎ ((is_waiting_at requests n ≡ true) × IsIn n (waiting_ids waiting))
+abbrev pub IsPacked : (ℕ → Story) → List Request → Waiting → Type 0
+IsPacked story requests w = IsOf (story (name_at requests w.number)) w.packed w.shape w.awaited
 
--- the outcomes of a submission that was answered at its place
-abbrev pub nil_only : List Outcome
-nil_only = outcome.One Nil ∷ []
+-- those that started, those that have a place in the queue and those that wait for one, in the order of their numbers; each
+-- of them is as its submission says, and each open request is somewhere
+pub record TiedLines (story : ℕ → Story) (requests : List Request) (link : LinkState) (waiting : List Waiting) (pending started : List ℕ) : Type 0 where
+  pub line : Rising 0 (started ++ (queue_ids link.queue ++ waiting_ids waiting)) (length requests)
+  pub queued : AllByRecursion (IsQueued story requests) link.queue
+  pub entries : AllByRecursion (IsEntry requests) link.row
+  pub packs : AllByRecursion (IsPacked story requests) waiting
+  pub there : (p : ℕ) → is_open_at requests p ≡ true
+      → IsIn p (pending ++ (wanted link.row ++ awaited_ids link.queue)) ⊎ ((is_waiting_at requests p ≡ true) × IsIn p (waiting_ids waiting))
 
-abbrev pub IsTold : (ℕ → List Outcome) → Queued → Type 0
-IsTold outcomes q = q.awaited ≡ false → outcomes q.id ≡ nil_only
+-- at most one request came in this turn, and its wait isn't shown
+abbrev pub IsNew : (ℕ → Story) → List Request → List ℕ → Type 0
+IsNew story requests [] = Unit {0}
+IsNew story requests (p ∷ []) = (story (name_at requests p)).waiting ≡ None
+IsNew story requests (p ∷ q ∷ ps) = ⊥
 
-abbrev pub HasStart : List Start → ℕ → Type 0
-HasStart starts n = (k : ℕ) × StandsAs starts (owner.Try n 0) k
+-- every other request that waits for the connect has shown it
+pub record TiedWaits (story : ℕ → Story) (requests : List Request) (life : Life) (fresh : List ℕ) : Type 0 where
+  pub new : IsNew story requests fresh
+  pub shown : (p : ℕ) → is_waiting_at requests p ≡ true → life ≡ Dialing → (fresh ≡ p ∷ []) ⊎ ((story (name_at requests p)).waiting ≡ Some wait.Connect)
 
--- what nobody awaits was answered when it took its place in the queue, and has started or is there still
-pub record TiedTold (outcomes : ℕ → List Outcome) (starts : List Start) (subs : List Submission) (queue : List Queued) : Type 0 where
-  pub queued : AllByRecursion (IsTold outcomes) queue
-  pub placed : (n : ℕ) (s : Submission) → slice_get subs n ≡ Some s → awaits_reply s ≡ false → outcomes n ≡ nil_only → HasStart starts n ⊎ IsIn n (queue_ids queue)
+pub record Tied (b : Book) (t : Inner) : Type 0 where
+  pub numbers : TiedNumbers b t
+  pub others : (m : ℕ) → m ≢ t.link → IsUnknown (b.link m)
+  pub life : TiedLife (b.link t.link) b.created t.life
+  pub link : t.life ≢ Ended → TiedLink (owner_of t.requests) (b.link t.link) (link_in t.life)
+  pub names : TiedNames t.table t.requests
+  pub story : (n : ℕ) → TiedStory (b.story n) t.requests t.link (slice_get t.table n)
+  pub tries : TiedTries (b.link t.link) b.story t.requests t.link t.started
+  pub lines : TiedLines b.story t.requests (link_in t.life) t.waiting t.pending t.started
+  pub waits : TiedWaits b.story t.requests t.life t.fresh
 
--- at most one submission came in this turn
-abbrev pub IsNew : (ℕ → Story) → List ℕ → Type 0
-IsNew story [] = Unit {0}
-IsNew story (n ∷ []) = (story n).waiting ≡ None
-IsNew story (n ∷ m ∷ ms) = ⊥
+-- each action of the trace stands where it may, and the session is tied to its book
+pub record Sound (trace : List Action) (t : Inner) : Type 0 where
+  pub stands : AllStand blank_book trace
+  pub tied : Tied (book trace) t
 
-pub record TiedWaits (story : ℕ → Story) (requests : List Progress) (phase : Phase) (fresh : List ℕ) : Type 0 where
-  pub new : IsNew story fresh
-  pub shown : (n : ℕ) → is_waiting_at requests n ≡ true → is_dialing phase ≡ true → (fresh ≡ n ∷ []) ⊎ ((story n).waiting ≡ Some wait.Connect)
-
-pub record Tied (a : Account) (p : Inner) : Type 0 where
-  pub phase : TiedPhase a.link.up a.link.over a.shut a.created p.phase p.shut
-  pub link : TiedLink a.link a.subs p.link
-  pub row : is_ended p.phase ≡ false → open_list p.link.row ≡ open_rows a.link.starts a.link.dealt
-  pub count : length p.requests ≡ length a.subs
-  pub story : (n : ℕ) → TiedStory (a.story n) a.link.starts a.subs a.shut p.requests n
-  pub lines : TiedLines a.link.starts a.subs p.link.queue p.link.row p.requests p.waiting p.pending
-  pub told : is_ended p.phase ≡ false → TiedTold (λ n. (a.story n).outcomes) a.link.starts a.subs p.link.queue
-  pub waits : TiedWaits a.story p.requests p.phase p.fresh
-  pub idle : is_up p.phase ≡ false → (p.link.queue ≡ []) × (p.link.row ≡ [])
-  pub ended : is_ended p.phase ≡ true → p.waiting ≡ []
-
--- each action of the trace stands where it may, and the connection is tied to it
-pub record Sound (t : List Action) (p : Inner) : Type 0 where
-  pub stands : AllStand [] t
-  pub tied : Tied (account t) p
-
--- one more action
-pub sound_more : (t : List Action) (a : Action) (p : Inner) → AllStand [] t → MayStand t a → Tied (entered (account t) a) p → Sound (t ++ a ∷ []) p
-sound_more t a p stands may tied = record { stands = stand-more t a stands may; tied = subst (λ (x : Account). Tied x p) (sym (account-append t a)) tied }
-
--- the connection with these in the place of what it keeps in the middle of a turn
-abbrev pub seen : Connection → List Waiting → List ℕ → List ℕ → Inner
-seen c waiting fresh pending = record { phase = c.phase; shut = c.shut; link = c.link; requests = c.requests; waiting = waiting; fresh = fresh; pending = pending }
-
--- behind the actions of the turns before
-pub record Holds (before : List Action) (c : Connection) (waiting : List Waiting) (fresh pending : List ℕ) : Type 0 where
-  pub sound : Sound (before ++ c.acts) (seen c waiting fresh pending)
-
-pub holds_more : (before acts : List Action) (a : Action) (p : Inner) → Sound (before ++ acts ++ a ∷ []) p → Sound (before ++ (acts ++ a ∷ [])) p
-holds_more before acts a p h = subst (λ (t : List Action). Sound t p) (append_assoc before acts (a ∷ [])) h
+-- the session between turns
+abbrev pub inner : Core → List ℕ → Inner
+inner c started = record {
+  turns = c.turns;
+  links = c.links;
+  link = c.single.link;
+  shut = c.shut;
+  table = c.table;
+  life = c.single.connection.life;
+  requests = c.single.connection.requests;
+  waiting = c.single.connection.waiting;
+  fresh = c.single.connection.fresh;
+  pending = [];
+  started = started;
+}

@@ -53,7 +53,7 @@ impl Core {
     ghost use Rattle.driver_model.specs.Request.{packed as packed_of};
     ghost use Rattle.driver_model.specs.News.{told, news};
     ghost use Rattle.mux_conn.specs.Effects.{IsWithin};
-    ghost use Rattle.shared_session.specs.Turn.{heard, refused as refused_in, asked_for, submitted, left_by, requested, effect, run as run_of, turn as turn_of, is_bad, is_spent as is_spent_in, takes_too_much as takes_too_much_in, IsFewer};
+    ghost use Rattle.shared_session.specs.Turn.{heard, refused as refused_in, asked_for, submitted, left_by, requested, effect, run as run_of, turn as turn_of, is_bad, is_spent as is_spent_in, takes_too_much as takes_too_much_in, IsFewer, IsKnown};
 
     /// The connection hears its link's news.
     fn hear(
@@ -153,14 +153,13 @@ impl Core {
     }
 
     /// What an event is to the submissions.
-    #[tactic(auto, unfolding(crate::specs::Turn::is_bad))]
     fn take_requests(
         &mut self,
         alloc: Global,
         event: &EventKind,
         acts: &mut Vec<LinkAct>,
     ) -> Result<(), AllocError>
-        requires good { is_bad self.old event.now ≡ false }
+        requires known { IsKnown (length self.old.table) event.now }
         requires few { length self.old.table < 2 ^ 32 }
         requires fewer { IsFewer self.old }
         ensures turning { OnOk result (record { core = self.new; acts = acts.new.items } ≡ requested (record { core = self.old; acts = acts.old.items }) event.now) }

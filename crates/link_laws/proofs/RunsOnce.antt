@@ -1,0 +1,133 @@
+-- Through a run, each message whose verdict is wanted is settled once, in order, and the end settles all that are left.
+use Rattle.std.proofs.Common.{◌≡◌, ℕ, ◌==◌, nat_le, true, false, ◌||◌, if◌then◌else◌, List, [], ◌∷◌, ◌++◌, length, refl, sym, ap, ◌∙◌, append_assoc}
+use Rattle.std.proofs.lemmas.List.{append-nil}
+use Rattle.containers.proofs.Tests.{chosen, if_true, if_false, not_both}
+use Rattle.resp_read.specs.Items.{items}
+use Rattle.driver_model.specs.declared.action.Owner.{Owner}
+use Rattle.driver_model.specs.declared.news.LinkFault.{LinkFault}
+use Rattle.driver_model.specs.declared.news.LinkFault.TheVariants as fault
+use Rattle.driver_model.specs.News.{came as came_news, failed, shut, took}
+use Rattle.link_core.specs.declared.message.Entry.{Entry}
+use Rattle.link_core.specs.declared.message.Queued.{Queued}
+use Rattle.link_core.specs.declared.message.Settled.{Settled}
+use Rattle.link_core.specs.Dealing.{Dealing, dealt_each}
+use Rattle.link_core.specs.Ends.{row_closed, row_hit, queue_closed}
+use Rattle.link_core.specs.Link.{Starting, Settling, is_full, enqueued, entry_of, is_held_back, started_one, started_each, offered_of, wrote_of, came, came_all, emptied, closed_all, faulted}
+use Rattle.link_core.specs.Outbox.{can_offer}
+use Rattle.legal_trace.specs.Ledger.{offers}
+use Rattle.link_laws.specs.Settles.{settled_ids, wanted, awaited_ids, awaited_of}
+use Rattle.link_laws.specs.Runs.{Operation, place, begin, offer, take_up, read, withdraw, fail, shut_down, pass, Run, heard, settling, over_with, placed, has_come, or_parse, acted, performed, answered_or_wanted, wanted_by, is_withdraw}
+use Rattle.link_laws.proofs.Choices.{chosen_both}
+use Rattle.link_laws.proofs.Once.{settled_ids-append, wanted-append, awaited_ids-append, items_keep, closed_ids, hit_ids}
+
+-- starts
+--
+one_keeps : (row : List Entry) (q : Queued) (qs : List Queued) → wanted (row ++ entry_of q ∷ []) ++ awaited_ids qs ≡ wanted row ++ awaited_ids (q ∷ qs)
+one_keeps row q qs =
+    let own = if q.awaited then q.id ∷ [] else [] in
+    ap (λ ns. ns ++ awaited_ids qs) (wanted-append row (entry_of q ∷ []) ∙ ap (λ ns. wanted row ++ ns) (append-nil own)) ∙ append_assoc (wanted row) own (awaited_ids qs)
+
+-- messages that start keep their places in the line
+pub starts_keep : (s : Starting) (qs : List Queued) → awaited_of (started_each s qs).link ≡ wanted s.link.row ++ awaited_ids qs
+starts_keep s [] = refl
+starts_keep s (q ∷ qs) =
+    chosen (λ (x : Starting). awaited_of x.link ≡ wanted s.link.row ++ awaited_ids (q ∷ qs)) (is_held_back s.link) _ _
+    (λ t. refl)
+    (λ f. starts_keep (started_one s q) qs ∙ one_keeps s.link.row q qs)
+
+-- bytes
+--
+-- what is dealt moves no one out of the line
+dealt_keeps : (d : Settling) (x : Dealing) (rest : List ℕ) → settled_ids x.out ++ wanted x.row ≡ wanted d.link.row → settled_ids (d.out ++ x.out) ++ (wanted x.row ++ rest) ≡ settled_ids d.out ++ (wanted d.link.row ++ rest)
+dealt_keeps d x rest e =
+    ap (λ ns. ns ++ (wanted x.row ++ rest)) (settled_ids-append d.out x.out)
+    ∙ append_assoc (settled_ids d.out) (settled_ids x.out) (wanted x.row ++ rest)
+    ∙ ap (λ ns. settled_ids d.out ++ ns) (sym (append_assoc (settled_ids x.out) (wanted x.row) rest) ∙ ap (λ ns. ns ++ rest) e)
+
+-- those that bytes settle leave it at its front, in order
+pub bytes_keep : (d : Settling) (piece : List ℕ) → settled_ids (came d piece).out ++ awaited_of (came d piece).link ≡ settled_ids d.out ++ awaited_of d.link
+bytes_keep d piece =
+    chosen (λ (x : Settling). settled_ids x.out ++ awaited_of x.link ≡ settled_ids d.out ++ awaited_of d.link) d.link.broken d (came_all d (d.link.rest ++ piece))
+    (λ t. refl)
+    (λ f. dealt_keeps d (dealt_each (record { row = d.link.row; out = [] }) (items (d.link.rest ++ piece))) (awaited_ids d.link.queue) (items_keep (record { row = d.link.row; out = [] }) (items (d.link.rest ++ piece))))
+
+-- the end
+--
+-- a link that ends settles exactly those whose verdict is wanted, in order
+over_once : (r : Run) (more : List Settled) → settled_ids more ≡ awaited_of r.link → settled_ids (over_with r (emptied (settling r) more)).settled ≡ settled_ids r.settled ++ awaited_of r.link
+over_once r more e = settled_ids-append r.settled more ∙ ap (λ ns. settled_ids r.settled ++ ns) e
+
+-- by a fault
+faulted_once : (r : Run) (f : LinkFault) → settled_ids (over_with r (faulted (settling r) f)).settled ≡ settled_ids r.settled ++ awaited_of r.link
+faulted_once r f = over_once r (row_hit f r.link.row ++ queue_closed r.link.queue) (hit_ids f r.link.row r.link.queue)
+
+-- and by the shutdown
+closed_once : (r : Run) → settled_ids (over_with r (closed_all (settling r))).settled ≡ settled_ids r.settled ++ awaited_of r.link
+closed_once r = over_once r (row_closed r.link.row ++ queue_closed r.link.queue) (closed_ids r.link.row r.link.queue)
+
+-- bytes that end the link settle all, and others leave all in line
+parse_keeps : (r : Run) → answered_or_wanted (or_parse r) ≡ answered_or_wanted r
+parse_keeps r =
+    chosen (λ (x : Run). answered_or_wanted x ≡ answered_or_wanted r) r.link.broken (over_with r (faulted (settling r) fault.Parse)) r
+    (λ t. append-nil _ ∙ faulted_once r fault.Parse)
+    (λ f. refl)
+
+-- all operations
+--
+placed_keeps : (r : Run) (q : Queued) → answered_or_wanted (placed r q) ≡ answered_or_wanted r ++ (if is_full r.link || (length q.packed == 0) then [] else (if q.awaited then q.id ∷ [] else []))
+placed_keeps r q =
+    let own = if q.awaited then q.id ∷ [] else [] in
+    chosen_both (λ (x : Run) (ns : List ℕ). answered_or_wanted x ≡ answered_or_wanted r ++ ns) (is_full r.link || (length q.packed == 0)) r (record r { link = enqueued r.link q }) [] own
+    (λ t. sym (append-nil (answered_or_wanted r)))
+    (λ f. ap (λ ns. settled_ids r.settled ++ (wanted r.link.row ++ ns)) (awaited_ids-append r.link.queue (q ∷ []) ∙ ap (λ ns. awaited_ids r.link.queue ++ ns) (append-nil own))
+    ∙ ap (λ ns. settled_ids r.settled ++ ns) (sym (append_assoc (wanted r.link.row) (awaited_ids r.link.queue) own))
+    ∙ sym (append_assoc (settled_ids r.settled) (awaited_of r.link) own))
+
+-- each operation of a link that has not ended leaves all in line
+acted_keeps : (name : ℕ → Owner) (r : Run) (o : Operation) → r.over ≡ false → is_withdraw o ≡ false → answered_or_wanted (acted name r o) ≡ answered_or_wanted r ++ wanted_by r o
+acted_keeps name r (place q) g n = if_false (λ ns. answered_or_wanted (placed r q) ≡ answered_or_wanted r ++ ns) r.over [] (if is_full r.link || (length q.packed == 0) then [] else (if q.awaited then q.id ∷ [] else [])) g (placed_keeps r q)
+acted_keeps name r begin g n = ap (λ ns. settled_ids r.settled ++ ns) (starts_keep (record { link = r.link; out = [] }) r.link.queue) ∙ sym (append-nil (answered_or_wanted r))
+acted_keeps name r offer g n = chosen (λ (x : Run). answered_or_wanted x ≡ answered_or_wanted r ++ []) (can_offer r.link.outbox) _ _ (λ t. sym (append-nil _)) (λ f. sym (append-nil _))
+acted_keeps name r (take_up k) g n = chosen (λ (x : Run). answered_or_wanted x ≡ answered_or_wanted r ++ []) (nat_le k r.link.outbox.offered) _ _ (λ t. sym (append-nil _)) (λ f. sym (append-nil _))
+acted_keeps name r (read piece) g n = parse_keeps (has_come (heard r (came_news piece)) (came (settling r) piece)) ∙ bytes_keep (settling r) piece ∙ sym (append-nil (answered_or_wanted r))
+acted_keeps name r (withdraw id) g n = cc
+acted_keeps name r (fail f) g n = append-nil _ ∙ faulted_once (heard r (failed f)) f ∙ sym (append-nil (answered_or_wanted r))
+acted_keeps name r shut_down g n = append-nil _ ∙ closed_once (heard r shut) ∙ sym (append-nil (answered_or_wanted r))
+acted_keeps name r pass g n = sym (append-nil (answered_or_wanted r))
+
+-- and so does each of one that has
+over_keeps : (r : Run) (o : Operation) → r.over ≡ true → answered_or_wanted r ≡ answered_or_wanted r ++ wanted_by r o
+over_keeps r (place q) g = if_true (λ ns. answered_or_wanted r ≡ answered_or_wanted r ++ ns) r.over [] _ g (sym (append-nil (answered_or_wanted r)))
+over_keeps r _ g = sym (append-nil (answered_or_wanted r))
+
+-- no operation but a withdrawal moves anyone out of the line, and a place in the queue is its end
+pub performed_keeps : (name : ℕ → Owner) (r : Run) (o : Operation) → is_withdraw o ≡ false → answered_or_wanted (performed name r o) ≡ answered_or_wanted r ++ wanted_by r o
+performed_keeps name r o n = chosen (λ (x : Run). answered_or_wanted x ≡ answered_or_wanted r ++ wanted_by r o) r.over r (acted name r o) (over_keeps r o) (λ g. acted_keeps name r o g n)
+
+-- what an operation that ends a link settles
+--
+abbrev SettlesAll : Run → Run → Type 0
+SettlesAll r x = x.over ≡ true → settled_ids x.settled ≡ settled_ids r.settled ++ awaited_of r.link
+
+-- bytes that end a link settle all
+parse_once : (r x : Run) → r.over ≡ false → x.over ≡ false → answered_or_wanted x ≡ answered_or_wanted r → SettlesAll r (or_parse x)
+parse_once r x g f e =
+    chosen (SettlesAll r) x.link.broken (over_with x (faulted (settling x) fault.Parse)) x
+    (λ t o. faulted_once x fault.Parse ∙ e)
+    (λ n o. absurd (not_both x.over f o))
+
+-- each operation that ends a link settles all
+acted_once : (name : ℕ → Owner) (r : Run) (o : Operation) → r.over ≡ false → SettlesAll r (acted name r o)
+acted_once name r (place q) g = chosen (SettlesAll r) (is_full r.link || (length q.packed == 0)) r (record r { link = enqueued r.link q }) (λ t o. absurd (not_both r.over g o)) (λ f o. absurd (not_both r.over g o))
+acted_once name r begin g = λ o. absurd (not_both r.over g o)
+acted_once name r offer g = chosen (SettlesAll r) (can_offer r.link.outbox) (record r { link = offered_of r.link; lines = r.lines ++ offers r.link.outbox.unwritten ∷ [] }) r (λ t o. absurd (not_both r.over g o)) (λ f o. absurd (not_both r.over g o))
+acted_once name r (take_up k) g = chosen (SettlesAll r) (nat_le k r.link.outbox.offered) (record (heard r (took k)) { link = wrote_of r.link k }) r (λ t o. absurd (not_both r.over g o)) (λ f o. absurd (not_both r.over g o))
+acted_once name r (read piece) g = parse_once r (has_come (heard r (came_news piece)) (came (settling r) piece)) g g (bytes_keep (settling r) piece)
+acted_once name r (withdraw id) g = λ o. absurd (not_both r.over g o)
+acted_once name r (fail f) g = λ o. faulted_once (heard r (failed f)) f
+acted_once name r shut_down g = λ o. closed_once (heard r shut)
+acted_once name r pass g = λ o. absurd (not_both r.over g o)
+
+-- what ends a link settles all that it has, in order
+pub performed_once : (name : ℕ → Owner) (r : Run) (o : Operation) → r.over ≡ false → (performed name r o).over ≡ true → settled_ids (performed name r o).settled ≡ settled_ids r.settled ++ awaited_of r.link
+performed_once name r o g = if_false (SettlesAll r) r.over r (acted name r o) g (acted_once name r o g)
