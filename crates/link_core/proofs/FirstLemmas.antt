@@ -15,7 +15,7 @@ module _ {X : Type 0} (test : X → Bool) (items : X → List X) where
   at_first : (x : X) (xs : List X) → test x ≡ true → first_replaced test items (x ∷ xs) ≡ items x ++ xs
   at_first x xs same = rw same refl
 
-  from_index : (xs : List X) (i : ℕ) (x : X) → i < length xs → x ≡ get_or xs i x → drop i xs ≡ x ∷ drop (i + 1) xs
+  pub from_index : (xs : List X) (i : ℕ) (x : X) → i < length xs → x ≡ get_or xs i x → drop i xs ≡ x ∷ drop (i + 1) xs
   from_index xs i x l is = let m = drop_more xs i x l in m ∙ ap (λ y. y ∷ drop (i + 1) xs) (sym is)
 
   pub none_passed : (xs : List X) → Passed xs 0

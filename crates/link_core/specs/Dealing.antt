@@ -1,5 +1,5 @@
 -- Which message gets an item, and what it comes to.
-use Rattle.std.specs.Prelude.{ℕ, nat_lt, List, [], ◌∷◌, ◌++◌, length, if◌then◌else◌}
+use Rattle.std.specs.Prelude.{ℕ, nat_lt, Bool, List, [], ◌∷◌, ◌++◌, length, if◌then◌else◌}
 use Rattle.resp_value.specs.Data.{Data, push, list_of}
 use Rattle.resp_read.specs.Items.{is_item}
 use Rattle.driver_model.specs.Shape.{need, verdict}
@@ -49,3 +49,7 @@ push_behind n _ = []
 abbrev pub pushes_each : Dealing → List Data → List PushAt
 pushes_each d [] = []
 pushes_each d (v ∷ vs) = push_behind (length d.out) v ++ pushes_each (value_dealt d v) vs
+
+-- where nobody listens to pushes none is noted
+abbrev pub heard_of : Bool → List PushAt → List PushAt
+heard_of heard pushes = if heard then pushes else []

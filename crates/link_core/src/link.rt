@@ -2,7 +2,7 @@ ghost use Rattle.std.specs.Prelude.{◌≡◌, ◌≢◌, ◌<◌, ◌≤◌, tr
 ghost use Rattle.link_core.specs.Link.{is_held_back as is_held_back_in};
 ghost use Rattle.link_core.specs.Waiting.{without, awaits as awaits_id};
 ghost use Rattle.link_core.specs.Ends.{queue_closed};
-ghost use Rattle.link_core.specs.Dealing.{Dealing, dealt_each, value_dealt, push_behind, pushes_each};
+ghost use Rattle.link_core.specs.Dealing.{Dealing, dealt_each, value_dealt, push_behind, pushes_each, heard_of};
 ghost use Rattle.resp_value.specs.View.{data_of};
 ghost use Rattle.resp_read.specs.Values.{values, left_over, is_spoiled};
 ghost use Rattle.resp_read.specs.Items.{items, is_item as is_item_data};
@@ -373,13 +373,55 @@ impl LinkCore {
         ensures no_memory { IsErrOf result ReadError.NoMemory → self.new.failed ≡ true }
         ensures failed { self.old.failed ≡ true → IsErrOf result ReadError.NoMemory }
     {
+        self.take_bytes(alloc, piece, true, out, pushes)
+    }
+
+    /// The same where nobody listens to pushes: none is noted or copied.
+    pub fn bytes_unheard(
+        &mut self,
+        alloc: Global,
+        piece: &[u8],
+        out: &mut Vec<Settled>,
+    ) -> Result<(), ReadError>
+        ensures ok { OnOk result (record { link = self.new; out = out.new.items } ≡ came (record { link = self.old; out = out.old.items }) piece.now) }
+        ensures parse { IsErrOf result ReadError.Parse → ◌≡◌ {A = Settling} (record { link = self.new; out = out.new.items }) (came (record { link = self.old; out = out.old.items }) piece.now) }
+        ensures sound { OnOk result (self.new.broken ≡ false) }
+        ensures broken { IsErrOf result ReadError.Parse → self.new.broken ≡ true }
+        ensures err { IsErrOf result ReadError.NoMemory → out.new.items ≡ out.old.items }
+        ensures no_memory { IsErrOf result ReadError.NoMemory → self.new.failed ≡ true }
+        ensures failed { self.old.failed ≡ true → IsErrOf result ReadError.NoMemory }
+    {
+        let mut pushes = Vec::new(alloc);
+        self.take_bytes(alloc, piece, false, out, &mut pushes)
+    }
+
+    /// What `bytes` does; `pushes` gains the pushes where they are `heard`.
+    fn take_bytes(
+        &mut self,
+        alloc: Global,
+        piece: &[u8],
+        heard: bool,
+        out: &mut Vec<Settled>,
+        pushes: &mut Vec<PushAt>,
+    ) -> Result<(), ReadError>
+        ensures ok { OnOk result (record { link = self.new; out = out.new.items } ≡ came (record { link = self.old; out = out.old.items }) piece.now) }
+        ensures parse { IsErrOf result ReadError.Parse → ◌≡◌ {A = Settling} (record { link = self.new; out = out.new.items }) (came (record { link = self.old; out = out.old.items }) piece.now) }
+        ensures pushes_ok { OnOk result (pushes.new.items ≡ pushes.old.items ++ heard_of heard (pushes_came self.old piece.now)) }
+        ensures pushes_parse { IsErrOf result ReadError.Parse → pushes.new.items ≡ pushes.old.items ++ heard_of heard (pushes_came self.old piece.now) }
+        ensures sound { OnOk result (self.new.broken ≡ false) }
+        ensures broken { IsErrOf result ReadError.Parse → self.new.broken ≡ true }
+        ensures err { IsErrOf result ReadError.NoMemory → out.new.items ≡ out.old.items }
+        ensures pushes_err { IsErrOf result ReadError.NoMemory → pushes.new.items ≡ pushes.old.items }
+        ensures no_memory { IsErrOf result ReadError.NoMemory → self.new.failed ≡ true }
+        ensures failed { self.old.failed ≡ true → IsErrOf result ReadError.NoMemory }
+    {
         if self.failed {
             return Err(ReadError::NoMemory);
         }
         if self.broken {
             return Err(ReadError::Parse);
         }
-        match self.try_bytes(alloc, piece, out, pushes) {
+        match self.try_bytes(alloc, piece, heard, out, pushes) {
             Ok(()) => {}
             Err(_) => return Err(ReadError::NoMemory),
         }
@@ -394,13 +436,14 @@ impl LinkCore {
         &mut self,
         alloc: Global,
         piece: &[u8],
+        heard: bool,
         out: &mut Vec<Settled>,
         pushes: &mut Vec<PushAt>,
     ) -> Result<(), AllocError>
         requires sound { self.old.failed ≡ false }
         requires whole { self.old.broken ≡ false }
         ensures ok { OnOk result (record { link = self.new; out = out.new.items } ≡ came_all (record { link = self.old; out = out.old.items }) (self.old.rest ++ piece.now)) }
-        ensures pushes { OnOk result (pushes.new.items ≡ pushes.old.items ++ pushes_of self.old (self.old.rest ++ piece.now)) }
+        ensures pushes { OnOk result (pushes.new.items ≡ pushes.old.items ++ heard_of heard (pushes_of self.old (self.old.rest ++ piece.now))) }
         ensures err { OnErr result (out.new.items ≡ out.old.items) }
         ensures pushes_err { OnErr result (pushes.new.items ≡ pushes.old.items) }
         ensures no_memory { OnErr result (self.new.failed ≡ true) }
@@ -411,6 +454,7 @@ impl LinkCore {
         let mut pushed = Vec::new(alloc);
         self.broken = deal_all(
             alloc,
+            heard,
             &mut self.reader,
             &mut self.row,
             &mut settled,
@@ -448,6 +492,7 @@ fn append_both(
 /// Deals each value that a reader gives, and answers whether what is left begins no value.
 fn deal_all(
     alloc: Global,
+    heard: bool,
     reader: &mut Reader,
     row: &mut Row,
     out: &mut Vec<Settled>,
@@ -455,14 +500,14 @@ fn deal_all(
 ) -> Result<bool, AllocError>
     requires { reader.old.health ≡ Health.Sound }
     ensures dealt { OnOk result (record { row = row.new; out = out.new.items } ≡ dealt_each (record { row = row.old; out = out.old.items }) (items reader.old.rest)) }
-    ensures pushed { OnOk result (pushes.new.items ≡ pushes.old.items ++ pushes_each (record { row = row.old; out = out.old.items }) (values reader.old.rest)) }
+    ensures pushed { OnOk result (pushes.new.items ≡ pushes.old.items ++ heard_of heard (pushes_each (record { row = row.old; out = out.old.items }) (values reader.old.rest))) }
     ensures rest { OnOk result (reader.new.rest ≡ left_over reader.old.rest) }
     ensures spoiled { IfOk result (λ broken. broken ≡ is_spoiled reader.old.rest) }
     ensures sound { IfOk result (λ broken. broken ≡ false → reader.new.health ≡ Health.Sound) }
 {
     'values: loop {
         match reader.next_value(alloc) {
-            Ok(Some(value)) => match deal_value(alloc, value, row, out, pushes) {
+            Ok(Some(value)) => match deal_value(alloc, value, heard, row, out, pushes) {
                 Ok(()) => {}
                 Err(error) => return Err(error),
             },
@@ -473,22 +518,39 @@ fn deal_all(
     }
 }
 
-/// One value: a push is noted, and an item is dealt.
+/// One value: a push is noted where it is heard, and an item is dealt.
 fn deal_value(
     alloc: Global,
     value: Value,
+    heard: bool,
     row: &mut Row,
     out: &mut Vec<Settled>,
     pushes: &mut Vec<PushAt>,
 ) -> Result<(), AllocError>
     ensures dealt { OnOk result (record { row = row.new; out = out.new.items } ≡ value_dealt (record { row = row.old; out = out.old.items }) (data_of value)) }
-    ensures pushed { OnOk result (pushes.new.items ≡ pushes.old.items ++ push_behind (length out.old.items) (data_of value)) }
+    ensures pushed { OnOk result (pushes.new.items ≡ pushes.old.items ++ heard_of heard (push_behind (length out.old.items) (data_of value))) }
 {
-    note_push(alloc, &value, out.len() as u64, pushes)?;
+    note_heard(alloc, &value, heard, out.len() as u64, pushes)?;
     if is_item(&value) {
         return row.deal(alloc, value, out);
     }
     Ok(())
+}
+
+/// A push is noted where it is heard.
+fn note_heard(
+    alloc: Global,
+    value: &Value,
+    heard: bool,
+    settled: u64,
+    pushes: &mut Vec<PushAt>,
+) -> Result<(), AllocError>
+    ensures { OnOk result (pushes.new.items ≡ pushes.old.items ++ heard_of heard (push_behind settled (data_of value.now))) }
+{
+    if !heard {
+        return Ok(());
+    }
+    note_push(alloc, value, settled, pushes)
 }
 
 /// A push, behind so many settled messages.

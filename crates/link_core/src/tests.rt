@@ -1,7 +1,7 @@
 use crate::{EnqueueError, LinkCore, LinkFault, PushAt, Settled, StartError};
 use driver_model::{Shape, Verdict};
 use redis_error::{FaultKind, RedisError};
-use resp_read::ReadError;
+use resp_read::{ReadError, Reader};
 use resp_value::Value;
 use std::alloc::{AllocError, Global};
 use std::process::Abort;
@@ -20,6 +20,8 @@ enum Call {
     Offer,
     Wrote(u64),
     Bytes(&'static str),
+    /// Bytes whose pushes nobody listens to.
+    Unheard(&'static str),
     Cancel(u64),
     Fault(LinkFault),
     Close,
@@ -179,6 +181,22 @@ fn bytes(
     }
 }
 
+fn unheard(
+    alloc: Global,
+    link: &mut LinkCore,
+    text: &str,
+    log: &mut Vec<u8>,
+) -> Result<(), AllocError> {
+    let mut settled = Vec::new(alloc);
+    let answer = link.bytes_unheard(alloc, text.as_bytes(), &mut settled);
+    describe_all(alloc, settled.as_slice(), log)?;
+    match answer {
+        Ok(()) => Ok(()),
+        Err(ReadError::Parse) => log.extend_from_slice(b"malformed; ".as_slice()),
+        Err(ReadError::NoMemory) => Err(AllocError),
+    }
+}
+
 fn fault(
     alloc: Global,
     link: &mut LinkCore,
@@ -226,6 +244,7 @@ fn make(
         Call::Offer => offer(link, log),
         Call::Wrote(count) => wrote(rt, alloc, link, *count, log),
         Call::Bytes(text) => bytes(alloc, link, text, log),
+        Call::Unheard(text) => unheard(alloc, link, text, log),
         Call::Cancel(id) => {
             link.cancel(*id);
             Ok(())
@@ -286,9 +305,13 @@ fn pushes_without_reply_answer_nobody(rt: HostRuntime) -> Result<(), AllocError>
         Call::Start,
         Call::Bytes(">2\r\n$7\r\nmessage\r\n:1\r\n+OK\r\n>3\r\n$9\r\nsubscribe\r\n$1\r\na"),
         Call::Bytes("\r\n:1\r\n>1\r\n+x\r\n"),
+        Call::Put(9, "c"),
+        Call::Start,
+        Call::Unheard(">2\r\n$7\r\nmessage\r\n:1\r\n:5\r\n?"),
     ];
     let wanted =
-        "put; put; starts 2, open 2; 0 7 1 1; 1 8 1 1; 7 okay; push behind 0 of 1; 8 other; push behind 0 of 2; push behind 1 of 0; ";
+        "put; put; starts 2, open 2; 0 7 1 1; 1 8 1 1; 7 okay; push behind 0 of 1; 8 other; push behind 0 of 2; push behind 1 of 0; \
+put; starts 1, open 1; 2 9 1 1; 9 5; malformed; ";
     run(&rt, rt.alloc(), 3, 1000, calls.as_slice(), wanted)
 }
 
@@ -408,4 +431,46 @@ fn faults_hit_single_commands(rt: HostRuntime) -> Result<(), AllocError> {
     ];
     let wanted = "put; put; starts 2, open 3; 0 1 2 4; 1 2 1 1; 1 closed; 2 closed; ";
     run(&rt, alloc, 9, 1000, calls.as_slice(), wanted)
+}
+
+/// So long is a message, and a text, of a megabyte.
+const LONG: usize = 1_048_576;
+
+fn is_text_of(value: &Value, len: usize) -> bool {
+    match value {
+        Value::BulkString(text) => text.len() == len,
+        _ => false,
+    }
+}
+
+/// Whether a reader gives one text that long from this piece.
+fn reads_text(alloc: Global, piece: &[u8], len: usize) -> Result<bool, AllocError> {
+    let mut reader = Reader::new(alloc);
+    reader.feed(piece)?;
+    match reader.next_value(alloc) {
+        Ok(Some(value)) => Ok(is_text_of(&value, len)),
+        Ok(None) => Ok(false),
+        Err(_) => Ok(false),
+    }
+}
+
+fn takes_message(alloc: Global, packed: &[u8]) -> bool {
+    let mut link = LinkCore::new(alloc, 1, 1);
+    match link.enqueue(alloc, 7, packed, Shape::Single, false) {
+        Ok(()) => link.is_full(),
+        Err(_) => false,
+    }
+}
+
+#[test]
+fn a_megabyte_comes_through(rt: HostRuntime) -> Result<(), AllocError> {
+    let alloc = rt.alloc();
+    let text = vec![in alloc; b'x'; LONG]?;
+    assert!(rt; takes_message(alloc, text.as_slice()));
+    let mut piece = Vec::new(alloc);
+    piece.extend_from_slice(b"$1048576\r\n".as_slice())?;
+    piece.extend_from_slice(text.as_slice())?;
+    piece.extend_from_slice(b"\r\n".as_slice())?;
+    assert!(rt; reads_text(alloc, piece.as_slice(), LONG)?);
+    Ok(())
 }

@@ -1,1 +1,3 @@
 pub mod Spent
+pub mod Waits
+pub mod Entries

@@ -16,9 +16,10 @@ use Rattle.mux_conn.specs.declared.life.Life.TheVariants.{Dialing, Ready, Ended}
 use Rattle.mux_conn.specs.declared.request.Waiting.{Waiting}
 use Rattle.mux_conn.specs.Connection.{Work, with_link, is_dialing, is_stuck, started_in, is_spent_in}
 use Rattle.mux_conn.specs.Requests.{is_open_at, is_waiting_at, answered}
-use Rattle.mux_conn.specs.Effects.{closed}
+use Rattle.driver_model.specs.News.{News}
+use Rattle.mux_conn.specs.Effects.{closed, applied}
 use Rattle.mux_conn.specs.Passes.{shown_each, started, started_at, placed_at, told_at_place, moved, moved_at, moved_each, moved_all, passed, still_waiting}
-use Rattle.mux_conn.specs.Turn.{offers, written, written_at, wait_shown, waits_each, waits_shown, flushed}
+use Rattle.mux_conn.specs.Turn.{written, written_at, wait_shown, waits_each, flushed, stepped}
 
 -- how many messages have started
 abbrev pub count : Work → ℕ
@@ -111,3 +112,7 @@ written_count w (Ready link) e = let from : count w ≡ link.started = ap starte
 -- what a turn ends with starts nothing
 pub flushed_count : (w : Work) → count (flushed w) ≡ count w
 flushed_count w = waits_count (record (written w) { conn = record (written w).conn { fresh = [] } }) (written w).conn.fresh ∙ written_count w w.conn.life refl
+
+-- a number that runs out has run out at the end of the turn
+pub spent_turn : (w : Work) (news : News) → is_spent_in (passed (applied w news)).conn.life ≡ true → is_spent_in (stepped w news).conn.life ≡ true
+spent_turn w news h = ap (λ n. nat_le (2 ^ 32) n) (flushed_count (passed (applied w news))) ∙ h

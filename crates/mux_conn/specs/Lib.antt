@@ -2,4 +2,5 @@ pub mod Connection
 pub mod Requests
 pub mod Effects
 pub mod Passes
+pub mod Places
 pub mod Turn

@@ -5,7 +5,7 @@ use Rattle.driver_model.specs.declared.outcome.Outcome.TheVariants as outcome
 use Rattle.link_core.specs.declared.message.Queued.{Queued}
 use Rattle.link_core.specs.declared.message.Started.{Started}
 use Rattle.link_core.specs.First.{first_replaced}
-use Rattle.link_core.specs.Link.{LinkState, Starting, enqueued, started_all}
+use Rattle.link_core.specs.Link.{Starting, enqueued, started_all}
 use Rattle.mux_conn.specs.declared.act.LinkAct.TheVariants as act
 use Rattle.mux_conn.specs.declared.connection.MultiplexedConnection.{MultiplexedConnection}
 use Rattle.mux_conn.specs.declared.life.Life.{Life}

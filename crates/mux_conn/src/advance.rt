@@ -1,4 +1,6 @@
-ghost use Rattle.std.specs.Prelude.{◌≡◌, ◌<◌, [], length, true, false, OnOk, IfOk, IsErrOf};
+ghost use Rattle.std.specs.Prelude.{◌≡◌, ◌<◌, [], length, true, false, None, Some, slice_get, remove, OnOk, IfOk, IsErrOf, MatchOption};
+ghost use Rattle.mux_conn.specs.Passes.{entry_of, is_of as is_number_of};
+ghost use Rattle.mux_conn.specs.Places.{IsPlaceOf};
 ghost use Rattle.link_core.specs.Link.{is_spent, started_all};
 
 use crate::act::LinkAct;
@@ -62,7 +64,7 @@ impl MultiplexedConnection {
 }
 
 impl MultiplexedConnection {
-    ghost use Rattle.mux_conn.specs.Passes.{placed_at, told_at_place, moved, moved_all, passed, advanced, can_advance, entry_of, without};
+    ghost use Rattle.mux_conn.specs.Passes.{placed_at, told_at_place, moved, moved_all, passed, advanced, can_advance, still_waiting};
     ghost use Rattle.mux_conn.specs.Connection.{is_stuck, is_spent_in};
 
     /// A request takes its place in the queue.
@@ -109,12 +111,12 @@ impl MultiplexedConnection {
     fn move_one(
         &mut self,
         alloc: Global,
-        request: Waiting,
+        request: &Waiting,
         out: &mut Vec<LinkAct>,
     ) -> Result<(), ConnectionError>
         requires { is_stuck self.old.life ≡ false }
-        ensures work { OnOk result (record { conn = self.new; acts = out.new.items } ≡ moved (record { conn = self.old; acts = out.old.items }) request) }
-        ensures spent { IsErrOf result ConnectionError.Spent → is_spent_in (moved (record { conn = self.old; acts = out.old.items }) request).conn.life ≡ true }
+        ensures work { OnOk result (record { conn = self.new; acts = out.new.items } ≡ moved (record { conn = self.old; acts = out.old.items }) request.now) }
+        ensures spent { IsErrOf result ConnectionError.Spent → is_spent_in (moved (record { conn = self.old; acts = out.old.items }) request.now).conn.life ≡ true }
         ensures count { length self.new.requests ≡ length self.old.requests }
         ensures failure { self.new.failure ≡ self.old.failure }
     {
@@ -126,8 +128,8 @@ impl MultiplexedConnection {
             self.answer(u64::from(request.number), closed, out)?;
             return Ok(());
         }
-        self.place(alloc, &request)?;
-        self.tell_at_place(&request, out)?;
+        self.place(alloc, request)?;
+        self.tell_at_place(request, out)?;
         self.start(alloc, out)
     }
 
@@ -145,7 +147,7 @@ impl MultiplexedConnection {
         let mut rest = std::mem::replace(&mut self.waiting, Queue::new(alloc));
         'requests: while !self.life.is_stuck() {
             match rest.pop_front() {
-                Some(request) => match self.move_one(alloc, request, out) {
+                Some(request) => match self.move_one(alloc, &request, out) {
                     Ok(()) => {}
                     Err(error) => return Err(error),
                 },
@@ -176,6 +178,75 @@ impl MultiplexedConnection {
         }
         self.advance_waiting(alloc, out)
     }
+
+    /// The request at this index of those that wait is moved as far as it can go, and leaves them.
+    fn advance_at(
+        &mut self,
+        alloc: Global,
+        index: usize,
+        out: &mut Vec<LinkAct>,
+    ) -> Result<(), ConnectionError>
+        requires free { is_stuck self.old.life ≡ false }
+        requires there { index < length self.old.waiting }
+        ensures work { (q : Waiting) → slice_get self.old.waiting index ≡ Some q → OnOk result (record { conn = self.new; acts = out.new.items } ≡ moved (still_waiting (record { conn = self.old; acts = out.old.items }) (remove self.old.waiting index)) q) }
+        ensures spent { (q : Waiting) → slice_get self.old.waiting index ≡ Some q → IsErrOf result ConnectionError.Spent → is_spent_in (moved (still_waiting (record { conn = self.old; acts = out.old.items }) (remove self.old.waiting index)) q).conn.life ≡ true }
+        ensures count { length self.new.requests ≡ length self.old.requests }
+        ensures failure { self.new.failure ≡ self.old.failure }
+    {
+        let mut waiting = std::mem::replace(&mut self.waiting, Queue::new(alloc));
+        match self.move_one(alloc, waiting.at(index), out) {
+            Ok(()) => {}
+            Err(error) => return Err(error),
+        }
+        waiting.remove(index);
+        self.waiting = waiting;
+        Ok(())
+    }
+
+    /// One request is moved as far as it can go. The answer is whether it moves.
+    pub(crate) fn advance_one(
+        &mut self,
+        alloc: Global,
+        number: u32,
+        out: &mut Vec<LinkAct>,
+    ) -> Result<bool, ConnectionError>
+        ensures answer { IfOk result (λ moves. moves ≡ can_advance self.old number) }
+        ensures work { OnOk result (record { conn = self.new; acts = out.new.items } ≡ advanced (record { conn = self.old; acts = out.old.items }) number) }
+        ensures spent { IsErrOf result ConnectionError.Spent → is_spent_in (advanced (record { conn = self.old; acts = out.old.items }) number).conn.life ≡ true }
+        ensures count { length self.new.requests ≡ length self.old.requests }
+        ensures failure { self.new.failure ≡ self.old.failure }
+    {
+        if self.life.is_stuck() {
+            return Ok(false);
+        }
+        let moves = self.is_waiting(number);
+        match place_of(&self.waiting, number) {
+            Some(index) => match self.advance_at(alloc, index, out) {
+                Ok(()) => Ok(moves),
+                Err(error) => Err(error),
+            },
+            None => Ok(false),
+        }
+    }
+}
+
+/// Where the first of these is that is the request of this number.
+fn place_of(waiting: &Queue<Waiting>, number: u32) -> Option<usize>
+    ensures { MatchOption result (entry_of number waiting.now ≡ None) (λ i. IsPlaceOf number waiting.now i) }
+{
+    let len = waiting.len();
+    for index in 0..len {
+        if is_of(waiting.at(index), number) {
+            return Some(index);
+        }
+    }
+    None
+}
+
+fn is_of(request: &Waiting, number: u32) -> bool
+    ensures { result ≡ is_number_of number request.now }
+{
+    request.number == number
 }
 
 /// Starts what may start on a link.

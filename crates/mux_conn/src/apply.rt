@@ -97,9 +97,8 @@ impl MultiplexedConnection {
         ensures failure { self.new.failure ≡ self.old.failure }
     {
         let mut settled = Vec::new(alloc);
-        let mut pushes = Vec::new(alloc);
         let read = match &mut self.life {
-            Life::Ready { link } => link.bytes(alloc, piece, &mut settled, &mut pushes),
+            Life::Ready { link } => link.bytes_unheard(alloc, piece, &mut settled),
             Life::Dialing => return Ok(()),
             Life::Ended => return Ok(()),
         };

@@ -17,3 +17,6 @@ pub use connection::MultiplexedConnection;
 pub use errors::ConnectionError;
 pub use life::Life;
 pub use request::{Pending, Progress, Request, Waiting};
+
+#[cfg(test)]
+mod tests;

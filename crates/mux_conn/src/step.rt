@@ -1,8 +1,9 @@
-ghost use Rattle.std.specs.Prelude.{◌≡◌, ◌⊎◌, ◌++◌, [], length, true, None, Some, OnOk, OnErr, IsErrOf};
+ghost use Rattle.std.specs.Prelude.{◌≡◌, ◌⊎◌, ◌++◌, [], length, true, None, Some, OnOk, OnErr, IfOk, IsErrOf};
 
 use crate::act::LinkAct;
 use crate::connection::MultiplexedConnection;
 use crate::errors::ConnectionError;
+use crate::request::Pending;
 use driver_model::{LinkEvent, LinkNews};
 use std::alloc::{AllocError, Global};
 
@@ -10,7 +11,7 @@ impl MultiplexedConnection {
     ghost use Rattle.driver_model.specs.News.{told};
     ghost use Rattle.mux_conn.specs.Connection.{is_spent_in};
     ghost use Rattle.mux_conn.specs.Effects.{applied, IsWithin};
-    ghost use Rattle.mux_conn.specs.Passes.{passed};
+    ghost use Rattle.mux_conn.specs.Passes.{passed, advanced, can_advance};
     ghost use Rattle.mux_conn.specs.Turn.{flushed, stepped};
 
     /// The effect of news of its link, whose acts `out` gains. No request is moved. After an error nothing is said of what
@@ -60,6 +61,31 @@ impl MultiplexedConnection {
         }
     }
 
+    /// One request is moved as far as it can go, which needn't be the oldest: the answer is whether it moves. After an error
+    /// nothing is said of what `out` gained.
+    pub fn advance(
+        &mut self,
+        alloc: Global,
+        request: Pending,
+        out: &mut Vec<LinkAct>,
+    ) -> Result<bool, ConnectionError>
+        ensures answer { IfOk result (λ moves. moves ≡ can_advance self.old request.number) }
+        ensures work { OnOk result (record { conn = self.new; acts = out.new.items } ≡ advanced (record { conn = self.old; acts = out.old.items }) request.number) }
+        ensures count { length self.new.requests ≡ length self.old.requests }
+        ensures sound { OnOk result (self.new.failure ≡ None) }
+        ensures spent { IsErrOf result ConnectionError.Spent → (self.old.failure ≡ Some ConnectionError.Spent) ⊎ (is_spent_in (advanced (record { conn = self.old; acts = out.old.items }) request.number).conn.life ≡ true) }
+        ensures fails { (e : ConnectionError) → IsErrOf result e → self.new.failure ≡ Some e }
+        ensures failed { (e : ConnectionError) → self.old.failure ≡ Some e → IsErrOf result e }
+    {
+        if let Some(error) = self.failure {
+            return Err(error);
+        }
+        match self.advance_one(alloc, request.number, out) {
+            Ok(moves) => Ok(moves),
+            Err(error) => Err(self.refuse(error)),
+        }
+    }
+
     /// What a turn ends with: the link's one write, and the waits that began. After an error nothing is said of what `out`
     /// gained.
     pub fn flush(&mut self, alloc: Global, out: &mut Vec<LinkAct>) -> Result<(), ConnectionError>
@@ -77,6 +103,60 @@ impl MultiplexedConnection {
             Ok(()) => Ok(()),
             Err(_) => Err(self.refuse(ConnectionError::NoMemory)),
         }
+    }
+
+    /// A whole turn. After an error `out` is as it was.
+    pub fn step(
+        &mut self,
+        alloc: Global,
+        event: LinkEvent<'_>,
+        out: &mut Vec<LinkAct>,
+    ) -> Result<(), ConnectionError>
+        requires { IsWithin self.old.life (told event.news) }
+        ensures conn { OnOk result (self.new ≡ (stepped (record { conn = self.old; acts = [] }) (told event.entry.news)).conn) }
+        ensures acts { OnOk result (out.new.items ≡ out.old.items ++ (stepped (record { conn = self.old; acts = [] }) (told event.entry.news)).acts) }
+        ensures err { OnErr result (out.new.items ≡ out.old.items) }
+        ensures count { length self.new.requests ≡ length self.old.requests }
+        ensures sound { OnOk result (self.new.failure ≡ None) }
+        ensures spent { IsErrOf result ConnectionError.Spent → (self.old.failure ≡ Some ConnectionError.Spent) ⊎ (is_spent_in (stepped (record { conn = self.old; acts = [] }) (told event.entry.news)).conn.life ≡ true) }
+        ensures fails { (e : ConnectionError) → IsErrOf result e → self.new.failure ≡ Some e }
+        ensures failed { (e : ConnectionError) → self.old.failure ≡ Some e → IsErrOf result e }
+    {
+        let mut acts = Vec::new(alloc);
+        match self.turn(alloc, event.news, &mut acts) {
+            Ok(()) => {}
+            Err(error) => return Err(error),
+        }
+        match out.append(&mut acts) {
+            Ok(()) => Ok(()),
+            Err(_) => Err(self.refuse(ConnectionError::NoMemory)),
+        }
+    }
+
+    /// The three parts of a turn, one after the other.
+    fn turn(
+        &mut self,
+        alloc: Global,
+        news: LinkNews<'_>,
+        out: &mut Vec<LinkAct>,
+    ) -> Result<(), ConnectionError>
+        requires { IsWithin self.old.life (told news) }
+        ensures work { OnOk result (record { conn = self.new; acts = out.new.items } ≡ stepped (record { conn = self.old; acts = out.old.items }) (told news.entry)) }
+        ensures count { length self.new.requests ≡ length self.old.requests }
+        ensures sound { OnOk result (self.new.failure ≡ None) }
+        ensures spent { IsErrOf result ConnectionError.Spent → (self.old.failure ≡ Some ConnectionError.Spent) ⊎ (is_spent_in (stepped (record { conn = self.old; acts = out.old.items }) (told news.entry)).conn.life ≡ true) }
+        ensures fails { (e : ConnectionError) → IsErrOf result e → self.new.failure ≡ Some e }
+        ensures failed { (e : ConnectionError) → self.old.failure ≡ Some e → IsErrOf result e }
+    {
+        match self.apply(alloc, news, out) {
+            Ok(()) => {}
+            Err(error) => return Err(error),
+        }
+        match self.advance_all(alloc, out) {
+            Ok(()) => {}
+            Err(error) => return Err(error),
+        }
+        self.flush(alloc, out)
     }
 
     /// The connection fails with this error from now on.

@@ -28,7 +28,7 @@ values-preserved c =
     record {
       sound = h.value.2;
       dealt = dealt_more s t v (items before) (items after) c.in-Ok.ensures.dealt (items-read before v after h.found) ∙ c.values.invariant.dealt;
-      pushed = pushed_more s t v c.values.pushes.items c.deal_value.new.pushes.items (values before) (values after) c.in-Ok.ensures.dealt c.in-Ok.ensures.pushed law.0 ∙ c.values.invariant.pushed;
+      pushed = pushed_more c.args.heard s t v c.values.pushes.items c.deal_value.new.pushes.items (values before) (values after) c.in-Ok.ensures.dealt c.in-Ok.ensures.pushed law.0 ∙ c.values.invariant.pushed;
       rest = sym law.1 ∙ c.values.invariant.rest;
       spoiled = sym law.2 ∙ c.values.invariant.spoiled;
     }
@@ -41,7 +41,7 @@ returns-in-Ok-None c =
     let s : Dealing = record { row = c.values.row; out = c.values.out.items } in
     record {
       dealt = sym (ap (λ (vs : List Data). dealt_each s vs) (items-none before law.0)) ∙ c.values.invariant.dealt;
-      pushed = pushed_all s c.values.pushes.items (values before) law.0 ∙ c.values.invariant.pushed;
+      pushed = pushed_all c.args.heard s c.values.pushes.items (values before) law.0 ∙ c.values.invariant.pushed;
       rest = ap (λ (r : ReaderState). r.rest) h.value.2 ∙ sym law.1 ∙ c.values.invariant.rest;
       spoiled = sym law.2 ∙ c.values.invariant.spoiled;
       sound = λ _. ap (λ (r : ReaderState). r.health) h.value.2 ∙ c.values.invariant.sound;
@@ -55,7 +55,7 @@ returns-in-Err-Parse c =
     let s : Dealing = record { row = c.values.row; out = c.values.out.items } in
     record {
       dealt = sym (ap (λ (vs : List Data). dealt_each s vs) (items-none before law.0)) ∙ c.values.invariant.dealt;
-      pushed = pushed_all s c.values.pushes.items (values before) law.0 ∙ c.values.invariant.pushed;
+      pushed = pushed_all c.args.heard s c.values.pushes.items (values before) law.0 ∙ c.values.invariant.pushed;
       rest = ap (λ (r : ReaderState). r.rest) h.value.1 ∙ sym law.1 ∙ c.values.invariant.rest;
       spoiled = sym law.2 ∙ c.values.invariant.spoiled;
       sound = λ e. cc;

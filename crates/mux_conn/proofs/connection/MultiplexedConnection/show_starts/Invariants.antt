@@ -1,5 +1,4 @@
 use Rattle.std.proofs.Common.{◌≡◌, length}
-use Rattle.mux_conn.specs.Connection.{Work}
 use Rattle.mux_conn.specs.Passes.{shown_each}
 use Rattle.mux_conn.proofs.connection.MultiplexedConnection.show_starts.Given as goal
 

@@ -1,0 +1,13 @@
+use Rattle.std.proofs.Common.{◌≡◌, true, inl, inr, subst}
+use Rattle.driver_model.specs.News.{told}
+use Rattle.mux_conn.specs.Connection.{Work, is_spent_in}
+use Rattle.mux_conn.specs.Passes.{passed}
+use Rattle.mux_conn.proofs.Spent.{spent_turn}
+use Rattle.mux_conn.proofs.connection.MultiplexedConnection.turn.Goals as goal
+
+pub returns-in-Err-advance_all-clause-spent : goal.returns-in-Err-advance_all-clause-spent
+returns-in-Err-advance_all-clause-spent c is =
+    let w : Work = record { conn = c.args.self.now; acts = c.args.out.now.items } in
+    let work = c.in-Ok.ensures.work in
+    let sound = c.in-Ok.ensures.sound in
+    elim (c.in-Err-advance_all.ensures.spent is) [ inl h ↦ absurd (cc) | inr h ↦ inr (spent_turn w (told c.args.news) (subst (λ (x : Work). is_spent_in (passed x).conn.life ≡ true) work h)) ]

@@ -1,0 +1,297 @@
+ghost use Rattle.std.specs.Prelude.{◌≡◌, true};
+ghost use Rattle.driver_model.specs.News.{told};
+ghost use Rattle.mux_conn.specs.Effects.{CanTake, IsWithin};
+
+use crate::{Life, LinkAct, MultiplexedConnection, Pending};
+use containers::Bytes;
+use driver_model::{LinkEvent, LinkFault, LinkNews, Outcome, Shape};
+use redis_error::{FaultKind, RedisError};
+use resp_value::Value;
+use std::alloc::{AllocError, Global};
+use std::process::Abort;
+
+/// One call at a connection.
+#[derive(Clone, Copy)]
+enum Call {
+    /// A request of this name, with these bytes.
+    Ask(u32, &'static str),
+    /// The same, whose reply nobody awaits.
+    AskUnawaited(u32, &'static str),
+    /// The request of this number is moved.
+    Advance(u32),
+    /// The caller of the request of this number goes.
+    Cancel(u32),
+    /// A turn without news.
+    Turn,
+    Connected,
+    Took(u64),
+    Came(&'static str),
+    Failed(LinkFault),
+    Shut,
+}
+
+fn describe_value(value: &Value, log: &mut Vec<u8>) -> Result<(), AllocError> {
+    match value {
+        Value::Nil => log.extend_from_slice(b"nil".as_slice()),
+        Value::SimpleString(text) => log.extend_from_slice(text.as_slice()),
+        _ => log.extend_from_slice(b"other".as_slice()),
+    }
+}
+
+fn describe_fault(error: &RedisError, log: &mut Vec<u8>) -> Result<(), AllocError> {
+    match error {
+        RedisError::Closed => log.extend_from_slice(b"closed".as_slice()),
+        RedisError::Parse => log.extend_from_slice(b"parse".as_slice()),
+        RedisError::Io { fault } => log.extend_from_slice(fault.name().as_bytes()),
+        _ => log.extend_from_slice(b"fault".as_slice()),
+    }
+}
+
+fn describe_outcome(outcome: &Outcome, log: &mut Vec<u8>) -> Result<(), AllocError> {
+    match outcome {
+        Outcome::One(value) => describe_value(value, log),
+        Outcome::Many(_) => log.extend_from_slice(b"many".as_slice()),
+        Outcome::Fault(error) => describe_fault(error, log),
+    }
+}
+
+fn describe_start(
+    alloc: Global,
+    message: u32,
+    request: u32,
+    len: u64,
+    log: &mut Vec<u8>,
+) -> Result<(), AllocError> {
+    log.extend_from_slice(format!(in alloc; "start {message} of {request}, {len}")?.as_bytes())
+}
+
+fn describe_wait(alloc: Global, request: u32, log: &mut Vec<u8>) -> Result<(), AllocError> {
+    log.extend_from_slice(format!(in alloc; "{request} waits")?.as_bytes())
+}
+
+fn describe_answer(
+    alloc: Global,
+    request: u32,
+    outcome: &Outcome,
+    log: &mut Vec<u8>,
+) -> Result<(), AllocError> {
+    log.extend_from_slice(format!(in alloc; "{request} ")?.as_bytes())?;
+    describe_outcome(outcome, log)
+}
+
+fn describe_write(bytes: &Bytes, log: &mut Vec<u8>) -> Result<(), AllocError> {
+    log.extend_from_slice(b"write ".as_slice())?;
+    log.extend_from_slice(bytes.as_slice())
+}
+
+fn describe_act(alloc: Global, act: &LinkAct, log: &mut Vec<u8>) -> Result<(), AllocError> {
+    match act {
+        LinkAct::Created => log.extend_from_slice(b"created".as_slice()),
+        LinkAct::Close => log.extend_from_slice(b"close".as_slice()),
+        LinkAct::Write { bytes } => describe_write(bytes, log),
+        LinkAct::Wait { request, wait: _ } => describe_wait(alloc, *request, log),
+        LinkAct::Start {
+            message,
+            request,
+            need: _,
+            len,
+        } => describe_start(alloc, *message, *request, *len, log),
+        LinkAct::Outcome { request, outcome } => describe_answer(alloc, *request, outcome, log),
+    }
+}
+
+fn describe(alloc: Global, acts: &[LinkAct], log: &mut Vec<u8>) -> Result<(), AllocError> {
+    for act in acts {
+        describe_act(alloc, act, log)?;
+        log.extend_from_slice(b"; ".as_slice())?;
+    }
+    Ok(())
+}
+
+fn ask(
+    rt: &impl Abort,
+    alloc: Global,
+    conn: &mut MultiplexedConnection,
+    name: u32,
+    text: &str,
+    awaited: bool,
+) -> Result<(), AllocError> {
+    let packed = Bytes::from_slice(alloc, text.as_bytes())?;
+    assert!(rt; conn.requests.len() < 4_294_967_296);
+    match conn.ask(name, packed, Shape::Single, awaited) {
+        Ok(_) => Ok(()),
+        Err(error) => Err(error),
+    }
+}
+
+fn advance(
+    alloc: Global,
+    conn: &mut MultiplexedConnection,
+    number: u32,
+    log: &mut Vec<u8>,
+) -> Result<(), AllocError> {
+    let mut acts = Vec::new(alloc);
+    match conn.advance(alloc, Pending { number }, &mut acts) {
+        Ok(true) => log.extend_from_slice(b"moves; ".as_slice())?,
+        Ok(false) => log.extend_from_slice(b"stays; ".as_slice())?,
+        Err(_) => return Err(AllocError),
+    }
+    describe(alloc, acts.as_slice(), log)
+}
+
+/// Whether so many bytes were offered.
+fn can_take(conn: &MultiplexedConnection, count: u64) -> bool
+    ensures { result ≡ true → CanTake conn.now.life count }
+{
+    match &conn.life {
+        Life::Ready { link } => count <= link.offered_len(),
+        Life::Dialing => true,
+        Life::Ended => true,
+    }
+}
+
+/// A whole turn.
+fn step(
+    alloc: Global,
+    conn: &mut MultiplexedConnection,
+    news: LinkNews<'_>,
+    log: &mut Vec<u8>,
+) -> Result<(), AllocError>
+    requires { IsWithin conn.old.life (told news) }
+{
+    let mut acts = Vec::new(alloc);
+    match conn.step(alloc, LinkEvent { word: 0, news }, &mut acts) {
+        Ok(()) => describe(alloc, acts.as_slice(), log),
+        Err(_) => Err(AllocError),
+    }
+}
+
+fn make(
+    rt: &impl Abort,
+    alloc: Global,
+    conn: &mut MultiplexedConnection,
+    call: &Call,
+    log: &mut Vec<u8>,
+) -> Result<(), AllocError> {
+    match call {
+        Call::Ask(name, text) => ask(rt, alloc, conn, *name, text, true),
+        Call::AskUnawaited(name, text) => ask(rt, alloc, conn, *name, text, false),
+        Call::Advance(number) => advance(alloc, conn, *number, log),
+        Call::Cancel(number) => {
+            conn.cancel(Pending { number: *number });
+            Ok(())
+        }
+        Call::Turn => step(alloc, conn, LinkNews::Silence, log),
+        Call::Connected => step(alloc, conn, LinkNews::Connected, log),
+        Call::Took(count) => {
+            assert!(rt; can_take(conn, *count));
+            step(alloc, conn, LinkNews::Took { count: *count }, log)
+        }
+        Call::Came(text) => {
+            let piece = text.as_bytes();
+            step(alloc, conn, LinkNews::Came { piece }, log)
+        }
+        Call::Failed(fault) => step(alloc, conn, LinkNews::Failed { fault: *fault }, log),
+        Call::Shut => step(alloc, conn, LinkNews::Shut, log),
+    }
+}
+
+/// Makes the calls at a new connection, and compares what it asks and tells.
+fn run(rt: &impl Abort, alloc: Global, calls: &[Call], wanted: &str) -> Result<(), AllocError> {
+    let mut conn = MultiplexedConnection::new(alloc);
+    let mut log = Vec::new(alloc);
+    for next in calls {
+        make(rt, alloc, &mut conn, next, &mut log)?;
+    }
+    assert_eq!(rt; log.as_slice(), wanted.as_bytes());
+    Ok(())
+}
+
+#[test]
+fn requests_wait_for_the_connect(rt: HostRuntime) -> Result<(), AllocError> {
+    let calls = [
+        Call::Ask(7, "a"),
+        Call::Advance(0),
+        Call::Ask(9, "bc"),
+        Call::Turn,
+        Call::Connected,
+        Call::Took(3),
+        Call::Came("+x\r\n+"),
+        Call::Came("y\r\n"),
+    ];
+    let wanted =
+        "stays; 7 waits; 9 waits; created; start 0 of 7, 1; start 1 of 9, 2; write abc; 7 x; 9 y; ";
+    run(&rt, rt.alloc(), calls.as_slice(), wanted)
+}
+
+#[test]
+fn callers_go(rt: HostRuntime) -> Result<(), AllocError> {
+    let calls = [
+        Call::Ask(5, "z"),
+        Call::Cancel(0),
+        Call::Connected,
+        Call::Ask(7, "a"),
+        Call::Ask(9, "bc"),
+        Call::Turn,
+        Call::Cancel(1),
+        Call::Came("+x\r\n+y\r\n"),
+    ];
+    let wanted = "created; start 0 of 7, 1; start 1 of 9, 2; write abc; 9 y; ";
+    run(&rt, rt.alloc(), calls.as_slice(), wanted)
+}
+
+#[test]
+fn requests_move_alone(rt: HostRuntime) -> Result<(), AllocError> {
+    let calls = [
+        Call::Connected,
+        Call::Ask(7, "a"),
+        Call::AskUnawaited(9, "bc"),
+        Call::Advance(1),
+        Call::Advance(1),
+        Call::Advance(0),
+        Call::Advance(2),
+        Call::Turn,
+        Call::Came("+x\r\n+y\r\n"),
+    ];
+    let wanted =
+        "created; moves; 9 nil; start 0 of 9, 2; stays; moves; start 1 of 7, 1; stays; write bca; 7 y; ";
+    run(&rt, rt.alloc(), calls.as_slice(), wanted)
+}
+
+#[test]
+fn ends_answer_everyone(rt: HostRuntime) -> Result<(), AllocError> {
+    let alloc = rt.alloc();
+    let reset = LinkFault::Io {
+        fault: FaultKind::Reset,
+    };
+    let calls = [
+        Call::Connected,
+        Call::Ask(7, "a"),
+        Call::AskUnawaited(8, "b"),
+        Call::Ask(9, "c"),
+        Call::Turn,
+        Call::Ask(6, "d"),
+        Call::Failed(reset),
+        Call::Ask(5, "e"),
+        Call::Advance(4),
+        Call::Ask(4, "f"),
+        Call::Turn,
+    ];
+    let wanted = "created; start 0 of 7, 1; 8 nil; start 1 of 8, 1; start 2 of 9, 1; write abc; \
+close; 7 reset; 9 closed; 6 closed; moves; 5 closed; 4 closed; ";
+    run(&rt, alloc, calls.as_slice(), wanted)?;
+    let calls = [
+        Call::Ask(7, "a"),
+        Call::Connected,
+        Call::Came("?"),
+        Call::Shut,
+    ];
+    run(
+        &rt,
+        alloc,
+        calls.as_slice(),
+        "created; start 0 of 7, 1; write a; close; 7 parse; ",
+    )?;
+    let calls = [Call::Ask(7, "a"), Call::Turn, Call::Shut];
+    run(&rt, alloc, calls.as_slice(), "7 waits; close; 7 closed; ")
+}
