@@ -1,5 +1,0 @@
-use Rattle.legal_examples.proofs.Pipelines.{fault_to_a_pipeline, closed_to_the_oldest, reply_to_another, started_untold, before_its_need, values_of_the_refused}
-use Rattle.legal_examples.proofs.nor_are_these.Goals as goal
-
-pub returns : goal.returns
-returns c = record { fault_to_a_pipeline = fault_to_a_pipeline; closed_to_the_oldest = closed_to_the_oldest; reply_to_another = reply_to_another; started_untold = started_untold; before_its_need = before_its_need; values_of_the_refused = values_of_the_refused }

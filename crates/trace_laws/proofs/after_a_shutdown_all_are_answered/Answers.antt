@@ -1,5 +1,0 @@
-use Rattle.trace_laws.proofs.Shutdown.{exactly_one}
-use Rattle.trace_laws.proofs.after_a_shutdown_all_are_answered.Goals as goal
-
-pub returns : goal.returns
-returns c = exactly_one
