@@ -14,6 +14,7 @@ use Rattle.mux_conn.specs.Requests.{is_open_at, is_waiting_at, answered}
 use Rattle.mux_conn.specs.Effects.{closed}
 use Rattle.mux_conn.specs.Passes.{shown_each, started, started_at, placed_at, told_at_place, moved, moved_at, still_waiting}
 
+-- an answer, a word at its place, shown starts and starts
 answered_waits : (w : Work) (p : ℕ) (o : Outcome) (ys : List Waiting) → still_waiting (answered w p o) ys ≡ answered (still_waiting w ys) p o
 answered_waits w p o ys = either (λ (x : Work). still_waiting x ys) (is_open_at w.conn.requests p) _ w _ (still_waiting w ys) (λ _. refl) (λ _. refl)
 
@@ -31,6 +32,7 @@ started_waits w Dialing ys = refl
 started_waits w Ended ys = refl
 started_waits w (Ready link) ys = let all = started_all (record { link = link; out = [] }) in shown_waits (with_link w all.link) all.out ys
 
+-- and so a move, at any life of the link
 moved_at_waits : (w : Work) (q : Waiting) (life : Life) (ys : List Waiting) → still_waiting (moved_at w q life) ys ≡ moved_at (still_waiting w ys) q life
 moved_at_waits w q Dialing ys = refl
 moved_at_waits w q Ended ys = answered_waits w q.number closed ys
@@ -47,5 +49,6 @@ moved_waits w q ys =
 pub moved_aside : (w v : Work) (aside ys zs : List Waiting) (q r : Waiting) → v ≡ moved (still_waiting w aside) q → q ≡ r → zs ≡ ys → still_waiting v zs ≡ moved (still_waiting w ys) r
 moved_aside w v aside ys zs q r e same others = (λ i. still_waiting (e i) (others i)) ∙ moved_waits (still_waiting w aside) q ys ∙ ap (moved (still_waiting w ys)) same
 
+-- the link comes as far either way
 pub life_aside : (w : Work) (aside ys : List Waiting) (q r : Waiting) → q ≡ r → (moved (still_waiting w aside) q).conn.life ≡ (moved (still_waiting w ys) r).conn.life
 life_aside w aside ys q r same = ap (λ (x : Work). x.conn.life) (moved_aside w (moved (still_waiting w aside) q) aside ys ys q r refl same refl)
