@@ -1,3 +1,4 @@
 pub mod Numbers
 pub mod Tied
 pub mod States
+pub mod Names
