@@ -2,3 +2,4 @@ pub mod Numbers
 pub mod Tied
 pub mod States
 pub mod Names
+pub mod InLine
