@@ -2,3 +2,6 @@ pub mod Numbers
 pub mod Tied
 pub mod States
 pub mod Entered
+pub mod Names
+pub mod InLine
+pub mod Behind
