@@ -1,26 +1,20 @@
 -- The requests that submissions are, and where those are that are open.
-use Rattle.std.proofs.Common.{List, None, Option, Some, [], ap, arith, inl, inr, length, refl, slice_get, subst, suc, sym, true, zero, ℕ, ◌<◌, ◌==◌, ◌∙◌, ◌∷◌, ◌≡◌, ◌⊎◌}
+use Rattle.std.proofs.Common.{List, None, Option, Some, [], ap, arith, inl, inr, length, refl, slice_get, sym, true, ℕ, ◌<◌, ◌==◌, ◌∙◌, ◌∷◌, ◌≡◌, ◌⊎◌}
 use Rattle.std.specs.Prelude.{is_some, not, ◌&&◌}
 use Rattle.containers.proofs.Places.{get_within}
 use Rattle.containers.proofs.Tests.{both_left, both_right, eq_from, not_both}
 use Rattle.resp_value.specs.declared.value.Value.TheVariants.{Nil}
 use Rattle.redis_error.specs.declared.redis_error.RedisError.{RedisError}
-use Rattle.driver_model.specs.declared.action.Owner.TheVariants as owner
 use Rattle.driver_model.specs.declared.outcome.Outcome.{Outcome}
 use Rattle.driver_model.specs.declared.outcome.Outcome.TheVariants as outcome
 use Rattle.mux_conn.specs.Requests.{name_at}
 use Rattle.mux_conn.specs.declared.request.Pending.{Pending}
-use Rattle.mux_conn.specs.declared.request.Request.{Request}
 use Rattle.legal_trace.specs.Book.{Book}
-use Rattle.legal_trace.specs.Ledger.{Start}
 use Rattle.legal_trace.specs.Legal.{IsTold}
 use Rattle.legal_trace.specs.Story.{Story, blank_story, is_open}
-use Rattle.session_laws.proofs.Names.{name_of_some, name_placed}
-use Rattle.session_laws.proofs.Numbers.{IsIn}
-use Rattle.session_laws.proofs.Tied.{Inner, IsRequest, Tied, TiedStory, owner_of, owners_each, owners_of}
+use Rattle.session_laws.proofs.Names.{name_of_some}
+use Rattle.session_laws.proofs.Tied.{Inner, IsRequest, Tied, TiedStory}
 
--- submissions
---
 -- the request of a submission
 pub record IsBehind (b : Book) (t : Inner) (n : ℕ) : Type 0 where
   pub p : ℕ
@@ -60,25 +54,3 @@ alive_entry b t n (Some (Some p)) h e s a =
 -- a submission that can be answered or started is a request
 pub alive_behind : (b : Book) (t : Inner) (n : ℕ) → Tied b t → IsAlive (b.story n) → IsBehind b t n
 alive_behind b t n h a = alive_entry b t n (slice_get t.table n) h refl (h.story n) a
-
--- each request is behind the submission of its name
-pub request_at : (b : Book) (t : Inner) (p : ℕ) → Tied b t → p < length t.requests → IsRequest (b.story (name_at t.requests p)) t.requests t.link p
-request_at b t p h l = subst (TiedStory (b.story (name_at t.requests p)) t.requests t.link) (name_placed t.table t.requests p h.names l) (h.story (name_at t.requests p))
-
--- messages
---
--- the owner of a start is a request that started
-owner_at : (requests : List Request) (starts : List Start) (started : List ℕ) (k : ℕ) (s : Start) → owners_of starts ≡ owners_each requests started → slice_get starts k ≡ Some s
-    → (p : ℕ) × (slice_get started k ≡ Some p) × (s.owner ≡ owner_of requests p)
-owner_at requests [] started k s e i = cc
-owner_at requests (x ∷ xs) [] k s e i = cc
-owner_at requests (x ∷ xs) (p ∷ ps) zero s e i = (p, refl, let same : x ≡ s = cc in ap (λ (y : Start). y.owner) (sym same) ∙ cc)
-owner_at requests (x ∷ xs) (p ∷ ps) (suc k) s e i = owner_at requests xs ps k s (cc) i
-
-get_in : (xs : List ℕ) (k n : ℕ) → slice_get xs k ≡ Some n → IsIn n xs
-get_in [] k n e = cc
-get_in (x ∷ xs) zero n e = inl cc
-get_in (x ∷ xs) (suc k) n e = inr (get_in xs k n e)
-
-owner_name : (n m : ℕ) → owner.Try n 0 ≡ owner.Try m 0 → n ≡ m
-owner_name n m e = cc
