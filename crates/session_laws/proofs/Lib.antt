@@ -3,3 +3,4 @@ pub mod Tied
 pub mod States
 pub mod Names
 pub mod InLine
+pub mod Owes
