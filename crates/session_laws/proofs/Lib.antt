@@ -4,3 +4,5 @@ pub mod States
 pub mod Names
 pub mod InLine
 pub mod Owes
+pub mod Closing
+pub mod Answer

@@ -1,5 +1,6 @@
 -- What submissions are owed, by the requests that they are.
 use Rattle.std.proofs.Common.{◌≡◌, ◌≢◌, inl, inr, ℕ, zero, suc, ◌<◌, ◌==◌, Bool, true, false, ◌&&◌, not, is_some, length-append, List, [], ◌∷◌, ◌++◌, length, Option, Some, None, slice_get, refl, sym, ap, ◌∙◌, subst, arith}
+use Rattle.std.specs.List.{AllByRecursion}
 use Rattle.std.proofs.lemmas.List.{nil_from_length}
 use Rattle.containers.proofs.Tests.{by_test, left_if, eq_from, ne_from, ne_test, not_both}
 use Rattle.driver_model.specs.declared.action.Owner.{Owner}
@@ -16,15 +17,15 @@ use Rattle.mux_conn.specs.declared.life.Life.TheVariants.{Dialing, Ready, Ended}
 use Rattle.mux_conn.specs.declared.request.Pending.{Pending}
 use Rattle.mux_conn.specs.declared.request.Request.{Request}
 use Rattle.mux_conn.specs.Requests.{name_at, is_open_at}
-use Rattle.legal_trace.specs.Ledger.{Ledger, Start}
+use Rattle.legal_trace.specs.Ledger.{full_count, Ledger, Start}
 use Rattle.legal_trace.specs.Story.{Story, bytes_of, shape, last_of, is_open}
 use Rattle.legal_trace.specs.Book.{Book}
 use Rattle.legal_trace.specs.Owed.{owed, owed_to_message, owed_unstarted, owed_to_try}
 use Rattle.legal_trace.specs.Legal.{IsOpen, NoneIsOwed, IsCreated}
 use Rattle.session_laws.proofs.Numbers.{IsIn, in_either, rising_in, rising_left, rising_apart}
-use Rattle.session_laws.proofs.Tied.{Inner, link_in, owner_of, owners_of, owners_each, queue_ids, waiting_ids, IsRequest, TiedStory, TiedLife, Tied}
+use Rattle.session_laws.proofs.Tied.{IsEntry, Inner, link_in, owner_of, owners_of, owners_each, queue_ids, waiting_ids, IsRequest, TiedStory, TiedLife, Tied}
 use Rattle.session_laws.proofs.Names.{get_some, open_within, name_of_some, name_placed, same_name}
-use Rattle.session_laws.proofs.InLine.{row_ids, wanted_in, line_of, open_in_line}
+use Rattle.session_laws.proofs.InLine.{AtPlaces, IsInLine, wanted_rises, places_rise, row_ids, wanted_in, line_of, open_in_line}
 
 -- each request is a submission
 pub request_story : (b : Book) (t : Inner) (p : ℕ) → Tied b t → p < length t.requests → IsRequest (b.story (name_at t.requests p)) t.requests t.link p
@@ -194,3 +195,18 @@ created_is b t h = record {
     up_created l created Dialing k up = absurd (not_both l.up k.1 up)
     up_created l created (Ready link) k up = k.3
     up_created l created Ended k up = absurd (not_both l.up k.0 up)
+
+-- the entries of a row are started one after another
+row_places : (b : Book) (t : Inner) (k : ℕ) (row : List Entry) → Tied b t → AllByRecursion (IsEntry t.requests) row → OpenFrom (owner_of t.requests) (b.link t.link) k row → AtPlaces t.started k (row_ids row)
+row_places b t k [] h all open_all = tt
+row_places b t k (e ∷ es) h all open_all = (stands_started b t e.id k e.shape h all.0.below open_all.0.place, row_places b t (suc k) es h all.1 open_all.1)
+
+-- the line of a link that has not ended rises
+pub in_line : (b : Book) (t : Inner) → Tied b t → t.life ≢ Ended → IsInLine t.requests (link_in t.life) t.waiting []
+in_line b t h n =
+    let ledger = b.link t.link in
+    let row = (link_in t.life).row in
+    let later = queue_ids (link_in t.life).queue ++ waiting_ids t.waiting in
+    let alive = lives ledger b.created t.life h.life n in
+    let places = row_places b t (full_count ledger.starts ledger.dealt) row h h.lines.entries (row_open (owner_of t.requests) ledger (link_in t.life) alive (h.link n)) in
+    wanted_rises 0 row later (length t.requests) (places_rise 0 t.started (full_count ledger.starts ledger.dealt) (row_ids row) later (length t.requests) places h.lines.line)
