@@ -34,6 +34,11 @@ pub awaited_in : (n : ℕ) (queue : List Queued) → IsIn n (awaited_ids queue) 
 awaited_in n [] i = i
 awaited_in n (q ∷ qs) i = elim (in_either n (if q.awaited then q.id ∷ [] else []) (awaited_ids qs) i) [ inl j ↦ inl (chosen_in q.awaited n q.id j) | inr j ↦ inr (awaited_in n qs j) ]
 
+-- a wanted message of a row is one of the row
+pub wanted_in : (n : ℕ) (row : List Entry) → IsIn n (wanted row) → IsIn n (row_ids row)
+wanted_in n [] i = i
+wanted_in n (e ∷ es) i = elim (in_either n (if e.awaited then e.id ∷ [] else []) (wanted es) i) [ inl j ↦ inl (chosen_in e.awaited n e.id j) | inr j ↦ inr (wanted_in n es j) ]
+
 -- each open request is in the line
 pub open_in_line : (story : ℕ → Story) (requests : List Request) (link : LinkState) (waiting : List Waiting) (pending started : List ℕ) (p : ℕ) → TiedLines story requests link waiting pending started → is_open_at requests p ≡ true
     → IsIn p (pending ++ line_of link waiting)

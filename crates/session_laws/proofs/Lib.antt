@@ -5,3 +5,8 @@ pub mod Entered
 pub mod Names
 pub mod InLine
 pub mod Behind
+pub mod Owes
+pub mod Closing
+pub mod Answer
+pub mod Kept
+pub mod Start
