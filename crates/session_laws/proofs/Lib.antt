@@ -11,3 +11,5 @@ pub mod Answer
 pub mod Kept
 pub mod Start
 pub mod Moves
+pub mod Going
+pub mod Starts

@@ -55,10 +55,10 @@ tried_outcomes : (m link k : ℕ) (story : ℕ → Story) → SameOutcomes story
 tried_outcomes m link k story n = chosen (λ (x : Story). (story n).outcomes ≡ x.outcomes) (m == n) (tried (story n) link k) (story n) (λ t. refl) (λ f. refl)
 
 -- the first of a queue is within, and has not started
-first_within : (story : ℕ → Story) (requests : List Request) (link : LinkState) (waiting : List Waiting) (started : List ℕ) (q : Queued) (qs : List Queued) → TiedLines story requests (with_queue link (q ∷ qs)) waiting [] started → q.id < length requests
+pub first_within : (story : ℕ → Story) (requests : List Request) (link : LinkState) (waiting : List Waiting) (started : List ℕ) (q : Queued) (qs : List Queued) → TiedLines story requests (with_queue link (q ∷ qs)) waiting [] started → q.id < length requests
 first_within story requests link waiting started q qs h = (rising_in 0 (started ++ (q.id ∷ (queue_ids qs ++ waiting_ids waiting))) (length requests) q.id h.line (in_right q.id started (q.id ∷ (queue_ids qs ++ waiting_ids waiting)) (inl refl))).1
 
-first_new : (story : ℕ → Story) (requests : List Request) (link : LinkState) (waiting : List Waiting) (started : List ℕ) (q : Queued) (qs : List Queued) → TiedLines story requests (with_queue link (q ∷ qs)) waiting [] started → IsIn q.id started → ⊥
+pub first_new : (story : ℕ → Story) (requests : List Request) (link : LinkState) (waiting : List Waiting) (started : List ℕ) (q : Queued) (qs : List Queued) → TiedLines story requests (with_queue link (q ∷ qs)) waiting [] started → IsIn q.id started → ⊥
 first_new story requests link waiting started q qs h i = let k = rising_apart 0 started (q.id ∷ (queue_ids qs ++ waiting_ids waiting)) (length requests) q.id q.id h.line i (inl refl) in omega arith
 
 -- what is noted of the link is the message of the queue
