@@ -13,3 +13,4 @@ pub mod Start
 pub mod Moves
 pub mod Going
 pub mod Starts
+pub mod Place

@@ -134,7 +134,7 @@ new_kept f g requests [] kept h = tt
 new_kept f g requests (p ∷ []) kept h = kept (name_at requests p) h
 new_kept f g requests (p ∷ q ∷ ps) kept h = h
 
-not_dialing : (link : LinkState) → Ready link ≡ Dialing → ⊥
+pub not_dialing : (link : LinkState) → Ready link ≡ Dialing → ⊥
 not_dialing link e = cc
 
 tried_waits : (story : ℕ → Story) (requests : List Request) (link link' : LinkState) (fresh : List ℕ) (m k l : ℕ) → TiedWaits story requests (Ready link) fresh → TiedWaits (tried_at m k l story) requests (Ready link') fresh
