@@ -10,3 +10,4 @@ pub mod Closing
 pub mod Answer
 pub mod Kept
 pub mod Start
+pub mod Settle
