@@ -11,3 +11,4 @@ pub mod Answer
 pub mod Kept
 pub mod Start
 pub mod Settle
+pub mod Close
