@@ -12,3 +12,4 @@ pub mod Kept
 pub mod Start
 pub mod Settle
 pub mod Close
+pub mod Announce
