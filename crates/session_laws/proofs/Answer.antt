@@ -55,7 +55,7 @@ not_up_ends l down no_dial = left_if l.up (ending_up l l.heard) _ down ∙ left_
 pub unknown_ends : (l : Ledger) → IsUnknown l → ending l ≡ None
 unknown_ends l h = not_up_ends l h.up (ap (λ a. a && not (is_over l)) h.asked)
 
-some_end : (x : Option End) → x ≢ None → is_some x ≡ true
+pub some_end : (x : Option End) → x ≢ None → is_some x ≡ true
 some_end None n = absurd (n refl)
 some_end (Some e) n = refl
 

@@ -14,3 +14,6 @@ pub mod Moves
 pub mod Going
 pub mod Starts
 pub mod Place
+pub mod Settle
+pub mod Close
+pub mod Announce

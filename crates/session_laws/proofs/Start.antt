@@ -104,12 +104,12 @@ tries_started l story requests link k started s p new one owned shaped counted n
       tried = λ j m i. elim (get_more started p j m i) [
         | inl a ↦ ap (λ (x : Story). x.tries) (left_if (n == name_at requests m) (tried (story (name_at requests m)) link k) (story (name_at requests m)) (ne_test n (name_at requests m) (λ e. new m (get_in started j m a) (sym e)))) ∙ h.tried j m a
         | inr a ↦
-          subst (λ y. (tried_at n link k story (name_at requests y)).tries ≡ record { link = link; message = j } ∷ []) a.1
-          (ap (λ (x : Story). x.tries) (taken_if (n == n) (tried (story n) link k) (story n) (eq_test n n refl)) ∙ (λ i. none i ++ record { link = link; message = k } ∷ []) ∙ ap (λ y. record { link = link; message = y } ∷ []) (counted ∙ long ∙ sym a.0))
+            subst (λ y. (tried_at n link k story (name_at requests y)).tries ≡ record { link = link; message = j } ∷ []) a.1
+            (ap (λ (x : Story). x.tries) (taken_if (n == n) (tried (story n) link k) (story n) (eq_test n n refl)) ∙ (λ i. none i ++ record { link = link; message = k } ∷ []) ∙ ap (λ y. record { link = link; message = y } ∷ []) (counted ∙ long ∙ sym a.0))
       ];
       untried = λ m r i out.
-        ap (λ (x : Story). x.tries) (left_if (n == r.name) (tried (story r.name) link k) (story r.name) (ne_test n r.name (λ e. out (in_right m started (p ∷ []) (inl (sym (one m r i (sym e))))))))
-        ∙ h.untried m r i (λ j. out (in_left m started (p ∷ []) j));
+          ap (λ (x : Story). x.tries) (left_if (n == r.name) (tried (story r.name) link k) (story r.name) (ne_test n r.name (λ e. out (in_right m started (p ∷ []) (inl (sym (one m r i (sym e))))))))
+          ∙ h.untried m r i (λ j. out (in_left m started (p ∷ []) j));
     }
 
 -- the line, and what is shown of waits
