@@ -150,7 +150,7 @@ waiting_in_line requests life waiting over r =
     (subst (λ ns. Rising 0 ns (length requests)) (sym (append-nil (last ++ []) ∙ append-nil last)) (subst (λ (x : Life). IsInLine requests (link_in x) waiting []) over r))
 
 -- all that wait are answered
-waiting_closed_holds : (before : List Action) (f : Core) (owes : ℕ → Option Outcome) (name : ℕ → ℕ) (w : Work) (started : List ℕ) → w.conn.life ≡ Ended → AllByRecursion (IsDueClosed owes name) w.conn.waiting → IsAnswering before f owes name w [] started
+pub waiting_closed_holds : (before : List Action) (f : Core) (owes : ℕ → Option Outcome) (name : ℕ → ℕ) (w : Work) (started : List ℕ) → w.conn.life ≡ Ended → AllByRecursion (IsDueClosed owes name) w.conn.waiting → IsAnswering before f owes name w [] started
     → IsAnswering before f owes name (waiting_closed w) [] started
 waiting_closed_holds before f owes name w started over due h =
     closed_holds before f owes name (record w { conn = record w.conn { waiting = [] } }) w.conn.waiting [] started due

@@ -17,3 +17,4 @@ pub mod Place
 pub mod Settle
 pub mod Close
 pub mod Announce
+pub mod Passes

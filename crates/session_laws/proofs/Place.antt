@@ -37,7 +37,7 @@ abbrev pub with_waiting : Inner → LinkState → List Waiting → Inner
 with_waiting t link waiting = record (on_link t link) { waiting = waiting }
 
 -- a request that still waits is open
-waiting_open : (requests : List Request) (p : ℕ) → is_waiting_at requests p ≡ true → is_open_at requests p ≡ true
+pub waiting_open : (requests : List Request) (p : ℕ) → is_waiting_at requests p ≡ true → is_open_at requests p ≡ true
 waiting_open requests p w = open_then (slice_get requests p) w
   where
     by_progress : (r : Progress) → is_waiting r ≡ true → is_open_progress r ≡ true

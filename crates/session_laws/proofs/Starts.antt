@@ -98,12 +98,12 @@ shows-append : (requests : List Request) (ss : List Started) (s : Started) → s
 shows-append requests [] s = refl
 shows-append requests (x ∷ ss) s = ap (λ more. show_start requests x ∷ more) (shows-append requests ss s)
 
-shown_is : (w : Work) (ss : List Started) → shown_starts w ss ≡ record w { acts = w.acts ++ shows w.conn.requests ss }
+pub shown_is : (w : Work) (ss : List Started) → shown_starts w ss ≡ record w { acts = w.acts ++ shows w.conn.requests ss }
 shown_is w [] = ap (λ (x : List LinkAct). record w { acts = x }) (sym (append-nil w.acts))
 shown_is w (s ∷ ss) = shown_is (acted w (show_start w.conn.requests s)) ss ∙ ap (λ (x : List LinkAct). record w { acts = x }) (append_assoc w.acts (show_start w.conn.requests s ∷ []) (shows w.conn.requests ss))
 
 -- all that are in a queue start, where no boundary holds them back
-each_going : (before : List Action) (acts : List LinkAct) (t : Inner) (s : Starting) (qs : List Queued) → s.link.boundary ≡ no_boundary
+pub each_going : (before : List Action) (acts : List LinkAct) (t : Inner) (s : Starting) (qs : List Queued) → s.link.boundary ≡ no_boundary
     → IsGoing (before ++ shown_each t.link (acts ++ shows t.requests s.out)) (on_link t (with_queue s.link qs))
     → IsGoing (before ++ shown_each t.link (acts ++ shows t.requests (started_each s qs).out)) (record (on_link t (started_each s qs).link) { started = t.started ++ queue_ids qs })
 each_going before acts t s [] free h = subst (λ ns. IsGoing (before ++ shown_each t.link (acts ++ shows t.requests s.out)) (record (on_link t (with_queue s.link [])) { started = ns })) (sym (append-nil t.started)) h
