@@ -18,3 +18,4 @@ pub mod Settle
 pub mod Close
 pub mod Announce
 pub mod Passes
+pub mod Told

@@ -10,7 +10,8 @@ use Rattle.link_core.specs.declared.message.Queued.{Queued}
 use Rattle.link_core.specs.declared.message.Started.{Started}
 use Rattle.link_laws.proofs.Bounds.{free_greatest}
 use Rattle.mux_conn.specs.Connection.{Work, acted}
-use Rattle.mux_conn.specs.Passes.{shown_each as shown_starts}
+use Rattle.mux_conn.specs.Effects.{applied}
+use Rattle.mux_conn.specs.Passes.{shown_each as shown_starts, started}
 use Rattle.mux_conn.specs.Requests.{name_at}
 use Rattle.mux_conn.specs.declared.act.LinkAct.{LinkAct}
 use Rattle.mux_conn.specs.declared.act.LinkAct.TheVariants as act
@@ -19,7 +20,8 @@ use Rattle.shared_session.specs.Turn.{shown_each}
 use Rattle.legal_trace.specs.Book.{Book, book, entered, message_of}
 use Rattle.legal_trace.specs.Ledger.{begins}
 use Rattle.legal_trace.specs.Legal.{IsOpen, IsTold, MayStart, NoneEnds, link_of}
-use Rattle.legal_trace.specs.Story.{Story, Try, is_awaited, tried}
+use Rattle.legal_trace.specs.Story.{Story, is_awaited, tried}
+use Rattle.session_laws.proofs.Behind.{some_more}
 use Rattle.session_laws.proofs.Entered.{shown_more}
 use Rattle.session_laws.proofs.Going.{IsGoing, applied_up, going_more, none_ends_kept}
 use Rattle.session_laws.proofs.Moves.{AreQueued, first_to_move}
@@ -70,10 +72,6 @@ told_still b t link q qs h n =
     (λ f told none.
     let k = h n told none in
     (k.0, k.1, k.2, elim k.3 [ inl same ↦ absurd (ne_from m n f (ap (name_at t.requests) same ∙ k.2)) | inr i ↦ i ]))
-  where
-    some_more : (xs : List Try) (x : Try) → xs ++ x ∷ [] ≡ [] → ⊥
-    some_more [] x e = cc
-    some_more (y ∷ ys) x e = cc
 
 -- the first message of the queue starts
 start_going : (trace : List Action) (t : Inner) (link : LinkState) (q : Queued) (qs : List Queued) → IsGoing trace (on_link t (with_queue link (q ∷ qs))) → IsGoing (trace ++ start_action t link q ∷ []) (after_start t link q qs)
