@@ -19,3 +19,4 @@ pub mod Close
 pub mod Announce
 pub mod Passes
 pub mod Told
+pub mod Moved

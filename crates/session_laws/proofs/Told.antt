@@ -104,7 +104,7 @@ outcome_told b n o may h m =
     (λ f told none. h m told none)
 
 -- a fault
-fault_told : (b : Book) (n : ℕ) (e : RedisError) → NoneTold b → NoneTold (entered b (action.Outcome n (outcome.Fault e)))
+pub fault_told : (b : Book) (n : ℕ) (e : RedisError) → NoneTold b → NoneTold (entered b (action.Outcome n (outcome.Fault e)))
 fault_told b n e h m =
     chosen (λ (s : Story). IsTold s → s.tries ≡ [] → ⊥) (n == m) (answered (b.story m) (outcome.Fault e)) (b.story m)
     (λ t told none. not_nil e (more_is (b.story m).outcomes (outcome.Fault e) (outcome.One Nil) told.told))
