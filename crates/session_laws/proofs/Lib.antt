@@ -20,3 +20,4 @@ pub mod Announce
 pub mod Passes
 pub mod Told
 pub mod Moved
+pub mod Write

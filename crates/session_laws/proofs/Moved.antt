@@ -1,5 +1,4 @@
 -- All requests of a connection are moved.
-use Rattle.mux_conn.specs.Passes.{moved}
 use Rattle.std.proofs.Common.{Bool, List, [], ap, false, inl, inr, length, refl, subst, sym, true, ℕ, ◌++◌, ◌∙◌, ◌∷◌, ◌≡◌, ◌≢◌}
 use Rattle.std.proofs.lemmas.List.{append-nil}
 use Rattle.containers.proofs.Tests.{chosen, left_if, not_both, taken_if}
@@ -10,8 +9,8 @@ use Rattle.driver_model.specs.declared.outcome.Outcome.{Outcome}
 use Rattle.link_core.specs.Link.{LinkState, started_all}
 use Rattle.link_laws.specs.Settles.{awaited_ids, wanted}
 use Rattle.mux_conn.specs.Connection.{Work, is_stuck, with_link}
-use Rattle.mux_conn.specs.Effects.{applied, closed, closed_each, waiting_closed}
-use Rattle.mux_conn.specs.Passes.{moved_all, moved_at, moved_each, passed, started_at, still_waiting}
+use Rattle.mux_conn.specs.Effects.{closed, closed_each, waiting_closed}
+use Rattle.mux_conn.specs.Passes.{moved, moved_all, moved_at, moved_each, passed, started_at, still_waiting}
 use Rattle.mux_conn.specs.Requests.{answered, at_progress, is_open as is_open_progress, is_open_at, is_waiting, is_waiting_at, name_at}
 use Rattle.mux_conn.specs.declared.act.LinkAct.TheVariants as act
 use Rattle.mux_conn.specs.declared.life.Life.{Life}
@@ -21,15 +20,12 @@ use Rattle.mux_conn.specs.declared.request.Request.{Request}
 use Rattle.mux_conn.specs.declared.request.Waiting.{Waiting}
 use Rattle.shared_session.specs.declared.core_state.Core.{Core}
 use Rattle.legal_trace.specs.Book.{Book, book}
-use Rattle.legal_trace.specs.Ledger.{Ledger}
-use Rattle.legal_trace.specs.Legal.{CanMove, IsMoved, NoneEnds}
+use Rattle.legal_trace.specs.Legal.{NoneEnds}
 use Rattle.legal_trace.specs.Owed.{owed}
 use Rattle.session_laws.proofs.Answer.{after_end}
-use Rattle.session_laws.proofs.Behind.{alive_behind}
 use Rattle.session_laws.proofs.Close.{all_waiting_due, waiting_closed_holds}
-use Rattle.session_laws.proofs.Going.{IsGoing, applied_over, applied_up}
+use Rattle.session_laws.proofs.Going.{IsGoing}
 use Rattle.session_laws.proofs.InLine.{IsInLine}
-use Rattle.session_laws.proofs.Moves.{none_moves}
 use Rattle.session_laws.proofs.Names.{open_within, there_other, there_then}
 use Rattle.session_laws.proofs.Numbers.{IsIn, Rising, rising_right}
 use Rattle.session_laws.proofs.Passes.{IsUp, moved_all_up, moved_none_waits, moving, started_up}
@@ -39,11 +35,11 @@ use Rattle.session_laws.proofs.States.{IsWhole, IsWholeIn}
 use Rattle.session_laws.proofs.Tied.{Inner, Sound, Tied, TiedLife, link_in, queue_ids, waiting_ids}
 use Rattle.session_laws.proofs.Told.{NoneTold, fault_told}
 
--- the event has had its effect, and all messages that may start have started
+-- the event has had its effect, all messages that may start have started, and none waits but for the connect
 pub record HasMoved (before : List Action) (f : Core) (w : Work) : Type 0 where
   pub started : List ℕ
   pub holds : Holds before f w [] started
-  pub moved : IsMoved (book (trace_of_acts before f w.acts))
+  pub ended : NoneEnds (book (trace_of_acts before f w.acts))
   pub whole : IsWholeIn w.conn.life
   pub waiting : w.conn.life ≢ Dialing → w.conn.waiting ≡ []
   pub told : NoneTold (book (trace_of_acts before f w.acts))
@@ -59,17 +55,11 @@ pub record IsReady (before : List Action) (f : Core) (w : Work) (started : List 
 --
 up_moved : (before : List Action) (f : Core) (w : Work) → IsUp before f w [] → w.conn.waiting ≡ [] → HasMoved before f w
 up_moved before f w h none =
-    let b = book (trace_of_acts before f w.acts) in
-    let t = moving f w.conn [] h.started in
-    let alive : w.conn.life ≢ Ended = λ e. (let no : Ready h.link ≡ Ended = sym h.life ∙ e in cc) in
     let empty : queue_ids (link_in w.conn.life).queue ++ [] ≡ [] = ap (λ (x : Life). queue_ids (link_in x).queue ++ []) h.life ∙ ap (λ qs. queue_ids qs ++ []) h.whole.empty in
     record {
       started = h.started;
       holds = subst (λ ws. Sound (trace_of_acts before f w.acts) (moving f w.conn ws h.started)) (sym none) h.going.sound;
-      moved = record {
-        applied = applied_up b t h.going.sound.tied refl alive h.going.ended;
-        moved = none_moves b t h.going.sound.tied refl h.going.told empty;
-      };
+      ended = h.going.ended;
       whole = λ link e. subst IsWhole (let both : Ready h.link ≡ Ready link = sym h.life ∙ e in cc) h.whole;
       waiting = λ e. none;
       told = λ n is untried. let k = h.going.told n is untried in subst (IsIn k.0) (sym (append-nil (queue_ids (link_in w.conn.life).queue)) ∙ empty) k.3;
@@ -103,29 +93,13 @@ stuck_stays : (w : Work) (qs : List Waiting) → is_stuck w.conn.life ≡ true �
 stuck_stays w [] e = refl
 stuck_stays w (q ∷ qs) e = taken_if (is_stuck w.conn.life) (still_waiting w (q ∷ qs)) (moved_each (moved w q) qs) e
 
--- a link that isn't up moves none
-down_moves_none : (b : Book) (t : Inner) → Tied b t → (b.link t.link).up ≡ false → (n : ℕ) → CanMove b n → ⊥
-down_moves_none b t h down n m =
-    let a = alive_behind b t n h m.wanted in
-    not_both (b.link t.link).up down (ap (λ l. (b.link l).up) (sym a.is.on) ∙ m.up)
-
-dialing_down : (l : Ledger) (created : ℕ) (life : Life) → life ≡ Dialing → TiedLife l created life → l.up ≡ false
-dialing_down l created Dialing e h = h.1
-dialing_down l created (Ready link) e h = cc
-dialing_down l created Ended e h = h.0
-
 dialing_moved : (before : List Action) (f : Core) (w : Work) (started : List ℕ) → w.conn.life ≡ Dialing → IsReady before f w started → HasMoved before f (passed w)
 dialing_moved before f w started life h =
-    let b = book (trace_of_acts before f w.acts) in
-    let t = seen f w.conn [] started in
     let same : passed w ≡ w = ap (λ (x : Life). moved_all (started_at w x)) life ∙ stuck_stays (still_waiting w []) w.conn.waiting (ap is_stuck life) in
     subst (HasMoved before f) (sym same) (record {
       started = started;
       holds = h.holds;
-      moved = record {
-        applied = applied_up b t h.holds.tied refl (λ e. (let no : Dialing ≡ Ended = sym life ∙ e in cc)) h.ended;
-        moved = down_moves_none b t h.holds.tied (dialing_down (b.link f.single.link) b.created w.conn.life life h.holds.tied.life);
-      };
+      ended = h.ended;
       whole = h.whole;
       waiting = λ e. absurd (e life);
       told = h.told;
@@ -203,14 +177,10 @@ over_moved before f w started over h =
     let s = seen f u.conn [] started in
     let still = k.life ∙ over in
     let ends = after_end c s done.holds.tied still in
-    let gone = subst (λ (x : Life). TiedLife (c.link f.single.link) c.created x) still done.holds.tied.life in
     subst (HasMoved before f) (sym (passed_over_is w over (open_waits b t tied refl over))) (record {
       started = started;
       holds = done.holds;
-      moved = record {
-        applied = applied_over c s done.holds.tied refl still k.waiting ends.0;
-        moved = down_moves_none c s done.holds.tied gone.0;
-      };
+      ended = ends.0;
       whole = λ link e. (let no : Ended ≡ Ready link = sym still ∙ e in cc);
       waiting = λ e. k.waiting;
       told = each_told before f v w.conn.waiting h.told;
