@@ -21,3 +21,4 @@ pub mod Passes
 pub mod Told
 pub mod Moved
 pub mod Write
+pub mod Waits
