@@ -22,3 +22,4 @@ pub mod Told
 pub mod Moved
 pub mod Write
 pub mod Waits
+pub mod Settled

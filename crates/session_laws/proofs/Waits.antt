@@ -62,7 +62,7 @@ waits_shown_then story requests p q h =
     (λ t. refl)
     (λ f. elim h [ inl e ↦ absurd (ne_from m n f (ap (name_at requests) (same_one p q e))) | inr e ↦ e ])
 
-wait_tied : (b : Book) (t : Inner) (p : ℕ) → p < length t.requests → Tied b (with_fresh t (p ∷ [])) → Tied (entered b (wait_action (name_at t.requests p))) (with_fresh t [])
+pub wait_tied : (b : Book) (t : Inner) (p : ℕ) → p < length t.requests → Tied b (with_fresh t (p ∷ [])) → Tied (entered b (wait_action (name_at t.requests p))) (with_fresh t [])
 wait_tied b t p within h =
     let n = name_at t.requests p in
     record {
@@ -84,7 +84,7 @@ wait_tied b t p within h =
     }
 
 -- one that has gone, or whose link isn't dialing, shows none
-unshown_tied : (b : Book) (t : Inner) (p : ℕ) → (is_waiting_at t.requests p ≡ true → t.life ≡ Dialing → ⊥) → Tied b (with_fresh t (p ∷ [])) → Tied b (with_fresh t [])
+pub unshown_tied : (b : Book) (t : Inner) (p : ℕ) → (is_waiting_at t.requests p ≡ true → t.life ≡ Dialing → ⊥) → Tied b (with_fresh t (p ∷ [])) → Tied b (with_fresh t [])
 unshown_tied b t p none h = record {
   numbers = record { turns = h.numbers.turns; links = h.numbers.links; submissions = h.numbers.submissions; shut = h.numbers.shut; one = h.numbers.one; only = h.numbers.only };
   others = h.others;
@@ -124,7 +124,7 @@ dialing_holds b t p h life within =
     let d = subst (λ (x : Life). TiedLife (b.link t.link) b.created x) life h.life in
     subst (λ l. ((b.link l).asked ≡ true) × ((b.link l).up ≡ false) × ((b.link l).end ≡ None)) (sym r.on) (d.0, d.1, d.2)
 
-wait_may : (b : Book) (t : Inner) (p : ℕ) → Tied b (with_fresh t (p ∷ [])) → t.pending ≡ [] → t.life ≡ Dialing → is_waiting_at t.requests p ≡ true → IsWritten b → MayWait b (name_at t.requests p) wait.Connect
+pub wait_may : (b : Book) (t : Inner) (p : ℕ) → Tied b (with_fresh t (p ∷ [])) → t.pending ≡ [] → t.life ≡ Dialing → is_waiting_at t.requests p ≡ true → IsWritten b → MayWait b (name_at t.requests p) wait.Connect
 wait_may b t p h none life w written =
     let now = with_fresh t (p ∷ []) in
     let n = name_at t.requests p in
