@@ -23,3 +23,5 @@ pub mod Moved
 pub mod Write
 pub mod Waits
 pub mod Settled
+pub mod Legality
+pub mod Opening
