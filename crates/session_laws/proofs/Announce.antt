@@ -102,8 +102,8 @@ elsewhere c m event.Shutdown only good other = inr refl
 
 -- and stay unknown
 unknown_heard : (l : Ledger) (n : News) → (n ≡ silence) ⊎ (n ≡ shut) → IsUnknown l → IsUnknown (noted l (hears n))
-unknown_heard l n (inl e) h = subst (λ (x : News). IsUnknown (noted l (hears x))) (sym e) (record { asked = h.asked; up = h.up; end = h.end })
-unknown_heard l n (inr e) h = subst (λ (x : News). IsUnknown (noted l (hears x))) (sym e) (record { asked = h.asked; up = h.up; end = h.end })
+unknown_heard l n (inl e) h = subst (λ (x : News). IsUnknown (noted l (hears x))) (sym e) (record { asked = h.asked; up = h.up; end = h.end; starts = h.starts })
+unknown_heard l n (inr e) h = subst (λ (x : News). IsUnknown (noted l (hears x))) (sym e) (record { asked = h.asked; up = h.up; end = h.end; starts = h.starts })
 
 pub others_heard : (b : Book) (c : Core) (started : List ℕ) (kind : EventKind) → Tied b (inner c started) → is_bad c kind ≡ false → (m : ℕ) → m ≢ c.single.link → IsUnknown (noted (b.link m) (hears (news m kind)))
 others_heard b c started kind h good m other = unknown_heard (b.link m) (news m kind) (elsewhere c m kind h.numbers.only good other) (h.others m other)

@@ -50,7 +50,7 @@ opening_tries l none = record { owners = ap owners_of none; shapes = λ k p s e 
 pub opening_tied : (config : Config) (word : ℕ) → Tied (opened config word) (inner (opening config word) [])
 opening_tied config word = record {
   numbers = opening_numbers config word;
-  others = λ m other. subst IsUnknown (sym (opened_link config word m other)) (record { asked = refl; up = refl; end = refl });
+  others = λ m other. subst IsUnknown (sym (opened_link config word m other)) (record { asked = refl; up = refl; end = refl; starts = refl });
   life = (refl, refl, refl, refl);
   link = λ e. asked_tied (owner_of []) blank_ledger new_link (fresh_tied (owner_of []) max_size no_boundary);
   names = opening_names;
