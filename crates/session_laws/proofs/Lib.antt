@@ -26,3 +26,4 @@ pub mod Settled
 pub mod Legality
 pub mod Opening
 pub mod Outcomes
+pub mod RunOut
