@@ -49,7 +49,7 @@ may_answer b t p o h e owes before after =
     }
 
 -- what isn't up need not end where it isn't asked for, or is over
-not_up_ends : (l : Ledger) → l.up ≡ false → (l.asked && not (is_over l)) ≡ false → ending l ≡ None
+pub not_up_ends : (l : Ledger) → l.up ≡ false → (l.asked && not (is_over l)) ≡ false → ending l ≡ None
 not_up_ends l down no_dial = left_if l.up (ending_up l l.heard) _ down ∙ left_if (l.asked && not (is_over l)) (ending_asked l.heard) None no_dial
 
 pub unknown_ends : (l : Ledger) → IsUnknown l → ending l ≡ None
@@ -59,7 +59,7 @@ pub some_end : (x : Option End) → x ≢ None → is_some x ≡ true
 some_end None n = absurd (n refl)
 some_end (Some e) n = refl
 
-over_not_asked : (l : Ledger) → l.end ≢ None → (l.asked && not (is_over l)) ≡ false
+pub over_not_asked : (l : Ledger) → l.end ≢ None → (l.asked && not (is_over l)) ≡ false
 over_not_asked l n = ap (λ o. l.asked && not o) (some_end l.end n) ∙ none_of l.asked
   where
     none_of : (a : Bool) → (a && false) ≡ false

@@ -13,3 +13,4 @@ pub mod Start
 pub mod Settle
 pub mod Close
 pub mod Announce
+pub mod Heard
