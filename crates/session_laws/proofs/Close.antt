@@ -150,13 +150,14 @@ waiting_in_line requests life waiting over r =
     (subst (λ ns. Rising 0 ns (length requests)) (sym (append-nil (last ++ []) ∙ append-nil last)) (subst (λ (x : Life). IsInLine requests (link_in x) waiting []) over r))
 
 -- all that wait are answered
-waiting_closed_holds : (before : List Action) (f : Core) (owes : ℕ → Option Outcome) (name : ℕ → ℕ) (w : Work) (started : List ℕ) → w.conn.life ≡ Ended → AllByRecursion (IsDueClosed owes name) w.conn.waiting → IsAnswering before f owes name w [] started
-    → IsAnswering before f owes name (waiting_closed w) [] started
-waiting_closed_holds before f owes name w started over due h =
-    closed_holds before f owes name (record w { conn = record w.conn { waiting = [] } }) w.conn.waiting [] started due
+waiting_closed_holds : (before : List Action) (f : Core) (ledger : Ledger) (owes : ℕ → Option Outcome) (name : ℕ → ℕ) (w : Work) (started : List ℕ) → w.conn.life ≡ Ended → AllByRecursion (IsDueClosed owes name) w.conn.waiting → IsAnswering before f ledger owes name w [] started
+    → IsAnswering before f ledger owes name (waiting_closed w) [] started
+waiting_closed_holds before f ledger owes name w started over due h =
+    closed_holds before f ledger owes name (record w { conn = record w.conn { waiting = [] } }) w.conn.waiting [] started due
     (record {
       holds = record { stands = h.holds.stands; tied = waiting_tied (book (trace_of_acts before f w.acts)) (seen f w.conn [] started) h.holds.tied };
       line = waiting_in_line w.conn.requests w.conn.life w.conn.waiting over h.line;
+      ledger_is = h.ledger_is;
       owed_is = h.owed_is;
       named = h.named;
     })
@@ -188,8 +189,8 @@ ended_holds before f w out why started h alive must ids =
     let a = answering before f v (ns ++ []) started (subst (λ ms. Holds before f v ms started) (sym (append-nil ns)) held) (subst (IsInLine w.conn.requests new_link w.conn.waiting) (sym (append-nil ns)) line) in
     let u = settled_each v out in
     let k = settled_leaves v out in
-    let settled = settled_holds before f (owed c) (name_at w.conn.requests) v out [] started due a in
-    let done = waiting_closed_holds before f (owed c) (name_at w.conn.requests) u started k.life (subst (AllByRecursion (IsDueClosed (owed c) (name_at w.conn.requests))) (sym k.waiting) later) settled in
+    let settled = settled_holds before f (c.link f.single.link) (owed c) (name_at w.conn.requests) v out [] started due a in
+    let done = waiting_closed_holds before f (c.link f.single.link) (owed c) (name_at w.conn.requests) u started k.life (subst (AllByRecursion (IsDueClosed (owed c) (name_at w.conn.requests))) (sym k.waiting) later) settled in
     let rest : Work = record u { conn = record u.conn { waiting = [] } } in
     let m = closed_leaves rest u.conn.waiting in
     record { holds = done.holds; over = m.life ∙ k.life; none_waits = m.waiting }

@@ -14,3 +14,4 @@ pub mod Settle
 pub mod Close
 pub mod Announce
 pub mod Heard
+pub mod End
