@@ -15,3 +15,5 @@ pub mod Close
 pub mod Announce
 pub mod Heard
 pub mod End
+pub mod Connect
+pub mod Took
