@@ -17,3 +17,4 @@ pub mod Heard
 pub mod End
 pub mod Connect
 pub mod Took
+pub mod Read
