@@ -128,7 +128,7 @@ answer_closes s o = record {
 }
 
 -- entries that are wanted are others
-entries_answered : (requests : List Request) (p : ℕ) (row : List Entry) → (IsIn p (wanted row) → ⊥) → AllByRecursion (IsEntry requests) row → AllByRecursion (IsEntry (at_progress requests p progress.Closed)) row
+pub entries_answered : (requests : List Request) (p : ℕ) (row : List Entry) → (IsIn p (wanted row) → ⊥) → AllByRecursion (IsEntry requests) row → AllByRecursion (IsEntry (at_progress requests p progress.Closed)) row
 entries_answered requests p [] apart all = tt
 entries_answered requests p (e ∷ es) apart all = (
   record {

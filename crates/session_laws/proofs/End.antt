@@ -29,7 +29,7 @@ use Rattle.session_laws.proofs.States.{Between, HasApplied}
 use Rattle.session_laws.proofs.Settle.{seen, trace_of_acts, Holds}
 use Rattle.session_laws.proofs.Close.{HasEnded, ended_holds, ended_applied}
 use Rattle.session_laws.proofs.Announce.{turn_of, turned, IsNewsKind}
-use Rattle.session_laws.proofs.Heard.{heard_by, lives_as, Begins, Leads, heard_begins, leads_on, ended_quiet, IsOfAnother, dialing_quiet}
+use Rattle.session_laws.proofs.Heard.{told_life, heard_by, lives_as, Begins, Leads, heard_begins, leads_on, ended_quiet, IsOfAnother, dialing_quiet}
 
 -- of an empty queue nothing is settled
 none_queued : (P : Settled → Type 0) (queue : List Queued) → queue ≡ [] → AllByRecursion P (queue_closed queue)
@@ -104,24 +104,16 @@ IsPlain _ = ⊥
 plain_leads : (before : List Action) (c : Core) (started : List ℕ) (n : News) → IsPlain n → Between before c started → Leads (book before) c n c.single.connection.life [] started
 plain_leads before c started n k h = by_news n k
   where
-    life : Life
-    life = c.single.connection.life
-
     l : Ledger
     l = (book before).link c.single.link
-
-    by_life : (x : Life) (m : News) → TiedLife l (book before).created x → TiedLife (record l { heard = m }) (book before).created x
-    by_life Dialing m g = g
-    by_life (Ready link) m g = g
-    by_life Ended m g = g
 
     by_news : (m : News) → IsPlain m → Leads (book before) c m c.single.connection.life [] started
     by_news silence j = absurd j
     by_news connected j = absurd j
     by_news (took count) j = absurd j
     by_news (came piece) j = absurd j
-    by_news (failed f) j = leads_on before c started (failed f) h (by_life c.single.connection.life (failed f) h.sound.tied.life, λ alive. told_tied (owner_of c.single.connection.requests) l (link_in c.single.connection.life) l.asked l.up (failed f) (h.sound.tied.link alive))
-    by_news shut j = leads_on before c started shut h (by_life c.single.connection.life shut h.sound.tied.life, λ alive. told_tied (owner_of c.single.connection.requests) l (link_in c.single.connection.life) l.asked l.up shut (h.sound.tied.link alive))
+    by_news (failed f) j = leads_on before c started (failed f) h (told_life l (book before).created c.single.connection.life (failed f) h.sound.tied.life, λ alive. told_tied (owner_of c.single.connection.requests) l (link_in c.single.connection.life) l.asked l.up (failed f) (h.sound.tied.link alive))
+    by_news shut j = leads_on before c started shut h (told_life l (book before).created c.single.connection.life shut h.sound.tied.life, λ alive. told_tied (owner_of c.single.connection.requests) l (link_in c.single.connection.life) l.asked l.up shut (h.sound.tied.link alive))
 
 -- the turn of such an event begins with its link as it was
 plain_begins : (before : List Action) (c : Core) (started : List ℕ) (word : ℕ) (kind : EventKind) (n : News) → IsPlain n → Between before c started → is_bad c kind ≡ false → IsNewsKind kind → news c.single.link kind ≡ n

@@ -149,3 +149,29 @@ dialing_quiet before c started word kind n o h good k is dials =
       λ alive. unheard_tied (owner_of c.single.connection.requests) l (link_in c.single.connection.life) n life.1 (h.sound.tied.link alive),
     ))
     (dialing_no_end l b.created n o life) h.whole
+
+-- what the news are is of no account for how far a link has come
+pub told_life : (l : Ledger) (created : ℕ) (life : Life) (n : News) → TiedLife l created life → TiedLife (record l { heard = n }) created life
+told_life l created Dialing n h = h
+told_life l created (Ready link) n h = h
+told_life l created Ended n h = h
+
+-- a link that hears nothing need not end
+pub silent_no_end : (l : Ledger) → ending (noted l (hears silence)) ≡ None
+silent_no_end l =
+    chosen (λ (x : Option Ending). x ≡ None) l.up None (if l.asked && not (is_over l) then None else None)
+    (λ t. refl)
+    (λ f. chosen (λ (x : Option Ending). x ≡ None) (l.asked && not (is_over l)) None None (λ t. refl) (λ g. refl))
+
+-- a turn in which nothing is heard, and no act follows
+pub silent_applied : (before : List Action) (c : Core) (started : List ℕ) (word : ℕ) (kind : EventKind) (f : Core) (conn : MultiplexedConnection) → Between before c started → is_bad c kind ≡ false → ((m : ℕ) → ending ((entered (book before) (turn_of c word kind)).link m) ≡ None)
+    → f.turns ≢ 0 → IsWholeIn conn.life → Tied (entered (book before) (turn_of c word kind)) (seen f conn [] started)
+    → HasApplied (before ++ turn_of c word kind ∷ []) (with_work (record { core = f; acts = [] }) (record { conn = conn; acts = [] })) started
+silent_applied before c started word kind f conn h good no_end began whole tied =
+    let front = before ++ turn_of c word kind ∷ [] in
+    record {
+      sound = holds_first front f conn [] started (announced_sound before c started word kind (seen f conn [] started) h good tied);
+      ended = subst NoneEnds (sym (first_book before (turn_of c word kind) f)) no_end;
+      began = began;
+      whole = whole;
+    }

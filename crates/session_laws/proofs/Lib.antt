@@ -18,3 +18,4 @@ pub mod End
 pub mod Connect
 pub mod Took
 pub mod Read
+pub mod Cancel
