@@ -92,7 +92,8 @@ after_end b t h over = (
 
 -- what it leaves
 --
-owed_in : Book → Story → Option Outcome
+-- what a submission of that story is owed
+abbrev pub owed_in : Book → Story → Option Outcome
 owed_in b s =
     if s.late then Some (outcome.Fault error.Closed)
     else if length (bytes_of s) == 0 then Some (outcome.Fault error.EmptyCommand)
@@ -100,7 +101,6 @@ owed_in b s =
 
 -- what is owed stays
 pub owed_still : (b : Book) (n : ℕ) (o : Outcome) (m : ℕ) → owed (entered b (action.Outcome n o)) m ≡ owed b m
-unfolding owed_in
 owed_still b n o m =
     chosen (λ (s : Story). owed_in (entered b (action.Outcome n o)) s ≡ owed_in b (b.story m)) (n == m) (answered (b.story m) o) (b.story m)
     (λ t. alike (answered (b.story m) o) refl refl refl refl)

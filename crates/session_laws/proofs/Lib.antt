@@ -19,3 +19,4 @@ pub mod Connect
 pub mod Took
 pub mod Read
 pub mod Cancel
+pub mod Further
