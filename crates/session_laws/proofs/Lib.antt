@@ -20,3 +20,4 @@ pub mod Took
 pub mod Read
 pub mod Cancel
 pub mod Further
+pub mod Submit
