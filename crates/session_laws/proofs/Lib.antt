@@ -21,3 +21,4 @@ pub mod Read
 pub mod Cancel
 pub mod Further
 pub mod Submit
+pub mod Asked

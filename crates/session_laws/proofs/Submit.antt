@@ -57,24 +57,24 @@ stories_before : (b : Book) (what : Submission) (n : ℕ) → n ≢ b.submission
 stories_before b what n other = left_if (b.submissions == n) _ (b.story n) (ne_test b.submissions n (λ e. other (sym e)))
 
 -- its own
-abbrev new_story : Book → Submission → Story
+abbrev pub new_story : Book → Submission → Story
 new_story b what = handed_in blank_story what b.shut (current b)
 
 -- the next submission has no story before
 next_is_blank : (b : Book) (c : Core) (started : List ℕ) → Tied b (inner c started) → b.story (length c.table) ≡ blank_story
 next_is_blank b c started h = subst (TiedStory (b.story (length c.table)) c.single.connection.requests c.single.link) (get_beyond c.table (length c.table) (omega arith)) (h.story (length c.table))
 
-story_is_new : (b : Book) (c : Core) (started : List ℕ) (what : Submission) → Tied b (inner c started) → stories_with b what (length c.table) ≡ new_story b what
+pub story_is_new : (b : Book) (c : Core) (started : List ℕ) (what : Submission) → Tied b (inner c started) → stories_with b what (length c.table) ≡ new_story b what
 story_is_new b c started what h =
     taken_if (b.submissions == length c.table) _ (b.story (length c.table)) (eq_test b.submissions (length c.table) h.numbers.submissions)
     ∙ ap (λ (s : Story). handed_in s what b.shut (current b)) (next_is_blank b c started h)
 
 -- the others, by the table
-others_before : (b : Book) (c : Core) (started : List ℕ) (what : Submission) → Tied b (inner c started) → SameBefore b.story (stories_with b what) (length c.table)
+pub others_before : (b : Book) (c : Core) (started : List ℕ) (what : Submission) → Tied b (inner c started) → SameBefore b.story (stories_with b what) (length c.table)
 others_before b c started what h n other = stories_before b what n (λ e. other (e ∙ h.numbers.submissions))
 
 -- what started is within
-within_line : (requests : List Request) (started queue last : List ℕ) (p : ℕ) → Rising 0 (started ++ (queue ++ last)) (length requests) → IsIn p (started ++ (queue ++ last)) → p < length requests
+pub within_line : (requests : List Request) (started queue last : List ℕ) (p : ℕ) → Rising 0 (started ++ (queue ++ last)) (length requests) → IsIn p (started ++ (queue ++ last)) → p < length requests
 within_line requests started queue last p r i = let k = rising_in 0 (started ++ (queue ++ last)) (length requests) p r i in k.1
 
 -- it is answered at once
@@ -103,7 +103,7 @@ new_owed b now what e (inr h) =
     left_if b.shut (Some (outcome.Fault error.Closed)) _ h.0 ∙ taken_if (length (packed what) == 0) (Some (outcome.Fault error.EmptyCommand)) _ h.1 ∙ ap (λ x. Some (outcome.Fault x)) (sym h.2)
 
 -- its outcome may stand
-may_refuse : (b : Book) (c : Core) (started : List ℕ) (word : ℕ) (what : Submission) (e : RedisError) → Tied b (inner c started) → NoneIsOwed b → NoneEnds b → IsErrorOf b.shut what e → MayAnswer (entered b (turn_of c word (event.Submit what))) (length c.table) (outcome.Fault e)
+pub may_refuse : (b : Book) (c : Core) (started : List ℕ) (word : ℕ) (what : Submission) (e : RedisError) → Tied b (inner c started) → NoneIsOwed b → NoneEnds b → IsErrorOf b.shut what e → MayAnswer (entered b (turn_of c word (event.Submit what))) (length c.table) (outcome.Fault e)
 may_refuse b c started word what e h none no_end why =
     let now = entered b (turn_of c word (event.Submit what)) in
     let size = length c.table in
@@ -136,10 +136,10 @@ refused_is b c started what e h =
     ∙ ap (λ (s : Story). answered s (outcome.Fault e)) (story_is_new b c started what h)
 
 -- the core with one submission more
-abbrev core_refused : Core → Submission → Core
+abbrev pub core_refused : Core → Submission → Core
 core_refused c what = record (turned c (event.Submit what)) { table = c.table ++ None ∷ [] }
 
-refused_tied : (b : Book) (c : Core) (started : List ℕ) (word : ℕ) (what : Submission) (e : RedisError) → Tied b (inner c started) → c.single.connection.fresh ≡ []
+pub refused_tied : (b : Book) (c : Core) (started : List ℕ) (word : ℕ) (what : Submission) (e : RedisError) → Tied b (inner c started) → c.single.connection.fresh ≡ []
     → Tied (entered (entered b (turn_of c word (event.Submit what))) (action.Outcome (length c.table) (outcome.Fault e))) (seen (core_refused c what) c.single.connection [] started)
 refused_tied b c started word what e h no_fresh =
     let conn = c.single.connection in
