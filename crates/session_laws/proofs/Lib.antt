@@ -22,3 +22,4 @@ pub mod Cancel
 pub mod Further
 pub mod Submit
 pub mod Asked
+pub mod Effects
