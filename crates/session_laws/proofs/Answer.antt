@@ -140,15 +140,14 @@ entries_answered requests p (e ∷ es) apart all = (
   entries_answered requests p es (λ i. apart (in_right p (if e.awaited then e.id ∷ [] else []) (wanted es) i)) all.1,
 )
 
--- the lines where the first of those that are to be answered is
+-- the lines where the first of those that are to be answered is, and is none of the others
 lines_answered : (table : List (Option Pending)) (story : ℕ → Story) (requests : List Request) (link : LinkState) (waiting : List Waiting) (p : ℕ) (pending started : List ℕ) (closed : ℕ → Story) → TiedNames table requests → p < length requests
-    → ((n : ℕ) → Closes (story n) (closed n)) → IsInLine requests link waiting (p ∷ pending) → TiedLines story requests link waiting (p ∷ pending) started
+    → ((n : ℕ) → Closes (story n) (closed n)) → (IsIn p (pending ++ line_of link waiting) → ⊥) → TiedLines story requests link waiting (p ∷ pending) started
     → TiedLines (with_closed story requests p closed) (at_progress requests p progress.Closed) link waiting pending started
-lines_answered table story requests link waiting p pending started closed names l c r h =
+lines_answered table story requests link waiting p pending started closed names l c apart h =
     let rows = wanted link.row in
     let queue = queue_ids link.queue in
     let later = queue ++ waiting_ids waiting in
-    let apart = first_is_apart 0 p (pending ++ line_of link waiting) (length requests) r in
     record {
       line = subst (Rising 0 (started ++ later)) (sym (length_still requests p progress.Closed)) h.line;
       queued = queue_closed table story requests p closed link.queue names l
@@ -164,10 +163,10 @@ lines_answered table story requests link waiting p pending started closed names 
           ];
     }
 
--- the first of those that are to be answered is
-pub answer_tied : (b : Book) (t : Inner) (p : ℕ) (pending : List ℕ) (o : Outcome) → p < length t.requests → IsInLine t.requests (link_in t.life) t.waiting (p ∷ pending) → Tied b (record t { pending = p ∷ pending })
+-- the first of those that are to be answered is, and is none of the others
+pub answer_apart : (b : Book) (t : Inner) (p : ℕ) (pending : List ℕ) (o : Outcome) → p < length t.requests → (IsIn p (pending ++ line_of (link_in t.life) t.waiting) → ⊥) → Tied b (record t { pending = p ∷ pending })
     → Tied (entered b (action.Outcome (name_at t.requests p) o)) (record t { requests = at_progress t.requests p progress.Closed; pending = pending })
-answer_tied b t p pending o l r h =
+answer_apart b t p pending o l apart h =
     let closed : ℕ → Story = λ n. answered (b.story n) o in
     let c : (n : ℕ) → Closes (b.story n) (closed n) = λ n. answer_closes (b.story n) o in
     record {
@@ -178,9 +177,14 @@ answer_tied b t p pending o l r h =
       names = names_progressed t.table t.requests p progress.Closed h.names;
       story = λ n. story_closed b.story t.table t.requests t.link p closed n h.names l (c n) (h.story n);
       tries = tries_closed (b.link t.link) b.story t.requests t.link p closed t.started c h.tries;
-      lines = lines_answered t.table b.story t.requests (link_in t.life) t.waiting p pending t.started closed h.names l c r h.lines;
+      lines = lines_answered t.table b.story t.requests (link_in t.life) t.waiting p pending t.started closed h.names l c apart h.lines;
       waits = waits_closed t.table b.story t.requests p closed t.life t.life t.fresh h.names l c (λ e. e) h.waits;
     }
+
+-- where the line rises
+pub answer_tied : (b : Book) (t : Inner) (p : ℕ) (pending : List ℕ) (o : Outcome) → p < length t.requests → IsInLine t.requests (link_in t.life) t.waiting (p ∷ pending) → Tied b (record t { pending = p ∷ pending })
+    → Tied (entered b (action.Outcome (name_at t.requests p) o)) (record t { requests = at_progress t.requests p progress.Closed; pending = pending })
+answer_tied b t p pending o l r h = answer_apart b t p pending o l (first_is_apart 0 p (pending ++ line_of (link_in t.life) t.waiting) (length t.requests) r) h
 
 -- one that isn't open is answered with nothing shown
 pub skip_tied : (b : Book) (t : Inner) (p : ℕ) (pending : List ℕ) → is_open_at t.requests p ≡ false → Tied b (record t { pending = p ∷ pending }) → Tied b (record t { pending = pending })

@@ -1,40 +1,29 @@
 -- A submission is handed in: it is the next request, or it is answered at once.
-use Rattle.std.proofs.Common.{◌≡◌, ◌≢◌, ◌⊎◌, inl, inr, ℕ, ◌+◌, ◌-◌, ◌<◌, ◌≤◌, ◌==◌, Bool, true, false, ◌||◌, List, [], ◌∷◌, ◌++◌, length, Option, Some, None, slice_get, if◌then◌else◌, refl, sym, ap, ◌∙◌, subst, append_assoc, arith, length-append}
-use Rattle.std.specs.List.{AllByRecursion}
+use Rattle.std.proofs.Common.{◌≡◌, ◌≢◌, inl, inr, ℕ, ◌+◌, ◌<◌, ◌≤◌, ◌==◌, Bool, true, false, ◌||◌, List, [], ◌∷◌, ◌++◌, length, Some, slice_get, if◌then◌else◌, refl, sym, ap, ◌∙◌, subst, append_assoc, arith, length-append}
 use Rattle.containers.proofs.Places.{get_within}
 use Rattle.containers.proofs.Tests.{chosen, not_both}
-use Rattle.std.proofs.lemmas.List.{nil_from_length}
 use Rattle.redis_error.specs.declared.redis_error.RedisError.{RedisError}
 use Rattle.redis_error.specs.declared.redis_error.RedisError.TheVariants as error
 use Rattle.driver_model.specs.declared.action.Action.{Action}
 use Rattle.driver_model.specs.declared.action.Action.TheVariants as action
-use Rattle.driver_model.specs.declared.action.Owner.{Owner}
-use Rattle.driver_model.specs.declared.action.WaitKind.TheVariants as wait
 use Rattle.driver_model.specs.declared.event.EventKind.TheVariants as event
 use Rattle.driver_model.specs.declared.event.Submission.{Submission}
 use Rattle.driver_model.specs.declared.outcome.Outcome.TheVariants as outcome
 use Rattle.driver_model.specs.News.{silence}
 use Rattle.driver_model.specs.Request.{packed, shape_of, awaits_reply}
 use Rattle.link_laws.proofs.Lists.{get_last}
-use Rattle.link_laws.proofs.TiedLink.{TiedLink, told_tied, named_tied, all_push}
-use Rattle.link_laws.specs.Settles.{wanted, awaited_ids}
-use Rattle.link_core.specs.declared.message.Entry.{Entry}
-use Rattle.link_core.specs.Link.{LinkState}
-use Rattle.mux_conn.specs.declared.connection.MultiplexedConnection.{MultiplexedConnection}
-use Rattle.mux_conn.specs.declared.life.Life.{Life}
-use Rattle.mux_conn.specs.declared.life.Life.TheVariants.{Dialing, Ended}
-use Rattle.mux_conn.specs.declared.request.Pending.{Pending}
+use Rattle.link_laws.proofs.TiedLink.{told_tied, named_tied, all_push}
 use Rattle.mux_conn.specs.declared.request.Progress.TheVariants as progress
 use Rattle.mux_conn.specs.declared.request.Request.{Request}
 use Rattle.mux_conn.specs.declared.request.Waiting.{Waiting}
 use Rattle.mux_conn.specs.Requests.{is_open as is_open_progress, is_waiting, if_there, name_or_none, is_open_at, is_waiting_at, name_at, waiting_of, asked}
 use Rattle.shared_session.specs.declared.core_state.Core.{Core}
-use Rattle.shared_session.specs.Turn.{Turning, heard, refused, asked_for, submitted, pending, effect, counted, is_bad}
-use Rattle.legal_trace.specs.Story.{Story, bytes_of}
-use Rattle.legal_trace.specs.Book.{Book, blank_book, book, entered, current}
+use Rattle.shared_session.specs.Turn.{Turning, heard, refused, asked_for, pending, effect, counted, is_bad}
+use Rattle.legal_trace.specs.Story.{Story}
+use Rattle.legal_trace.specs.Book.{Book, blank_book, book, entered}
 use Rattle.legal_trace.specs.Legal.{AllStand, NoneEnds, MayAnswer}
 use Rattle.session_laws.proofs.Numbers.{IsIn, in_left, in_right, Rising, rising_next}
-use Rattle.session_laws.proofs.Tied.{Inner, inner, link_in, owner_of, queue_ids, waiting_ids, IsOf, IsRequest, IsPacked, IsNew, TiedLines, TiedWaits, Tied}
+use Rattle.session_laws.proofs.Tied.{inner, link_in, owner_of, queue_ids, waiting_ids, IsOf, IsRequest, IsPacked, IsNew, TiedLines, TiedWaits, Tied}
 use Rattle.session_laws.proofs.States.{Between, HasApplied}
 use Rattle.session_laws.proofs.Entered.{all_stand-append, book_more, sound_more}
 use Rattle.session_laws.proofs.Names.{there_within, names_asked}
@@ -42,7 +31,7 @@ use Rattle.session_laws.proofs.Owes.{started_within}
 use Rattle.session_laws.proofs.Settle.{seen}
 use Rattle.session_laws.proofs.Announce.{turn_of, turned, may_turn}
 use Rattle.session_laws.proofs.Heard.{told_life, silent_no_end, silent_applied}
-use Rattle.session_laws.proofs.Further.{IsLonger, one_longer, there_longer, before_or_new, SameBefore, story_at, further_story, tries_longer, queue_longer, packs_longer, entries_longer, owners_of_row}
+use Rattle.session_laws.proofs.Further.{one_longer, there_longer, before_or_new, story_at, further_story, tries_longer, queue_longer, packs_longer, entries_longer, owners_of_row}
 use Rattle.session_laws.proofs.Submit.{stories_with, new_story, story_is_new, others_before, within_line, IsErrorOf, may_refuse, core_refused, refused_tied}
 
 -- it is answered at once
@@ -176,7 +165,7 @@ asked_tied b c started word what h no_fresh up some =
     ap after (sym named) ∙ story_is_new b c started what h) in
     record {
       numbers = record { turns = ap (λ m. m + 1) h.numbers.turns; links = h.numbers.links; submissions = (let k = h.numbers.submissions in omega (arith, length-append c.table (next ∷ []))); shut = ap (λ s. s || false) h.numbers.shut; one = h.numbers.one; only = h.numbers.only };
-      others = λ m other. let u = h.others m other in record { asked = u.asked; up = u.up; end = u.end };
+      others = λ m other. let u = h.others m other in record { asked = u.asked; up = u.up; end = u.end; starts = u.starts };
       life = told_life ledger b.created conn.life silence h.life;
       link = λ alive. told_tied (owner_of (more_requests c)) ledger (link_in conn.life) ledger.asked ledger.up silence
           (named_tied (owner_of conn.requests) (owner_of (more_requests c)) ledger (link_in conn.life) (owners_of_row conn.requests (more_requests c) (link_in conn.life).row longer h.lines.entries) (h.link alive));

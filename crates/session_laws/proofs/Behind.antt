@@ -1,5 +1,5 @@
 -- The requests that submissions are, and where those are that are open.
-use Rattle.std.proofs.Common.{List, None, Option, Some, [], ap, arith, inl, inr, length, refl, slice_get, sym, true, ℕ, ◌<◌, ◌==◌, ◌∙◌, ◌∷◌, ◌≡◌, ◌⊎◌}
+use Rattle.std.proofs.Common.{List, None, Option, Some, [], ap, arith, inl, inr, length, refl, slice_get, sym, true, ℕ, ◌++◌, ◌<◌, ◌==◌, ◌∙◌, ◌∷◌, ◌≡◌, ◌⊎◌}
 use Rattle.std.specs.Prelude.{is_some, not, ◌&&◌}
 use Rattle.containers.proofs.Places.{get_within}
 use Rattle.containers.proofs.Tests.{both_left, both_right, eq_from, not_both}
@@ -11,7 +11,7 @@ use Rattle.mux_conn.specs.Requests.{name_at}
 use Rattle.mux_conn.specs.declared.request.Pending.{Pending}
 use Rattle.legal_trace.specs.Book.{Book}
 use Rattle.legal_trace.specs.Legal.{IsTold}
-use Rattle.legal_trace.specs.Story.{Story, blank_story, is_open}
+use Rattle.legal_trace.specs.Story.{Story, Try, blank_story, is_open}
 use Rattle.session_laws.proofs.Names.{name_of_some}
 use Rattle.session_laws.proofs.Tied.{Inner, IsRequest, Tied, TiedStory}
 
@@ -54,3 +54,8 @@ alive_entry b t n (Some (Some p)) h e s a =
 -- a submission that can be answered or started is a request
 pub alive_behind : (b : Book) (t : Inner) (n : ℕ) → Tied b t → IsAlive (b.story n) → IsBehind b t n
 alive_behind b t n h a = alive_entry b t n (slice_get t.table n) h refl (h.story n) a
+
+-- one try more is one
+pub some_more : (xs : List Try) (x : Try) → xs ++ x ∷ [] ≡ [] → ⊥
+some_more [] x e = cc
+some_more (y ∷ ys) x e = cc

@@ -1,13 +1,10 @@
 -- The caller of a submission has gone.
-use Rattle.std.proofs.Common.{◌≡◌, ◌≢◌, ◌⊎◌, inl, inr, ℕ, suc, ◌+◌, ◌<◌, ◌≤◌, ◌==◌, Bool, true, false, ◌&&◌, ◌||◌, not, is_some, List, [], ◌∷◌, ◌++◌, length, Option, Some, None, slice_get, if◌then◌else◌, refl, sym, ap, ◌∙◌, subst, arith}
+use Rattle.std.proofs.Common.{◌≡◌, ◌≢◌, inl, inr, ℕ, suc, ◌+◌, ◌<◌, ◌==◌, Bool, true, false, ◌&&◌, ◌||◌, is_some, List, [], ◌∷◌, ◌++◌, length, Option, Some, None, slice_get, if◌then◌else◌, refl, sym, ap, ◌∙◌, subst, arith}
 use Rattle.std.specs.List.{AllByRecursion}
-use Rattle.containers.proofs.Tests.{by_test, chosen, left_if, eq_from, ne_from, not_both}
+use Rattle.containers.proofs.Tests.{chosen, left_if, eq_from, ne_from}
 use Rattle.driver_model.specs.declared.action.Action.{Action}
-use Rattle.driver_model.specs.declared.action.Action.TheVariants as action
-use Rattle.driver_model.specs.declared.action.Cause.TheVariants as cause
 use Rattle.driver_model.specs.declared.action.Owner.{Owner}
 use Rattle.driver_model.specs.declared.event.EventKind.TheVariants as event
-use Rattle.driver_model.specs.declared.event.EventKind.{EventKind}
 use Rattle.driver_model.specs.declared.outcome.Outcome.TheVariants as outcome
 use Rattle.driver_model.specs.News.{silence}
 use Rattle.link_core.specs.declared.message.Entry.{Entry}
@@ -25,23 +22,22 @@ use Rattle.mux_conn.specs.declared.request.Progress.TheVariants as progress
 use Rattle.mux_conn.specs.declared.request.Request.{Request}
 use Rattle.mux_conn.specs.declared.request.Waiting.{Waiting}
 use Rattle.mux_conn.specs.Requests.{is_open as is_open_progress, is_waiting, is_open_at, name_at, at_progress}
-use Rattle.mux_conn.specs.Effects.{new_link, cancelled_in, left as left_in}
+use Rattle.mux_conn.specs.Effects.{new_link, cancelled_in}
 use Rattle.shared_session.specs.declared.core_state.Core.{Core}
 use Rattle.shared_session.specs.Turn.{with_work, heard, left_by, effect, counted, is_bad}
-use Rattle.legal_trace.specs.Ledger.{Ledger, hears, noted, ending}
-use Rattle.legal_trace.specs.Legal.{NoneEnds}
+use Rattle.legal_trace.specs.Ledger.{Ledger}
 use Rattle.legal_trace.specs.Story.{Story, is_open, left}
 use Rattle.legal_trace.specs.Book.{Book, book, entered, if_own}
 use Rattle.session_laws.proofs.Numbers.{IsIn, in_left, in_right, in_either, Rising, rising_in, rising_right}
-use Rattle.session_laws.proofs.Tied.{Inner, inner, link_in, owner_of, queue_ids, waiting_ids, IsQueued, IsEntry, TiedLife, TiedStory, TiedLines, Tied}
+use Rattle.session_laws.proofs.Tied.{inner, link_in, owner_of, queue_ids, waiting_ids, IsQueued, IsEntry, TiedLife, TiedStory, TiedLines, Tied}
 use Rattle.session_laws.proofs.States.{IsWhole, IsWholeIn, Between, HasApplied}
 use Rattle.session_laws.proofs.Names.{open_within, name_of_some, owners_still, length_still, names_progressed, there_other, there_then}
 use Rattle.session_laws.proofs.InLine.{row_ids, wanted_in}
 use Rattle.session_laws.proofs.Owes.{answered_closed, row_in_line}
 use Rattle.session_laws.proofs.Closing.{Closes, with_closed, story_closed, tries_closed, packs_closed, waits_closed}
 use Rattle.session_laws.proofs.Answer.{entries_answered}
-use Rattle.session_laws.proofs.Settle.{seen, trace_of_acts}
-use Rattle.session_laws.proofs.Announce.{turn_of, turned, others_heard, announced_sound, holds_first, first_book}
+use Rattle.session_laws.proofs.Settle.{seen}
+use Rattle.session_laws.proofs.Announce.{turn_of, turned}
 use Rattle.session_laws.proofs.Heard.{silent_applied, told_life, silent_no_end}
 
 -- one who leaves closes its story
@@ -168,7 +164,7 @@ gone_tied b c started word p n h good whole l named =
     subst (λ m. Tied (entered b (turn_of c word (event.Cancel m))) (seen (turned c (event.Cancel m)) (record conn { requests = at_progress conn.requests p progress.Closed; life = cancelled_in conn.life p }) [] started)) named
     (record {
       numbers = record { turns = ap (λ m. m + 1) h.numbers.turns; links = h.numbers.links; submissions = (let e = h.numbers.submissions in omega arith); shut = ap (λ s. s || false) h.numbers.shut; one = h.numbers.one; only = h.numbers.only };
-      others = λ m other. let u = h.others m other in record { asked = u.asked; up = u.up; end = u.end };
+      others = λ m other. let u = h.others m other in record { asked = u.asked; up = u.up; end = u.end; starts = u.starts };
       life = left_life ledger b.created conn.life p h.life;
       link = λ alive. left_link (owner_of (at_progress conn.requests p progress.Closed)) ledger conn.life p (λ up. subst (λ name. TiedLink name ledger (link_in conn.life)) (sym (owners_still conn.requests p progress.Closed)) (h.link up)) alive;
       names = names_progressed c.table conn.requests p progress.Closed h.names;
@@ -193,7 +189,7 @@ unmoved_tied b c started word n h f =
     subst (λ (story : ℕ → Story). Tied (record (entered b (turn_of c word (event.Cancel n))) { story = story }) t) stories
     (record {
       numbers = record { turns = ap (λ m. m + 1) h.numbers.turns; links = h.numbers.links; submissions = (let e = h.numbers.submissions in omega arith); shut = ap (λ s. s || false) h.numbers.shut; one = h.numbers.one; only = h.numbers.only };
-      others = λ m other. let u = h.others m other in record { asked = u.asked; up = u.up; end = u.end };
+      others = λ m other. let u = h.others m other in record { asked = u.asked; up = u.up; end = u.end; starts = u.starts };
       life = told_life ledger b.created conn.life silence h.life;
       link = λ alive. told_tied (owner_of conn.requests) ledger (link_in conn.life) ledger.asked ledger.up silence (h.link alive);
       names = h.names;

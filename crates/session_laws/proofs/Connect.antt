@@ -1,6 +1,6 @@
 -- The connect of the connection's link is answered, and the creation is shown.
-use Rattle.std.proofs.Common.{◌≡◌, ◌≢◌, ℕ, ◌+◌, Bool, true, false, ◌&&◌, not, List, [], ◌∷◌, ◌++◌, Option, Some, None, is_some, refl, sym, ap, ◌∙◌, subst, arith, if◌then◌else◌}
-use Rattle.containers.proofs.Tests.{chosen, left_if}
+use Rattle.std.proofs.Common.{◌≡◌, ◌≢◌, ℕ, ◌+◌, Bool, true, false, ◌&&◌, not, List, [], ◌∷◌, ◌++◌, Option, None, is_some, refl, sym, ap, ◌∙◌, subst, arith, if◌then◌else◌}
+use Rattle.containers.proofs.Tests.{chosen}
 use Rattle.driver_model.specs.declared.action.Action.{Action}
 use Rattle.driver_model.specs.declared.action.Action.TheVariants as action
 use Rattle.driver_model.specs.declared.event.EventKind.{EventKind}
@@ -15,7 +15,7 @@ use Rattle.shared_session.specs.Turn.{with_work, is_bad}
 use Rattle.legal_trace.specs.Ledger.{Ledger, Ending, hears, noted, ending, ending_asked, is_over}
 use Rattle.legal_trace.specs.Book.{Book, blank_book, book, entered}
 use Rattle.legal_trace.specs.Legal.{AllStand, NoneEnds, MayBeCreated}
-use Rattle.session_laws.proofs.Tied.{link_in, owner_of, TiedLife, TiedLines, Tied, Sound}
+use Rattle.session_laws.proofs.Tied.{link_in, owner_of, TiedLife, TiedLines, Tied}
 use Rattle.session_laws.proofs.States.{IsWhole, Between, HasApplied}
 use Rattle.session_laws.proofs.Entered.{all_stand-append, book_more, sound_more}
 use Rattle.session_laws.proofs.Owes.{none_owed}

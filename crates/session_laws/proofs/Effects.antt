@@ -1,27 +1,20 @@
 -- The event's own effect: each kind of event leaves the session tied to its book, and nothing due but what moves.
-use Rattle.std.proofs.Common.{◌≡◌, ◌≢◌, ℕ, ◌≤◌, ◌==◌, ◌&&◌, ◌||◌, true, false, if◌then◌else◌, length, Option, Some, None, slice_get, List, [], ◌∷◌, ◌++◌, refl, sym, ap, ◌∙◌, subst}
-use Rattle.containers.proofs.Tests.{chosen, or_left, or_right, eq_test, not_le_from, not_lt_from}
-use Rattle.redis_error.specs.declared.redis_error.RedisError.TheVariants as error
+use Rattle.std.proofs.Common.{◌≡◌, ℕ, ◌==◌, ◌&&◌, false, None, List, [], ◌∷◌, ◌++◌, refl, sym, ◌∙◌, subst}
+use Rattle.containers.proofs.Tests.{or_left, or_right, eq_test, not_le_from, not_lt_from}
 use Rattle.driver_model.specs.declared.action.Action.{Action}
-use Rattle.driver_model.specs.declared.action.Action.TheVariants as action
-use Rattle.driver_model.specs.declared.action.Cause.TheVariants as cause
-use Rattle.driver_model.specs.declared.event.Event.{Event}
 use Rattle.driver_model.specs.declared.event.EventKind.{EventKind}
 use Rattle.driver_model.specs.declared.event.EventKind.TheVariants as event
-use Rattle.driver_model.specs.declared.news.LinkFault.{LinkFault}
 use Rattle.driver_model.specs.declared.news.LinkFault.TheVariants as fault
-use Rattle.driver_model.specs.News.{News, connected, took, came, failed, for_link, news}
-use Rattle.driver_model.specs.Request.{packed}
+use Rattle.driver_model.specs.News.{News, connected, took, came, failed, news}
 use Rattle.mux_conn.specs.declared.life.Life.{Life}
-use Rattle.mux_conn.specs.declared.request.Pending.{Pending}
 use Rattle.mux_conn.specs.declared.life.Life.TheVariants.{Dialing, Ready, Ended}
 use Rattle.mux_conn.specs.Effects.{CanTake, applied}
 use Rattle.shared_session.specs.declared.core_state.Core.{Core}
-use Rattle.shared_session.specs.Turn.{Turning, with_work, heard, refused, asked_for, left_by, effect, counted, is_no_link, takes_too_much, is_bad}
+use Rattle.shared_session.specs.Turn.{Turning, with_work, heard, effect, counted, is_no_link, takes_too_much, is_bad}
 use Rattle.legal_trace.specs.Book.{Book, book}
 use Rattle.legal_trace.specs.Owed.{owed}
 use Rattle.legal_trace.specs.Legal.{NoneIsOwed, IsApplied}
-use Rattle.session_laws.proofs.Tied.{Inner, Tied, inner}
+use Rattle.session_laws.proofs.Tied.{Tied, inner}
 use Rattle.session_laws.proofs.States.{Between, trace_with, HasApplied}
 use Rattle.session_laws.proofs.Owes.{none_owed, none_open, created_is}
 use Rattle.session_laws.proofs.Announce.{turn_of, turned, own_news}
@@ -72,54 +65,30 @@ can_take Ended count f = tt
 can_take_from : (c : Core) (l count : ℕ) → l ≡ c.single.link → ((l == c.single.link) && takes_too_much c.single.connection.life count) ≡ false → CanTake c.single.connection.life count
 can_take_from c l count own f = can_take c.single.connection.life count (sym (λ i. eq_test l c.single.link own i && takes_too_much c.single.connection.life count) ∙ f)
 
--- each kind
-effect_by_kind : (before : List Action) (c : Core) (started : List ℕ) (word : ℕ) (kind : EventKind) → Between before c started → is_bad c kind ≡ false → HasApplied (before ++ turn_of c word kind ∷ []) (effect (counted c) kind) started
+-- the effect of a good event between two turns
+pub effect_holds : (before : List Action) (c : Core) (started : List ℕ) (word : ℕ) (kind : EventKind) → Between before c started → is_bad c kind ≡ false → HasApplied (before ++ turn_of c word kind ∷ []) (effect (counted c) kind) started
 unfolding is_bad
-effect_by_kind before c started word (event.Submit what) h good = submit_applied before c started word what h good
-effect_by_kind before c started word (event.Cancel n) h good = cancel_applied before c started word n h good
-effect_by_kind before c started word (event.Connected l) h good =
+effect_holds before c started word (event.Submit what) h good = submit_applied before c started word what h good
+effect_holds before c started word (event.Cancel n) h good = cancel_applied before c started word n h good
+effect_holds before c started word (event.Connected l) h good =
     let own = own_news c l connected h.sound.tied.numbers.only good in
     by_news before c started word (event.Connected l) (news c.single.link (event.Connected l)) connected own (connected_applied before c started word (event.Connected l) h good tt own)
-effect_by_kind before c started word (event.Wrote l count) h good =
+effect_holds before c started word (event.Wrote l count) h good =
     let here = or_left (is_no_link c l) _ good in
     let few = or_right (is_no_link c l) _ good in
     let own = own_news c l (took count) h.sound.tied.numbers.only here in
     by_news before c started word (event.Wrote l count) (news c.single.link (event.Wrote l count)) (took count) own
     (took_applied before c started word count (event.Wrote l count) h good tt own (can_take_from c l count (h.sound.tied.numbers.only l (not_le_from c.links l here)) few))
-effect_by_kind before c started word (event.Bytes l piece) h good =
+effect_holds before c started word (event.Bytes l piece) h good =
     let own = own_news c l (came piece) h.sound.tied.numbers.only good in
     by_news before c started word (event.Bytes l piece) (news c.single.link (event.Bytes l piece)) (came piece) own (read_applied before c started word (event.Bytes l piece) piece h good tt own)
-effect_by_kind before c started word (event.Ended l) h good =
+effect_holds before c started word (event.Ended l) h good =
     let own = own_news c l (failed fault.Ended) h.sound.tied.numbers.only good in
     by_news before c started word (event.Ended l) (news c.single.link (event.Ended l)) (failed fault.Ended) own (failed_applied before c started word (event.Ended l) fault.Ended h good tt own)
-effect_by_kind before c started word (event.ReadFault l kind) h good =
+effect_holds before c started word (event.ReadFault l kind) h good =
     let own = own_news c l (failed (fault.Io kind)) h.sound.tied.numbers.only good in
     by_news before c started word (event.ReadFault l kind) (news c.single.link (event.ReadFault l kind)) (failed (fault.Io kind)) own (failed_applied before c started word (event.ReadFault l kind) (fault.Io kind) h good tt own)
-effect_by_kind before c started word (event.WriteFault l kind) h good =
+effect_holds before c started word (event.WriteFault l kind) h good =
     let own = own_news c l (failed (fault.Io kind)) h.sound.tied.numbers.only good in
     by_news before c started word (event.WriteFault l kind) (news c.single.link (event.WriteFault l kind)) (failed (fault.Io kind)) own (failed_applied before c started word (event.WriteFault l kind) (fault.Io kind) h good tt own)
-effect_by_kind before c started word event.Shutdown h good = shut_applied before c started word event.Shutdown h good tt refl
-
--- the effect of a good event between two turns
-pub effect_holds : (before : List Action) (c : Core) (started : List ℕ) (e : Event) → Between before c started → is_bad c e.kind ≡ false → HasApplied (before ++ action.Turn c.turns (cause.Event e) ∷ []) (effect (counted c) e.kind) started
-effect_holds before c started e h good = effect_by_kind before c started e.word e.kind h good
-
--- the number of the connection's link stays
-pub effect_link : (t : Turning) (kind : EventKind) → (effect t kind).core.single.link ≡ t.core.single.link
-effect_link t (event.Submit what) =
-    let u = heard t (event.Submit what) in
-    chosen (λ (x : Turning). x.core.single.link ≡ t.core.single.link) u.core.shut (refused u error.Closed) (if length (packed what) == 0 then refused u error.EmptyCommand else asked_for u what) (λ s. refl)
-    (λ s. chosen (λ (x : Turning). x.core.single.link ≡ t.core.single.link) (length (packed what) == 0) (refused u error.EmptyCommand) (asked_for u what) (λ e. refl) (λ e. refl))
-effect_link t (event.Cancel n) = by_entry (slice_get t.core.table n)
-  where
-    by_entry : (x : Option (Option Pending)) → (left_by (heard t (event.Cancel n)) x).core.single.link ≡ t.core.single.link
-    by_entry None = refl
-    by_entry (Some None) = refl
-    by_entry (Some (Some p)) = refl
-effect_link t (event.Connected l) = refl
-effect_link t (event.Wrote l count) = refl
-effect_link t (event.Bytes l piece) = refl
-effect_link t (event.Ended l) = refl
-effect_link t (event.ReadFault l kind) = refl
-effect_link t (event.WriteFault l kind) = refl
-effect_link t event.Shutdown = refl
+effect_holds before c started word event.Shutdown h good = shut_applied before c started word event.Shutdown h good tt refl

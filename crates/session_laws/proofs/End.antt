@@ -1,5 +1,5 @@
 -- A fault ends the connection's link, or the shutdown does.
-use Rattle.std.proofs.Common.{◌≡◌, ◌≢◌, ℕ, ◌-◌, Bool, true, false, List, [], ◌∷◌, ◌++◌, Option, Some, None, refl, sym, ap, ◌∙◌, subst, if◌then◌else◌, ◌&&◌, not, is_some, arith}
+use Rattle.std.proofs.Common.{◌≡◌, ◌≢◌, ℕ, ◌-◌, true, false, List, [], ◌∷◌, ◌++◌, Some, None, refl, sym, ap, ◌∙◌, subst, ◌&&◌, not, is_some, arith}
 use Rattle.std.specs.List.{AllByRecursion}
 use Rattle.containers.proofs.Tests.{taken_if, left_if}
 use Rattle.driver_model.specs.declared.action.Action.{Action}
@@ -19,17 +19,17 @@ use Rattle.link_laws.proofs.TiedLink.{TiedLink, told_tied}
 use Rattle.mux_conn.specs.declared.life.Life.{Life}
 use Rattle.mux_conn.specs.declared.life.Life.TheVariants.{Dialing, Ready, Ended}
 use Rattle.mux_conn.specs.Connection.{Work}
-use Rattle.mux_conn.specs.Effects.{ended, ended_by, failed_at, shut_at}
+use Rattle.mux_conn.specs.Effects.{ended_by, failed_at, shut_at}
 use Rattle.shared_session.specs.declared.core_state.Core.{Core}
 use Rattle.shared_session.specs.Turn.{with_work, is_bad}
-use Rattle.legal_trace.specs.Ledger.{Ledger, Ending, by_fault, by_shutdown, hears, ends, noted, ending, ending_up, ending_asked, is_over}
-use Rattle.legal_trace.specs.Book.{Book, book}
-use Rattle.session_laws.proofs.Tied.{link_in, owner_of, TiedLife, Tied}
+use Rattle.legal_trace.specs.Ledger.{Ledger, by_fault, by_shutdown, ends, noted, ending, is_over}
+use Rattle.legal_trace.specs.Book.{book}
+use Rattle.session_laws.proofs.Tied.{link_in, owner_of, TiedLife}
 use Rattle.session_laws.proofs.States.{Between, HasApplied}
-use Rattle.session_laws.proofs.Settle.{seen, trace_of_acts, Holds}
+use Rattle.session_laws.proofs.Settle.{trace_of_acts, Holds}
 use Rattle.session_laws.proofs.Close.{HasEnded, ended_holds, ended_applied}
 use Rattle.session_laws.proofs.Announce.{turn_of, turned, IsNewsKind}
-use Rattle.session_laws.proofs.Heard.{told_life, heard_by, lives_as, Begins, Leads, heard_begins, leads_on, ended_quiet, IsOfAnother, dialing_quiet}
+use Rattle.session_laws.proofs.Heard.{told_life, heard_by, Begins, Leads, heard_begins, leads_on, ended_quiet, dialing_quiet}
 
 -- of an empty queue nothing is settled
 none_queued : (P : Settled → Type 0) (queue : List Queued) → queue ≡ [] → AllByRecursion P (queue_closed queue)

@@ -1,9 +1,8 @@
 -- One more submission, and perhaps one more request.
-use Rattle.std.proofs.Common.{◌≡◌, ◌≢◌, ◌⊎◌, inl, inr, ℕ, zero, suc, ◌+◌, ◌<◌, ◌≤◌, ◌==◌, nat_lt, Bool, true, false, List, [], ◌∷◌, ◌++◌, length, Option, Some, None, slice_get, refl, sym, ap, ◌∙◌, subst, arith, length-append}
+use Rattle.std.proofs.Common.{◌≡◌, ◌≢◌, inl, inr, ℕ, zero, suc, ◌<◌, ◌≤◌, ◌==◌, nat_lt, Bool, List, [], ◌∷◌, ◌++◌, length, Option, Some, None, slice_get, refl, sym, ap, ◌∙◌, subst, arith, length-append}
 use Rattle.std.specs.List.{AllByRecursion}
 use Rattle.containers.proofs.Places.{get_within}
 use Rattle.containers.proofs.Tests.{by_test, eq_from, ne_from, lt_from, not_lt_from}
-use Rattle.driver_model.specs.declared.action.Owner.{Owner}
 use Rattle.driver_model.specs.declared.action.Owner.TheVariants as owner
 use Rattle.driver_model.specs.declared.outcome.Shape.{Shape}
 use Rattle.link_core.specs.declared.message.Entry.{Entry}
@@ -15,11 +14,11 @@ use Rattle.mux_conn.specs.declared.request.Progress.{Progress}
 use Rattle.mux_conn.specs.declared.request.Request.{Request}
 use Rattle.mux_conn.specs.declared.request.Waiting.{Waiting}
 use Rattle.mux_conn.specs.Requests.{is_open as is_open_progress, if_there, name_or_none, name_at}
-use Rattle.legal_trace.specs.Ledger.{Ledger, Start}
-use Rattle.legal_trace.specs.Story.{Story, blank_story, shape}
+use Rattle.legal_trace.specs.Ledger.{Ledger}
+use Rattle.legal_trace.specs.Story.{Story, shape}
 use Rattle.session_laws.proofs.Numbers.{IsIn}
-use Rattle.session_laws.proofs.Tied.{owner_of, owners_of, owners_each, queue_ids, waiting_ids, IsRefused, IsRequest, TiedStory, TiedTries, TiedNames, IsOf, IsQueued, IsEntry, IsPacked}
-use Rattle.session_laws.proofs.Names.{get_some, name_within}
+use Rattle.session_laws.proofs.Tied.{owner_of, owners_each, queue_ids, waiting_ids, IsRequest, TiedStory, TiedTries, TiedNames, IsOf, IsQueued, IsEntry, IsPacked}
+use Rattle.session_laws.proofs.Names.{name_within}
 
 -- nothing stands beyond the end
 pub get_beyond : {X : Type 0} (xs : List X) (n : ℕ) → length xs ≤ n → slice_get xs n ≡ None

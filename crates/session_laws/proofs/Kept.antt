@@ -3,11 +3,9 @@ use Rattle.std.proofs.Common.{Bool, List, [], ap, length, refl, slice_get, subst
 use Rattle.std.specs.List.{AllByRecursion}
 use Rattle.std.specs.Prelude.{◌==◌}
 use Rattle.containers.proofs.Tests.{chosen, eq_from, eq_test, if_false, ne_test, taken_if}
-use Rattle.driver_model.specs.News.{shut}
 use Rattle.driver_model.specs.declared.outcome.Shape.{Shape}
 use Rattle.link_core.specs.declared.message.Queued.{Queued}
 use Rattle.link_laws.proofs.TiedLink.{TiedLink}
-use Rattle.mux_conn.specs.Passes.{is_of}
 use Rattle.mux_conn.specs.Requests.{name_at}
 use Rattle.mux_conn.specs.declared.life.Life.{Life}
 use Rattle.mux_conn.specs.declared.life.Life.TheVariants.{Ended}

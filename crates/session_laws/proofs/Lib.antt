@@ -10,6 +10,10 @@ pub mod Closing
 pub mod Answer
 pub mod Kept
 pub mod Start
+pub mod Moves
+pub mod Going
+pub mod Starts
+pub mod Place
 pub mod Settle
 pub mod Close
 pub mod Announce
@@ -23,3 +27,11 @@ pub mod Further
 pub mod Submit
 pub mod Asked
 pub mod Effects
+pub mod Passes
+pub mod Told
+pub mod Moved
+pub mod Write
+pub mod Waits
+pub mod Settled
+pub mod Legality
+pub mod Opening

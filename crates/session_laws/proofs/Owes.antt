@@ -69,7 +69,7 @@ started_at (x ∷ ss) requests (p ∷ ps) zero s e i = (p, refl, let same : x �
 started_at (x ∷ ss) requests (p ∷ ps) (suc k) s e i = started_at ss requests ps k s (let rest : owners_of ss ≡ owners_each requests ps = cc in rest) i
 
 -- what started is one of the line
-get_in : (xs : List ℕ) (k n : ℕ) → slice_get xs k ≡ Some n → IsIn n xs
+pub get_in : (xs : List ℕ) (k n : ℕ) → slice_get xs k ≡ Some n → IsIn n xs
 get_in [] k n e = cc
 get_in (x ∷ xs) zero n e = inl cc
 get_in (x ∷ xs) (suc k) n e = inr (get_in xs k n e)
@@ -134,7 +134,7 @@ pub record IsWantedAs (name : ℕ → Owner) (l : Ledger) (row : List Entry) (p 
   pub is : entry.id ≡ p
   pub open_as : IsOpenAs name l number entry
 
-wanted_entry : (name : ℕ → Owner) (l : Ledger) (k : ℕ) (row : List Entry) (p : ℕ) → OpenFrom name l k row → IsIn p (row_ids row) → IsWantedAs name l row p
+pub wanted_entry : (name : ℕ → Owner) (l : Ledger) (k : ℕ) (row : List Entry) (p : ℕ) → OpenFrom name l k row → IsIn p (row_ids row) → IsWantedAs name l row p
 wanted_entry name l k [] p all i = absurd i
 wanted_entry name l k (e ∷ es) p all (inl same) = record { entry = e; number = k; is = same; open_as = all.0 }
 wanted_entry name l k (e ∷ es) p all (inr i) = let w = wanted_entry name l (suc k) es p all.1 i in record { entry = w.entry; number = w.number; is = w.is; open_as = w.open_as }

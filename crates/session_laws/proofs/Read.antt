@@ -1,8 +1,8 @@
 -- Bytes come: what they settle is answered, and bytes that begin no value end the link.
-use Rattle.std.proofs.Common.{◌≡◌, ◌≢◌, ◌⊎◌, inl, inr, ℕ, ◌<◌, nat_lt, Bool, true, false, ◌&&◌, not, List, [], ◌∷◌, ◌++◌, length, Option, Some, None, if◌then◌else◌, refl, sym, ap, ◌∙◌, subst, append_assoc, arith}
+use Rattle.std.proofs.Common.{◌≡◌, inl, inr, ℕ, nat_lt, Bool, true, false, List, [], ◌∷◌, ◌++◌, length, Some, None, if◌then◌else◌, refl, sym, ap, ◌∙◌, subst, append_assoc, arith}
 use Rattle.std.specs.List.{AllByRecursion}
 use Rattle.std.proofs.lemmas.List.{append-nil}
-use Rattle.containers.proofs.Tests.{by_test, chosen, taken_if, left_if}
+use Rattle.containers.proofs.Tests.{chosen, taken_if, left_if}
 use Rattle.resp_value.specs.Data.{Data}
 use Rattle.resp_read.specs.Values.{is_spoiled}
 use Rattle.resp_read.specs.Items.{items}
@@ -13,9 +13,8 @@ use Rattle.driver_model.specs.declared.news.LinkFault.TheVariants as fault
 use Rattle.driver_model.specs.News.{came as came_news, news}
 use Rattle.driver_model.specs.Shape.{need}
 use Rattle.link_core.specs.declared.message.Entry.{Entry}
-use Rattle.link_core.specs.declared.message.Settled.{Settled}
 use Rattle.link_core.specs.Dealing.{Dealing, with_item, dealt_to, dealt, dealt_each}
-use Rattle.link_core.specs.Link.{LinkState, Settling, came}
+use Rattle.link_core.specs.Link.{LinkState, Settling}
 use Rattle.link_laws.specs.Settles.{settled_ids, wanted, awaited_ids, IsOwed}
 use Rattle.link_laws.proofs.Once.{items_keep}
 use Rattle.link_laws.proofs.Settles.{read_owed}
@@ -25,16 +24,16 @@ use Rattle.mux_conn.specs.declared.life.Life.TheVariants.{Dialing, Ready, Ended}
 use Rattle.mux_conn.specs.declared.request.Request.{Request}
 use Rattle.mux_conn.specs.declared.request.Waiting.{Waiting}
 use Rattle.mux_conn.specs.Connection.{Work}
-use Rattle.mux_conn.specs.Requests.{is_open_at, name_at}
-use Rattle.mux_conn.specs.Effects.{settled_each, broken_at, failed_at, read_to, read_at}
+use Rattle.mux_conn.specs.Requests.{name_at}
+use Rattle.mux_conn.specs.Effects.{settled_each, failed_at, read_to, read_at}
 use Rattle.shared_session.specs.declared.core_state.Core.{Core}
 use Rattle.shared_session.specs.Turn.{with_work, is_bad}
-use Rattle.legal_trace.specs.Ledger.{Ledger, Ending, by_fault, hears, noted, ending}
+use Rattle.legal_trace.specs.Ledger.{Ledger, by_fault, ending}
 use Rattle.legal_trace.specs.Story.{Story}
 use Rattle.legal_trace.specs.Book.{book}
 use Rattle.legal_trace.specs.Owed.{owed}
-use Rattle.session_laws.proofs.Numbers.{IsIn, in_left, in_right, in_either, Rising}
-use Rattle.session_laws.proofs.Tied.{inner, link_in, owner_of, queue_ids, waiting_ids, IsEntry, TiedLife, TiedLines, Tied}
+use Rattle.session_laws.proofs.Numbers.{IsIn, Rising}
+use Rattle.session_laws.proofs.Tied.{inner, link_in, owner_of, queue_ids, waiting_ids, IsEntry, TiedLife, TiedLines}
 use Rattle.session_laws.proofs.States.{IsWhole, Between, HasApplied}
 use Rattle.session_laws.proofs.InLine.{IsInLine}
 use Rattle.session_laws.proofs.Owes.{in_line}
@@ -42,7 +41,7 @@ use Rattle.session_laws.proofs.Settle.{seen, trace_of_acts, Holds, IsAnswering, 
 use Rattle.session_laws.proofs.Close.{HasEnded, pending_due, ended_applied}
 use Rattle.session_laws.proofs.Announce.{turn_of, turned, IsNewsKind}
 use Rattle.session_laws.proofs.Heard.{heard_by, lives_as, none_ends, Begins, heard_begins, ended_quiet, dialing_quiet}
-use Rattle.session_laws.proofs.End.{IsUp, up_tied, fault_ends}
+use Rattle.session_laws.proofs.End.{up_tied, fault_ends}
 
 -- items that are dealt leave entries as they are, but for what they got
 item_entries : (requests : List Request) (d : Dealing) (item : Data) (row : List Entry) → AllByRecursion (IsEntry requests) row → AllByRecursion (IsEntry requests) d.row → AllByRecursion (IsEntry requests) (dealt_to d item row).row

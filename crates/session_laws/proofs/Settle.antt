@@ -1,9 +1,8 @@
 -- Those that are to be answered are, one after another.
-use Rattle.std.proofs.Common.{is_some, ◌≡◌, ◌≢◌, ◌⊎◌, inl, inr, ℕ, suc, ◌<◌, ◌≤◌, Bool, true, false, List, [], ◌∷◌, ◌++◌, length, Option, Some, None, refl, sym, ap, ◌∙◌, subst, arith}
+use Rattle.std.proofs.Common.{is_some, ◌≡◌, inl, ℕ, suc, true, false, List, [], ◌∷◌, ◌++◌, length, Option, Some, refl, sym, ap, ◌∙◌, subst, arith}
 use Rattle.std.specs.List.{AllByRecursion}
 use Rattle.containers.proofs.Tests.{chosen, not_both}
 use Rattle.driver_model.specs.declared.action.Action.{Action}
-use Rattle.driver_model.specs.declared.action.Action.TheVariants as action
 use Rattle.driver_model.specs.declared.outcome.Outcome.{Outcome}
 use Rattle.driver_model.specs.Shape.{outcome_of}
 use Rattle.link_core.specs.declared.message.Settled.{Settled}
@@ -25,8 +24,8 @@ use Rattle.shared_session.specs.Turn.{shown, shown_each}
 use Rattle.legal_trace.specs.Ledger.{Ledger, is_over}
 use Rattle.legal_trace.specs.Book.{Book, book, entered}
 use Rattle.legal_trace.specs.Owed.{owed}
-use Rattle.legal_trace.specs.Legal.{NoneEnds, VerdictsAreShown, MayStand, MayAnswer}
-use Rattle.session_laws.proofs.Numbers.{IsIn, in_left, Rising, rising_from}
+use Rattle.legal_trace.specs.Legal.{MayStand, MayAnswer}
+use Rattle.session_laws.proofs.Numbers.{Rising, rising_from}
 use Rattle.session_laws.proofs.Tied.{Inner, link_in, TiedLife, Tied, Sound, waiting_ids}
 use Rattle.session_laws.proofs.Entered.{book_more, sound_more, shown_more}
 use Rattle.session_laws.proofs.Names.{open_within, name_still, length_still}

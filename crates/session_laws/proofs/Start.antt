@@ -1,11 +1,10 @@
 -- The first message of the queue starts.
-use Rattle.std.proofs.Common.{List, None, Some, [], ap, append_assoc, arith, inl, inr, length, refl, slice_get, subst, suc, sym, zero, ℕ, ◌++◌, ◌<◌, ◌∙◌, ◌∷◌, ◌≡◌, ◌≢◌}
+use Rattle.std.proofs.Common.{List, None, Some, [], ap, append_assoc, arith, inl, inr, length, refl, slice_get, subst, suc, sym, ℕ, ◌++◌, ◌<◌, ◌∙◌, ◌∷◌, ◌≡◌, ◌≢◌}
 use Rattle.std.proofs.lemmas.List.{append-nil}
 use Rattle.std.specs.Prelude.{if◌then◌else◌, ◌==◌}
 use Rattle.containers.proofs.Places.{get_within}
 use Rattle.containers.proofs.Tests.{chosen, eq_test, left_if, ne_test, taken_if}
 use Rattle.resp_read.specs.Frames.{within}
-use Rattle.resp_read.specs.Grammar.{line}
 use Rattle.driver_model.specs.Shape.{need}
 use Rattle.driver_model.specs.declared.action.Action.{Action}
 use Rattle.driver_model.specs.declared.action.Action.TheVariants as action
@@ -14,22 +13,20 @@ use Rattle.link_core.specs.Link.{LinkState, entry_of}
 use Rattle.link_core.specs.declared.message.Queued.{Queued}
 use Rattle.link_laws.proofs.Once.{wanted-append}
 use Rattle.link_laws.proofs.TiedLink.{all_push, begun_tied, queue_tied}
-use Rattle.link_laws.specs.Alike.{others}
 use Rattle.link_laws.specs.Settles.{awaited_ids, wanted}
 use Rattle.link_laws.specs.Starts.{begun, start_from}
 use Rattle.mux_conn.specs.Requests.{name_at}
 use Rattle.mux_conn.specs.declared.life.Life.TheVariants.{Dialing, Ready}
 use Rattle.mux_conn.specs.declared.request.Request.{Request}
 use Rattle.mux_conn.specs.declared.request.Waiting.{Waiting}
-use Rattle.shared_session.specs.Turn.{pending, shown}
 use Rattle.legal_trace.specs.Book.{Book, entered, if_own, message_of}
 use Rattle.legal_trace.specs.Ledger.{Ledger, Start, begins, noted}
-use Rattle.legal_trace.specs.Story.{Story, handed_in, shape, shape_in, tried, waits}
+use Rattle.legal_trace.specs.Story.{Story, shape, shape_in, tried}
 use Rattle.session_laws.proofs.Kept.{SameOutcomes, SameSubmissions, mine_noted, numbers_kept, one_changed, others_kept, packed_same, queued_same, tied_by}
 use Rattle.session_laws.proofs.Names.{get_more, get_some, name_of_some, same_name}
-use Rattle.session_laws.proofs.Numbers.{IsIn, Rising, in_left, in_right, rising_apart, rising_in}
-use Rattle.session_laws.proofs.Owes.{request_story}
-use Rattle.session_laws.proofs.Tied.{Inner, IsEntry, IsNew, IsQueued, IsRequest, Tied, TiedLines, TiedTries, TiedWaits, owner_of, owners_each, owners_of, queue_ids, waiting_ids}
+use Rattle.session_laws.proofs.Numbers.{IsIn, Rising, in_left, in_right, rising_apart, rising_in, rising_left}
+use Rattle.session_laws.proofs.Owes.{get_in, request_story}
+use Rattle.session_laws.proofs.Tied.{Inner, IsEntry, IsNew, IsQueued, IsRequest, Tied, TiedLines, TiedTries, TiedWaits, link_in, owner_of, owners_each, owners_of, queue_ids, waiting_ids}
 
 -- the action that its start shows
 abbrev pub start_action : Inner → LinkState → Queued → Action
@@ -58,10 +55,10 @@ tried_outcomes : (m link k : ℕ) (story : ℕ → Story) → SameOutcomes story
 tried_outcomes m link k story n = chosen (λ (x : Story). (story n).outcomes ≡ x.outcomes) (m == n) (tried (story n) link k) (story n) (λ t. refl) (λ f. refl)
 
 -- the first of a queue is within, and has not started
-first_within : (story : ℕ → Story) (requests : List Request) (link : LinkState) (waiting : List Waiting) (started : List ℕ) (q : Queued) (qs : List Queued) → TiedLines story requests (with_queue link (q ∷ qs)) waiting [] started → q.id < length requests
+pub first_within : (story : ℕ → Story) (requests : List Request) (link : LinkState) (waiting : List Waiting) (started : List ℕ) (q : Queued) (qs : List Queued) → TiedLines story requests (with_queue link (q ∷ qs)) waiting [] started → q.id < length requests
 first_within story requests link waiting started q qs h = (rising_in 0 (started ++ (q.id ∷ (queue_ids qs ++ waiting_ids waiting))) (length requests) q.id h.line (in_right q.id started (q.id ∷ (queue_ids qs ++ waiting_ids waiting)) (inl refl))).1
 
-first_new : (story : ℕ → Story) (requests : List Request) (link : LinkState) (waiting : List Waiting) (started : List ℕ) (q : Queued) (qs : List Queued) → TiedLines story requests (with_queue link (q ∷ qs)) waiting [] started → IsIn q.id started → ⊥
+pub first_new : (story : ℕ → Story) (requests : List Request) (link : LinkState) (waiting : List Waiting) (started : List ℕ) (q : Queued) (qs : List Queued) → TiedLines story requests (with_queue link (q ∷ qs)) waiting [] started → IsIn q.id started → ⊥
 first_new story requests link waiting started q qs h i = let k = rising_apart 0 started (q.id ∷ (queue_ids qs ++ waiting_ids waiting)) (length requests) q.id q.id h.line i (inl refl) in omega arith
 
 -- what is noted of the link is the message of the queue
@@ -84,12 +81,6 @@ owners_length (s ∷ ss) requests (p ∷ ps) e = ap suc (owners_length ss reques
 
 -- the tries
 --
--- what stands at a place is one of the list
-get_in : (xs : List ℕ) (k n : ℕ) → slice_get xs k ≡ Some n → IsIn n xs
-get_in [] k n e = cc
-get_in (x ∷ xs) zero n e = inl cc
-get_in (x ∷ xs) (suc k) n e = inr (get_in xs k n e)
-
 -- one more of the started
 tries_started : (l : Ledger) (story : ℕ → Story) (requests : List Request) (link k : ℕ) (started : List ℕ) (s : Start) (p : ℕ)
     → ((m : ℕ) → IsIn m started → name_at requests m ≡ name_at requests p → ⊥) → ((m : ℕ) (r : Request) → slice_get requests m ≡ Some r → r.name ≡ name_at requests p → m ≡ p)
@@ -143,7 +134,7 @@ new_kept f g requests [] kept h = tt
 new_kept f g requests (p ∷ []) kept h = kept (name_at requests p) h
 new_kept f g requests (p ∷ q ∷ ps) kept h = h
 
-not_dialing : (link : LinkState) → Ready link ≡ Dialing → ⊥
+pub not_dialing : (link : LinkState) → Ready link ≡ Dialing → ⊥
 not_dialing link e = cc
 
 tried_waits : (story : ℕ → Story) (requests : List Request) (link link' : LinkState) (fresh : List ℕ) (m k l : ℕ) → TiedWaits story requests (Ready link) fresh → TiedWaits (tried_at m k l story) requests (Ready link') fresh
@@ -158,6 +149,10 @@ tried_request s requests link p k l h = record { what = h.what; handed_in = h.ha
 
 -- the session and its book
 --
+-- who started is within
+started_line : (b : Book) (t : Inner) (m : ℕ) → Tied b t → IsIn m t.started → m < length t.requests
+started_line b t m h i = (rising_in 0 t.started (length t.requests) m (rising_left 0 t.started (queue_ids (link_in t.life).queue ++ waiting_ids t.waiting) (length t.requests) h.lines.line) i).1
+
 -- what is shown of a message of the queue
 queued_some : (b : Book) (t : Inner) (q : Queued) → Tied b t → q.id < length t.requests → IsQueued b.story t.requests q → q.packed ≢ []
 queued_some b t q h within is e = (request_story b t q.id h within).some (sym is.is_of.packs ∙ e)
@@ -184,7 +179,7 @@ start_tied b t link q qs h =
       names = h.names;
       story = one_changed b was q.id (λ x. tried x t.link link.started) h within (tried_request (b.story n) t.requests t.link q.id t.link link.started);
       tries = tries_started l b.story t.requests t.link link.started t.started s q.id
-          (λ m i e. new (subst (λ x. IsIn x t.started) (same_name t.table t.requests m q.id h.names ? within e) i))
+          (λ m i e. new (subst (λ x. IsIn x t.started) (same_name t.table t.requests m q.id h.names (started_line b was m h i) within e) i))
           (λ m r i e. same_name t.table t.requests m q.id h.names (get_within t.requests m r i) within (name_of_some t.requests m r i ∙ e))
           refl is.is_of.shape_is up.started
           (ap (λ x. (b.story x).tries) (name_of_some t.requests q.id g.0 g.1) ∙ h.tries.untried q.id g.0 g.1 new) h.tries;

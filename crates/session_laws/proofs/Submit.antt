@@ -1,53 +1,33 @@
 -- A submission is handed in: it is answered at once, or it is the next request.
-use Rattle.std.proofs.Common.{◌≡◌, ◌≢◌, ◌⊎◌, inl, inr, ℕ, ◌+◌, ◌-◌, ◌<◌, ◌≤◌, ◌==◌, Bool, true, false, ◌&&◌, ◌||◌, not, is_some, List, [], ◌∷◌, ◌++◌, length, Option, Some, None, slice_get, if◌then◌else◌, refl, sym, ap, ◌∙◌, subst, append_assoc, arith, length-append}
-use Rattle.std.specs.List.{AllByRecursion}
-use Rattle.std.proofs.lemmas.List.{append-nil}
+use Rattle.std.proofs.Common.{◌≡◌, ◌≢◌, ◌⊎◌, inl, inr, ℕ, ◌+◌, ◌<◌, ◌==◌, Bool, true, false, ◌||◌, List, [], ◌∷◌, ◌++◌, length, Option, Some, None, if◌then◌else◌, refl, sym, ap, ◌∙◌, subst, arith, length-append}
 use Rattle.containers.proofs.Places.{get_within}
-use Rattle.containers.proofs.Tests.{by_test, chosen, taken_if, left_if, eq_from, eq_test, ne_from, ne_test, not_both}
+use Rattle.containers.proofs.Tests.{by_test, taken_if, left_if, eq_from, eq_test, ne_from, ne_test, not_both}
 use Rattle.redis_error.specs.declared.redis_error.RedisError.{RedisError}
 use Rattle.redis_error.specs.declared.redis_error.RedisError.TheVariants as error
-use Rattle.driver_model.specs.declared.action.Action.{Action}
 use Rattle.driver_model.specs.declared.action.Action.TheVariants as action
-use Rattle.driver_model.specs.declared.action.Owner.{Owner}
-use Rattle.driver_model.specs.declared.action.WaitKind.TheVariants as wait
-use Rattle.driver_model.specs.declared.event.EventKind.{EventKind}
 use Rattle.driver_model.specs.declared.event.EventKind.TheVariants as event
 use Rattle.driver_model.specs.declared.event.Submission.{Submission}
-use Rattle.driver_model.specs.declared.outcome.Outcome.{Outcome}
 use Rattle.driver_model.specs.declared.outcome.Outcome.TheVariants as outcome
 use Rattle.driver_model.specs.News.{silence}
-use Rattle.driver_model.specs.Request.{packed, shape_of, awaits_reply}
-use Rattle.link_laws.proofs.Lists.{get_before, get_last}
-use Rattle.link_laws.proofs.TiedLink.{TiedLink, told_tied, named_tied, all_push}
-use Rattle.link_laws.specs.Settles.{wanted, awaited_ids}
-use Rattle.link_core.specs.Link.{LinkState}
-use Rattle.mux_conn.specs.declared.act.LinkAct.TheVariants as act
-use Rattle.mux_conn.specs.declared.connection.MultiplexedConnection.{MultiplexedConnection}
-use Rattle.mux_conn.specs.declared.life.Life.{Life}
-use Rattle.mux_conn.specs.declared.life.Life.TheVariants.{Dialing, Ended}
-use Rattle.mux_conn.specs.declared.request.Pending.{Pending}
-use Rattle.mux_conn.specs.declared.request.Progress.TheVariants as progress
+use Rattle.driver_model.specs.Request.{packed}
+use Rattle.link_laws.proofs.TiedLink.{told_tied}
 use Rattle.mux_conn.specs.declared.request.Request.{Request}
-use Rattle.mux_conn.specs.declared.request.Waiting.{Waiting}
-use Rattle.mux_conn.specs.Requests.{is_open as is_open_progress, is_waiting, is_open_at, is_waiting_at, name_at, waiting_of, asked}
+use Rattle.mux_conn.specs.Requests.{is_waiting}
 use Rattle.shared_session.specs.declared.core_state.Core.{Core}
-use Rattle.shared_session.specs.Turn.{with_work, refused, asked_for, submitted, effect, counted, is_bad}
-use Rattle.legal_trace.specs.Ledger.{Ledger, is_over, ending}
+use Rattle.legal_trace.specs.Ledger.{is_over}
 use Rattle.legal_trace.specs.Story.{Story, Try, blank_story, is_open, bytes_of, handed_in, answered, last_of}
-use Rattle.legal_trace.specs.Book.{Book, blank_book, book, entered, if_own, current}
+use Rattle.legal_trace.specs.Book.{Book, entered, if_own, current}
 use Rattle.legal_trace.specs.Owed.{owed, owed_to_try}
-use Rattle.legal_trace.specs.Legal.{IsOpen, link_of, NoneIsOwed, NoneEnds, AllStand, MayAnswer}
-use Rattle.session_laws.proofs.Numbers.{IsIn, in_left, in_right, Rising, rising_in, rising_left, rising_next}
-use Rattle.session_laws.proofs.Tied.{Inner, inner, link_in, owner_of, queue_ids, waiting_ids, IsRefused, TiedStory, TiedLines, TiedWaits, IsNew, Tied}
-use Rattle.session_laws.proofs.States.{Between, HasApplied}
-use Rattle.session_laws.proofs.Entered.{all_stand-append, book_more, sound_more}
-use Rattle.session_laws.proofs.Names.{there_within, names_refused, names_asked}
+use Rattle.legal_trace.specs.Legal.{IsOpen, link_of, NoneIsOwed, NoneEnds, MayAnswer}
+use Rattle.session_laws.proofs.Numbers.{IsIn, in_left, in_right, Rising, rising_in}
+use Rattle.session_laws.proofs.Tied.{inner, link_in, owner_of, queue_ids, waiting_ids, IsRefused, TiedStory, IsNew, Tied}
+use Rattle.session_laws.proofs.Names.{there_within, names_refused}
 use Rattle.session_laws.proofs.Owes.{started_within}
 use Rattle.session_laws.proofs.Answer.{owed_in}
 use Rattle.session_laws.proofs.Settle.{seen}
-use Rattle.session_laws.proofs.Announce.{turn_of, turned, may_turn}
-use Rattle.session_laws.proofs.Heard.{told_life, silent_no_end, silent_applied}
-use Rattle.session_laws.proofs.Further.{get_beyond, IsLonger, no_longer, one_longer, there_longer, before_or_new, SameBefore, story_at, further_story, tries_longer, queue_longer, packs_longer, entries_longer, owners_of_row}
+use Rattle.session_laws.proofs.Announce.{turn_of, turned}
+use Rattle.session_laws.proofs.Heard.{told_life, silent_no_end}
+use Rattle.session_laws.proofs.Further.{get_beyond, no_longer, SameBefore, story_at, further_story, tries_longer, queue_longer, packs_longer}
 
 -- the stories once it is handed in
 abbrev pub stories_with : Book → Submission → ℕ → Story
@@ -153,7 +133,7 @@ refused_tied b c started word what e h no_fresh =
     let story = story_at c.table b.story after conn.requests conn.requests in
     record {
       numbers = record { turns = ap (λ m. m + 1) h.numbers.turns; links = h.numbers.links; submissions = (let k = h.numbers.submissions in omega (arith, length-append c.table (None ∷ []))); shut = ap (λ s. s || false) h.numbers.shut; one = h.numbers.one; only = h.numbers.only };
-      others = λ m other. let u = h.others m other in record { asked = u.asked; up = u.up; end = u.end };
+      others = λ m other. let u = h.others m other in record { asked = u.asked; up = u.up; end = u.end; starts = u.starts };
       life = told_life ledger b.created conn.life silence h.life;
       link = λ alive. told_tied (owner_of conn.requests) ledger (link_in conn.life) ledger.asked ledger.up silence (h.link alive);
       names = names_refused c.table conn.requests h.names;
