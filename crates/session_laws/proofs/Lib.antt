@@ -35,3 +35,4 @@ pub mod Waits
 pub mod Settled
 pub mod Legality
 pub mod Opening
+pub mod Outcomes
