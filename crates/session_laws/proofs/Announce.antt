@@ -1,7 +1,7 @@
 -- A turn of an event: where it may stand, and what its link and the others hear.
-use Rattle.std.proofs.Common.{◌≡◌, ◌≢◌, ◌⊎◌, inl, inr, ℕ, ◌+◌, ◌<◌, ◌≤◌, ◌==◌, nat_lt, nat_le, Bool, true, false, ◌&&◌, ◌||◌, not, is_some, if◌then◌else◌, List, [], ◌∷◌, ◌++◌, length, slice_get, take, Option, Some, None, refl, sym, ap, ◌∙◌, subst, arith, length-take}
+use Rattle.std.proofs.Common.{◌≡◌, ◌≢◌, ◌⊎◌, inl, inr, ℕ, ◌+◌, ◌<◌, ◌==◌, nat_lt, nat_le, false, ◌&&◌, ◌||◌, not, is_some, List, [], ◌∷◌, ◌++◌, length, slice_get, Some, refl, sym, ap, ◌∙◌, subst, arith, length-take}
 use Rattle.std.proofs.lemmas.List.{append-nil}
-use Rattle.containers.proofs.Tests.{by_test, chosen, taken_if, left_if, eq_from, eq_test, ne_test, not_both, not_le_from, or_left}
+use Rattle.containers.proofs.Tests.{by_test, chosen, taken_if, left_if, eq_test, ne_test, not_le_from, or_left}
 use Rattle.driver_model.specs.declared.action.Action.{Action}
 use Rattle.driver_model.specs.declared.action.Action.TheVariants as action
 use Rattle.driver_model.specs.declared.action.Cause.TheVariants as cause
@@ -19,15 +19,14 @@ use Rattle.shared_session.specs.declared.core_state.Core.{Core}
 use Rattle.shared_session.specs.Turn.{is_shutdown, shut_by, takes_too_much, is_no_link, is_bad}
 use Rattle.legal_trace.specs.Ledger.{Ledger, hears, noted, is_over, bytes_came}
 use Rattle.legal_trace.specs.Story.{Story}
-use Rattle.legal_trace.specs.Book.{Book, book, entered, shuts}
+use Rattle.legal_trace.specs.Book.{Book, book, entered}
 use Rattle.legal_trace.specs.Events.{is_bad_event}
 use Rattle.legal_trace.specs.Legal.{MayTurn}
-use Rattle.session_laws.proofs.Tied.{owners_of, Inner, inner, link_in, owner_of, IsUnknown, TiedNumbers, TiedLife, TiedTries, TiedLines, TiedWaits, Tied, Sound}
+use Rattle.session_laws.proofs.Tied.{owners_of, Inner, inner, link_in, owner_of, IsUnknown, TiedLife, TiedTries, TiedLines, TiedWaits, Tied, Sound}
 use Rattle.session_laws.proofs.States.{Between}
 use Rattle.session_laws.proofs.Entered.{book_more, sound_more}
 use Rattle.session_laws.proofs.Answer.{some_end}
 use Rattle.session_laws.proofs.Kept.{tied_by}
-use Rattle.session_laws.proofs.Owes.{lives}
 use Rattle.session_laws.proofs.Settle.{seen, trace_of_acts, Holds}
 
 -- bad events

@@ -49,7 +49,7 @@ may_answer b t p o h e owes before after =
     }
 
 -- what isn't up need not end where it isn't asked for, or is over
-not_up_ends : (l : Ledger) → l.up ≡ false → (l.asked && not (is_over l)) ≡ false → ending l ≡ None
+pub not_up_ends : (l : Ledger) → l.up ≡ false → (l.asked && not (is_over l)) ≡ false → ending l ≡ None
 not_up_ends l down no_dial = left_if l.up (ending_up l l.heard) _ down ∙ left_if (l.asked && not (is_over l)) (ending_asked l.heard) None no_dial
 
 pub unknown_ends : (l : Ledger) → IsUnknown l → ending l ≡ None
@@ -59,7 +59,7 @@ pub some_end : (x : Option End) → x ≢ None → is_some x ≡ true
 some_end None n = absurd (n refl)
 some_end (Some e) n = refl
 
-over_not_asked : (l : Ledger) → l.end ≢ None → (l.asked && not (is_over l)) ≡ false
+pub over_not_asked : (l : Ledger) → l.end ≢ None → (l.asked && not (is_over l)) ≡ false
 over_not_asked l n = ap (λ o. l.asked && not o) (some_end l.end n) ∙ none_of l.asked
   where
     none_of : (a : Bool) → (a && false) ≡ false
@@ -92,7 +92,8 @@ after_end b t h over = (
 
 -- what it leaves
 --
-owed_in : Book → Story → Option Outcome
+-- what a submission of that story is owed
+abbrev pub owed_in : Book → Story → Option Outcome
 owed_in b s =
     if s.late then Some (outcome.Fault error.Closed)
     else if length (bytes_of s) == 0 then Some (outcome.Fault error.EmptyCommand)
@@ -100,7 +101,6 @@ owed_in b s =
 
 -- what is owed stays
 pub owed_still : (b : Book) (n : ℕ) (o : Outcome) (m : ℕ) → owed (entered b (action.Outcome n o)) m ≡ owed b m
-unfolding owed_in
 owed_still b n o m =
     chosen (λ (s : Story). owed_in (entered b (action.Outcome n o)) s ≡ owed_in b (b.story m)) (n == m) (answered (b.story m) o) (b.story m)
     (λ t. alike (answered (b.story m) o) refl refl refl refl)
@@ -128,7 +128,7 @@ answer_closes s o = record {
 }
 
 -- entries that are wanted are others
-entries_answered : (requests : List Request) (p : ℕ) (row : List Entry) → (IsIn p (wanted row) → ⊥) → AllByRecursion (IsEntry requests) row → AllByRecursion (IsEntry (at_progress requests p progress.Closed)) row
+pub entries_answered : (requests : List Request) (p : ℕ) (row : List Entry) → (IsIn p (wanted row) → ⊥) → AllByRecursion (IsEntry requests) row → AllByRecursion (IsEntry (at_progress requests p progress.Closed)) row
 entries_answered requests p [] apart all = tt
 entries_answered requests p (e ∷ es) apart all = (
   record {

@@ -1,24 +1,21 @@
 -- The connection's link ends: it is closed, and all its requests are answered.
-use Rattle.std.proofs.Common.{◌≡◌, ◌≢◌, ◌⊎◌, inl, inr, ℕ, ◌-◌, ◌<◌, Bool, true, false, List, [], ◌∷◌, ◌++◌, length, Option, Some, None, refl, sym, ap, ◌∙◌, subst, append_assoc, arith}
+use Rattle.std.proofs.Common.{◌≡◌, ◌≢◌, inl, inr, ℕ, ◌-◌, ◌<◌, List, [], ◌∷◌, ◌++◌, length, Option, Some, None, refl, sym, ap, ◌∙◌, subst, append_assoc, arith}
 use Rattle.std.specs.List.{AllByRecursion}
 use Rattle.std.proofs.lemmas.List.{append-nil}
 use Rattle.driver_model.specs.declared.action.Action.{Action}
 use Rattle.driver_model.specs.declared.action.Action.TheVariants as action
-use Rattle.driver_model.specs.declared.action.Owner.{Owner}
 use Rattle.driver_model.specs.declared.outcome.Outcome.{Outcome}
-use Rattle.link_core.specs.declared.message.Queued.{Queued}
 use Rattle.link_core.specs.declared.message.Settled.{Settled}
 use Rattle.link_core.specs.Link.{LinkState}
 use Rattle.link_laws.specs.Settles.{settled_ids, wanted, awaited_ids, IsOwed}
 use Rattle.mux_conn.specs.declared.act.LinkAct.TheVariants as act
-use Rattle.mux_conn.specs.declared.connection.MultiplexedConnection.{MultiplexedConnection}
 use Rattle.mux_conn.specs.declared.life.Life.{Life}
-use Rattle.mux_conn.specs.declared.life.Life.TheVariants.{Dialing, Ready, Ended}
+use Rattle.mux_conn.specs.declared.life.Life.TheVariants.{Ready, Ended}
 use Rattle.mux_conn.specs.declared.request.Request.{Request}
 use Rattle.mux_conn.specs.declared.request.Waiting.{Waiting}
 use Rattle.mux_conn.specs.Connection.{Work, acted, at_life}
-use Rattle.mux_conn.specs.Requests.{is_open_at, name_at}
-use Rattle.mux_conn.specs.Effects.{waiting_closed, closed, new_link, settled_each, closed_each, ended}
+use Rattle.mux_conn.specs.Requests.{name_at}
+use Rattle.mux_conn.specs.Effects.{waiting_closed, closed, new_link, settled_each, ended}
 use Rattle.shared_session.specs.declared.core_state.Core.{Core}
 use Rattle.shared_session.specs.Turn.{with_work}
 use Rattle.legal_trace.specs.Ledger.{Ledger, End, Ending, ends, noted, ending}
@@ -26,14 +23,14 @@ use Rattle.legal_trace.specs.Story.{Story}
 use Rattle.legal_trace.specs.Book.{Book, book, entered}
 use Rattle.legal_trace.specs.Owed.{owed, owed_unstarted}
 use Rattle.legal_trace.specs.Legal.{MayClose}
-use Rattle.session_laws.proofs.Numbers.{IsIn, in_left, in_right, in_either, Rising, rising_in, rising_within, rising_right, rising_from, rising_tail}
+use Rattle.session_laws.proofs.Numbers.{IsIn, in_left, in_right, Rising, rising_in, rising_within, rising_right, rising_tail}
 use Rattle.session_laws.proofs.Tied.{Inner, link_in, owner_of, queue_ids, waiting_ids, TiedLines, Tied}
-use Rattle.session_laws.proofs.States.{IsWhole, HasApplied}
-use Rattle.session_laws.proofs.InLine.{line_of, IsInLine, awaited_rises, open_in_line}
+use Rattle.session_laws.proofs.States.{HasApplied}
+use Rattle.session_laws.proofs.InLine.{line_of, IsInLine, awaited_rises}
 use Rattle.session_laws.proofs.Owes.{none_owed, in_line, later_unstarted, owed_none_started, settled_owed}
 use Rattle.session_laws.proofs.Kept.{mine_noted, others_kept, tied_by}
 use Rattle.session_laws.proofs.Answer.{unknown_ends, after_end}
-use Rattle.session_laws.proofs.Settle.{book_of_more, seen, trace_of_acts, Holds, holds_more, IsAnswering, answering, IsDue, IsDueClosed, settled_holds, closed_holds, Leaves, settled_leaves, closed_leaves}
+use Rattle.session_laws.proofs.Settle.{book_of_more, seen, trace_of_acts, Holds, holds_more, IsAnswering, answering, IsDue, IsDueClosed, settled_holds, closed_holds, settled_leaves, closed_leaves}
 
 -- the link is closed
 --
@@ -150,13 +147,14 @@ waiting_in_line requests life waiting over r =
     (subst (λ ns. Rising 0 ns (length requests)) (sym (append-nil (last ++ []) ∙ append-nil last)) (subst (λ (x : Life). IsInLine requests (link_in x) waiting []) over r))
 
 -- all that wait are answered
-pub waiting_closed_holds : (before : List Action) (f : Core) (owes : ℕ → Option Outcome) (name : ℕ → ℕ) (w : Work) (started : List ℕ) → w.conn.life ≡ Ended → AllByRecursion (IsDueClosed owes name) w.conn.waiting → IsAnswering before f owes name w [] started
-    → IsAnswering before f owes name (waiting_closed w) [] started
-waiting_closed_holds before f owes name w started over due h =
-    closed_holds before f owes name (record w { conn = record w.conn { waiting = [] } }) w.conn.waiting [] started due
+pub waiting_closed_holds : (before : List Action) (f : Core) (ledger : Ledger) (owes : ℕ → Option Outcome) (name : ℕ → ℕ) (w : Work) (started : List ℕ) → w.conn.life ≡ Ended → AllByRecursion (IsDueClosed owes name) w.conn.waiting → IsAnswering before f ledger owes name w [] started
+    → IsAnswering before f ledger owes name (waiting_closed w) [] started
+waiting_closed_holds before f ledger owes name w started over due h =
+    closed_holds before f ledger owes name (record w { conn = record w.conn { waiting = [] } }) w.conn.waiting [] started due
     (record {
       holds = record { stands = h.holds.stands; tied = waiting_tied (book (trace_of_acts before f w.acts)) (seen f w.conn [] started) h.holds.tied };
       line = waiting_in_line w.conn.requests w.conn.life w.conn.waiting over h.line;
+      ledger_is = h.ledger_is;
       owed_is = h.owed_is;
       named = h.named;
     })
@@ -188,8 +186,8 @@ ended_holds before f w out why started h alive must ids =
     let a = answering before f v (ns ++ []) started (subst (λ ms. Holds before f v ms started) (sym (append-nil ns)) held) (subst (IsInLine w.conn.requests new_link w.conn.waiting) (sym (append-nil ns)) line) in
     let u = settled_each v out in
     let k = settled_leaves v out in
-    let settled = settled_holds before f (owed c) (name_at w.conn.requests) v out [] started due a in
-    let done = waiting_closed_holds before f (owed c) (name_at w.conn.requests) u started k.life (subst (AllByRecursion (IsDueClosed (owed c) (name_at w.conn.requests))) (sym k.waiting) later) settled in
+    let settled = settled_holds before f (c.link f.single.link) (owed c) (name_at w.conn.requests) v out [] started due a in
+    let done = waiting_closed_holds before f (c.link f.single.link) (owed c) (name_at w.conn.requests) u started k.life (subst (AllByRecursion (IsDueClosed (owed c) (name_at w.conn.requests))) (sym k.waiting) later) settled in
     let rest : Work = record u { conn = record u.conn { waiting = [] } } in
     let m = closed_leaves rest u.conn.waiting in
     record { holds = done.holds; over = m.life ∙ k.life; none_waits = m.waiting }

@@ -3,9 +3,6 @@ use Rattle.std.proofs.Common.{List, None, [], ap, false, refl, subst, sym, ℕ, 
 use Rattle.std.specs.Prelude.{◌==◌}
 use Rattle.containers.proofs.Tests.{chosen, not_both}
 use Rattle.driver_model.specs.declared.action.Action.{Action}
-use Rattle.mux_conn.specs.Effects.{applied}
-use Rattle.mux_conn.specs.Passes.{moved}
-use Rattle.mux_conn.specs.Requests.{answered}
 use Rattle.mux_conn.specs.declared.life.Life.{Life}
 use Rattle.mux_conn.specs.declared.life.Life.TheVariants.{Dialing, Ended, Ready}
 use Rattle.legal_trace.specs.Book.{Book, blank_book, book, entered, if_mine}

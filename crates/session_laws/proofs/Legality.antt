@@ -3,7 +3,6 @@ use Rattle.std.proofs.Common.{List, None, Option, Some, [], ap, append_assoc, fa
 use Rattle.std.proofs.lemmas.List.{append-nil}
 use Rattle.std.specs.Prelude.{if◌then◌else◌, ◌==◌}
 use Rattle.containers.proofs.Tests.{chosen}
-use Rattle.resp_value.specs.Data.{error}
 use Rattle.redis_error.specs.declared.redis_error.RedisError.TheVariants as error
 use Rattle.driver_model.specs.Request.{packed}
 use Rattle.driver_model.specs.declared.action.Action.{Action}
@@ -22,15 +21,12 @@ use Rattle.shared_session.specs.Turn.{Turning, actions_of, asked_for, counted, e
 use Rattle.shared_session.specs.declared.core_state.Core.{Core}
 use Rattle.legal_trace.specs.Book.{Book, book, entered_each}
 use Rattle.legal_trace.specs.Legal.{AllStand, Legal, causes, event_causes}
+use Rattle.session_laws.proofs.Effects.{effect_holds}
 use Rattle.session_laws.proofs.Entered.{all_stand_behind, book-append, book_more}
 use Rattle.session_laws.proofs.Opening.{opening_between}
 use Rattle.session_laws.proofs.Settled.{IsBetween, moved_on_between}
-use Rattle.session_laws.proofs.States.{Between, HasApplied, trace_with}
+use Rattle.session_laws.proofs.States.{HasApplied, trace_with}
 use Rattle.session_laws.proofs.Told.{NoneTold, effect_told}
-
-effect_holds : (before : List Action) (c : Core) (started : List ℕ) (word : ℕ) (kind : EventKind) → Between before c started → is_bad c kind ≡ false
-    → (done : List ℕ) × HasApplied (before ++ action.Turn c.turns (cause.Event (record { word = word; kind = kind })) ∷ []) (effect (counted c) kind) done
-effect_holds before c started word kind h good = ?
 
 -- a turn
 --
@@ -74,7 +70,7 @@ turn_between before c e h good =
     let a = action.Turn c.turns (cause.Event e) in
     let applied = effect_holds before c h.started e.word e.kind h.between good in
     let t = effect (counted c) e.kind in
-    let done = moved_on_between (before ++ a ∷ []) t applied.0 applied.1 (effect_tells before c e applied.0 h applied.1) in
+    let done = moved_on_between (before ++ a ∷ []) t h.started applied (effect_tells before c e h.started h applied) in
     let same : trace_with (before ++ a ∷ []) (moved_on t) ≡ before ++ actions_of c e = append_assoc before (a ∷ []) (shown_each t.core.single.link (moved_on t).acts) ∙ ap (λ l. before ++ a ∷ shown_each l (moved_on t).acts) (effect_link c e.kind) in
     subst (λ (x : List Action). IsBetween x (moved_on t).core) same done
 

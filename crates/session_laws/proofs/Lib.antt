@@ -17,6 +17,16 @@ pub mod Place
 pub mod Settle
 pub mod Close
 pub mod Announce
+pub mod Heard
+pub mod End
+pub mod Connect
+pub mod Took
+pub mod Read
+pub mod Cancel
+pub mod Further
+pub mod Submit
+pub mod Asked
+pub mod Effects
 pub mod Passes
 pub mod Told
 pub mod Moved

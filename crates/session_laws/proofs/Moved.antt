@@ -2,7 +2,6 @@
 use Rattle.std.proofs.Common.{Bool, List, [], ap, false, inl, inr, length, refl, subst, sym, true, ℕ, ◌++◌, ◌∙◌, ◌∷◌, ◌≡◌, ◌≢◌}
 use Rattle.std.proofs.lemmas.List.{append-nil}
 use Rattle.containers.proofs.Tests.{chosen, left_if, not_both, taken_if}
-use Rattle.resp_value.specs.Data.{error}
 use Rattle.redis_error.specs.declared.redis_error.RedisError.TheVariants as error
 use Rattle.driver_model.specs.declared.action.Action.{Action}
 use Rattle.driver_model.specs.declared.outcome.Outcome.{Outcome}
@@ -171,7 +170,7 @@ over_moved before f w started over h =
     let tied = h.holds.tied in
     let down = subst (λ (x : Life). TiedLife (b.link f.single.link) b.created x) over tied.life in
     let line = subst (λ (x : Life). IsInLine w.conn.requests (link_in x) w.conn.waiting []) (sym over) (rising_right 0 started (waiting_ids w.conn.waiting) (length w.conn.requests) (subst (λ (x : Life). Rising 0 (started ++ (queue_ids (link_in x).queue ++ waiting_ids w.conn.waiting)) (length w.conn.requests)) over tied.lines.line)) in
-    let done = waiting_closed_holds before f (owed b) (name_at w.conn.requests) w started over (all_waiting_due b t tied down.1) (answering before f w [] started h.holds line) in
+    let done = waiting_closed_holds before f (b.link f.single.link) (owed b) (name_at w.conn.requests) w started over (all_waiting_due b t tied down.1) (answering before f w [] started h.holds line) in
     let k = closed_leaves v w.conn.waiting in
     let c = book (trace_of_acts before f u.acts) in
     let s = seen f u.conn [] started in

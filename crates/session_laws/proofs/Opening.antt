@@ -3,24 +3,19 @@ use Rattle.std.proofs.Common.{List, None, [], ap, arith, refl, subst, sym, ℕ, 
 use Rattle.std.specs.Prelude.{◌==◌}
 use Rattle.containers.proofs.Tests.{chosen, left_if, ne_test}
 use Rattle.resp_value.specs.declared.value.Value.TheVariants.{Nil}
-use Rattle.driver_model.specs.News.{shut}
 use Rattle.driver_model.specs.declared.action.Action.TheVariants as action
 use Rattle.driver_model.specs.declared.action.Cause.TheVariants as cause
 use Rattle.driver_model.specs.declared.config.Config.{Config}
 use Rattle.driver_model.specs.declared.outcome.Outcome.TheVariants as outcome
-use Rattle.link_core.specs.Link.{fresh, no_boundary}
+use Rattle.link_core.specs.Link.{no_boundary}
 use Rattle.link_laws.proofs.TiedLink.{asked_tied, fresh_tied}
-use Rattle.link_laws.specs.Alike.{others}
 use Rattle.mux_conn.specs.Effects.{max_size, new_link}
-use Rattle.mux_conn.specs.Passes.{started}
-use Rattle.mux_conn.specs.Requests.{asked}
 use Rattle.mux_conn.specs.declared.life.Life.TheVariants.{Dialing}
 use Rattle.shared_session.specs.Replay.{first_link, opening, opening_actions}
-use Rattle.shared_session.specs.Turn.{shown}
 use Rattle.legal_trace.specs.Book.{Book, blank_book, book, entered}
 use Rattle.legal_trace.specs.Ledger.{Ledger, Line, asks, blank_ledger, ending, noted_each}
 use Rattle.legal_trace.specs.Legal.{AllStand, NoneEnds}
-use Rattle.legal_trace.specs.Story.{blank_story, tried, waits}
+use Rattle.legal_trace.specs.Story.{blank_story}
 use Rattle.session_laws.proofs.Going.{is_moved}
 use Rattle.session_laws.proofs.Settled.{IsBetween, is_settled}
 use Rattle.session_laws.proofs.States.{IsWholeIn}

@@ -22,7 +22,7 @@ use Rattle.legal_trace.specs.Story.{Story, bytes_of, shape, last_of, is_open}
 use Rattle.legal_trace.specs.Book.{Book}
 use Rattle.legal_trace.specs.Owed.{owed, owed_to_message, owed_unstarted, owed_to_try}
 use Rattle.legal_trace.specs.Legal.{IsOpen, NoneIsOwed, IsCreated}
-use Rattle.session_laws.proofs.Numbers.{IsIn, in_either, rising_in, rising_left, rising_apart}
+use Rattle.session_laws.proofs.Numbers.{Rising, IsIn, in_either, rising_in, rising_left, rising_apart}
 use Rattle.session_laws.proofs.Tied.{IsEntry, Inner, link_in, owner_of, owners_of, owners_each, queue_ids, waiting_ids, IsRequest, TiedStory, TiedLife, Tied}
 use Rattle.session_laws.proofs.Names.{get_some, open_within, name_of_some, name_placed, same_name}
 use Rattle.session_laws.proofs.InLine.{AtPlaces, IsInLine, wanted_rises, places_rise, row_ids, wanted_in, line_of, open_in_line}
@@ -201,12 +201,16 @@ row_places : (b : Book) (t : Inner) (k : ℕ) (row : List Entry) → Tied b t �
 row_places b t k [] h all open_all = tt
 row_places b t k (e ∷ es) h all open_all = (stands_started b t e.id k e.shape h all.0.below open_all.0.place, row_places b t (suc k) es h all.1 open_all.1)
 
--- the line of a link that has not ended rises
-pub in_line : (b : Book) (t : Inner) → Tied b t → t.life ≢ Ended → IsInLine t.requests (link_in t.life) t.waiting []
-in_line b t h n =
+-- the entries and all behind them rise, on a link that has not ended
+pub row_in_line : (b : Book) (t : Inner) → Tied b t → t.life ≢ Ended → Rising 0 (row_ids (link_in t.life).row ++ (queue_ids (link_in t.life).queue ++ waiting_ids t.waiting)) (length t.requests)
+row_in_line b t h n =
     let ledger = b.link t.link in
     let row = (link_in t.life).row in
     let later = queue_ids (link_in t.life).queue ++ waiting_ids t.waiting in
     let alive = lives ledger b.created t.life h.life n in
     let places = row_places b t (full_count ledger.starts ledger.dealt) row h h.lines.entries (row_open (owner_of t.requests) ledger (link_in t.life) alive (h.link n)) in
-    wanted_rises 0 row later (length t.requests) (places_rise 0 t.started (full_count ledger.starts ledger.dealt) (row_ids row) later (length t.requests) places h.lines.line)
+    places_rise 0 t.started (full_count ledger.starts ledger.dealt) (row_ids row) later (length t.requests) places h.lines.line
+
+-- and so does the line
+pub in_line : (b : Book) (t : Inner) → Tied b t → t.life ≢ Ended → IsInLine t.requests (link_in t.life) t.waiting []
+in_line b t h n = wanted_rises 0 (link_in t.life).row (queue_ids (link_in t.life).queue ++ waiting_ids t.waiting) (length t.requests) (row_in_line b t h n)

@@ -5,18 +5,16 @@ use Rattle.std.proofs.lemmas.List.{append-nil}
 use Rattle.std.specs.Prelude.{◌==◌}
 use Rattle.containers.proofs.Tests.{chosen, eq_from, if_false, if_true}
 use Rattle.resp_value.specs.declared.value.Value.TheVariants.{Nil}
-use Rattle.resp_read.specs.Grammar.{ended}
 use Rattle.driver_model.specs.declared.action.Action.{Action}
 use Rattle.driver_model.specs.declared.action.Action.TheVariants as action
 use Rattle.driver_model.specs.declared.outcome.Outcome.TheVariants as outcome
 use Rattle.link_core.specs.Link.{LinkState, Starting, is_full, is_held_back, no_boundary, started_all, started_each, started_one}
 use Rattle.link_core.specs.declared.message.Queued.{Queued}
 use Rattle.link_laws.proofs.Bounds.{free_greatest}
-use Rattle.link_laws.specs.Settles.{wanted}
 use Rattle.mux_conn.specs.Connection.{Work, acted, is_stuck, with_link}
-use Rattle.mux_conn.specs.Effects.{applied, max_size}
+use Rattle.mux_conn.specs.Effects.{max_size}
 use Rattle.mux_conn.specs.Passes.{message_of, moved, moved_at, moved_each, placed_at, started_at}
-use Rattle.mux_conn.specs.Requests.{answered, asked, at_progress, is_open as is_open_progress, is_open_at, is_waiting_at, name_at, progressed}
+use Rattle.mux_conn.specs.Requests.{answered, at_progress, is_open as is_open_progress, is_open_at, is_waiting_at, name_at, progressed}
 use Rattle.mux_conn.specs.declared.act.LinkAct.{LinkAct}
 use Rattle.mux_conn.specs.declared.act.LinkAct.TheVariants as act
 use Rattle.mux_conn.specs.declared.connection.MultiplexedConnection.{MultiplexedConnection}

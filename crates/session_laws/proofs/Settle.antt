@@ -1,9 +1,8 @@
 -- Those that are to be answered are, one after another.
-use Rattle.std.proofs.Common.{is_some, ◌≡◌, ◌≢◌, ◌⊎◌, inl, inr, ℕ, suc, ◌<◌, ◌≤◌, Bool, true, false, List, [], ◌∷◌, ◌++◌, length, Option, Some, None, refl, sym, ap, ◌∙◌, subst, arith}
+use Rattle.std.proofs.Common.{is_some, ◌≡◌, inl, ℕ, suc, true, false, List, [], ◌∷◌, ◌++◌, length, Option, Some, refl, sym, ap, ◌∙◌, subst, arith}
 use Rattle.std.specs.List.{AllByRecursion}
 use Rattle.containers.proofs.Tests.{chosen, not_both}
 use Rattle.driver_model.specs.declared.action.Action.{Action}
-use Rattle.driver_model.specs.declared.action.Action.TheVariants as action
 use Rattle.driver_model.specs.declared.outcome.Outcome.{Outcome}
 use Rattle.driver_model.specs.Shape.{outcome_of}
 use Rattle.link_core.specs.declared.message.Settled.{Settled}
@@ -25,8 +24,8 @@ use Rattle.shared_session.specs.Turn.{shown, shown_each}
 use Rattle.legal_trace.specs.Ledger.{Ledger, is_over}
 use Rattle.legal_trace.specs.Book.{Book, book, entered}
 use Rattle.legal_trace.specs.Owed.{owed}
-use Rattle.legal_trace.specs.Legal.{NoneEnds, VerdictsAreShown, MayStand, MayAnswer}
-use Rattle.session_laws.proofs.Numbers.{IsIn, in_left, Rising, rising_from}
+use Rattle.legal_trace.specs.Legal.{MayStand, MayAnswer}
+use Rattle.session_laws.proofs.Numbers.{Rising, rising_from}
 use Rattle.session_laws.proofs.Tied.{Inner, link_in, TiedLife, Tied, Sound, waiting_ids}
 use Rattle.session_laws.proofs.Entered.{book_more, sound_more, shown_more}
 use Rattle.session_laws.proofs.Names.{open_within, name_still, length_still}
@@ -66,18 +65,19 @@ holds_more before f w a conn was pending started h may tied =
 pub book_of_more : (before : List Action) (f : Core) (acts : List LinkAct) (a : LinkAct) → book (trace_of_acts before f (acts ++ a ∷ [])) ≡ entered (book (trace_of_acts before f acts)) (shown f.single.link a)
 book_of_more before f acts a = ap book (shown_more before f.single.link acts a) ∙ book_more (trace_of_acts before f acts) (shown f.single.link a)
 
--- some requests are to be answered, in line, before all others that are open; and what is owed, and all names, are as they
--- were
-pub record IsAnswering (before : List Action) (f : Core) (owes : ℕ → Option Outcome) (name : ℕ → ℕ) (w : Work) (pending started : List ℕ) : Type 0 where
+-- some requests are to be answered, in line, before all others that are open; and their link's ledger, what is owed, and all
+-- names are as they were
+pub record IsAnswering (before : List Action) (f : Core) (ledger : Ledger) (owes : ℕ → Option Outcome) (name : ℕ → ℕ) (w : Work) (pending started : List ℕ) : Type 0 where
   pub holds : Holds before f w pending started
   pub line : IsInLine w.conn.requests (link_in w.conn.life) w.conn.waiting pending
+  pub ledger_is : (book (trace_of_acts before f w.acts)).link f.single.link ≡ ledger
   pub owed_is : (n : ℕ) → owed (book (trace_of_acts before f w.acts)) n ≡ owes n
   pub named : (p : ℕ) → name_at w.conn.requests p ≡ name p
 
 -- it begins
 pub answering : (before : List Action) (f : Core) (w : Work) (pending started : List ℕ) → Holds before f w pending started → IsInLine w.conn.requests (link_in w.conn.life) w.conn.waiting pending
-    → IsAnswering before f (owed (book (trace_of_acts before f w.acts))) (name_at w.conn.requests) w pending started
-answering before f w pending started h line = record { holds = h; line = line; owed_is = λ n. refl; named = λ p. refl }
+    → IsAnswering before f ((book (trace_of_acts before f w.acts)).link f.single.link) (owed (book (trace_of_acts before f w.acts))) (name_at w.conn.requests) w pending started
+answering before f w pending started h line = record { holds = h; line = line; ledger_is = refl; owed_is = λ n. refl; named = λ p. refl }
 
 -- a link that is over has ended
 over_life : (l : Ledger) (created : ℕ) (life : Life) → TiedLife l created life → is_over l ≡ true → life ≡ Ended
@@ -100,9 +100,9 @@ first_may b t p pending o h line e owes =
 rest_in_line : (requests : List Request) (link : LinkState) (waiting : List Waiting) (p : ℕ) (pending : List ℕ) → IsInLine requests link waiting (p ∷ pending) → IsInLine requests link waiting pending
 rest_in_line requests link waiting p pending line = rising_from (suc p) 0 (pending ++ line_of link waiting) (length requests) (omega arith) line.1
 
-one_answered : (before : List Action) (f : Core) (owes : ℕ → Option Outcome) (name : ℕ → ℕ) (w : Work) (p : ℕ) (o : Outcome) (pending started : List ℕ) → owes (name p) ≡ Some o → is_open_at w.conn.requests p ≡ true
-    → IsAnswering before f owes name w (p ∷ pending) started → IsAnswering before f owes name (record { conn = record w.conn { requests = at_progress w.conn.requests p progress.Closed }; acts = w.acts ++ act.Outcome (name_at w.conn.requests p) o ∷ [] }) pending started
-one_answered before f owes name w p o pending started due e h =
+one_answered : (before : List Action) (f : Core) (ledger : Ledger) (owes : ℕ → Option Outcome) (name : ℕ → ℕ) (w : Work) (p : ℕ) (o : Outcome) (pending started : List ℕ) → owes (name p) ≡ Some o → is_open_at w.conn.requests p ≡ true
+    → IsAnswering before f ledger owes name w (p ∷ pending) started → IsAnswering before f ledger owes name (record { conn = record w.conn { requests = at_progress w.conn.requests p progress.Closed }; acts = w.acts ++ act.Outcome (name_at w.conn.requests p) o ∷ [] }) pending started
+one_answered before f ledger owes name w p o pending started due e h =
     let b = book (trace_of_acts before f w.acts) in
     let t = seen f w.conn pending started in
     let a = act.Outcome (name_at w.conn.requests p) o in
@@ -113,26 +113,28 @@ one_answered before f owes name w p o pending started due e h =
           (inl (first_may b t p pending o h.holds.tied h.line e owes_now))
           (answer_tied b t p pending o l h.line h.holds.tied);
       line = subst (λ n. Rising 0 (pending ++ line_of (link_in w.conn.life) w.conn.waiting) n) (sym (length_still w.conn.requests p progress.Closed)) (rest_in_line w.conn.requests (link_in w.conn.life) w.conn.waiting p pending h.line);
+      ledger_is = ap (λ (x : Book). x.link f.single.link) (book_of_more before f w.acts a) ∙ h.ledger_is;
       owed_is = λ n. ap (λ (x : Book). owed x n) (book_of_more before f w.acts a) ∙ owed_still b (name_at w.conn.requests p) o n ∙ h.owed_is n;
       named = λ q. name_still w.conn.requests p progress.Closed q ∙ h.named q;
     }
 
 -- or is not open any more
-one_skipped : (before : List Action) (f : Core) (owes : ℕ → Option Outcome) (name : ℕ → ℕ) (w : Work) (p : ℕ) (pending started : List ℕ) → is_open_at w.conn.requests p ≡ false
-    → IsAnswering before f owes name w (p ∷ pending) started → IsAnswering before f owes name w pending started
-one_skipped before f owes name w p pending started e h = record {
+one_skipped : (before : List Action) (f : Core) (ledger : Ledger) (owes : ℕ → Option Outcome) (name : ℕ → ℕ) (w : Work) (p : ℕ) (pending started : List ℕ) → is_open_at w.conn.requests p ≡ false
+    → IsAnswering before f ledger owes name w (p ∷ pending) started → IsAnswering before f ledger owes name w pending started
+one_skipped before f ledger owes name w p pending started e h = record {
   holds = record { stands = h.holds.stands; tied = skip_tied (book (trace_of_acts before f w.acts)) (seen f w.conn pending started) p pending e h.holds.tied };
   line = rest_in_line w.conn.requests (link_in w.conn.life) w.conn.waiting p pending h.line;
+  ledger_is = h.ledger_is;
   owed_is = h.owed_is;
   named = h.named;
 }
 
-pub answered_holds : (before : List Action) (f : Core) (owes : ℕ → Option Outcome) (name : ℕ → ℕ) (w : Work) (p : ℕ) (o : Outcome) (pending started : List ℕ) → owes (name p) ≡ Some o
-    → IsAnswering before f owes name w (p ∷ pending) started → IsAnswering before f owes name (answered w p o) pending started
-answered_holds before f owes name w p o pending started due h =
-    chosen (λ (x : Work). IsAnswering before f owes name x pending started) (is_open_at w.conn.requests p) _ w
-    (λ t. one_answered before f owes name w p o pending started due t h)
-    (λ e. one_skipped before f owes name w p pending started e h)
+pub answered_holds : (before : List Action) (f : Core) (ledger : Ledger) (owes : ℕ → Option Outcome) (name : ℕ → ℕ) (w : Work) (p : ℕ) (o : Outcome) (pending started : List ℕ) → owes (name p) ≡ Some o
+    → IsAnswering before f ledger owes name w (p ∷ pending) started → IsAnswering before f ledger owes name (answered w p o) pending started
+answered_holds before f ledger owes name w p o pending started due h =
+    chosen (λ (x : Work). IsAnswering before f ledger owes name x pending started) (is_open_at w.conn.requests p) _ w
+    (λ t. one_answered before f ledger owes name w p o pending started due t h)
+    (λ e. one_skipped before f ledger owes name w p pending started e h)
 
 -- a message that was settled is due what it came to, and a request that waits the closed connection
 abbrev pub IsDue : (ℕ → Option Outcome) → (ℕ → ℕ) → Settled → Type 0
@@ -142,18 +144,18 @@ abbrev pub IsDueClosed : (ℕ → Option Outcome) → (ℕ → ℕ) → Waiting 
 IsDueClosed owes name q = owes (name q.number) ≡ Some closed
 
 -- each that was settled is answered
-pub settled_holds : (before : List Action) (f : Core) (owes : ℕ → Option Outcome) (name : ℕ → ℕ) (w : Work) (ss : List Settled) (pending started : List ℕ) → AllByRecursion (IsDue owes name) ss
-    → IsAnswering before f owes name w (settled_ids ss ++ pending) started → IsAnswering before f owes name (settled_each w ss) pending started
-settled_holds before f owes name w [] pending started due h = h
-settled_holds before f owes name w (s ∷ ss) pending started due h =
-    settled_holds before f owes name (answered w s.id (outcome_of s.verdict)) ss pending started due.1 (answered_holds before f owes name w s.id (outcome_of s.verdict) (settled_ids ss ++ pending) started due.0 h)
+pub settled_holds : (before : List Action) (f : Core) (ledger : Ledger) (owes : ℕ → Option Outcome) (name : ℕ → ℕ) (w : Work) (ss : List Settled) (pending started : List ℕ) → AllByRecursion (IsDue owes name) ss
+    → IsAnswering before f ledger owes name w (settled_ids ss ++ pending) started → IsAnswering before f ledger owes name (settled_each w ss) pending started
+settled_holds before f ledger owes name w [] pending started due h = h
+settled_holds before f ledger owes name w (s ∷ ss) pending started due h =
+    settled_holds before f ledger owes name (answered w s.id (outcome_of s.verdict)) ss pending started due.1 (answered_holds before f ledger owes name w s.id (outcome_of s.verdict) (settled_ids ss ++ pending) started due.0 h)
 
 -- each of these requests is answered with the closed connection
-pub closed_holds : (before : List Action) (f : Core) (owes : ℕ → Option Outcome) (name : ℕ → ℕ) (w : Work) (qs : List Waiting) (pending started : List ℕ) → AllByRecursion (IsDueClosed owes name) qs
-    → IsAnswering before f owes name w (waiting_ids qs ++ pending) started → IsAnswering before f owes name (closed_each w qs) pending started
-closed_holds before f owes name w [] pending started due h = h
-closed_holds before f owes name w (q ∷ qs) pending started due h =
-    closed_holds before f owes name (answered w q.number closed) qs pending started due.1 (answered_holds before f owes name w q.number closed (waiting_ids qs ++ pending) started due.0 h)
+pub closed_holds : (before : List Action) (f : Core) (ledger : Ledger) (owes : ℕ → Option Outcome) (name : ℕ → ℕ) (w : Work) (qs : List Waiting) (pending started : List ℕ) → AllByRecursion (IsDueClosed owes name) qs
+    → IsAnswering before f ledger owes name w (waiting_ids qs ++ pending) started → IsAnswering before f ledger owes name (closed_each w qs) pending started
+closed_holds before f ledger owes name w [] pending started due h = h
+closed_holds before f ledger owes name w (q ∷ qs) pending started due h =
+    closed_holds before f ledger owes name (answered w q.number closed) qs pending started due.1 (answered_holds before f ledger owes name w q.number closed (waiting_ids qs ++ pending) started due.0 h)
 
 -- what answers leave as it was
 pub record Leaves (w v : Work) : Type 0 where

@@ -3,21 +3,19 @@ use Rattle.mux_conn.specs.Turn.{written}
 use Rattle.std.proofs.Common.{List, [], ap, inl, inr, refl, subst, sym, true, ℕ, ◌++◌, ◌∙◌, ◌∷◌, ◌≡◌, ◌≢◌, ◌⊎◌}
 use Rattle.std.specs.Prelude.{if◌then◌else◌}
 use Rattle.containers.proofs.Tests.{chosen, not_both}
-use Rattle.resp_read.specs.Grammar.{ended, kind}
 use Rattle.driver_model.specs.declared.action.Action.{Action}
 use Rattle.driver_model.specs.declared.action.WaitKind.TheVariants as wait
 use Rattle.link_core.specs.Link.{LinkState}
 use Rattle.link_laws.proofs.Started.{row_open}
-use Rattle.link_laws.specs.Runs.{offered}
 use Rattle.link_laws.specs.Settles.{StandsAs, wanted}
 use Rattle.mux_conn.specs.Connection.{Work, acted, is_dialing}
-use Rattle.mux_conn.specs.Passes.{moved, passed}
+use Rattle.mux_conn.specs.Passes.{passed}
 use Rattle.mux_conn.specs.Requests.{is_waiting_at, name_at}
 use Rattle.mux_conn.specs.Turn.{flushed, wait_shown, waits_each, waits_shown}
 use Rattle.mux_conn.specs.declared.act.LinkAct.TheVariants as act
 use Rattle.mux_conn.specs.declared.life.Life.{Life}
 use Rattle.mux_conn.specs.declared.life.Life.TheVariants.{Dialing, Ended, Ready}
-use Rattle.shared_session.specs.Turn.{Turning, moved_on, shown, with_work, work_of}
+use Rattle.shared_session.specs.Turn.{Turning, moved_on, with_work, work_of}
 use Rattle.shared_session.specs.declared.core_state.Core.{Core}
 use Rattle.legal_trace.specs.Book.{Book, book}
 use Rattle.legal_trace.specs.Legal.{IsOpen, IsSettled, IsStarted, IsWaiting, IsWritten, NoneEnds, WaitHolds}

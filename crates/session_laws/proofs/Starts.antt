@@ -10,8 +10,7 @@ use Rattle.link_core.specs.declared.message.Queued.{Queued}
 use Rattle.link_core.specs.declared.message.Started.{Started}
 use Rattle.link_laws.proofs.Bounds.{free_greatest}
 use Rattle.mux_conn.specs.Connection.{Work, acted}
-use Rattle.mux_conn.specs.Effects.{applied}
-use Rattle.mux_conn.specs.Passes.{shown_each as shown_starts, started}
+use Rattle.mux_conn.specs.Passes.{shown_each as shown_starts}
 use Rattle.mux_conn.specs.Requests.{name_at}
 use Rattle.mux_conn.specs.declared.act.LinkAct.{LinkAct}
 use Rattle.mux_conn.specs.declared.act.LinkAct.TheVariants as act
@@ -43,11 +42,11 @@ start_may b t link q qs h ended told =
     let g = get_some t.requests q.id within in
     let up : (link_of b n).up ≡ true = ap (λ l. (b.link l).up) r.on ∙ h.life.1 in
     let either : (is_awaited (b.story n) ≡ true) ⊎ IsTold (b.story n) = by_test q.awaited _
-        (λ y. inl (sym is.is_of.awaited_is ∙ y))
-        (λ f. inr (record { unawaited = sym is.is_of.awaited_is ∙ f; told = is.told f })) in
+    (λ y. inl (sym is.is_of.awaited_is ∙ y))
+    (λ f. inr (record { unawaited = sym is.is_of.awaited_is ∙ f; told = is.told f })) in
     let wanted : IsOpen b n ⊎ IsTold (b.story n) = by_test q.awaited _
-        (λ y. inl (r.open_is ∙ is.open_at y))
-        (λ f. inr (record { unawaited = sym is.is_of.awaited_is ∙ f; told = is.told f })) in
+    (λ y. inl (r.open_is ∙ is.open_at y))
+    (λ f. inr (record { unawaited = sym is.is_of.awaited_is ∙ f; told = is.told f })) in
     record {
       applied = applied_up b was h refl (λ e. cc e) ended;
       wanted = either;

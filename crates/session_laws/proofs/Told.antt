@@ -2,7 +2,6 @@
 use Rattle.std.proofs.Common.{Bool, List, None, Option, Some, [], ap, false, inl, inr, length, refl, slice_get, subst, sym, true, ℕ, ◌++◌, ◌-◌, ◌∙◌, ◌∷◌, ◌≡◌, ◌⊎◌}
 use Rattle.std.specs.Prelude.{if◌then◌else◌, ◌==◌}
 use Rattle.containers.proofs.Tests.{chosen, eq_from}
-use Rattle.resp_value.specs.Data.{error}
 use Rattle.resp_value.specs.declared.value.Value.TheVariants.{Nil}
 use Rattle.redis_error.specs.declared.redis_error.RedisError.{RedisError}
 use Rattle.redis_error.specs.declared.redis_error.RedisError.TheVariants as error
@@ -19,8 +18,6 @@ use Rattle.driver_model.specs.declared.event.Submission.{Submission}
 use Rattle.driver_model.specs.declared.news.LinkFault.TheVariants as fault
 use Rattle.driver_model.specs.declared.outcome.Outcome.{Outcome}
 use Rattle.driver_model.specs.declared.outcome.Outcome.TheVariants as outcome
-use Rattle.link_core.specs.Link.{cancelled}
-use Rattle.link_laws.specs.Settles.{wanted}
 use Rattle.mux_conn.specs.Connection.{Work}
 use Rattle.mux_conn.specs.Effects.{applied, connected_at}
 use Rattle.mux_conn.specs.declared.act.LinkAct.{LinkAct}

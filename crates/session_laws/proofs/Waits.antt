@@ -2,23 +2,19 @@
 use Rattle.std.proofs.Common.{List, None, Option, Some, [], ap, arith, false, inl, inr, length, refl, subst, sym, true, ℕ, ◌++◌, ◌<◌, ◌∙◌, ◌∷◌, ◌≡◌, ◌⊎◌}
 use Rattle.std.specs.Prelude.{◌==◌}
 use Rattle.containers.proofs.Tests.{chosen, ne_from}
-use Rattle.resp_read.specs.Grammar.{line}
-use Rattle.driver_model.specs.News.{shut}
 use Rattle.driver_model.specs.declared.action.Action.{Action}
 use Rattle.driver_model.specs.declared.action.Action.TheVariants as action
 use Rattle.driver_model.specs.declared.action.Owner.TheVariants as owner
 use Rattle.driver_model.specs.declared.action.WaitKind.{WaitKind}
 use Rattle.driver_model.specs.declared.action.WaitKind.TheVariants as wait
-use Rattle.link_laws.specs.Alike.{others}
 use Rattle.link_laws.specs.Settles.{awaited_ids, wanted}
 use Rattle.mux_conn.specs.Requests.{is_open_at, is_waiting_at, name_at}
 use Rattle.mux_conn.specs.declared.life.Life.{Life}
 use Rattle.mux_conn.specs.declared.life.Life.TheVariants.{Dialing}
 use Rattle.mux_conn.specs.declared.request.Request.{Request}
-use Rattle.shared_session.specs.Turn.{shown}
 use Rattle.legal_trace.specs.Book.{Book, entered, if_own}
 use Rattle.legal_trace.specs.Legal.{IsWritten, MayWait, WaitHolds}
-use Rattle.legal_trace.specs.Story.{Story, handed_in, waits, waits as waits_now}
+use Rattle.legal_trace.specs.Story.{Story, waits as waits_now}
 use Rattle.session_laws.proofs.Kept.{SameOutcomes, SameSubmissions, one_changed, packed_same, queued_same, tries_same}
 use Rattle.session_laws.proofs.Names.{get_some, name_of_some, open_within}
 use Rattle.session_laws.proofs.Numbers.{IsIn, in_right}

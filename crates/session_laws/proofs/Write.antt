@@ -2,27 +2,21 @@
 use Rattle.std.proofs.Common.{Bool, List, [], arith, false, length, not, refl, subst, sym, true, ◌∙◌, ◌≡◌}
 use Rattle.std.specs.Prelude.{◌&&◌, ◌==◌}
 use Rattle.containers.proofs.Tests.{by_test, chosen, eq_from, ne_from, not_both}
-use Rattle.resp_read.specs.Grammar.{ended, size}
 use Rattle.driver_model.specs.declared.action.Action.{Action}
 use Rattle.driver_model.specs.declared.action.Action.TheVariants as action
 use Rattle.link_core.specs.Link.{LinkState, offered_of}
 use Rattle.link_core.specs.Outbox.{all_offered, can_offer}
 use Rattle.link_core.specs.declared.outbox.Outbox.{Outbox}
 use Rattle.link_laws.proofs.TiedLink.{TiedLink, is_offered, offer_stands, offered_tied}
-use Rattle.link_laws.specs.Alike.{others}
 use Rattle.mux_conn.specs.Connection.{Work, acted, with_link}
-use Rattle.mux_conn.specs.Passes.{started}
-use Rattle.mux_conn.specs.Requests.{answered}
 use Rattle.mux_conn.specs.Turn.{written, written_at}
 use Rattle.mux_conn.specs.declared.act.LinkAct.TheVariants as act
 use Rattle.mux_conn.specs.declared.life.Life.{Life}
 use Rattle.mux_conn.specs.declared.life.Life.TheVariants.{Dialing, Ended, Ready}
-use Rattle.shared_session.specs.Turn.{shown}
 use Rattle.shared_session.specs.declared.core_state.Core.{Core}
 use Rattle.legal_trace.specs.Book.{Book, book, entered}
 use Rattle.legal_trace.specs.Ledger.{IsOffered, noted, offers}
 use Rattle.legal_trace.specs.Legal.{IsMoved, IsWritten, MayWrite, NoneEnds}
-use Rattle.legal_trace.specs.Story.{tried, waits}
 use Rattle.session_laws.proofs.Going.{is_moved, none_ends_kept}
 use Rattle.session_laws.proofs.Kept.{mine_noted, numbers_kept, others_kept, tied_by}
 use Rattle.session_laws.proofs.Moved.{HasMoved}
