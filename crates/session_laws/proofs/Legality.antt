@@ -16,17 +16,21 @@ use Rattle.driver_model.specs.declared.event.Submission.{Submission}
 use Rattle.mux_conn.specs.declared.act.LinkAct.{LinkAct}
 use Rattle.mux_conn.specs.declared.act.LinkAct.TheVariants as act
 use Rattle.mux_conn.specs.declared.request.Pending.{Pending}
-use Rattle.shared_session.specs.Replay.{AreGood, AreGoodOn, opening, opening_actions, run_on, state_after, trace_of, turns_on}
+use Rattle.shared_session.specs.Replay.{AreGood, AreGoodOn, is_bad_after, opening, opening_actions, outcome_at, outcomes_in, run_on, state_after, trace_of, turns_on}
 use Rattle.shared_session.specs.Turn.{Turning, actions_of, asked_for, counted, effect, heard, is_bad, left_by, moved_on, refused, shown_each, submitted, turn}
 use Rattle.shared_session.specs.declared.core_state.Core.{Core}
 use Rattle.legal_trace.specs.Book.{Book, book, entered_each}
+use Rattle.legal_trace.specs.Events.{is_bad_event}
 use Rattle.legal_trace.specs.Legal.{AllStand, Legal, causes, event_causes}
+use Rattle.session_laws.proofs.Announce.{same_badness}
 use Rattle.session_laws.proofs.Effects.{effect_holds}
 use Rattle.session_laws.proofs.Entered.{all_stand_behind, book-append, book_more}
 use Rattle.session_laws.proofs.Opening.{opening_between}
+use Rattle.session_laws.proofs.Outcomes.{last_told}
 use Rattle.session_laws.proofs.Settled.{IsBetween, moved_on_between}
 use Rattle.session_laws.proofs.States.{HasApplied, trace_with}
 use Rattle.session_laws.proofs.Told.{NoneTold, effect_told}
+use Rattle.session_laws.specs.Outcomes.{last_outcome}
 
 -- a turn
 --
@@ -119,3 +123,13 @@ pub replay_legal : (config : Config) (word : ℕ) (events : List Event) → AreG
 replay_legal config word events good =
     let h = replay_between config word events good in
     record { turns = replay_causes config word events; each = h.between.sound.stands; settled = h.between.settled }
+
+-- behind it, the bad events are those of its book
+pub bad_of_the_book : (config : Config) (word : ℕ) (events : List Event) (e : Event) → AreGood config word events → is_bad_after config word events e ≡ is_bad_event (book (trace_of config word events)) e.kind
+bad_of_the_book config word events e good =
+    let h = replay_between config word events good in
+    sym (same_badness (book (trace_of config word events)) (state_after config word events) h.started e.kind h.between.sound.tied)
+
+-- and its outcomes are those of its book
+pub replay_outcomes : (config : Config) (word : ℕ) (events : List Event) (n : ℕ) → AreGood config word events → outcome_at (outcomes_in (trace_of config word events)) n ≡ last_outcome ((book (trace_of config word events)).story n).outcomes
+replay_outcomes config word events n good = let h = replay_between config word events good in last_told (trace_of config word events) n h.between.sound.stands

@@ -1,5 +1,5 @@
 -- Who is told at its place has started, or does in the same turn.
-use Rattle.std.proofs.Common.{Bool, List, None, Option, Some, [], ap, false, inl, inr, length, refl, slice_get, subst, sym, true, ℕ, ◌++◌, ◌-◌, ◌∙◌, ◌∷◌, ◌≡◌, ◌⊎◌}
+use Rattle.std.proofs.Common.{Bool, List, None, Option, Some, [], ap, arith, false, inl, inr, length, refl, slice_get, subst, sym, true, ℕ, ◌++◌, ◌-◌, ◌∙◌, ◌∷◌, ◌≡◌, ◌⊎◌}
 use Rattle.std.specs.Prelude.{if◌then◌else◌, ◌==◌}
 use Rattle.containers.proofs.Tests.{chosen, eq_from}
 use Rattle.resp_value.specs.declared.value.Value.TheVariants.{Nil}
@@ -32,6 +32,7 @@ use Rattle.legal_trace.specs.Legal.{AllStand, CanMove, IsOpen, IsTold, MayAnswer
 use Rattle.legal_trace.specs.Owed.{owed, owed_to_try, owed_unstarted}
 use Rattle.legal_trace.specs.Story.{Story, answered, blank_story, bytes_of, handed_in, is_open, last_of, left, tried, waits}
 use Rattle.session_laws.proofs.Behind.{IsAlive, some_more}
+use Rattle.session_laws.proofs.Further.{get_beyond}
 use Rattle.session_laws.proofs.Tied.{Inner, Tied, TiedStory, inner}
 
 -- none that was told has no message
@@ -232,12 +233,8 @@ event_told b n (event.WriteFault l kind) blank m = m
 event_told b n event.Shutdown blank m = m
 
 -- the next submission is blank
-get_none : {X : Type 0} (xs : List X) → slice_get xs (length xs) ≡ None
-get_none [] = refl
-get_none (x ∷ xs) = get_none xs
-
 next_blank : (b : Book) (t : Inner) → Tied b t → b.story b.submissions ≡ blank_story
-next_blank b t h = subst (TiedStory (b.story b.submissions) t.requests t.link) (ap (slice_get t.table) h.numbers.submissions ∙ get_none t.table) (h.story b.submissions)
+next_blank b t h = subst (TiedStory (b.story b.submissions) t.requests t.link) (ap (slice_get t.table) h.numbers.submissions ∙ get_beyond t.table (length t.table) (omega arith)) (h.story b.submissions)
 
 pub turn_told : (b : Book) (t : Inner) (number : ℕ) (e : Event) → Tied b t → NoneTold b → NoneTold (entered b (action.Turn number (cause.Event e)))
 turn_told b t number e h none n told untried = let m = event_told b n e.kind (next_blank b t h) (told, untried) in none n m.0 m.1
