@@ -31,6 +31,7 @@ no_outcome : (os : List Outcome) → (length os == 0) ≡ true → os ≡ []
 no_outcome [] e = refl
 no_outcome (o ∷ os) e = absurd (let n = eq_from (length (o ∷ os)) 0 e in omega arith)
 
+-- so an open submission has none
 pub open_unanswered : (s : Story) → is_open s ≡ true → s.outcomes ≡ []
 open_unanswered s o = no_outcome s.outcomes (both_right (is_some s.submission) (length s.outcomes == 0) (both_left (is_some s.submission && (length s.outcomes == 0)) (not s.cancelled) o))
 
@@ -44,6 +45,7 @@ blank_dead : (s : Story) → s ≡ blank_story → IsAlive s → ⊥
 blank_dead s is (inl o) = not_both (is_open s) (ap is_open is) o
 blank_dead s is (inr told) = let both : [] ≡ outcome.One Nil ∷ [] = sym (ap (λ (x : Story). x.outcomes) is) ∙ told.told in cc
 
+-- by what the session keeps of it
 alive_entry : (b : Book) (t : Inner) (n : ℕ) (at : Option (Option Pending)) → Tied b t → slice_get t.table n ≡ at → TiedStory (b.story n) t.requests t.link at → IsAlive (b.story n) → IsBehind b t n
 alive_entry b t n None h e s a = absurd (blank_dead (b.story n) s a)
 alive_entry b t n (Some None) h e s a = absurd (fault_dead (b.story n) s.error s.answered a)

@@ -17,6 +17,7 @@ pub book-append : (xs ys : List Action) → book (xs ++ ys) ≡ entered_each (bo
 unfolding book
 book-append xs ys = entered_each-append blank_book xs ys
 
+-- one more action
 pub book_more : (t : List Action) (a : Action) → book (t ++ a ∷ []) ≡ entered (book t) a
 book_more t a = book-append t (a ∷ [])
 
@@ -25,14 +26,17 @@ stand-append : (b : Book) (xs ys : List Action) → AllStand b xs → AllStand (
 stand-append b [] ys h k = k
 stand-append b (x ∷ xs) ys h k = (h.0, stand-append (entered b x) xs ys h.1 k)
 
+-- what comes behind may stand behind what came before
 stand_behind : (b : Book) (xs ys : List Action) → AllStand b (xs ++ ys) → AllStand (entered_each b xs) ys
 stand_behind b [] ys h = h
 stand_behind b (x ∷ xs) ys h = stand_behind (entered b x) xs ys h.1
 
+-- the same from the beginning
 pub all_stand-append : (xs ys : List Action) → AllStand blank_book xs → AllStand (book xs) ys → AllStand blank_book (xs ++ ys)
 unfolding book
 all_stand-append xs ys h k = stand-append blank_book xs ys h k
 
+-- and back
 pub all_stand_behind : (xs ys : List Action) → AllStand blank_book (xs ++ ys) → AllStand (book xs) ys
 unfolding book
 all_stand_behind xs ys h = stand_behind blank_book xs ys h

@@ -54,6 +54,7 @@ down_moves_none b t h down n m =
     let a = alive_behind b t n h m.wanted in
     not_both (b.link t.link).up down (ap (λ l. (b.link l).up) (sym a.is.on) ∙ m.up)
 
+-- a link whose connect isn't answered isn't up
 dialing_down : (l : Ledger) (created : ℕ) (life : Life) → life ≡ Dialing → TiedLife l created life → l.up ≡ false
 dialing_down l created Dialing e h = h.1
 dialing_down l created (Ready link) e h = cc

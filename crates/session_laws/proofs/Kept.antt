@@ -30,6 +30,7 @@ pub record TiedBy (b : Book) (t : Inner) (l : Ledger) : Type 0 where
   pub lines : TiedLines b.story t.requests (link_in t.life) t.waiting t.pending t.started
   pub waits : TiedWaits b.story t.requests t.life t.fresh
 
+-- so the session is tied to the book
 pub tied_by : (b : Book) (t : Inner) (l : Ledger) → b.link t.link ≡ l → TiedBy b t l → Tied b t
 tied_by b t l e h = record {
   numbers = h.numbers;
@@ -47,6 +48,7 @@ tied_by b t l e h = record {
 pub mine_noted : (l : Ledger) (n : ℕ) (line : Line) → noted_each l (if_mine (n == n) line) ≡ noted l line
 mine_noted l n line = ap (noted_each l) (taken_if (n == n) (line ∷ []) [] (eq_test n n refl))
 
+-- all other links stay as they are
 pub others_kept : (b : Book) (n : ℕ) (line : Line) → ((m : ℕ) → m ≢ n → IsUnknown (b.link m)) → (m : ℕ) → m ≢ n → IsUnknown (noted_each (b.link m) (if_mine (n == m) line))
 others_kept b n line h m other = if_false (λ (ls : List Line). IsUnknown (noted_each (b.link m) ls)) (n == m) (line ∷ []) [] (ne_test n m (λ e. other (sym e))) (h m other)
 
@@ -86,13 +88,16 @@ of_same s s' bytes of_shape awaited e h = record {
 abbrev pub SameSubmissions : (ℕ → Story) → (ℕ → Story) → Type 0
 SameSubmissions f g = (n : ℕ) → (f n).submission ≡ (g n).submission
 
+-- of the same outcomes
 abbrev pub SameOutcomes : (ℕ → Story) → (ℕ → Story) → Type 0
 SameOutcomes f g = (n : ℕ) → (f n).outcomes ≡ (g n).outcomes
 
+-- those that wait are as their submissions say
 pub packed_same : (f g : ℕ → Story) (requests : List Request) (ws : List Waiting) → SameSubmissions f g → AllByRecursion (IsPacked f requests) ws → AllByRecursion (IsPacked g requests) ws
 packed_same f g requests [] same all = tt
 packed_same f g requests (w ∷ ws) same all = (of_same (f (name_at requests w.number)) (g (name_at requests w.number)) w.packed w.shape w.awaited (same (name_at requests w.number)) all.0, packed_same f g requests ws same all.1)
 
+-- and so are those in the queue
 pub queued_same : (f g : ℕ → Story) (requests : List Request) (qs : List Queued) → SameSubmissions f g → SameOutcomes f g → AllByRecursion (IsQueued f requests) qs → AllByRecursion (IsQueued g requests) qs
 queued_same f g requests [] same told all = tt
 queued_same f g requests (q ∷ qs) same told all = (

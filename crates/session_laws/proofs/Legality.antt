@@ -41,11 +41,13 @@ refused_link t what =
     (λ s. refl)
     (λ f. chosen (λ (x : Turning). x.core.single.link ≡ t.core.single.link) (length (packed what) == 0) (refused t error.EmptyCommand) (asked_for t what) (λ s. refl) (λ g. refl))
 
+-- so does a leave
 left_link : (t : Turning) (x : Option (Option Pending)) → (left_by t x).core.single.link ≡ t.core.single.link
 left_link t None = refl
 left_link t (Some None) = refl
 left_link t (Some (Some p)) = refl
 
+-- and so does any event
 effect_link : (c : Core) (kind : EventKind) → (effect (counted c) kind).core.single.link ≡ c.single.link
 effect_link c (event.Submit what) = refused_link (heard (counted c) (event.Submit what)) what
 effect_link c (event.Cancel n) = left_link (heard (counted c) (event.Cancel n)) (slice_get c.table n)
@@ -68,6 +70,7 @@ effect_tells before c e started h applied =
     let told = effect_told (book before) c c.turns e.word e.kind h.started h.between.sound.tied h.between.settled.written.moved.moved h.told stands in
     subst NoneTold (sym (book-append (before ++ a ∷ []) more ∙ ap (λ (b : Book). entered_each b more) (book_more before a))) told
 
+-- one turn leads from between two turns to between the next two
 turn_between : (before : List Action) (c : Core) (e : Event) → IsBetween before c → is_bad c e.kind ≡ false → IsBetween (before ++ actions_of c e) (turn c e.kind).core
 unfolding turn
 turn_between before c e h good =
@@ -98,6 +101,7 @@ causes-append [] ys = refl
 causes-append (action.Turn k c ∷ xs) ys = ap (λ cs. c ∷ cs) (causes-append xs ys)
 causes-append (_ ∷ xs) ys = causes-append xs ys
 
+-- acts are no causes
 no_causes : (l : ℕ) (acts : List LinkAct) → causes (shown_each l acts) ≡ []
 no_causes l [] = refl
 no_causes l (act.Created ∷ acts) = no_causes l acts
@@ -107,6 +111,7 @@ no_causes l (act.Wait n kind ∷ acts) = no_causes l acts
 no_causes l (act.Start k n count len ∷ acts) = no_causes l acts
 no_causes l (act.Outcome n o ∷ acts) = no_causes l acts
 
+-- a turn for each event
 turns_causes : (c : Core) (es : List Event) → causes (turns_on c es) ≡ event_causes es
 turns_causes c [] = refl
 turns_causes c (e ∷ es) =
@@ -114,6 +119,7 @@ turns_causes c (e ∷ es) =
     (causes-append (shown_each c.single.link (turn c e.kind).acts) (turns_on (turn c e.kind).core es)
     ∙ (λ i. no_causes c.single.link (turn c e.kind).acts i ++ turns_causes (turn c e.kind).core es i))
 
+-- behind the opening
 replay_causes : (config : Config) (word : ℕ) (events : List Event) → causes (trace_of config word events) ≡ cause.Opening config word ∷ event_causes events
 unfolding trace_of
 replay_causes config word events = ap (λ cs. cause.Opening config word ∷ cs) (turns_causes (opening config word) events)

@@ -64,12 +64,15 @@ up_moved before f w h none =
       told = λ n is untried. let k = h.going.told n is untried in subst (IsIn k.0) (sym (append-nil (queue_ids (link_in w.conn.life).queue)) ∙ empty) k.3;
     }
 
+-- starts leave those that wait
 started_waits : (w : Work) (link : LinkState) → (started_at w (Ready link)).conn.waiting ≡ w.conn.waiting
 started_waits w link = let s = started_all (record { link = link; out = [] }) in ap (λ (x : Work). x.conn.waiting) (shown_is (with_link w s.link) s.out)
 
+-- those that wait are taken out
 still_up : (before : List Action) (f : Core) (w : Work) (qs : List Waiting) → IsUp before f w qs → IsUp before f (still_waiting w []) qs
 still_up before f w qs h = record { link = h.link; life = h.life; whole = h.whole; started = h.started; going = h.going }
 
+-- all are moved there
 ready_moved : (before : List Action) (f : Core) (w : Work) (started : List ℕ) (link : LinkState) → w.conn.life ≡ Ready link → IsReady before f w started → HasMoved before f (passed w)
 ready_moved before f w started link life h =
     let whole = h.whole link life in
@@ -92,6 +95,7 @@ stuck_stays : (w : Work) (qs : List Waiting) → is_stuck w.conn.life ≡ true �
 stuck_stays w [] e = refl
 stuck_stays w (q ∷ qs) e = taken_if (is_stuck w.conn.life) (still_waiting w (q ∷ qs)) (moved_each (moved w q) qs) e
 
+-- all stays there
 dialing_moved : (before : List Action) (f : Core) (w : Work) (started : List ℕ) → w.conn.life ≡ Dialing → IsReady before f w started → HasMoved before f (passed w)
 dialing_moved before f w started life h =
     let same : passed w ≡ w = ap (λ (x : Life). moved_all (started_at w x)) life ∙ stuck_stays (still_waiting w []) w.conn.waiting (ap is_stuck life) in
@@ -110,30 +114,36 @@ dialing_moved before f w started life h =
 abbrev OpenWaits : List Request → Type 0
 OpenWaits requests = (p : ℕ) → is_open_at requests p ≡ true → is_waiting_at requests p ≡ true
 
+-- so it is on a link that has ended
 open_waits : (b : Book) (t : Inner) → Tied b t → t.pending ≡ [] → t.life ≡ Ended → OpenWaits t.requests
 open_waits b t h none over p e = elim (h.lines.there p e) [
   | inl i ↦ absurd (subst (λ (x : Life). IsIn p ([] ++ (wanted (link_in x).row ++ awaited_ids (link_in x).queue))) over (subst (λ ns. IsIn p (ns ++ (wanted (link_in t.life).row ++ awaited_ids (link_in t.life).queue))) none i))
   | inr w ↦ w.0
 ]
 
+-- and stays where one is closed
 closed_waits : (requests : List Request) (p : ℕ) → is_open_at requests p ≡ true → OpenWaits requests → OpenWaits (at_progress requests p progress.Closed)
 closed_waits requests p o h q e =
     let k = there_then is_open_progress requests p q progress.Closed refl (open_within requests p o) e in
     there_other is_waiting requests p q progress.Closed k.0 ∙ h q k.1
 
+-- or answered
 answered_waits : (w : Work) (p : ℕ) (o : Outcome) → OpenWaits w.conn.requests → OpenWaits (answered w p o).conn.requests
 answered_waits w p o h = chosen (λ (x : Work). OpenWaits x.conn.requests) (is_open_at w.conn.requests p) _ w (λ t. closed_waits w.conn.requests p t h) (λ f. h)
 
+-- a test that is followed by another
 waiting_false : (a b : Bool) → (a ≡ true → b ≡ true) → b ≡ false → a ≡ false
 waiting_false true b h e = absurd (not_both b e (h refl))
 waiting_false false b h e = refl
 
+-- one that is moved is answered
 moved_over : (w : Work) (q : Waiting) → w.conn.life ≡ Ended → OpenWaits w.conn.requests → moved w q ≡ answered w q.number closed
 moved_over w q over h =
     chosen (λ (x : Work). x ≡ answered w q.number closed) (is_waiting_at w.conn.requests q.number) (moved_at w q w.conn.life) w
     (λ t. ap (moved_at w q) over)
     (λ f. sym (left_if (is_open_at w.conn.requests q.number) _ w (waiting_false (is_open_at w.conn.requests q.number) (is_waiting_at w.conn.requests q.number) (h q.number) f)))
 
+-- and so is each
 each_over : (w : Work) (qs : List Waiting) → w.conn.life ≡ Ended → OpenWaits w.conn.requests → moved_each w qs ≡ still_waiting (closed_each w qs) []
 each_over w [] over h = refl
 each_over w (q ∷ qs) over h =
@@ -157,10 +167,12 @@ answered_told before f w p h =
     (λ t. subst NoneTold (sym (book_of_more before f w.acts (act.Outcome (name_at w.conn.requests p) closed))) (fault_told (book (trace_of_acts before f w.acts)) (name_at w.conn.requests p) error.Closed h))
     (λ e. h)
 
+-- of all that wait
 each_told : (before : List Action) (f : Core) (w : Work) (qs : List Waiting) → NoneTold (book (trace_of_acts before f w.acts)) → NoneTold (book (trace_of_acts before f (closed_each w qs).acts))
 each_told before f w [] h = h
 each_told before f w (q ∷ qs) h = each_told before f (answered w q.number closed) qs (answered_told before f w q.number h)
 
+-- all are moved there
 over_moved : (before : List Action) (f : Core) (w : Work) (started : List ℕ) → w.conn.life ≡ Ended → IsReady before f w started → HasMoved before f (passed w)
 over_moved before f w started over h =
     let b = book (trace_of_acts before f w.acts) in

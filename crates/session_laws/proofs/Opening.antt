@@ -27,21 +27,27 @@ use Rattle.session_laws.proofs.Write.{is_written}
 abbrev opened : Config → ℕ → Book
 opened config word = entered (entered blank_book (action.Turn 0 (cause.Opening config word))) (action.Connect first_link config.host config.port)
 
+-- no other link is told of
 opened_link : (config : Config) (word : ℕ) (m : ℕ) → m ≢ first_link → (opened config word).link m ≡ blank_ledger
 opened_link config word m other = ap (noted_each blank_ledger) (left_if (first_link == m) (asks ∷ []) [] (ne_test first_link m (λ e. other (sym e))))
 
+-- its numbers
 opening_numbers : (config : Config) (word : ℕ) → TiedNumbers (opened config word) (inner (opening config word) [])
 opening_numbers config word = record { turns = refl; links = refl; submissions = refl; shut = refl; one = refl; only = λ m less. omega arith }
 
+-- its lines
 opening_lines : TiedLines (λ n. blank_story) [] new_link [] [] []
 opening_lines = record { line = omega arith; queued = tt; entries = tt; packs = tt; there = λ p e. cc }
 
+-- its names
 opening_names : TiedNames [] []
 opening_names = record { named = λ p r e. cc; kept = λ n p e. cc; rising = λ p q r s less e k. cc }
 
+-- its tries
 opening_tries : (l : Ledger) → l.starts ≡ [] → TiedTries l (λ n. blank_story) [] first_link []
 opening_tries l none = record { owners = ap owners_of none; shapes = λ k p s e i. cc; tried = λ k p e. cc; untried = λ p r e out. cc }
 
+-- the session is tied to it
 pub opening_tied : (config : Config) (word : ℕ) → Tied (opened config word) (inner (opening config word) [])
 opening_tied config word = record {
   numbers = opening_numbers config word;
@@ -55,12 +61,15 @@ opening_tied config word = record {
   waits = record { new = tt; shown = λ p w e. cc };
 }
 
+-- no link must end
 opening_ends : (config : Config) (word : ℕ) → NoneEnds (opened config word)
 opening_ends config word m = chosen (λ (ls : List Line). ending (noted_each blank_ledger ls) ≡ None) (first_link == m) (asks ∷ []) [] (λ t. refl) (λ f. refl)
 
+-- none is told without an outcome
 not_told : (b : Book) → ((n : ℕ) → (b.story n).outcomes ≡ []) → NoneTold b
 not_told b none n told untried = let no : [] ≡ outcome.One Nil ∷ [] = sym (none n) ∙ told.told in cc
 
+-- its actions may stand
 opening_stands : (config : Config) (word : ℕ) → AllStand blank_book (opening_actions config word)
 opening_stands config word = (record { next = refl; is_for = refl }, (record { config = config; word = word; opens = refl; first = refl; next = refl; address = (refl, refl) }, tt))
 

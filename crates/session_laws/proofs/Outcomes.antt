@@ -20,6 +20,7 @@ use Rattle.legal_trace.specs.Legal.{AllStand, IsOpen, MayStand}
 use Rattle.legal_trace.specs.Story.{Story, answered, handed_in, is_open, left, tried, waits}
 use Rattle.session_laws.specs.Outcomes.{last_outcome}
 
+-- the last is the last
 last_more : (os : List Outcome) (o : Outcome) → last_outcome (os ++ o ∷ []) ≡ Some o
 last_more [] o = refl
 last_more (x ∷ []) o = refl
@@ -35,6 +36,7 @@ record AreOutcomes (os : List (Option Outcome)) (b : Book) : Type 0 where
 abbrev SameTold : Story → Story → Type 0
 SameTold s s' = (s'.submission ≡ s.submission) × (s'.outcomes ≡ s.outcomes)
 
+-- where nothing is told of outcomes
 same_outcomes : (os : List (Option Outcome)) (b : Book) (a : Action) → (entered b a).submissions ≡ b.submissions → ((n : ℕ) → SameTold (b.story n) ((entered b a).story n)) → AreOutcomes os b → AreOutcomes os (entered b a)
 same_outcomes os b a count same h = record {
   long = h.long ∙ sym count;
@@ -49,6 +51,7 @@ open_within_book os b n h o = by_test (nat_le b.submissions n) _
     (λ t. absurd (let none = (h.later n (le_from b.submissions n t)).0 in let some = both_left (is_some (b.story n).submission) (length (b.story n).outcomes == 0) (both_left (is_some (b.story n).submission && (length (b.story n).outcomes == 0)) (not (b.story n).cancelled) o) in not_both (is_some (b.story n).submission) (ap is_some none) some))
     (λ f. let l = not_le_from b.submissions n f in let e = h.long in omega arith)
 
+-- it is the last of its submission
 answer_outcomes : (os : List (Option Outcome)) (b : Book) (n : ℕ) (o : Outcome) → IsOpen b n → AreOutcomes os b → AreOutcomes (slice_set os n (Some o)) (entered b (action.Outcome n o))
 answer_outcomes os b n o is_open_now h =
     let within = open_within_book os b n h is_open_now in
@@ -72,6 +75,7 @@ room_at [] (suc n) = refl
 room_at (x ∷ os) zero = refl
 room_at (x ∷ os) (suc n) = room_at os n
 
+-- it has a place, and no outcome
 submit_outcomes : (os : List (Option Outcome)) (b : Book) (number word : ℕ) (what : Submission) → AreOutcomes os b → AreOutcomes (os ++ None ∷ []) (entered b (action.Turn number (cause.Event (record { word = word; kind = event.Submit what }))))
 submit_outcomes os b number word what h = record {
   long = length_push os None ∙ ap (λ n. n + 1) h.long;
@@ -83,14 +87,17 @@ submit_outcomes os b number word what h = record {
       (λ f. h.later n (omega arith));
 }
 
+-- a leave tells nothing of outcomes
 left_same : (s : Story) → SameTold s (left s)
 left_same s = chosen (SameTold s) (is_open s) (record s { cancelled = true; waiting = None }) s (λ t. (refl, refl)) (λ f. (refl, refl))
 
+-- nor does a cancel
 cancel_outcomes : (os : List (Option Outcome)) (b : Book) (number word k : ℕ) → AreOutcomes os b → AreOutcomes os (entered b (action.Turn number (cause.Event (record { word = word; kind = event.Cancel k }))))
 cancel_outcomes os b number word k h =
     same_outcomes os b (action.Turn number (cause.Event (record { word = word; kind = event.Cancel k }))) (omega arith)
     (λ n. chosen (SameTold (b.story n)) (k == n) (left (b.story n)) (b.story n) (λ t. left_same (b.story n)) (λ f. (refl, refl))) h
 
+-- any event
 event_outcomes : (os : List (Option Outcome)) (b : Book) (number word : ℕ) (kind : EventKind) → AreOutcomes os b → AreOutcomes (with_room os kind) (entered b (action.Turn number (cause.Event (record { word = word; kind = kind }))))
 event_outcomes os b number word (event.Submit what) h = submit_outcomes os b number word what h
 event_outcomes os b number word (event.Cancel k) h = cancel_outcomes os b number word k h
@@ -107,9 +114,11 @@ event_outcomes os b number word event.Shutdown h = same_outcomes os b (action.Tu
 start_same : (b : Book) (l k m round count len : ℕ) (n : ℕ) → SameTold (b.story n) ((entered b (action.Start l k (owner.Try m round) count len)).story n)
 start_same b l k m round count len n = chosen (SameTold (b.story n)) (m == n) (tried (b.story n) l k) (b.story n) (λ t. (refl, refl)) (λ f. (refl, refl))
 
+-- nor does a wait
 wait_same : (b : Book) (m round : ℕ) (kind : WaitKind) (n : ℕ) → SameTold (b.story n) ((entered b (action.Wait (owner.Try m round) kind)).story n)
 wait_same b m round kind n = chosen (SameTold (b.story n)) (m == n) (waits (b.story n) kind) (b.story n) (λ t. (refl, refl)) (λ f. (refl, refl))
 
+-- by the kind of the action
 action_outcomes : (os : List (Option Outcome)) (b : Book) (a : Action) → MayStand b a → AreOutcomes os b → AreOutcomes (told os a) (entered b a)
 action_outcomes os b (action.Turn number (cause.Opening config word)) may h = same_outcomes os b (action.Turn number (cause.Opening config word)) refl (λ n. (refl, refl)) h
 action_outcomes os b (action.Turn number (cause.Event e)) may h = event_outcomes os b number e.word e.kind h
@@ -122,6 +131,7 @@ action_outcomes os b action.Created may h = same_outcomes os b action.Created re
 action_outcomes os b (action.Outcome n o) (inl may) h = answer_outcomes os b n o may.asked h
 action_outcomes os b (action.Outcome n o) (inr may) h = answer_outcomes os b n o may.asked h
 
+-- and all of them
 each_outcomes : (os : List (Option Outcome)) (b : Book) (trace : List Action) → AllStand b trace → AreOutcomes os b → AreOutcomes (told_each os trace) (entered_each b trace)
 each_outcomes os b [] all h = h
 each_outcomes os b (a ∷ more) all h = each_outcomes (told os a) (entered b a) more all.1 (action_outcomes os b a all.0 h)

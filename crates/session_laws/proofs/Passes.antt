@@ -59,6 +59,7 @@ each_whole : (s : Starting) (qs : List Queued) → s.link.broken ≡ false → s
 each_whole s [] sound size free = record { sound = sound; empty = refl; size = size; boundary = free }
 each_whole s (q ∷ qs) sound size free = if_false (λ (r : Starting). IsWhole r.link) (is_held_back s.link) _ (started_each (started_one s q) qs) (free_greatest s.link free) (each_whole (started_one s q) qs sound size free)
 
+-- and the link is whole behind them
 pub started_up : (before : List Action) (f : Core) (w : Work) (link : LinkState) (waiting : List Waiting) (done : List ℕ) → link.broken ≡ false → link.size ≡ max_size → link.boundary ≡ no_boundary
     → IsGoing (trace_of_acts before f w.acts) (moving f (with_link w link).conn waiting done) → IsUp before f (started_at (with_link w link) (Ready link)) waiting
 started_up before f w link waiting done sound size free h =
@@ -107,6 +108,7 @@ tell_may b t link q qs w not_awaited h ends told =
       nil = refl;
     }
 
+-- it is, and has its place
 told_going : (trace : List Action) (t : Inner) (link : LinkState) (q : Waiting) (qs : List Waiting) → is_waiting_at t.requests q.number ≡ true → q.awaited ≡ false → IsGoing trace (with_waiting t (with_queue link []) (q ∷ qs))
     → IsGoing (trace ++ action.Outcome (name_at t.requests q.number) (outcome.One Nil) ∷ []) (record (with_waiting t (with_queue link (message_of q ∷ [])) qs) { requests = at_progress t.requests q.number progress.Closed })
 told_going trace t link q qs w not_awaited h =
@@ -129,6 +131,7 @@ told_going trace t link q qs w not_awaited h =
 empty_queue : (link : LinkState) → link.queue ≡ [] → link ≡ with_queue link []
 empty_queue link e = λ i. with_queue link (e i)
 
+-- the session with such a link
 up_going : (before : List Action) (f : Core) (w : Work) (waiting : List Waiting) (h : IsUp before f w waiting) → IsGoing (trace_of_acts before f w.acts) (with_waiting (moving f w.conn waiting h.started) (with_queue h.link []) waiting)
 up_going before f w waiting h = subst (λ (x : Life). IsGoing (trace_of_acts before f w.acts) (record (moving f w.conn waiting h.started) { life = x })) (h.life ∙ ap Ready (empty_queue h.link h.whole.empty)) h.going
 

@@ -82,15 +82,18 @@ open_placed requests p m e =
     (λ t. subst (λ k. is_open_at (at_progress requests p progress.Placed) k ≡ is_open_at requests k) (eq_from p m t) (there_same is_open_progress requests p progress.Placed (open_within requests p e) ∙ sym e))
     (λ f. there_other is_open_progress requests p m progress.Placed (ne_from p m f))
 
+-- a story says the same of the session
 story_placed : (s : Story) (requests : List Request) (link p : ℕ) (at : Option (Option Pending)) → is_open_at requests p ≡ true → TiedStory s requests link at → TiedStory s (at_progress requests p progress.Placed) link at
 story_placed s requests link p None e h = h
 story_placed s requests link p (Some None) e h = h
 story_placed s requests link p (Some (Some m)) e h = record { what = h.what; handed_in = h.handed_in; in_time = h.in_time; on = h.on; some = h.some; open_is = h.open_is ∙ sym (open_placed requests p m.number e) }
 
+-- the owners are the same
 owners_placed : (requests : List Request) (p : ℕ) (started : List ℕ) → owners_each (at_progress requests p progress.Placed) started ≡ owners_each requests started
 owners_placed requests p [] = refl
 owners_placed requests p (m ∷ ms) = λ i. owners_still requests p progress.Placed i m ∷ owners_placed requests p ms i
 
+-- and so are the tries
 tries_placed : (l : Ledger) (story : ℕ → Story) (requests : List Request) (link p : ℕ) (started : List ℕ) → TiedTries l story requests link started → TiedTries l story (at_progress requests p progress.Placed) link started
 tries_placed l story requests link p started h = record {
   owners = h.owners ∙ sym (owners_placed requests p started);
@@ -99,6 +102,7 @@ tries_placed l story requests link p started h = record {
   untried = λ m r i out. let w = name_was requests p progress.Placed m r i in ap (λ n. (story n).tries) (sym w.2) ∙ h.untried m w.0 w.1 out;
 }
 
+-- the entries of the row
 entries_placed : (requests : List Request) (p : ℕ) (row : List Entry) → is_open_at requests p ≡ true → AllByRecursion (IsEntry requests) row → AllByRecursion (IsEntry (at_progress requests p progress.Placed)) row
 entries_placed requests p [] o all = tt
 entries_placed requests p (e ∷ es) o all = (
@@ -106,10 +110,12 @@ entries_placed requests p (e ∷ es) o all = (
   entries_placed requests p es o all.1,
 )
 
+-- those that wait
 packs_placed : (story : ℕ → Story) (requests : List Request) (p : ℕ) (ws : List Waiting) → AllByRecursion (IsPacked story requests) ws → AllByRecursion (IsPacked story (at_progress requests p progress.Placed)) ws
 packs_placed story requests p [] all = tt
 packs_placed story requests p (w ∷ ws) all = (subst (λ n. IsOf (story n) w.packed w.shape w.awaited) (sym (name_still requests p progress.Placed w.number)) all.0, packs_placed story requests p ws all.1)
 
+-- the one that is awaited
 awaited_only : (awaited : Bool) (p : ℕ) → awaited ≡ true → IsIn p ((if awaited then p ∷ [] else []) ++ [])
 awaited_only true p e = inl refl
 awaited_only false p e = cc

@@ -32,14 +32,17 @@ run_more : (c : Core) (es : List Event) (e : Event) → run_on c (es ++ e ∷ []
 run_more c [] e = refl
 run_more c (x ∷ es) e = run_more (turn c x.kind).core es e
 
+-- a good event behind good ones
 good_more : (c : Core) (es : List Event) (e : Event) → AreGoodOn c es → is_bad (run_on c es) e.kind ≡ false → AreGoodOn c (es ++ e ∷ [])
 good_more c [] e h good = (good, tt)
 good_more c (x ∷ es) e h good = (h.0, good_more (turn c x.kind).core es e h.1 good)
 
+-- the state behind it
 pub state_more : (config : Config) (word : ℕ) (events : List Event) (e : Event) → state_after config word (events ++ e ∷ []) ≡ (turn (state_after config word events) e.kind).core
 unfolding state_after
 state_more config word events e = run_more (opening config word) events e
 
+-- and it is good with them
 pub are_good_more : (config : Config) (word : ℕ) (events : List Event) (e : Event) → AreGood config word events → is_bad_after config word events e ≡ false → AreGood config word (events ++ e ∷ [])
 unfolding state_after AreGood
 are_good_more config word events e h good = good_more (opening config word) events e h good
@@ -51,11 +54,13 @@ submitted_turns t what =
     (λ s. refl)
     (λ f. chosen (λ (x : Turning). x.core.turns ≡ t.core.turns) (length (packed what) == 0) (refused t error.EmptyCommand) (asked_for t what) (λ s. refl) (λ g. refl))
 
+-- a leave counts none
 left_turns : (t : Turning) (x : Option (Option Pending)) → (left_by t x).core.turns ≡ t.core.turns
 left_turns t None = refl
 left_turns t (Some None) = refl
 left_turns t (Some (Some p)) = refl
 
+-- nor does any other event
 effect_turns : (c : Core) (kind : EventKind) → (effect (counted c) kind).core.turns ≡ c.turns + 1
 effect_turns c (event.Submit what) = submitted_turns (heard (counted c) (event.Submit what)) what
 effect_turns c (event.Cancel n) = left_turns (heard (counted c) (event.Cancel n)) (slice_get c.table n)
@@ -67,6 +72,7 @@ effect_turns c (event.ReadFault l kind) = refl
 effect_turns c (event.WriteFault l kind) = refl
 effect_turns c event.Shutdown = refl
 
+-- so a whole turn is one
 turn_counted : (c : Core) (kind : EventKind) → (turn c kind).core.turns ≡ c.turns + 1
 unfolding turn
 turn_counted c kind = effect_turns c kind
@@ -82,6 +88,7 @@ abbrev names_of : List Request → List ℕ
 names_of [] = []
 names_of (r ∷ rs) = r.name ∷ names_of rs
 
+-- as many as requests
 names_length : (requests : List Request) → length (names_of requests) ≡ length requests
 names_length [] = refl
 names_length (r ∷ rs) = ap suc (names_length rs)
@@ -130,6 +137,7 @@ started_here b t h = by_life t.life refl
         let i = ap (λ (x : Life). (link_in x).started) e in
         omega arith
 
+-- one of three tests
 either_true : (a b c : Bool) → (a || (b || c)) ≡ true → (a ≡ true) ⊎ ((b ≡ true) ⊎ (c ≡ true))
 either_true true b c e = inl refl
 either_true false true c e = inr (inl refl)
@@ -139,12 +147,15 @@ either_true false false c e = inr (inr e)
 turns_out : (bound turns now next : ℕ) → bound ≤ turns → now ≡ next → next ≡ turns + 1 → bound < now
 turns_out bound turns now next l e i = omega arith
 
+-- what is not smaller
 at_least : (bound n m : ℕ) → bound ≤ n → n ≤ m → bound ≤ m
 at_least bound n m l k = omega arith
 
+-- what is as many
 as_many : (bound n m : ℕ) → bound ≤ n → m ≡ n → bound ≤ m
 as_many bound n m l e = omega arith
 
+-- by the numbers of the session
 pub run_out_of : (b : Book) (t : Inner) (turns : ℕ) → Tied b t → t.turns ≡ turns + 1 → (nat_le (2 ^ 32) turns || (is_spent_in t.life || nat_le (2 ^ 32) (length t.table))) ≡ true → HasRunOut b
 run_out_of b t turns h count e =
     elim (either_true (nat_le (2 ^ 32) turns) (is_spent_in t.life) (nat_le (2 ^ 32) (length t.table)) e) [
@@ -161,11 +172,13 @@ first_true : (a b c : Bool) → a ≡ true → (a || (b || c)) ≡ true
 first_true true b c e = refl
 first_true false b c e = cc
 
+-- the last of three tests
 third_true : (a b c : Bool) → c ≡ true → (a || (b || c)) ≡ true
 third_true true b c e = refl
 third_true false true c e = refl
 third_true false false c e = e
 
+-- the turn before
 turns_then : (bound turns now next : ℕ) → bound < now → now ≡ next → next ≡ turns + 1 → bound ≤ turns
 turns_then bound turns now next l e i = omega arith
 
@@ -182,9 +195,11 @@ one_link b t h many =
     more_than_one : (n : ℕ) → 2 ^ 32 ≤ n → 1 < n
     more_than_one n l = omega arith
 
+-- no messages are not that many
 none_started_many : (starts : List Start) → starts ≡ [] → 2 ^ 32 ≤ length starts → ⊥
 none_started_many starts e many = let z : length starts ≡ 0 = ap length e in omega arith
 
+-- by the numbers of the session
 pub spent_of : (b : Book) (t : Inner) (turns : ℕ) → Tied b t → t.turns ≡ turns + 1 → HasRunOut b → (nat_le (2 ^ 32) turns || (is_spent_in t.life || nat_le (2 ^ 32) (length t.table))) ≡ true
 spent_of b t turns h count out =
     let first = nat_le (2 ^ 32) turns in
@@ -215,6 +230,7 @@ next_tied config word events e good fine =
     let h = replay_between config word (events ++ e ∷ []) (are_good_more config word events e good fine) in
     (h.started, subst (λ c. Tied (book (trace_of config word (events ++ e ∷ []))) (inner c h.started)) (state_more config word events e) h.between.sound.tied)
 
+-- a spent step gives out the last number
 pub spent_run_out : (config : Config) (word : ℕ) (events : List Event) (e : Event) → AreGood config word events → is_bad_after config word events e ≡ false → is_spent_after config word events e ≡ true → HasRunOut (book (trace_of config word (events ++ e ∷ [])))
 unfolding spends is_spent
 spent_run_out config word events e good fine spent =
@@ -222,6 +238,7 @@ spent_run_out config word events e good fine spent =
     let h = next_tied config word events e good fine in
     run_out_of (book (trace_of config word (events ++ e ∷ []))) (inner (turn c e.kind).core h.0) c.turns h.1 (turn_counted c e.kind) spent
 
+-- and one that gives it out is spent
 pub run_out_spent : (config : Config) (word : ℕ) (events : List Event) (e : Event) → AreGood config word events → is_bad_after config word events e ≡ false → HasRunOut (book (trace_of config word (events ++ e ∷ []))) → is_spent_after config word events e ≡ true
 unfolding spends is_spent
 run_out_spent config word events e good fine out =

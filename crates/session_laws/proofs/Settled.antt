@@ -59,11 +59,13 @@ same_shown before f w h tied = record {
   fresh = refl;
 }
 
+-- what the test of a life means
 dialing_is : (life : Life) → is_dialing life ≡ true → life ≡ Dialing
 dialing_is Dialing e = refl
 dialing_is (Ready link) e = cc
 dialing_is Ended e = cc
 
+-- and back
 is_dialing_of : (life : Life) → life ≡ Dialing → is_dialing life ≡ true
 is_dialing_of life e = ap is_dialing e
 
@@ -96,6 +98,7 @@ new_shown before f w p h fresh waits life =
       fresh = refl;
     }
 
+-- a request of this turn shows its wait, if it has one
 one_shown : (before : List Action) (f : Core) (w : Work) (p : ℕ) (h : HasWritten before f w) → w.conn.fresh ≡ p ∷ [] → HasShown before f (wait_shown (fresh_work w []) p)
 one_shown before f w p h fresh =
     let b = book (trace_of_acts before f w.acts) in

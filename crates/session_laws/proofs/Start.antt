@@ -48,9 +48,11 @@ after_start t link q qs = record t { life = Ready (with_queue (begun link q) qs)
 abbrev tried_at : ℕ → ℕ → ℕ → (ℕ → Story) → ℕ → Story
 tried_at m link k story n = if_own (m == n) (tried (story n) link k) (story n)
 
+-- one try more leaves each submission
 tried_submissions : (m link k : ℕ) (story : ℕ → Story) → SameSubmissions story (tried_at m link k story)
 tried_submissions m link k story n = chosen (λ (x : Story). (story n).submission ≡ x.submission) (m == n) (tried (story n) link k) (story n) (λ t. refl) (λ f. refl)
 
+-- and each outcome
 tried_outcomes : (m link k : ℕ) (story : ℕ → Story) → SameOutcomes story (tried_at m link k story)
 tried_outcomes m link k story n = chosen (λ (x : Story). (story n).outcomes ≡ x.outcomes) (m == n) (tried (story n) link k) (story n) (λ t. refl) (λ f. refl)
 
@@ -58,6 +60,7 @@ tried_outcomes m link k story n = chosen (λ (x : Story). (story n).outcomes ≡
 pub first_within : (story : ℕ → Story) (requests : List Request) (link : LinkState) (waiting : List Waiting) (started : List ℕ) (q : Queued) (qs : List Queued) → TiedLines story requests (with_queue link (q ∷ qs)) waiting [] started → q.id < length requests
 first_within story requests link waiting started q qs h = (rising_in 0 (started ++ (q.id ∷ (queue_ids qs ++ waiting_ids waiting))) (length requests) q.id h.line (in_right q.id started (q.id ∷ (queue_ids qs ++ waiting_ids waiting)) (inl refl))).1
 
+-- nor has it started
 pub first_new : (story : ℕ → Story) (requests : List Request) (link : LinkState) (waiting : List Waiting) (started : List ℕ) (q : Queued) (qs : List Queued) → TiedLines story requests (with_queue link (q ∷ qs)) waiting [] started → IsIn q.id started → ⊥
 first_new story requests link waiting started q qs h i = let k = rising_apart 0 started (q.id ∷ (queue_ids qs ++ waiting_ids waiting)) (length requests) q.id q.id h.line i (inl refl) in omega arith
 
@@ -65,14 +68,17 @@ first_new story requests link waiting started q qs h i = let k = rising_apart 0 
 same_start : (b : Book) (requests : List Request) (q : Queued) → IsQueued b.story requests q → message_of b (owner_of requests q.id) ≡ start_from (owner_of requests) q
 same_start b requests q h = λ i. record { owner = owner_of requests q.id; shape = sym h.is_of.shape_is i; bytes = sym h.is_of.packs i }
 
+-- the owners of starts, and of others
 owners-append : (xs ys : List Start) → owners_of (xs ++ ys) ≡ owners_of xs ++ owners_of ys
 owners-append [] ys = refl
 owners-append (x ∷ xs) ys = ap (λ os. x.owner ∷ os) (owners-append xs ys)
 
+-- the owners of requests, and of others
 owners_each-append : (requests : List Request) (xs ys : List ℕ) → owners_each requests (xs ++ ys) ≡ owners_each requests xs ++ owners_each requests ys
 owners_each-append requests [] ys = refl
 owners_each-append requests (x ∷ xs) ys = ap (λ os. owner_of requests x ∷ os) (owners_each-append requests xs ys)
 
+-- as many started as have started
 pub owners_length : (starts : List Start) (requests : List Request) (started : List ℕ) → owners_of starts ≡ owners_each requests started → length starts ≡ length started
 owners_length [] requests [] e = refl
 owners_length [] requests (p ∷ ps) e = cc
@@ -134,9 +140,11 @@ new_kept f g requests [] kept h = tt
 new_kept f g requests (p ∷ []) kept h = kept (name_at requests p) h
 new_kept f g requests (p ∷ q ∷ ps) kept h = h
 
+-- a link that is up is not dialing
 pub not_dialing : (link : LinkState) → Ready link ≡ Dialing → ⊥
 not_dialing link e = cc
 
+-- what is shown of waits stays
 tried_waits : (story : ℕ → Story) (requests : List Request) (link link' : LinkState) (fresh : List ℕ) (m k l : ℕ) → TiedWaits story requests (Ready link) fresh → TiedWaits (tried_at m k l story) requests (Ready link') fresh
 tried_waits story requests link link' fresh m k l h = record {
   new = new_kept story (tried_at m k l story) requests fresh (λ n none. chosen (λ (x : Story). x.waiting ≡ None) (m == n) (tried (story n) k l) (story n) (λ t. refl) (λ f. none)) h.new;
@@ -157,6 +165,7 @@ started_line b t m h i = (rising_in 0 t.started (length t.requests) m (rising_le
 queued_some : (b : Book) (t : Inner) (q : Queued) → Tied b t → q.id < length t.requests → IsQueued b.story t.requests q → q.packed ≢ []
 queued_some b t q h within is e = (request_story b t q.id h within).some (sym is.is_of.packs ∙ e)
 
+-- the session is tied to the book with one start more
 pub start_tied : (b : Book) (t : Inner) (link : LinkState) (q : Queued) (qs : List Queued) → Tied b (on_link t (with_queue link (q ∷ qs))) → Tied (entered b (start_action t link q)) (after_start t link q qs)
 start_tied b t link q qs h =
     let was = on_link t (with_queue link (q ∷ qs)) in

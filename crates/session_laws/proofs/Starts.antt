@@ -87,14 +87,17 @@ start_going trace t link q qs h =
 abbrev show_start : List Request → Started → LinkAct
 show_start requests s = act.Start s.msg (name_at requests s.id) s.need s.len
 
+-- and of all
 abbrev shows : List Request → List Started → List LinkAct
 shows requests [] = []
 shows requests (s ∷ ss) = show_start requests s ∷ shows requests ss
 
+-- one start more
 shows-append : (requests : List Request) (ss : List Started) (s : Started) → shows requests (ss ++ s ∷ []) ≡ shows requests ss ++ show_start requests s ∷ []
 shows-append requests [] s = refl
 shows-append requests (x ∷ ss) s = ap (λ more. show_start requests x ∷ more) (shows-append requests ss s)
 
+-- what is shown of starts
 pub shown_is : (w : Work) (ss : List Started) → shown_starts w ss ≡ record w { acts = w.acts ++ shows w.conn.requests ss }
 shown_is w [] = ap (λ (x : List LinkAct). record w { acts = x }) (sym (append-nil w.acts))
 shown_is w (s ∷ ss) = shown_is (acted w (show_start w.conn.requests s)) ss ∙ ap (λ (x : List LinkAct). record w { acts = x }) (append_assoc w.acts (show_start w.conn.requests s ∷ []) (shows w.conn.requests ss))

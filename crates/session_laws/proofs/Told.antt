@@ -39,6 +39,7 @@ use Rattle.session_laws.proofs.Tied.{Inner, Tied, TiedStory, inner}
 abbrev pub NoneTold : Book → Type 0
 NoneTold b = (n : ℕ) → IsTold (b.story n) → (b.story n).tries ≡ [] → ⊥
 
+-- no message may start
 abbrev pub NoneMoves : Book → Type 0
 NoneMoves b = (n : ℕ) → CanMove b n → ⊥
 
@@ -46,9 +47,11 @@ NoneMoves b = (n : ℕ) → CanMove b n → ⊥
 abbrev IsMoving : Story → (ℕ → Ledger) → Type 0
 IsMoving s link = (s.tries ≡ []) × IsAlive s × ((link s.link).up ≡ true)
 
+-- none can move
 none_moving : (b : Book) → NoneMoves b → (n : ℕ) → IsMoving (b.story n) b.link → ⊥
 none_moving b h n m = h n (record { unstarted = m.0; wanted = m.1; up = m.2 })
 
+-- who may start can move
 moving_of : (b : Book) (n : ℕ) → CanMove b n → IsMoving (b.story n) b.link
 moving_of b n m = (m.unstarted, m.wanted, m.up)
 
@@ -83,6 +86,7 @@ owed_fault b n none e = by_late (b.story n).late e
 line_up : (b : Book) (n : ℕ) (line : Line) (k : ℕ) → ((l : Ledger) → (noted l line).up ≡ true → l.up ≡ true) → (noted_each (b.link k) (if_mine (n == k) line)).up ≡ true → (b.link k).up ≡ true
 line_up b n line k kept = chosen (λ (ls : List Line). (noted_each (b.link k) ls).up ≡ true → (b.link k).up ≡ true) (n == k) (line ∷ []) [] (λ t. kept (b.link k)) (λ f e. e)
 
+-- no message may start, and none was told that has not started
 pub record IsQuiet (b : Book) : Type 0 where
   pub moves : NoneMoves b
   pub told : NoneTold b
@@ -95,6 +99,7 @@ outcome_moves b n o may h m c =
     (λ f k. none_moving b h m k)
     (moving_of (entered b (action.Outcome n o)) m c)
 
+-- and it tells none that has not started
 outcome_told : (b : Book) (n : ℕ) (o : Outcome) → MayAnswer b n o → NoneTold b → NoneTold (entered b (action.Outcome n o))
 outcome_told b n o may h m =
     chosen (λ (s : Story). IsTold s → s.tries ≡ [] → ⊥) (n == m) (answered (b.story m) o) (b.story m)
@@ -111,6 +116,7 @@ fault_told b n e h m =
     not_nil : (e : RedisError) → outcome.Fault e ≡ outcome.One Nil → ⊥
     not_nil e x = cc
 
+-- a start lets no other start
 start_moves : (b : Book) (l k n count len : ℕ) → NoneMoves b → NoneMoves (entered b (action.Start l k (owner.Try n 0) count len))
 start_moves b l k n count len h m c =
     let a = action.Start l k (owner.Try n 0) count len in
@@ -119,12 +125,14 @@ start_moves b l k n count len h m c =
     (λ f c. none_moving b h m (c.0, c.1, line_up b l (begins (message_of b (owner.Try n 0))) (b.story m).link (λ x e. e) c.2))
     (moving_of (entered b a) m c)
 
+-- nor tells anyone
 start_told : (b : Book) (l k n count len : ℕ) → NoneTold b → NoneTold (entered b (action.Start l k (owner.Try n 0) count len))
 start_told b l k n count len h m =
     chosen (λ (s : Story). IsTold s → s.tries ≡ [] → ⊥) (n == m) (tried (b.story m) l k) (b.story m)
     (λ t told none. some_more (b.story m).tries (record { link = l; message = k }) none)
     (λ f told none. h m told none)
 
+-- nor does a wait
 wait_moves : (b : Book) (n : ℕ) (kind : WaitKind) → NoneMoves b → NoneMoves (entered b (action.Wait (owner.Try n 0) kind))
 wait_moves b n kind h m c =
     chosen (λ (s : Story). IsMoving s b.link → ⊥) (n == m) (waits (b.story m) kind) (b.story m)
@@ -132,18 +140,22 @@ wait_moves b n kind h m c =
     (λ f k. none_moving b h m k)
     (moving_of (entered b (action.Wait (owner.Try n 0) kind)) m c)
 
+-- which tells none
 pub wait_told : (b : Book) (n : ℕ) (kind : WaitKind) → NoneTold b → NoneTold (entered b (action.Wait (owner.Try n 0) kind))
 wait_told b n kind h m =
     chosen (λ (s : Story). IsTold s → s.tries ≡ [] → ⊥) (n == m) (waits (b.story m) kind) (b.story m)
     (λ t told none. h m (record { unawaited = told.unawaited; told = told.told }) none)
     (λ f told none. h m told none)
 
+-- nor a close
 close_moves : (b : Book) (l : ℕ) → NoneMoves b → NoneMoves (entered b (action.Close l))
 close_moves b l h m c = none_moving b h m (c.unstarted, c.wanted, line_up b l (ends (b.turns - 1)) (b.story m).link (λ x e. absurd (cc e)) c.up)
 
+-- nor a write
 write_moves : (b : Book) (l : ℕ) (bytes : List ℕ) → NoneMoves b → NoneMoves (entered b (action.Write l bytes))
 write_moves b l bytes h m c = none_moving b h m (c.unstarted, c.wanted, line_up b l (offers bytes) (b.story m).link (λ x e. e) c.up)
 
+-- any act
 act_quiet : (b : Book) (l : ℕ) (a : LinkAct) → MayStand b (shown l a) → IsQuiet b → IsQuiet (entered b (shown l a))
 act_quiet b l act.Created may h = record { moves = λ m c. none_moving b h.moves m (c.unstarted, c.wanted, c.up); told = h.told }
 act_quiet b l act.Close may h = record { moves = close_moves b l h.moves; told = h.told }
@@ -166,6 +178,7 @@ IsPlain (event.Connected l) = ⊥
 IsPlain (event.Submit what) = ⊥
 IsPlain _ = Unit {0}
 
+-- it doesn't
 news_up : (l : Ledger) (n : News) → (n ≡ connected → ⊥) → (noted l (hears n)).up ≡ true → l.up ≡ true
 news_up l silence other e = e
 news_up l connected other e = absurd (other refl)
@@ -179,6 +192,7 @@ for_other : (mine : Bool) (x : News) → (x ≡ connected → ⊥) → for_link 
 for_other true x other e = other e
 for_other false x other e = cc
 
+-- what is told of it isn't a connect
 plain_news : (n : ℕ) (kind : EventKind) → IsPlain kind → news n kind ≡ connected → ⊥
 plain_news n (event.Submit what) p e = p
 plain_news n (event.Cancel m) p e = cc
@@ -197,6 +211,7 @@ left_moving s link =
     (λ t m. (m.0, elim m.1 [ inl o ↦ inl t | inr u ↦ inr (record { unawaited = u.unawaited; told = u.told }) ], m.2))
     (λ f m. m)
 
+-- of a plain event
 event_moving : (b : Book) (n : ℕ) (kind : EventKind) (link : ℕ → Ledger) → IsPlain kind → IsMoving (after_event b n kind) link → IsMoving (b.story n) link
 event_moving b n (event.Submit what) link p m = absurd p
 event_moving b n (event.Cancel k) link p m = chosen (λ (x : Story). IsMoving x link → IsMoving (b.story n) link) (k == n) (left (b.story n)) (b.story n) (λ t. left_moving (b.story n) link) (λ f m. m) m
@@ -212,12 +227,15 @@ event_moving b n event.Shutdown link p m = m
 abbrev IsUntried : Story → Type 0
 IsUntried s = IsTold s × (s.tries ≡ [])
 
+-- who was told before a leave
 left_told : (s : Story) → IsUntried (left s) → IsUntried s
 left_told s = chosen (λ (x : Story). IsUntried x → IsUntried s) (is_open s) (record s { cancelled = true; waiting = None }) s (λ t m. (record { unawaited = m.0.unawaited; told = m.0.told }, m.1)) (λ f m. m)
 
+-- a new submission was told nothing
 handed_told : (s : Story) (what : Submission) (late : Bool) (link : ℕ) → s ≡ blank_story → IsUntried (handed_in s what late link) → ⊥
 handed_told s what late link blank m = let no : [] ≡ outcome.One Nil ∷ [] = sym (ap (λ (x : Story). x.outcomes) blank) ∙ m.0.told in cc
 
+-- of any event
 event_told : (b : Book) (n : ℕ) (kind : EventKind) → b.story b.submissions ≡ blank_story → IsUntried (after_event b n kind) → IsUntried (b.story n)
 event_told b n (event.Submit what) blank m =
     chosen (λ (x : Story). IsUntried x → IsUntried (b.story n)) (b.submissions == n) (handed_in (b.story n) what b.shut (current b)) (b.story n)
@@ -236,9 +254,11 @@ event_told b n event.Shutdown blank m = m
 next_blank : (b : Book) (t : Inner) → Tied b t → b.story b.submissions ≡ blank_story
 next_blank b t h = subst (TiedStory (b.story b.submissions) t.requests t.link) (ap (slice_get t.table) h.numbers.submissions ∙ get_beyond t.table (length t.table) (omega arith)) (h.story b.submissions)
 
+-- a turn tells none
 pub turn_told : (b : Book) (t : Inner) (number : ℕ) (e : Event) → Tied b t → NoneTold b → NoneTold (entered b (action.Turn number (cause.Event e)))
 turn_told b t number e h none n told untried = let m = event_told b n e.kind (next_blank b t h) (told, untried) in none n m.0 m.1
 
+-- and lets none start, where its event is plain
 turn_moves : (b : Book) (number : ℕ) (e : Event) → IsPlain e.kind → NoneMoves b → NoneMoves (entered b (action.Turn number (cause.Event e)))
 turn_moves b number e plain none n c =
     let after = entered b (action.Turn number (cause.Event e)) in
@@ -251,6 +271,7 @@ turn_moves b number e plain none n c =
 abbrev TellsNone : Book → Turning → Type 0
 TellsNone b t = NoneTold (entered_each b (shown_each t.core.single.link t.acts))
 
+-- a submission
 submitted_told : (b : Book) (t : Turning) (what : Submission) → t.acts ≡ [] → NoneTold b → TellsNone b (submitted t what)
 submitted_told b t what none h =
     chosen (TellsNone b) t.core.shut (refused t error.Closed) (if length (packed what) == 0 then refused t error.EmptyCommand else asked_for t what)
@@ -272,9 +293,11 @@ connected_told b f w Ended none h = subst (λ (x : List LinkAct). NoneTold (ente
 abbrev turn_book : Book → ℕ → ℕ → EventKind → Book
 turn_book b number word kind = entered b (action.Turn number (cause.Event (record { word = word; kind = kind })))
 
+-- the acts of an effect may stand
 abbrev EffectStands : Book → Core → EventKind → Type 0
 EffectStands b c kind = let t = effect (counted c) kind in AllStand b (shown_each t.core.single.link t.acts)
 
+-- a plain event
 plain_told : (b : Book) (c : Core) (number word : ℕ) (kind : EventKind) (started : List ℕ) → IsPlain kind → Tied b (inner c started) → NoneMoves b → NoneTold b → EffectStands (turn_book b number word kind) c kind
     → TellsNone (turn_book b number word kind) (effect (counted c) kind)
 plain_told b c number word kind started plain h moves none stands =

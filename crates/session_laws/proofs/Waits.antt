@@ -28,6 +28,7 @@ use Rattle.session_laws.proofs.Tied.{Inner, IsRequest, Tied, TiedLife, link_in, 
 abbrev pub with_fresh : Inner → List ℕ → Inner
 with_fresh t fresh = record t { fresh = fresh }
 
+-- the action that shows a wait
 abbrev pub wait_action : ℕ → Action
 wait_action n = action.Wait (owner.Try n 0) wait.Connect
 
@@ -35,21 +36,27 @@ wait_action n = action.Wait (owner.Try n 0) wait.Connect
 abbrev waits_at : ℕ → (ℕ → Story) → ℕ → Story
 waits_at m story n = if_own (m == n) (waits_now (story n) wait.Connect) (story n)
 
+-- a wait leaves each submission
 waits_submissions : (m : ℕ) (story : ℕ → Story) → SameSubmissions story (waits_at m story)
 waits_submissions m story n = chosen (λ (x : Story). (story n).submission ≡ x.submission) (m == n) (waits_now (story n) wait.Connect) (story n) (λ t. refl) (λ f. refl)
 
+-- each outcome
 waits_outcomes : (m : ℕ) (story : ℕ → Story) → SameOutcomes story (waits_at m story)
 waits_outcomes m story n = chosen (λ (x : Story). (story n).outcomes ≡ x.outcomes) (m == n) (waits_now (story n) wait.Connect) (story n) (λ t. refl) (λ f. refl)
 
+-- and each try
 waits_tries : (m : ℕ) (story : ℕ → Story) (n : ℕ) → (story n).tries ≡ (waits_at m story n).tries
 waits_tries m story n = chosen (λ (x : Story). (story n).tries ≡ x.tries) (m == n) (waits_now (story n) wait.Connect) (story n) (λ t. refl) (λ f. refl)
 
+-- a request is one still
 waits_request : (s : Story) (requests : List Request) (link p : ℕ) → IsRequest s requests link p → IsRequest (waits_now s wait.Connect) requests link p
 waits_request s requests link p h = record { what = h.what; handed_in = h.handed_in; in_time = h.in_time; on = h.on; some = h.some; open_is = h.open_is }
 
+-- lists of one
 same_one : (p q : ℕ) → p ∷ [] ≡ q ∷ [] → p ≡ q
 same_one p q e = cc
 
+-- its wait is shown then, and every other that was
 waits_shown_then : (story : ℕ → Story) (requests : List Request) (p q : ℕ) → (p ∷ [] ≡ q ∷ []) ⊎ ((story (name_at requests q)).waiting ≡ Some wait.Connect) → (waits_at (name_at requests p) story (name_at requests q)).waiting ≡ Some wait.Connect
 waits_shown_then story requests p q h =
     let m = name_at requests p in
@@ -58,6 +65,7 @@ waits_shown_then story requests p q h =
     (λ t. refl)
     (λ f. elim h [ inl e ↦ absurd (ne_from m n f (ap (name_at requests) (same_one p q e))) | inr e ↦ e ])
 
+-- the session is tied to the book with one wait more
 pub wait_tied : (b : Book) (t : Inner) (p : ℕ) → p < length t.requests → Tied b (with_fresh t (p ∷ [])) → Tied (entered b (wait_action (name_at t.requests p))) (with_fresh t [])
 wait_tied b t p within h =
     let n = name_at t.requests p in
@@ -120,6 +128,7 @@ dialing_holds b t p h life within =
     let d = subst (λ (x : Life). TiedLife (b.link t.link) b.created x) life h.life in
     subst (λ l. ((b.link l).asked ≡ true) × ((b.link l).up ≡ false) × ((b.link l).end ≡ None)) (sym r.on) (d.0, d.1, d.2)
 
+-- so the wait may be shown
 pub wait_may : (b : Book) (t : Inner) (p : ℕ) → Tied b (with_fresh t (p ∷ [])) → t.pending ≡ [] → t.life ≡ Dialing → is_waiting_at t.requests p ≡ true → IsWritten b → MayWait b (name_at t.requests p) wait.Connect
 wait_may b t p h none life w written =
     let now = with_fresh t (p ∷ []) in

@@ -66,6 +66,7 @@ all_offered_can o = none_of (length o.unwritten == 0)
     none_of true = refl
     none_of false = refl
 
+-- a link that is up can't offer
 abbrev pub IsOfferedIn : Life → Type 0
 IsOfferedIn life = (link : LinkState) → life ≡ Ready link → can_offer link.outbox ≡ false
 
@@ -78,9 +79,11 @@ pub record HasWritten (before : List Action) (f : Core) (w : Work) : Type 0 wher
 pub moved_book : (before : List Action) (f : Core) (w : Work) → HasMoved before f w → IsMoved (book (trace_of_acts before f w.acts))
 moved_book before f w h = is_moved (book (trace_of_acts before f w.acts)) (seen f w.conn [] h.started) h.holds.tied refl h.ended h.told h.whole h.waiting
 
+-- the link of a life
 same_link : (link other : LinkState) → Ready link ≡ Ready other → link ≡ other
 same_link link other e = cc
 
+-- all unwritten bytes are offered
 write_shown : (before : List Action) (f : Core) (w : Work) (link : LinkState) → w.conn.life ≡ Ready link → can_offer link.outbox ≡ true → HasMoved before f w → HasWritten before f (acted (with_link w (offered_of link)) (act.Write link.outbox.unwritten))
 write_shown before f w link life can h =
     let b = book (trace_of_acts before f w.acts) in
@@ -125,6 +128,7 @@ up_offered b t h offered up = by_life t.life refl
         let tied = subst (λ (x : Life). TiedLink (owner_of t.requests) (b.link t.link) (link_in x)) e (h.link (λ x. (let no : Ready link ≡ Ended = sym e ∙ x in cc))) in
         is_offered (owner_of t.requests) (b.link t.link) link (offered link e) tied
 
+-- so the book has all its writes
 pub is_written : (b : Book) (t : Inner) → Tied b t → IsMoved b → IsOfferedIn t.life → IsWritten b
 is_written b t h moved offered = record {
   moved = moved;
