@@ -62,6 +62,7 @@ can_take Dialing count f = tt
 can_take (Ready link) count f = not_lt_from link.outbox.offered count f
 can_take Ended count f = tt
 
+-- of the link that the event names
 can_take_from : (c : Core) (l count : ℕ) → l ≡ c.single.link → ((l == c.single.link) && takes_too_much c.single.connection.life count) ≡ false → CanTake c.single.connection.life count
 can_take_from c l count own f = can_take c.single.connection.life count (sym (λ i. eq_test l c.single.link own i && takes_too_much c.single.connection.life count) ∙ f)
 

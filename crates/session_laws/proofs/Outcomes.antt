@@ -14,7 +14,6 @@ use Rattle.driver_model.specs.declared.event.EventKind.{EventKind}
 use Rattle.driver_model.specs.declared.event.EventKind.TheVariants as event
 use Rattle.driver_model.specs.declared.event.Submission.{Submission}
 use Rattle.driver_model.specs.declared.outcome.Outcome.{Outcome}
-use Rattle.link_core.specs.Link.{cancelled}
 use Rattle.shared_session.specs.Replay.{if_placed, outcome_at, outcomes_in, told, told_each, with_room}
 use Rattle.legal_trace.specs.Book.{Book, blank_book, book, current, entered_each}
 use Rattle.legal_trace.specs.Legal.{AllStand, IsOpen, MayStand}
