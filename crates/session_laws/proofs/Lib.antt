@@ -36,3 +36,4 @@ pub mod Settled
 pub mod Legality
 pub mod Opening
 pub mod Outcomes
+pub mod RunOut

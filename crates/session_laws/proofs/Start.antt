@@ -73,7 +73,7 @@ owners_each-append : (requests : List Request) (xs ys : List ℕ) → owners_eac
 owners_each-append requests [] ys = refl
 owners_each-append requests (x ∷ xs) ys = ap (λ os. owner_of requests x ∷ os) (owners_each-append requests xs ys)
 
-owners_length : (starts : List Start) (requests : List Request) (started : List ℕ) → owners_of starts ≡ owners_each requests started → length starts ≡ length started
+pub owners_length : (starts : List Start) (requests : List Request) (started : List ℕ) → owners_of starts ≡ owners_each requests started → length starts ≡ length started
 owners_length [] requests [] e = refl
 owners_length [] requests (p ∷ ps) e = cc
 owners_length (s ∷ ss) requests [] e = cc
