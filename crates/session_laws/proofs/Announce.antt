@@ -35,12 +35,6 @@ use Rattle.session_laws.proofs.Settle.{seen, trace_of_acts, Holds}
 offered_length : (l : Ledger) (s : LinkState) (requests : List Request) → TiedLink (owner_of requests) l s → length l.offer ≡ s.outbox.offered
 offered_length l s requests h = ap length h.offer ∙ (let e = length-take s.outbox.offered s.outbox.unwritten in let b = h.bound in omega arith)
 
--- what is too much for a link that has not ended
-takes_of_link : (life : Life) (count : ℕ) → life ≢ Ended → takes_too_much life count ≡ nat_lt (link_in life).outbox.offered count
-takes_of_link Dialing count n = refl
-takes_of_link (Ready link) count n = refl
-takes_of_link Ended count n = absurd (n refl)
-
 -- the connection's link can't take so much
 too_much : (l : Ledger) (created : ℕ) (life : Life) (requests : List Request) (count : ℕ) → TiedLife l created life → (life ≢ Ended → TiedLink (owner_of requests) l (link_in life)) → (not (is_over l) && nat_lt (length l.offer) count) ≡ takes_too_much life count
 too_much l created Dialing requests count h link = (λ i. not (is_some (h.2 i)) && nat_lt (offered_length l (link_in Dialing) requests (link (λ e. cc)) i) count)

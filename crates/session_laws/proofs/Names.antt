@@ -47,10 +47,6 @@ renamed_at (x ∷ xs) (suc p) (suc m) r e = renamed_at xs p m r e
 pub name_still : (requests : List Request) (p : ℕ) (now : Progress) (m : ℕ) → name_at (at_progress requests p now) m ≡ name_at requests m
 name_still requests p now m = renamed_at requests p m (record { name = name_at requests p; progress = now }) refl
 
--- and all of them at once
-pub names_still : (requests : List Request) (p : ℕ) (now : Progress) → name_at (at_progress requests p now) ≡ name_at requests
-names_still requests p now = λ i m. name_still requests p now m i
-
 -- and so do owners
 pub owners_still : (requests : List Request) (p : ℕ) (now : Progress) → owner_of (at_progress requests p now) ≡ owner_of requests
 owners_still requests p now = λ i m. owner.Try (name_still requests p now m i) 0

@@ -4,9 +4,7 @@ use Rattle.std.proofs.Common.{Bool, List, None, Option, Some, [], ap, arith, fal
 use Rattle.std.specs.Prelude.{if◌then◌else◌, ◌==◌, ◌^◌, ◌||◌}
 use Rattle.containers.proofs.Places.{get_within}
 use Rattle.containers.proofs.Tests.{by_test, chosen, eq_from, le_from, le_test, ne_from}
-use Rattle.resp_value.specs.Data.{error}
 use Rattle.redis_error.specs.declared.redis_error.RedisError.TheVariants as error
-use Rattle.resp_read.specs.Grammar.{number}
 use Rattle.driver_model.specs.Request.{packed}
 use Rattle.driver_model.specs.declared.config.Config.{Config}
 use Rattle.driver_model.specs.declared.event.Event.{Event}
@@ -96,17 +94,17 @@ names_rising lo [] hi within rise least = least
 names_rising lo (r ∷ rs) hi within rise least = (
   (within 0 r refl).0,
   names_rising (suc r.name) rs hi
-  (λ p s e. let l = rise 0 (suc p) r s (omega arith) refl e in let k = within (suc p) s e in (omega arith, k.1))
-  (λ p q s t l e i. rise (suc p) (suc q) s t (omega arith) e i)
-  (let k = (within 0 r refl).1 in omega arith),
+      (λ p s e. let l = rise 0 (suc p) r s (omega arith) refl e in let k = within (suc p) s e in (omega arith, k.1))
+      (λ p q s t l e i. rise (suc p) (suc q) s t (omega arith) e i)
+      (let k = (within 0 r refl).1 in omega arith),
 )
 
 -- a session has no more requests than submissions
 requests_fewer : (b : Book) (t : Inner) → Tied b t → length t.requests ≤ length t.table
 requests_fewer b t h =
     let rises = names_rising 0 t.requests (length t.table)
-        (λ p r e. (omega arith, get_within t.table r.name (Some (record { number = p })) (h.names.named p r e)))
-        h.names.rising (omega arith) in
+    (λ p r e. (omega arith, get_within t.table r.name (Some (record { number = p })) (h.names.named p r e)))
+    h.names.rising (omega arith) in
     let l = rising_length 0 (names_of t.requests) (length t.table) rises in
     let k = names_length t.requests in
     omega arith
