@@ -35,11 +35,6 @@ use Rattle.session_laws.proofs.Settle.{seen, trace_of_acts, Holds}
 offered_length : (l : Ledger) (s : LinkState) (requests : List Request) → TiedLink (owner_of requests) l s → length l.offer ≡ s.outbox.offered
 offered_length l s requests h = ap length h.offer ∙ (let e = length-take s.outbox.offered s.outbox.unwritten in let b = h.bound in omega arith)
 
-takes_of_link : (life : Life) (count : ℕ) → life ≢ Ended → takes_too_much life count ≡ nat_lt (link_in life).outbox.offered count
-takes_of_link Dialing count n = refl
-takes_of_link (Ready link) count n = refl
-takes_of_link Ended count n = absurd (n refl)
-
 -- the connection's link can't take so much
 too_much : (l : Ledger) (created : ℕ) (life : Life) (requests : List Request) (count : ℕ) → TiedLife l created life → (life ≢ Ended → TiedLink (owner_of requests) l (link_in life)) → (not (is_over l) && nat_lt (length l.offer) count) ≡ takes_too_much life count
 too_much l created Dialing requests count h link = (λ i. not (is_some (h.2 i)) && nat_lt (offered_length l (link_in Dialing) requests (link (λ e. cc)) i) count)
@@ -73,6 +68,7 @@ same_badness b c started (event.Wrote l count) h =
 abbrev pub turn_of : Core → ℕ → EventKind → Action
 turn_of c word kind = action.Turn c.turns (cause.Event (record { word = word; kind = kind }))
 
+-- a good event may have its turn after a settled one
 pub may_turn : (before : List Action) (c : Core) (started : List ℕ) (word : ℕ) (kind : EventKind) → Between before c started → is_bad c kind ≡ false → MayTurn (book before) c.turns (cause.Event (record { word = word; kind = kind }))
 may_turn before c started word kind h good =
     let k = h.sound.tied in
@@ -87,6 +83,7 @@ may_turn before c started word kind h good =
 elsewhere_of : (c : Core) (l m : ℕ) (n : News) → ((k : ℕ) → k < c.links → k ≡ c.single.link) → is_no_link c l ≡ false → m ≢ c.single.link → for_link (l == m) n ≡ silence
 elsewhere_of c l m n only here other = left_if (l == m) n silence (ne_test l m (λ e. other (sym e ∙ only l (not_le_from c.links l here))))
 
+-- whatever the event is
 elsewhere : (c : Core) (m : ℕ) (kind : EventKind) → ((k : ℕ) → k < c.links → k ≡ c.single.link) → is_bad c kind ≡ false → m ≢ c.single.link → (news m kind ≡ silence) ⊎ (news m kind ≡ shut)
 unfolding is_bad
 elsewhere c m (event.Submit what) only good other = inl refl
@@ -104,6 +101,7 @@ unknown_heard : (l : Ledger) (n : News) → (n ≡ silence) ⊎ (n ≡ shut) →
 unknown_heard l n (inl e) h = subst (λ (x : News). IsUnknown (noted l (hears x))) (sym e) (record { asked = h.asked; up = h.up; end = h.end; starts = h.starts })
 unknown_heard l n (inr e) h = subst (λ (x : News). IsUnknown (noted l (hears x))) (sym e) (record { asked = h.asked; up = h.up; end = h.end; starts = h.starts })
 
+-- so all other links stay unknown
 pub others_heard : (b : Book) (c : Core) (started : List ℕ) (kind : EventKind) → Tied b (inner c started) → is_bad c kind ≡ false → (m : ℕ) → m ≢ c.single.link → IsUnknown (noted (b.link m) (hears (news m kind)))
 others_heard b c started kind h good m other = unknown_heard (b.link m) (news m kind) (elsewhere c m kind h.numbers.only good other) (h.others m other)
 
@@ -122,6 +120,7 @@ heard_starts l shut = refl
 
 -- the turn of an event that neither hands in nor cancels
 --
+-- the event neither hands in nor cancels
 abbrev pub IsNewsKind : EventKind → Type 0
 IsNewsKind (event.Submit what) = ⊥
 IsNewsKind (event.Cancel n) = ⊥
@@ -146,6 +145,7 @@ heard_book b word kind = record b {
 still_as_many : (b : Book) (word : ℕ) (kind : EventKind) → record (heard_book b word kind) { submissions = b.submissions + 0 } ≡ heard_book b word kind
 still_as_many b word kind = let e : b.submissions + 0 ≡ b.submissions = omega arith in λ i. record (heard_book b word kind) { submissions = e i }
 
+-- the book with its turn is that book
 pub heard_is : (b : Book) (number word : ℕ) (kind : EventKind) → IsNewsKind kind → entered b (action.Turn number (cause.Event (record { word = word; kind = kind }))) ≡ heard_book b word kind
 heard_is b number word (event.Submit what) k = absurd k
 heard_is b number word (event.Cancel n) k = absurd k
@@ -192,6 +192,7 @@ heard_tied b c started word created kind life pending l h good is same lived lin
 
 -- the trace begins
 --
+-- the turn stands, and the session is tied to its book
 pub announced_sound : (before : List Action) (c : Core) (started : List ℕ) (word : ℕ) (kind : EventKind) (t : Inner) → Between before c started → is_bad c kind ≡ false → Tied (entered (book before) (turn_of c word kind)) t → Sound (before ++ turn_of c word kind ∷ []) t
 announced_sound before c started word kind t h good tied = sound_more before (turn_of c word kind) t h.sound.stands (may_turn before c started word kind h good) tied
 
@@ -199,5 +200,6 @@ announced_sound before c started word kind t h good tied = sound_more before (tu
 pub holds_first : (before : List Action) (f : Core) (conn : MultiplexedConnection) (pending started : List ℕ) → Sound before (seen f conn pending started) → Holds before f (record { conn = conn; acts = [] }) pending started
 holds_first before f conn pending started h = subst (λ (x : List Action). Sound x (seen f conn pending started)) (sym (append-nil before)) h
 
+-- the book of a turn without acts
 pub first_book : (before : List Action) (a : Action) (f : Core) → book (trace_of_acts (before ++ a ∷ []) f []) ≡ entered (book before) a
 first_book before a f = ap book (append-nil (before ++ a ∷ [])) ∙ book_more before a

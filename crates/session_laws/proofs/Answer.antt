@@ -52,13 +52,16 @@ may_answer b t p o h e owes before after =
 pub not_up_ends : (l : Ledger) → l.up ≡ false → (l.asked && not (is_over l)) ≡ false → ending l ≡ None
 not_up_ends l down no_dial = left_if l.up (ending_up l l.heard) _ down ∙ left_if (l.asked && not (is_over l)) (ending_asked l.heard) None no_dial
 
+-- nor what was never asked for
 pub unknown_ends : (l : Ledger) → IsUnknown l → ending l ≡ None
 unknown_ends l h = not_up_ends l h.up (ap (λ a. a && not (is_over l)) h.asked)
 
+-- what is not none is some
 pub some_end : (x : Option End) → x ≢ None → is_some x ≡ true
 some_end None n = absurd (n refl)
 some_end (Some e) n = refl
 
+-- what is over is not waited for
 pub over_not_asked : (l : Ledger) → l.end ≢ None → (l.asked && not (is_over l)) ≡ false
 over_not_asked l n = ap (λ o. l.asked && not o) (some_end l.end n) ∙ none_of l.asked
   where
@@ -66,6 +69,7 @@ over_not_asked l n = ap (λ o. l.asked && not o) (some_end l.end n) ∙ none_of 
     none_of true = refl
     none_of false = refl
 
+-- a connection that has ended has a link that is over
 ended_over : (l : Ledger) (created : ℕ) (life : Life) → life ≡ Ended → TiedLife l created life → is_over l ≡ true
 ended_over l created Dialing over h = cc
 ended_over l created (Ready link) over h = cc

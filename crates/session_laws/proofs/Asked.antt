@@ -57,15 +57,19 @@ refused_applied before c started word what e h good why =
 
 -- it is the next request
 --
+-- the next request
 abbrev new_request : Core → Request
 new_request c = record { name = length c.table; progress = progress.Waiting }
 
+-- the requests with it
 abbrev more_requests : Core → List Request
 more_requests c = c.single.connection.requests ++ new_request c ∷ []
 
+-- how it waits
 abbrev new_waiting : Core → Submission → Waiting
 new_waiting c what = waiting_of (length c.single.connection.requests) (packed what) (shape_of what) (awaits_reply what)
 
+-- who waits then
 waiting_more : (waiting : List Waiting) (w : Waiting) → waiting_ids (waiting ++ w ∷ []) ≡ waiting_ids waiting ++ w.number ∷ []
 waiting_more [] w = refl
 waiting_more (x ∷ waiting) w = ap (λ ns. x.number ∷ ns) (waiting_more waiting w)
@@ -74,9 +78,11 @@ waiting_more (x ∷ waiting) w = ap (λ ns. x.number ∷ ns) (waiting_more waiti
 last_named : (c : Core) → name_at (more_requests c) (length c.single.connection.requests) ≡ length c.table
 last_named c = ap name_or_none (get_last c.single.connection.requests (new_request c))
 
+-- it is open
 last_open : (c : Core) → is_open_at (more_requests c) (length c.single.connection.requests) ≡ true
 last_open c = ap (if_there is_open_progress) (get_last c.single.connection.requests (new_request c))
 
+-- it waits
 last_waiting : (c : Core) → is_waiting_at (more_requests c) (length c.single.connection.requests) ≡ true
 last_waiting c = ap (if_there is_waiting) (get_last c.single.connection.requests (new_request c))
 
@@ -96,6 +102,7 @@ asked_line c what started queue r =
     append_assoc started (queue ++ last) (n ∷ []) ∙ ap (λ ns. started ++ ns) (append_assoc queue last (n ∷ []) ∙ ap (λ ns. queue ++ ns) (sym (waiting_more c.single.connection.waiting (new_waiting c what)))) in
     subst (λ ns. Rising 0 ns (length (more_requests c))) line (subst (Rising 0 ((started ++ (queue ++ last)) ++ n ∷ [])) long (rising_next 0 (started ++ (queue ++ last)) n r))
 
+-- it stands at the end of the line
 asked_lines : (b : Book) (c : Core) (started : List ℕ) (what : Submission) → Tied b (inner c started) → TiedLines (stories_with b what) (more_requests c) (link_in c.single.connection.life) (c.single.connection.waiting ++ new_waiting c what ∷ []) [] started
 asked_lines b c started what h =
     let conn = c.single.connection in
@@ -125,6 +132,7 @@ asked_lines b c started what h =
           inr (ap (is_waiting_at (more_requests c)) is ∙ last_waiting c, in_last p (in_right p last (n ∷ []) (inl (sym is)))));
     }
 
+-- its wait is not shown yet
 asked_waits : (b : Book) (c : Core) (started : List ℕ) (what : Submission) → Tied b (inner c started) → c.single.connection.fresh ≡ [] → TiedWaits (stories_with b what) (more_requests c) c.single.connection.life (c.single.connection.fresh ++ length c.single.connection.requests ∷ [])
 asked_waits b c started what h no_fresh =
     let conn = c.single.connection in
@@ -147,6 +155,7 @@ asked_waits b c started what h no_fresh =
 abbrev core_asked : Core → Submission → Core
 core_asked c what = record (turned c (event.Submit what)) { table = c.table ++ Some (pending (length c.single.connection.requests)) ∷ [] }
 
+-- the session is tied with it
 asked_tied : (b : Book) (c : Core) (started : List ℕ) (word : ℕ) (what : Submission) → Tied b (inner c started) → c.single.connection.fresh ≡ [] → b.shut ≡ false → packed what ≢ []
     → Tied (entered b (turn_of c word (event.Submit what))) (seen (core_asked c what) (asked c.single.connection (length c.table) (packed what) (shape_of what) (awaits_reply what)) [] started)
 asked_tied b c started word what h no_fresh up some =
@@ -187,6 +196,7 @@ asked_tied b c started word what h no_fresh up some =
       waits = asked_waits b c started what h no_fresh;
     }
 
+-- no act is shown
 pub asked_applied : (before : List Action) (c : Core) (started : List ℕ) (word : ℕ) (what : Submission) → Between before c started → is_bad c (event.Submit what) ≡ false → (book before).shut ≡ false → packed what ≢ []
     → HasApplied (before ++ turn_of c word (event.Submit what) ∷ []) (asked_for (heard (counted c) (event.Submit what)) what) started
 asked_applied before c started word what h good up some =
@@ -196,13 +206,16 @@ asked_applied before c started word what h good up some =
 
 -- one or the other
 --
+-- nothing more is shut
 or_none : (a : Bool) → (a || false) ≡ a
 or_none true = refl
 or_none false = refl
 
+-- what has a length is not empty
 some_bytes : (bytes : List ℕ) → (length bytes == 0) ≡ false → bytes ≢ []
 some_bytes bytes f e = not_both (length bytes == 0) f (ap (λ (bs : List ℕ). length bs == 0) e)
 
+-- a submission, whichever it is
 pub submit_applied : (before : List Action) (c : Core) (started : List ℕ) (word : ℕ) (what : Submission) → Between before c started → is_bad c (event.Submit what) ≡ false
     → HasApplied (before ++ turn_of c word (event.Submit what) ∷ []) (effect (counted c) (event.Submit what)) started
 submit_applied before c started word what h good =

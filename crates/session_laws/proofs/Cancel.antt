@@ -42,11 +42,13 @@ use Rattle.session_laws.proofs.Heard.{silent_applied, told_life, silent_no_end}
 
 -- one who leaves closes its story
 --
+-- one who has gone is not open
 gone_closed : (a b : Bool) → (a && b && false) ≡ false
 gone_closed true true = refl
 gone_closed true false = refl
 gone_closed false b = refl
 
+-- the story of one who leaves closes
 leave_closes : (s : Story) → Closes s (left s)
 leave_closes s = chosen (Closes s) (is_open s) (record s { cancelled = true; waiting = None }) s
     (λ t. record { submission = refl; late = refl; link = refl; tries = refl; closed = gone_closed (is_some s.submission) (length s.outcomes == 0); quiet = λ e. refl })
@@ -114,16 +116,19 @@ left_lines story requests link waiting p started closed l empty c r h =
 
 -- by the life of the link
 --
+-- the link is as far as it was
 left_life : (l : Ledger) (created : ℕ) (life : Life) (p : ℕ) → TiedLife l created life → TiedLife (record l { heard = silence }) created (cancelled_in life p)
 left_life l created Dialing p h = h
 left_life l created (Ready link) p h = h
 left_life l created Ended p h = h
 
+-- and tied to its ledger
 left_link : (name : ℕ → Owner) (l : Ledger) (life : Life) (p : ℕ) → (life ≢ Ended → TiedLink name l (link_in life)) → cancelled_in life p ≢ Ended → TiedLink name (record l { heard = silence }) (link_in (cancelled_in life p))
 left_link name l Dialing p h n = told_tied name l (link_in Dialing) l.asked l.up silence (h (λ e. cc))
 left_link name l (Ready link) p h n = told_tied name l (cancelled link p) l.asked l.up silence (cancelled_tied name l link p (h (λ e. cc)))
 left_link name l Ended p h n = absurd (n refl)
 
+-- what dials has dialled before
 still_dials : (life : Life) (p : ℕ) → cancelled_in life p ≡ Dialing → life ≡ Dialing
 still_dials Dialing p e = refl
 still_dials (Ready link) p e = cc
@@ -136,6 +141,7 @@ bare_lines story requests waiting p started closed l c h =
     let k = left_lines story requests new_link waiting p started closed l refl c (rising_right 0 started (waiting_ids waiting) (length requests) h.line) h in
     record { line = k.line; queued = k.queued; entries = k.entries; packs = k.packs; there = k.there }
 
+-- the lines of the others, by the life of the link
 left_lines_in : (story : ℕ → Story) (requests : List Request) (life : Life) (waiting : List Waiting) (p : ℕ) (started : List ℕ) (closed : ℕ → Story) → p < length requests → IsWholeIn life → ((n : ℕ) → Closes (story n) (closed n))
     → (life ≢ Ended → Rising 0 (row_ids (link_in life).row ++ (queue_ids (link_in life).queue ++ waiting_ids waiting)) (length requests)) → TiedLines story requests (link_in life) waiting [] started
     → TiedLines (with_closed story requests p closed) (at_progress requests p progress.Closed) (link_in (cancelled_in life p)) waiting [] started
@@ -143,6 +149,7 @@ left_lines_in story requests (Ready link) waiting p started closed l whole c r h
 left_lines_in story requests Dialing waiting p started closed l whole c r h = bare_lines story requests waiting p started closed l c h
 left_lines_in story requests Ended waiting p started closed l whole c r h = bare_lines story requests waiting p started closed l c h
 
+-- the link is whole
 left_whole : (life : Life) (p : ℕ) → IsWholeIn life → IsWholeIn (cancelled_in life p)
 left_whole Dialing p h = h
 left_whole Ended p h = h
@@ -180,6 +187,7 @@ stays_left b n f m = chosen (λ (s : Story). s ≡ b.story m) (n == m) (left (b.
     (λ t. left_if (is_open (b.story m)) _ (b.story m) (ap (λ k. is_open (b.story k)) (sym (eq_from n m t)) ∙ f))
     (λ o. refl)
 
+-- and the session is tied as it was
 unmoved_tied : (b : Book) (c : Core) (started : List ℕ) (word n : ℕ) → Tied b (inner c started) → is_open (b.story n) ≡ false → Tied (entered b (turn_of c word (event.Cancel n))) (seen (turned c (event.Cancel n)) c.single.connection [] started)
 unmoved_tied b c started word n h f =
     let conn = c.single.connection in

@@ -57,6 +57,7 @@ close_lines story requests link waiting pending started ids h = record {
   ];
 }
 
+-- the session is tied to the book with the end of the link
 pub close_tied : (b : Book) (t : Inner) (pending : List ℕ) → pending ≡ wanted (link_in t.life).row ++ awaited_ids (link_in t.life).queue → Tied b (record t { pending = [] })
     → Tied (entered b (action.Close t.link)) (record t { life = Ended; pending = pending })
 close_tied b t pending ids h =
@@ -84,6 +85,7 @@ close_in_line requests link waiting pending ids r =
 
 -- what is due then
 --
+-- each message that was settled is due what it came to
 due_each : (b : Book) (t : Inner) (ss : List Settled) → Tied b t → ((n : ℕ) → IsIn n (settled_ids ss) → n < length t.requests) → AllByRecursion (IsOwed (owner_of t.requests) (b.link t.link)) ss → AllByRecursion (IsDue (owed b) (name_at t.requests)) ss
 due_each b t [] h within all = tt
 due_each b t (s ∷ ss) h within all = (settled_owed b t s h (within s.id (inl refl)) all.0, due_each b t ss h (λ n i. within n (inr i)) all.1)
@@ -93,6 +95,7 @@ pub pending_due : (b : Book) (t : Inner) (ss : List Settled) → Tied b t → Is
     → AllByRecursion (IsDue (owed b) (name_at t.requests)) ss
 pending_due b t ss h r all = due_each b t ss h (λ n i. let k = rising_in 0 (settled_ids ss ++ line_of (link_in t.life) t.waiting) (length t.requests) n r (in_left n (settled_ids ss) (line_of (link_in t.life) t.waiting) i) in k.1) all
 
+-- an end is owed as the closed connection
 end_closes : (x : Option End) → x ≢ None → owed_unstarted x ≡ Some closed
 end_closes None n = absurd (n refl)
 end_closes (Some e) n = refl
@@ -105,6 +108,7 @@ waiting_due b t (q ∷ qs) h over all = (
   waiting_due b t qs h over (λ n i. all n (inr i)),
 )
 
+-- and so all that wait are
 pub all_waiting_due : (b : Book) (t : Inner) → Tied b t → (b.link t.link).end ≢ None → AllByRecursion (IsDueClosed (owed b) (name_at t.requests)) t.waiting
 all_waiting_due b t h over =
     let later = queue_ids (link_in t.life).queue ++ waiting_ids t.waiting in
@@ -114,6 +118,7 @@ all_waiting_due b t h over =
 
 -- those that wait are to be answered
 --
+-- the lines of those
 waiting_lines : (story : ℕ → Story) (requests : List Request) (link : LinkState) (waiting : List Waiting) (started : List ℕ) → TiedLines story requests link waiting [] started → TiedLines story requests link [] (waiting_ids waiting ++ []) started
 waiting_lines story requests link waiting started h = record {
   line = rising_tail 0 started (queue_ids link.queue ++ waiting_ids waiting) (queue_ids link.queue ++ []) (length requests)
@@ -127,6 +132,7 @@ waiting_lines story requests link waiting started h = record {
   ];
 }
 
+-- the session is tied with them to be answered
 waiting_tied : (b : Book) (t : Inner) → Tied b (record t { pending = [] }) → Tied b (record t { waiting = []; pending = waiting_ids t.waiting ++ [] })
 waiting_tied b t h = record {
   numbers = record { turns = h.numbers.turns; links = h.numbers.links; submissions = h.numbers.submissions; shut = h.numbers.shut; one = h.numbers.one; only = h.numbers.only };
@@ -140,6 +146,7 @@ waiting_tied b t h = record {
   waits = h.waits;
 }
 
+-- and they are in line
 waiting_in_line : (requests : List Request) (life : Life) (waiting : List Waiting) → life ≡ Ended → IsInLine requests (link_in life) waiting [] → IsInLine requests (link_in life) [] (waiting_ids waiting ++ [])
 waiting_in_line requests life waiting over r =
     let last = waiting_ids waiting in
@@ -167,6 +174,7 @@ pub record HasEnded (before : List Action) (f : Core) (w : Work) (started : List
   pub over : w.conn.life ≡ Ended
   pub none_waits : w.conn.waiting ≡ []
 
+-- the link is closed, and all are answered
 pub ended_holds : (before : List Action) (f : Core) (w : Work) (out : List Settled) (why : Ending) (started : List ℕ) → Holds before f w [] started → w.conn.life ≢ Ended → (let b = book (trace_of_acts before f w.acts) in let l = b.link f.single.link in
     (ending l ≡ Some why) × AllByRecursion (IsOwed (owner_of w.conn.requests) (noted l (ends (b.turns - 1)))) out)
     → settled_ids out ≡ wanted (link_in w.conn.life).row ++ awaited_ids (link_in w.conn.life).queue → HasEnded before f (ended w out) started

@@ -36,14 +36,17 @@ with_closed story requests p closed n = if_own (name_at requests p == n) (closed
 pub closed_other : (story : ℕ → Story) (requests : List Request) (p : ℕ) (closed : ℕ → Story) (n : ℕ) → name_at requests p ≢ n → with_closed story requests p closed n ≡ story n
 closed_other story requests p closed n other = left_if (name_at requests p == n) (closed n) (story n) (ne_test (name_at requests p) n other)
 
+-- the tries stay
 pub closed_tries : (story : ℕ → Story) (requests : List Request) (p : ℕ) (closed : ℕ → Story) (n : ℕ) → Closes (story n) (closed n) → (with_closed story requests p closed n).tries ≡ (story n).tries
 closed_tries story requests p closed n c = chosen (λ (s : Story). s.tries ≡ (story n).tries) (name_at requests p == n) (closed n) (story n) (λ t. c.tries) (λ f. refl)
 
+-- and so does what was handed in
 pub closed_submission : (story : ℕ → Story) (requests : List Request) (p : ℕ) (closed : ℕ → Story) (n : ℕ) → Closes (story n) (closed n) → (with_closed story requests p closed n).submission ≡ (story n).submission
 closed_submission story requests p closed n c = chosen (λ (s : Story). s.submission ≡ (story n).submission) (name_at requests p == n) (closed n) (story n) (λ t. c.submission) (λ f. refl)
 
 -- the stories, by the table
 --
+-- the request that closes
 request_closed : (s c : Story) (requests : List Request) (link p : ℕ) → p < length requests → Closes s c → IsRequest s requests link p → IsRequest c (at_progress requests p progress.Closed) link p
 request_closed s c requests link p l k h = record {
   what = h.what;
@@ -54,6 +57,7 @@ request_closed s c requests link p l k h = record {
   open_is = k.closed ∙ sym (there_same is_open_progress requests p progress.Closed l);
 }
 
+-- any other request
 request_other : (s : Story) (requests : List Request) (link p q : ℕ) → p ≢ q → IsRequest s requests link q → IsRequest s (at_progress requests p progress.Closed) link q
 request_other s requests link p q other h = record {
   what = h.what;
@@ -64,6 +68,7 @@ request_other s requests link p q other h = record {
   open_is = h.open_is ∙ sym (there_other is_open_progress requests p q progress.Closed other);
 }
 
+-- each submission, by its entry in the table
 pub story_closed : (story : ℕ → Story) (table : List (Option Pending)) (requests : List Request) (link p : ℕ) (closed : ℕ → Story) (n : ℕ) → TiedNames table requests → p < length requests → Closes (story n) (closed n)
     → TiedStory (story n) requests link (slice_get table n) → TiedStory (with_closed story requests p closed n) (at_progress requests p progress.Closed) link (slice_get table n)
 story_closed story table requests link p closed n names l c h = by_entry (slice_get table n) refl h
@@ -91,10 +96,12 @@ story_closed story table requests link p closed n names l c h = by_entry (slice_
 
 -- the tries
 --
+-- the owners of starts stay
 pub owners_each_still : (requests : List Request) (p : ℕ) (started : List ℕ) → owners_each (at_progress requests p progress.Closed) started ≡ owners_each requests started
 owners_each_still requests p [] = refl
 owners_each_still requests p (q ∷ qs) = (λ i. owners_still requests p progress.Closed i q ∷ owners_each_still requests p qs i)
 
+-- and so do the tries
 pub tries_closed : (l : Ledger) (story : ℕ → Story) (requests : List Request) (link p : ℕ) (closed : ℕ → Story) (started : List ℕ) → ((n : ℕ) → Closes (story n) (closed n)) → TiedTries l story requests link started
     → TiedTries l (with_closed story requests p closed) (at_progress requests p progress.Closed) link started
 tries_closed l story requests link p closed started c h =
@@ -111,6 +118,7 @@ tries_closed l story requests link p closed started c h =
 
 -- the lines
 --
+-- the bytes, the shape and whether it is awaited stay
 of_closed : (story : ℕ → Story) (requests : List Request) (p q : ℕ) (closed : ℕ → Story) (bytes : List ℕ) (of_shape : Shape) (awaited : Bool) → ((n : ℕ) → Closes (story n) (closed n))
     → IsOf (story (name_at requests q)) bytes of_shape awaited → IsOf (with_closed story requests p closed (name_at (at_progress requests p progress.Closed) q)) bytes of_shape awaited
 of_closed story requests p q closed bytes of_shape awaited c h =
@@ -148,6 +156,7 @@ queue_closed table story requests p closed (q ∷ qs) names l within apart c all
 
 -- the waits
 --
+-- a wait that is not shown is not shown still
 still_new : (story : ℕ → Story) (requests : List Request) (p : ℕ) (closed : ℕ → Story) (fresh : List ℕ) → ((n : ℕ) → Closes (story n) (closed n)) → IsNew story requests fresh
     → IsNew (with_closed story requests p closed) (at_progress requests p progress.Closed) fresh
 still_new story requests p closed [] c h = h
@@ -157,6 +166,7 @@ still_new story requests p closed (q ∷ []) c h =
     ∙ chosen (λ (s : Story). s.waiting ≡ None) (name_at requests p == n) (closed n) (story n) (λ t. (c n).quiet h) (λ f. h)
 still_new story requests p closed (q ∷ r ∷ qs) c h = h
 
+-- the waits of the others stay
 pub waits_closed : (table : List (Option Pending)) (story : ℕ → Story) (requests : List Request) (p : ℕ) (closed : ℕ → Story) (life after : Life) (fresh : List ℕ) → TiedNames table requests → p < length requests
     → ((n : ℕ) → Closes (story n) (closed n)) → (after ≡ Dialing → life ≡ Dialing) → TiedWaits story requests life fresh → TiedWaits (with_closed story requests p closed) (at_progress requests p progress.Closed) after fresh
 waits_closed table story requests p closed life after fresh names l c dials h = record {

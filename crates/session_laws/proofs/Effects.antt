@@ -1,5 +1,5 @@
 -- The event's own effect: each kind of event leaves the session tied to its book, and nothing due but what moves.
-use Rattle.std.proofs.Common.{◌≡◌, ℕ, ◌==◌, ◌&&◌, false, None, List, [], ◌∷◌, ◌++◌, refl, sym, ◌∙◌, subst}
+use Rattle.std.proofs.Common.{◌≡◌, ℕ, ◌==◌, ◌&&◌, false, List, [], ◌∷◌, ◌++◌, refl, sym, ◌∙◌, subst}
 use Rattle.containers.proofs.Tests.{or_left, or_right, eq_test, not_le_from, not_lt_from}
 use Rattle.driver_model.specs.declared.action.Action.{Action}
 use Rattle.driver_model.specs.declared.event.EventKind.{EventKind}
@@ -10,13 +10,8 @@ use Rattle.mux_conn.specs.declared.life.Life.{Life}
 use Rattle.mux_conn.specs.declared.life.Life.TheVariants.{Dialing, Ready, Ended}
 use Rattle.mux_conn.specs.Effects.{CanTake, applied}
 use Rattle.shared_session.specs.declared.core_state.Core.{Core}
-use Rattle.shared_session.specs.Turn.{Turning, with_work, heard, effect, counted, is_no_link, takes_too_much, is_bad}
-use Rattle.legal_trace.specs.Book.{Book, book}
-use Rattle.legal_trace.specs.Owed.{owed}
-use Rattle.legal_trace.specs.Legal.{NoneIsOwed, IsApplied}
-use Rattle.session_laws.proofs.Tied.{Tied, inner}
-use Rattle.session_laws.proofs.States.{Between, trace_with, HasApplied}
-use Rattle.session_laws.proofs.Owes.{none_owed, none_open, created_is}
+use Rattle.shared_session.specs.Turn.{with_work, heard, effect, counted, is_no_link, takes_too_much, is_bad}
+use Rattle.session_laws.proofs.States.{Between, HasApplied}
 use Rattle.session_laws.proofs.Announce.{turn_of, turned, own_news}
 use Rattle.session_laws.proofs.Connect.{connected_applied}
 use Rattle.session_laws.proofs.Took.{took_applied}
@@ -25,31 +20,6 @@ use Rattle.session_laws.proofs.End.{failed_applied, shut_applied}
 use Rattle.session_laws.proofs.Cancel.{cancel_applied}
 use Rattle.session_laws.proofs.Asked.{submit_applied}
 
--- what is left to be shown
---
--- a session whose link has not ended, or that has nothing waiting
-abbrev pub HasNoneLeft : Core → Type 0
-HasNoneLeft c = c.single.connection.life ≡ Ended → c.single.connection.waiting ≡ []
-
--- owes nothing
-pub none_left : (b : Book) (c : Core) (started : List ℕ) → Tied b (inner c started) → HasNoneLeft c → NoneIsOwed b
-none_left b c started h none n asked = by_life c.single.connection.life refl
-  where
-    by_life : (x : Life) → c.single.connection.life ≡ x → owed b n ≡ None
-    by_life Dialing e = none_owed b (inner c started) h refl (λ over. let no : Dialing ≡ Ended = sym e ∙ over in cc) n asked
-    by_life (Ready link) e = none_owed b (inner c started) h refl (λ over. let no : Ready link ≡ Ended = sym e ∙ over in cc) n asked
-    by_life Ended e = absurd (none_open b (inner c started) n h refl e (none e) asked)
-
--- and its event has had its effect
-pub applied_from : (before : List Action) (t : Turning) (started : List ℕ) → HasApplied before t started → HasNoneLeft t.core → IsApplied (book (trace_with before t))
-applied_from before t started h none = record {
-  answered = none_left (book (trace_with before t)) t.core started h.sound.tied none;
-  ended = h.ended;
-  created = created_is (book (trace_with before t)) (inner t.core started) h.sound.tied;
-}
-
--- by the kind of the event
---
 -- the news of an event that names the connection's link
 by_news : (before : List Action) (c : Core) (started : List ℕ) (word : ℕ) (kind : EventKind) (heard n : News) → heard ≡ n
     → HasApplied (before ++ turn_of c word kind ∷ []) (with_work (record { core = turned c kind; acts = [] }) (applied (record { conn = c.single.connection; acts = [] }) n)) started
@@ -62,6 +32,7 @@ can_take Dialing count f = tt
 can_take (Ready link) count f = not_lt_from link.outbox.offered count f
 can_take Ended count f = tt
 
+-- of the link that the event names
 can_take_from : (c : Core) (l count : ℕ) → l ≡ c.single.link → ((l == c.single.link) && takes_too_much c.single.connection.life count) ≡ false → CanTake c.single.connection.life count
 can_take_from c l count own f = can_take c.single.connection.life count (sym (λ i. eq_test l c.single.link own i && takes_too_much c.single.connection.life count) ∙ f)
 

@@ -47,6 +47,7 @@ pub record IsUp (name : ℕ → Owner) (l : Ledger) (created : ℕ) (link : Link
   pub shown : created ≢ 0
   pub tied : TiedLink name l link
 
+-- the link of a connection that is ready is up
 pub up_tied : (name : ℕ → Owner) (l : Ledger) (created : ℕ) (life : Life) (link : LinkState) → life ≡ Ready link → TiedLife l created life → (life ≢ Ended → TiedLink name l (link_in life)) → IsUp name l created link
 up_tied name l created life link is h tied =
     let lived = subst (λ (x : Life). TiedLife l created x) is h in
@@ -101,6 +102,7 @@ IsPlain (failed f) = Unit {0}
 IsPlain shut = Unit {0}
 IsPlain _ = ⊥
 
+-- the link stays as it is
 plain_leads : (before : List Action) (c : Core) (started : List ℕ) (n : News) → IsPlain n → Between before c started → Leads (book before) c n c.single.connection.life [] started
 plain_leads before c started n k h = by_news n k
   where

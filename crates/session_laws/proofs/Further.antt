@@ -31,15 +31,19 @@ pub record IsLonger (requests more : List Request) : Type 0 where
   pub same : (p : ℕ) → p < length requests → slice_get more p ≡ slice_get requests p
   pub long : length requests ≤ length more
 
+-- no request more
 pub no_longer : (requests : List Request) → IsLonger requests requests
 no_longer requests = record { same = λ p l. refl; long = omega arith }
 
+-- one request more
 pub one_longer : (requests : List Request) (r : Request) → IsLonger requests (requests ++ r ∷ [])
 one_longer requests r = record { same = λ p l. get_before requests (r ∷ []) p l; long = omega (arith, length-append requests (r ∷ [])) }
 
+-- names stay
 pub name_longer : (requests more : List Request) (p : ℕ) → IsLonger requests more → p < length requests → name_at more p ≡ name_at requests p
 name_longer requests more p h l = ap name_or_none (h.same p l)
 
+-- and so does what each has come to
 pub there_longer : (test : Progress → Bool) (requests more : List Request) (p : ℕ) → IsLonger requests more → p < length requests → if_there test (slice_get more p) ≡ if_there test (slice_get requests p)
 there_longer test requests more p h l = ap (if_there test) (h.same p l)
 
@@ -58,6 +62,7 @@ story_at table story after requests more p names same h l = ap after (name_longe
 
 -- the stories, by the table
 --
+-- a request is the same
 request_longer : (s : Story) (requests more : List Request) (link p : ℕ) → IsLonger requests more → p < length requests → IsRequest s requests link p → IsRequest s more link p
 request_longer s requests more link p longer l h = record {
   what = h.what;
@@ -68,11 +73,13 @@ request_longer s requests more link p longer l h = record {
   open_is = h.open_is ∙ sym (there_longer is_open_progress requests more p longer l);
 }
 
+-- whatever the table has
 story_longer : (table : List (Option Pending)) (s : Story) (requests more : List Request) (link n : ℕ) (x : Option (Option Pending)) → TiedNames table requests → IsLonger requests more → slice_get table n ≡ x → TiedStory s requests link x → TiedStory s more link x
 story_longer table s requests more link n None names longer e h = h
 story_longer table s requests more link n (Some None) names longer e h = h
 story_longer table s requests more link n (Some (Some p)) names longer e h = let k = names.kept n p e in request_longer s requests more link p.number longer (get_within requests p.number k.0 k.1) h
 
+-- each submission, with one more in the table
 pub further_story : (table : List (Option Pending)) (story after : ℕ → Story) (requests more : List Request) (link : ℕ) (x : Option Pending) → TiedNames table requests → SameBefore story after (length table) → IsLonger requests more
     → ((n : ℕ) → TiedStory (story n) requests link (slice_get table n)) → TiedStory (after (length table)) more link (Some x) → (n : ℕ) → TiedStory (after n) more link (slice_get (table ++ x ∷ []) n)
 further_story table story after requests more link x names same longer h new n =
@@ -96,10 +103,12 @@ further_story table story after requests more link x names same longer h new n =
 
 -- the tries
 --
+-- the owners of starts stay
 owners_longer : (requests more : List Request) (started : List ℕ) → IsLonger requests more → ((p : ℕ) → IsIn p started → p < length requests) → owners_each more started ≡ owners_each requests started
 owners_longer requests more [] longer within = refl
 owners_longer requests more (p ∷ ps) longer within = (λ i. owner.Try (name_longer requests more p longer (within p (inl refl)) i) 0 ∷ owners_longer requests more ps longer (λ q j. within q (inr j)) i)
 
+-- and so do the tries
 pub tries_longer : (table : List (Option Pending)) (l : Ledger) (story after : ℕ → Story) (requests more : List Request) (link : ℕ) (started : List ℕ) → TiedNames table requests → SameBefore story after (length table) → IsLonger requests more
     → ((p : ℕ) → IsIn p started → p < length requests) → ((k p : ℕ) → slice_get started k ≡ Some p → p < length requests) → ((p : ℕ) (r : Request) → slice_get more p ≡ Some r → length requests ≤ p → (after r.name).tries ≡ [])
     → TiedTries l story requests link started → TiedTries l after more link started
@@ -117,9 +126,11 @@ tries_longer table l story after requests more link started names same longer wi
 
 -- the lines
 --
+-- a story that is the same is of the same
 of_longer : (s after : Story) (bytes : List ℕ) (of_shape : Shape) (awaited : Bool) → after ≡ s → IsOf s bytes of_shape awaited → IsOf after bytes of_shape awaited
 of_longer s after bytes of_shape awaited e h = subst (λ (x : Story). IsOf x bytes of_shape awaited) (sym e) h
 
+-- the messages of the queue stay
 pub queue_longer : (table : List (Option Pending)) (story after : ℕ → Story) (requests more : List Request) (queue : List Queued) → TiedNames table requests → SameBefore story after (length table) → IsLonger requests more
     → ((p : ℕ) → IsIn p (queue_ids queue) → p < length requests) → AllByRecursion (IsQueued story requests) queue → AllByRecursion (IsQueued after more) queue
 queue_longer table story after requests more [] names same longer within all = tt
@@ -134,6 +145,7 @@ queue_longer table story after requests more (q ∷ qs) names same longer within
       queue_longer table story after requests more qs names same longer (λ p i. within p (inr i)) all.1,
     )
 
+-- and so do those that wait
 pub packs_longer : (table : List (Option Pending)) (story after : ℕ → Story) (requests more : List Request) (waiting : List Waiting) → TiedNames table requests → SameBefore story after (length table) → IsLonger requests more
     → ((p : ℕ) → IsIn p (waiting_ids waiting) → p < length requests) → AllByRecursion (IsPacked story requests) waiting → AllByRecursion (IsPacked after more) waiting
 packs_longer table story after requests more [] names same longer within all = tt
@@ -142,6 +154,7 @@ packs_longer table story after requests more (w ∷ ws) names same longer within
   packs_longer table story after requests more ws names same longer (λ p i. within p (inr i)) all.1,
 )
 
+-- and the entries of a row
 pub entries_longer : (requests more : List Request) (row : List Entry) → IsLonger requests more → AllByRecursion (IsEntry requests) row → AllByRecursion (IsEntry more) row
 entries_longer requests more [] longer all = tt
 entries_longer requests more (e ∷ es) longer all = (

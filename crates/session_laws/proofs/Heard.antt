@@ -45,6 +45,7 @@ pub record Leads (b : Book) (c : Core) (n : News) (life : Life) (pending started
   pub lines : TiedLines b.story c.single.connection.requests (link_in life) c.single.connection.waiting pending started
   pub waits : TiedWaits b.story c.single.connection.requests life c.single.connection.fresh
 
+-- the turn begins so
 pub heard_begins : (before : List Action) (c : Core) (started : List ℕ) (word : ℕ) (kind : EventKind) (n : News) (life : Life) (pending : List ℕ) → Between before c started → is_bad c kind ≡ false → IsNewsKind kind → news c.single.link kind ≡ n
     → Leads (book before) c n life pending started → Begins (before ++ turn_of c word kind ∷ []) (turned c kind) (lives_as c life) (heard_by (book before) c n) pending started
 heard_begins before c started word kind n life pending h good k is g =
@@ -80,6 +81,7 @@ leads_on before c started n h g = record { lived = g.0; linked = g.1; lines = h.
 
 -- a link that has ended hears nothing
 --
+-- a link that has ended stays as it is
 ended_hears : (l : Ledger) (created : ℕ) (n : News) → TiedLife l created Ended → TiedLife (noted l (hears n)) created Ended
 ended_hears l created silence h = h
 ended_hears l created connected h = chosen (λ (x : Ledger). TiedLife x created Ended) (is_over l) l _ (λ t. h) (λ f. absurd (not_both (is_over l) f (some_end l.end h.1)))
@@ -92,6 +94,7 @@ ended_hears l created shut h = h
 over_no_end : (l : Ledger) (created : ℕ) → TiedLife l created Ended → ending l ≡ None
 over_no_end l created h = not_up_ends l h.0 (over_not_asked l h.1)
 
+-- an event that names a link that has ended has no effect
 pub ended_quiet : (before : List Action) (c : Core) (started : List ℕ) (word : ℕ) (kind : EventKind) (n : News) → Between before c started → is_bad c kind ≡ false → IsNewsKind kind → news c.single.link kind ≡ n → c.single.connection.life ≡ Ended
     → HasApplied (before ++ turn_of c word kind ∷ []) (with_work (record { core = turned c kind; acts = [] }) (record { conn = c.single.connection; acts = [] })) started
 ended_quiet before c started word kind n h good k is over =
@@ -105,6 +108,7 @@ ended_quiet before c started word kind n h good k is over =
 
 -- a link whose connect isn't answered hears but of that, and of the shutdown
 --
+-- news of a link that is up
 abbrev pub IsOfAnother : News → Type 0
 IsOfAnother (took count) = Unit {0}
 IsOfAnother (came piece) = Unit {0}
@@ -113,6 +117,7 @@ IsOfAnother silence = ⊥
 IsOfAnother connected = ⊥
 IsOfAnother shut = ⊥
 
+-- a link whose connect is not answered stays as it is
 dialing_hears : (l : Ledger) (created : ℕ) (n : News) → IsOfAnother n → TiedLife l created Dialing → TiedLife (noted l (hears n)) created Dialing
 dialing_hears l created silence k h = absurd k
 dialing_hears l created connected k h = absurd k
@@ -121,6 +126,7 @@ dialing_hears l created (came piece) k h = if_false (λ (x : Ledger). TiedLife x
 dialing_hears l created (failed f) k h = h
 dialing_hears l created shut k h = absurd k
 
+-- such news end no link that is not up
 asked_on : (n : News) → IsOfAnother n → ending_asked n ≡ None
 asked_on silence k = refl
 asked_on connected k = refl
@@ -129,12 +135,14 @@ asked_on (came piece) k = refl
 asked_on (failed f) k = refl
 asked_on shut k = absurd k
 
+-- so it need not end
 dialing_no_end : (l : Ledger) (created : ℕ) (n : News) → IsOfAnother n → TiedLife l created Dialing → ending (noted l (hears n)) ≡ None
 dialing_no_end l created n k h =
     let after = noted l (hears n) in
     left_if after.up (ending_up after n) _ (dialing_hears l created n k h).1
     ∙ chosen (λ (x : Option Ending). x ≡ None) (after.asked && not (is_over after)) (ending_asked n) None (λ t. asked_on n k) (λ f. refl)
 
+-- and the event has no effect
 pub dialing_quiet : (before : List Action) (c : Core) (started : List ℕ) (word : ℕ) (kind : EventKind) (n : News) → IsOfAnother n → Between before c started → is_bad c kind ≡ false → IsNewsKind kind → news c.single.link kind ≡ n → c.single.connection.life ≡ Dialing
     → HasApplied (before ++ turn_of c word kind ∷ []) (with_work (record { core = turned c kind; acts = [] }) (record { conn = c.single.connection; acts = [] })) started
 dialing_quiet before c started word kind n o h good k is dials =

@@ -12,6 +12,7 @@ use Rattle.mux_conn.specs.Requests.{is_open_at}
 use Rattle.session_laws.proofs.Numbers.{IsIn, in_left, in_right, in_either, Rising, rising_from, rising_in, rising_right}
 use Rattle.session_laws.proofs.Tied.{queue_ids, waiting_ids, TiedLines}
 
+-- who the entries of a row are of
 abbrev pub row_ids : List Entry → List ℕ
 row_ids [] = []
 row_ids (e ∷ es) = e.id ∷ row_ids es
@@ -68,6 +69,7 @@ first_is_apart lo q xs hi h i = let k = rising_in (suc q) xs hi q h.1 i in omega
 
 -- parts of a line rise
 --
+-- where a number may be left out
 chosen_rises : (b : Bool) (lo n : ℕ) (ys : List ℕ) (hi : ℕ) → (lo ≤ n) × Rising (suc n) ys hi → Rising lo ((if b then n ∷ [] else []) ++ ys) hi
 chosen_rises true lo n ys hi h = h
 chosen_rises false lo n ys hi h = rising_from (suc n) lo ys hi (omega (arith, h.0)) h.1
@@ -88,6 +90,7 @@ awaited_rises lo (q ∷ qs) ys hi h =
 
 -- what stands at places one after another
 --
+-- these stand in a list from a place on
 abbrev pub AtPlaces : List ℕ → ℕ → List ℕ → Type 0
 AtPlaces xs k [] = Unit {0}
 AtPlaces xs k (y ∷ ys) = (slice_get xs k ≡ Some y) × AtPlaces xs (suc k) ys

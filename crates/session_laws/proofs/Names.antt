@@ -29,6 +29,7 @@ there_within test [] p e = cc
 there_within test (r ∷ rs) zero e = omega arith
 there_within test (r ∷ rs) (suc p) e = let l = there_within test rs p e in omega arith
 
+-- an open request is within
 pub open_within : (requests : List Request) (p : ℕ) → is_open_at requests p ≡ true → p < length requests
 open_within requests p e = there_within is_open requests p e
 
@@ -46,13 +47,11 @@ renamed_at (x ∷ xs) (suc p) (suc m) r e = renamed_at xs p m r e
 pub name_still : (requests : List Request) (p : ℕ) (now : Progress) (m : ℕ) → name_at (at_progress requests p now) m ≡ name_at requests m
 name_still requests p now m = renamed_at requests p m (record { name = name_at requests p; progress = now }) refl
 
-pub names_still : (requests : List Request) (p : ℕ) (now : Progress) → name_at (at_progress requests p now) ≡ name_at requests
-names_still requests p now = λ i m. name_still requests p now m i
-
 -- and so do owners
 pub owners_still : (requests : List Request) (p : ℕ) (now : Progress) → owner_of (at_progress requests p now) ≡ owner_of requests
 owners_still requests p now = λ i m. owner.Try (name_still requests p now m i) 0
 
+-- there are as many requests
 pub length_still : (requests : List Request) (p : ℕ) (now : Progress) → length (at_progress requests p now) ≡ length requests
 length_still requests p now = length-set requests p (record { name = name_at requests p; progress = now })
 
@@ -75,6 +74,7 @@ there_then test requests p m now closed l e =
 abbrev pub IsNamed : List Request → ℕ → ℕ → Type 0
 IsNamed requests q name = (r : Request) × (slice_get requests q ≡ Some r) × (r.name ≡ name)
 
+-- the request that was there before has the name of the one that is there after
 was_named : (requests : List Request) (p q : ℕ) (r s : Request) → r.name ≡ name_at requests p → slice_get (slice_set requests p r) q ≡ Some s → IsNamed requests q s.name
 was_named [] p q r s e i = cc
 was_named (x ∷ xs) zero zero r s e i = (x, refl, sym e ∙ let same : r ≡ s = cc in ap (λ (y : Request). y.name) same)
@@ -82,6 +82,7 @@ was_named (x ∷ xs) zero (suc q) r s e i = (s, i, refl)
 was_named (x ∷ xs) (suc p) zero r s e i = (s, i, refl)
 was_named (x ∷ xs) (suc p) (suc q) r s e i = was_named xs p q r s e i
 
+-- and the one after has the name of the one before
 is_named : (requests : List Request) (p q : ℕ) (r s : Request) → r.name ≡ name_at requests p → slice_get requests q ≡ Some s → IsNamed (slice_set requests p r) q s.name
 is_named [] p q r s e i = cc
 is_named (x ∷ xs) zero zero r s e i = (r, refl, e ∙ let same : x ≡ s = cc in ap (λ (y : Request). y.name) same)
@@ -93,6 +94,7 @@ is_named (x ∷ xs) (suc p) (suc q) r s e i = is_named xs p q r s e i
 pub name_was : (requests : List Request) (p : ℕ) (now : Progress) (q : ℕ) (s : Request) → slice_get (at_progress requests p now) q ≡ Some s → IsNamed requests q s.name
 name_was requests p now q s i = was_named requests p q (record { name = name_at requests p; progress = now }) s refl i
 
+-- and the other way round
 pub name_is_still : (requests : List Request) (p : ℕ) (now : Progress) (q : ℕ) (s : Request) → slice_get requests q ≡ Some s → IsNamed (at_progress requests p now) q s.name
 name_is_still requests p now q s i = is_named requests p q (record { name = name_at requests p; progress = now }) s refl i
 
@@ -106,6 +108,7 @@ names_progressed table requests p now h = record {
 
 -- names tell requests apart
 --
+-- the name of a request that is there
 pub name_of_some : (requests : List Request) (p : ℕ) (r : Request) → slice_get requests p ≡ Some r → name_at requests p ≡ r.name
 name_of_some requests p r e = ap name_or_none e
 
@@ -146,6 +149,7 @@ name_within table requests p h l = get_within table (name_at requests p) (Some (
 
 -- one more submission
 --
+-- one number of a request is one number
 number_is : (p : Pending) (n : ℕ) → ◌≡◌ {A = Option Pending} (Some (record { number = n })) (Some p) → n ≡ p.number
 number_is p n e = let same : ◌≡◌ {A = Pending} (record { number = n }) p = cc in ap (λ (x : Pending). x.number) same
 

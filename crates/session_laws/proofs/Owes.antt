@@ -31,6 +31,7 @@ use Rattle.session_laws.proofs.InLine.{AtPlaces, IsInLine, wanted_rises, places_
 pub request_story : (b : Book) (t : Inner) (p : ℕ) → Tied b t → p < length t.requests → IsRequest (b.story (name_at t.requests p)) t.requests t.link p
 request_story b t p h l = subst (TiedStory (b.story (name_at t.requests p)) t.requests t.link) (name_placed t.table t.requests p h.names l) (h.story (name_at t.requests p))
 
+-- what is false in the middle is false
 both_false : (a b : Bool) → (a && false && b) ≡ false
 both_false true b = refl
 both_false false b = refl
@@ -47,6 +48,7 @@ pub record IsOpenRequest (t : Inner) (n : ℕ) : Type 0 where
   pub named : name_at t.requests number ≡ n
   pub open_at : is_open_at t.requests number ≡ true
 
+-- and the other way round: it is one that is open
 pub open_request : (b : Book) (t : Inner) (n : ℕ) → Tied b t → IsOpen b n → IsOpenRequest t n
 open_request b t n h o = by_entry (slice_get t.table n) refl (h.story n)
   where
@@ -57,6 +59,7 @@ open_request b t n h o = by_entry (slice_get t.table n) refl (h.story n)
 
 -- the request of a started message
 --
+-- one owner is one name
 owner_name : (p q : ℕ) (requests : List Request) → owner_of requests p ≡ owner_of requests q → name_at requests p ≡ name_at requests q
 owner_name p q requests e = cc
 
@@ -74,6 +77,7 @@ get_in [] k n e = cc
 get_in (x ∷ xs) zero n e = inl cc
 get_in (x ∷ xs) (suc k) n e = inr (get_in xs k n e)
 
+-- and a request
 pub started_within : (b : Book) (t : Inner) (k p : ℕ) → Tied b t → slice_get t.started k ≡ Some p → p < length t.requests
 started_within b t k p h e =
     let r = rising_in 0 t.started (length t.requests) p (rising_left 0 t.started (queue_ids (link_in t.life).queue ++ waiting_ids t.waiting) (length t.requests) h.lines.line) (get_in t.started k p e) in
@@ -88,6 +92,7 @@ stands_started b t p k of_shape h l place =
 
 -- what a request is owed
 --
+-- what is not empty has a length
 not_empty : (bytes : List ℕ) → bytes ≢ [] → (length bytes == 0) ≡ false
 not_empty bytes some = ne_test (length bytes) 0 (λ e. some (nil_from_length bytes e))
 
@@ -134,6 +139,7 @@ pub record IsWantedAs (name : ℕ → Owner) (l : Ledger) (row : List Entry) (p 
   pub is : entry.id ≡ p
   pub open_as : IsOpenAs name l number entry
 
+-- an entry of a row that takes items, by its request
 pub wanted_entry : (name : ℕ → Owner) (l : Ledger) (k : ℕ) (row : List Entry) (p : ℕ) → OpenFrom name l k row → IsIn p (row_ids row) → IsWantedAs name l row p
 wanted_entry name l k [] p all i = absurd i
 wanted_entry name l k (e ∷ es) p all (inl same) = record { entry = e; number = k; is = same; open_as = all.0 }

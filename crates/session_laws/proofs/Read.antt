@@ -52,6 +52,7 @@ item_entries requests d item (e ∷ es) all whole =
     (λ t. (record { below = all.0.below; open_at = all.0.open_at }, all.1))
     (λ n. all.1)
 
+-- many items too
 dealt_entries : (requests : List Request) (d : Dealing) (vs : List Data) → AllByRecursion (IsEntry requests) d.row → AllByRecursion (IsEntry requests) (dealt_each d vs).row
 dealt_entries requests d [] all = all
 dealt_entries requests d (v ∷ vs) all = dealt_entries requests (dealt d v) vs (item_entries requests d v d.row all all)
@@ -60,6 +61,7 @@ dealt_entries requests d (v ∷ vs) all = dealt_entries requests (dealt d v) vs 
 read_wanted : (link : LinkState) (piece : List ℕ) → settled_ids (deals link piece).out ++ wanted (deals link piece).row ≡ wanted link.row
 read_wanted link piece = items_keep (record { row = link.row; out = [] }) (items (link.rest ++ piece))
 
+-- the lines, with those that are to be answered
 read_lines : (story : ℕ → Story) (requests : List Request) (link : LinkState) (piece : List ℕ) (waiting : List Waiting) (started : List ℕ) → TiedLines story requests link waiting [] started
     → TiedLines story requests (has_read link piece) waiting (settled_ids (deals link piece).out) started
 read_lines story requests link piece waiting started h =
@@ -92,6 +94,7 @@ read_ending name l link piece up h =
     taken_if l.up (if is_spoiled (has_heard l piece).rest then Some (by_fault fault.Parse) else None) _ up
     ∙ ap (λ (b : Bool). if b then Some (by_fault fault.Parse) else None) (ap is_spoiled h.rest ∙ sym h.broken)
 
+-- a link that is not broken is whole
 read_whole : (link : LinkState) (piece : List ℕ) → IsWhole link → (has_read link piece).broken ≡ false → (x : LinkState) → Ready (has_read link piece) ≡ Ready x → IsWhole x
 read_whole link piece h sound x e = let same : has_read link piece ≡ x = cc in subst IsWhole same (record { sound = sound; empty = h.empty; size = h.size; boundary = h.boundary })
 
@@ -145,6 +148,7 @@ read_answered before c started word kind piece link h good k is e =
     settled_holds front f (now.link c.single.link) (owed now) (name_at conn.requests) w out [] started due
     (answering front f w (ids ++ []) started (subst (λ ns. Holds front f w ns started) (sym (append-nil ids)) begins.holds) (subst (IsInLine conn.requests (has_read link piece) conn.waiting) (sym (append-nil ids)) line))
 
+-- a link that is up reads on, or is broken and ends
 read_on : (before : List Action) (c : Core) (started : List ℕ) (word : ℕ) (kind : EventKind) (piece : List ℕ) (link : LinkState) → Between before c started → is_bad c kind ≡ false → IsNewsKind kind → news c.single.link kind ≡ came_news piece
     → c.single.connection.life ≡ Ready link
     → HasApplied (before ++ turn_of c word kind ∷ []) (with_work (record { core = turned c kind; acts = [] }) (read_to (record { conn = c.single.connection; acts = [] }) (record { link = has_read link piece; out = (deals link piece).out }))) started

@@ -52,6 +52,7 @@ seen f conn pending started = record {
 abbrev pub trace_of_acts : List Action → Core → List LinkAct → List Action
 trace_of_acts before f acts = before ++ shown_each f.single.link acts
 
+-- the session is tied to the book of that trace
 abbrev pub Holds : List Action → Core → Work → List ℕ → List ℕ → Type 0
 Holds before f w pending started = Sound (trace_of_acts before f w.acts) (seen f w.conn pending started)
 
@@ -62,6 +63,7 @@ holds_more before f w a conn was pending started h may tied =
     subst (λ (x : List Action). Sound x (seen f conn pending started)) (sym (shown_more before f.single.link w.acts a))
     (sound_more (trace_of_acts before f w.acts) (shown f.single.link a) (seen f conn pending started) h.stands may tied)
 
+-- and the book behind it
 pub book_of_more : (before : List Action) (f : Core) (acts : List LinkAct) (a : LinkAct) → book (trace_of_acts before f (acts ++ a ∷ [])) ≡ entered (book (trace_of_acts before f acts)) (shown f.single.link a)
 book_of_more before f acts a = ap book (shown_more before f.single.link acts a) ∙ book_more (trace_of_acts before f acts) (shown f.single.link a)
 
@@ -100,6 +102,7 @@ first_may b t p pending o h line e owes =
 rest_in_line : (requests : List Request) (link : LinkState) (waiting : List Waiting) (p : ℕ) (pending : List ℕ) → IsInLine requests link waiting (p ∷ pending) → IsInLine requests link waiting pending
 rest_in_line requests link waiting p pending line = rising_from (suc p) 0 (pending ++ line_of link waiting) (length requests) (omega arith) line.1
 
+-- the first is answered
 one_answered : (before : List Action) (f : Core) (ledger : Ledger) (owes : ℕ → Option Outcome) (name : ℕ → ℕ) (w : Work) (p : ℕ) (o : Outcome) (pending started : List ℕ) → owes (name p) ≡ Some o → is_open_at w.conn.requests p ≡ true
     → IsAnswering before f ledger owes name w (p ∷ pending) started → IsAnswering before f ledger owes name (record { conn = record w.conn { requests = at_progress w.conn.requests p progress.Closed }; acts = w.acts ++ act.Outcome (name_at w.conn.requests p) o ∷ [] }) pending started
 one_answered before f ledger owes name w p o pending started due e h =
@@ -129,6 +132,7 @@ one_skipped before f ledger owes name w p pending started e h = record {
   named = h.named;
 }
 
+-- the first is answered, where it is open
 pub answered_holds : (before : List Action) (f : Core) (ledger : Ledger) (owes : ℕ → Option Outcome) (name : ℕ → ℕ) (w : Work) (p : ℕ) (o : Outcome) (pending started : List ℕ) → owes (name p) ≡ Some o
     → IsAnswering before f ledger owes name w (p ∷ pending) started → IsAnswering before f ledger owes name (answered w p o) pending started
 answered_holds before f ledger owes name w p o pending started due h =
@@ -140,6 +144,7 @@ answered_holds before f ledger owes name w p o pending started due h =
 abbrev pub IsDue : (ℕ → Option Outcome) → (ℕ → ℕ) → Settled → Type 0
 IsDue owes name s = owes (name s.id) ≡ Some (outcome_of s.verdict)
 
+-- a request that waits is due the closed connection
 abbrev pub IsDueClosed : (ℕ → Option Outcome) → (ℕ → ℕ) → Waiting → Type 0
 IsDueClosed owes name q = owes (name q.number) ≡ Some closed
 
@@ -163,18 +168,22 @@ pub record Leaves (w v : Work) : Type 0 where
   pub waiting : v.conn.waiting ≡ w.conn.waiting
   pub fresh : v.conn.fresh ≡ w.conn.fresh
 
+-- one after another
 leaves_on : (u v w : Work) → Leaves u v → Leaves v w → Leaves u w
 leaves_on u v w h k = record { life = k.life ∙ h.life; waiting = k.waiting ∙ h.waiting; fresh = k.fresh ∙ h.fresh }
 
+-- one answer leaves them
 pub answered_leaves : (w : Work) (p : ℕ) (o : Outcome) → Leaves w (answered w p o)
 answered_leaves w p o = chosen (Leaves w) (is_open_at w.conn.requests p) _ w (λ t. record { life = refl; waiting = refl; fresh = refl }) (λ f. record { life = refl; waiting = refl; fresh = refl })
 
+-- so do the answers to what was settled
 pub settled_leaves : (w : Work) (ss : List Settled) → Leaves w (settled_each w ss)
 settled_leaves w [] = record { life = refl; waiting = refl; fresh = refl }
 settled_leaves w (s ∷ ss) =
     let v = answered w s.id (outcome_of s.verdict) in
     leaves_on w v (settled_each v ss) (answered_leaves w s.id (outcome_of s.verdict)) (settled_leaves v ss)
 
+-- and those to what waited
 pub closed_leaves : (w : Work) (qs : List Waiting) → Leaves w (closed_each w qs)
 closed_leaves w [] = record { life = refl; waiting = refl; fresh = refl }
 closed_leaves w (q ∷ qs) =

@@ -18,6 +18,7 @@ pub record IsWhole (link : LinkState) : Type 0 where
   pub size : link.size ≡ max_size
   pub boundary : link.boundary ≡ no_boundary
 
+-- where a link is up, it is so
 abbrev pub IsWholeIn : Life → Type 0
 IsWholeIn life = (link : LinkState) → life ≡ Ready link → IsWhole link
 

@@ -33,6 +33,7 @@ use Rattle.session_laws.proofs.Further.{get_beyond, no_longer, SameBefore, story
 abbrev pub stories_with : Book → Submission → ℕ → Story
 stories_with b what n = if_own (b.submissions == n) (handed_in (b.story n) what b.shut (current b)) (b.story n)
 
+-- any other story stays
 stories_before : (b : Book) (what : Submission) (n : ℕ) → n ≢ b.submissions → stories_with b what n ≡ b.story n
 stories_before b what n other = left_if (b.submissions == n) _ (b.story n) (ne_test b.submissions n (λ e. other (sym e)))
 
@@ -44,6 +45,7 @@ new_story b what = handed_in blank_story what b.shut (current b)
 next_is_blank : (b : Book) (c : Core) (started : List ℕ) → Tied b (inner c started) → b.story (length c.table) ≡ blank_story
 next_is_blank b c started h = subst (TiedStory (b.story (length c.table)) c.single.connection.requests c.single.link) (get_beyond c.table (length c.table) (omega arith)) (h.story (length c.table))
 
+-- its story is that
 pub story_is_new : (b : Book) (c : Core) (started : List ℕ) (what : Submission) → Tied b (inner c started) → stories_with b what (length c.table) ≡ new_story b what
 story_is_new b c started what h =
     taken_if (b.submissions == length c.table) _ (b.story (length c.table)) (eq_test b.submissions (length c.table) h.numbers.submissions)
@@ -77,6 +79,7 @@ others_owed b c word what m other = ap (owed_in (entered b (turn_of c word (even
 abbrev pub IsErrorOf : Bool → Submission → RedisError → Type 0
 IsErrorOf late what e = ((late ≡ true) × (e ≡ error.Closed)) ⊎ ((late ≡ false) × ((length (packed what) == 0) ≡ true) × (e ≡ error.EmptyCommand))
 
+-- what it is owed then
 new_owed : (b now : Book) (what : Submission) (e : RedisError) → IsErrorOf b.shut what e → owed_in now (new_story b what) ≡ Some (outcome.Fault e)
 new_owed b now what e (inl h) = taken_if b.shut (Some (outcome.Fault error.Closed)) _ h.0 ∙ ap (λ x. Some (outcome.Fault x)) (sym h.1)
 new_owed b now what e (inr h) =
@@ -107,9 +110,11 @@ may_refuse b c started word what e h none no_end why =
 abbrev stories_refused : Book → ℕ → Submission → RedisError → ℕ → Story
 stories_refused b size what e n = if_own (size == n) (answered (stories_with b what n) (outcome.Fault e)) (stories_with b what n)
 
+-- any other story stays
 refused_before : (b : Book) (c : Core) (started : List ℕ) (what : Submission) (e : RedisError) → Tied b (inner c started) → SameBefore b.story (stories_refused b (length c.table) what e) (length c.table)
 refused_before b c started what e h n other = left_if (length c.table == n) _ (stories_with b what n) (ne_test (length c.table) n (λ x. other (sym x))) ∙ others_before b c started what h n other
 
+-- its own is answered
 refused_is : (b : Book) (c : Core) (started : List ℕ) (what : Submission) (e : RedisError) → Tied b (inner c started) → stories_refused b (length c.table) what e (length c.table) ≡ answered (new_story b what) (outcome.Fault e)
 refused_is b c started what e h =
     taken_if (length c.table == length c.table) _ (stories_with b what (length c.table)) (eq_test (length c.table) (length c.table) refl)
@@ -119,6 +124,7 @@ refused_is b c started what e h =
 abbrev pub core_refused : Core → Submission → Core
 core_refused c what = record (turned c (event.Submit what)) { table = c.table ++ None ∷ [] }
 
+-- the session is tied with it
 pub refused_tied : (b : Book) (c : Core) (started : List ℕ) (word : ℕ) (what : Submission) (e : RedisError) → Tied b (inner c started) → c.single.connection.fresh ≡ []
     → Tied (entered (entered b (turn_of c word (event.Submit what))) (action.Outcome (length c.table) (outcome.Fault e))) (seen (core_refused c what) c.single.connection [] started)
 refused_tied b c started word what e h no_fresh =

@@ -34,12 +34,15 @@ took_no_end l count =
 took_life : (l : Ledger) (created count : ℕ) (link after : LinkState) → TiedLife l created (Ready link) → TiedLife (noted l (hears (took count))) created (Ready after)
 took_life l created count link after h = chosen (λ (x : Ledger). TiedLife (record x { heard = took count }) created (Ready after)) l.up _ l (λ t. h) (λ f. h)
 
+-- the lines stay
 wrote_lines : (story : ℕ → Story) (requests : List Request) (link : LinkState) (count : ℕ) (waiting : List Waiting) (pending started : List ℕ) → TiedLines story requests link waiting pending started → TiedLines story requests (wrote_of link count) waiting pending started
 wrote_lines story requests link count waiting pending started h = record { line = h.line; queued = h.queued; entries = h.entries; packs = h.packs; there = h.there }
 
+-- and the link is whole
 wrote_whole : (link : LinkState) (count : ℕ) → IsWhole link → (x : LinkState) → Ready (wrote_of link count) ≡ Ready x → IsWhole x
 wrote_whole link count h x e = let same : wrote_of link count ≡ x = cc in subst IsWhole same (record { sound = h.sound; empty = h.empty; size = h.size; boundary = h.boundary })
 
+-- so much was taken of what was offered
 pub took_applied : (before : List Action) (c : Core) (started : List ℕ) (word count : ℕ) (kind : EventKind) → Between before c started → is_bad c kind ≡ false → IsNewsKind kind → news c.single.link kind ≡ took count → CanTake c.single.connection.life count
     → HasApplied (before ++ turn_of c word kind ∷ []) (with_work (record { core = turned c kind; acts = [] }) (taken_at (record { conn = c.single.connection; acts = [] }) count c.single.connection.life)) started
 took_applied before c started word count kind h good k is can = by_life c.single.connection.life refl
