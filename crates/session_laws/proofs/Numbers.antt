@@ -60,3 +60,8 @@ pub rising_apart : (lo : ℕ) (xs ys : List ℕ) (hi m n : ℕ) → Rising lo (x
 rising_apart lo [] ys hi m n h i j = absurd i
 rising_apart lo (x ∷ xs) ys hi m n h (inl e) j = let k = rising_in (suc x) ys hi n (rising_right (suc x) xs ys hi h.1) j in omega (arith, k.0)
 rising_apart lo (x ∷ xs) ys hi m n h (inr i) j = rising_apart (suc x) xs ys hi m n h.1 i j
+
+-- another rest
+pub rising_tail : (lo : ℕ) (xs ys zs : List ℕ) (hi : ℕ) → ((low : ℕ) → Rising low ys hi → Rising low zs hi) → Rising lo (xs ++ ys) hi → Rising lo (xs ++ zs) hi
+rising_tail lo [] ys zs hi f h = f lo h
+rising_tail lo (x ∷ xs) ys zs hi f h = (h.0, rising_tail (suc x) xs ys zs hi f h.1)

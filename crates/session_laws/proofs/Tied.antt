@@ -87,6 +87,7 @@ pub record IsUnknown (l : Ledger) : Type 0 where
   pub asked : l.asked ≡ false
   pub up : l.up ≡ false
   pub end : l.end ≡ None
+  pub starts : l.starts ≡ []
 
 -- how far the link has come
 abbrev pub TiedLife : Ledger → ℕ → Life → Type 0

@@ -1,0 +1,205 @@
+-- A turn of an event: where it may stand, and what its link and the others hear.
+use Rattle.std.proofs.Common.{◌≡◌, ◌≢◌, ◌⊎◌, inl, inr, ℕ, ◌+◌, ◌<◌, ◌==◌, nat_lt, nat_le, false, ◌&&◌, ◌||◌, not, is_some, List, [], ◌∷◌, ◌++◌, length, slice_get, Some, refl, sym, ap, ◌∙◌, subst, arith, length-take}
+use Rattle.std.proofs.lemmas.List.{append-nil}
+use Rattle.containers.proofs.Tests.{by_test, chosen, taken_if, left_if, eq_test, ne_test, not_le_from, or_left}
+use Rattle.driver_model.specs.declared.action.Action.{Action}
+use Rattle.driver_model.specs.declared.action.Action.TheVariants as action
+use Rattle.driver_model.specs.declared.action.Cause.TheVariants as cause
+use Rattle.driver_model.specs.declared.event.EventKind.{EventKind}
+use Rattle.driver_model.specs.declared.event.EventKind.TheVariants as event
+use Rattle.driver_model.specs.declared.news.LinkFault.TheVariants as fault
+use Rattle.driver_model.specs.News.{News, silence, connected, took, came, failed, shut, for_link, news}
+use Rattle.link_core.specs.Link.{LinkState}
+use Rattle.link_laws.proofs.TiedLink.{TiedLink}
+use Rattle.mux_conn.specs.declared.connection.MultiplexedConnection.{MultiplexedConnection}
+use Rattle.mux_conn.specs.declared.life.Life.{Life}
+use Rattle.mux_conn.specs.declared.life.Life.TheVariants.{Dialing, Ready, Ended}
+use Rattle.mux_conn.specs.declared.request.Request.{Request}
+use Rattle.shared_session.specs.declared.core_state.Core.{Core}
+use Rattle.shared_session.specs.Turn.{is_shutdown, shut_by, takes_too_much, is_no_link, is_bad}
+use Rattle.legal_trace.specs.Ledger.{Ledger, hears, noted, is_over, bytes_came}
+use Rattle.legal_trace.specs.Story.{Story}
+use Rattle.legal_trace.specs.Book.{Book, book, entered}
+use Rattle.legal_trace.specs.Events.{is_bad_event}
+use Rattle.legal_trace.specs.Legal.{MayTurn}
+use Rattle.session_laws.proofs.Tied.{owners_of, Inner, inner, link_in, owner_of, IsUnknown, TiedLife, TiedTries, TiedLines, TiedWaits, Tied, Sound}
+use Rattle.session_laws.proofs.States.{Between}
+use Rattle.session_laws.proofs.Entered.{book_more, sound_more}
+use Rattle.session_laws.proofs.Answer.{some_end}
+use Rattle.session_laws.proofs.Kept.{tied_by}
+use Rattle.session_laws.proofs.Settle.{seen, trace_of_acts, Holds}
+
+-- bad events
+--
+-- what a link that has not ended is offered
+offered_length : (l : Ledger) (s : LinkState) (requests : List Request) → TiedLink (owner_of requests) l s → length l.offer ≡ s.outbox.offered
+offered_length l s requests h = ap length h.offer ∙ (let e = length-take s.outbox.offered s.outbox.unwritten in let b = h.bound in omega arith)
+
+-- the connection's link can't take so much
+too_much : (l : Ledger) (created : ℕ) (life : Life) (requests : List Request) (count : ℕ) → TiedLife l created life → (life ≢ Ended → TiedLink (owner_of requests) l (link_in life)) → (not (is_over l) && nat_lt (length l.offer) count) ≡ takes_too_much life count
+too_much l created Dialing requests count h link = (λ i. not (is_some (h.2 i)) && nat_lt (offered_length l (link_in Dialing) requests (link (λ e. cc)) i) count)
+too_much l created (Ready s) requests count h link = (λ i. not (is_some (h.2 i)) && nat_lt (offered_length l s requests (link (λ e. cc)) i) count)
+too_much l created Ended requests count h link = ap (λ o. not o && nat_lt (length l.offer) count) (some_end l.end h.1)
+
+-- an event is bad after a trace where it is bad for its session
+pub same_badness : (b : Book) (c : Core) (started : List ℕ) (kind : EventKind) → Tied b (inner c started) → is_bad_event b kind ≡ is_bad c kind
+unfolding is_bad_event is_bad
+same_badness b c started (event.Submit what) h = refl
+same_badness b c started (event.Cancel n) h = ap (λ k. nat_le k n) h.numbers.submissions
+same_badness b c started (event.Connected l) h = ap (λ k. nat_le k l) h.numbers.links
+same_badness b c started (event.Bytes l piece) h = ap (λ k. nat_le k l) h.numbers.links
+same_badness b c started (event.Ended l) h = ap (λ k. nat_le k l) h.numbers.links
+same_badness b c started (event.ReadFault l kind) h = ap (λ k. nat_le k l) h.numbers.links
+same_badness b c started (event.WriteFault l kind) h = ap (λ k. nat_le k l) h.numbers.links
+same_badness b c started event.Shutdown h = refl
+same_badness b c started (event.Wrote l count) h =
+    ap (λ k. nat_le k l || (not (is_over (b.link l)) && nat_lt (length (b.link l).offer) count)) h.numbers.links
+    ∙ by_test (nat_le c.links l) _
+    (λ t. (λ i. t i || (not (is_over (b.link l)) && nat_lt (length (b.link l).offer) count)) ∙ sym (λ i. t i || ((l == c.single.link) && takes_too_much c.single.connection.life count)))
+    (λ f.
+    let same : l ≡ c.single.link = h.numbers.only l (not_le_from c.links l f) in
+    ap (λ x. nat_le c.links l || x) (
+    ap (λ m. not (is_over (b.link m)) && nat_lt (length (b.link m).offer) count) same
+    ∙ too_much (b.link c.single.link) b.created c.single.connection.life c.single.connection.requests count h.life h.link
+    ∙ sym (ap (λ x. x && takes_too_much c.single.connection.life count) (eq_test l c.single.link same))
+    ))
+
+-- the turn may stand
+abbrev pub turn_of : Core → ℕ → EventKind → Action
+turn_of c word kind = action.Turn c.turns (cause.Event (record { word = word; kind = kind }))
+
+-- a good event may have its turn after a settled one
+pub may_turn : (before : List Action) (c : Core) (started : List ℕ) (word : ℕ) (kind : EventKind) → Between before c started → is_bad c kind ≡ false → MayTurn (book before) c.turns (cause.Event (record { word = word; kind = kind }))
+may_turn before c started word kind h good =
+    let k = h.sound.tied in
+    record {
+      next = sym k.numbers.turns;
+      is_for = ((λ e. h.began (sym k.numbers.turns ∙ e)), h.settled, same_badness (book before) c started kind k ∙ good);
+    }
+
+-- what is heard
+--
+-- the other links hear nothing but the shutdown
+elsewhere_of : (c : Core) (l m : ℕ) (n : News) → ((k : ℕ) → k < c.links → k ≡ c.single.link) → is_no_link c l ≡ false → m ≢ c.single.link → for_link (l == m) n ≡ silence
+elsewhere_of c l m n only here other = left_if (l == m) n silence (ne_test l m (λ e. other (sym e ∙ only l (not_le_from c.links l here))))
+
+-- whatever the event is
+elsewhere : (c : Core) (m : ℕ) (kind : EventKind) → ((k : ℕ) → k < c.links → k ≡ c.single.link) → is_bad c kind ≡ false → m ≢ c.single.link → (news m kind ≡ silence) ⊎ (news m kind ≡ shut)
+unfolding is_bad
+elsewhere c m (event.Submit what) only good other = inl refl
+elsewhere c m (event.Cancel n) only good other = inl refl
+elsewhere c m (event.Connected l) only good other = inl (elsewhere_of c l m connected only good other)
+elsewhere c m (event.Wrote l count) only good other = inl (elsewhere_of c l m (took count) only (or_left (is_no_link c l) _ good) other)
+elsewhere c m (event.Bytes l piece) only good other = inl (elsewhere_of c l m (came piece) only good other)
+elsewhere c m (event.Ended l) only good other = inl (elsewhere_of c l m (failed fault.Ended) only good other)
+elsewhere c m (event.ReadFault l kind) only good other = inl (elsewhere_of c l m (failed (fault.Io kind)) only good other)
+elsewhere c m (event.WriteFault l kind) only good other = inl (elsewhere_of c l m (failed (fault.Io kind)) only good other)
+elsewhere c m event.Shutdown only good other = inr refl
+
+-- and stay unknown
+unknown_heard : (l : Ledger) (n : News) → (n ≡ silence) ⊎ (n ≡ shut) → IsUnknown l → IsUnknown (noted l (hears n))
+unknown_heard l n (inl e) h = subst (λ (x : News). IsUnknown (noted l (hears x))) (sym e) (record { asked = h.asked; up = h.up; end = h.end; starts = h.starts })
+unknown_heard l n (inr e) h = subst (λ (x : News). IsUnknown (noted l (hears x))) (sym e) (record { asked = h.asked; up = h.up; end = h.end; starts = h.starts })
+
+-- so all other links stay unknown
+pub others_heard : (b : Book) (c : Core) (started : List ℕ) (kind : EventKind) → Tied b (inner c started) → is_bad c kind ≡ false → (m : ℕ) → m ≢ c.single.link → IsUnknown (noted (b.link m) (hears (news m kind)))
+others_heard b c started kind h good m other = unknown_heard (b.link m) (news m kind) (elsewhere c m kind h.numbers.only good other) (h.others m other)
+
+-- the event that names a link names the connection's
+pub own_news : (c : Core) (l : ℕ) (n : News) → ((k : ℕ) → k < c.links → k ≡ c.single.link) → is_no_link c l ≡ false → for_link (l == c.single.link) n ≡ n
+own_news c l n only here = taken_if (l == c.single.link) n silence (eq_test l c.single.link (only l (not_le_from c.links l here)))
+
+-- news start nothing
+pub heard_starts : (l : Ledger) (n : News) → (noted l (hears n)).starts ≡ l.starts
+heard_starts l silence = refl
+heard_starts l connected = chosen (λ (x : Ledger). x.starts ≡ l.starts) (is_over l) l _ (λ t. refl) (λ f. refl)
+heard_starts l (took count) = chosen (λ (x : Ledger). x.starts ≡ l.starts) l.up _ l (λ t. refl) (λ f. refl)
+heard_starts l (came piece) = chosen (λ (x : Ledger). x.starts ≡ l.starts) l.up (bytes_came l piece) l (λ t. refl) (λ f. refl)
+heard_starts l (failed f) = refl
+heard_starts l shut = refl
+
+-- the turn of an event that neither hands in nor cancels
+--
+-- the event neither hands in nor cancels
+abbrev pub IsNewsKind : EventKind → Type 0
+IsNewsKind (event.Submit what) = ⊥
+IsNewsKind (event.Cancel n) = ⊥
+IsNewsKind (event.Connected l) = Unit {0}
+IsNewsKind (event.Wrote l count) = Unit {0}
+IsNewsKind (event.Bytes l piece) = Unit {0}
+IsNewsKind (event.Ended l) = Unit {0}
+IsNewsKind (event.ReadFault l kind) = Unit {0}
+IsNewsKind (event.WriteFault l kind) = Unit {0}
+IsNewsKind event.Shutdown = Unit {0}
+
+-- leaves the stories
+abbrev pub heard_book : Book → ℕ → EventKind → Book
+heard_book b word kind = record b {
+  turns = b.turns + 1;
+  running = Some (cause.Event (record { word = word; kind = kind }));
+  shut = b.shut || is_shutdown kind;
+  link = λ m. noted (b.link m) (hears (news m kind));
+}
+
+-- with as many submissions as before
+still_as_many : (b : Book) (word : ℕ) (kind : EventKind) → record (heard_book b word kind) { submissions = b.submissions + 0 } ≡ heard_book b word kind
+still_as_many b word kind = let e : b.submissions + 0 ≡ b.submissions = omega arith in λ i. record (heard_book b word kind) { submissions = e i }
+
+-- the book with its turn is that book
+pub heard_is : (b : Book) (number word : ℕ) (kind : EventKind) → IsNewsKind kind → entered b (action.Turn number (cause.Event (record { word = word; kind = kind }))) ≡ heard_book b word kind
+heard_is b number word (event.Submit what) k = absurd k
+heard_is b number word (event.Cancel n) k = absurd k
+heard_is b number word (event.Connected l) k = still_as_many b word (event.Connected l)
+heard_is b number word (event.Wrote l count) k = still_as_many b word (event.Wrote l count)
+heard_is b number word (event.Bytes l piece) k = still_as_many b word (event.Bytes l piece)
+heard_is b number word (event.Ended l) k = still_as_many b word (event.Ended l)
+heard_is b number word (event.ReadFault l kind) k = still_as_many b word (event.ReadFault l kind)
+heard_is b number word (event.WriteFault l kind) k = still_as_many b word (event.WriteFault l kind)
+heard_is b number word event.Shutdown k = still_as_many b word event.Shutdown
+
+-- tries are of the starts
+tries_by : (l after : Ledger) (story : ℕ → Story) (requests : List Request) (link : ℕ) (started : List ℕ) → after.starts ≡ l.starts → TiedTries l story requests link started → TiedTries after story requests link started
+tries_by l after story requests link started e h = record {
+  owners = ap owners_of e ∙ h.owners;
+  shapes = λ k p s i j. h.shapes k p s i (ap (λ ss. slice_get ss k) (sym e) ∙ j);
+  tried = h.tried;
+  untried = h.untried;
+}
+
+-- the core of the turn
+abbrev pub turned : Core → EventKind → Core
+turned c kind = shut_by (record c { turns = c.turns + 1 }) kind
+
+-- the session tied to that book, by what its link hears and has come to; the creation may be shown with it
+pub heard_tied : (b : Book) (c : Core) (started : List ℕ) (word created : ℕ) (kind : EventKind) (life : Life) (pending : List ℕ) (l : Ledger) → Tied b (inner c started) → is_bad c kind ≡ false → noted (b.link c.single.link) (hears (news c.single.link kind)) ≡ l
+    → l.starts ≡ (b.link c.single.link).starts → TiedLife l created life → (life ≢ Ended → TiedLink (owner_of c.single.connection.requests) l (link_in life))
+    → TiedLines b.story c.single.connection.requests (link_in life) c.single.connection.waiting pending started → TiedWaits b.story c.single.connection.requests life c.single.connection.fresh
+    → Tied (record (heard_book b word kind) { created = created }) (seen (turned c kind) (record c.single.connection { life = life }) pending started)
+heard_tied b c started word created kind life pending l h good is same lived linked lines waits =
+    let after = record (heard_book b word kind) { created = created } in
+    let t = seen (turned c kind) (record c.single.connection { life = life }) pending started in
+    tied_by after t l is (record {
+      numbers = record { turns = ap (λ n. n + 1) h.numbers.turns; links = h.numbers.links; submissions = h.numbers.submissions; shut = ap (λ s. s || is_shutdown kind) h.numbers.shut; one = h.numbers.one; only = h.numbers.only };
+      others = others_heard b c started kind h good;
+      life = lived;
+      link = linked;
+      names = h.names;
+      story = h.story;
+      tries = tries_by (b.link c.single.link) l b.story c.single.connection.requests c.single.link started same h.tries;
+      lines = lines;
+      waits = waits;
+    })
+
+-- the trace begins
+--
+-- the turn stands, and the session is tied to its book
+pub announced_sound : (before : List Action) (c : Core) (started : List ℕ) (word : ℕ) (kind : EventKind) (t : Inner) → Between before c started → is_bad c kind ≡ false → Tied (entered (book before) (turn_of c word kind)) t → Sound (before ++ turn_of c word kind ∷ []) t
+announced_sound before c started word kind t h good tied = sound_more before (turn_of c word kind) t h.sound.stands (may_turn before c started word kind h good) tied
+
+-- no act is shown yet
+pub holds_first : (before : List Action) (f : Core) (conn : MultiplexedConnection) (pending started : List ℕ) → Sound before (seen f conn pending started) → Holds before f (record { conn = conn; acts = [] }) pending started
+holds_first before f conn pending started h = subst (λ (x : List Action). Sound x (seen f conn pending started)) (sym (append-nil before)) h
+
+-- the book of a turn without acts
+pub first_book : (before : List Action) (a : Action) (f : Core) → book (trace_of_acts (before ++ a ∷ []) f []) ≡ entered (book before) a
+first_book before a f = ap book (append-nil (before ++ a ∷ [])) ∙ book_more before a

@@ -1,0 +1,214 @@
+-- One outcome: where it may stand, and what it leaves.
+use Rattle.std.proofs.Common.{◌≡◌, ◌≢◌, inl, inr, ℕ, ◌<◌, ◌==◌, Bool, true, false, ◌&&◌, not, is_some, List, [], ◌∷◌, ◌++◌, length, Option, Some, None, if◌then◌else◌, refl, sym, ap, ◌∙◌, subst}
+use Rattle.std.specs.List.{AllByRecursion}
+use Rattle.containers.proofs.Tests.{by_test, chosen, if_true, left_if, eq_from, ne_from, not_both}
+use Rattle.driver_model.specs.declared.action.Action.TheVariants as action
+use Rattle.driver_model.specs.declared.outcome.Outcome.{Outcome}
+use Rattle.driver_model.specs.declared.outcome.Outcome.TheVariants as outcome
+use Rattle.redis_error.specs.declared.redis_error.RedisError.TheVariants as error
+use Rattle.link_core.specs.declared.message.Entry.{Entry}
+use Rattle.link_core.specs.Link.{LinkState}
+use Rattle.link_laws.specs.Settles.{wanted}
+use Rattle.link_laws.proofs.TiedLink.{TiedLink}
+use Rattle.mux_conn.specs.declared.life.Life.{Life}
+use Rattle.mux_conn.specs.declared.life.Life.TheVariants.{Dialing, Ready, Ended}
+use Rattle.mux_conn.specs.declared.request.Pending.{Pending}
+use Rattle.mux_conn.specs.declared.request.Progress.TheVariants as progress
+use Rattle.mux_conn.specs.declared.request.Request.{Request}
+use Rattle.mux_conn.specs.declared.request.Waiting.{Waiting}
+use Rattle.mux_conn.specs.Requests.{is_open as is_open_progress, is_waiting, is_open_at, name_at, at_progress}
+use Rattle.legal_trace.specs.Ledger.{End, ending_up, ending_asked, Ledger, is_over, ending}
+use Rattle.legal_trace.specs.Story.{Story, Try, last_of, packed_in, shape_in, bytes_of, answered}
+use Rattle.legal_trace.specs.Book.{Book, entered}
+use Rattle.legal_trace.specs.Owed.{owed, owed_to_try, owed_to_message, owed_unstarted}
+use Rattle.legal_trace.specs.Legal.{NoneEnds, VerdictsAreShown, MayAnswer}
+use Rattle.session_laws.proofs.Numbers.{IsIn, in_right, in_left, Rising, rising_in}
+use Rattle.session_laws.proofs.Tied.{Inner, link_in, queue_ids, waiting_ids, IsUnknown, TiedLife, TiedNames, IsEntry, TiedLines, Tied}
+use Rattle.session_laws.proofs.Names.{open_within, earlier_name, owners_still, length_still, names_progressed, there_other, there_then}
+use Rattle.session_laws.proofs.InLine.{line_of, IsInLine, first_is_apart}
+use Rattle.session_laws.proofs.Closing.{Closes, with_closed, story_closed, tries_closed, packs_closed, queue_closed, waits_closed}
+use Rattle.session_laws.proofs.Owes.{request_story, open_request, answered_closed}
+
+-- where it may stand
+--
+-- an open request of its link is owed that; none before it is owed anything; and on a link that is over nothing is due before
+pub may_answer : (b : Book) (t : Inner) (p : ℕ) (o : Outcome) → Tied b t → is_open_at t.requests p ≡ true → owed b (name_at t.requests p) ≡ Some o
+    → ((q : ℕ) → q < p → is_open_at t.requests q ≡ true → owed b (name_at t.requests q) ≡ None)
+    → (is_over (b.link t.link) ≡ true → NoneEnds b × VerdictsAreShown b) → MayAnswer b (name_at t.requests p) o
+may_answer b t p o h e owes before after =
+    let l = open_within t.requests p e in
+    let r = request_story b t p h l in
+    record {
+      asked = r.open_is ∙ e;
+      owes = owes;
+      in_order = λ m less asked same.
+          let q = open_request b t m h asked in
+          let k = open_within t.requests q.number q.open_at in
+          ap (owed b) (sym q.named) ∙ before q.number (earlier_name t.table t.requests q.number p h.names k l (subst (λ n. n < name_at t.requests p) (sym q.named) less)) q.open_at;
+      after_closes = λ over. after (subst (λ n. is_over (b.link n) ≡ true) r.on over);
+    }
+
+-- what isn't up need not end where it isn't asked for, or is over
+pub not_up_ends : (l : Ledger) → l.up ≡ false → (l.asked && not (is_over l)) ≡ false → ending l ≡ None
+not_up_ends l down no_dial = left_if l.up (ending_up l l.heard) _ down ∙ left_if (l.asked && not (is_over l)) (ending_asked l.heard) None no_dial
+
+-- nor what was never asked for
+pub unknown_ends : (l : Ledger) → IsUnknown l → ending l ≡ None
+unknown_ends l h = not_up_ends l h.up (ap (λ a. a && not (is_over l)) h.asked)
+
+-- what is not none is some
+pub some_end : (x : Option End) → x ≢ None → is_some x ≡ true
+some_end None n = absurd (n refl)
+some_end (Some e) n = refl
+
+-- what is over is not waited for
+pub over_not_asked : (l : Ledger) → l.end ≢ None → (l.asked && not (is_over l)) ≡ false
+over_not_asked l n = ap (λ o. l.asked && not o) (some_end l.end n) ∙ none_of l.asked
+  where
+    none_of : (a : Bool) → (a && false) ≡ false
+    none_of true = refl
+    none_of false = refl
+
+-- a connection that has ended has a link that is over
+ended_over : (l : Ledger) (created : ℕ) (life : Life) → life ≡ Ended → TiedLife l created life → is_over l ≡ true
+ended_over l created Dialing over h = cc
+ended_over l created (Ready link) over h = cc
+ended_over l created Ended over h = some_end l.end h.1
+
+-- what has ended need not end
+ended_ends : (l : Ledger) (created : ℕ) (life : Life) → life ≡ Ended → TiedLife l created life → ending l ≡ None
+ended_ends l created Dialing over h = cc
+ended_ends l created (Ready link) over h = cc
+ended_ends l created Ended over h = not_up_ends l h.0 (over_not_asked l h.1)
+
+-- on a link that has ended
+pub after_end : (b : Book) (t : Inner) → Tied b t → t.life ≡ Ended → NoneEnds b × VerdictsAreShown b
+after_end b t h over = (
+  (λ m. by_test (m == t.link) _
+      (λ same. let e = eq_from m t.link same in subst (λ n. ending (b.link n) ≡ None) (sym e) (ended_ends (b.link t.link) b.created t.life over h.life))
+      (λ other. unknown_ends (b.link m) (h.others m (ne_from m t.link other)))),
+  (λ n asked alive.
+      let q = open_request b t n h asked in
+      let r = request_story b t q.number h (open_within t.requests q.number q.open_at) in
+      let on : (b.story n).link ≡ t.link = ap (λ m. (b.story m).link) (sym q.named) ∙ r.on in
+      absurd (not_both (is_over (b.link t.link)) (subst (λ m. is_over (b.link m) ≡ false) on alive) (ended_over (b.link t.link) b.created t.life over h.life))),
+)
+
+-- what it leaves
+--
+-- what a submission of that story is owed
+abbrev pub owed_in : Book → Story → Option Outcome
+owed_in b s =
+    if s.late then Some (outcome.Fault error.Closed)
+    else if length (bytes_of s) == 0 then Some (outcome.Fault error.EmptyCommand)
+    else owed_to_try b s (last_of s.tries)
+
+-- what is owed stays
+pub owed_still : (b : Book) (n : ℕ) (o : Outcome) (m : ℕ) → owed (entered b (action.Outcome n o)) m ≡ owed b m
+owed_still b n o m =
+    chosen (λ (s : Story). owed_in (entered b (action.Outcome n o)) s ≡ owed_in b (b.story m)) (n == m) (answered (b.story m) o) (b.story m)
+    (λ t. alike (answered (b.story m) o) refl refl refl refl)
+    (λ f. alike (b.story m) refl refl refl refl)
+  where
+    by_try : (s : Story) (x : Option Try) → s.link ≡ (b.story m).link → s.submission ≡ (b.story m).submission → owed_to_try (entered b (action.Outcome n o)) s x ≡ owed_to_try b (b.story m) x
+    by_try s None link what = ap (λ l. owed_unstarted (b.link l).end) link
+    by_try s (Some t) link what = ap (λ w. owed_to_message (b.link t.link) t.message (shape_in w)) what
+
+    alike : (s : Story) → s.late ≡ (b.story m).late → s.link ≡ (b.story m).link → s.submission ≡ (b.story m).submission → s.tries ≡ (b.story m).tries → owed_in (entered b (action.Outcome n o)) s ≡ owed_in b (b.story m)
+    alike s late link what tries = (λ i.
+        if late i then Some (outcome.Fault error.Closed)
+        else if length (packed_in (what i)) == 0 then Some (outcome.Fault error.EmptyCommand)
+        else (by_try s (last_of s.tries) link what ∙ ap (λ ts. owed_to_try b (b.story m) (last_of ts)) tries) i)
+
+-- an answered story closes
+pub answer_closes : (s : Story) (o : Outcome) → Closes s (answered s o)
+answer_closes s o = record {
+  submission = refl;
+  late = refl;
+  link = refl;
+  tries = refl;
+  closed = answered_closed (answered s o) s.outcomes o refl;
+  quiet = λ e. refl;
+}
+
+-- entries that are wanted are others
+pub entries_answered : (requests : List Request) (p : ℕ) (row : List Entry) → (IsIn p (wanted row) → ⊥) → AllByRecursion (IsEntry requests) row → AllByRecursion (IsEntry (at_progress requests p progress.Closed)) row
+entries_answered requests p [] apart all = tt
+entries_answered requests p (e ∷ es) apart all = (
+  record {
+    below = subst (λ n. e.id < n) (sym (length_still requests p progress.Closed)) all.0.below;
+    open_at = λ t.
+        let other : p ≢ e.id = λ same. apart (in_left p (if e.awaited then e.id ∷ [] else []) (wanted es) (if_true (IsIn p) e.awaited (e.id ∷ []) [] t (inl (sym same)))) in
+        there_other is_open_progress requests p e.id progress.Closed other ∙ all.0.open_at t;
+  },
+  entries_answered requests p es (λ i. apart (in_right p (if e.awaited then e.id ∷ [] else []) (wanted es) i)) all.1,
+)
+
+-- the lines where the first of those that are to be answered is, and is none of the others
+lines_answered : (table : List (Option Pending)) (story : ℕ → Story) (requests : List Request) (link : LinkState) (waiting : List Waiting) (p : ℕ) (pending started : List ℕ) (closed : ℕ → Story) → TiedNames table requests → p < length requests
+    → ((n : ℕ) → Closes (story n) (closed n)) → (IsIn p (pending ++ line_of link waiting) → ⊥) → TiedLines story requests link waiting (p ∷ pending) started
+    → TiedLines (with_closed story requests p closed) (at_progress requests p progress.Closed) link waiting pending started
+lines_answered table story requests link waiting p pending started closed names l c apart h =
+    let rows = wanted link.row in
+    let queue = queue_ids link.queue in
+    let later = queue ++ waiting_ids waiting in
+    record {
+      line = subst (Rising 0 (started ++ later)) (sym (length_still requests p progress.Closed)) h.line;
+      queued = queue_closed table story requests p closed link.queue names l
+          (λ n i. let k = rising_in 0 (started ++ later) (length requests) n h.line (in_right n started later (in_left n queue (waiting_ids waiting) i)) in k.1)
+          (λ i. apart (in_right p pending (rows ++ later) (in_right p rows later (in_left p queue (waiting_ids waiting) i)))) c h.queued;
+      entries = entries_answered requests p link.row (λ i. apart (in_right p pending (rows ++ later) (in_left p rows later i))) h.entries;
+      packs = packs_closed story requests p closed waiting c h.packs;
+      there = λ q e.
+          let k = there_then is_open_progress requests p q progress.Closed refl l e in
+          elim (h.there q k.1) [
+            | inl i ↦ elim i [ inl same ↦ absurd (k.0 same) | inr j ↦ inl j ]
+            | inr w ↦ inr (there_other is_waiting requests p q progress.Closed k.0 ∙ w.0, w.1)
+          ];
+    }
+
+-- the first of those that are to be answered is, and is none of the others
+pub answer_apart : (b : Book) (t : Inner) (p : ℕ) (pending : List ℕ) (o : Outcome) → p < length t.requests → (IsIn p (pending ++ line_of (link_in t.life) t.waiting) → ⊥) → Tied b (record t { pending = p ∷ pending })
+    → Tied (entered b (action.Outcome (name_at t.requests p) o)) (record t { requests = at_progress t.requests p progress.Closed; pending = pending })
+answer_apart b t p pending o l apart h =
+    let closed : ℕ → Story = λ n. answered (b.story n) o in
+    let c : (n : ℕ) → Closes (b.story n) (closed n) = λ n. answer_closes (b.story n) o in
+    record {
+      numbers = record { turns = h.numbers.turns; links = h.numbers.links; submissions = h.numbers.submissions; shut = h.numbers.shut; one = h.numbers.one; only = h.numbers.only };
+      others = h.others;
+      life = h.life;
+      link = λ n. subst (λ name. TiedLink name (b.link t.link) (link_in t.life)) (sym (owners_still t.requests p progress.Closed)) (h.link n);
+      names = names_progressed t.table t.requests p progress.Closed h.names;
+      story = λ n. story_closed b.story t.table t.requests t.link p closed n h.names l (c n) (h.story n);
+      tries = tries_closed (b.link t.link) b.story t.requests t.link p closed t.started c h.tries;
+      lines = lines_answered t.table b.story t.requests (link_in t.life) t.waiting p pending t.started closed h.names l c apart h.lines;
+      waits = waits_closed t.table b.story t.requests p closed t.life t.life t.fresh h.names l c (λ e. e) h.waits;
+    }
+
+-- where the line rises
+pub answer_tied : (b : Book) (t : Inner) (p : ℕ) (pending : List ℕ) (o : Outcome) → p < length t.requests → IsInLine t.requests (link_in t.life) t.waiting (p ∷ pending) → Tied b (record t { pending = p ∷ pending })
+    → Tied (entered b (action.Outcome (name_at t.requests p) o)) (record t { requests = at_progress t.requests p progress.Closed; pending = pending })
+answer_tied b t p pending o l r h = answer_apart b t p pending o l (first_is_apart 0 p (pending ++ line_of (link_in t.life) t.waiting) (length t.requests) r) h
+
+-- one that isn't open is answered with nothing shown
+pub skip_tied : (b : Book) (t : Inner) (p : ℕ) (pending : List ℕ) → is_open_at t.requests p ≡ false → Tied b (record t { pending = p ∷ pending }) → Tied b (record t { pending = pending })
+skip_tied b t p pending closed h = record {
+  numbers = record { turns = h.numbers.turns; links = h.numbers.links; submissions = h.numbers.submissions; shut = h.numbers.shut; one = h.numbers.one; only = h.numbers.only };
+  others = h.others;
+  life = h.life;
+  link = h.link;
+  names = h.names;
+  story = h.story;
+  tries = h.tries;
+  lines = record {
+    line = h.lines.line;
+    queued = h.lines.queued;
+    entries = h.lines.entries;
+    packs = h.lines.packs;
+    there = λ q e. elim (h.lines.there q e) [
+      | inl i ↦ elim i [ inl same ↦ absurd (not_both (is_open_at t.requests q) (ap (is_open_at t.requests) (sym same) ∙ closed) e) | inr j ↦ inl j ]
+      | inr w ↦ inr w
+    ];
+  };
+  waits = h.waits;
+}

@@ -1,0 +1,229 @@
+-- A submission is handed in: it is the next request, or it is answered at once.
+use Rattle.std.proofs.Common.{◌≡◌, ◌≢◌, inl, inr, ℕ, ◌+◌, ◌<◌, ◌≤◌, ◌==◌, Bool, true, false, ◌||◌, List, [], ◌∷◌, ◌++◌, length, Some, slice_get, if◌then◌else◌, refl, sym, ap, ◌∙◌, subst, append_assoc, arith, length-append}
+use Rattle.containers.proofs.Places.{get_within}
+use Rattle.containers.proofs.Tests.{chosen, not_both}
+use Rattle.redis_error.specs.declared.redis_error.RedisError.{RedisError}
+use Rattle.redis_error.specs.declared.redis_error.RedisError.TheVariants as error
+use Rattle.driver_model.specs.declared.action.Action.{Action}
+use Rattle.driver_model.specs.declared.action.Action.TheVariants as action
+use Rattle.driver_model.specs.declared.event.EventKind.TheVariants as event
+use Rattle.driver_model.specs.declared.event.Submission.{Submission}
+use Rattle.driver_model.specs.declared.outcome.Outcome.TheVariants as outcome
+use Rattle.driver_model.specs.News.{silence}
+use Rattle.driver_model.specs.Request.{packed, shape_of, awaits_reply}
+use Rattle.link_laws.proofs.Lists.{get_last}
+use Rattle.link_laws.proofs.TiedLink.{told_tied, named_tied, all_push}
+use Rattle.mux_conn.specs.declared.request.Progress.TheVariants as progress
+use Rattle.mux_conn.specs.declared.request.Request.{Request}
+use Rattle.mux_conn.specs.declared.request.Waiting.{Waiting}
+use Rattle.mux_conn.specs.Requests.{is_open as is_open_progress, is_waiting, if_there, name_or_none, is_open_at, is_waiting_at, name_at, waiting_of, asked}
+use Rattle.shared_session.specs.declared.core_state.Core.{Core}
+use Rattle.shared_session.specs.Turn.{Turning, heard, refused, asked_for, pending, effect, counted, is_bad}
+use Rattle.legal_trace.specs.Story.{Story}
+use Rattle.legal_trace.specs.Book.{Book, blank_book, book, entered}
+use Rattle.legal_trace.specs.Legal.{AllStand, NoneEnds, MayAnswer}
+use Rattle.session_laws.proofs.Numbers.{IsIn, in_left, in_right, Rising, rising_next}
+use Rattle.session_laws.proofs.Tied.{inner, link_in, owner_of, queue_ids, waiting_ids, IsOf, IsRequest, IsPacked, IsNew, TiedLines, TiedWaits, Tied}
+use Rattle.session_laws.proofs.States.{Between, HasApplied}
+use Rattle.session_laws.proofs.Entered.{all_stand-append, book_more, sound_more}
+use Rattle.session_laws.proofs.Names.{there_within, names_asked}
+use Rattle.session_laws.proofs.Owes.{started_within}
+use Rattle.session_laws.proofs.Settle.{seen}
+use Rattle.session_laws.proofs.Announce.{turn_of, turned, may_turn}
+use Rattle.session_laws.proofs.Heard.{told_life, silent_no_end, silent_applied}
+use Rattle.session_laws.proofs.Further.{one_longer, there_longer, before_or_new, story_at, further_story, tries_longer, queue_longer, packs_longer, entries_longer, owners_of_row}
+use Rattle.session_laws.proofs.Submit.{stories_with, new_story, story_is_new, others_before, within_line, IsErrorOf, may_refuse, core_refused, refused_tied}
+
+-- it is answered at once
+pub refused_applied : (before : List Action) (c : Core) (started : List ℕ) (word : ℕ) (what : Submission) (e : RedisError) → Between before c started → is_bad c (event.Submit what) ≡ false → IsErrorOf (book before).shut what e
+    → HasApplied (before ++ turn_of c word (event.Submit what) ∷ []) (refused (heard (counted c) (event.Submit what)) e) started
+refused_applied before c started word what e h good why =
+    let b = book before in
+    let front = before ++ turn_of c word (event.Submit what) ∷ [] in
+    let now = entered b (turn_of c word (event.Submit what)) in
+    let a = action.Outcome (length c.table) (outcome.Fault e) in
+    let t = seen (core_refused c what) c.single.connection [] started in
+    let book_is : book front ≡ now = book_more before (turn_of c word (event.Submit what)) in
+    let all : AllStand blank_book front = all_stand-append before (turn_of c word (event.Submit what) ∷ []) h.sound.stands (may_turn before c started word (event.Submit what) h good, tt) in
+    let applied = h.settled.written.moved.applied in
+    let may : MayAnswer now (length c.table) (outcome.Fault e) = may_refuse b c started word what e h.sound.tied applied.answered applied.ended why in
+    record {
+      sound = sound_more front a t all (inl (subst (λ (x : Book). MayAnswer x (length c.table) (outcome.Fault e)) (sym book_is) may))
+          (subst (λ (x : Book). Tied (entered x a) t) (sym book_is) (refused_tied b c started word what e h.sound.tied h.fresh));
+      ended = subst NoneEnds (sym (book_more front a ∙ ap (λ (x : Book). entered x a) book_is)) (λ m. silent_no_end (b.link m));
+      began = λ z. absurd (omega arith);
+      whole = h.whole;
+    }
+
+-- it is the next request
+--
+-- the next request
+abbrev new_request : Core → Request
+new_request c = record { name = length c.table; progress = progress.Waiting }
+
+-- the requests with it
+abbrev more_requests : Core → List Request
+more_requests c = c.single.connection.requests ++ new_request c ∷ []
+
+-- how it waits
+abbrev new_waiting : Core → Submission → Waiting
+new_waiting c what = waiting_of (length c.single.connection.requests) (packed what) (shape_of what) (awaits_reply what)
+
+-- who waits then
+waiting_more : (waiting : List Waiting) (w : Waiting) → waiting_ids (waiting ++ w ∷ []) ≡ waiting_ids waiting ++ w.number ∷ []
+waiting_more [] w = refl
+waiting_more (x ∷ waiting) w = ap (λ ns. x.number ∷ ns) (waiting_more waiting w)
+
+-- what is true of the last request
+last_named : (c : Core) → name_at (more_requests c) (length c.single.connection.requests) ≡ length c.table
+last_named c = ap name_or_none (get_last c.single.connection.requests (new_request c))
+
+-- it is open
+last_open : (c : Core) → is_open_at (more_requests c) (length c.single.connection.requests) ≡ true
+last_open c = ap (if_there is_open_progress) (get_last c.single.connection.requests (new_request c))
+
+-- it waits
+last_waiting : (c : Core) → is_waiting_at (more_requests c) (length c.single.connection.requests) ≡ true
+last_waiting c = ap (if_there is_waiting) (get_last c.single.connection.requests (new_request c))
+
+-- what is one of these and not one of those before is the last
+last_is : (c : Core) (p : ℕ) → p < length (more_requests c) → length c.single.connection.requests ≤ p → p ≡ length c.single.connection.requests
+last_is c p l past = omega (arith, length-append c.single.connection.requests (new_request c ∷ []))
+
+-- the numbers of the line rise
+asked_line : (c : Core) (what : Submission) (started queue : List ℕ) → Rising 0 (started ++ (queue ++ waiting_ids c.single.connection.waiting)) (length c.single.connection.requests)
+    → Rising 0 (started ++ (queue ++ waiting_ids (c.single.connection.waiting ++ new_waiting c what ∷ []))) (length (more_requests c))
+asked_line c what started queue r =
+    let requests = c.single.connection.requests in
+    let last = waiting_ids c.single.connection.waiting in
+    let n = length requests in
+    let long : n + 1 ≡ length (more_requests c) = sym (length-append requests (new_request c ∷ [])) in
+    let line : (started ++ (queue ++ last)) ++ n ∷ [] ≡ started ++ (queue ++ waiting_ids (c.single.connection.waiting ++ new_waiting c what ∷ [])) =
+    append_assoc started (queue ++ last) (n ∷ []) ∙ ap (λ ns. started ++ ns) (append_assoc queue last (n ∷ []) ∙ ap (λ ns. queue ++ ns) (sym (waiting_more c.single.connection.waiting (new_waiting c what)))) in
+    subst (λ ns. Rising 0 ns (length (more_requests c))) line (subst (Rising 0 ((started ++ (queue ++ last)) ++ n ∷ [])) long (rising_next 0 (started ++ (queue ++ last)) n r))
+
+-- it stands at the end of the line
+asked_lines : (b : Book) (c : Core) (started : List ℕ) (what : Submission) → Tied b (inner c started) → TiedLines (stories_with b what) (more_requests c) (link_in c.single.connection.life) (c.single.connection.waiting ++ new_waiting c what ∷ []) [] started
+asked_lines b c started what h =
+    let conn = c.single.connection in
+    let after = stories_with b what in
+    let same = others_before b c started what h in
+    let longer = one_longer conn.requests (new_request c) in
+    let queue = queue_ids (link_in conn.life).queue in
+    let last = waiting_ids conn.waiting in
+    let n = length conn.requests in
+    let at : (p : ℕ) → IsIn p (started ++ (queue ++ last)) → p < n = λ p i. within_line conn.requests started queue last p h.lines.line i in
+    let own : after (name_at (more_requests c) n) ≡ new_story b what = ap after (last_named c) ∙ story_is_new b c started what h in
+    let in_last : (p : ℕ) → IsIn p (last ++ n ∷ []) → IsIn p (waiting_ids (conn.waiting ++ new_waiting c what ∷ [])) = λ p i. subst (IsIn p) (sym (waiting_more conn.waiting (new_waiting c what))) i in
+    record {
+      line = asked_line c what started queue h.lines.line;
+      queued = queue_longer c.table b.story after conn.requests (more_requests c) (link_in conn.life).queue h.names same longer (λ p i. at p (in_right p started (queue ++ last) (in_left p queue last i))) h.lines.queued;
+      entries = entries_longer conn.requests (more_requests c) (link_in conn.life).row longer h.lines.entries;
+      packs = all_push (IsPacked after (more_requests c)) conn.waiting (new_waiting c what)
+          (packs_longer c.table b.story after conn.requests (more_requests c) conn.waiting h.names same longer (λ p i. at p (in_right p started (queue ++ last) (in_right p queue last i))) h.lines.packs)
+          (subst (λ (s : Story). IsOf s (packed what) (shape_of what) (awaits_reply what)) (sym own) (record { packs = refl; shape_is = refl; awaited_is = refl }));
+      there = λ p e. before_or_new conn.requests (more_requests c) p _
+          (λ old. elim (h.lines.there p (sym (there_longer is_open_progress conn.requests (more_requests c) p longer old) ∙ e)) [
+            | inl i ↦ inl i
+            | inr w ↦ inr (there_longer is_waiting conn.requests (more_requests c) p longer old ∙ w.0, in_last p (in_left p last (n ∷ []) w.1))
+          ])
+          (λ past.
+          let is = last_is c p (there_within is_open_progress (more_requests c) p e) past in
+          inr (ap (is_waiting_at (more_requests c)) is ∙ last_waiting c, in_last p (in_right p last (n ∷ []) (inl (sym is)))));
+    }
+
+-- its wait is not shown yet
+asked_waits : (b : Book) (c : Core) (started : List ℕ) (what : Submission) → Tied b (inner c started) → c.single.connection.fresh ≡ [] → TiedWaits (stories_with b what) (more_requests c) c.single.connection.life (c.single.connection.fresh ++ length c.single.connection.requests ∷ [])
+asked_waits b c started what h no_fresh =
+    let conn = c.single.connection in
+    let after = stories_with b what in
+    let n = length conn.requests in
+    let fresh_is : conn.fresh ++ n ∷ [] ≡ n ∷ [] = ap (λ ns. ns ++ n ∷ []) no_fresh in
+    let longer = one_longer conn.requests (new_request c) in
+    let own : after (name_at (more_requests c) n) ≡ new_story b what = ap after (last_named c) ∙ story_is_new b c started what h in
+    record {
+      new = subst (IsNew after (more_requests c)) (sym fresh_is) (ap (λ (s : Story). s.waiting) own);
+      shown = λ p w d. before_or_new conn.requests (more_requests c) p _
+          (λ old. elim (h.waits.shown p (sym (there_longer is_waiting conn.requests (more_requests c) p longer old) ∙ w) d) [
+            | inl x ↦ absurd (let no : [] ≡ p ∷ [] = sym no_fresh ∙ x in cc)
+            | inr x ↦ inr (ap (λ (s : Story). s.waiting) (story_at c.table b.story after conn.requests (more_requests c) p h.names (others_before b c started what h) longer old) ∙ x)
+          ])
+          (λ past. inl (fresh_is ∙ ap (λ m. m ∷ []) (sym (last_is c p (there_within is_waiting (more_requests c) p w) past))));
+    }
+
+-- the core with one request more
+abbrev core_asked : Core → Submission → Core
+core_asked c what = record (turned c (event.Submit what)) { table = c.table ++ Some (pending (length c.single.connection.requests)) ∷ [] }
+
+-- the session is tied with it
+asked_tied : (b : Book) (c : Core) (started : List ℕ) (word : ℕ) (what : Submission) → Tied b (inner c started) → c.single.connection.fresh ≡ [] → b.shut ≡ false → packed what ≢ []
+    → Tied (entered b (turn_of c word (event.Submit what))) (seen (core_asked c what) (asked c.single.connection (length c.table) (packed what) (shape_of what) (awaits_reply what)) [] started)
+asked_tied b c started word what h no_fresh up some =
+    let conn = c.single.connection in
+    let ledger = b.link c.single.link in
+    let after = stories_with b what in
+    let same = others_before b c started what h in
+    let longer = one_longer conn.requests (new_request c) in
+    let n = length conn.requests in
+    let next = Some (pending n) in
+    let queue = queue_ids (link_in conn.life).queue in
+    let last = waiting_ids conn.waiting in
+    let own_at : (p : ℕ) (r : Request) → slice_get (more_requests c) p ≡ Some r → n ≤ p → after r.name ≡ new_story b what = λ p r i past.
+    (let is = last_is c p (get_within (more_requests c) p r i) past in
+    let named : length c.table ≡ r.name = sym (last_named c) ∙ ap (name_at (more_requests c)) (sym is) ∙ ap name_or_none i in
+    ap after (sym named) ∙ story_is_new b c started what h) in
+    record {
+      numbers = record { turns = ap (λ m. m + 1) h.numbers.turns; links = h.numbers.links; submissions = (let k = h.numbers.submissions in omega (arith, length-append c.table (next ∷ []))); shut = ap (λ s. s || false) h.numbers.shut; one = h.numbers.one; only = h.numbers.only };
+      others = λ m other. let u = h.others m other in record { asked = u.asked; up = u.up; end = u.end; starts = u.starts };
+      life = told_life ledger b.created conn.life silence h.life;
+      link = λ alive. told_tied (owner_of (more_requests c)) ledger (link_in conn.life) ledger.asked ledger.up silence
+          (named_tied (owner_of conn.requests) (owner_of (more_requests c)) ledger (link_in conn.life) (owners_of_row conn.requests (more_requests c) (link_in conn.life).row longer h.lines.entries) (h.link alive));
+      names = names_asked c.table conn.requests progress.Waiting h.names;
+      story = further_story c.table b.story after conn.requests (more_requests c) c.single.link next h.names same longer h.story
+          (subst (λ (s : Story). IsRequest s (more_requests c) c.single.link n) (sym (story_is_new b c started what h)) (record {
+            what = what;
+            handed_in = refl;
+            in_time = up;
+            on = (let e = h.numbers.links in let one = h.numbers.one in omega arith);
+            some = some;
+            open_is = sym (last_open c);
+          }));
+      tries = tries_longer c.table (record ledger { heard = silence }) b.story after conn.requests (more_requests c) c.single.link started h.names same longer
+          (λ p i. within_line conn.requests started queue last p h.lines.line (in_left p started (queue ++ last) i)) (λ k p i. started_within b (inner c started) k p h i)
+          (λ p r i past. ap (λ (s : Story). s.tries) (own_at p r i past))
+          (record { owners = h.tries.owners; shapes = h.tries.shapes; tried = h.tries.tried; untried = h.tries.untried });
+      lines = asked_lines b c started what h;
+      waits = asked_waits b c started what h no_fresh;
+    }
+
+-- no act is shown
+pub asked_applied : (before : List Action) (c : Core) (started : List ℕ) (word : ℕ) (what : Submission) → Between before c started → is_bad c (event.Submit what) ≡ false → (book before).shut ≡ false → packed what ≢ []
+    → HasApplied (before ++ turn_of c word (event.Submit what) ∷ []) (asked_for (heard (counted c) (event.Submit what)) what) started
+asked_applied before c started word what h good up some =
+    let b = book before in
+    silent_applied before c started word (event.Submit what) (core_asked c what) (asked c.single.connection (length c.table) (packed what) (shape_of what) (awaits_reply what)) h good (λ m. silent_no_end (b.link m)) (λ z. absurd (omega arith)) h.whole
+    (asked_tied b c started word what h.sound.tied h.fresh up some)
+
+-- one or the other
+--
+-- nothing more is shut
+or_none : (a : Bool) → (a || false) ≡ a
+or_none true = refl
+or_none false = refl
+
+-- what has a length is not empty
+some_bytes : (bytes : List ℕ) → (length bytes == 0) ≡ false → bytes ≢ []
+some_bytes bytes f e = not_both (length bytes == 0) f (ap (λ (bs : List ℕ). length bs == 0) e)
+
+-- a submission, whichever it is
+pub submit_applied : (before : List Action) (c : Core) (started : List ℕ) (word : ℕ) (what : Submission) → Between before c started → is_bad c (event.Submit what) ≡ false
+    → HasApplied (before ++ turn_of c word (event.Submit what) ∷ []) (effect (counted c) (event.Submit what)) started
+submit_applied before c started word what h good =
+    let t = heard (counted c) (event.Submit what) in
+    let front = before ++ turn_of c word (event.Submit what) ∷ [] in
+    let shut_is : (c.shut || false) ≡ (book before).shut = or_none c.shut ∙ sym h.sound.tied.numbers.shut in
+    chosen (λ (x : Turning). HasApplied front x started) (c.shut || false) (refused t error.Closed) (if length (packed what) == 0 then refused t error.EmptyCommand else asked_for t what)
+    (λ s. refused_applied before c started word what error.Closed h good (inl (sym shut_is ∙ s, refl)))
+    (λ f. chosen (λ (x : Turning). HasApplied front x started) (length (packed what) == 0) (refused t error.EmptyCommand) (asked_for t what)
+    (λ e. refused_applied before c started word what error.EmptyCommand h good (inr (sym shut_is ∙ f, e, refl)))
+    (λ n. asked_applied before c started word what h good (sym shut_is ∙ f) (some_bytes (packed what) n)))

@@ -1,0 +1,58 @@
+-- One more action of a trace, and one more act of a connection.
+use Rattle.std.proofs.Common.{◌≡◌, ℕ, List, [], ◌∷◌, ◌++◌, refl, sym, ap, ◌∙◌, subst, append_assoc}
+use Rattle.driver_model.specs.declared.action.Action.{Action}
+use Rattle.mux_conn.specs.declared.act.LinkAct.{LinkAct}
+use Rattle.shared_session.specs.Turn.{shown, shown_each}
+use Rattle.legal_trace.specs.Book.{Book, blank_book, book, entered, entered_each}
+use Rattle.legal_trace.specs.Legal.{MayStand, AllStand}
+use Rattle.session_laws.proofs.Tied.{Inner, Tied, Sound}
+
+-- actions, and then others
+pub entered_each-append : (b : Book) (xs ys : List Action) → entered_each b (xs ++ ys) ≡ entered_each (entered_each b xs) ys
+entered_each-append b [] ys = refl
+entered_each-append b (x ∷ xs) ys = entered_each-append (entered b x) xs ys
+
+-- the book of a trace, and of what comes behind it
+pub book-append : (xs ys : List Action) → book (xs ++ ys) ≡ entered_each (book xs) ys
+unfolding book
+book-append xs ys = entered_each-append blank_book xs ys
+
+-- one more action
+pub book_more : (t : List Action) (a : Action) → book (t ++ a ∷ []) ≡ entered (book t) a
+book_more t a = book-append t (a ∷ [])
+
+-- actions that may stand behind those that do
+stand-append : (b : Book) (xs ys : List Action) → AllStand b xs → AllStand (entered_each b xs) ys → AllStand b (xs ++ ys)
+stand-append b [] ys h k = k
+stand-append b (x ∷ xs) ys h k = (h.0, stand-append (entered b x) xs ys h.1 k)
+
+-- what comes behind may stand behind what came before
+stand_behind : (b : Book) (xs ys : List Action) → AllStand b (xs ++ ys) → AllStand (entered_each b xs) ys
+stand_behind b [] ys h = h
+stand_behind b (x ∷ xs) ys h = stand_behind (entered b x) xs ys h.1
+
+-- the same from the beginning
+pub all_stand-append : (xs ys : List Action) → AllStand blank_book xs → AllStand (book xs) ys → AllStand blank_book (xs ++ ys)
+unfolding book
+all_stand-append xs ys h k = stand-append blank_book xs ys h k
+
+-- and back
+pub all_stand_behind : (xs ys : List Action) → AllStand blank_book (xs ++ ys) → AllStand (book xs) ys
+unfolding book
+all_stand_behind xs ys h = stand_behind blank_book xs ys h
+
+-- one more action that may stand, with what ties the session to its book
+pub sound_more : (t : List Action) (a : Action) (p : Inner) → AllStand blank_book t → MayStand (book t) a → Tied (entered (book t) a) p → Sound (t ++ a ∷ []) p
+sound_more t a p h may tied = record {
+  stands = all_stand-append t (a ∷ []) h (may, tt);
+  tied = subst (λ (b : Book). Tied b p) (sym (book_more t a)) tied;
+}
+
+-- the actions that acts show, and then others
+pub shown_each-append : (l : ℕ) (xs ys : List LinkAct) → shown_each l (xs ++ ys) ≡ shown_each l xs ++ shown_each l ys
+shown_each-append l [] ys = refl
+shown_each-append l (x ∷ xs) ys = ap (λ more. shown l x ∷ more) (shown_each-append l xs ys)
+
+-- one more act shows one more action
+pub shown_more : (before : List Action) (l : ℕ) (acts : List LinkAct) (a : LinkAct) → before ++ shown_each l (acts ++ a ∷ []) ≡ (before ++ shown_each l acts) ++ shown l a ∷ []
+shown_more before l acts a = ap (λ more. before ++ more) (shown_each-append l acts (a ∷ [])) ∙ sym (append_assoc before (shown_each l acts) (shown l a ∷ []))

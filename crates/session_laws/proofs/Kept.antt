@@ -1,0 +1,119 @@
+-- What one action of a turn leaves as it is.
+use Rattle.std.proofs.Common.{Bool, List, [], ap, length, refl, slice_get, subst, sym, ℕ, ◌<◌, ◌∙◌, ◌∷◌, ◌≡◌, ◌≢◌}
+use Rattle.std.specs.List.{AllByRecursion}
+use Rattle.std.specs.Prelude.{◌==◌}
+use Rattle.containers.proofs.Tests.{chosen, eq_from, eq_test, if_false, ne_test, taken_if}
+use Rattle.driver_model.specs.declared.outcome.Shape.{Shape}
+use Rattle.link_core.specs.declared.message.Queued.{Queued}
+use Rattle.link_laws.proofs.TiedLink.{TiedLink}
+use Rattle.mux_conn.specs.Requests.{name_at}
+use Rattle.mux_conn.specs.declared.life.Life.{Life}
+use Rattle.mux_conn.specs.declared.life.Life.TheVariants.{Ended}
+use Rattle.mux_conn.specs.declared.request.Request.{Request}
+use Rattle.mux_conn.specs.declared.request.Waiting.{Waiting}
+use Rattle.legal_trace.specs.Book.{Book, if_mine, if_own}
+use Rattle.legal_trace.specs.Ledger.{Ledger, Line, noted, noted_each}
+use Rattle.legal_trace.specs.Story.{Story, awaited_in, packed_in, shape_in, tried}
+use Rattle.session_laws.proofs.Names.{name_placed}
+use Rattle.session_laws.proofs.Owes.{request_story}
+use Rattle.session_laws.proofs.Tied.{Inner, IsOf, IsPacked, IsQueued, IsRequest, IsUnknown, Tied, TiedLife, TiedLines, TiedNames, TiedNumbers, TiedStory, TiedTries, TiedWaits, link_in, owner_of}
+
+-- a session and the ledger of its link, which is that of the book
+pub record TiedBy (b : Book) (t : Inner) (l : Ledger) : Type 0 where
+  pub numbers : TiedNumbers b t
+  pub others : (m : ℕ) → m ≢ t.link → IsUnknown (b.link m)
+  pub life : TiedLife l b.created t.life
+  pub link : t.life ≢ Ended → TiedLink (owner_of t.requests) l (link_in t.life)
+  pub names : TiedNames t.table t.requests
+  pub story : (n : ℕ) → TiedStory (b.story n) t.requests t.link (slice_get t.table n)
+  pub tries : TiedTries l b.story t.requests t.link t.started
+  pub lines : TiedLines b.story t.requests (link_in t.life) t.waiting t.pending t.started
+  pub waits : TiedWaits b.story t.requests t.life t.fresh
+
+-- so the session is tied to the book
+pub tied_by : (b : Book) (t : Inner) (l : Ledger) → b.link t.link ≡ l → TiedBy b t l → Tied b t
+tied_by b t l e h = record {
+  numbers = h.numbers;
+  others = h.others;
+  life = subst (λ (x : Ledger). TiedLife x b.created t.life) (sym e) h.life;
+  link = λ up. subst (λ (x : Ledger). TiedLink (owner_of t.requests) x (link_in t.life)) (sym e) (h.link up);
+  names = h.names;
+  story = h.story;
+  tries = subst (λ (x : Ledger). TiedTries x b.story t.requests t.link t.started) (sym e) h.tries;
+  lines = h.lines;
+  waits = h.waits;
+}
+
+-- a line of a link is noted of it alone
+pub mine_noted : (l : Ledger) (n : ℕ) (line : Line) → noted_each l (if_mine (n == n) line) ≡ noted l line
+mine_noted l n line = ap (noted_each l) (taken_if (n == n) (line ∷ []) [] (eq_test n n refl))
+
+-- all other links stay as they are
+pub others_kept : (b : Book) (n : ℕ) (line : Line) → ((m : ℕ) → m ≢ n → IsUnknown (b.link m)) → (m : ℕ) → m ≢ n → IsUnknown (noted_each (b.link m) (if_mine (n == m) line))
+others_kept b n line h m other = if_false (λ (ls : List Line). IsUnknown (noted_each (b.link m) ls)) (n == m) (line ∷ []) [] (ne_test n m (λ e. other (sym e))) (h m other)
+
+-- the numbers, where only links, stories and the connection change
+pub numbers_kept : (b : Book) (link : ℕ → Ledger) (story : ℕ → Story) (t : Inner) (life : Life) (requests : List Request) (waiting : List Waiting) (fresh pending started : List ℕ) → TiedNumbers b t
+    → TiedNumbers (record b { link = link; story = story }) (record t { life = life; requests = requests; waiting = waiting; fresh = fresh; pending = pending; started = started })
+numbers_kept b link story t life requests waiting fresh pending started h = record {
+  turns = h.turns;
+  links = h.links;
+  submissions = h.submissions;
+  shut = h.shut;
+  one = h.one;
+  only = h.only;
+}
+
+-- one request's story changes
+pub one_changed : (b : Book) (t : Inner) (p : ℕ) (g : Story → Story) → Tied b t → p < length t.requests
+    → (let m = name_at t.requests p in IsRequest (b.story m) t.requests t.link p → IsRequest (g (b.story m)) t.requests t.link p)
+    → (n : ℕ) → TiedStory (if_own (name_at t.requests p == n) (g (b.story n)) (b.story n)) t.requests t.link (slice_get t.table n)
+one_changed b t p g h l f n =
+    let m = name_at t.requests p in
+    chosen (λ (x : Story). TiedStory x t.requests t.link (slice_get t.table n)) (m == n) (g (b.story n)) (b.story n)
+    (λ e.
+    subst (λ k. TiedStory (g (b.story k)) t.requests t.link (slice_get t.table k)) (eq_from m n e)
+    (subst (TiedStory (g (b.story m)) t.requests t.link) (sym (name_placed t.table t.requests p h.names l)) (f (request_story b t p h l))))
+    (λ e. h.story n)
+
+-- a story of the same submission
+pub of_same : (s s' : Story) (bytes : List ℕ) (of_shape : Shape) (awaited : Bool) → s.submission ≡ s'.submission → IsOf s bytes of_shape awaited → IsOf s' bytes of_shape awaited
+of_same s s' bytes of_shape awaited e h = record {
+  packs = h.packs ∙ ap packed_in e;
+  shape_is = h.shape_is ∙ ap shape_in e;
+  awaited_is = h.awaited_is ∙ ap awaited_in e;
+}
+
+-- of the same submissions
+abbrev pub SameSubmissions : (ℕ → Story) → (ℕ → Story) → Type 0
+SameSubmissions f g = (n : ℕ) → (f n).submission ≡ (g n).submission
+
+-- of the same outcomes
+abbrev pub SameOutcomes : (ℕ → Story) → (ℕ → Story) → Type 0
+SameOutcomes f g = (n : ℕ) → (f n).outcomes ≡ (g n).outcomes
+
+-- those that wait are as their submissions say
+pub packed_same : (f g : ℕ → Story) (requests : List Request) (ws : List Waiting) → SameSubmissions f g → AllByRecursion (IsPacked f requests) ws → AllByRecursion (IsPacked g requests) ws
+packed_same f g requests [] same all = tt
+packed_same f g requests (w ∷ ws) same all = (of_same (f (name_at requests w.number)) (g (name_at requests w.number)) w.packed w.shape w.awaited (same (name_at requests w.number)) all.0, packed_same f g requests ws same all.1)
+
+-- and so are those in the queue
+pub queued_same : (f g : ℕ → Story) (requests : List Request) (qs : List Queued) → SameSubmissions f g → SameOutcomes f g → AllByRecursion (IsQueued f requests) qs → AllByRecursion (IsQueued g requests) qs
+queued_same f g requests [] same told all = tt
+queued_same f g requests (q ∷ qs) same told all = (
+  record {
+    is_of = of_same (f (name_at requests q.id)) (g (name_at requests q.id)) q.packed q.shape q.awaited (same (name_at requests q.id)) all.0.is_of;
+    open_at = all.0.open_at;
+    told = λ e. sym (told (name_at requests q.id)) ∙ all.0.told e;
+  },
+  queued_same f g requests qs same told all.1,
+)
+
+-- of the same tries, by the same places
+pub tries_same : (l : Ledger) (f g : ℕ → Story) (requests : List Request) (link : ℕ) (started : List ℕ) → SameSubmissions f g → ((n : ℕ) → (f n).tries ≡ (g n).tries) → TiedTries l f requests link started → TiedTries l g requests link started
+tries_same l f g requests link started same tried h = record {
+  owners = h.owners;
+  shapes = λ k p s i j. h.shapes k p s i j ∙ ap shape_in (same (name_at requests p));
+  tried = λ k p i. sym (tried (name_at requests p)) ∙ h.tried k p i;
+  untried = λ p r i out. sym (tried r.name) ∙ h.untried p r i out;
+}

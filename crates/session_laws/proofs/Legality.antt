@@ -1,0 +1,141 @@
+-- Every replay is legal.
+use Rattle.std.proofs.Common.{List, None, Option, Some, [], ap, append_assoc, false, length, refl, slice_get, subst, sym, ℕ, ◌++◌, ◌∙◌, ◌∷◌, ◌≡◌}
+use Rattle.std.proofs.lemmas.List.{append-nil}
+use Rattle.std.specs.Prelude.{if◌then◌else◌, ◌==◌}
+use Rattle.containers.proofs.Tests.{chosen}
+use Rattle.redis_error.specs.declared.redis_error.RedisError.TheVariants as error
+use Rattle.driver_model.specs.Request.{packed}
+use Rattle.driver_model.specs.declared.action.Action.{Action}
+use Rattle.driver_model.specs.declared.action.Action.TheVariants as action
+use Rattle.driver_model.specs.declared.action.Cause.TheVariants as cause
+use Rattle.driver_model.specs.declared.config.Config.{Config}
+use Rattle.driver_model.specs.declared.event.Event.{Event}
+use Rattle.driver_model.specs.declared.event.EventKind.{EventKind}
+use Rattle.driver_model.specs.declared.event.EventKind.TheVariants as event
+use Rattle.driver_model.specs.declared.event.Submission.{Submission}
+use Rattle.mux_conn.specs.declared.act.LinkAct.{LinkAct}
+use Rattle.mux_conn.specs.declared.act.LinkAct.TheVariants as act
+use Rattle.mux_conn.specs.declared.request.Pending.{Pending}
+use Rattle.shared_session.specs.Replay.{AreGood, AreGoodOn, is_bad_after, opening, opening_actions, outcome_at, outcomes_in, run_on, state_after, trace_of, turns_on}
+use Rattle.shared_session.specs.Turn.{Turning, actions_of, asked_for, counted, effect, heard, is_bad, left_by, moved_on, refused, shown_each, submitted, turn}
+use Rattle.shared_session.specs.declared.core_state.Core.{Core}
+use Rattle.legal_trace.specs.Book.{Book, book, entered_each}
+use Rattle.legal_trace.specs.Events.{is_bad_event}
+use Rattle.legal_trace.specs.Legal.{AllStand, Legal, causes, event_causes}
+use Rattle.session_laws.proofs.Announce.{same_badness}
+use Rattle.session_laws.proofs.Effects.{effect_holds}
+use Rattle.session_laws.proofs.Entered.{all_stand_behind, book-append, book_more}
+use Rattle.session_laws.proofs.Opening.{opening_between}
+use Rattle.session_laws.proofs.Outcomes.{last_told}
+use Rattle.session_laws.proofs.Settled.{IsBetween, moved_on_between}
+use Rattle.session_laws.proofs.States.{HasApplied, trace_with}
+use Rattle.session_laws.proofs.Told.{NoneTold, effect_told}
+use Rattle.session_laws.specs.Outcomes.{last_outcome}
+
+-- a turn
+--
+-- an event leaves the connection's link the same
+refused_link : (t : Turning) (what : Submission) → (submitted t what).core.single.link ≡ t.core.single.link
+refused_link t what =
+    chosen (λ (x : Turning). x.core.single.link ≡ t.core.single.link) t.core.shut (refused t error.Closed) (if length (packed what) == 0 then refused t error.EmptyCommand else asked_for t what)
+    (λ s. refl)
+    (λ f. chosen (λ (x : Turning). x.core.single.link ≡ t.core.single.link) (length (packed what) == 0) (refused t error.EmptyCommand) (asked_for t what) (λ s. refl) (λ g. refl))
+
+-- so does a leave
+left_link : (t : Turning) (x : Option (Option Pending)) → (left_by t x).core.single.link ≡ t.core.single.link
+left_link t None = refl
+left_link t (Some None) = refl
+left_link t (Some (Some p)) = refl
+
+-- and so does any event
+effect_link : (c : Core) (kind : EventKind) → (effect (counted c) kind).core.single.link ≡ c.single.link
+effect_link c (event.Submit what) = refused_link (heard (counted c) (event.Submit what)) what
+effect_link c (event.Cancel n) = left_link (heard (counted c) (event.Cancel n)) (slice_get c.table n)
+effect_link c (event.Connected l) = refl
+effect_link c (event.Wrote l count) = refl
+effect_link c (event.Bytes l piece) = refl
+effect_link c (event.Ended l) = refl
+effect_link c (event.ReadFault l kind) = refl
+effect_link c (event.WriteFault l kind) = refl
+effect_link c event.Shutdown = refl
+
+-- none is told by the effect that has not started
+effect_tells : (before : List Action) (c : Core) (e : Event) (started : List ℕ) → IsBetween before c → HasApplied (before ++ action.Turn c.turns (cause.Event e) ∷ []) (effect (counted c) e.kind) started
+    → NoneTold (book (trace_with (before ++ action.Turn c.turns (cause.Event e) ∷ []) (effect (counted c) e.kind)))
+effect_tells before c e started h applied =
+    let a = action.Turn c.turns (cause.Event e) in
+    let t = effect (counted c) e.kind in
+    let more = shown_each t.core.single.link t.acts in
+    let stands = subst (λ (b : Book). AllStand b more) (book_more before a) (all_stand_behind (before ++ a ∷ []) more applied.sound.stands) in
+    let told = effect_told (book before) c c.turns e.word e.kind h.started h.between.sound.tied h.between.settled.written.moved.moved h.told stands in
+    subst NoneTold (sym (book-append (before ++ a ∷ []) more ∙ ap (λ (b : Book). entered_each b more) (book_more before a))) told
+
+-- one turn leads from between two turns to between the next two
+turn_between : (before : List Action) (c : Core) (e : Event) → IsBetween before c → is_bad c e.kind ≡ false → IsBetween (before ++ actions_of c e) (turn c e.kind).core
+unfolding turn
+turn_between before c e h good =
+    let a = action.Turn c.turns (cause.Event e) in
+    let applied = effect_holds before c h.started e.word e.kind h.between good in
+    let t = effect (counted c) e.kind in
+    let done = moved_on_between (before ++ a ∷ []) t h.started applied (effect_tells before c e h.started h applied) in
+    let same : trace_with (before ++ a ∷ []) (moved_on t) ≡ before ++ actions_of c e = append_assoc before (a ∷ []) (shown_each t.core.single.link (moved_on t).acts) ∙ ap (λ l. before ++ a ∷ shown_each l (moved_on t).acts) (effect_link c e.kind) in
+    subst (λ (x : List Action). IsBetween x (moved_on t).core) same done
+
+-- a history
+--
+turns_between : (before : List Action) (c : Core) (es : List Event) → IsBetween before c → AreGoodOn c es → IsBetween (before ++ turns_on c es) (run_on c es)
+turns_between before c [] h good = subst (λ (x : List Action). IsBetween x c) (sym (append-nil before)) h
+turns_between before c (e ∷ es) h good =
+    subst (λ (x : List Action). IsBetween x (run_on (turn c e.kind).core es)) (append_assoc before (actions_of c e) (turns_on (turn c e.kind).core es))
+    (turns_between (before ++ actions_of c e) (turn c e.kind).core es (turn_between before c e h good.0) good.1)
+
+-- the session after a history, and its trace
+pub replay_between : (config : Config) (word : ℕ) (events : List Event) → AreGood config word events → IsBetween (trace_of config word events) (state_after config word events)
+unfolding trace_of state_after AreGood
+replay_between config word events good = turns_between (opening_actions config word) (opening config word) events (opening_between config word) good
+
+-- the causes of its turns
+--
+causes-append : (xs ys : List Action) → causes (xs ++ ys) ≡ causes xs ++ causes ys
+causes-append [] ys = refl
+causes-append (action.Turn k c ∷ xs) ys = ap (λ cs. c ∷ cs) (causes-append xs ys)
+causes-append (_ ∷ xs) ys = causes-append xs ys
+
+-- acts are no causes
+no_causes : (l : ℕ) (acts : List LinkAct) → causes (shown_each l acts) ≡ []
+no_causes l [] = refl
+no_causes l (act.Created ∷ acts) = no_causes l acts
+no_causes l (act.Close ∷ acts) = no_causes l acts
+no_causes l (act.Write bytes ∷ acts) = no_causes l acts
+no_causes l (act.Wait n kind ∷ acts) = no_causes l acts
+no_causes l (act.Start k n count len ∷ acts) = no_causes l acts
+no_causes l (act.Outcome n o ∷ acts) = no_causes l acts
+
+-- a turn for each event
+turns_causes : (c : Core) (es : List Event) → causes (turns_on c es) ≡ event_causes es
+turns_causes c [] = refl
+turns_causes c (e ∷ es) =
+    ap (λ cs. cause.Event e ∷ cs)
+    (causes-append (shown_each c.single.link (turn c e.kind).acts) (turns_on (turn c e.kind).core es)
+    ∙ (λ i. no_causes c.single.link (turn c e.kind).acts i ++ turns_causes (turn c e.kind).core es i))
+
+-- behind the opening
+replay_causes : (config : Config) (word : ℕ) (events : List Event) → causes (trace_of config word events) ≡ cause.Opening config word ∷ event_causes events
+unfolding trace_of
+replay_causes config word events = ap (λ cs. cause.Opening config word ∷ cs) (turns_causes (opening config word) events)
+
+-- every replay is legal
+pub replay_legal : (config : Config) (word : ℕ) (events : List Event) → AreGood config word events → Legal config word events (trace_of config word events)
+replay_legal config word events good =
+    let h = replay_between config word events good in
+    record { turns = replay_causes config word events; each = h.between.sound.stands; settled = h.between.settled }
+
+-- behind it, the bad events are those of its book
+pub bad_of_the_book : (config : Config) (word : ℕ) (events : List Event) (e : Event) → AreGood config word events → is_bad_after config word events e ≡ is_bad_event (book (trace_of config word events)) e.kind
+bad_of_the_book config word events e good =
+    let h = replay_between config word events good in
+    sym (same_badness (book (trace_of config word events)) (state_after config word events) h.started e.kind h.between.sound.tied)
+
+-- and its outcomes are those of its book
+pub replay_outcomes : (config : Config) (word : ℕ) (events : List Event) (n : ℕ) → AreGood config word events → outcome_at (outcomes_in (trace_of config word events)) n ≡ last_outcome ((book (trace_of config word events)).story n).outcomes
+replay_outcomes config word events n good = let h = replay_between config word events good in last_told (trace_of config word events) n h.between.sound.stands

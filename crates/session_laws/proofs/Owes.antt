@@ -1,0 +1,222 @@
+-- What submissions are owed, by the requests that they are.
+use Rattle.std.proofs.Common.{◌≡◌, ◌≢◌, inl, inr, ℕ, zero, suc, ◌<◌, ◌==◌, Bool, true, false, ◌&&◌, not, is_some, length-append, List, [], ◌∷◌, ◌++◌, length, Option, Some, None, slice_get, refl, sym, ap, ◌∙◌, subst, arith}
+use Rattle.std.specs.List.{AllByRecursion}
+use Rattle.std.proofs.lemmas.List.{nil_from_length}
+use Rattle.containers.proofs.Tests.{by_test, left_if, eq_from, ne_from, ne_test, not_both}
+use Rattle.driver_model.specs.declared.action.Owner.{Owner}
+use Rattle.driver_model.specs.declared.outcome.Outcome.{Outcome}
+use Rattle.driver_model.specs.declared.outcome.Outcome.TheVariants as outcome
+use Rattle.driver_model.specs.declared.outcome.Shape.{Shape}
+use Rattle.driver_model.specs.Shape.{outcome_of}
+use Rattle.link_core.specs.declared.message.Entry.{Entry}
+use Rattle.link_core.specs.declared.message.Settled.{Settled}
+use Rattle.link_laws.specs.Settles.{wanted, StandsAs, IsOwed}
+use Rattle.link_laws.proofs.Started.{IsOpenAs, OpenFrom, row_open, open_unowed}
+use Rattle.mux_conn.specs.declared.life.Life.{Life}
+use Rattle.mux_conn.specs.declared.life.Life.TheVariants.{Dialing, Ready, Ended}
+use Rattle.mux_conn.specs.declared.request.Pending.{Pending}
+use Rattle.mux_conn.specs.declared.request.Request.{Request}
+use Rattle.mux_conn.specs.Requests.{name_at, is_open_at}
+use Rattle.legal_trace.specs.Ledger.{full_count, Ledger, Start}
+use Rattle.legal_trace.specs.Story.{Story, bytes_of, shape, last_of, is_open}
+use Rattle.legal_trace.specs.Book.{Book}
+use Rattle.legal_trace.specs.Owed.{owed, owed_to_message, owed_unstarted, owed_to_try}
+use Rattle.legal_trace.specs.Legal.{IsOpen, NoneIsOwed, IsCreated}
+use Rattle.session_laws.proofs.Numbers.{Rising, IsIn, in_either, rising_in, rising_left, rising_apart}
+use Rattle.session_laws.proofs.Tied.{IsEntry, Inner, link_in, owner_of, owners_of, owners_each, queue_ids, waiting_ids, IsRequest, TiedStory, TiedLife, Tied}
+use Rattle.session_laws.proofs.Names.{get_some, open_within, name_of_some, name_placed, same_name}
+use Rattle.session_laws.proofs.InLine.{AtPlaces, IsInLine, wanted_rises, places_rise, row_ids, wanted_in, line_of, open_in_line}
+
+-- each request is a submission
+pub request_story : (b : Book) (t : Inner) (p : ℕ) → Tied b t → p < length t.requests → IsRequest (b.story (name_at t.requests p)) t.requests t.link p
+request_story b t p h l = subst (TiedStory (b.story (name_at t.requests p)) t.requests t.link) (name_placed t.table t.requests p h.names l) (h.story (name_at t.requests p))
+
+-- what is false in the middle is false
+both_false : (a b : Bool) → (a && false && b) ≡ false
+both_false true b = refl
+both_false false b = refl
+
+-- a story with outcomes isn't open
+pub answered_closed : (s : Story) (front : List Outcome) (o : Outcome) → s.outcomes ≡ front ++ o ∷ [] → is_open s ≡ false
+answered_closed s front o e =
+    let some : (length s.outcomes == 0) ≡ false = ne_test (length s.outcomes) 0 (λ none. absurd (let long : length s.outcomes ≡ length (front ++ o ∷ []) = ap length e in omega (arith, length-append front (o ∷ [])))) in
+    (λ i. is_some s.submission && some i && not s.cancelled) ∙ both_false (is_some s.submission) (not s.cancelled)
+
+-- an open submission is an open request
+pub record IsOpenRequest (t : Inner) (n : ℕ) : Type 0 where
+  pub number : ℕ
+  pub named : name_at t.requests number ≡ n
+  pub open_at : is_open_at t.requests number ≡ true
+
+-- and the other way round: it is one that is open
+pub open_request : (b : Book) (t : Inner) (n : ℕ) → Tied b t → IsOpen b n → IsOpenRequest t n
+open_request b t n h o = by_entry (slice_get t.table n) refl (h.story n)
+  where
+    by_entry : (x : Option (Option Pending)) → slice_get t.table n ≡ x → TiedStory (b.story n) t.requests t.link x → IsOpenRequest t n
+    by_entry None e s = absurd (let f : is_open (b.story n) ≡ false = ap is_open s in not_both (is_open (b.story n)) f o)
+    by_entry (Some None) e s = absurd (not_both (is_open (b.story n)) (answered_closed (b.story n) [] (outcome.Fault s.error) s.answered) o)
+    by_entry (Some (Some p)) e s = let k = h.names.kept n p e in record { number = p.number; named = name_of_some t.requests p.number k.0 k.1 ∙ k.2; open_at = sym s.open_is ∙ o }
+
+-- the request of a started message
+--
+-- one owner is one name
+owner_name : (p q : ℕ) (requests : List Request) → owner_of requests p ≡ owner_of requests q → name_at requests p ≡ name_at requests q
+owner_name p q requests e = cc
+
+-- the request whose message started as number k
+started_at : (ss : List Start) (requests : List Request) (started : List ℕ) (k : ℕ) (s : Start) → owners_of ss ≡ owners_each requests started → slice_get ss k ≡ Some s
+    → (p : ℕ) × (slice_get started k ≡ Some p) × (owner_of requests p ≡ s.owner)
+started_at [] requests started k s e i = cc
+started_at (x ∷ ss) requests [] k s e i = cc
+started_at (x ∷ ss) requests (p ∷ ps) zero s e i = (p, refl, let same : x ≡ s = cc in let first : x.owner ≡ owner_of requests p = cc in sym first ∙ ap (λ (y : Start). y.owner) same)
+started_at (x ∷ ss) requests (p ∷ ps) (suc k) s e i = started_at ss requests ps k s (let rest : owners_of ss ≡ owners_each requests ps = cc in rest) i
+
+-- what started is one of the line
+pub get_in : (xs : List ℕ) (k n : ℕ) → slice_get xs k ≡ Some n → IsIn n xs
+get_in [] k n e = cc
+get_in (x ∷ xs) zero n e = inl cc
+get_in (x ∷ xs) (suc k) n e = inr (get_in xs k n e)
+
+-- and a request
+pub started_within : (b : Book) (t : Inner) (k p : ℕ) → Tied b t → slice_get t.started k ≡ Some p → p < length t.requests
+started_within b t k p h e =
+    let r = rising_in 0 t.started (length t.requests) p (rising_left 0 t.started (queue_ids (link_in t.life).queue ++ waiting_ids t.waiting) (length t.requests) h.lines.line) (get_in t.started k p e) in
+    r.1
+
+-- the message of a request that stands as number k is the one that started so
+pub stands_started : (b : Book) (t : Inner) (p k : ℕ) (of_shape : Shape) → Tied b t → p < length t.requests → StandsAs (b.link t.link).starts (owner_of t.requests p) of_shape k → slice_get t.started k ≡ Some p
+stands_started b t p k of_shape h l place =
+    let s = started_at (b.link t.link).starts t.requests t.started k place.start h.tries.owners place.stands in
+    let same = same_name t.table t.requests s.0 p h.names (started_within b t k s.0 h s.1) l (owner_name s.0 p t.requests (s.2 ∙ place.owned)) in
+    s.1 ∙ ap Some same
+
+-- what a request is owed
+--
+-- what is not empty has a length
+not_empty : (bytes : List ℕ) → bytes ≢ [] → (length bytes == 0) ≡ false
+not_empty bytes some = ne_test (length bytes) 0 (λ e. some (nil_from_length bytes e))
+
+-- by its last try
+owed_by_try : (b : Book) (n : ℕ) → (b.story n).late ≡ false → bytes_of (b.story n) ≢ [] → owed b n ≡ owed_to_try b (b.story n) (last_of (b.story n).tries)
+owed_by_try b n early some = left_if (b.story n).late _ _ early ∙ left_if (length (bytes_of (b.story n)) == 0) _ _ (not_empty (bytes_of (b.story n)) some)
+
+-- where its message started as number k
+pub owed_started : (b : Book) (t : Inner) (p k : ℕ) (of_shape : Shape) → Tied b t → p < length t.requests → StandsAs (b.link t.link).starts (owner_of t.requests p) of_shape k
+    → owed b (name_at t.requests p) ≡ owed_to_message (b.link t.link) k of_shape
+owed_started b t p k of_shape h l place =
+    let n = name_at t.requests p in
+    let r = request_story b t p h l in
+    let e = stands_started b t p k of_shape h l place in
+    let same : shape (b.story n) ≡ of_shape = sym (h.tries.shapes k p place.start e place.stands) ∙ place.shaped in
+    owed_by_try b n r.in_time r.some ∙ ap (λ ts. owed_to_try b (b.story n) (last_of ts)) (h.tries.tried k p e) ∙ ap (owed_to_message (b.link t.link) k) same
+
+-- where it has none
+pub owed_none_started : (b : Book) (t : Inner) (p : ℕ) → Tied b t → p < length t.requests → (IsIn p t.started → ⊥) → owed b (name_at t.requests p) ≡ owed_unstarted (b.link t.link).end
+owed_none_started b t p h l not_started =
+    let n = name_at t.requests p in
+    let r = request_story b t p h l in
+    let g = get_some t.requests p l in
+    let named : n ≡ g.0.name = name_of_some t.requests p g.0 g.1 in
+    let untried : (b.story n).tries ≡ [] = ap (λ m. (b.story m).tries) named ∙ h.tries.untried p g.0 g.1 not_started in
+    owed_by_try b n r.in_time r.some ∙ ap (λ ts. owed_to_try b (b.story n) (last_of ts)) untried ∙ ap (λ m. owed_unstarted (b.link m).end) r.on
+
+-- what a link has settled is what its submissions are owed
+pub settled_owed : (b : Book) (t : Inner) (s : Settled) → Tied b t → s.id < length t.requests → IsOwed (owner_of t.requests) (b.link t.link) s → owed b (name_at t.requests s.id) ≡ Some (outcome_of s.verdict)
+settled_owed b t s h l o = owed_started b t s.id o.number o.of_shape h l o.place ∙ o.owes
+
+-- a link that isn't over owes nothing
+--
+-- those of the queue, and those that wait, have not started
+pub later_unstarted : (b : Book) (t : Inner) (p : ℕ) → Tied b t → IsIn p (queue_ids (link_in t.life).queue ++ waiting_ids t.waiting) → IsIn p t.started → ⊥
+later_unstarted b t p h i j =
+    let k = rising_apart 0 t.started (queue_ids (link_in t.life).queue ++ waiting_ids t.waiting) (length t.requests) p p h.lines.line j i in
+    omega arith
+
+-- an entry of a row that is wanted
+pub record IsWantedAs (name : ℕ → Owner) (l : Ledger) (row : List Entry) (p : ℕ) : Type 0 where
+  pub entry : Entry
+  pub number : ℕ
+  pub is : entry.id ≡ p
+  pub open_as : IsOpenAs name l number entry
+
+-- an entry of a row that takes items, by its request
+pub wanted_entry : (name : ℕ → Owner) (l : Ledger) (k : ℕ) (row : List Entry) (p : ℕ) → OpenFrom name l k row → IsIn p (row_ids row) → IsWantedAs name l row p
+wanted_entry name l k [] p all i = absurd i
+wanted_entry name l k (e ∷ es) p all (inl same) = record { entry = e; number = k; is = same; open_as = all.0 }
+wanted_entry name l k (e ∷ es) p all (inr i) = let w = wanted_entry name l (suc k) es p all.1 i in record { entry = w.entry; number = w.number; is = w.is; open_as = w.open_as }
+
+-- how far a link has come that has not ended
+pub lives : (l : Ledger) (created : ℕ) (life : Life) → TiedLife l created life → life ≢ Ended → l.end ≡ None
+lives l created Dialing h n = h.2
+lives l created (Ready link) h n = h.2
+lives l created Ended h n = absurd (n refl)
+
+-- nothing is owed to a message that takes items
+row_unowed : (b : Book) (t : Inner) (p : ℕ) → Tied b t → t.life ≢ Ended → p < length t.requests → IsIn p (row_ids (link_in t.life).row) → owed b (name_at t.requests p) ≡ None
+row_unowed b t p h n l i =
+    let ledger = b.link t.link in
+    let alive = lives ledger b.created t.life h.life n in
+    let w = wanted_entry (owner_of t.requests) ledger _ (link_in t.life).row p (row_open (owner_of t.requests) ledger (link_in t.life) alive (h.link n)) i in
+    let place = subst (λ m. StandsAs ledger.starts (owner_of t.requests m) w.entry.shape w.number) w.is w.open_as.place in
+    owed_started b t p w.number w.entry.shape h l place ∙ open_unowed (owner_of t.requests) ledger w.number w.entry alive w.open_as
+
+-- nor to one that waits
+later_unowed : (b : Book) (t : Inner) (p : ℕ) → Tied b t → t.life ≢ Ended → p < length t.requests → IsIn p (queue_ids (link_in t.life).queue ++ waiting_ids t.waiting) → owed b (name_at t.requests p) ≡ None
+later_unowed b t p h n l i = owed_none_started b t p h l (later_unstarted b t p h i) ∙ ap owed_unstarted (lives (b.link t.link) b.created t.life h.life n)
+
+-- and so to none of the line
+pub line_unowed : (b : Book) (t : Inner) (p : ℕ) → Tied b t → t.life ≢ Ended → p < length t.requests → IsIn p (line_of (link_in t.life) t.waiting) → owed b (name_at t.requests p) ≡ None
+line_unowed b t p h n l i = elim (in_either p (wanted (link_in t.life).row) (queue_ids (link_in t.life).queue ++ waiting_ids t.waiting) i) [
+  | inl j ↦ row_unowed b t p h n l (wanted_in p (link_in t.life).row j)
+  | inr j ↦ later_unowed b t p h n l j
+]
+
+-- where nothing is to be answered, no open submission is owed an outcome
+pub none_owed : (b : Book) (t : Inner) → Tied b t → t.pending ≡ [] → t.life ≢ Ended → NoneIsOwed b
+none_owed b t h none n m o =
+    let r = open_request b t m h o in
+    let i = open_in_line b.story t.requests (link_in t.life) t.waiting t.pending t.started r.number h.lines r.open_at in
+    let j = subst (λ ns. IsIn r.number (ns ++ line_of (link_in t.life) t.waiting)) none i in
+    ap (owed b) (sym r.named) ∙ line_unowed b t r.number h n (open_within t.requests r.number r.open_at) j
+
+-- on a link that has ended, where none waits, none is open
+pub none_open : (b : Book) (t : Inner) (n : ℕ) → Tied b t → t.pending ≡ [] → t.life ≡ Ended → t.waiting ≡ [] → IsOpen b n → ⊥
+none_open b t m h none over empty o =
+    let r = open_request b t m h o in
+    let i = open_in_line b.story t.requests (link_in t.life) t.waiting t.pending t.started r.number h.lines r.open_at in
+    let j = subst (λ ns. IsIn r.number (ns ++ line_of (link_in t.life) t.waiting)) none i in
+    let k = subst (λ life. IsIn r.number (line_of (link_in life) t.waiting)) over j in
+    subst (λ ws. IsIn r.number (waiting_ids ws)) empty k
+
+-- a link was asked for, and where it is up, the creation was shown
+pub created_is : (b : Book) (t : Inner) → Tied b t → IsCreated b
+created_is b t h = record {
+  asked = λ e. let asked = h.numbers.links in let one = h.numbers.one in omega arith;
+  shown = λ m up. by_test (m == t.link) _
+      (λ same. up_created (b.link t.link) b.created t.life h.life (subst (λ k. (b.link k).up ≡ true) (eq_from m t.link same) up))
+      (λ other. absurd (not_both (b.link m).up (h.others m (ne_from m t.link other)).up up));
+}
+  where
+    up_created : (l : Ledger) (created : ℕ) (life : Life) → TiedLife l created life → l.up ≡ true → created ≢ 0
+    up_created l created Dialing k up = absurd (not_both l.up k.1 up)
+    up_created l created (Ready link) k up = k.3
+    up_created l created Ended k up = absurd (not_both l.up k.0 up)
+
+-- the entries of a row are started one after another
+row_places : (b : Book) (t : Inner) (k : ℕ) (row : List Entry) → Tied b t → AllByRecursion (IsEntry t.requests) row → OpenFrom (owner_of t.requests) (b.link t.link) k row → AtPlaces t.started k (row_ids row)
+row_places b t k [] h all open_all = tt
+row_places b t k (e ∷ es) h all open_all = (stands_started b t e.id k e.shape h all.0.below open_all.0.place, row_places b t (suc k) es h all.1 open_all.1)
+
+-- the entries and all behind them rise, on a link that has not ended
+pub row_in_line : (b : Book) (t : Inner) → Tied b t → t.life ≢ Ended → Rising 0 (row_ids (link_in t.life).row ++ (queue_ids (link_in t.life).queue ++ waiting_ids t.waiting)) (length t.requests)
+row_in_line b t h n =
+    let ledger = b.link t.link in
+    let row = (link_in t.life).row in
+    let later = queue_ids (link_in t.life).queue ++ waiting_ids t.waiting in
+    let alive = lives ledger b.created t.life h.life n in
+    let places = row_places b t (full_count ledger.starts ledger.dealt) row h h.lines.entries (row_open (owner_of t.requests) ledger (link_in t.life) alive (h.link n)) in
+    places_rise 0 t.started (full_count ledger.starts ledger.dealt) (row_ids row) later (length t.requests) places h.lines.line
+
+-- and so does the line
+pub in_line : (b : Book) (t : Inner) → Tied b t → t.life ≢ Ended → IsInLine t.requests (link_in t.life) t.waiting []
+in_line b t h n = wanted_rises 0 (link_in t.life).row (queue_ids (link_in t.life).queue ++ waiting_ids t.waiting) (length t.requests) (row_in_line b t h n)

@@ -1,0 +1,189 @@
+-- Bytes come: what they settle is answered, and bytes that begin no value end the link.
+use Rattle.std.proofs.Common.{◌≡◌, inl, inr, ℕ, nat_lt, Bool, true, false, List, [], ◌∷◌, ◌++◌, length, Some, None, if◌then◌else◌, refl, sym, ap, ◌∙◌, subst, append_assoc, arith}
+use Rattle.std.specs.List.{AllByRecursion}
+use Rattle.std.proofs.lemmas.List.{append-nil}
+use Rattle.containers.proofs.Tests.{chosen, taken_if, left_if}
+use Rattle.resp_value.specs.Data.{Data}
+use Rattle.resp_read.specs.Values.{is_spoiled}
+use Rattle.resp_read.specs.Items.{items}
+use Rattle.driver_model.specs.declared.action.Action.{Action}
+use Rattle.driver_model.specs.declared.action.Owner.{Owner}
+use Rattle.driver_model.specs.declared.event.EventKind.{EventKind}
+use Rattle.driver_model.specs.declared.news.LinkFault.TheVariants as fault
+use Rattle.driver_model.specs.News.{came as came_news, news}
+use Rattle.driver_model.specs.Shape.{need}
+use Rattle.link_core.specs.declared.message.Entry.{Entry}
+use Rattle.link_core.specs.Dealing.{Dealing, with_item, dealt_to, dealt, dealt_each}
+use Rattle.link_core.specs.Link.{LinkState, Settling}
+use Rattle.link_laws.specs.Settles.{settled_ids, wanted, awaited_ids, IsOwed}
+use Rattle.link_laws.proofs.Once.{items_keep}
+use Rattle.link_laws.proofs.Settles.{read_owed}
+use Rattle.link_laws.proofs.TiedLink.{TiedLink, deals, has_read, has_heard, reads_on, heard_is, read_tied}
+use Rattle.mux_conn.specs.declared.life.Life.{Life}
+use Rattle.mux_conn.specs.declared.life.Life.TheVariants.{Dialing, Ready, Ended}
+use Rattle.mux_conn.specs.declared.request.Request.{Request}
+use Rattle.mux_conn.specs.declared.request.Waiting.{Waiting}
+use Rattle.mux_conn.specs.Connection.{Work}
+use Rattle.mux_conn.specs.Requests.{name_at}
+use Rattle.mux_conn.specs.Effects.{settled_each, failed_at, read_to, read_at}
+use Rattle.shared_session.specs.declared.core_state.Core.{Core}
+use Rattle.shared_session.specs.Turn.{with_work, is_bad}
+use Rattle.legal_trace.specs.Ledger.{Ledger, by_fault, ending}
+use Rattle.legal_trace.specs.Story.{Story}
+use Rattle.legal_trace.specs.Book.{book}
+use Rattle.legal_trace.specs.Owed.{owed}
+use Rattle.session_laws.proofs.Numbers.{IsIn, Rising}
+use Rattle.session_laws.proofs.Tied.{inner, link_in, owner_of, queue_ids, waiting_ids, IsEntry, TiedLife, TiedLines}
+use Rattle.session_laws.proofs.States.{IsWhole, Between, HasApplied}
+use Rattle.session_laws.proofs.InLine.{IsInLine}
+use Rattle.session_laws.proofs.Owes.{in_line}
+use Rattle.session_laws.proofs.Settle.{seen, trace_of_acts, Holds, IsAnswering, answering, settled_holds, settled_leaves}
+use Rattle.session_laws.proofs.Close.{HasEnded, pending_due, ended_applied}
+use Rattle.session_laws.proofs.Announce.{turn_of, turned, IsNewsKind}
+use Rattle.session_laws.proofs.Heard.{heard_by, lives_as, none_ends, Begins, heard_begins, ended_quiet, dialing_quiet}
+use Rattle.session_laws.proofs.End.{up_tied, fault_ends}
+
+-- items that are dealt leave entries as they are, but for what they got
+item_entries : (requests : List Request) (d : Dealing) (item : Data) (row : List Entry) → AllByRecursion (IsEntry requests) row → AllByRecursion (IsEntry requests) d.row → AllByRecursion (IsEntry requests) (dealt_to d item row).row
+item_entries requests d item [] all whole = whole
+item_entries requests d item (e ∷ es) all whole =
+    let f = with_item e item in
+    chosen (λ (x : Dealing). AllByRecursion (IsEntry requests) x.row) (nat_lt (length f.got) (need e.shape)) _ _
+    (λ t. (record { below = all.0.below; open_at = all.0.open_at }, all.1))
+    (λ n. all.1)
+
+-- many items too
+dealt_entries : (requests : List Request) (d : Dealing) (vs : List Data) → AllByRecursion (IsEntry requests) d.row → AllByRecursion (IsEntry requests) (dealt_each d vs).row
+dealt_entries requests d [] all = all
+dealt_entries requests d (v ∷ vs) all = dealt_entries requests (dealt d v) vs (item_entries requests d v d.row all all)
+
+-- those that bytes settle, and those still wanted, are those wanted before
+read_wanted : (link : LinkState) (piece : List ℕ) → settled_ids (deals link piece).out ++ wanted (deals link piece).row ≡ wanted link.row
+read_wanted link piece = items_keep (record { row = link.row; out = [] }) (items (link.rest ++ piece))
+
+-- the lines, with those that are to be answered
+read_lines : (story : ℕ → Story) (requests : List Request) (link : LinkState) (piece : List ℕ) (waiting : List Waiting) (started : List ℕ) → TiedLines story requests link waiting [] started
+    → TiedLines story requests (has_read link piece) waiting (settled_ids (deals link piece).out) started
+read_lines story requests link piece waiting started h =
+    let ids = settled_ids (deals link piece).out in
+    let rows = wanted (deals link piece).row in
+    let queue = awaited_ids link.queue in
+    record {
+      line = h.line;
+      queued = h.queued;
+      entries = dealt_entries requests (record { row = link.row; out = [] }) (items (link.rest ++ piece)) h.entries;
+      packs = h.packs;
+      there = λ p e. elim (h.there p e) [
+        | inl i ↦ inl (subst (λ ns. IsIn p ns) (ap (λ ns. ns ++ queue) (sym (read_wanted link piece)) ∙ append_assoc ids rows queue) i)
+        | inr w ↦ inr w
+      ];
+    }
+
+-- and are in line
+read_in_line : (requests : List Request) (link : LinkState) (piece : List ℕ) (waiting : List Waiting) → IsInLine requests link waiting [] → IsInLine requests (has_read link piece) waiting (settled_ids (deals link piece).out)
+read_in_line requests link piece waiting r =
+    let ids = settled_ids (deals link piece).out in
+    let rows = wanted (deals link piece).row in
+    let later = queue_ids link.queue ++ waiting_ids waiting in
+    subst (λ ns. Rising 0 ns (length requests)) (ap (λ ns. ns ++ later) (sym (read_wanted link piece)) ∙ append_assoc ids rows later) r
+
+-- what ends the link is what breaks it
+read_ending : (name : ℕ → Owner) (l : Ledger) (link : LinkState) (piece : List ℕ) → l.up ≡ true → TiedLink name (has_heard l piece) (has_read link piece)
+    → ending (has_heard l piece) ≡ (if (has_read link piece).broken then Some (by_fault fault.Parse) else None)
+read_ending name l link piece up h =
+    taken_if l.up (if is_spoiled (has_heard l piece).rest then Some (by_fault fault.Parse) else None) _ up
+    ∙ ap (λ (b : Bool). if b then Some (by_fault fault.Parse) else None) (ap is_spoiled h.rest ∙ sym h.broken)
+
+-- a link that is not broken is whole
+read_whole : (link : LinkState) (piece : List ℕ) → IsWhole link → (has_read link piece).broken ≡ false → (x : LinkState) → Ready (has_read link piece) ≡ Ready x → IsWhole x
+read_whole link piece h sound x e = let same : has_read link piece ≡ x = cc in subst IsWhole same (record { sound = sound; empty = h.empty; size = h.size; boundary = h.boundary })
+
+-- the link that is up
+--
+-- the turn begins, with those to be answered that the bytes settle
+read_begins : (before : List Action) (c : Core) (started : List ℕ) (word : ℕ) (kind : EventKind) (piece : List ℕ) (link : LinkState) → Between before c started → is_bad c kind ≡ false → IsNewsKind kind → news c.single.link kind ≡ came_news piece
+    → c.single.connection.life ≡ Ready link
+    → Begins (before ++ turn_of c word kind ∷ []) (turned c kind) (lives_as c (Ready (has_read link piece))) (has_heard ((book before).link c.single.link) piece) (settled_ids (deals link piece).out) started
+read_begins before c started word kind piece link h good k is e =
+    let b = book before in
+    let l = b.link c.single.link in
+    let conn = c.single.connection in
+    let name = owner_of conn.requests in
+    let u = up_tied name l b.created conn.life link e h.sound.tied.life h.sound.tied.link in
+    let same : heard_by b c (came_news piece) ≡ has_heard l piece = heard_is l piece u.up in
+    let begins = heard_begins before c started word kind (came_news piece) (Ready (has_read link piece)) (settled_ids (deals link piece).out) h good k is (record {
+      lived = subst (λ (x : Ledger). TiedLife x b.created (Ready (has_read link piece))) (sym same) (u.asked, u.up, u.alive, u.shown);
+      linked = λ n. subst (λ (x : Ledger). TiedLink name x (has_read link piece)) (sym same) (read_tied name l link piece u.alive u.tied);
+      lines = read_lines b.story conn.requests link piece conn.waiting started (subst (λ (x : Life). TiedLines b.story conn.requests (link_in x) conn.waiting [] started) e h.sound.tied.lines);
+      waits = record { new = h.sound.tied.waits.new; shown = λ p w d. cc };
+    }) in
+    record { holds = begins.holds; ledger = begins.ledger ∙ same }
+
+-- a link that reads on, and what it has settled
+abbrev reads : Core → LinkState → List ℕ → Work
+reads c link piece = record { conn = lives_as c (Ready (has_read link piece)); acts = [] }
+
+-- what the bytes settle is answered
+read_answered : (before : List Action) (c : Core) (started : List ℕ) (word : ℕ) (kind : EventKind) (piece : List ℕ) (link : LinkState) → Between before c started → is_bad c kind ≡ false → IsNewsKind kind → news c.single.link kind ≡ came_news piece
+    → c.single.connection.life ≡ Ready link
+    → (let front = before ++ turn_of c word kind ∷ [] in let f = turned c kind in
+    IsAnswering front f ((book (trace_of_acts front f [])).link c.single.link) (owed (book (trace_of_acts front f []))) (name_at c.single.connection.requests) (settled_each (reads c link piece) (deals link piece).out) [] started)
+read_answered before c started word kind piece link h good k is e =
+    let b = book before in
+    let l = b.link c.single.link in
+    let conn = c.single.connection in
+    let name = owner_of conn.requests in
+    let u = up_tied name l b.created conn.life link e h.sound.tied.life h.sound.tied.link in
+    let begins = read_begins before c started word kind piece link h good k is e in
+    let front = before ++ turn_of c word kind ∷ [] in
+    let f = turned c kind in
+    let now = book (trace_of_acts front f []) in
+    let w = reads c link piece in
+    let out = (deals link piece).out in
+    let ids = settled_ids out in
+    let before_line = subst (λ (x : Life). IsInLine conn.requests (link_in x) conn.waiting []) e (in_line b (inner c started) h.sound.tied (λ over. let no : Ended ≡ Ready link = sym over ∙ e in cc)) in
+    let line : IsInLine conn.requests (has_read link piece) conn.waiting ids = read_in_line conn.requests link piece conn.waiting before_line in
+    let all = subst (λ (x : Ledger). AllByRecursion (IsOwed name x) out) (sym begins.ledger) (read_owed name l link piece u.alive u.tied) in
+    let due = pending_due now (seen f w.conn ids started) out begins.holds.tied line all in
+    settled_holds front f (now.link c.single.link) (owed now) (name_at conn.requests) w out [] started due
+    (answering front f w (ids ++ []) started (subst (λ ns. Holds front f w ns started) (sym (append-nil ids)) begins.holds) (subst (IsInLine conn.requests (has_read link piece) conn.waiting) (sym (append-nil ids)) line))
+
+-- a link that is up reads on, or is broken and ends
+read_on : (before : List Action) (c : Core) (started : List ℕ) (word : ℕ) (kind : EventKind) (piece : List ℕ) (link : LinkState) → Between before c started → is_bad c kind ≡ false → IsNewsKind kind → news c.single.link kind ≡ came_news piece
+    → c.single.connection.life ≡ Ready link
+    → HasApplied (before ++ turn_of c word kind ∷ []) (with_work (record { core = turned c kind; acts = [] }) (read_to (record { conn = c.single.connection; acts = [] }) (record { link = has_read link piece; out = (deals link piece).out }))) started
+read_on before c started word kind piece link h good k is e =
+    let b = book before in
+    let l = b.link c.single.link in
+    let name = owner_of c.single.connection.requests in
+    let u = up_tied name l b.created c.single.connection.life link e h.sound.tied.life h.sound.tied.link in
+    let begins = read_begins before c started word kind piece link h good k is e in
+    let a = read_answered before c started word kind piece link h good k is e in
+    let front = before ++ turn_of c word kind ∷ [] in
+    let f = turned c kind in
+    let after = has_read link piece in
+    let v = settled_each (reads c link piece) (deals link piece).out in
+    let still = settled_leaves (reads c link piece) (deals link piece).out in
+    let ends_so = ap ending (a.ledger_is ∙ begins.ledger) ∙ read_ending name l link piece u.up (read_tied name l link piece u.alive u.tied) in
+    chosen (λ (x : Work). HasApplied front (with_work (record { core = f; acts = [] }) x) started) after.broken (failed_at v fault.Parse v.conn.life) v
+    (λ t. ended_applied front f (failed_at v fault.Parse v.conn.life) started (λ z. absurd (omega arith))
+    (subst (λ (x : Life). HasEnded front f (failed_at v fault.Parse x) started) (sym still.life)
+    (fault_ends front f v after fault.Parse started a.holds still.life (h.whole link e).empty (ends_so ∙ taken_if after.broken (Some (by_fault fault.Parse)) None t))))
+    (λ n. record {
+      sound = a.holds;
+      ended = none_ends (book (trace_of_acts front f v.acts)) (seen f v.conn [] started) a.holds.tied (ends_so ∙ left_if after.broken (Some (by_fault fault.Parse)) None n);
+      began = λ z. absurd (omega arith);
+      whole = λ x same. read_whole link piece (h.whole link e) n x (sym still.life ∙ same);
+    })
+
+-- bytes come
+pub read_applied : (before : List Action) (c : Core) (started : List ℕ) (word : ℕ) (kind : EventKind) (piece : List ℕ) → Between before c started → is_bad c kind ≡ false → IsNewsKind kind → news c.single.link kind ≡ came_news piece
+    → HasApplied (before ++ turn_of c word kind ∷ []) (with_work (record { core = turned c kind; acts = [] }) (read_at (record { conn = c.single.connection; acts = [] }) piece c.single.connection.life)) started
+read_applied before c started word kind piece h good k is = by_life c.single.connection.life refl
+  where
+    by_life : (x : Life) → c.single.connection.life ≡ x → HasApplied (before ++ turn_of c word kind ∷ []) (with_work (record { core = turned c kind; acts = [] }) (read_at (record { conn = c.single.connection; acts = [] }) piece x)) started
+    by_life Dialing e = dialing_quiet before c started word kind (came_news piece) tt h good k is e
+    by_life Ended e = ended_quiet before c started word kind (came_news piece) h good k is e
+    by_life (Ready link) e =
+        subst (λ (s : Settling). HasApplied (before ++ turn_of c word kind ∷ []) (with_work (record { core = turned c kind; acts = [] }) (read_to (record { conn = c.single.connection; acts = [] }) s)) started)
+        (sym (reads_on link [] piece (h.whole link e).sound)) (read_on before c started word kind piece link h good k is e)

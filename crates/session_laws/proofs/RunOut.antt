@@ -1,0 +1,247 @@
+-- When numbers run out.
+use Rattle.std.proofs.Common.{Bool, List, None, Option, Some, [], ap, arith, false, inl, inr, length, nat_le, refl, slice_get, subst, suc, sym, true, ℕ, ◌++◌, ◌+◌, ◌<◌, ◌∙◌, ◌∷◌, ◌≡◌, ◌≤◌, ◌⊎◌}
+use Rattle.std.specs.Prelude.{if◌then◌else◌, ◌==◌, ◌^◌, ◌||◌}
+use Rattle.containers.proofs.Places.{get_within}
+use Rattle.containers.proofs.Tests.{by_test, chosen, eq_from, le_from, le_test, ne_from}
+use Rattle.redis_error.specs.declared.redis_error.RedisError.TheVariants as error
+use Rattle.driver_model.specs.Request.{packed}
+use Rattle.driver_model.specs.declared.config.Config.{Config}
+use Rattle.driver_model.specs.declared.event.Event.{Event}
+use Rattle.driver_model.specs.declared.event.EventKind.{EventKind}
+use Rattle.driver_model.specs.declared.event.EventKind.TheVariants as event
+use Rattle.driver_model.specs.declared.event.Submission.{Submission}
+use Rattle.mux_conn.specs.Connection.{is_spent_in, started_in}
+use Rattle.mux_conn.specs.declared.life.Life.{Life}
+use Rattle.mux_conn.specs.declared.life.Life.TheVariants.{Dialing, Ended, Ready}
+use Rattle.mux_conn.specs.declared.request.Pending.{Pending}
+use Rattle.mux_conn.specs.declared.request.Request.{Request}
+use Rattle.shared_session.specs.Replay.{AreGood, AreGoodOn, is_bad_after, is_spent_after, opening, run_on, state_after, trace_of}
+use Rattle.shared_session.specs.Turn.{Turning, asked_for, counted, effect, heard, is_bad, is_spent, left_by, refused, spends, submitted, turn}
+use Rattle.shared_session.specs.declared.core_state.Core.{Core}
+use Rattle.legal_trace.specs.Book.{Book, book}
+use Rattle.legal_trace.specs.Events.{HasRunOut}
+use Rattle.legal_trace.specs.Ledger.{Start}
+use Rattle.session_laws.proofs.Legality.{replay_between}
+use Rattle.session_laws.proofs.Numbers.{Rising, rising_left}
+use Rattle.session_laws.proofs.Start.{owners_length}
+use Rattle.session_laws.proofs.Tied.{Inner, Tied, inner, link_in, queue_ids, waiting_ids}
+
+-- one event more
+--
+run_more : (c : Core) (es : List Event) (e : Event) → run_on c (es ++ e ∷ []) ≡ (turn (run_on c es) e.kind).core
+run_more c [] e = refl
+run_more c (x ∷ es) e = run_more (turn c x.kind).core es e
+
+-- a good event behind good ones
+good_more : (c : Core) (es : List Event) (e : Event) → AreGoodOn c es → is_bad (run_on c es) e.kind ≡ false → AreGoodOn c (es ++ e ∷ [])
+good_more c [] e h good = (good, tt)
+good_more c (x ∷ es) e h good = (h.0, good_more (turn c x.kind).core es e h.1 good)
+
+-- the state behind it
+pub state_more : (config : Config) (word : ℕ) (events : List Event) (e : Event) → state_after config word (events ++ e ∷ []) ≡ (turn (state_after config word events) e.kind).core
+unfolding state_after
+state_more config word events e = run_more (opening config word) events e
+
+-- and it is good with them
+pub are_good_more : (config : Config) (word : ℕ) (events : List Event) (e : Event) → AreGood config word events → is_bad_after config word events e ≡ false → AreGood config word (events ++ e ∷ [])
+unfolding state_after AreGood
+are_good_more config word events e h good = good_more (opening config word) events e h good
+
+-- a turn is one more
+submitted_turns : (t : Turning) (what : Submission) → (submitted t what).core.turns ≡ t.core.turns
+submitted_turns t what =
+    chosen (λ (x : Turning). x.core.turns ≡ t.core.turns) t.core.shut (refused t error.Closed) (if length (packed what) == 0 then refused t error.EmptyCommand else asked_for t what)
+    (λ s. refl)
+    (λ f. chosen (λ (x : Turning). x.core.turns ≡ t.core.turns) (length (packed what) == 0) (refused t error.EmptyCommand) (asked_for t what) (λ s. refl) (λ g. refl))
+
+-- a leave counts none
+left_turns : (t : Turning) (x : Option (Option Pending)) → (left_by t x).core.turns ≡ t.core.turns
+left_turns t None = refl
+left_turns t (Some None) = refl
+left_turns t (Some (Some p)) = refl
+
+-- nor does any other event
+effect_turns : (c : Core) (kind : EventKind) → (effect (counted c) kind).core.turns ≡ c.turns + 1
+effect_turns c (event.Submit what) = submitted_turns (heard (counted c) (event.Submit what)) what
+effect_turns c (event.Cancel n) = left_turns (heard (counted c) (event.Cancel n)) (slice_get c.table n)
+effect_turns c (event.Connected l) = refl
+effect_turns c (event.Wrote l count) = refl
+effect_turns c (event.Bytes l piece) = refl
+effect_turns c (event.Ended l) = refl
+effect_turns c (event.ReadFault l kind) = refl
+effect_turns c (event.WriteFault l kind) = refl
+effect_turns c event.Shutdown = refl
+
+-- so a whole turn is one
+turn_counted : (c : Core) (kind : EventKind) → (turn c kind).core.turns ≡ c.turns + 1
+unfolding turn
+turn_counted c kind = effect_turns c kind
+
+-- how many there are of each sort
+--
+rising_length : (lo : ℕ) (xs : List ℕ) (hi : ℕ) → Rising lo xs hi → lo + length xs ≤ hi
+rising_length lo [] hi h = let l : lo ≤ hi = h in omega arith
+rising_length lo (x ∷ xs) hi h = let l : lo ≤ x = h.0 in let k = rising_length (suc x) xs hi h.1 in omega arith
+
+-- the names of requests, in order
+abbrev names_of : List Request → List ℕ
+names_of [] = []
+names_of (r ∷ rs) = r.name ∷ names_of rs
+
+-- as many as requests
+names_length : (requests : List Request) → length (names_of requests) ≡ length requests
+names_length [] = refl
+names_length (r ∷ rs) = ap suc (names_length rs)
+
+-- they rise where those of neighbours do
+names_rising : (lo : ℕ) (requests : List Request) (hi : ℕ) → ((p : ℕ) (r : Request) → slice_get requests p ≡ Some r → (lo ≤ r.name) × (r.name < hi)) → ((p q : ℕ) (r s : Request) → p < q → slice_get requests p ≡ Some r → slice_get requests q ≡ Some s → r.name < s.name)
+    → lo ≤ hi → Rising lo (names_of requests) hi
+names_rising lo [] hi within rise least = least
+names_rising lo (r ∷ rs) hi within rise least = (
+  (within 0 r refl).0,
+  names_rising (suc r.name) rs hi
+      (λ p s e. let l = rise 0 (suc p) r s (omega arith) refl e in let k = within (suc p) s e in (omega arith, k.1))
+      (λ p q s t l e i. rise (suc p) (suc q) s t (omega arith) e i)
+      (let k = (within 0 r refl).1 in omega arith),
+)
+
+-- a session has no more requests than submissions
+requests_fewer : (b : Book) (t : Inner) → Tied b t → length t.requests ≤ length t.table
+requests_fewer b t h =
+    let rises = names_rising 0 t.requests (length t.table)
+    (λ p r e. (omega arith, get_within t.table r.name (Some (record { number = p })) (h.names.named p r e)))
+    h.names.rising (omega arith) in
+    let l = rising_length 0 (names_of t.requests) (length t.table) rises in
+    let k = names_length t.requests in
+    omega arith
+
+-- and no more started messages than requests
+starts_fewer : (b : Book) (t : Inner) → Tied b t → length (b.link t.link).starts ≤ length t.requests
+starts_fewer b t h =
+    let l = rising_length 0 t.started (length t.requests) (rising_left 0 t.started (queue_ids (link_in t.life).queue ++ waiting_ids t.waiting) (length t.requests) h.lines.line) in
+    let k = owners_length (b.link t.link).starts t.requests t.started h.tries.owners in
+    omega arith
+
+-- where the session is spent, numbers have run out
+--
+started_here : (b : Book) (t : Inner) → Tied b t → started_in t.life ≤ length (b.link t.link).starts
+started_here b t h = by_life t.life refl
+  where
+    by_life : (life : Life) → t.life ≡ life → started_in t.life ≤ length (b.link t.link).starts
+    by_life Dialing e = let z = ap started_in e in omega arith
+    by_life Ended e = let z = ap started_in e in omega arith
+    by_life (Ready link) e =
+        let z = ap started_in e in
+        let k = h.link (λ x. (let no : Ready link ≡ Ended = sym e ∙ x in cc)) in
+        let s = k.started in
+        let i = ap (λ (x : Life). (link_in x).started) e in
+        omega arith
+
+-- one of three tests
+either_true : (a b c : Bool) → (a || (b || c)) ≡ true → (a ≡ true) ⊎ ((b ≡ true) ⊎ (c ≡ true))
+either_true true b c e = inl refl
+either_true false true c e = inr (inl refl)
+either_true false false c e = inr (inr e)
+
+-- over any bound
+turns_out : (bound turns now next : ℕ) → bound ≤ turns → now ≡ next → next ≡ turns + 1 → bound < now
+turns_out bound turns now next l e i = omega arith
+
+-- what is not smaller
+at_least : (bound n m : ℕ) → bound ≤ n → n ≤ m → bound ≤ m
+at_least bound n m l k = omega arith
+
+-- what is as many
+as_many : (bound n m : ℕ) → bound ≤ n → m ≡ n → bound ≤ m
+as_many bound n m l e = omega arith
+
+-- by the numbers of the session
+pub run_out_of : (b : Book) (t : Inner) (turns : ℕ) → Tied b t → t.turns ≡ turns + 1 → (nat_le (2 ^ 32) turns || (is_spent_in t.life || nat_le (2 ^ 32) (length t.table))) ≡ true → HasRunOut b
+run_out_of b t turns h count e =
+    elim (either_true (nat_le (2 ^ 32) turns) (is_spent_in t.life) (nat_le (2 ^ 32) (length t.table)) e) [
+      | inl x ↦ inl (turns_out (2 ^ 32) turns b.turns t.turns (le_from (2 ^ 32) turns x) h.numbers.turns count)
+      | inr x ↦ elim x [
+        | inl y ↦ inr (inr (inr (t.link, at_least (2 ^ 32) (started_in t.life) (length (b.link t.link).starts) (le_from (2 ^ 32) (started_in t.life) y) (started_here b t h))))
+        | inr y ↦ inr (inl (as_many (2 ^ 32) (length t.table) b.submissions (le_from (2 ^ 32) (length t.table) y) h.numbers.submissions))
+      ]
+    ]
+
+-- and where they have, it is
+--
+first_true : (a b c : Bool) → a ≡ true → (a || (b || c)) ≡ true
+first_true true b c e = refl
+first_true false b c e = cc
+
+-- the last of three tests
+third_true : (a b c : Bool) → c ≡ true → (a || (b || c)) ≡ true
+third_true true b c e = refl
+third_true false true c e = refl
+third_true false false c e = e
+
+-- the turn before
+turns_then : (bound turns now next : ℕ) → bound < now → now ≡ next → next ≡ turns + 1 → bound ≤ turns
+turns_then bound turns now next l e i = omega arith
+
+-- one link is not that many
+one_link : (b : Book) (t : Inner) → Tied b t → 2 ^ 32 ≤ b.links → ⊥
+one_link b t h many =
+    let links = h.numbers.links in
+    let one = h.numbers.one in
+    let first = h.numbers.only 0 (omega arith) in
+    let more : 1 < b.links = more_than_one b.links many in
+    let second = h.numbers.only 1 (omega arith) in
+    omega arith
+  where
+    more_than_one : (n : ℕ) → 2 ^ 32 ≤ n → 1 < n
+    more_than_one n l = omega arith
+
+-- no messages are not that many
+none_started_many : (starts : List Start) → starts ≡ [] → 2 ^ 32 ≤ length starts → ⊥
+none_started_many starts e many = let z : length starts ≡ 0 = ap length e in omega arith
+
+-- by the numbers of the session
+pub spent_of : (b : Book) (t : Inner) (turns : ℕ) → Tied b t → t.turns ≡ turns + 1 → HasRunOut b → (nat_le (2 ^ 32) turns || (is_spent_in t.life || nat_le (2 ^ 32) (length t.table))) ≡ true
+spent_of b t turns h count out =
+    let first = nat_le (2 ^ 32) turns in
+    let second = is_spent_in t.life in
+    let third = nat_le (2 ^ 32) (length t.table) in
+    elim out [
+      | inl l ↦ first_true first second third (le_test (2 ^ 32) turns (turns_then (2 ^ 32) turns b.turns t.turns l h.numbers.turns count))
+      | inr x ↦ elim x [
+        | inl l ↦ third_true first second third (le_test (2 ^ 32) (length t.table) (as_many (2 ^ 32) b.submissions (length t.table) l (sym h.numbers.submissions)))
+        | inr y ↦ elim y [
+          | inl l ↦ absurd (one_link b t h l)
+          | inr m ↦ by_test (m.0 == t.link) _
+              (λ e.
+              let here = subst (λ l. 2 ^ 32 ≤ length (b.link l).starts) (eq_from m.0 t.link e) m.1 in
+              let within = at_least (2 ^ 32) (length t.requests) (length t.table) (at_least (2 ^ 32) (length (b.link t.link).starts) (length t.requests) here (starts_fewer b t h)) (requests_fewer b t h) in
+              third_true first second third (le_test (2 ^ 32) (length t.table) within))
+              (λ o. absurd (none_started_many (b.link m.0).starts (h.others m.0 (ne_from m.0 t.link o)).starts m.1))
+        ]
+      ]
+    ]
+
+-- the last number
+--
+-- the session behind one more event, and the book of its trace
+next_tied : (config : Config) (word : ℕ) (events : List Event) (e : Event) → AreGood config word events → is_bad_after config word events e ≡ false
+    → (started : List ℕ) × Tied (book (trace_of config word (events ++ e ∷ []))) (inner (turn (state_after config word events) e.kind).core started)
+next_tied config word events e good fine =
+    let h = replay_between config word (events ++ e ∷ []) (are_good_more config word events e good fine) in
+    (h.started, subst (λ c. Tied (book (trace_of config word (events ++ e ∷ []))) (inner c h.started)) (state_more config word events e) h.between.sound.tied)
+
+-- a spent step gives out the last number
+pub spent_run_out : (config : Config) (word : ℕ) (events : List Event) (e : Event) → AreGood config word events → is_bad_after config word events e ≡ false → is_spent_after config word events e ≡ true → HasRunOut (book (trace_of config word (events ++ e ∷ [])))
+unfolding spends is_spent
+spent_run_out config word events e good fine spent =
+    let c = state_after config word events in
+    let h = next_tied config word events e good fine in
+    run_out_of (book (trace_of config word (events ++ e ∷ []))) (inner (turn c e.kind).core h.0) c.turns h.1 (turn_counted c e.kind) spent
+
+-- and one that gives it out is spent
+pub run_out_spent : (config : Config) (word : ℕ) (events : List Event) (e : Event) → AreGood config word events → is_bad_after config word events e ≡ false → HasRunOut (book (trace_of config word (events ++ e ∷ []))) → is_spent_after config word events e ≡ true
+unfolding spends is_spent
+run_out_spent config word events e good fine out =
+    let c = state_after config word events in
+    let h = next_tied config word events e good fine in
+    spent_of (book (trace_of config word (events ++ e ∷ []))) (inner (turn c e.kind).core h.0) c.turns h.1 (turn_counted c e.kind) out

@@ -1,0 +1,191 @@
+-- Those that are to be answered are, one after another.
+use Rattle.std.proofs.Common.{is_some, ◌≡◌, inl, ℕ, suc, true, false, List, [], ◌∷◌, ◌++◌, length, Option, Some, refl, sym, ap, ◌∙◌, subst, arith}
+use Rattle.std.specs.List.{AllByRecursion}
+use Rattle.containers.proofs.Tests.{chosen, not_both}
+use Rattle.driver_model.specs.declared.action.Action.{Action}
+use Rattle.driver_model.specs.declared.outcome.Outcome.{Outcome}
+use Rattle.driver_model.specs.Shape.{outcome_of}
+use Rattle.link_core.specs.declared.message.Settled.{Settled}
+use Rattle.link_core.specs.Link.{LinkState}
+use Rattle.link_laws.specs.Settles.{settled_ids}
+use Rattle.mux_conn.specs.declared.act.LinkAct.{LinkAct}
+use Rattle.mux_conn.specs.declared.act.LinkAct.TheVariants as act
+use Rattle.mux_conn.specs.declared.connection.MultiplexedConnection.{MultiplexedConnection}
+use Rattle.mux_conn.specs.declared.life.Life.{Life}
+use Rattle.mux_conn.specs.declared.life.Life.TheVariants.{Dialing, Ready, Ended}
+use Rattle.mux_conn.specs.declared.request.Progress.TheVariants as progress
+use Rattle.mux_conn.specs.declared.request.Request.{Request}
+use Rattle.mux_conn.specs.declared.request.Waiting.{Waiting}
+use Rattle.mux_conn.specs.Connection.{Work}
+use Rattle.mux_conn.specs.Requests.{is_open_at, name_at, at_progress, answered}
+use Rattle.mux_conn.specs.Effects.{closed, settled_each, closed_each}
+use Rattle.shared_session.specs.declared.core_state.Core.{Core}
+use Rattle.shared_session.specs.Turn.{shown, shown_each}
+use Rattle.legal_trace.specs.Ledger.{Ledger, is_over}
+use Rattle.legal_trace.specs.Book.{Book, book, entered}
+use Rattle.legal_trace.specs.Owed.{owed}
+use Rattle.legal_trace.specs.Legal.{MayStand, MayAnswer}
+use Rattle.session_laws.proofs.Numbers.{Rising, rising_from}
+use Rattle.session_laws.proofs.Tied.{Inner, link_in, TiedLife, Tied, Sound, waiting_ids}
+use Rattle.session_laws.proofs.Entered.{book_more, sound_more, shown_more}
+use Rattle.session_laws.proofs.Names.{open_within, name_still, length_still}
+use Rattle.session_laws.proofs.InLine.{line_of, IsInLine, open_in_line, first_is_least}
+use Rattle.session_laws.proofs.Answer.{may_answer, after_end, owed_still, answer_tied, skip_tied}
+
+-- a session in the middle of a turn, by its connection
+abbrev pub seen : Core → MultiplexedConnection → List ℕ → List ℕ → Inner
+seen f conn pending started = record {
+  turns = f.turns;
+  links = f.links;
+  link = f.single.link;
+  shut = f.shut;
+  table = f.table;
+  life = conn.life;
+  requests = conn.requests;
+  waiting = conn.waiting;
+  fresh = conn.fresh;
+  pending = pending;
+  started = started;
+}
+
+-- the trace up to the last act
+abbrev pub trace_of_acts : List Action → Core → List LinkAct → List Action
+trace_of_acts before f acts = before ++ shown_each f.single.link acts
+
+-- the session is tied to the book of that trace
+abbrev pub Holds : List Action → Core → Work → List ℕ → List ℕ → Type 0
+Holds before f w pending started = Sound (trace_of_acts before f w.acts) (seen f w.conn pending started)
+
+-- one more act
+pub holds_more : (before : List Action) (f : Core) (w : Work) (a : LinkAct) (conn : MultiplexedConnection) (was pending started : List ℕ) → Holds before f w was started → MayStand (book (trace_of_acts before f w.acts)) (shown f.single.link a)
+    → Tied (entered (book (trace_of_acts before f w.acts)) (shown f.single.link a)) (seen f conn pending started) → Holds before f (record { conn = conn; acts = w.acts ++ a ∷ [] }) pending started
+holds_more before f w a conn was pending started h may tied =
+    subst (λ (x : List Action). Sound x (seen f conn pending started)) (sym (shown_more before f.single.link w.acts a))
+    (sound_more (trace_of_acts before f w.acts) (shown f.single.link a) (seen f conn pending started) h.stands may tied)
+
+-- and the book behind it
+pub book_of_more : (before : List Action) (f : Core) (acts : List LinkAct) (a : LinkAct) → book (trace_of_acts before f (acts ++ a ∷ [])) ≡ entered (book (trace_of_acts before f acts)) (shown f.single.link a)
+book_of_more before f acts a = ap book (shown_more before f.single.link acts a) ∙ book_more (trace_of_acts before f acts) (shown f.single.link a)
+
+-- some requests are to be answered, in line, before all others that are open; and their link's ledger, what is owed, and all
+-- names are as they were
+pub record IsAnswering (before : List Action) (f : Core) (ledger : Ledger) (owes : ℕ → Option Outcome) (name : ℕ → ℕ) (w : Work) (pending started : List ℕ) : Type 0 where
+  pub holds : Holds before f w pending started
+  pub line : IsInLine w.conn.requests (link_in w.conn.life) w.conn.waiting pending
+  pub ledger_is : (book (trace_of_acts before f w.acts)).link f.single.link ≡ ledger
+  pub owed_is : (n : ℕ) → owed (book (trace_of_acts before f w.acts)) n ≡ owes n
+  pub named : (p : ℕ) → name_at w.conn.requests p ≡ name p
+
+-- it begins
+pub answering : (before : List Action) (f : Core) (w : Work) (pending started : List ℕ) → Holds before f w pending started → IsInLine w.conn.requests (link_in w.conn.life) w.conn.waiting pending
+    → IsAnswering before f ((book (trace_of_acts before f w.acts)).link f.single.link) (owed (book (trace_of_acts before f w.acts))) (name_at w.conn.requests) w pending started
+answering before f w pending started h line = record { holds = h; line = line; ledger_is = refl; owed_is = λ n. refl; named = λ p. refl }
+
+-- a link that is over has ended
+over_life : (l : Ledger) (created : ℕ) (life : Life) → TiedLife l created life → is_over l ≡ true → life ≡ Ended
+over_life l created Dialing h over = absurd (not_both (is_over l) (ap is_some h.2) over)
+over_life l created (Ready link) h over = absurd (not_both (is_over l) (ap is_some h.2) over)
+over_life l created Ended h over = refl
+
+-- the first of those that are to be answered may be
+pub first_may : (b : Book) (t : Inner) (p : ℕ) (pending : List ℕ) (o : Outcome) → Tied b (record t { pending = p ∷ pending }) → IsInLine t.requests (link_in t.life) t.waiting (p ∷ pending) → is_open_at t.requests p ≡ true
+    → owed b (name_at t.requests p) ≡ Some o → MayAnswer b (name_at t.requests p) o
+first_may b t p pending o h line e owes =
+    let now = record t { pending = p ∷ pending } in
+    may_answer b now p o h e owes
+    (λ q less asked.
+    let i = open_in_line b.story t.requests (link_in t.life) t.waiting (p ∷ pending) t.started q h.lines asked in
+    absurd (let k = first_is_least 0 p (pending ++ line_of (link_in t.life) t.waiting) (length t.requests) q line i in omega arith))
+    (λ over. after_end b now h (over_life (b.link t.link) b.created t.life h.life over))
+
+-- one is answered
+rest_in_line : (requests : List Request) (link : LinkState) (waiting : List Waiting) (p : ℕ) (pending : List ℕ) → IsInLine requests link waiting (p ∷ pending) → IsInLine requests link waiting pending
+rest_in_line requests link waiting p pending line = rising_from (suc p) 0 (pending ++ line_of link waiting) (length requests) (omega arith) line.1
+
+-- the first is answered
+one_answered : (before : List Action) (f : Core) (ledger : Ledger) (owes : ℕ → Option Outcome) (name : ℕ → ℕ) (w : Work) (p : ℕ) (o : Outcome) (pending started : List ℕ) → owes (name p) ≡ Some o → is_open_at w.conn.requests p ≡ true
+    → IsAnswering before f ledger owes name w (p ∷ pending) started → IsAnswering before f ledger owes name (record { conn = record w.conn { requests = at_progress w.conn.requests p progress.Closed }; acts = w.acts ++ act.Outcome (name_at w.conn.requests p) o ∷ [] }) pending started
+one_answered before f ledger owes name w p o pending started due e h =
+    let b = book (trace_of_acts before f w.acts) in
+    let t = seen f w.conn pending started in
+    let a = act.Outcome (name_at w.conn.requests p) o in
+    let l = open_within w.conn.requests p e in
+    let owes_now = h.owed_is (name_at w.conn.requests p) ∙ ap owes (h.named p) ∙ due in
+    record {
+      holds = holds_more before f w a (record w.conn { requests = at_progress w.conn.requests p progress.Closed }) (p ∷ pending) pending started h.holds
+          (inl (first_may b t p pending o h.holds.tied h.line e owes_now))
+          (answer_tied b t p pending o l h.line h.holds.tied);
+      line = subst (λ n. Rising 0 (pending ++ line_of (link_in w.conn.life) w.conn.waiting) n) (sym (length_still w.conn.requests p progress.Closed)) (rest_in_line w.conn.requests (link_in w.conn.life) w.conn.waiting p pending h.line);
+      ledger_is = ap (λ (x : Book). x.link f.single.link) (book_of_more before f w.acts a) ∙ h.ledger_is;
+      owed_is = λ n. ap (λ (x : Book). owed x n) (book_of_more before f w.acts a) ∙ owed_still b (name_at w.conn.requests p) o n ∙ h.owed_is n;
+      named = λ q. name_still w.conn.requests p progress.Closed q ∙ h.named q;
+    }
+
+-- or is not open any more
+one_skipped : (before : List Action) (f : Core) (ledger : Ledger) (owes : ℕ → Option Outcome) (name : ℕ → ℕ) (w : Work) (p : ℕ) (pending started : List ℕ) → is_open_at w.conn.requests p ≡ false
+    → IsAnswering before f ledger owes name w (p ∷ pending) started → IsAnswering before f ledger owes name w pending started
+one_skipped before f ledger owes name w p pending started e h = record {
+  holds = record { stands = h.holds.stands; tied = skip_tied (book (trace_of_acts before f w.acts)) (seen f w.conn pending started) p pending e h.holds.tied };
+  line = rest_in_line w.conn.requests (link_in w.conn.life) w.conn.waiting p pending h.line;
+  ledger_is = h.ledger_is;
+  owed_is = h.owed_is;
+  named = h.named;
+}
+
+-- the first is answered, where it is open
+pub answered_holds : (before : List Action) (f : Core) (ledger : Ledger) (owes : ℕ → Option Outcome) (name : ℕ → ℕ) (w : Work) (p : ℕ) (o : Outcome) (pending started : List ℕ) → owes (name p) ≡ Some o
+    → IsAnswering before f ledger owes name w (p ∷ pending) started → IsAnswering before f ledger owes name (answered w p o) pending started
+answered_holds before f ledger owes name w p o pending started due h =
+    chosen (λ (x : Work). IsAnswering before f ledger owes name x pending started) (is_open_at w.conn.requests p) _ w
+    (λ t. one_answered before f ledger owes name w p o pending started due t h)
+    (λ e. one_skipped before f ledger owes name w p pending started e h)
+
+-- a message that was settled is due what it came to, and a request that waits the closed connection
+abbrev pub IsDue : (ℕ → Option Outcome) → (ℕ → ℕ) → Settled → Type 0
+IsDue owes name s = owes (name s.id) ≡ Some (outcome_of s.verdict)
+
+-- a request that waits is due the closed connection
+abbrev pub IsDueClosed : (ℕ → Option Outcome) → (ℕ → ℕ) → Waiting → Type 0
+IsDueClosed owes name q = owes (name q.number) ≡ Some closed
+
+-- each that was settled is answered
+pub settled_holds : (before : List Action) (f : Core) (ledger : Ledger) (owes : ℕ → Option Outcome) (name : ℕ → ℕ) (w : Work) (ss : List Settled) (pending started : List ℕ) → AllByRecursion (IsDue owes name) ss
+    → IsAnswering before f ledger owes name w (settled_ids ss ++ pending) started → IsAnswering before f ledger owes name (settled_each w ss) pending started
+settled_holds before f ledger owes name w [] pending started due h = h
+settled_holds before f ledger owes name w (s ∷ ss) pending started due h =
+    settled_holds before f ledger owes name (answered w s.id (outcome_of s.verdict)) ss pending started due.1 (answered_holds before f ledger owes name w s.id (outcome_of s.verdict) (settled_ids ss ++ pending) started due.0 h)
+
+-- each of these requests is answered with the closed connection
+pub closed_holds : (before : List Action) (f : Core) (ledger : Ledger) (owes : ℕ → Option Outcome) (name : ℕ → ℕ) (w : Work) (qs : List Waiting) (pending started : List ℕ) → AllByRecursion (IsDueClosed owes name) qs
+    → IsAnswering before f ledger owes name w (waiting_ids qs ++ pending) started → IsAnswering before f ledger owes name (closed_each w qs) pending started
+closed_holds before f ledger owes name w [] pending started due h = h
+closed_holds before f ledger owes name w (q ∷ qs) pending started due h =
+    closed_holds before f ledger owes name (answered w q.number closed) qs pending started due.1 (answered_holds before f ledger owes name w q.number closed (waiting_ids qs ++ pending) started due.0 h)
+
+-- what answers leave as it was
+pub record Leaves (w v : Work) : Type 0 where
+  pub life : v.conn.life ≡ w.conn.life
+  pub waiting : v.conn.waiting ≡ w.conn.waiting
+  pub fresh : v.conn.fresh ≡ w.conn.fresh
+
+-- one after another
+leaves_on : (u v w : Work) → Leaves u v → Leaves v w → Leaves u w
+leaves_on u v w h k = record { life = k.life ∙ h.life; waiting = k.waiting ∙ h.waiting; fresh = k.fresh ∙ h.fresh }
+
+-- one answer leaves them
+pub answered_leaves : (w : Work) (p : ℕ) (o : Outcome) → Leaves w (answered w p o)
+answered_leaves w p o = chosen (Leaves w) (is_open_at w.conn.requests p) _ w (λ t. record { life = refl; waiting = refl; fresh = refl }) (λ f. record { life = refl; waiting = refl; fresh = refl })
+
+-- so do the answers to what was settled
+pub settled_leaves : (w : Work) (ss : List Settled) → Leaves w (settled_each w ss)
+settled_leaves w [] = record { life = refl; waiting = refl; fresh = refl }
+settled_leaves w (s ∷ ss) =
+    let v = answered w s.id (outcome_of s.verdict) in
+    leaves_on w v (settled_each v ss) (answered_leaves w s.id (outcome_of s.verdict)) (settled_leaves v ss)
+
+-- and those to what waited
+pub closed_leaves : (w : Work) (qs : List Waiting) → Leaves w (closed_each w qs)
+closed_leaves w [] = record { life = refl; waiting = refl; fresh = refl }
+closed_leaves w (q ∷ qs) =
+    let v = answered w q.number closed in
+    leaves_on w v (closed_each v qs) (answered_leaves w q.number closed) (closed_leaves v qs)

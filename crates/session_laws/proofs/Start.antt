@@ -1,0 +1,197 @@
+-- The first message of the queue starts.
+use Rattle.std.proofs.Common.{List, None, Some, [], ap, append_assoc, arith, inl, inr, length, refl, slice_get, subst, suc, sym, ℕ, ◌++◌, ◌<◌, ◌∙◌, ◌∷◌, ◌≡◌, ◌≢◌}
+use Rattle.std.proofs.lemmas.List.{append-nil}
+use Rattle.std.specs.Prelude.{if◌then◌else◌, ◌==◌}
+use Rattle.containers.proofs.Places.{get_within}
+use Rattle.containers.proofs.Tests.{chosen, eq_test, left_if, ne_test, taken_if}
+use Rattle.resp_read.specs.Frames.{within}
+use Rattle.driver_model.specs.Shape.{need}
+use Rattle.driver_model.specs.declared.action.Action.{Action}
+use Rattle.driver_model.specs.declared.action.Action.TheVariants as action
+use Rattle.driver_model.specs.declared.action.Owner.TheVariants as owner
+use Rattle.link_core.specs.Link.{LinkState, entry_of}
+use Rattle.link_core.specs.declared.message.Queued.{Queued}
+use Rattle.link_laws.proofs.Once.{wanted-append}
+use Rattle.link_laws.proofs.TiedLink.{all_push, begun_tied, queue_tied}
+use Rattle.link_laws.specs.Settles.{awaited_ids, wanted}
+use Rattle.link_laws.specs.Starts.{begun, start_from}
+use Rattle.mux_conn.specs.Requests.{name_at}
+use Rattle.mux_conn.specs.declared.life.Life.TheVariants.{Dialing, Ready}
+use Rattle.mux_conn.specs.declared.request.Request.{Request}
+use Rattle.mux_conn.specs.declared.request.Waiting.{Waiting}
+use Rattle.legal_trace.specs.Book.{Book, entered, if_own, message_of}
+use Rattle.legal_trace.specs.Ledger.{Ledger, Start, begins, noted}
+use Rattle.legal_trace.specs.Story.{Story, shape, shape_in, tried}
+use Rattle.session_laws.proofs.Kept.{SameOutcomes, SameSubmissions, mine_noted, numbers_kept, one_changed, others_kept, packed_same, queued_same, tied_by}
+use Rattle.session_laws.proofs.Names.{get_more, get_some, name_of_some, same_name}
+use Rattle.session_laws.proofs.Numbers.{IsIn, Rising, in_left, in_right, rising_apart, rising_in, rising_left}
+use Rattle.session_laws.proofs.Owes.{get_in, request_story}
+use Rattle.session_laws.proofs.Tied.{Inner, IsEntry, IsNew, IsQueued, IsRequest, Tied, TiedLines, TiedTries, TiedWaits, link_in, owner_of, owners_each, owners_of, queue_ids, waiting_ids}
+
+-- the action that its start shows
+abbrev pub start_action : Inner → LinkState → Queued → Action
+start_action t link q = action.Start t.link link.started (owner.Try (name_at t.requests q.id) 0) (need q.shape) (length q.packed)
+
+-- the session with this link, where nothing is to be answered
+abbrev pub on_link : Inner → LinkState → Inner
+on_link t link = record t { life = Ready link; pending = [] }
+
+-- a link with this queue
+abbrev pub with_queue : LinkState → List Queued → LinkState
+with_queue link qs = record link { queue = qs }
+
+-- the session once the first message of the queue has started
+abbrev pub after_start : Inner → LinkState → Queued → List Queued → Inner
+after_start t link q qs = record t { life = Ready (with_queue (begun link q) qs); pending = []; started = t.started ++ q.id ∷ [] }
+
+-- the story of one submission with one try more
+abbrev tried_at : ℕ → ℕ → ℕ → (ℕ → Story) → ℕ → Story
+tried_at m link k story n = if_own (m == n) (tried (story n) link k) (story n)
+
+-- one try more leaves each submission
+tried_submissions : (m link k : ℕ) (story : ℕ → Story) → SameSubmissions story (tried_at m link k story)
+tried_submissions m link k story n = chosen (λ (x : Story). (story n).submission ≡ x.submission) (m == n) (tried (story n) link k) (story n) (λ t. refl) (λ f. refl)
+
+-- and each outcome
+tried_outcomes : (m link k : ℕ) (story : ℕ → Story) → SameOutcomes story (tried_at m link k story)
+tried_outcomes m link k story n = chosen (λ (x : Story). (story n).outcomes ≡ x.outcomes) (m == n) (tried (story n) link k) (story n) (λ t. refl) (λ f. refl)
+
+-- the first of a queue is within, and has not started
+pub first_within : (story : ℕ → Story) (requests : List Request) (link : LinkState) (waiting : List Waiting) (started : List ℕ) (q : Queued) (qs : List Queued) → TiedLines story requests (with_queue link (q ∷ qs)) waiting [] started → q.id < length requests
+first_within story requests link waiting started q qs h = (rising_in 0 (started ++ (q.id ∷ (queue_ids qs ++ waiting_ids waiting))) (length requests) q.id h.line (in_right q.id started (q.id ∷ (queue_ids qs ++ waiting_ids waiting)) (inl refl))).1
+
+-- nor has it started
+pub first_new : (story : ℕ → Story) (requests : List Request) (link : LinkState) (waiting : List Waiting) (started : List ℕ) (q : Queued) (qs : List Queued) → TiedLines story requests (with_queue link (q ∷ qs)) waiting [] started → IsIn q.id started → ⊥
+first_new story requests link waiting started q qs h i = let k = rising_apart 0 started (q.id ∷ (queue_ids qs ++ waiting_ids waiting)) (length requests) q.id q.id h.line i (inl refl) in omega arith
+
+-- what is noted of the link is the message of the queue
+same_start : (b : Book) (requests : List Request) (q : Queued) → IsQueued b.story requests q → message_of b (owner_of requests q.id) ≡ start_from (owner_of requests) q
+same_start b requests q h = λ i. record { owner = owner_of requests q.id; shape = sym h.is_of.shape_is i; bytes = sym h.is_of.packs i }
+
+-- the owners of starts, and of others
+owners-append : (xs ys : List Start) → owners_of (xs ++ ys) ≡ owners_of xs ++ owners_of ys
+owners-append [] ys = refl
+owners-append (x ∷ xs) ys = ap (λ os. x.owner ∷ os) (owners-append xs ys)
+
+-- the owners of requests, and of others
+owners_each-append : (requests : List Request) (xs ys : List ℕ) → owners_each requests (xs ++ ys) ≡ owners_each requests xs ++ owners_each requests ys
+owners_each-append requests [] ys = refl
+owners_each-append requests (x ∷ xs) ys = ap (λ os. owner_of requests x ∷ os) (owners_each-append requests xs ys)
+
+-- as many started as have started
+pub owners_length : (starts : List Start) (requests : List Request) (started : List ℕ) → owners_of starts ≡ owners_each requests started → length starts ≡ length started
+owners_length [] requests [] e = refl
+owners_length [] requests (p ∷ ps) e = cc
+owners_length (s ∷ ss) requests [] e = cc
+owners_length (s ∷ ss) requests (p ∷ ps) e = ap suc (owners_length ss requests ps (cc))
+
+-- the tries
+--
+-- one more of the started
+tries_started : (l : Ledger) (story : ℕ → Story) (requests : List Request) (link k : ℕ) (started : List ℕ) (s : Start) (p : ℕ)
+    → ((m : ℕ) → IsIn m started → name_at requests m ≡ name_at requests p → ⊥) → ((m : ℕ) (r : Request) → slice_get requests m ≡ Some r → r.name ≡ name_at requests p → m ≡ p)
+    → s.owner ≡ owner_of requests p → s.shape ≡ shape (story (name_at requests p)) → k ≡ length l.starts → (story (name_at requests p)).tries ≡ []
+    → TiedTries l story requests link started → TiedTries (noted l (begins s)) (tried_at (name_at requests p) link k story) requests link (started ++ p ∷ [])
+tries_started l story requests link k started s p new one owned shaped counted none h =
+    let n = name_at requests p in
+    let long : length l.starts ≡ length started = owners_length l.starts requests started h.owners in
+    record {
+      owners = owners-append l.starts (s ∷ []) ∙ (λ i. h.owners i ++ owned i ∷ []) ∙ sym (owners_each-append requests started (p ∷ []));
+      shapes = λ j m x i e. elim (get_more started p j m i) [
+        | inl a ↦ elim (get_more l.starts s j x e) [
+          | inl c ↦ h.shapes j m x a c ∙ ap shape_in (tried_submissions n link k story (name_at requests m))
+          | inr c ↦ absurd (let w = get_within started j m a in omega (arith, c.0))
+        ]
+        | inr a ↦ elim (get_more l.starts s j x e) [
+          | inl c ↦ absurd (let w = get_within l.starts j x c in omega (arith, a.0))
+          | inr c ↦ ap (λ (y : Start). y.shape) (sym c.1) ∙ shaped ∙ ap (λ y. shape (story (name_at requests y))) a.1 ∙ ap shape_in (tried_submissions n link k story (name_at requests m))
+        ]
+      ];
+      tried = λ j m i. elim (get_more started p j m i) [
+        | inl a ↦ ap (λ (x : Story). x.tries) (left_if (n == name_at requests m) (tried (story (name_at requests m)) link k) (story (name_at requests m)) (ne_test n (name_at requests m) (λ e. new m (get_in started j m a) (sym e)))) ∙ h.tried j m a
+        | inr a ↦
+            subst (λ y. (tried_at n link k story (name_at requests y)).tries ≡ record { link = link; message = j } ∷ []) a.1
+            (ap (λ (x : Story). x.tries) (taken_if (n == n) (tried (story n) link k) (story n) (eq_test n n refl)) ∙ (λ i. none i ++ record { link = link; message = k } ∷ []) ∙ ap (λ y. record { link = link; message = y } ∷ []) (counted ∙ long ∙ sym a.0))
+      ];
+      untried = λ m r i out.
+          ap (λ (x : Story). x.tries) (left_if (n == r.name) (tried (story r.name) link k) (story r.name) (ne_test n r.name (λ e. out (in_right m started (p ∷ []) (inl (sym (one m r i (sym e))))))))
+          ∙ h.untried m r i (λ j. out (in_left m started (p ∷ []) j));
+    }
+
+-- the line, and what is shown of waits
+--
+lines_started : (story : ℕ → Story) (requests : List Request) (link : LinkState) (waiting : List Waiting) (started : List ℕ) (q : Queued) (qs : List Queued) (k l : ℕ)
+    → TiedLines story requests (with_queue link (q ∷ qs)) waiting [] started
+    → TiedLines (tried_at (name_at requests q.id) k l story) requests (with_queue (begun link q) qs) waiting [] (started ++ q.id ∷ [])
+lines_started story requests link waiting started q qs k l h = record {
+  line = subst (λ ns. Rising 0 ns (length requests)) (sym (append_assoc started (q.id ∷ []) (queue_ids qs ++ waiting_ids waiting))) h.line;
+  queued = queued_same story (tried_at (name_at requests q.id) k l story) requests qs (tried_submissions (name_at requests q.id) k l story) (tried_outcomes (name_at requests q.id) k l story) h.queued.1;
+  entries = all_push (IsEntry requests) link.row (entry_of q) h.entries (record { below = first_within story requests link waiting started q qs h; open_at = h.queued.0.open_at });
+  packs = packed_same story (tried_at (name_at requests q.id) k l story) requests waiting (tried_submissions (name_at requests q.id) k l story) h.packs;
+  there = λ p e. elim (h.there p e) [
+    | inl i ↦ inl (subst (IsIn p) (sym (append_assoc (wanted link.row) (if q.awaited then q.id ∷ [] else []) (awaited_ids qs)) ∙ ap (λ ns. ns ++ awaited_ids qs) (ap (λ ns. wanted link.row ++ ns) (sym (append-nil (if q.awaited then q.id ∷ [] else []))) ∙ sym (wanted-append link.row (entry_of q ∷ [])))) i)
+    | inr w ↦ inr w
+  ];
+}
+
+-- no wait is shown of what started
+pub new_kept : (f g : ℕ → Story) (requests : List Request) (fresh : List ℕ) → ((n : ℕ) → (f n).waiting ≡ None → (g n).waiting ≡ None) → IsNew f requests fresh → IsNew g requests fresh
+new_kept f g requests [] kept h = tt
+new_kept f g requests (p ∷ []) kept h = kept (name_at requests p) h
+new_kept f g requests (p ∷ q ∷ ps) kept h = h
+
+-- a link that is up is not dialing
+pub not_dialing : (link : LinkState) → Ready link ≡ Dialing → ⊥
+not_dialing link e = cc
+
+-- what is shown of waits stays
+tried_waits : (story : ℕ → Story) (requests : List Request) (link link' : LinkState) (fresh : List ℕ) (m k l : ℕ) → TiedWaits story requests (Ready link) fresh → TiedWaits (tried_at m k l story) requests (Ready link') fresh
+tried_waits story requests link link' fresh m k l h = record {
+  new = new_kept story (tried_at m k l story) requests fresh (λ n none. chosen (λ (x : Story). x.waiting ≡ None) (m == n) (tried (story n) k l) (story n) (λ t. refl) (λ f. none)) h.new;
+  shown = λ p w e. absurd (not_dialing link' e);
+}
+
+-- a request is one still
+tried_request : (s : Story) (requests : List Request) (link p k l : ℕ) → IsRequest s requests link p → IsRequest (tried s k l) requests link p
+tried_request s requests link p k l h = record { what = h.what; handed_in = h.handed_in; in_time = h.in_time; on = h.on; some = h.some; open_is = h.open_is }
+
+-- the session and its book
+--
+-- who started is within
+started_line : (b : Book) (t : Inner) (m : ℕ) → Tied b t → IsIn m t.started → m < length t.requests
+started_line b t m h i = (rising_in 0 t.started (length t.requests) m (rising_left 0 t.started (queue_ids (link_in t.life).queue ++ waiting_ids t.waiting) (length t.requests) h.lines.line) i).1
+
+-- what is shown of a message of the queue
+queued_some : (b : Book) (t : Inner) (q : Queued) → Tied b t → q.id < length t.requests → IsQueued b.story t.requests q → q.packed ≢ []
+queued_some b t q h within is e = (request_story b t q.id h within).some (sym is.is_of.packs ∙ e)
+
+-- the session is tied to the book with one start more
+pub start_tied : (b : Book) (t : Inner) (link : LinkState) (q : Queued) (qs : List Queued) → Tied b (on_link t (with_queue link (q ∷ qs))) → Tied (entered b (start_action t link q)) (after_start t link q qs)
+start_tied b t link q qs h =
+    let was = on_link t (with_queue link (q ∷ qs)) in
+    let l = b.link t.link in
+    let name = owner_of t.requests in
+    let n = name_at t.requests q.id in
+    let is = h.lines.queued.0 in
+    let within = first_within b.story t.requests link t.waiting t.started q qs h.lines in
+    let new = first_new b.story t.requests link t.waiting t.started q qs h.lines in
+    let s = start_from name q in
+    let up = h.link (λ e. cc e) in
+    let g = get_some t.requests q.id within in
+    tied_by (entered b (start_action t link q)) (after_start t link q qs) (noted l (begins s))
+    (mine_noted l t.link (begins (message_of b (name q.id))) ∙ ap (λ x. noted l (begins x)) (same_start b t.requests q is))
+    (record {
+      numbers = numbers_kept b _ _ was _ _ _ _ _ _ h.numbers;
+      others = others_kept b t.link (begins (message_of b (name q.id))) h.others;
+      life = h.life;
+      link = λ e. queue_tied name (noted l (begins s)) (begun (with_queue link (q ∷ qs)) q) qs (begun_tied name l (with_queue link (q ∷ qs)) q (queued_some b was q h within is) up);
+      names = h.names;
+      story = one_changed b was q.id (λ x. tried x t.link link.started) h within (tried_request (b.story n) t.requests t.link q.id t.link link.started);
+      tries = tries_started l b.story t.requests t.link link.started t.started s q.id
+          (λ m i e. new (subst (λ x. IsIn x t.started) (same_name t.table t.requests m q.id h.names (started_line b was m h i) within e) i))
+          (λ m r i e. same_name t.table t.requests m q.id h.names (get_within t.requests m r i) within (name_of_some t.requests m r i ∙ e))
+          refl is.is_of.shape_is up.started
+          (ap (λ x. (b.story x).tries) (name_of_some t.requests q.id g.0 g.1) ∙ h.tries.untried q.id g.0 g.1 new) h.tries;
+      lines = lines_started b.story t.requests link t.waiting t.started q qs t.link link.started h.lines;
+      waits = tried_waits b.story t.requests (with_queue link (q ∷ qs)) (with_queue (begun link q) qs) t.fresh n t.link link.started h.waits;
+    })

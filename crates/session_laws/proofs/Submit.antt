@@ -1,0 +1,165 @@
+-- A submission is handed in: it is answered at once, or it is the next request.
+use Rattle.std.proofs.Common.{◌≡◌, ◌≢◌, ◌⊎◌, inl, inr, ℕ, ◌+◌, ◌<◌, ◌==◌, Bool, true, false, ◌||◌, List, [], ◌∷◌, ◌++◌, length, Option, Some, None, if◌then◌else◌, refl, sym, ap, ◌∙◌, subst, arith, length-append}
+use Rattle.containers.proofs.Places.{get_within}
+use Rattle.containers.proofs.Tests.{by_test, taken_if, left_if, eq_from, eq_test, ne_from, ne_test, not_both}
+use Rattle.redis_error.specs.declared.redis_error.RedisError.{RedisError}
+use Rattle.redis_error.specs.declared.redis_error.RedisError.TheVariants as error
+use Rattle.driver_model.specs.declared.action.Action.TheVariants as action
+use Rattle.driver_model.specs.declared.event.EventKind.TheVariants as event
+use Rattle.driver_model.specs.declared.event.Submission.{Submission}
+use Rattle.driver_model.specs.declared.outcome.Outcome.TheVariants as outcome
+use Rattle.driver_model.specs.News.{silence}
+use Rattle.driver_model.specs.Request.{packed}
+use Rattle.link_laws.proofs.TiedLink.{told_tied}
+use Rattle.mux_conn.specs.declared.request.Request.{Request}
+use Rattle.mux_conn.specs.Requests.{is_waiting}
+use Rattle.shared_session.specs.declared.core_state.Core.{Core}
+use Rattle.legal_trace.specs.Ledger.{is_over}
+use Rattle.legal_trace.specs.Story.{Story, Try, blank_story, is_open, bytes_of, handed_in, answered, last_of}
+use Rattle.legal_trace.specs.Book.{Book, entered, if_own, current}
+use Rattle.legal_trace.specs.Owed.{owed, owed_to_try}
+use Rattle.legal_trace.specs.Legal.{IsOpen, link_of, NoneIsOwed, NoneEnds, MayAnswer}
+use Rattle.session_laws.proofs.Numbers.{IsIn, in_left, in_right, Rising, rising_in}
+use Rattle.session_laws.proofs.Tied.{inner, link_in, owner_of, queue_ids, waiting_ids, IsRefused, TiedStory, IsNew, Tied}
+use Rattle.session_laws.proofs.Names.{there_within, names_refused}
+use Rattle.session_laws.proofs.Owes.{started_within}
+use Rattle.session_laws.proofs.Answer.{owed_in}
+use Rattle.session_laws.proofs.Settle.{seen}
+use Rattle.session_laws.proofs.Announce.{turn_of, turned}
+use Rattle.session_laws.proofs.Heard.{told_life, silent_no_end}
+use Rattle.session_laws.proofs.Further.{get_beyond, no_longer, SameBefore, story_at, further_story, tries_longer, queue_longer, packs_longer}
+
+-- the stories once it is handed in
+abbrev pub stories_with : Book → Submission → ℕ → Story
+stories_with b what n = if_own (b.submissions == n) (handed_in (b.story n) what b.shut (current b)) (b.story n)
+
+-- any other story stays
+stories_before : (b : Book) (what : Submission) (n : ℕ) → n ≢ b.submissions → stories_with b what n ≡ b.story n
+stories_before b what n other = left_if (b.submissions == n) _ (b.story n) (ne_test b.submissions n (λ e. other (sym e)))
+
+-- its own
+abbrev pub new_story : Book → Submission → Story
+new_story b what = handed_in blank_story what b.shut (current b)
+
+-- the next submission has no story before
+next_is_blank : (b : Book) (c : Core) (started : List ℕ) → Tied b (inner c started) → b.story (length c.table) ≡ blank_story
+next_is_blank b c started h = subst (TiedStory (b.story (length c.table)) c.single.connection.requests c.single.link) (get_beyond c.table (length c.table) (omega arith)) (h.story (length c.table))
+
+-- its story is that
+pub story_is_new : (b : Book) (c : Core) (started : List ℕ) (what : Submission) → Tied b (inner c started) → stories_with b what (length c.table) ≡ new_story b what
+story_is_new b c started what h =
+    taken_if (b.submissions == length c.table) _ (b.story (length c.table)) (eq_test b.submissions (length c.table) h.numbers.submissions)
+    ∙ ap (λ (s : Story). handed_in s what b.shut (current b)) (next_is_blank b c started h)
+
+-- the others, by the table
+pub others_before : (b : Book) (c : Core) (started : List ℕ) (what : Submission) → Tied b (inner c started) → SameBefore b.story (stories_with b what) (length c.table)
+others_before b c started what h n other = stories_before b what n (λ e. other (e ∙ h.numbers.submissions))
+
+-- what started is within
+pub within_line : (requests : List Request) (started queue last : List ℕ) (p : ℕ) → Rising 0 (started ++ (queue ++ last)) (length requests) → IsIn p (started ++ (queue ++ last)) → p < length requests
+within_line requests started queue last p r i = let k = rising_in 0 (started ++ (queue ++ last)) (length requests) p r i in k.1
+
+-- it is answered at once
+--
+-- what the others are owed stays
+others_owed : (b : Book) (c : Core) (word : ℕ) (what : Submission) (m : ℕ) → m ≢ b.submissions → owed (entered b (turn_of c word (event.Submit what))) m ≡ owed b m
+others_owed b c word what m other = ap (owed_in (entered b (turn_of c word (event.Submit what)))) (stories_before b what m other) ∙ same (b.story m)
+  where
+    by_try : (s : Story) (x : Option Try) → owed_to_try (entered b (turn_of c word (event.Submit what))) s x ≡ owed_to_try b s x
+    by_try s None = refl
+    by_try s (Some t) = refl
+
+    same : (s : Story) → owed_in (entered b (turn_of c word (event.Submit what))) s ≡ owed_in b s
+    same s = (λ i.
+        if s.late then Some (outcome.Fault error.Closed)
+        else if length (bytes_of s) == 0 then Some (outcome.Fault error.EmptyCommand)
+        else by_try s (last_of s.tries) i)
+
+-- the error that it gets
+abbrev pub IsErrorOf : Bool → Submission → RedisError → Type 0
+IsErrorOf late what e = ((late ≡ true) × (e ≡ error.Closed)) ⊎ ((late ≡ false) × ((length (packed what) == 0) ≡ true) × (e ≡ error.EmptyCommand))
+
+-- what it is owed then
+new_owed : (b now : Book) (what : Submission) (e : RedisError) → IsErrorOf b.shut what e → owed_in now (new_story b what) ≡ Some (outcome.Fault e)
+new_owed b now what e (inl h) = taken_if b.shut (Some (outcome.Fault error.Closed)) _ h.0 ∙ ap (λ x. Some (outcome.Fault x)) (sym h.1)
+new_owed b now what e (inr h) =
+    left_if b.shut (Some (outcome.Fault error.Closed)) _ h.0 ∙ taken_if (length (packed what) == 0) (Some (outcome.Fault error.EmptyCommand)) _ h.1 ∙ ap (λ x. Some (outcome.Fault x)) (sym h.2)
+
+-- its outcome may stand
+pub may_refuse : (b : Book) (c : Core) (started : List ℕ) (word : ℕ) (what : Submission) (e : RedisError) → Tied b (inner c started) → NoneIsOwed b → NoneEnds b → IsErrorOf b.shut what e → MayAnswer (entered b (turn_of c word (event.Submit what))) (length c.table) (outcome.Fault e)
+may_refuse b c started word what e h none no_end why =
+    let now = entered b (turn_of c word (event.Submit what)) in
+    let size = length c.table in
+    let own = story_is_new b c started what h in
+    let others : (m : ℕ) → m ≢ size → IsOpen now m → owed now m ≡ None = λ m other asked.
+    (let apart : m ≢ b.submissions = λ x. other (x ∙ h.numbers.submissions) in
+    others_owed b c word what m apart ∙ none m (ap is_open (sym (stories_before b what m apart)) ∙ asked)) in
+    record {
+      asked = ap is_open own;
+      owes = ap (owed_in now) own ∙ new_owed b now what e why;
+      in_order = λ m less asked same. others m (λ x. absurd (omega arith)) asked;
+      after_closes = λ over. (
+        (λ l. silent_no_end (b.link l)),
+        (λ m asked alive. by_test (m == size) _
+            (λ t. absurd (not_both (is_over (link_of now size)) (subst (λ k. is_over (link_of now k) ≡ false) (eq_from m size t) alive) over))
+            (λ o. others m (ne_from m size o) asked)),
+      );
+    }
+
+-- the stories once it is answered
+abbrev stories_refused : Book → ℕ → Submission → RedisError → ℕ → Story
+stories_refused b size what e n = if_own (size == n) (answered (stories_with b what n) (outcome.Fault e)) (stories_with b what n)
+
+-- any other story stays
+refused_before : (b : Book) (c : Core) (started : List ℕ) (what : Submission) (e : RedisError) → Tied b (inner c started) → SameBefore b.story (stories_refused b (length c.table) what e) (length c.table)
+refused_before b c started what e h n other = left_if (length c.table == n) _ (stories_with b what n) (ne_test (length c.table) n (λ x. other (sym x))) ∙ others_before b c started what h n other
+
+-- its own is answered
+refused_is : (b : Book) (c : Core) (started : List ℕ) (what : Submission) (e : RedisError) → Tied b (inner c started) → stories_refused b (length c.table) what e (length c.table) ≡ answered (new_story b what) (outcome.Fault e)
+refused_is b c started what e h =
+    taken_if (length c.table == length c.table) _ (stories_with b what (length c.table)) (eq_test (length c.table) (length c.table) refl)
+    ∙ ap (λ (s : Story). answered s (outcome.Fault e)) (story_is_new b c started what h)
+
+-- the core with one submission more
+abbrev pub core_refused : Core → Submission → Core
+core_refused c what = record (turned c (event.Submit what)) { table = c.table ++ None ∷ [] }
+
+-- the session is tied with it
+pub refused_tied : (b : Book) (c : Core) (started : List ℕ) (word : ℕ) (what : Submission) (e : RedisError) → Tied b (inner c started) → c.single.connection.fresh ≡ []
+    → Tied (entered (entered b (turn_of c word (event.Submit what))) (action.Outcome (length c.table) (outcome.Fault e))) (seen (core_refused c what) c.single.connection [] started)
+refused_tied b c started word what e h no_fresh =
+    let conn = c.single.connection in
+    let ledger = b.link c.single.link in
+    let after = stories_refused b (length c.table) what e in
+    let same = refused_before b c started what e h in
+    let longer = no_longer conn.requests in
+    let queue = queue_ids (link_in conn.life).queue in
+    let last = waiting_ids conn.waiting in
+    let at : (p : ℕ) → IsIn p (started ++ (queue ++ last)) → p < length conn.requests = λ p i. within_line conn.requests started queue last p h.lines.line i in
+    let story = story_at c.table b.story after conn.requests conn.requests in
+    record {
+      numbers = record { turns = ap (λ m. m + 1) h.numbers.turns; links = h.numbers.links; submissions = (let k = h.numbers.submissions in omega (arith, length-append c.table (None ∷ []))); shut = ap (λ s. s || false) h.numbers.shut; one = h.numbers.one; only = h.numbers.only };
+      others = λ m other. let u = h.others m other in record { asked = u.asked; up = u.up; end = u.end; starts = u.starts };
+      life = told_life ledger b.created conn.life silence h.life;
+      link = λ alive. told_tied (owner_of conn.requests) ledger (link_in conn.life) ledger.asked ledger.up silence (h.link alive);
+      names = names_refused c.table conn.requests h.names;
+      story = further_story c.table b.story after conn.requests conn.requests c.single.link None h.names same longer h.story
+          (subst IsRefused (sym (refused_is b c started what e h)) (record { what = what; handed_in = refl; untried = refl; error = e; answered = refl }));
+      tries = tries_longer c.table (record ledger { heard = silence }) b.story after conn.requests conn.requests c.single.link started h.names same longer
+          (λ p i. at p (in_left p started (queue ++ last) i)) (λ k p i. started_within b (inner c started) k p h i) (λ p r i past. absurd (let l = get_within conn.requests p r i in omega arith))
+          (record { owners = h.tries.owners; shapes = h.tries.shapes; tried = h.tries.tried; untried = h.tries.untried });
+      lines = record {
+        line = h.lines.line;
+        queued = queue_longer c.table b.story after conn.requests conn.requests (link_in conn.life).queue h.names same longer (λ p i. at p (in_right p started (queue ++ last) (in_left p queue last i))) h.lines.queued;
+        entries = h.lines.entries;
+        packs = packs_longer c.table b.story after conn.requests conn.requests conn.waiting h.names same longer (λ p i. at p (in_right p started (queue ++ last) (in_right p queue last i))) h.lines.packs;
+        there = h.lines.there;
+      };
+      waits = record {
+        new = subst (λ ns. IsNew after conn.requests ns) (sym no_fresh) tt;
+        shown = λ p w d. elim (h.waits.shown p w d) [
+          | inl x ↦ inl x
+          | inr x ↦ inr (ap (λ (s : Story). s.waiting) (story p h.names same longer (there_within is_waiting conn.requests p w)) ∙ x)
+        ];
+      };
+    }

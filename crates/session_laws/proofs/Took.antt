@@ -1,0 +1,67 @@
+-- Offered bytes were taken.
+use Rattle.std.proofs.Common.{◌≡◌, ℕ, ◌≤◌, false, ◌&&◌, not, List, [], ◌∷◌, ◌++◌, Option, None, if◌then◌else◌, refl, subst}
+use Rattle.containers.proofs.Tests.{chosen}
+use Rattle.driver_model.specs.declared.action.Action.{Action}
+use Rattle.driver_model.specs.declared.event.EventKind.{EventKind}
+use Rattle.driver_model.specs.News.{took, news}
+use Rattle.link_core.specs.Link.{LinkState, wrote_of}
+use Rattle.link_laws.proofs.TiedLink.{wrote_tied}
+use Rattle.mux_conn.specs.declared.life.Life.{Life}
+use Rattle.mux_conn.specs.declared.life.Life.TheVariants.{Dialing, Ready, Ended}
+use Rattle.mux_conn.specs.declared.request.Request.{Request}
+use Rattle.mux_conn.specs.declared.request.Waiting.{Waiting}
+use Rattle.mux_conn.specs.Effects.{taken_at, CanTake}
+use Rattle.shared_session.specs.declared.core_state.Core.{Core}
+use Rattle.shared_session.specs.Turn.{with_work, is_bad}
+use Rattle.legal_trace.specs.Ledger.{Ledger, Ending, hears, noted, ending, ending_asked, is_over}
+use Rattle.legal_trace.specs.Story.{Story}
+use Rattle.legal_trace.specs.Book.{book}
+use Rattle.session_laws.proofs.Tied.{link_in, owner_of, TiedLife, TiedLines}
+use Rattle.session_laws.proofs.States.{IsWhole, Between, HasApplied}
+use Rattle.session_laws.proofs.Announce.{turn_of, turned, IsNewsKind}
+use Rattle.session_laws.proofs.Heard.{quiet_applied, ended_quiet, dialing_quiet}
+use Rattle.session_laws.proofs.End.{up_tied}
+
+-- it need not end
+took_no_end : (l : Ledger) (count : ℕ) → ending (noted l (hears (took count))) ≡ None
+took_no_end l count =
+    let after = noted l (hears (took count)) in
+    chosen (λ (x : Option Ending). x ≡ None) after.up None (if after.asked && not (is_over after) then ending_asked (took count) else None)
+    (λ t. refl)
+    (λ f. chosen (λ (x : Option Ending). x ≡ None) (after.asked && not (is_over after)) None None (λ t. refl) (λ g. refl))
+
+-- and is as far as it was
+took_life : (l : Ledger) (created count : ℕ) (link after : LinkState) → TiedLife l created (Ready link) → TiedLife (noted l (hears (took count))) created (Ready after)
+took_life l created count link after h = chosen (λ (x : Ledger). TiedLife (record x { heard = took count }) created (Ready after)) l.up _ l (λ t. h) (λ f. h)
+
+-- the lines stay
+wrote_lines : (story : ℕ → Story) (requests : List Request) (link : LinkState) (count : ℕ) (waiting : List Waiting) (pending started : List ℕ) → TiedLines story requests link waiting pending started → TiedLines story requests (wrote_of link count) waiting pending started
+wrote_lines story requests link count waiting pending started h = record { line = h.line; queued = h.queued; entries = h.entries; packs = h.packs; there = h.there }
+
+-- and the link is whole
+wrote_whole : (link : LinkState) (count : ℕ) → IsWhole link → (x : LinkState) → Ready (wrote_of link count) ≡ Ready x → IsWhole x
+wrote_whole link count h x e = let same : wrote_of link count ≡ x = cc in subst IsWhole same (record { sound = h.sound; empty = h.empty; size = h.size; boundary = h.boundary })
+
+-- so much was taken of what was offered
+pub took_applied : (before : List Action) (c : Core) (started : List ℕ) (word count : ℕ) (kind : EventKind) → Between before c started → is_bad c kind ≡ false → IsNewsKind kind → news c.single.link kind ≡ took count → CanTake c.single.connection.life count
+    → HasApplied (before ++ turn_of c word kind ∷ []) (with_work (record { core = turned c kind; acts = [] }) (taken_at (record { conn = c.single.connection; acts = [] }) count c.single.connection.life)) started
+took_applied before c started word count kind h good k is can = by_life c.single.connection.life refl
+  where
+    by_life : (x : Life) → c.single.connection.life ≡ x → HasApplied (before ++ turn_of c word kind ∷ []) (with_work (record { core = turned c kind; acts = [] }) (taken_at (record { conn = c.single.connection; acts = [] }) count x)) started
+    by_life Dialing e = dialing_quiet before c started word kind (took count) tt h good k is e
+    by_life Ended e = ended_quiet before c started word kind (took count) h good k is e
+    by_life (Ready link) e =
+        let b = book before in
+        let l = b.link c.single.link in
+        let conn = c.single.connection in
+        let name = owner_of conn.requests in
+        let u = up_tied name l b.created conn.life link e h.sound.tied.life h.sound.tied.link in
+        let few : count ≤ link.outbox.offered = subst (λ (x : Life). CanTake x count) e can in
+        quiet_applied before c started word kind (took count) (Ready (wrote_of link count)) h good k is
+        (record {
+          lived = took_life l b.created count link (wrote_of link count) (u.asked, u.up, u.alive, u.shown);
+          linked = λ n. wrote_tied name l link count u.up few u.tied;
+          lines = wrote_lines b.story conn.requests link count conn.waiting [] started (subst (λ (x : Life). TiedLines b.story conn.requests (link_in x) conn.waiting [] started) e h.sound.tied.lines);
+          waits = record { new = h.sound.tied.waits.new; shown = λ p w d. cc };
+        })
+        (took_no_end l count) (wrote_whole link count (h.whole link e))
