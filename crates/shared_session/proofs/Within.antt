@@ -1,6 +1,6 @@
--- What a good event says to the connection is within what was offered.
-use Rattle.std.proofs.Common.{◌≡◌, ℕ, ◌≤◌, ◌==◌, nat_lt, nat_le, ◌&&◌, ◌||◌, Bool, true, false, length}
-use Rattle.containers.proofs.Tests.{chosen, not_lt_from, or_right}
+-- A good event says no more than was offered, and names what was given out.
+use Rattle.std.proofs.Common.{◌≡◌, refl, arith, ℕ, ◌<◌, ◌≤◌, ◌==◌, nat_lt, nat_le, ◌&&◌, ◌||◌, Bool, true, false, length}
+use Rattle.containers.proofs.Tests.{not_le_from, not_lt_from, or_right}
 use Rattle.driver_model.specs.declared.event.EventKind.{EventKind}
 use Rattle.driver_model.specs.declared.event.EventKind.TheVariants as event
 use Rattle.driver_model.specs.News.{News, silence, connected, took, came, failed, shut, for_link, news}
@@ -8,7 +8,7 @@ use Rattle.mux_conn.specs.declared.life.Life.{Life}
 use Rattle.mux_conn.specs.declared.life.Life.TheVariants.{Dialing, Ready, Ended}
 use Rattle.mux_conn.specs.Effects.{IsWithin, CanTake}
 use Rattle.shared_session.specs.declared.core_state.Core.{Core}
-use Rattle.shared_session.specs.Turn.{is_bad, is_no_link, takes_too_much}
+use Rattle.shared_session.specs.Turn.{is_bad, is_no_link, takes_too_much, IsKnown}
 
 can_take : (life : Life) (count : ℕ) → takes_too_much life count ≡ false → CanTake life count
 can_take Dialing count f = tt
@@ -34,3 +34,29 @@ news_within c (event.Ended l) good = either_news (l == c.single.link) c.single.c
 news_within c (event.ReadFault l kind) good = either_news (l == c.single.link) c.single.connection.life (failed _) tt
 news_within c (event.WriteFault l kind) good = either_news (l == c.single.link) c.single.connection.life (failed _) tt
 news_within c event.Shutdown good = tt
+
+-- a good cancel names a submission
+pub known_good : (c : Core) (kind : EventKind) (count : ℕ) → count ≡ length c.table → is_bad c kind ≡ false → IsKnown count kind
+unfolding is_bad
+known_good c (event.Cancel n) count same good = let l : n < length c.table = not_le_from (length c.table) n good in omega (arith, same, l)
+known_good c (event.Submit what) count same good = tt
+known_good c (event.Connected l) count same good = tt
+known_good c (event.Wrote l n) count same good = tt
+known_good c (event.Bytes l piece) count same good = tt
+known_good c (event.Ended l) count same good = tt
+known_good c (event.ReadFault l kind) count same good = tt
+known_good c (event.WriteFault l kind) count same good = tt
+known_good c event.Shutdown count same good = tt
+
+-- the number of the turn makes no event bad
+pub bad_counted : (c : Core) (turns : ℕ) (kind : EventKind) → is_bad (record c { turns = turns }) kind ≡ is_bad c kind
+unfolding is_bad
+bad_counted c turns (event.Submit what) = refl
+bad_counted c turns (event.Cancel n) = refl
+bad_counted c turns (event.Connected l) = refl
+bad_counted c turns (event.Wrote l count) = refl
+bad_counted c turns (event.Bytes l piece) = refl
+bad_counted c turns (event.Ended l) = refl
+bad_counted c turns (event.ReadFault l kind) = refl
+bad_counted c turns (event.WriteFault l kind) = refl
+bad_counted c turns event.Shutdown = refl

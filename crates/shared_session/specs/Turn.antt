@@ -1,5 +1,5 @@
 -- One turn of a session: what the outside sees by number, over a connection that knows no numbers.
-use Rattle.std.specs.Prelude.{◌≤◌, ℕ, ◌+◌, ◌^◌, ◌==◌, nat_lt, nat_le, Bool, true, false, ◌&&◌, ◌||◌, List, [], ◌∷◌, ◌++◌, length, Option, Some, None, slice_get, if◌then◌else◌}
+use Rattle.std.specs.Prelude.{◌<◌, ◌≤◌, ℕ, ◌+◌, ◌^◌, ◌==◌, nat_lt, nat_le, Bool, true, false, ◌&&◌, ◌||◌, List, [], ◌∷◌, ◌++◌, length, Option, Some, None, slice_get, if◌then◌else◌}
 use Rattle.redis_error.specs.declared.redis_error.RedisError.{RedisError}
 use Rattle.redis_error.specs.declared.redis_error.RedisError.TheVariants as error
 use Rattle.driver_model.specs.declared.action.Action.{Action}
@@ -134,6 +134,11 @@ shown_each l (a ∷ more) = shown l a ∷ shown_each l more
 -- the actions of one turn
 abbrev pub actions_of : Core → Event → List Action
 actions_of c e = action.Turn c.turns (cause.Event e) ∷ shown_each c.single.link (turn c e.kind).acts
+
+-- a cancel names one of so many submissions
+abbrev pub IsKnown : ℕ → EventKind → Type 0
+IsKnown count (event.Cancel n) = n < count
+IsKnown count _ = Unit {0}
 
 -- its connection has no more requests than there are submissions
 abbrev pub IsFewer : Core → Type 0

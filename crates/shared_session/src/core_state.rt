@@ -53,7 +53,7 @@ impl Core {
     ghost use Rattle.driver_model.specs.Request.{packed as packed_of};
     ghost use Rattle.driver_model.specs.News.{told, news};
     ghost use Rattle.mux_conn.specs.Effects.{IsWithin};
-    ghost use Rattle.shared_session.specs.Turn.{heard, refused as refused_in, asked_for, submitted, left_by, requested, effect, run as run_of, turn as turn_of, is_bad, is_spent as is_spent_in, takes_too_much as takes_too_much_in, IsFewer};
+    ghost use Rattle.shared_session.specs.Turn.{heard, refused as refused_in, asked_for, submitted, left_by, requested, effect, run as run_of, turn as turn_of, is_bad, is_spent as is_spent_in, takes_too_much as takes_too_much_in, IsFewer, IsKnown};
 
     /// The connection hears its link's news.
     fn hear(
@@ -153,14 +153,13 @@ impl Core {
     }
 
     /// What an event is to the submissions.
-    #[tactic(auto, unfolding(crate::specs::Turn::is_bad))]
     fn take_requests(
         &mut self,
         alloc: Global,
         event: &EventKind,
         acts: &mut Vec<LinkAct>,
     ) -> Result<(), AllocError>
-        requires good { is_bad self.old event.now ≡ false }
+        requires known { IsKnown (length self.old.table) event.now }
         requires few { length self.old.table < 2 ^ 32 }
         requires fewer { IsFewer self.old }
         ensures turning { OnOk result (record { core = self.new; acts = acts.new.items } ≡ requested (record { core = self.old; acts = acts.old.items }) event.now) }
@@ -216,5 +215,64 @@ impl Core {
     {
         let started = u64::from(self.single.connection.started());
         started >= TOO_MANY || self.table.len() as u64 >= TOO_MANY
+    }
+
+    /// The event's own effect, and then requests are moved, and bytes and waits are shown.
+    fn run(
+        &mut self,
+        alloc: Global,
+        event: &EventKind,
+        acts: &mut Vec<LinkAct>,
+    ) -> Result<(), ConnectionError>
+        requires good { is_bad self.old event.now ≡ false }
+        requires few { length self.old.table < 2 ^ 32 }
+        requires fewer { IsFewer self.old }
+        requires sound { self.old.single.connection.failure ≡ None }
+        ensures turning { OnOk result (record { core = self.new; acts = acts.new.items } ≡ run_of (record { core = self.old; acts = acts.old.items }) event.now) }
+        ensures spent { IsErrOf result ConnectionError.Spent → is_spent_in (run_of (record { core = self.old; acts = acts.old.items }) event.now).core ≡ true }
+        ensures fewer { OnOk result (IsFewer self.new) }
+        ensures sound { OnOk result (self.new.single.connection.failure ≡ None) }
+    {
+        match self.hear(alloc, event, acts) {
+            Ok(()) => {}
+            Err(error) => return Err(error),
+        }
+        self.take_requests(alloc, event, acts)?;
+        match self.single.connection.advance_all(alloc, acts) {
+            Ok(()) => {}
+            Err(error) => return Err(error),
+        }
+        self.single.connection.flush(alloc, acts)
+    }
+
+    /// One turn, whose acts `acts` gains.
+    #[tactic(auto, unfolding(crate::specs::Turn::turn))]
+    pub fn turn(
+        &mut self,
+        alloc: Global,
+        event: &EventKind,
+        acts: &mut Vec<LinkAct>,
+    ) -> Result<(), ConnectionError>
+        requires good { is_bad self.old event.now ≡ false }
+        requires room { is_spent_in self.old ≡ false }
+        requires turns { self.old.turns < 2 ^ 32 }
+        requires fewer { IsFewer self.old }
+        requires sound { self.old.single.connection.failure ≡ None }
+        requires none { acts.old.items ≡ [] }
+        ensures turning { OnOk result (record { core = self.new; acts = acts.new.items } ≡ turn_of self.old event.now) }
+        ensures unspent { OnOk result (is_spent_in self.new ≡ false) }
+        ensures spent { IsErrOf result ConnectionError.Spent → is_spent_in (turn_of self.old event.now).core ≡ true }
+        ensures fewer { OnOk result (IsFewer self.new) }
+        ensures sound { OnOk result (self.new.single.connection.failure ≡ None) }
+    {
+        self.turns += 1;
+        match self.run(alloc, event, acts) {
+            Ok(()) => {}
+            Err(error) => return Err(error),
+        }
+        if self.is_spent() {
+            return Err(ConnectionError::Spent);
+        }
+        Ok(())
     }
 }
