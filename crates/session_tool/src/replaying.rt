@@ -1,6 +1,7 @@
 ghost use Rattle.std.specs.Prelude.{◌≡◌, ◌⊎◌, ℕ, ◌+◌, ◌≤◌, ◌++◌, [], ◌∷◌, length, true, false, OnOk, OnErr, IfOk, IfErr, IsErrOf};
 ghost use Rattle.outside.specs.Ends.{Rose};
-ghost use Rattle.shared_session.specs.Replay.{opening, state_after, actions_of, trace_of, is_bad_after, is_spent_after, AreGood, AreUnspent};
+ghost use Rattle.shared_session.specs.Replay.{opening_actions, state_after, trace_of, is_bad_after, is_spent_after, AreGood, AreUnspent};
+ghost use Rattle.shared_session.specs.Turn.{actions_of};
 ghost use Rattle.shared_session.specs.declared.session.Failure.TheVariants.{Sound, Spent};
 ghost use Rattle.shared_session.specs.Stops.{IsSpentBy};
 ghost use Rattle.trace_text.specs.Show.{show};
@@ -45,7 +46,7 @@ fn open_session(
     text: &mut Bytes,
 ) -> Result<Session, AllocError>
     ensures made { IfOk result (λ s. s ≡ record { config = config.now; word = word; events = []; failure = Sound }) }
-    ensures shown { OnOk result (text.new ≡ text.old ++ show (opening config.now word).connection.acts) }
+    ensures shown { OnOk result (text.new ≡ text.old ++ show (opening_actions config.now word)) }
     ensures err { OnErr result (text.new ≡ text.old) }
 {
     let config = config.clone(alloc)?;
