@@ -65,10 +65,16 @@ fn print<K: Sink>(line: &[u8], its: Status, sink: &mut K) -> Status
 
 /// Writes the line of a script that is at fault.
 fn refuse_script<K: Sink>(alloc: Global, line: u32, sink: &mut K) -> Result<(), PutError>
-    ensures told { OnOk result (Gained (K.held sink.old) (K.held sink.new) (numbered_line (codes "script line") line)) }
-    ensures none { IsErrOf result PutError.NoMemory → Gained (K.held sink.old) (K.held sink.new) [] }
-    ensures cut { IsErrOf result PutError.WriteFault → GainedPart (K.held sink.old) (K.held sink.new) (numbered_line (codes "script line") line) }
-    ensures cause { IsErrOf result PutError.WriteFault → Rose (K.fault_count sink.old) (K.fault_count sink.new) }
+    ensures told { OnOk result (
+        Gained (K.held sink.old) (K.held sink.new) (numbered_line (codes "script line") line)
+        ) }
+    ensures none { IsErrOf result PutError.NoMemory
+        → Gained (K.held sink.old) (K.held sink.new) [] }
+    ensures cut { IsErrOf result PutError.WriteFault
+        → GainedPart (K.held sink.old) (K.held sink.new)
+        (numbered_line (codes "script line") line) }
+    ensures cause { IsErrOf result PutError.WriteFault
+        → Rose (K.fault_count sink.old) (K.fault_count sink.new) }
 {
     let mut text = Bytes::new(alloc);
     push_line(alloc, &mut text, b"script line", u64::from(line))?;
@@ -99,10 +105,15 @@ fn push_stop(alloc: Global, text: &mut Bytes, stop: Stop) -> Stop
 /// Writes what is left of a replay that stopped, unless the sink's fault stopped it.
 fn end_early<K: Sink>(alloc: Global, stop: Stop, text: &mut Bytes, sink: &mut K) -> Stop
     ensures kept { (result ≡ stop) ⊎ (result ≡ Stop.NoMemory) ⊎ (result ≡ Stop.WriteFault) }
-    ensures told { (result ≡ Stop.WriteFault) ⊎ Gained (K.held sink.old) (K.held sink.new) (text.old ++ stop_line result) }
-    ensures same { stop ≡ Stop.WriteFault → (result ≡ Stop.WriteFault) × (K.held sink.new ≡ K.held sink.old) }
-    ensures cut { result ≡ Stop.WriteFault → (stop ≡ Stop.WriteFault) ⊎ GainedPart (K.held sink.old) (K.held sink.new) (text.old ++ stop_line stop) ⊎ GainedPart (K.held sink.old) (K.held sink.new) (text.old ++ []) }
-    ensures cause { result ≡ Stop.WriteFault → (stop ≡ Stop.WriteFault) ⊎ Rose (K.fault_count sink.old) (K.fault_count sink.new) }
+    ensures told { (result ≡ Stop.WriteFault)
+        ⊎ Gained (K.held sink.old) (K.held sink.new) (text.old ++ stop_line result) }
+    ensures same { stop ≡ Stop.WriteFault
+        → (result ≡ Stop.WriteFault) × (K.held sink.new ≡ K.held sink.old) }
+    ensures cut { result ≡ Stop.WriteFault → (stop ≡ Stop.WriteFault)
+        ⊎ GainedPart (K.held sink.old) (K.held sink.new) (text.old ++ stop_line stop)
+        ⊎ GainedPart (K.held sink.old) (K.held sink.new) (text.old ++ []) }
+    ensures cause { result ≡ Stop.WriteFault → (stop ≡ Stop.WriteFault)
+        ⊎ Rose (K.fault_count sink.old) (K.fault_count sink.new) }
     ensures later { K.fault_count sink.old ≤ K.fault_count sink.new }
 {
     if stop == Stop::WriteFault {
@@ -119,11 +130,18 @@ fn end_early<K: Sink>(alloc: Global, stop: Stop, text: &mut Bytes, sink: &mut K)
 /// Replays a script, and writes its trace.
 #[tactic(auto, using(crate::proofs::Traces::sent_end))]
 fn replay_script<K: Sink>(alloc: Global, script: &Script, sink: &mut K) -> Result<(), Stop>
-    ensures trace { OnOk result (Gained (K.held sink.old) (K.held sink.new) (show (trace_of script.now.config script.now.word script.now.events))) }
+    ensures trace { OnOk result (
+        Gained (K.held sink.old) (K.held sink.new)
+        (show (trace_of script.now.config script.now.word script.now.events))
+        ) }
     ensures good { OnOk result (AreGood script.now.config script.now.word script.now.events) }
     ensures unspent { OnOk result (AreUnspent script.now.config script.now.word script.now.events) }
-    ensures stops { IfErr result (λ stop. Told stop script.now.config script.now.word script.now.events (K.held sink.old) (K.held sink.new)) }
-    ensures cause { IsErrOf result Stop.WriteFault → Rose (K.fault_count sink.old) (K.fault_count sink.new) }
+    ensures stops { IfErr result (λ stop.
+        Told stop script.now.config script.now.word script.now.events (K.held sink.old)
+        (K.held sink.new)
+        ) }
+    ensures cause { IsErrOf result Stop.WriteFault
+        → Rose (K.fault_count sink.old) (K.fault_count sink.new) }
 {
     let mut text = Bytes::new(alloc);
     let events = script.events.as_slice();

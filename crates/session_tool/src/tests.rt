@@ -468,7 +468,9 @@ fn run_surely(
     source: &mut SureSource,
     sink: &mut SureSink,
 ) -> Status
-    ensures { command_of words.now ≡ Command.Replay → (bytes : List ℕ) → ⟦<SureSource as Source>⟧.left source.old ≡ Some bytes → IsSound bytes → (result ≡ Status.Done) ⊎ (result ≡ Status.NoMemory) }
+    ensures { command_of words.now ≡ Command.Replay → (bytes : List ℕ)
+        → ⟦<SureSource as Source>⟧.left source.old ≡ Some bytes → IsSound bytes
+        → (result ≡ Status.Done) ⊎ (result ≡ Status.NoMemory) }
 {
     run_alone(alloc, words, source, sink)
 }
