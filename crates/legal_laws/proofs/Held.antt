@@ -11,10 +11,10 @@ use Rattle.legal_trace.specs.Story.{Story, Try, is_open, shape, tried, waits, an
 use Rattle.legal_trace.specs.Owed.{owed_to_message, owed_to_try}
 use Rattle.legal_trace.specs.Book.{Book, entered, if_mine, message_of}
 use Rattle.legal_trace.specs.Legal.{MayTell, MayStart, IsTold, CanMove, NoneIsOwed, IsApplied, IsMoved, IsWritten}
-use Rattle.legal_laws.proofs.Ledgers.{mine_keeps}
+use Rattle.legal_trace.proofs.Ledgers.{mine_keeps}
 use Rattle.legal_laws.proofs.Tales.{open_has_none, last_behind}
 use Rattle.legal_laws.proofs.Owes.{owed_story, owed_again, owed_by_last, begins_keeps, new_is_owed_nothing}
-use Rattle.legal_laws.proofs.Plain.{not_empty}
+use Rattle.legal_trace.proofs.Plain.{not_empty}
 use Rattle.legal_laws.proofs.Sound.{Sound}
 
 -- a message of a submission starts

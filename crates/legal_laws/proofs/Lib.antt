@@ -1,5 +1,3 @@
-pub mod Plain
-pub mod Ledgers
 pub mod Streams
 pub mod Lines
 pub mod Opens

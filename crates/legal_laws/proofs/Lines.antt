@@ -4,7 +4,7 @@ use Rattle.driver_model.specs.declared.action.Action.{Action}
 use Rattle.legal_trace.specs.Ledger.{noted_each}
 use Rattle.legal_trace.specs.Book.{Book, blank_book, book, entered, entered_each, lines_of, lines_of_each}
 use Rattle.legal_laws.specs.Links.{LedgersAreTold}
-use Rattle.legal_laws.proofs.Ledgers.{noted_append}
+use Rattle.legal_trace.proofs.Ledgers.{noted_append}
 
 -- behind what is in a book
 pub told_behind : (b : Book) (l : ℕ) (trace : List Action) → (entered_each b trace).link l ≡ noted_each (b.link l) (lines_of_each b l trace)

@@ -17,7 +17,7 @@ use Rattle.legal_trace.specs.Book.{Book, blank_book, entered, lines_of, lines_of
 use Rattle.legal_trace.specs.Events.{is_bad_event, is_no_link}
 use Rattle.legal_trace.specs.Legal.{MayStand, MayStart, AllStand, Legal}
 use Rattle.legal_laws.specs.Links.{LinksAreLegal, TakesInOrder, lines_for}
-use Rattle.legal_laws.proofs.Ledgers.{all_append}
+use Rattle.legal_trace.proofs.Ledgers.{may_append}
 use Rattle.legal_laws.proofs.Streams.{takes_in_order}
 use Rattle.legal_laws.proofs.Sound.{Sound, stays_sound, blank_is_sound}
 use Rattle.legal_laws.proofs.Owes.{has_bytes}
@@ -83,7 +83,7 @@ lines_may b l (action.Outcome n o) may h = tt
 each_may : (b : Book) (l : ℕ) (trace : List Action) → AllStand b trace → Sound b → AllNoted (b.link l) (lines_of_each b l trace)
 each_may b l [] all h = tt
 each_may b l (a ∷ more) all h =
-    all_append (b.link l) (lines_of b l a) (lines_of_each (entered b a) l more) (lines_may b l a all.0 h)
+    may_append (b.link l) (lines_of b l a) (lines_of_each (entered b a) l more) (lines_may b l a all.0 h)
     (each_may (entered b a) l more all.1 (stays_sound b a all.0 h))
 
 -- and what a legal trace tells

@@ -1,5 +1,5 @@
 -- At most one action may stand next.
-use Rattle.std.proofs.Common.{◌≡◌, ◌⊎◌, inl, inr, ℕ, zero, suc, ◌<◌, ◌≤◌, nat_lt, true, false, List, [], length, Some, None, refl, sym, ◌∙◌, subst, ap, arith}
+use Rattle.std.proofs.Common.{◌≡◌, ◌⊎◌, inl, inr, ℕ, zero, suc, ◌<◌, ◌≤◌, nat_lt, Bool, true, false, List, [], length, Some, None, refl, sym, ◌∙◌, subst, ap, arith}
 use Rattle.containers.proofs.Tests.{by_test, lt_from, not_lt_from, not_both}
 use Rattle.driver_model.specs.declared.action.Action.{Action}
 use Rattle.driver_model.specs.declared.action.Action.TheVariants as action
@@ -13,15 +13,15 @@ use Rattle.driver_model.specs.declared.config.Config.{Config}
 use Rattle.driver_model.specs.declared.event.Event.{Event}
 use Rattle.driver_model.specs.declared.outcome.Outcome.{Outcome}
 use Rattle.driver_model.specs.declared.outcome.Outcome.TheVariants as outcome
-use Rattle.legal_trace.specs.Ledger.{IsOffered, unwritten, ending}
+use Rattle.legal_trace.specs.Ledger.{IsOffered, is_over, unwritten, ending}
 use Rattle.legal_trace.specs.Story.{is_awaited, shape, bytes_of}
 use Rattle.legal_trace.specs.Owed.{owed}
 use Rattle.legal_trace.specs.Book.{Book, book}
-use Rattle.legal_trace.specs.Legal.{MayStand, MayConnect, MayClose, MayAnswer, MayTell, MayStart, MayWrite, MayWait, IsOpen, CanMove}
+use Rattle.legal_trace.specs.Legal.{MayStand, MayConnect, MayClose, MayAnswer, MayTell, MayStart, MayWrite, MayWait, IsOpen, link_of, CanMove}
 use Rattle.legal_laws.specs.Next.{BothAnnounce, OneIsNext, OneIsNextBehind}
 use Rattle.legal_laws.proofs.Tales.{open_has_none}
-use Rattle.legal_laws.proofs.Ranks.{rank, same_rank, outcome_rank, not_offered}
-use Rattle.legal_laws.proofs.Plain.{not_none, not_empty, same_some}
+use Rattle.legal_laws.proofs.Ranks.{answer_rank, rank, same_rank, outcome_rank, not_offered}
+use Rattle.legal_trace.proofs.Plain.{not_none, not_empty, same_some}
 use Rattle.legal_laws.proofs.Sound.{Sound, sound_behind}
 
 -- the least number of a kind is one
@@ -44,12 +44,12 @@ same_answers m n o p e f = cc
 same_config : (c d : Config) (v w : ℕ) → cause.Opening c v ≡ cause.Opening d w → c ≡ d
 same_config c d v w e = cc
 
--- two outcomes that are owed are one
-one_answer : (b : Book) (m n : ℕ) (o p : Outcome) → MayAnswer b m o → MayAnswer b n p → action.Outcome m o ≡ action.Outcome n p
-one_answer b m n o p h k =
-    let e : m ≡ n = least_is_one (λ j. IsOpen b j × (owed b j ≡ None → ⊥)) m n
-    (h.asked, λ none. not_none (owed b m) o none h.owes) (k.asked, λ none. not_none (owed b n) p none k.owes)
-    (λ j i w. w.1 (h.in_order j i w.0)) (λ j i w. w.1 (k.in_order j i w.0)) in
+-- of what is owed to open submissions whose link has ended, or has not, one is the first
+one_answer : (b : Book) (m n : ℕ) (o p : Outcome) (over : Bool) → is_over (link_of b m) ≡ over → is_over (link_of b n) ≡ over → MayAnswer b m o → MayAnswer b n p → action.Outcome m o ≡ action.Outcome n p
+one_answer b m n o p over of_m of_n h k =
+    let e : m ≡ n = least_is_one (λ j. IsOpen b j × (is_over (link_of b j) ≡ over) × (owed b j ≡ None → ⊥)) m n
+    (h.asked, of_m, λ none. not_none (owed b m) o none h.owes) (k.asked, of_n, λ none. not_none (owed b n) p none k.owes)
+    (λ j i w. w.2 (h.in_order j i w.0 (w.1 ∙ sym of_m))) (λ j i w. w.2 (k.in_order j i w.0 (w.1 ∙ sym of_n))) in
     same_answers m n o p e (sym h.owes ∙ (ap (owed b) e ∙ k.owes))
 
 -- two submissions whose messages may start next are one
@@ -114,7 +114,11 @@ one_wait b m n wait.Connect wait.Connect h k =
     (h.asked, h.unstarted, h.new) (k.asked, k.unstarted, k.new)
     (λ j i w. h.in_order j i w.0 w.1 w.2) (λ j i w. k.in_order j i w.0 w.1 w.2))
 
--- it tells Nil at its place, or it starts a message
+-- it is an outcome that is owed, of a link that has ended or of one that has not
+abbrev pub IsAnswering : Book → Bool → Action → Type 0
+IsAnswering b over y = (n : ℕ) × (o : Outcome) × (y ≡ action.Outcome n o) × (is_over (link_of b n) ≡ over) × MayAnswer b n o
+
+-- it tells Nil at its place
 abbrev pub IsTelling : Book → Action → Type 0
 IsTelling b y = (n : ℕ) × (o : Outcome) × (y ≡ action.Outcome n o) × MayTell b n o
 
@@ -126,17 +130,23 @@ IsStarting b y = (l : ℕ) × (k : ℕ) × (n : ℕ) × (count : ℕ) × (len : 
 abbrev pub OfRank : ℕ → Book → Action → Type 0
 OfRank zero b y = (k : ℕ) × (config : Config) × (word : ℕ) × (y ≡ action.Turn k (cause.Opening config word)) × (k ≡ b.turns)
 OfRank (suc zero) b y = (l : ℕ) × (host : List ℕ) × (port : ℕ) × (y ≡ action.Connect l host port) × MayConnect b l host port
-OfRank (suc (suc zero)) b y = (n : ℕ) × (o : Outcome) × (y ≡ action.Outcome n o) × MayAnswer b n o
+OfRank (suc (suc zero)) b y = IsAnswering b false y
 OfRank (suc (suc (suc zero))) b y = (l : ℕ) × (y ≡ action.Close l) × MayClose b l
-OfRank (suc (suc (suc (suc zero)))) b y = y ≡ action.Created
-OfRank (suc (suc (suc (suc (suc zero))))) b y = IsTelling b y ⊎ IsStarting b y
-OfRank (suc (suc (suc (suc (suc (suc zero)))))) b y = (l : ℕ) × (bytes : List ℕ) × (y ≡ action.Write l bytes) × MayWrite b l bytes
-OfRank (suc (suc (suc (suc (suc (suc (suc zero))))))) b y = (n : ℕ) × (kind : WaitKind) × (y ≡ action.Wait (owner.Try n 0) kind) × MayWait b n kind
-OfRank (suc (suc (suc (suc (suc (suc (suc (suc more)))))))) b y = (k : ℕ) × (e : Event) × (y ≡ action.Turn k (cause.Event e)) × (k ≡ b.turns)
+OfRank (suc (suc (suc (suc zero)))) b y = IsAnswering b true y
+OfRank (suc (suc (suc (suc (suc zero))))) b y = y ≡ action.Created
+OfRank (suc (suc (suc (suc (suc (suc zero)))))) b y = IsTelling b y ⊎ IsStarting b y
+OfRank (suc (suc (suc (suc (suc (suc (suc zero))))))) b y = (l : ℕ) × (bytes : List ℕ) × (y ≡ action.Write l bytes) × MayWrite b l bytes
+OfRank (suc (suc (suc (suc (suc (suc (suc (suc zero)))))))) b y = (n : ℕ) × (kind : WaitKind) × (y ≡ action.Wait (owner.Try n 0) kind) × MayWait b n kind
+OfRank (suc (suc (suc (suc (suc (suc (suc (suc (suc more))))))))) b y = (k : ℕ) × (e : Event) × (y ≡ action.Turn k (cause.Event e)) × (k ≡ b.turns)
 
--- an outcome is of its rank
+-- an outcome that is owed is of its rank
+answer_of_rank : (b : Book) (n : ℕ) (o : Outcome) (over : Bool) → is_over (link_of b n) ≡ over → MayAnswer b n o → OfRank (answer_rank over) b (action.Outcome n o)
+answer_of_rank b n o false e may = (n, o, refl, e, may)
+answer_of_rank b n o true e may = (n, o, refl, e, may)
+
+-- so is any outcome
 outcome_of_rank : (b : Book) (n : ℕ) (o : Outcome) (may : MayAnswer b n o ⊎ MayTell b n o) → OfRank (outcome_rank b n o may) b (action.Outcome n o)
-outcome_of_rank b n o (inl owes) = (n, o, refl, owes)
+outcome_of_rank b n o (inl owes) = answer_of_rank b n o (is_over (link_of b n)) refl owes
 outcome_of_rank b n o (inr told) = inl (n, o, refl, told)
 
 -- each action that may stand is of its rank
@@ -151,9 +161,14 @@ of_rank b (action.Write l bytes) may = (l, bytes, refl, may)
 of_rank b (action.Wait (owner.Try n round) kind) may = (n, kind, ap (λ r. action.Wait (owner.Try n r) kind) may.0, may.1)
 of_rank b (action.Turn k (cause.Event e)) may = (k, e, refl, may.next)
 
--- beside an action that may stand, another of its rank
+-- beside an outcome that is owed, another action of its rank
+beside_answer : (b : Book) (n : ℕ) (o : Outcome) (y : Action) (over : Bool) → is_over (link_of b n) ≡ over → MayAnswer b n o → OfRank (answer_rank over) b y → AreOne (action.Outcome n o) y
+beside_answer b n o y false e p q = inl (one_answer b n q.0 o q.1 false e q.3 p q.4 ∙ sym q.2)
+beside_answer b n o y true e p q = inl (one_answer b n q.0 o q.1 true e q.3 p q.4 ∙ sym q.2)
+
+-- beside any outcome
 beside_outcome : (b : Book) (n : ℕ) (o : Outcome) (y : Action) (p : MayAnswer b n o ⊎ MayTell b n o) → OfRank (outcome_rank b n o p) b y → AreOne (action.Outcome n o) y
-beside_outcome b n o y (inl p) q = inl (one_answer b n q.0 o q.1 p q.3 ∙ sym q.2)
+beside_outcome b n o y (inl p) q = beside_answer b n o y (is_over (link_of b n)) refl p q
 beside_outcome b n o y (inr p) (inl q) = inl (one_told b n q.0 o q.1 p q.3 ∙ sym q.2)
 beside_outcome b n o y (inr p) (inr q) = absurd (told_or_starts b n q.2 o q.0 q.1 q.3 q.4 p q.6)
 

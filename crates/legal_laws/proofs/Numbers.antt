@@ -15,7 +15,7 @@ use Rattle.legal_trace.specs.Story.{Story, blank_story, is_open, is_awaited, han
 use Rattle.legal_trace.specs.Book.{Book, entered, lines_of, if_mine, message_of, current, after_event, submitted_by}
 use Rattle.legal_trace.specs.Events.{is_bad_event}
 use Rattle.legal_trace.specs.Legal.{MayAnswer, MayTell, MayStand, IsTold, IsOpen, CanMove}
-use Rattle.legal_laws.proofs.Ledgers.{each_keeps, mine_keeps, IsAsked, asked_keeps, IsUnasked, unasked_hears}
+use Rattle.legal_trace.proofs.Ledgers.{each_keeps, mine_keeps, IsAsked, asked_keeps, IsUnasked, unasked_hears}
 
 -- the links below that number were asked for, and no others
 pub record LinksAreNumbered (links : ℕ) (link : ℕ → Ledger) : Type 0 where

@@ -7,7 +7,7 @@ use Rattle.driver_model.specs.declared.action.Cause.TheVariants as cause
 use Rattle.driver_model.specs.declared.action.Owner.TheVariants as owner
 use Rattle.legal_trace.specs.Book.{Book, entered}
 use Rattle.legal_trace.specs.Legal.{MayStand}
-use Rattle.legal_laws.proofs.Plain.{not_none}
+use Rattle.legal_trace.proofs.Plain.{not_none}
 
 -- before the first turn no link is asked for and no turn runs, and before a link is asked for nothing is handed in or shut
 -- down

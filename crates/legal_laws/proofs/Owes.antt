@@ -11,7 +11,7 @@ use Rattle.legal_trace.specs.Ledger.{Ledger, Start, End, begins, noted, reach}
 use Rattle.legal_trace.specs.Story.{Story, Try, bytes_of, shape, last_of}
 use Rattle.legal_trace.specs.Owed.{owed_to_try, owed_to_message, owed_unstarted, cut_off_if, is_full, cut}
 use Rattle.legal_trace.specs.Book.{Book}
-use Rattle.legal_laws.proofs.Ledgers.{FewAreDealt, reach_more, takes_one}
+use Rattle.legal_trace.proofs.Ledgers.{FewAreDealt, reach_more, takes_one}
 
 -- what a story is owed over a book
 abbrev pub owed_story : Book → Story → Option Outcome

@@ -1,5 +1,5 @@
 -- In which order things are due: each action has a rank, and what comes later asks that all before it is done.
-use Rattle.std.proofs.Common.{◌≡◌, ◌≢◌, ◌⊎◌, inl, inr, ℕ, zero, suc, ◌<◌, ◌≤◌, ◌==◌, nat_lt, true, ◌&&◌, not, List, [], Some, None, if◌then◌else◌, sym, ◌∙◌, subst, ap, arith}
+use Rattle.std.proofs.Common.{◌≡◌, ◌≢◌, ◌⊎◌, inl, inr, ℕ, zero, suc, ◌<◌, ◌≤◌, ◌==◌, nat_lt, Bool, true, false, ◌&&◌, not, List, [], Some, None, if◌then◌else◌, refl, sym, ◌∙◌, subst, ap, arith}
 use Rattle.containers.proofs.Tests.{by_test, eq_from, ne_from, left_if, lt_from, not_lt_from}
 use Rattle.driver_model.specs.declared.action.Action.{Action}
 use Rattle.driver_model.specs.declared.action.Action.TheVariants as action
@@ -9,42 +9,53 @@ use Rattle.driver_model.specs.declared.outcome.Outcome.{Outcome}
 use Rattle.legal_trace.specs.Ledger.{Ledger, Ending, is_over, IsOffered, ending, ending_up, ending_asked}
 use Rattle.legal_trace.specs.Story.{Try, last_of}
 use Rattle.legal_trace.specs.Book.{Book}
-use Rattle.legal_trace.specs.Legal.{MayStand, MayAnswer, MayTell, MayWrite, IsOpen, NoneIsOwed, NoneEnds, IsCreated, IsApplied, IsMoved, IsWritten, IsSettled, IsStarted, IsWaiting, CanMove}
+use Rattle.legal_trace.specs.Legal.{MayStand, MayAnswer, MayTell, MayWrite, IsOpen, link_of, NoneIsOwed, VerdictsAreShown, NoneEnds, IsCreated, IsApplied, IsMoved, IsWritten, IsSettled, IsStarted, IsWaiting, CanMove}
 use Rattle.legal_laws.proofs.Numbers.{up_is_numbered, open_is_numbered}
-use Rattle.legal_laws.proofs.Ledgers.{IsUnasked}
+use Rattle.legal_trace.proofs.Ledgers.{IsUnasked}
 use Rattle.legal_trace.specs.Owed.{owed}
-use Rattle.legal_laws.proofs.Plain.{not_none}
+use Rattle.legal_trace.proofs.Plain.{not_none}
 use Rattle.legal_laws.proofs.Sound.{Sound}
 
--- an outcome that is owed comes before one that is told at its place
-abbrev pub outcome_rank : (b : Book) (n : ℕ) (o : Outcome) → MayAnswer b n o ⊎ MayTell b n o → ℕ
-outcome_rank b n o (inl owed) = 2
-outcome_rank b n o (inr told) = 5
+-- the outcomes that are owed: what values gave, where the link has not ended, and then the others
+abbrev pub answer_rank : Bool → ℕ
+answer_rank false = 2
+answer_rank true = 4
 
--- the opening, its connect, the outcomes that are owed, the closes, the creation, the passes, the writes, the waits, and
--- the next event
+-- these come before one that is told at its place
+abbrev pub outcome_rank : (b : Book) (n : ℕ) (o : Outcome) → MayAnswer b n o ⊎ MayTell b n o → ℕ
+outcome_rank b n o (inl owed) = answer_rank (is_over (link_of b n))
+outcome_rank b n o (inr told) = 6
+
+-- the opening, its connect, the outcomes of links that have not ended, the closes, the other outcomes that are owed, the
+-- creation, the passes, the writes, the waits, and the next event
 abbrev pub rank : (b : Book) (a : Action) → MayStand b a → ℕ
 rank b (action.Turn k (cause.Opening config word)) may = 0
 rank b (action.Connect l host port) may = 1
 rank b (action.Outcome n o) may = outcome_rank b n o may
 rank b (action.Close l) may = 3
-rank b action.Created may = 4
-rank b (action.Start l k who count len) may = 5
-rank b (action.Write l bytes) may = 6
-rank b (action.Wait who kind) may = 7
-rank b (action.Turn k (cause.Event e)) may = 8
+rank b action.Created may = 5
+rank b (action.Start l k who count len) may = 6
+rank b (action.Write l bytes) may = 7
+rank b (action.Wait who kind) may = 8
+rank b (action.Turn k (cause.Event e)) may = 9
+
+-- an outcome that is owed comes before the passes
+pub answer_first : (over : Bool) → answer_rank over < 6
+answer_first false = omega arith
+answer_first true = omega arith
 
 -- what is done once nothing of this rank is due
 abbrev pub Step : ℕ → Book → Type 0
 Step zero b = b.turns ≢ 0
 Step (suc zero) b = b.links ≢ 0
-Step (suc (suc zero)) b = NoneIsOwed b
+Step (suc (suc zero)) b = VerdictsAreShown b
 Step (suc (suc (suc zero))) b = NoneEnds b
-Step (suc (suc (suc (suc zero)))) b = IsCreated b
-Step (suc (suc (suc (suc (suc zero))))) b = (n : ℕ) → CanMove b n → ⊥
-Step (suc (suc (suc (suc (suc (suc zero)))))) b = (l : ℕ) → (b.link l).up ≡ true → IsOffered (b.link l)
-Step (suc (suc (suc (suc (suc (suc (suc zero))))))) b = (n : ℕ) → IsOpen b n → IsStarted b n ⊎ IsWaiting b n
-Step (suc (suc (suc (suc (suc (suc (suc (suc more)))))))) b = ⊥
+Step (suc (suc (suc (suc zero)))) b = NoneIsOwed b
+Step (suc (suc (suc (suc (suc zero))))) b = IsCreated b
+Step (suc (suc (suc (suc (suc (suc zero)))))) b = (n : ℕ) → CanMove b n → ⊥
+Step (suc (suc (suc (suc (suc (suc (suc zero))))))) b = (l : ℕ) → (b.link l).up ≡ true → IsOffered (b.link l)
+Step (suc (suc (suc (suc (suc (suc (suc (suc zero)))))))) b = (n : ℕ) → IsOpen b n → IsStarted b n ⊎ IsWaiting b n
+Step (suc (suc (suc (suc (suc (suc (suc (suc (suc more))))))))) b = ⊥
 
 -- all below this rank is done
 abbrev pub Reached : ℕ → Book → Type 0
@@ -70,9 +81,14 @@ not_started ts t none last = not_none (last_of ts) t (ap last_of none) last
 not_gone : (b : Book) (n : ℕ) → (b.story n).tries ≡ [] → (b.story n).waiting ≡ None → IsStarted b n ⊎ IsWaiting b n → ⊥
 not_gone b n unstarted new h = elim h [ inl s ↦ not_started (b.story n).tries s.try unstarted s.last | inr w ↦ not_none (b.story n).waiting w.kind new w.shown ]
 
--- an outcome that may stand is due
+-- an outcome that is owed is due
+answer_not_done : (b : Book) (n : ℕ) (o : Outcome) (over : Bool) → is_over (link_of b n) ≡ over → MayAnswer b n o → Step (answer_rank over) b → ⊥
+answer_not_done b n o false e may h = not_none (owed b n) o (h n may.asked e) may.owes
+answer_not_done b n o true e may h = not_none (owed b n) o (h n may.asked) may.owes
+
+-- so is any outcome that may stand
 outcome_not_done : (b : Book) (n : ℕ) (o : Outcome) (may : MayAnswer b n o ⊎ MayTell b n o) → Step (outcome_rank b n o may) b → ⊥
-outcome_not_done b n o (inl owes) h = not_none (owed b n) o (h n owes.asked) owes.owes
+outcome_not_done b n o (inl owes) h = answer_not_done b n o (is_over (link_of b n)) refl owes h
 outcome_not_done b n o (inr told) h = h n told.moves
 
 -- where an action may stand, its rank isn't done
@@ -91,20 +107,24 @@ not_done b (action.Turn k (cause.Event e)) may h = h
 linked : (b : Book) → Sound b → b.links ≢ 0 → Reached 2 b
 linked b h links = (links, (λ e. links (h.opens.no_links e), tt))
 
+-- where nothing is owed, nothing is owed that values gave
+verdicts : (b : Book) → NoneIsOwed b → VerdictsAreShown b
+verdicts b none n o e = none n o
+
 -- what is done where the event has had its effect
-pub applied : (b : Book) → Sound b → IsApplied b → Reached 5 b
-applied b h done = (done.created, (done.ended, (done.answered, linked b h done.created.asked)))
+pub applied : (b : Book) → Sound b → IsApplied b → Reached 6 b
+applied b h done = (done.created, (done.answered, (done.ended, (verdicts b done.answered, linked b h done.created.asked))))
 
 -- where all messages have started
-pub moved : (b : Book) → Sound b → IsMoved b → Reached 6 b
+pub moved : (b : Book) → Sound b → IsMoved b → Reached 7 b
 moved b h done = (done.moved, applied b h done.applied)
 
 -- where all is written
-pub written : (b : Book) → Sound b → IsWritten b → Reached 7 b
+pub written : (b : Book) → Sound b → IsWritten b → Reached 8 b
 written b h done = (done.offered, moved b h done.moved)
 
 -- where the turn is settled
-pub settled : (b : Book) → Sound b → IsSettled b → Reached 8 b
+pub settled : (b : Book) → Sound b → IsSettled b → Reached 9 b
 settled b h done = (done.goes, written b h done.written)
 
 -- where a submission is open, a link was asked for
@@ -123,9 +143,14 @@ unasked_stays l h = left_if l.up (ending_up l l.heard) (if l.asked && not (is_ov
 end_has_link : (b : Book) (l : ℕ) (why : Ending) → Sound b → ending (b.link l) ≡ Some why → b.links ≢ 0
 end_has_link b l why h ends e = not_none (ending (b.link l)) why (unasked_stays (b.link l) (h.links.unasked l (omega arith))) ends
 
--- all before an outcome is done
+-- all before an outcome that is owed is done
+answer_reached : (b : Book) (n : ℕ) (o : Outcome) (over : Bool) → is_over (link_of b n) ≡ over → MayAnswer b n o → Sound b → Reached (answer_rank over) b
+answer_reached b n o false e may h = linked b h (open_has_link b n h may.asked)
+answer_reached b n o true e may h = ((may.after_closes e).0, ((may.after_closes e).1, linked b h (open_has_link b n h may.asked)))
+
+-- and before any outcome
 outcome_reached : (b : Book) (n : ℕ) (o : Outcome) (may : MayAnswer b n o ⊎ MayTell b n o) → Sound b → Reached (outcome_rank b n o may) b
-outcome_reached b n o (inl owes) h = linked b h (open_has_link b n h owes.asked)
+outcome_reached b n o (inl owes) h = answer_reached b n o (is_over (link_of b n)) refl owes h
 outcome_reached b n o (inr told) h = applied b h told.applied
 
 -- where an action may stand, all below its rank is done
@@ -134,7 +159,7 @@ reached b (action.Turn k (cause.Opening config word)) may h = tt
 reached b (action.Connect l host port) may h = (λ e. not_none b.running (cause.Opening may.config may.word) (h.opens.not_running e) may.opens, tt)
 reached b (action.Outcome n o) may h = outcome_reached b n o may h
 reached b (action.Close l) may h = (may.answered, linked b h (end_has_link b l may.why h may.ends))
-reached b action.Created may h = (may.ended, (may.answered, linked b h (up_has_link b may.l h may.up)))
+reached b action.Created may h = (may.answered, (may.ended, (verdicts b may.answered, linked b h (up_has_link b may.l h may.up))))
 reached b (action.Start l k (owner.Try n round) count len) may h = applied b h may.1.applied
 reached b (action.Write l bytes) may h = moved b h may.moved
 reached b (action.Wait (owner.Try n round) kind) may h = written b h may.1.written

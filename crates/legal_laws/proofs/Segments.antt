@@ -8,11 +8,12 @@ use Rattle.driver_model.specs.declared.action.Owner.TheVariants as owner
 use Rattle.driver_model.specs.declared.config.Config.{Config}
 use Rattle.driver_model.specs.declared.event.Event.{Event}
 use Rattle.driver_model.specs.declared.outcome.Outcome.{Outcome}
+use Rattle.legal_trace.specs.Ledger.{is_over}
 use Rattle.legal_trace.specs.Book.{Book, blank_book, entered}
-use Rattle.legal_trace.specs.Legal.{MayStand, MayAnswer, MayTell, AllStand, IsApplied, IsMoved, IsWritten, Legal}
+use Rattle.legal_trace.specs.Legal.{MayStand, MayAnswer, MayTell, AllStand, link_of, IsApplied, IsMoved, IsWritten, Legal}
 use Rattle.legal_laws.specs.Segments.{answers_in, segment, MayCome, AreInOrder}
 use Rattle.legal_laws.proofs.Held.{start_applied, tell_applied, write_moved, wait_written}
-use Rattle.legal_laws.proofs.Ranks.{rank, not_done, step_of, applied, moved, written}
+use Rattle.legal_laws.proofs.Ranks.{rank, not_done, step_of, applied, moved, written, answer_first}
 use Rattle.legal_laws.proofs.Sound.{Sound, stays_sound, blank_is_sound}
 
 -- what is done in a turn from this segment on
@@ -66,19 +67,19 @@ applied_from b (suc (suc zero)) i h = h
 applied_from b (suc (suc (suc more))) i h = (moved_from b (suc (suc (suc more))) (omega arith) h).applied
 
 -- an effect comes behind no pass, a pass behind no write, and a write behind no wait
-effect_early : (b : Book) (a : Action) (may : MayStand b a) (k : ℕ) → Sound b → DoneIn k b → rank b a may < 5 → k ≤ 1
+effect_early : (b : Book) (a : Action) (may : MayStand b a) (k : ℕ) → Sound b → DoneIn k b → rank b a may < 6 → k ≤ 1
 effect_early b a may k h done r = by_test (nat_le k 1) (k ≤ 1) (le_from k 1)
-    (λ f. absurd (not_done b a may (step_of b (rank b a may) 5 r (applied b h (applied_from b k (not_le_from k 1 f) done)))))
+    (λ f. absurd (not_done b a may (step_of b (rank b a may) 6 r (applied b h (applied_from b k (not_le_from k 1 f) done)))))
 
 -- nothing of the second comes behind the third
-pass_early : (b : Book) (a : Action) (may : MayStand b a) (k : ℕ) → Sound b → DoneIn k b → rank b a may < 6 → k ≤ 2
+pass_early : (b : Book) (a : Action) (may : MayStand b a) (k : ℕ) → Sound b → DoneIn k b → rank b a may < 7 → k ≤ 2
 pass_early b a may k h done r = by_test (nat_le k 2) (k ≤ 2) (le_from k 2)
-    (λ f. absurd (not_done b a may (step_of b (rank b a may) 6 r (moved b h (moved_from b k (not_le_from k 2 f) done)))))
+    (λ f. absurd (not_done b a may (step_of b (rank b a may) 7 r (moved b h (moved_from b k (not_le_from k 2 f) done)))))
 
 -- nothing of the third comes behind the fourth
-write_early : (b : Book) (a : Action) (may : MayStand b a) (k : ℕ) → Sound b → DoneIn k b → rank b a may < 7 → k ≤ 3
+write_early : (b : Book) (a : Action) (may : MayStand b a) (k : ℕ) → Sound b → DoneIn k b → rank b a may < 8 → k ≤ 3
 write_early b a may k h done r = by_test (nat_le k 3) (k ≤ 3) (le_from k 3)
-    (λ f. absurd (not_done b a may (step_of b (rank b a may) 7 r (written b h (written_from b k (not_le_from k 3 f) done)))))
+    (λ f. absurd (not_done b a may (step_of b (rank b a may) 8 r (written b h (written_from b k (not_le_from k 3 f) done)))))
 
 -- there is none behind the fourth
 at_most_four : (b : Book) (k : ℕ) → DoneIn k b → k ≤ 4
@@ -91,7 +92,7 @@ at_most_four b (suc (suc (suc (suc (suc more))))) h = absurd h
 
 -- an outcome comes in its segment
 outcome_early : (b : Book) (n : ℕ) (o : Outcome) (may : MayAnswer b n o ⊎ MayTell b n o) (k : ℕ) → Sound b → DoneIn k b → k ≤ answers_in b n o may
-outcome_early b n o (inl owes) k h done = effect_early b (action.Outcome n o) (inl owes) k h done (omega arith)
+outcome_early b n o (inl owes) k h done = effect_early b (action.Outcome n o) (inl owes) k h done (answer_first (is_over (link_of b n)))
 outcome_early b n o (inr told) k h done = pass_early b (action.Outcome n o) (inr told) k h done (omega arith)
 
 -- so does each action that may stand

@@ -11,8 +11,8 @@ use Rattle.driver_model.specs.News.{News, shut, news}
 use Rattle.legal_trace.specs.Ledger.{Ledger, End, by_shutdown, hears, begins, offers, ends, noted, ending, ending_up, ending_asked}
 use Rattle.legal_trace.specs.Book.{Book, entered, message_of, shuts}
 use Rattle.legal_trace.specs.Legal.{MayStand, NoneEnds}
-use Rattle.legal_laws.proofs.Ledgers.{mine_keeps, hears_past}
-use Rattle.legal_laws.proofs.Plain.{not_none}
+use Rattle.legal_trace.proofs.Ledgers.{mine_keeps, hears_past}
+use Rattle.legal_trace.proofs.Plain.{not_none}
 use Rattle.legal_laws.proofs.Opens.{IsOpening}
 
 -- a link that was asked for and has not ended was told of the shutdown by the turn that runs

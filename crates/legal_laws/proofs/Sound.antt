@@ -3,7 +3,7 @@ use Rattle.std.proofs.Common.{ℕ, List, [], ◌∷◌, refl, arith}
 use Rattle.driver_model.specs.declared.action.Action.{Action}
 use Rattle.legal_trace.specs.Book.{Book, blank_book, book, entered, entered_each, lines_of}
 use Rattle.legal_trace.specs.Legal.{MayStand, AllStand}
-use Rattle.legal_laws.proofs.Ledgers.{each_keeps, UpIsNotOver, up_keeps, FewAreDealt, few_keeps}
+use Rattle.legal_trace.proofs.Ledgers.{each_keeps, UpIsNotOver, up_keeps, FewAreDealt, few_keeps}
 use Rattle.legal_laws.proofs.Opens.{IsOpening, opening_kept}
 use Rattle.legal_laws.proofs.Numbers.{HasLinks, links_kept, HasStories, stories_kept}
 use Rattle.legal_laws.proofs.Tales.{AnsweredOnce, once_kept, TriesAreStarted, starts_kept}

@@ -4,7 +4,8 @@ use Rattle.std.proofs.lemmas.List.{append-nil, take-append-drop}
 use Rattle.std.proofs.Math.Seq.{drop-append_seam}
 use Rattle.containers.proofs.Tests.{chosen}
 use Rattle.driver_model.specs.News.{News, silence, connected, took, came, failed, shut}
-use Rattle.legal_trace.specs.Ledger.{Ledger, Line, Start, asks, hears, begins, offers, ends, blank_ledger, noted, noted_each, with_news, bytes_came, is_over, joined, stream, MayNote, AllNoted, LinkLegal}
+use Rattle.legal_trace.specs.Ledger.{Ledger, Line, asks, hears, begins, offers, ends, blank_ledger, noted, noted_each, with_news, bytes_came, is_over, joined, stream, MayNote, AllNoted, LinkLegal}
+use Rattle.legal_trace.proofs.Ledgers.{joined_more}
 use Rattle.legal_laws.specs.Links.{IsPrefix, TakesInOrder}
 
 -- of one ledger
@@ -32,11 +33,6 @@ prefix_offered taken offer whole h =
 pub prefix_more : (front whole more : List ℕ) → IsPrefix front whole → IsPrefix front (whole ++ more)
 prefix_more front whole more h = record { rest = h.rest ++ more; joins = sym (append_assoc front h.rest more) ∙ ap (λ x. x ++ more) h.joins }
 
--- the bytes of one message more
-pub joined_append : (ss : List Start) (s : Start) → joined (ss ++ s ∷ []) ≡ joined ss ++ joined (s ∷ [])
-joined_append [] s = refl
-joined_append (t ∷ ss) s = ap (λ x. t.bytes ++ x) (joined_append ss s) ∙ sym (append_assoc t.bytes (joined ss) (joined (s ∷ [])))
-
 -- news keeps the order
 hears_in_order : (l : Ledger) (news : News) → InOrder l → InOrder (with_news l news)
 hears_in_order l silence h = h
@@ -50,7 +46,7 @@ hears_in_order l shut h = h
 noted_in_order : (l : Ledger) (x : Line) → MayNote l x → InOrder l → InOrder (noted l x)
 noted_in_order l asks may h = h
 noted_in_order l (hears news) may h = hears_in_order l news h
-noted_in_order l (begins s) may h = subst (IsPrefix (stream l)) (sym (joined_append l.starts s)) (prefix_more (stream l) (joined l.starts) (joined (s ∷ [])) h)
+noted_in_order l (begins s) may h = subst (IsPrefix (stream l)) (sym (joined_more l.starts s)) (prefix_more (stream l) (joined l.starts) s.bytes h)
 noted_in_order l (offers bytes) may h = subst (λ x. IsPrefix (l.taken ++ x) (joined l.starts)) (sym may.2) (prefix_offered l.taken l.offer (joined l.starts) h)
 noted_in_order l (ends turn) may h = h
 

@@ -20,9 +20,9 @@ use Rattle.legal_trace.specs.Story.{Story, Try, is_open, handed_in, left, tried,
 use Rattle.legal_trace.specs.Owed.{owed, owed_to_try, owed_unstarted}
 use Rattle.legal_trace.specs.Book.{Book, entered, lines_of, message_of, current, after_event}
 use Rattle.legal_trace.specs.Legal.{MayAnswer, MayTell, MayStand, IsOpen}
-use Rattle.legal_laws.proofs.Ledgers.{each_keeps, HasStarted, started_keeps}
+use Rattle.legal_trace.proofs.Ledgers.{each_keeps, HasStarted, started_keeps}
 use Rattle.legal_laws.proofs.Owes.{has_bytes}
-use Rattle.legal_laws.proofs.Plain.{not_empty, same_some}
+use Rattle.legal_trace.proofs.Plain.{not_empty, same_some}
 use Rattle.legal_laws.proofs.Numbers.{HasStories}
 
 -- one that started no message is owed a fault, if anything

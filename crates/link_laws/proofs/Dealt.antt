@@ -15,7 +15,8 @@ use Rattle.legal_trace.specs.Ledger.{Start, need_in, reach}
 use Rattle.link_laws.specs.Settles.{StandsAs}
 use Rattle.link_laws.proofs.Choices.{lt_test, not_lt_test}
 use Rattle.link_laws.proofs.Lists.{heads_same, get_before, take_none}
-use Rattle.link_laws.proofs.Rows.{reach_same, reach_next, Open, open_rows, open_of, open_list, open_rows-item, none_open}
+use Rattle.legal_trace.proofs.Ledgers.{reach_alike}
+use Rattle.link_laws.proofs.Rows.{reach_next, Open, open_rows, open_of, open_list, open_rows-item, none_open}
 
 -- the items of the message that started as number k
 abbrev pub cut_at : List Start → List Data → ℕ → Shape → List Data
@@ -73,12 +74,12 @@ cut_stays ss items more who of_shape got h =
     let k = h.number in
     let far = cut_within ss items who of_shape k h.place h.full in
     let m = reach (take k ss) items in
-    let next : reach (take (suc k) ss) (items ++ more) ≡ reach (take (suc k) ss) items = reach_same (take (suc k) ss) (items ++ more) items in
+    let next : reach (take (suc k) ss) (items ++ more) ≡ reach (take (suc k) ss) items = reach_alike (take (suc k) ss) (items ++ more) items in
     record {
       number = k;
       place = h.place;
       full = omega (arith, next, h.full, length-append items more);
-      cut_is = rw (reach_same (take k ss) (items ++ more) items, drop-append-le m items more (omega arith), take-append-le (need of_shape) (drop m items) more (omega (arith, length-drop m items))) h.cut_is;
+      cut_is = rw (reach_alike (take k ss) (items ++ more) items, drop-append-le m items more (omega arith), take-append-le (need of_shape) (drop m items) more (omega (arith, length-drop m items))) h.cut_is;
     }
 
 -- and so do more starts
@@ -152,7 +153,7 @@ given_dealt : (name : ℕ → Owner) (ss : List Start) (items : List Data) (d : 
 given_dealt name ss items d item e es is h =
     let r : open_rows ss items ≡ open_of name e ∷ open_list name es = sym h.row ∙ ap (open_list name) is in
     let k = open_rows-item ss items item (open_of name e) (open_list name es) r in
-    let w : length (items ++ item ∷ []) ≤ reach ss (items ++ item ∷ []) = omega (arith, k.0, reach_same ss items (items ++ item ∷ []), length_push items item) in
+    let w : length (items ++ item ∷ []) ≤ reach ss (items ++ item ∷ []) = omega (arith, k.0, reach_alike ss items (items ++ item ∷ []), length_push items item) in
     let cuts = cuts_stay name ss items (item ∷ []) d.out h.cuts in (
       k.0,
       chosen (IsDealt name ss (items ++ item ∷ [])) (nat_lt (length (with_item e item).got) (need e.shape)) _ _
@@ -215,7 +216,7 @@ each_dealt name ss all items d [] e h = let z : items_with all items [] ≡ item
 each_dealt name ss all items d (v ∷ vs) e h =
     let one : IsDealt name ss (taken_item all items v) (dealt d v) = subst (λ (n : ℕ). IsDealt name ss (taken_item n items v) (dealt d v)) e (one_dealt name ss items d v d.row refl h) in
     subst (λ xs. IsDealt name ss xs (dealt_each (dealt d v) vs)) (sym (one_wanted all items v vs))
-    (each_dealt name ss all (taken_item all items v) (dealt d v) vs (reach_same ss (taken_item all items v) items ∙ e) one)
+    (each_dealt name ss all (taken_item all items v) (dealt d v) vs (reach_alike ss (taken_item all items v) items ∙ e) one)
 
 -- all values that come are dealt alike in a row and in a ledger
 pub row_dealt : (name : ℕ → Owner) (ss : List Start) (items : List Data) (row : List Entry) (vs : List Data) → open_list name row ≡ open_rows ss items → length items ≤ reach ss items

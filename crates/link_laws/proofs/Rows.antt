@@ -1,41 +1,16 @@
 -- The messages of a ledger that take more items, and where they stand.
-use Rattle.std.proofs.Common.{◌≡◌, ℕ, zero, suc, ◌+◌, ◌==◌, ◌<◌, ◌≤◌, nat_le, true, if◌then◌else◌, List, [], ◌∷◌, ◌++◌, length, take, drop, Some, slice_get, refl, sym, ap, ◌∙◌, subst, arith, length-drop, length-append}
+use Rattle.std.proofs.Common.{◌≡◌, ℕ, zero, suc, ◌+◌, ◌<◌, ◌≤◌, nat_le, true, if◌then◌else◌, List, [], ◌∷◌, ◌++◌, length, take, drop, Some, slice_get, refl, ap, subst, arith, length-drop, length-append}
 use Rattle.std.proofs.lemmas.List.{drop-append-le, length_push, drop_all}
-use Rattle.containers.proofs.Tests.{by_test, chosen, le_from, not_le_from, le_test, not_le_test, ne_from}
+use Rattle.containers.proofs.Tests.{by_test, le_from, not_le_from, le_test, not_le_test}
 use Rattle.resp_value.specs.Data.{Data}
 use Rattle.driver_model.specs.declared.action.Owner.{Owner}
 use Rattle.driver_model.specs.declared.outcome.Shape.{Shape}
-use Rattle.driver_model.specs.declared.outcome.Shape.TheVariants.{Single, Pipeline}
-use Rattle.driver_model.specs.Shape.{need, one_at_least}
+use Rattle.driver_model.specs.Shape.{need}
 use Rattle.link_core.specs.declared.message.Entry.{Entry}
 use Rattle.legal_trace.specs.Ledger.{Start, need_in, reach, full_count}
 use Rattle.link_laws.specs.Settles.{StandsAs}
+use Rattle.legal_trace.proofs.Ledgers.{takes_one}
 use Rattle.link_laws.proofs.Lists.{heads_same}
-
--- each message takes an item at least
---
-one_some : (count : ℕ) → 0 < one_at_least count
-one_some count = chosen (λ n. 0 < n) (count == 0) 1 count (λ t. omega arith) (λ f. let n = ne_from count 0 f in omega arith)
-
--- so does a message of each shape
-pub need_some : (s : Shape) → 0 < need s
-need_some Single = omega arith
-need_some (Pipeline offset count atomic) = omega (arith, one_some count)
-
--- the reach of starts is the sum of their needs, whatever was dealt
---
-abbrev pub needs : List Start → ℕ
-needs [] = 0
-needs (s ∷ ss) = need s.shape + needs ss
-
--- whatever was dealt, the starts take the sum of their needs
-pub reach_is : (ss : List Start) (items : List Data) → reach ss items ≡ needs ss
-reach_is [] items = refl
-reach_is (s ∷ ss) items = ap (λ n. need s.shape + n) (reach_is ss (drop (need s.shape) items))
-
--- so they take the same of any items
-pub reach_same : (ss : List Start) (xs ys : List Data) → reach ss xs ≡ reach ss ys
-reach_same ss xs ys = reach_is ss xs ∙ sym (reach_is ss ys)
 
 -- one start more
 pub reach_next : (ss : List Start) (k : ℕ) (items : List Data) (s : Start) → slice_get ss k ≡ Some s → reach (take (suc k) ss) items ≡ reach (take k ss) items + need_in s.shape (drop (reach (take k ss) items) items)
@@ -93,7 +68,7 @@ untouched-append (x ∷ ss) s = ap (λ os. untouched x ∷ os) (untouched-append
 
 -- one more start is one more row
 pub open_rows-start : (ss : List Start) (items : List Data) (s : Start) → length items ≤ reach ss items → open_rows (ss ++ s ∷ []) items ≡ open_rows ss items ++ untouched s ∷ []
-open_rows-start [] [] s within = rw (not_le_test (need s.shape) 0 (need_some s.shape)) refl
+open_rows-start [] [] s within = rw (not_le_test (need s.shape) 0 (takes_one s.shape)) refl
 open_rows-start [] (d ∷ items) s within = absurd (omega arith)
 open_rows-start (x ∷ ss) items s within =
     by_test (nat_le (need x.shape) (length items)) _
@@ -111,7 +86,7 @@ none_open (s ∷ ss) items e =
 -- without items all are untouched
 pub open_rows-none : (ss : List Start) → open_rows ss [] ≡ untouched_each ss
 open_rows-none [] = refl
-open_rows-none (s ∷ ss) = rw (not_le_test (need s.shape) 0 (need_some s.shape)) refl
+open_rows-none (s ∷ ss) = rw (not_le_test (need s.shape) 0 (takes_one s.shape)) refl
 
 -- rows whose first got an item more, which may fill it
 abbrev pub after_item : Open → Data → List Open → List Open

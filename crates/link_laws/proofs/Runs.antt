@@ -16,6 +16,7 @@ use Rattle.link_core.specs.Link.{Settling, fresh, is_full, enqueued, started_all
 use Rattle.link_core.specs.Outbox.{can_offer}
 use Rattle.link_core.specs.Waiting.{awaits, without}
 use Rattle.legal_trace.specs.Ledger.{Ledger, reach, Ending, by_shutdown, by_fault, Line, asks, hears, begins, offers, ends, blank_ledger, ending, ending_up, ended, noted, noted_each, ledger, AllNoted, LinkLegal}
+use Rattle.legal_trace.proofs.Ledgers.{noted_append, may_append}
 use Rattle.link_laws.specs.Settles.{IsOwed, IsOwedUnstarted}
 use Rattle.link_laws.specs.Starts.{start_from, starting, begins_each}
 use Rattle.link_laws.specs.Runs.{Operation, place, begin, offer, take_up, read, withdraw, fail, shut_down, pass, Run, fresh_run, heard, settling, over_with, placed, begun_all, offered, taken_up, has_come, or_parse, has_read, acted, performed, performed_each, run, AreOwed}
@@ -26,15 +27,6 @@ use Rattle.link_laws.proofs.Settles.{lacks_are, cuts_owed, row_hit_owed, row_clo
 
 -- what was told so far
 --
-noted-append : (l : Ledger) (xs ys : List Line) → noted_each l (xs ++ ys) ≡ noted_each (noted_each l xs) ys
-noted-append l [] ys = refl
-noted-append l (x ∷ xs) ys = noted-append (noted l x) xs ys
-
--- lines may stand behind others that may
-stand-append : (l : Ledger) (xs ys : List Line) → AllNoted l xs → AllNoted (noted_each l xs) ys → AllNoted l (xs ++ ys)
-stand-append l [] ys h g = g
-stand-append l (x ∷ xs) ys h g = (h.0, stand-append (noted l x) xs ys h.1 g)
-
 -- these lines may stand, and this is their ledger
 record IsTold (l : Ledger) (lines : List Line) : Type 0 where
   pub told : ledger lines ≡ l
@@ -43,8 +35,8 @@ record IsTold (l : Ledger) (lines : List Line) : Type 0 where
 -- more lines that may stand
 told_more : (l : Ledger) (lines more : List Line) → IsTold l lines → AllNoted l more → IsTold (noted_each l more) (lines ++ more)
 told_more l lines more h may = record {
-  told = noted-append blank_ledger lines more ∙ ap (λ (x : Ledger). noted_each x more) h.told;
-  stands = stand-append blank_ledger lines more h.stands (subst (λ (x : Ledger). AllNoted x more) (sym h.told) may);
+  told = noted_append blank_ledger lines more ∙ ap (λ (x : Ledger). noted_each x more) h.told;
+  stands = may_append blank_ledger lines more h.stands (subst (λ (x : Ledger). AllNoted x more) (sym h.told) may);
 }
 
 -- a link that is up, has not ended, and reads on

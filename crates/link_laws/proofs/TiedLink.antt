@@ -2,9 +2,7 @@
 use Rattle.std.proofs.Common.{◌≡◌, ◌≢◌, if◌then◌else◌, ◌⊎◌, inl, inr, ℕ, zero, suc, ◌<◌, ◌≤◌, ◌==◌, Bool, true, false, ◌&&◌, not, List, [], ◌∷◌, ◌++◌, length, take, drop, None, refl, sym, ap, ◌∙◌, subst, append_assoc, arith, length-append, length-take}
 use Rattle.std.specs.List.{AllByRecursion}
 use Rattle.std.proofs.Math.Seq.{drop-append_seam}
-use Rattle.std.proofs.lemmas.List.{append-nil, take-append-le, take_all, take-take, take-append-drop, length_push}
-use Rattle.std.proofs.lemmas.List.Concat.{flat_map-cons}
-use Rattle.std.proofs.lemmas.Grind.{flat_map-append}
+use Rattle.std.proofs.lemmas.List.{take-append-le, take_all, take-take, take-append-drop, length_push}
 use Rattle.containers.proofs.Tests.{left_if, by_test, chosen, if_true, if_false, both_left, both_right, eq_from, ne_from, ne_test}
 use Rattle.resp_value.specs.Data.{Data}
 use Rattle.resp_read.specs.Values.{left_over, is_spoiled}
@@ -21,6 +19,7 @@ use Rattle.link_core.specs.Link.{LinkState, Starting, Settling, fresh, entry_of,
 use Rattle.link_core.specs.Outbox.{can_offer}
 use Rattle.link_core.specs.Row.{silent, silenced}
 use Rattle.legal_trace.specs.Ledger.{Start, Ledger, asks, hears, begins, offers, ends, blank_ledger, is_over, reach, bytes_came, noted, noted_each, joined, unwritten, IsOffered, MayNote, AllNoted}
+use Rattle.legal_trace.proofs.Ledgers.{joined_more}
 use Rattle.link_laws.specs.Starts.{start_from, begun, starting, begins_each}
 use Rattle.link_laws.proofs.Choices.{chosen_both}
 use Rattle.link_laws.proofs.Rows.{open_of, open_list, open_rows, open_list-append, open_rows-start, reach-push}
@@ -170,11 +169,6 @@ named_tied name other l s same h = record {
 
 -- messages start
 --
-joined-append : (starts : List Start) (s : Start) → joined (starts ++ s ∷ []) ≡ joined starts ++ s.bytes
-joined-append starts s =
-    let f : Start → List ℕ = λ x. x.bytes in
-    flat_map-append f starts (s ∷ []) ∙ ap (λ bs. joined starts ++ bs) (flat_map-cons f s [] ∙ append-nil s.bytes)
-
 -- what holds of each holds of one more of which it holds
 pub all_push : {X : Type 0} (P : X → Type 0) (xs : List X) (x : X) → AllByRecursion P xs → P x → AllByRecursion P (xs ++ x ∷ [])
 all_push P [] x all p = (p, tt)
@@ -187,7 +181,7 @@ IsPacked q = q.packed ≢ []
 -- a message starts, behind all others
 pub begun_tied : (name : ℕ → Owner) (l : Ledger) (s : LinkState) (q : Queued) → IsPacked q → TiedLink name l s → TiedLink name (noted l (begins (start_from name q))) (begun s q)
 begun_tied name l s q some h = record {
-  sent = sym (append_assoc l.taken s.outbox.unwritten q.packed) ∙ ap (λ bs. bs ++ q.packed) h.sent ∙ sym (joined-append l.starts (start_from name q));
+  sent = sym (append_assoc l.taken s.outbox.unwritten q.packed) ∙ ap (λ bs. bs ++ q.packed) h.sent ∙ sym (joined_more l.starts (start_from name q));
   offer = h.offer ∙ sym (take-append-le s.outbox.offered s.outbox.unwritten q.packed h.bound);
   bound = omega (arith, h.bound, length-append s.outbox.unwritten q.packed);
   rest = h.rest;

@@ -1,2 +1,6 @@
 pub mod Turn
+pub mod Done
 pub mod Replay
+pub mod History
+pub mod IsReplay
+pub mod Stops

@@ -95,11 +95,7 @@ impl Core {
     }
 
     /// The next submission is a request of the connection, named by its number.
-    fn ask(
-        &mut self,
-        submission: &Submission,
-        packed: Bytes,
-    ) -> Result<(), AllocError>
+    fn ask(&mut self, submission: &Submission, packed: Bytes) -> Result<(), AllocError>
         requires few { length self.old.table < 2 ^ 32 }
         requires fewer { length self.old.single.connection.requests < 2 ^ 32 }
         requires packs { packed ≡ packed_of submission.now }

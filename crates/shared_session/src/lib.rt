@@ -3,6 +3,14 @@
 
 mod core_state;
 mod errors;
+mod replaying;
+mod session;
+mod showing;
 
 pub use core_state::{Core, Single};
 pub use errors::{MakeError, ReplayError, StepError};
+pub use session::{Failure, Session};
+pub use showing::Done;
+
+#[cfg(test)]
+mod tests;

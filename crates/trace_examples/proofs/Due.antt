@@ -23,7 +23,7 @@ use Rattle.legal_trace.specs.Events.{is_bad_event}
 use Rattle.legal_trace.specs.Legal.{IsOpen, link_of, IsTold, MayTurn, MayConnect, MayClose, MayBeCreated, MayAnswer, MayTell, MayStart, MayWrite, MayWait, MayStand, AllStand, causes, event_causes, Legal}
 use Rattle.trace_examples.proofs.Bounded.{IsBounded, is_of_first, still_bounded, blank_bounded}
 use Rattle.trace_examples.proofs.Checks.{holds_if, held, none_from, is_empty, empty_from, filled_from, each_below, below, is_told, told_from}
-use Rattle.trace_examples.proofs.Settled.{is_quiet, quiet, all_quiet, none_is_owed, none_ends, no_end, is_applied, applied, can_move, moves, all_stay, none_before, is_moved, moved, is_written, written, wait_holds, holds, is_settled, settled}
+use Rattle.trace_examples.proofs.Settled.{is_quiet, quiet, all_quiet, none_is_owed, all_shown, verdicts_are_shown, none_ends, no_end, is_applied, applied, can_move, moves, all_stay, none_before, is_moved, moved, is_written, written, wait_holds, holds, is_settled, settled}
 
 -- a turn
 abbrev pub turn_due : Book → ℕ → Cause → Bool
@@ -39,14 +39,14 @@ turn_stands b k (cause.Event e) bounded t = record {
 
 -- a close of the first link
 abbrev pub close_due : Book → ℕ → Bool
-close_due b l = (l == 0) && is_some (ending (b.link l)) && all_quiet b
+close_due b l = (l == 0) && is_some (ending (b.link l)) && all_shown b
 
 close_stands : (b : Book) (l : ℕ) → IsBounded b → close_due b l ≡ true → MayClose b l
 close_stands b l bounded e = of_ending (ending (b.link l)) refl (search (both_left, both_right))
   where
     of_ending : (x : Option Ending) → ending (b.link l) ≡ x → is_some x ≡ true → MayClose b l
     of_ending None same t = cc t
-    of_ending (Some why) same t = record { why = why; ends = same; in_order = λ m below. let first = eq_from l 0 (search (both_left, both_right)) in absurd (omega arith); answered = none_is_owed b bounded (search (both_left, both_right)) }
+    of_ending (Some why) same t = record { why = why; ends = same; in_order = λ m below. let first = eq_from l 0 (search (both_left, both_right)) in absurd (omega arith); answered = verdicts_are_shown b bounded (search (both_left, both_right)) }
 
 -- the bytes of the first link; which bytes they are is left to be said
 abbrev pub write_due : Book → ℕ → List ℕ → Bool
@@ -123,7 +123,7 @@ created_stands b bounded e = record {
 
 -- an outcome: what is owed, or where nothing is, the Nil of a command whose reply nobody awaits; which it is is left to be said
 abbrev pub outcome_due : Book → ℕ → Option Outcome → Bool
-outcome_due b n (Some o) = each_below (λ m. is_quiet b m) n && holds_if (is_over (link_of b n)) (none_ends b)
+outcome_due b n (Some o) = each_below (λ m. is_quiet b m) n && holds_if (is_over (link_of b n)) (none_ends b && all_shown b)
 outcome_due b n None = is_applied b && not (is_awaited (b.story n)) && can_move b n && all_stay b n
 
 -- what is said is what is owed, or Nil
@@ -141,8 +141,10 @@ outcome_stands b n o bounded e said = of_owed (owed b n) refl (both_right (is_op
     of_owed (Some p) same t s = inl (record {
       asked = open_still;
       owes = same ∙ ap Some (sym s);
-      in_order = λ m l. quiet b m (below (λ m. is_quiet b m) n m (search both_left) l);
-      after_closes = λ over. no_end b bounded (held (is_over (link_of b n)) (none_ends b) (search (both_left, both_right)) over);
+      in_order = λ m l open_too alike. quiet b m (below (λ m. is_quiet b m) n m (search both_left) l) open_too;
+      after_closes = λ over.
+          let done = held (is_over (link_of b n)) (none_ends b && all_shown b) (search (both_left, both_right)) over in
+          (no_end b bounded (both_left (none_ends b) (all_shown b) done), verdicts_are_shown b bounded (both_right (none_ends b) (all_shown b) done));
     })
     of_owed None same t s = inr (record {
       applied = applied b bounded (search (both_left, both_right));

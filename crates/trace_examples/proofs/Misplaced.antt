@@ -56,7 +56,7 @@ pub closed_before_the_reply : (config : Config) (word : ℕ) (events : List Even
 unfolding digits items values left_over max_depth
 closed_before_the_reply config word events after h =
     let m = may_stand config word events (spoiled config word) after (action.Close 0) h in
-    cc (m.answered 0 refl)
+    cc (m.answered 0 refl refl)
 
 -- a link that is closed twice
 pub closed_twice : (config : Config) (word : ℕ) (events : List Event) (after : List Action)

@@ -32,7 +32,7 @@ pub out_of_order : (config : Config) (word : ℕ) (events : List Event) (after :
 unfolding digits items values left_over max_depth
 out_of_order config word events after h =
     let m = answer config word events (answered_alike config word) after 1 (reply 120) refl h in
-    cc (m.in_order 0 (omega arith) refl)
+    cc (m.in_order 0 (omega arith) refl refl)
 
 -- an outcome too many
 pub answered_twice : (config : Config) (word : ℕ) (events : List Event) (after : List Action)

@@ -10,7 +10,7 @@ use Rattle.legal_trace.specs.Ledger.{Ledger, IsOffered, is_over, ending, unwritt
 use Rattle.legal_trace.specs.Story.{Try, last_of, is_open, is_awaited, awaited_in}
 use Rattle.legal_trace.specs.Book.{Book}
 use Rattle.legal_trace.specs.Owed.{owed, is_full}
-use Rattle.legal_trace.specs.Legal.{IsOpen, link_of, NoneIsOwed, NoneEnds, IsApplied, IsTold, CanMove, IsMoved, IsWritten, WaitHolds, IsStarted, IsWaiting, IsSettled}
+use Rattle.legal_trace.specs.Legal.{IsOpen, link_of, NoneIsOwed, VerdictsAreShown, NoneEnds, IsApplied, IsTold, CanMove, IsMoved, IsWritten, WaitHolds, IsStarted, IsWaiting, IsSettled}
 use Rattle.trace_examples.proofs.Bounded.{IsBounded, IsIdle}
 use Rattle.trace_examples.proofs.Checks.{holds_if, held, none_from, is_empty, empty_from, filled_from, each_below, below, is_told, told_from, nil_told}
 
@@ -39,6 +39,18 @@ all_quiet b = each_below (λ n. is_quiet b n) b.submissions
 
 pub none_is_owed : (b : Book) → IsBounded b → all_quiet b ≡ true → NoneIsOwed b
 none_is_owed b bounded e n o = of_open b (owed b n ≡ None) n bounded (λ l. quiet b n (below (λ m. is_quiet b m) b.submissions n e l) o) o
+
+-- it is owed nothing, if it is open and its link has not ended
+abbrev pub is_shown : Book → ℕ → Bool
+is_shown b n = holds_if (not (is_over (link_of b n))) (is_quiet b n)
+
+-- no open submission whose link has not ended is owed an outcome
+abbrev pub all_shown : Book → Bool
+all_shown b = each_below (λ n. is_shown b n) b.submissions
+
+pub verdicts_are_shown : (b : Book) → IsBounded b → all_shown b ≡ true → VerdictsAreShown b
+verdicts_are_shown b bounded e n o lives = of_open b (owed b n ≡ None) n bounded
+    (λ l. quiet b n (held (not (is_over (link_of b n))) (is_quiet b n) (below (λ m. is_shown b m) b.submissions n e l) (ap not lives)) o) o
 
 -- a fact of the first link, and of every idle one
 first_and_idle : (b : Book) (P : ℕ → Type 0) (l : ℕ) → IsBounded b → P 0 → (IsIdle (b.link l) → P l) → P l

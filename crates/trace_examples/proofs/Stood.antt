@@ -1,5 +1,5 @@
 -- What the parts of a legal trace say of one action in it.
-use Rattle.std.proofs.Common.{◌≡◌, ℕ, ◌==◌, true, false, List, [], ◌∷◌, ◌++◌, Some, inl, inr}
+use Rattle.std.proofs.Common.{◌≡◌, ℕ, ◌==◌, true, false, List, ◌∷◌, ◌++◌, Some, inl, inr}
 use Rattle.containers.proofs.Tests.{ne_from, not_both}
 use Rattle.driver_model.specs.declared.action.Action.{Action}
 use Rattle.driver_model.specs.declared.action.Action.TheVariants as action
@@ -7,14 +7,10 @@ use Rattle.driver_model.specs.declared.config.Config.{Config}
 use Rattle.driver_model.specs.declared.event.Event.{Event}
 use Rattle.driver_model.specs.declared.outcome.Outcome.{Outcome}
 use Rattle.legal_trace.specs.Story.{is_awaited}
-use Rattle.legal_trace.specs.Book.{Book, blank_book, entered, entered_each}
-use Rattle.legal_trace.specs.Legal.{IsOpen, MayAnswer, MayStand, AllStand, Legal}
+use Rattle.legal_trace.specs.Book.{Book, blank_book, entered_each}
+use Rattle.legal_trace.specs.Legal.{IsOpen, MayAnswer, MayStand, Legal}
+use Rattle.legal_trace.proofs.Books.{stand_behind}
 use Rattle.trace_examples.specs.Parts.{reply}
-
--- an action that stands behind a front, from any book
-stood : (b : Book) (front after : List Action) (a : Action) → AllStand b (front ++ a ∷ after) → MayStand (entered_each b front) a
-stood b [] after a h = h.0
-stood b (x ∷ front) after a h = stood (entered b x) front after a h.1
 
 -- the book of a front
 abbrev pub book_of : List Action → Book
@@ -22,7 +18,7 @@ book_of front = entered_each blank_book front
 
 -- an action of a legal trace stands where it may behind its front
 pub may_stand : (config : Config) (word : ℕ) (events : List Event) (front after : List Action) (a : Action) → Legal config word events (front ++ a ∷ after) → MayStand (book_of front) a
-may_stand config word events front after a h = stood blank_book front after a h.each
+may_stand config word events front after a h = (stand_behind blank_book front (a ∷ after) h.each).0
 
 -- an outcome is of an open submission, and where its reply is awaited, it is owed
 pub still_open : (config : Config) (word : ℕ) (events : List Event) (front after : List Action) (n : ℕ) (o : Outcome) → Legal config word events (front ++ action.Outcome n o ∷ after) → IsOpen (book_of front) n

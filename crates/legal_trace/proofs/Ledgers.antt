@@ -1,7 +1,7 @@
 -- What holds of any ledger, and what lines do to it.
-use Rattle.std.proofs.Common.{◌≡◌, ◌≢◌, ℕ, ◌+◌, ◌-◌, ◌<◌, ◌≤◌, ◌==◌, min, if◌then◌else◌, Bool, true, false, List, [], ◌∷◌, ◌++◌, length, take, drop, None, refl, sym, ap, subst, arith, length-append}
+use Rattle.std.proofs.Common.{◌≡◌, ◌≢◌, ℕ, ◌+◌, ◌-◌, ◌<◌, ◌≤◌, ◌==◌, min, if◌then◌else◌, Bool, true, false, List, [], ◌∷◌, ◌++◌, length, take, drop, None, refl, sym, ap, ◌∙◌, subst, arith, append_assoc, length-append}
 use Rattle.containers.proofs.Tests.{chosen, if_false, ne_from}
-use Rattle.std.proofs.lemmas.List.{length-take}
+use Rattle.std.proofs.lemmas.List.{append-nil, length-take}
 use Rattle.resp_read.specs.Values.{left_over}
 use Rattle.resp_read.specs.Items.{items}
 use Rattle.resp_value.specs.Data.{Data}
@@ -9,9 +9,9 @@ use Rattle.driver_model.specs.News.{News, silence, connected, took, came, failed
 use Rattle.driver_model.specs.declared.outcome.Shape.{Shape}
 use Rattle.driver_model.specs.declared.outcome.Shape.TheVariants.{Single, Pipeline}
 use Rattle.driver_model.specs.Shape.{need}
-use Rattle.legal_trace.specs.Ledger.{Ledger, Line, Start, asks, hears, begins, offers, ends, noted, noted_each, with_news, bytes_came, items_came, is_over, reach, AllNoted}
+use Rattle.legal_trace.specs.Ledger.{Ledger, Line, Start, asks, hears, begins, offers, ends, noted, noted_each, with_news, bytes_came, items_came, is_over, reach, joined, AllNoted}
 use Rattle.legal_trace.specs.Book.{if_mine}
-use Rattle.legal_laws.proofs.Plain.{none_from}
+use Rattle.legal_trace.proofs.Plain.{none_from}
 
 -- a fact that each line keeps is kept by any lines
 pub each_keeps : (P : Ledger → Type 0) → ((l : Ledger) (x : Line) → P l → P (noted l x)) → (l : Ledger) (lines : List Line) → P l → P (noted_each l lines)
@@ -29,9 +29,9 @@ noted_append l [] ys = refl
 noted_append l (x ∷ xs) ys = noted_append (noted l x) xs ys
 
 -- lines behind lines that may stand
-pub all_append : (l : Ledger) (xs ys : List Line) → AllNoted l xs → AllNoted (noted_each l xs) ys → AllNoted l (xs ++ ys)
-all_append l [] ys h k = k
-all_append l (x ∷ xs) ys h k = (h.0, all_append (noted l x) xs ys h.1 k)
+pub may_append : (l : Ledger) (xs ys : List Line) → AllNoted l xs → AllNoted (noted_each l xs) ys → AllNoted l (xs ++ ys)
+may_append l [] ys h k = k
+may_append l (x ∷ xs) ys h k = (h.0, may_append (noted l x) xs ys h.1 k)
 
 -- a link that is up has not ended
 abbrev pub UpIsNotOver : Ledger → Type 0
@@ -113,6 +113,11 @@ unasked_hears l (took count) not_up h = unasked_unless_up l (record l { taken = 
 unasked_hears l (came piece) not_up h = unasked_unless_up l (bytes_came l piece) h
 unasked_hears l (failed f) not_up h = h
 unasked_hears l shut not_up h = h
+
+-- the bytes of a message more
+pub joined_more : (ss : List Start) (s : Start) → joined (ss ++ s ∷ []) ≡ joined ss ++ s.bytes
+joined_more [] s = append-nil s.bytes
+joined_more (t ∷ ss) s = ap (λ x. t.bytes ++ x) (joined_more ss s) ∙ sym (append_assoc t.bytes (joined ss) s.bytes)
 
 -- how much a message takes doesn't hang on what is dealt
 pub reach_alike : (ss : List Start) (d e : List Data) → reach ss d ≡ reach ss e

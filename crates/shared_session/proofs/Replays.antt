@@ -1,0 +1,245 @@
+-- One more event of a history.
+use Rattle.std.proofs.Common.{◌≡◌, ◌==◌, ℕ, ◌+◌, ◌-◌, ◌^◌, ◌<◌, ◌≤◌, List, [], ◌∷◌, ◌++◌, length, refl, sym, ◌∙◌, ap, append_assoc, false, ◌⊎◌, inl, inr, arith, length-append}
+use Rattle.std.specs.Prelude.{Option, Some, None, slice_get, take, true}
+use Rattle.std.proofs.lemmas.List.{append-nil, length-take-le}
+use Rattle.driver_model.specs.declared.action.Action.{Action}
+use Rattle.driver_model.specs.declared.config.Config.{Config}
+use Rattle.driver_model.specs.declared.event.Event.{Event}
+use Rattle.driver_model.specs.declared.outcome.Outcome.{Outcome}
+use Rattle.shared_session.specs.declared.showing.Done.{Done}
+use Rattle.shared_session.specs.declared.core_state.Core.{Core}
+use Rattle.containers.proofs.Tests.{chosen}
+use Rattle.driver_model.specs.declared.event.EventKind.{EventKind}
+use Rattle.driver_model.specs.declared.event.EventKind.TheVariants as event
+use Rattle.driver_model.specs.declared.event.Submission.{Submission}
+use Rattle.driver_model.specs.Request.{packed}
+use Rattle.mux_conn.specs.declared.request.Pending.{Pending}
+use Rattle.mux_conn.specs.declared.act.LinkAct.{LinkAct}
+use Rattle.mux_conn.specs.declared.act.LinkAct.TheVariants as act
+use Rattle.driver_model.specs.declared.action.Action.TheVariants as action
+use Rattle.driver_model.specs.declared.action.Cause.TheVariants as cause
+use Rattle.shared_session.specs.Turn.{Turning, counted, heard, submitted, left_by, requested, turn, shown_each, actions_of, is_bad, is_spent, spends, IsFewer}
+use Rattle.shared_session.specs.Done.{done_by, done_each, put_each}
+use Rattle.shared_session.specs.Replay.{opening, opening_actions, run_on, state_after, turns_on, trace_of, with_room, told_each, outcomes_in, AreGood, AreGoodOn, AreUnspent, AreUnspentOn, is_bad_after, is_spent_after}
+use Rattle.shared_session.specs.Stops.{Shown, IsBadAt, IsSpentAt, IsSpentBy}
+use Rattle.shared_session.specs.declared.session.Failure.{Failure}
+use Rattle.shared_session.specs.declared.session.Failure.TheVariants.{Sound, Spent, NoMemory}
+use Rattle.shared_session.specs.History.{History}
+
+run_on-more : (c : Core) (es : List Event) (e : Event) → run_on c (es ++ e ∷ []) ≡ (turn (run_on c es) e.kind).core
+run_on-more c [] e = refl
+run_on-more c (d ∷ es) e = run_on-more (turn c d.kind).core es e
+
+pub state_after-more : (config : Config) (word : ℕ) (es : List Event) (e : Event) → state_after config word (es ++ e ∷ []) ≡ (turn (state_after config word es) e.kind).core
+unfolding state_after
+state_after-more config word es e = run_on-more (opening config word) es e
+
+pub state_after-none : (config : Config) (word : ℕ) → state_after config word [] ≡ opening config word
+unfolding state_after
+state_after-none config word = refl
+
+turns_on-more : (c : Core) (es : List Event) (e : Event) → turns_on c (es ++ e ∷ []) ≡ turns_on c es ++ actions_of (run_on c es) e
+turns_on-more c [] e = append-nil (actions_of c e)
+turns_on-more c (d ∷ es) e = ap (λ (acts : List Action). actions_of c d ++ acts) (turns_on-more (turn c d.kind).core es e) ∙ sym (append_assoc (actions_of c d) _ _)
+
+pub trace_of-none : (config : Config) (word : ℕ) → trace_of config word [] ≡ opening_actions config word
+unfolding trace_of
+trace_of-none config word = refl
+
+pub trace_of-more : (config : Config) (word : ℕ) (es : List Event) (e : Event) → trace_of config word (es ++ e ∷ []) ≡ trace_of config word es ++ actions_of (state_after config word es) e
+unfolding trace_of state_after
+trace_of-more config word es e =
+    ap (λ (acts : List Action). opening_actions config word ++ acts) (turns_on-more (opening config word) es e)
+    ∙ sym (append_assoc (opening_actions config word) (turns_on (opening config word) es) _)
+
+told_append : (os : List (Option Outcome)) (s t : List Action) → told_each os (s ++ t) ≡ told_each (told_each os s) t
+told_append os [] t = refl
+told_append os (a ∷ s) t = told_append _ s t
+
+-- the acts of a turn tell the outcomes that were kept
+told_shown : (os : List (Option Outcome)) (link : ℕ) (acts : List LinkAct) → told_each os (shown_each link acts) ≡ put_each os (done_each acts)
+told_shown os link [] = refl
+told_shown os link (act.Outcome n o ∷ more) = told_shown _ link more
+told_shown os link (act.Created ∷ more) = told_shown os link more
+told_shown os link (act.Close ∷ more) = told_shown os link more
+told_shown os link (act.Write bytes ∷ more) = told_shown os link more
+told_shown os link (act.Wait n kind ∷ more) = told_shown os link more
+told_shown os link (act.Start message n need len ∷ more) = told_shown os link more
+
+pub outcomes-none : (config : Config) (word : ℕ) → outcomes_in (trace_of config word []) ≡ []
+unfolding trace_of outcomes_in
+outcomes-none config word = refl
+
+-- one more turn tells its outcomes
+pub outcomes-more : (config : Config) (word : ℕ) (es : List Event) (e : Event) →
+    outcomes_in (trace_of config word (es ++ e ∷ [])) ≡ put_each (with_room (outcomes_in (trace_of config word es)) e.kind) (done_each (turn (state_after config word es) e.kind).acts)
+unfolding outcomes_in
+outcomes-more config word es e =
+    let c = state_after config word es in
+    ap (λ (t : List Action). told_each [] t) (trace_of-more config word es e) ∙ told_append [] (trace_of config word es) (actions_of c e)
+    ∙ told_shown (with_room (told_each [] (trace_of config word es)) e.kind) c.single.link (turn c e.kind).acts
+
+-- what an event is to the submissions leaves the number of turns
+submitted_turns : (t : Turning) (what : Submission) → (submitted t what).core.turns ≡ t.core.turns
+submitted_turns t what =
+    chosen (λ (x : Turning). x.core.turns ≡ t.core.turns) t.core.shut _ _ (λ _. refl)
+    (λ _. chosen (λ (x : Turning). x.core.turns ≡ t.core.turns) (length (packed what) == 0) _ _ (λ _. refl) (λ _. refl))
+
+left_turns : (t : Turning) (slot : Option (Option Pending)) → (left_by t slot).core.turns ≡ t.core.turns
+left_turns t None = refl
+left_turns t (Some None) = refl
+left_turns t (Some (Some p)) = refl
+
+requested_turns : (t : Turning) (kind : EventKind) → (requested t kind).core.turns ≡ t.core.turns
+requested_turns t (event.Submit what) = submitted_turns t what
+requested_turns t (event.Cancel n) = left_turns t (slice_get t.core.table n)
+requested_turns t (event.Connected l) = refl
+requested_turns t (event.Wrote l count) = refl
+requested_turns t (event.Bytes l piece) = refl
+requested_turns t (event.Ended l) = refl
+requested_turns t (event.ReadFault l kind) = refl
+requested_turns t (event.WriteFault l kind) = refl
+requested_turns t event.Shutdown = refl
+
+turn_turns : (c : Core) (e : Event) → (turn c e.kind).core.turns ≡ c.turns + 1
+unfolding turn
+turn_turns c e = requested_turns (heard (counted c) e.kind) e.kind
+
+run_on_turns : (c : Core) (es : List Event) → (run_on c es).turns ≡ c.turns + length es
+run_on_turns c [] = omega arith
+run_on_turns c (e ∷ es) = omega (arith, run_on_turns (turn c e.kind).core es, turn_turns c e)
+
+-- the opening is a turn, and each event is one
+pub turns_after : (config : Config) (word : ℕ) (es : List Event) → (state_after config word es).turns ≡ 1 + length es
+unfolding state_after
+turns_after config word es = run_on_turns (opening config word) es
+
+-- the state of a session that has made its opening
+pub opened_is : (core : Core) (config : Config) (word : ℕ) (es : List Event) → core ≡ opening config word → es ≡ [] → core ≡ state_after config word es
+opened_is core config word es c e = rw (e, state_after-none config word) c
+
+-- a turn leads to where the history with its event leads
+pub state_kept : (before after : Core) (config : Config) (word : ℕ) (es fs : List Event) (e : Event) (acts : List LinkAct) →
+    before ≡ state_after config word es → ◌≡◌ {A = Turning} (record { core = after; acts = acts }) (turn before e.kind) → fs ≡ es ++ e ∷ [] → after ≡ state_after config word fs
+state_kept before after config word es fs e acts b a f = rw (f, state_after-more config word es e, ← b) (ap (λ (t : Turning). t.core) a)
+
+-- and so do its outcomes
+pub outcomes_kept : (before after : Core) (config : Config) (word : ℕ) (es fs : List Event) (e : Event) (acts : List LinkAct) (os ps : List (Option Outcome)) (done : List Done) →
+    before ≡ state_after config word es → os ≡ outcomes_in (trace_of config word es) → ◌≡◌ {A = Turning} (record { core = after; acts = acts }) (turn before e.kind) → fs ≡ es ++ e ∷ []
+    → done ≡ done_each acts → ps ≡ put_each (with_room os e.kind) done → ps ≡ outcomes_in (trace_of config word fs)
+outcomes_kept before after config word es fs e acts os ps done b o a f d p =
+    rw (f, outcomes-more config word es e, ← b, ← o) (p ∙ ap (λ (ds : List Done). put_each (with_room os e.kind) ds) (d ∙ ap (λ (t : Turning). done_each t.acts) a))
+
+-- the connection of an opening hasn't failed, and has no requests
+pub fewer_opening : (core : Core) (config : Config) (word : ℕ) → core ≡ opening config word → IsFewer core
+fewer_opening core config word c = rw c (omega arith)
+
+pub sound_opening : (core : Core) (config : Config) (word : ℕ) → core ≡ opening config word → core.single.connection.failure ≡ None
+sound_opening core config word c = rw c refl
+
+pub few_kept : (before : Core) (config : Config) (word : ℕ) (es fs : List Event) (e : Event) → before ≡ state_after config word es → before.turns ≤ 2 ^ 32 - 1 → fs ≡ es ++ e ∷ [] → length fs < 2 ^ 32
+few_kept before config word es fs e b t f =
+    let n : before.turns ≡ 1 + length es = ap (λ (c : Core). c.turns) b ∙ turns_after config word es in
+    omega (arith, n, ap length f, length-append es (e ∷ []))
+
+good_on-more : (c : Core) (es : List Event) (e : Event) → AreGoodOn c es → is_bad (run_on c es) e.kind ≡ false → AreGoodOn c (es ++ e ∷ [])
+good_on-more c [] e all good = (good, tt)
+good_on-more c (d ∷ es) e all good = (all.0, good_on-more (turn c d.kind).core es e all.1 good)
+
+good-none : (config : Config) (word : ℕ) → AreGood config word []
+unfolding AreGood
+good-none config word = tt
+
+good-more : (config : Config) (word : ℕ) (es : List Event) (e : Event) → AreGood config word es → is_bad_after config word es e ≡ false → AreGood config word (es ++ e ∷ [])
+unfolding AreGood state_after
+good-more config word es e all good = good_on-more (opening config word) es e all good
+
+unspent_on-more : (c : Core) (es : List Event) (e : Event) → AreUnspentOn c es → spends (run_on c es) e ≡ false → AreUnspentOn c (es ++ e ∷ [])
+unspent_on-more c [] e all free = (free, tt)
+unspent_on-more c (d ∷ es) e all free = (all.0, unspent_on-more (turn c d.kind).core es e all.1 free)
+
+unspent-none : (config : Config) (word : ℕ) → AreUnspent config word []
+unfolding AreUnspent
+unspent-none config word = tt
+
+unspent-more : (config : Config) (word : ℕ) (es : List Event) (e : Event) → AreUnspent config word es → is_spent_after config word es e ≡ false → AreUnspent config word (es ++ e ∷ [])
+unfolding AreUnspent state_after
+unspent-more config word es e all free = unspent_on-more (opening config word) es e all free
+
+-- what is shown of a turn is the actions of the history's next turn
+pub shown_kept : (before after : Core) (config : Config) (word : ℕ) (es : List Event) (e : Event) (number link : ℕ) (acts : List LinkAct) (old new : List Action) →
+    before ≡ state_after config word es → ◌≡◌ {A = Turning} (record { core = after; acts = acts }) (turn before e.kind) → number ≡ before.turns → link ≡ before.single.link
+    → new ≡ old ++ (action.Turn number (cause.Event e) ∷ shown_each link acts) → new ≡ old ++ actions_of (state_after config word es) e
+shown_kept before after config word es e number link acts old new b a n l s =
+    rw (← b) (s ∙ ap (λ (k : ℕ). old ++ (action.Turn k (cause.Event e) ∷ shown_each link acts)) n ∙ ap (λ (k : ℕ). old ++ (action.Turn before.turns (cause.Event e) ∷ shown_each k acts)) l
+    ∙ ap (λ (t : Turning). old ++ (action.Turn before.turns (cause.Event e) ∷ shown_each before.single.link t.acts)) a)
+
+-- no number has run out at the opening
+pub unspent_opening : (core : Core) (config : Config) (word : ℕ) → core ≡ opening config word → is_spent core ≡ false
+unfolding is_spent
+unspent_opening core config word c = rw c refl
+
+-- what a replay keeps from event to event: the session has taken those events, and their turns were shown
+pub record Kept (config : Config) (word : ℕ) (taken : List Event) (before : List Action) (s : History) (after : List Action) : Type 0 where
+  pub made : s ≡ record { config = config; word = word; events = taken; failure = Sound }
+  pub shown : after ≡ before ++ trace_of config word taken
+  pub good : AreGood config word taken
+  pub unspent : AreUnspent config word taken
+
+pub kept_none : (config : Config) (word : ℕ) (before after : List Action) (s : History) → s ≡ record { config = config; word = word; events = []; failure = Sound }
+    → after ≡ before ++ opening_actions config word → Kept config word [] before s after
+kept_none config word before after s m a = record {
+  made = m;
+  shown = a ∙ ap (λ (acts : List Action). before ++ acts) (sym (trace_of-none config word));
+  good = good-none config word;
+  unspent = unspent-none config word;
+}
+
+pub kept_more : (config : Config) (word : ℕ) (taken : List Event) (before after later : List Action) (s t : History) (e : Event) → Kept config word taken before s after
+    → t ≡ record s { events = s.events ++ e ∷ [] } → later ≡ after ++ actions_of (state_after s.config s.word s.events) e
+    → is_bad_after s.config s.word s.events e ≡ false → is_spent_after s.config s.word s.events e ≡ false → Kept config word (taken ++ e ∷ []) before t later
+kept_more config word taken before after later s t e h n a g u =
+    let es : s.events ≡ taken = ap (λ (x : History). x.events) h.made in
+    let c : s.config ≡ config = ap (λ (x : History). x.config) h.made in
+    let w : s.word ≡ word = ap (λ (x : History). x.word) h.made in
+    record {
+      made = n ∙ ap (λ (x : History). record x { events = x.events ++ e ∷ [] }) h.made;
+      shown = a ∙ ap (λ (x : History). after ++ actions_of (state_after x.config x.word x.events) e) h.made ∙ ap (λ (acts : List Action). acts ++ actions_of (state_after config word taken) e) h.shown
+          ∙ append_assoc before (trace_of config word taken) (actions_of (state_after config word taken) e) ∙ ap (λ (acts : List Action). before ++ acts) (sym (trace_of-more config word taken e));
+      good = good-more config word taken e h.good (sym (ap (λ (x : History). is_bad_after x.config x.word x.events e) h.made) ∙ g);
+      unspent = unspent-more config word taken e h.unspent (sym (ap (λ (x : History). is_spent_after x.config x.word x.events e) h.made) ∙ u);
+    }
+
+-- the session of a replay has taken the first n events
+pub taken_count : (config : Config) (word : ℕ) (all : List Event) (n : ℕ) (before after : List Action) (s : History) → n ≤ length all → Kept config word (take n all) before s after → length s.events ≡ n
+taken_count config word all n before after s l h = ap (λ (x : History). length x.events) h.made ∙ length-take-le n all l
+
+-- a bad event ends a replay
+pub bad_stops : (config : Config) (word : ℕ) (all : List Event) (n k : ℕ) (before after later : List Action) (s t : History) (e : Event) →
+    n < length all → slice_get all n ≡ Some e → Kept config word (take n all) before s after → later ≡ after → t ≡ s → is_bad_after s.config s.word s.events e ≡ true
+    → k ≡ length t.events → Shown config word all before later k × IsBadAt config word all k
+bad_stops config word all n k before after later s t e l is h o u b c =
+    let count : k ≡ n = c ∙ ap (λ (x : History). length x.events) u ∙ taken_count config word all n before after s (omega arith) h in
+    let bad : is_bad_after config word (take n all) e ≡ true = sym (ap (λ (x : History). is_bad_after x.config x.word x.events e) h.made) ∙ b in
+    rw count (record { within = omega arith; shown = o ∙ h.shown; good = h.good; unspent = h.unspent }, record { event = e; stands = is; bad = bad })
+
+not_spent : (f : Failure) → f ≡ Sound → f ≡ Spent → ⊥
+not_spent Sound s e = cc
+not_spent Spent s e = cc
+not_spent NoMemory s e = cc
+
+-- the step of a session that hasn't failed is spent
+pub spent_by : (config : Config) (word : ℕ) (taken : List Event) (before after : List Action) (s : History) (e : Event) → Kept config word taken before s after → (s.failure ≡ Spent) ⊎ IsSpentBy s e → IsSpentBy s e
+spent_by config word taken before after s e h (inl failed) = absurd (not_spent s.failure (ap (λ (x : History). x.failure) h.made) failed)
+spent_by config word taken before after s e h (inr spent) = spent
+
+-- a spent step ends a replay
+pub spent_stops : (config : Config) (word : ℕ) (all : List Event) (n k : ℕ) (before after later : List Action) (s : History) (e : Event) →
+    n < length all → slice_get all n ≡ Some e → Kept config word (take n all) before s after → later ≡ after → (s.failure ≡ Spent) ⊎ IsSpentBy s e
+    → k ≡ length s.events → Shown config word all before later k × IsSpentAt config word all k
+spent_stops config word all n k before after later s e l is h o why c =
+    let count : k ≡ n = c ∙ taken_count config word all n before after s (omega arith) h in
+    let by = spent_by config word (take n all) before after s e h why in
+    let good : is_bad_after config word (take n all) e ≡ false = sym (ap (λ (x : History). is_bad_after x.config x.word x.events e) h.made) ∙ by.good in
+    let spent : is_spent_after config word (take n all) e ≡ true = sym (ap (λ (x : History). is_spent_after x.config x.word x.events e) h.made) ∙ by.spent in
+    rw count (record { within = omega arith; shown = o ∙ h.shown; good = h.good; unspent = h.unspent }, record { event = e; stands = is; good = good; spent = spent })

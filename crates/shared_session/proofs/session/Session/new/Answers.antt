@@ -1,0 +1,18 @@
+use Rattle.std.proofs.Common.{length, arith, ap, ◌∙◌, sym}
+use Rattle.shared_session.proofs.Replays.{opened_is, outcomes-none, unspent_opening, fewer_opening, sound_opening}
+use Rattle.shared_session.proofs.session.Session.new.Goals as goal
+
+pub invariant_of-result : goal.invariant_of-result
+invariant_of-result c =
+    let config = c.args.config in
+    let word = c.args.word in
+    let core = c.opened-core.result in
+    let is = c.opened-core.ensures config word in
+    record {
+      core = λ _. opened_is core config word c.new-events.result is c.new-events.ensures;
+      outcomes = c.new.ensures ∙ rw c.new-events.ensures (sym (outcomes-none config word));
+      few = omega (arith, ap length c.new-events.ensures);
+      unspent = λ _. unspent_opening core config word is;
+      fewer = λ _. fewer_opening core config word is;
+      sound = λ _. sound_opening core config word is;
+    }

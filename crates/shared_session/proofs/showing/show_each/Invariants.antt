@@ -1,0 +1,14 @@
+use Rattle.std.proofs.Common.{◌≡◌, ◌++◌, length, take}
+use Rattle.shared_session.specs.Turn.{shown_each}
+use Rattle.shared_session.specs.Done.{done_each}
+use Rattle.shared_session.proofs.showing.show_each.Given as goal
+
+abbrev pub invariant-loop-act : goal.invariant-loop-act
+invariant-loop-act l = record {
+  actions : l.out.items ++ shown_each l.link l.rest ≡ l.fn.out.items ++ shown_each l.link l.fn.acts.items;
+  done : l.done ++ done_each l.rest ≡ l.fn.done ++ done_each l.fn.acts.items;
+  front : take (length l.fn.out.items) l.out.items ≡ l.fn.out.items;
+}
+
+abbrev pub decreases-loop-act : goal.decreases-loop-act
+decreases-loop-act l = length l.rest

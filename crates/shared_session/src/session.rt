@@ -1,0 +1,297 @@
+ghost use Rattle.std.specs.Prelude.{◌≡◌, ◌⊎◌, ℕ, ◌<◌, ◌+◌, ◌^◌, ◌↔◌, [], ◌∷◌, ◌++◌, length, true, false, OnOk, OnErr, IfOk, IsErrOf, option_copied};
+ghost use Rattle.shared_session.specs.Turn.{shown_each};
+ghost use Rattle.shared_session.specs.Done.{done_each, put_each};
+ghost use Rattle.shared_session.specs.Replay.{first_link, opening as opening_of, opening_actions, with_room};
+
+use crate::core_state::{Core, Single};
+use crate::errors::{MakeError, StepError};
+use crate::showing::{Done, show_each};
+use containers::{Queue, Seq};
+use driver_model::{Action, Cause, Config, Event, EventKind, Outcome};
+use mux_conn::{ConnectionError, LinkAct, MultiplexedConnection};
+use std::alloc::{AllocError, Global};
+use std::marker::Model;
+
+/// The number of the first link.
+const FIRST_LINK: u32 = 0;
+
+/// Whether a session has failed.
+#[derive(Clone, Copy, PartialEq, Eq)]
+pub enum Failure {
+    Sound,
+    /// A number has run out.
+    Spent,
+    /// Memory was refused.
+    NoMemory,
+}
+
+/// A session: the events that it has taken, and the state that they lead to. Contracts see its history.
+pub struct Session {
+    config: Config,
+    word: u64,
+    events: Seq<Event>,
+    core: Core,
+    outcomes: Seq<Option<Outcome>>,
+    failure: Failure,
+}
+
+impl Model for Session {
+    ghost use Rattle.shared_session.specs.History.{History};
+
+    ghost Value = { History };
+
+    ghost view = { λ s. record { config = s.config; word = s.word; events = s.events; failure = s.failure } };
+
+    ghost use Rattle.shared_session.specs.IsReplay.{IsReplay};
+
+    ghost invariant = { IsReplay };
+}
+
+impl Drop for Session {
+    fn drop(self) {
+        let Session {
+            config,
+            word: _,
+            events,
+            core,
+            outcomes,
+            failure: _,
+        } = self;
+        drop(config);
+        drop(events);
+        drop(core);
+        drop(outcomes);
+    }
+}
+
+/// The state after the opening.
+fn opened(alloc: Global) -> Core
+    ensures { (config : Config) (word : ℕ) → result ≡ opening_of config word }
+{
+    Core {
+        turns: 1,
+        links: FIRST_LINK + 1,
+        shut: false,
+        table: Seq::new(alloc),
+        single: Single {
+            link: FIRST_LINK,
+            connection: MultiplexedConnection::new(alloc),
+        },
+    }
+}
+
+/// The actions of the opening. After an error `out` is as it was.
+fn show_opening(
+    alloc: Global,
+    config: &Config,
+    word: u64,
+    out: &mut Vec<Action>,
+) -> Result<(), AllocError>
+    ensures actions { OnOk result (out.new.items ≡ out.old.items ++ opening_actions config.now word) }
+    ensures err { OnErr result (out.new.items ≡ out.old.items) }
+{
+    let shown = config.clone(alloc)?;
+    let host = config.host.clone(alloc)?;
+    let mut actions = Vec::new(alloc);
+    actions.push(Action::Turn {
+        number: 0,
+        cause: Cause::Opening {
+            config: shown,
+            word,
+        },
+    })?;
+    actions.push(Action::Connect {
+        link: FIRST_LINK,
+        host,
+        port: config.port,
+    })?;
+    out.append(&mut actions)
+}
+
+impl Session {
+    ghost use Rattle.shared_session.specs.Turn.{is_bad, spends, actions_of};
+    ghost use Rattle.shared_session.specs.Replay.{state_after, trace_of, outcomes_in, outcome_at};
+    ghost use Rattle.shared_session.specs.Stops.{IsSpentBy};
+
+    /// A session that has made its opening, whose actions `out` gains. After `NoMemory` `out` is as it was.
+    pub fn new(
+        alloc: Global,
+        config: Config,
+        word: u64,
+        out: &mut Vec<Action>,
+    ) -> Result<Session, MakeError>
+        ensures made { IfOk result (λ s. s ≡ record { config = config; word = word; events = []; failure = Failure.Sound }) }
+        ensures actions { OnOk result (out.new.items ≡ out.old.items ++ opening_actions config word) }
+        ensures err { OnErr result (out.new.items ≡ out.old.items) }
+    {
+        let events = Seq::new(alloc);
+        let core = opened(alloc);
+        show_opening(alloc, &config, word, out)?;
+        Ok(Session {
+            config,
+            word,
+            events,
+            core,
+            outcomes: Seq::new(alloc),
+            failure: Failure::Sound,
+        })
+    }
+
+    /// How many events the session has taken. Takes no memory.
+    pub fn events_taken(&self) -> u32
+        ensures { result ≡ length self.now.events }
+    {
+        self.events.len() as u32
+    }
+
+    /// The outcome of a submission, if it has one. Takes no memory. A session that has failed answers as before.
+    pub fn outcome_of(&self, submission: u32) -> Option<&Outcome>
+        ensures { option_copied result ≡ outcome_at (outcomes_in (trace_of self.now.config self.now.word self.now.events)) submission }
+    {
+        if submission as usize >= self.outcomes.len() {
+            return None;
+        }
+        self.outcomes.at(submission as usize).as_ref()
+    }
+
+    /// Takes one event: one turn, whose actions `out` gains. After an error `out` is as it was. After `Spent` and
+    /// `NoMemory` the session has failed: its history and its outcomes stay, and every later step answers the same.
+    #[tactic(auto, unfolding(crate::specs::Turn::spends))]
+    pub fn step(
+        &mut self,
+        alloc: Global,
+        event: Event,
+        out: &mut Vec<Action>,
+    ) -> Result<(), StepError>
+        ensures ok { OnOk result (self.new ≡ record self.old { events = self.old.events ++ event ∷ [] }) }
+        ensures actions { OnOk result (out.new.items ≡ out.old.items ++ actions_of (state_after self.old.config self.old.word self.old.events) event) }
+        ensures sound { OnOk result (self.old.failure ≡ Failure.Sound) }
+        ensures good { OnOk result (is_bad (state_after self.old.config self.old.word self.old.events) event.kind ≡ false) }
+        ensures bad { IsErrOf result StepError.BadEvent ↔ ((self.old.failure ≡ Failure.Sound) × (is_bad (state_after self.old.config self.old.word self.old.events) event.kind ≡ true)) }
+        ensures bad_same { IsErrOf result StepError.BadEvent → self.new ≡ self.old }
+        ensures spent { (n : ℕ) → IsErrOf result (StepError.Spent n) → (self.old.failure ≡ Failure.Spent) ⊎ IsSpentBy self.old event }
+        ensures count { (n : ℕ) → IsErrOf result (StepError.Spent n) → n ≡ length self.old.events }
+        ensures unspent { OnOk result (spends (state_after self.old.config self.old.word self.old.events) event ≡ false) }
+        ensures again { self.old.failure ≡ Failure.Spent → IsErrOf result (StepError.Spent (length self.old.events)) }
+        ensures failed { self.old.failure ≡ Failure.NoMemory → IsErrOf result StepError.NoMemory }
+        ensures fails_spent { (n : ℕ) → IsErrOf result (StepError.Spent n) → self.new.failure ≡ Failure.Spent }
+        ensures fails { IsErrOf result StepError.NoMemory → self.new.failure ≡ Failure.NoMemory }
+        ensures err { OnErr result (out.new.items ≡ out.old.items) }
+        ensures kept { OnErr result (self.new ≡ record self.old { failure = self.new.failure }) }
+    {
+        let events = self.events.len() as u32;
+        let before = out.len();
+        match self.failure {
+            Failure::Sound => {}
+            Failure::Spent => return Err(StepError::Spent { events }),
+            Failure::NoMemory => return Err(StepError::NoMemory),
+        }
+        if self.core.is_bad_event(&event.kind) {
+            return Err(StepError::BadEvent);
+        }
+        if self.core.turns > u64::from(u32::MAX) {
+            self.failure = Failure::Spent;
+            return Err(StepError::Spent { events });
+        }
+        self.failure = Failure::NoMemory;
+        let number = self.core.turns as u32;
+        let link = self.core.single.link;
+        let mut acts = Vec::new(alloc);
+        match self.core.turn(alloc, &event.kind, &mut acts) {
+            Ok(()) => {}
+            Err(ConnectionError::Spent) => {
+                self.failure = Failure::Spent;
+                return Err(StepError::Spent { events });
+            }
+            Err(ConnectionError::NoMemory) => return Err(StepError::NoMemory),
+        }
+        let mut done = Queue::new(alloc);
+        match show_turn(alloc, number, link, &event, acts, &mut done, out) {
+            Ok(()) => {}
+            Err(_) => return Err(StepError::NoMemory),
+        }
+        match keep(&mut self.outcomes, &mut self.events, event) {
+            Ok(()) => {}
+            Err(_) => {
+                out.truncate(before);
+                return Err(StepError::NoMemory);
+            }
+        }
+        commit(&mut self.outcomes, &mut done);
+        self.failure = Failure::Sound;
+        Ok(())
+    }
+}
+
+/// A turn is shown, and its outcomes kept. After an error `out` is as it was.
+fn show_turn(
+    alloc: Global,
+    number: u32,
+    link: u32,
+    event: &Event,
+    acts: Vec<LinkAct>,
+    done: &mut Queue<Done>,
+    out: &mut Vec<Action>,
+) -> Result<(), AllocError>
+    ensures actions { OnOk result (out.new.items ≡ out.old.items ++ (Action.Turn number (Cause.Event event.now) ∷ shown_each link acts.items)) }
+    ensures done { OnOk result (done.new ≡ done.old ++ done_each acts.items) }
+    ensures err { OnErr result (out.new.items ≡ out.old.items) }
+{
+    let before = out.len();
+    let event = event.clone(alloc)?;
+    out.push(Action::Turn {
+        number,
+        cause: Cause::Event { event },
+    })?;
+    match show_each(alloc, link, acts, done, out) {
+        Ok(()) => Ok(()),
+        Err(error) => {
+            out.truncate(before);
+            Err(error)
+        }
+    }
+}
+
+/// Room for the outcome of a submission, and the event in the history. After an error both are as before.
+fn keep(
+    outcomes: &mut Seq<Option<Outcome>>,
+    events: &mut Seq<Event>,
+    event: Event,
+) -> Result<(), AllocError>
+    ensures ok { OnOk result ((outcomes.new ≡ with_room outcomes.old event.kind) × (events.new ≡ events.old ++ event ∷ [])) }
+    ensures err { OnErr result ((outcomes.new ≡ outcomes.old) × (events.new ≡ events.old)) }
+{
+    let places = outcomes.len();
+    make_room(outcomes, &event.kind)?;
+    match events.push(event) {
+        Ok(()) => Ok(()),
+        Err(error) => {
+            outcomes.truncate(places);
+            Err(error)
+        }
+    }
+}
+
+/// A place for the outcome of a submission that comes in.
+fn make_room(outcomes: &mut Seq<Option<Outcome>>, event: &EventKind) -> Result<(), AllocError>
+    ensures ok { OnOk result (outcomes.new ≡ with_room outcomes.old event.now) }
+    ensures err { OnErr result (outcomes.new ≡ outcomes.old) }
+{
+    match event {
+        EventKind::Submit { submission: _ } => outcomes.push(None),
+        _ => Ok(()),
+    }
+}
+
+/// The outcomes of a turn are put in their places.
+fn commit(outcomes: &mut Seq<Option<Outcome>>, done: &mut Queue<Done>)
+    ensures outcomes { outcomes.new ≡ put_each outcomes.old done.old }
+    ensures done { done.new ≡ [] }
+{
+    while let Some(next) = done.pop_front() {
+        let place = next.submission as usize;
+        if place < outcomes.len() {
+            outcomes.set(place, Some(next.outcome));
+        }
+    }
+}

@@ -1,0 +1,92 @@
+ghost use Rattle.std.specs.Prelude.{◌≡◌, ◌++◌, ◌∷◌, [], length, take, OnOk, OnErr};
+ghost use Rattle.shared_session.specs.Turn.{shown, shown_each};
+ghost use Rattle.shared_session.specs.Done.{done_by, done_each};
+
+use containers::Queue;
+use driver_model::{Action, Outcome, Owner};
+use mux_conn::LinkAct;
+use std::alloc::{AllocError, Global};
+
+/// A submission that was answered in this turn, and its outcome.
+#[derive(Drop)]
+pub struct Done {
+    pub submission: u32,
+    pub outcome: Outcome,
+}
+
+/// One try of a submission.
+fn try_of(submission: u32) -> Owner
+    ensures { result ≡ Owner.Try submission 0 }
+{
+    Owner::Try {
+        submission,
+        round: 0,
+    }
+}
+
+/// What an act of the connection of that link shows.
+fn action_of(link: u32, act: LinkAct) -> Action
+    ensures { result ≡ shown link act }
+{
+    match act {
+        LinkAct::Created => Action::Created,
+        LinkAct::Close => Action::Close { link },
+        LinkAct::Write { bytes } => Action::Write { link, bytes },
+        LinkAct::Wait { request, wait } => Action::Wait {
+            owner: try_of(request),
+            wait,
+        },
+        LinkAct::Start {
+            message,
+            request,
+            need,
+            len,
+        } => Action::Start {
+            link,
+            message,
+            owner: try_of(request),
+            need,
+            len,
+        },
+        LinkAct::Outcome { request, outcome } => Action::Outcome {
+            submission: request,
+            outcome,
+        },
+    }
+}
+
+/// The outcome that an act tells is kept.
+fn note_done(alloc: Global, act: &LinkAct, done: &mut Queue<Done>) -> Result<(), AllocError>
+    ensures { OnOk result (done.new ≡ done.old ++ done_by act.now) }
+{
+    match act {
+        LinkAct::Outcome { request, outcome } => {
+            let outcome = outcome.clone(alloc)?;
+            done.push_back(Done {
+                submission: *request,
+                outcome,
+            })
+        }
+        _ => Ok(()),
+    }
+}
+
+/// The acts of a turn are shown, and their outcomes kept. After an error `out` begins with what it held.
+pub fn show_each(
+    alloc: Global,
+    link: u32,
+    acts: Vec<LinkAct>,
+    done: &mut Queue<Done>,
+    out: &mut Vec<Action>,
+) -> Result<(), AllocError>
+    ensures actions { OnOk result (out.new.items ≡ out.old.items ++ shown_each link acts.items) }
+    ensures done { OnOk result (done.new ≡ done.old ++ done_each acts.items) }
+    ensures err { OnErr result (take (length out.old.items) out.new.items ≡ out.old.items) }
+{
+    let mut rest = Queue::from_vec(acts);
+    while let Some(act) = rest.pop_front() {
+        note_done(alloc, &act, done)?;
+        out.push(action_of(link, act))?;
+    }
+    Ok(())
+}
