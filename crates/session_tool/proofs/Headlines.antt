@@ -1,57 +1,60 @@
 -- What a finished replay gives its callers.
-use Rattle.std.proofs.Common.{◌≡◌, ℕ, List, Option, Some, ◌∙◌}
-use Rattle.std.specs.Prelude.{Ok}
+use Rattle.std.proofs.Common.{◌≡◌, ℕ, List, sym, subst}
+use Rattle.std.specs.Prelude.{Ok, take}
 use Rattle.driver_model.specs.declared.action.Action.{Action}
+use Rattle.driver_model.specs.declared.config.Config.{Config}
+use Rattle.driver_model.specs.declared.event.Event.{Event}
 use Rattle.script_text.specs.Script.{script_of}
 use Rattle.script_text.specs.declared.script.Script.{Script}
 use Rattle.shared_session.specs.Replay.{trace_of, AreGood}
-use Rattle.trace_model.specs.Legal.{IsSettled, Legal}
+use Rattle.legal_trace.specs.Ledger.{Ledger, stream, joined}
+use Rattle.legal_trace.specs.Legal.{Legal}
+use Rattle.legal_laws.specs.Links.{IsPrefix}
+use Rattle.legal_laws.proofs.Answers.{at_most_one, exactly_one}
+use Rattle.legal_laws.proofs.Lines.{ledgers_are_told}
+use Rattle.legal_laws.proofs.Links.{links_take_in_order}
+use Rattle.legal_laws.proofs.Segments.{in_segments}
 use Rattle.session_laws.proofs.Legality.{legal}
-use Rattle.trace_laws.specs.Answers.{AnswersOnce, AnswersAll}
-use Rattle.trace_laws.proofs.Outcomes.{at_most_one}
-use Rattle.trace_laws.proofs.Shutdown.{exactly_one}
 use Rattle.text_laws.specs.Fits.{AreBytes}
 use Rattle.text_laws.proofs.OneTrace.{same_trace}
 use Rattle.text_laws.proofs.Scripts.{script_fits}
-use Rattle.session_tool.specs.Headline.{OfTrace, HasOwnText, IsInOrder, IsInPlace, IsLegal}
-use Rattle.session_tool.specs.Reading.{Decides}
+use Rattle.text_laws.proofs.Traces.{good_forms}
+use Rattle.session_tool.specs.Headline.{HasOwnText, IsInOrder, IsLegalUpTo, Headline}
+use Rattle.session_tool.specs.Stops.{AreTaken}
 
-pub legal_replay : {left rest : Option (List ℕ)} (kept : List ℕ) (script : Script) → Decides left rest kept → script_of kept ≡ Ok script → AreGood script.config script.word script.events
-    → (bytes : List ℕ) → left ≡ Some bytes → IsLegal bytes
-legal_replay kept script decides reads good bytes told = record { script = script; reads = decides.same bytes told ∙ reads; legal = legal script.config script.word script.events good }
+-- each link of a legal trace takes its messages in order
+takes_in_order : (config : Config) (word : ℕ) (events : List Event) (trace : List Action) → Legal config word events trace → IsInOrder trace
+takes_in_order config word events trace h l =
+    subst (λ (link : Ledger). IsPrefix (stream link) (joined link.starts)) (sym (ledgers_are_told trace l)) (links_take_in_order config word events trace h l)
 
-of_legal : (P : List Action → Type 0) (bytes : List ℕ) (h : IsLegal bytes) → (Legal h.script.config h.script.word h.script.events (trace_of h.script.config h.script.word h.script.events) → P (trace_of h.script.config h.script.word h.script.events)) → OfTrace bytes P
-of_legal P bytes h f = record { script = h.script; reads = h.reads; holds = f h.legal }
+-- no other trace has the text of a script's
+own_text : (text : List ℕ) (script : Script) → AreBytes text → script_of text ≡ Ok script → HasOwnText (trace_of script.config script.word script.events)
+own_text text script small reads =
+    let said = script_fits text script small reads in
+    record {
+      of_good = λ config word events good fits same.
+          same_trace config script.config word script.word events script.events fits (good_forms config word events good) said.0 said.1 same;
+      also_of_bad = λ config word events forms fits same. same_trace config script.config word script.word events script.events fits forms said.0 said.1 same;
+    }
 
-pub in_order : {left rest : Option (List ℕ)} (kept : List ℕ) (script : Script) → Decides left rest kept → script_of kept ≡ Ok script → AreGood script.config script.word script.events
-    → (bytes : List ℕ) → left ≡ Some bytes → OfTrace bytes IsInOrder
-in_order kept script decides reads good bytes told = of_legal IsInOrder bytes (legal_replay kept script decides reads good bytes told) (λ l. l.in_order)
+-- the turns of events that were taken are legal
+pub legal_up_to : (script : Script) (index : ℕ) → AreTaken script.config script.word script.events index → IsLegalUpTo script index
+legal_up_to script index taken = legal script.config script.word (take index script.events) taken.good
 
-pub in_place : {left rest : Option (List ℕ)} (kept : List ℕ) (script : Script) → Decides left rest kept → script_of kept ≡ Ok script → AreGood script.config script.word script.events
-    → (bytes : List ℕ) → left ≡ Some bytes → OfTrace bytes IsInPlace
-in_place kept script decides reads good bytes told = of_legal IsInPlace bytes (legal_replay kept script decides reads good bytes told) (λ l. (l.each, l.steps, l.outcomes))
-
-pub settled : {left rest : Option (List ℕ)} (kept : List ℕ) (script : Script) → Decides left rest kept → script_of kept ≡ Ok script → AreGood script.config script.word script.events
-    → (bytes : List ℕ) → left ≡ Some bytes → OfTrace bytes IsSettled
-settled kept script decides reads good bytes told = of_legal IsSettled bytes (legal_replay kept script decides reads good bytes told) (λ l. l.settled)
-
-pub answers_once : {left rest : Option (List ℕ)} (kept : List ℕ) (script : Script) → Decides left rest kept → script_of kept ≡ Ok script → AreGood script.config script.word script.events
-    → (bytes : List ℕ) → left ≡ Some bytes → OfTrace bytes AnswersOnce
-answers_once kept script decides reads good bytes told =
-    let h = legal_replay kept script decides reads good bytes told in
-    of_legal AnswersOnce bytes h (at_most_one h.script.config h.script.word h.script.events (trace_of h.script.config h.script.word h.script.events))
-
-pub answers_all : {left rest : Option (List ℕ)} (kept : List ℕ) (script : Script) → Decides left rest kept → script_of kept ≡ Ok script → AreGood script.config script.word script.events
-    → (bytes : List ℕ) → left ≡ Some bytes → OfTrace bytes AnswersAll
-answers_all kept script decides reads good bytes told =
-    let h = legal_replay kept script decides reads good bytes told in
-    of_legal AnswersAll bytes h (exactly_one h.script.config h.script.word h.script.events (trace_of h.script.config h.script.word h.script.events))
-
--- what is kept is bytes
-pub own_text : {left rest : Option (List ℕ)} (kept : List ℕ) (script : Script) → Decides left rest kept → script_of kept ≡ Ok script → AreBytes kept
-    → (bytes : List ℕ) → left ≡ Some bytes → OfTrace bytes HasOwnText
-own_text kept script decides reads small bytes told = record {
-  script = script;
-  reads = decides.same bytes told ∙ reads;
-  holds = λ config word events fits same. same_trace config script.config word script.word events script.events fits (script_fits kept script small reads) same;
-}
+-- a text of bytes is kept of all that is read, which says the same script
+pub headline : (kept bytes : List ℕ) (script : Script) → AreBytes kept → script_of kept ≡ Ok script → script_of bytes ≡ Ok script → AreGood script.config script.word script.events → Headline bytes
+headline kept bytes script small reads says good =
+    let config = script.config in
+    let word = script.word in
+    let events = script.events in
+    let trace = trace_of config word events in
+    let h = legal config word events good in
+    record {
+      legal = record { script = script; reads = says; legal = h };
+      in_order = record { script = script; reads = says; holds = takes_in_order config word events trace h };
+      in_place = record { script = script; reads = says; holds = record { each = h.each; segments = in_segments config word events trace h } };
+      settled = record { script = script; reads = says; holds = h.settled };
+      answers_once = record { script = script; reads = says; holds = at_most_one config word events trace h };
+      answers_all = record { script = script; reads = says; holds = exactly_one config word events trace h };
+      one_trace = record { script = script; reads = says; holds = own_text kept script small reads };
+    }

@@ -1,3 +1,4 @@
+mod Does
 mod Headlines
 mod Outcomes
 mod Sound

@@ -7,7 +7,7 @@ use Rattle.driver_model.specs.declared.event.Event.{Event}
 use Rattle.script_text.specs.Script.{script_of}
 use Rattle.script_text.specs.declared.script.Script.{Script}
 use Rattle.shared_session.specs.declared.core_state.Core.{Core}
-use Rattle.shared_session.specs.Turn.{turn, quiet, is_bad, spends}
+use Rattle.shared_session.specs.Turn.{turn, is_bad, spends}
 use Rattle.shared_session.specs.Replay.{opening, run_on, state_after, AreGood, AreGoodOn, AreUnspent, AreUnspentOn, is_bad_after, is_spent_after}
 use Rattle.session_tool.specs.Runs.{IsSound}
 use Rattle.session_tool.specs.Stops.{IsFirstBad, IsFirstSpent}
@@ -15,23 +15,23 @@ use Rattle.session_tool.specs.Stops.{IsFirstBad, IsFirstSpent}
 same_event : (d e : Event) → Some d ≡ Some e → d ≡ e
 same_event d e is = cc
 
-good_on-at : (c : Core) (es : List Event) (n : ℕ) (e : Event) → AreGoodOn c es → slice_get es n ≡ Some e → is_bad (run_on c (take n es)).connection e.kind ≡ false
+good_on-at : (c : Core) (es : List Event) (n : ℕ) (e : Event) → AreGoodOn c es → slice_get es n ≡ Some e → is_bad (run_on c (take n es)) e.kind ≡ false
 good_on-at c [] n e all is = cc
-good_on-at c (d ∷ es) zero e all is = subst (λ (x : Event). is_bad c.connection x.kind ≡ false) (same_event d e is) all.0
-good_on-at c (d ∷ es) (suc n) e all is = good_on-at (quiet (turn c d)) es n e all.1 is
+good_on-at c (d ∷ es) zero e all is = subst (λ (x : Event). is_bad c x.kind ≡ false) (same_event d e is) all.0
+good_on-at c (d ∷ es) (suc n) e all is = good_on-at (turn c d.kind).core es n e all.1 is
 
 unspent_on-at : (c : Core) (es : List Event) (n : ℕ) (e : Event) → AreUnspentOn c es → slice_get es n ≡ Some e → spends (run_on c (take n es)) e ≡ false
 unspent_on-at c [] n e all is = cc
 unspent_on-at c (d ∷ es) zero e all is = subst (λ (x : Event). spends c x ≡ false) (same_event d e is) all.0
-unspent_on-at c (d ∷ es) (suc n) e all is = unspent_on-at (quiet (turn c d)) es n e all.1 is
+unspent_on-at c (d ∷ es) (suc n) e all is = unspent_on-at (turn c d.kind).core es n e all.1 is
 
 good-at : (config : Config) (word : ℕ) (es : List Event) (n : ℕ) (e : Event) → AreGood config word es → slice_get es n ≡ Some e → is_bad_after config word (take n es) e ≡ false
 unfolding AreGood state_after
-good-at config word es n e all is = good_on-at (quiet (opening config word)) es n e all is
+good-at config word es n e all is = good_on-at (opening config word) es n e all is
 
 unspent-at : (config : Config) (word : ℕ) (es : List Event) (n : ℕ) (e : Event) → AreUnspent config word es → slice_get es n ≡ Some e → is_spent_after config word (take n es) e ≡ false
 unfolding AreUnspent state_after
-unspent-at config word es n e all is = unspent_on-at (quiet (opening config word)) es n e all is
+unspent-at config word es n e all is = unspent_on-at (opening config word) es n e all is
 
 abbrev the_script : Result Script ℕ → Script → Script
 the_script (Ok s) d = s
@@ -39,6 +39,9 @@ the_script (Err n) d = d
 
 same_script : (r : Result Script ℕ) (s t : Script) → r ≡ Ok s → r ≡ Ok t → s ≡ t
 same_script r s t one other = sym (ap (λ (x : Result Script ℕ). the_script x s) one) ∙ ap (λ (x : Result Script ℕ). the_script x s) other
+
+pub not_refused : (bytes : List ℕ) (line : ℕ) → script_of bytes ≡ Err line → IsSound bytes → ⊥
+not_refused bytes line fault sound = let reads = sound.reads in cc
 
 pub not_bad : (bytes : List ℕ) (script : Script) → script_of bytes ≡ Ok script → (index : ℕ) → IsFirstBad script.config script.word script.events index → IsSound bytes → ⊥
 not_bad bytes script reads index first sound =

@@ -11,7 +11,8 @@ use Rattle.driver_model.specs.declared.config.Config.{Config}
 use Rattle.driver_model.specs.declared.event.Event.{Event}
 use Rattle.shared_session.specs.declared.session.Failure.TheVariants.{Sound, Spent}
 use Rattle.shared_session.specs.History.{History}
-use Rattle.shared_session.specs.Replay.{opening, state_after, actions_of, trace_of, is_bad_after, is_spent_after}
+use Rattle.shared_session.specs.Replay.{opening_actions, state_after, trace_of, AreGood, AreUnspent, is_bad_after, is_spent_after}
+use Rattle.shared_session.specs.Turn.{actions_of}
 use Rattle.shared_session.specs.Stops.{IsSpentAt, IsSpentBy}
 use Rattle.shared_session.proofs.Replays.{Kept, kept_none, kept_more, taken_count, spent_stops, trace_of-none, trace_of-more}
 use Rattle.trace_text.specs.Show.{action_line, show}
@@ -78,11 +79,20 @@ pub record Streams (config : Config) (word : ℕ) (taken : List Event) (s : Hist
   pub sent : Sent old new rest (show (trace_of config word taken))
 
 pub streams_none : {held : Option (List ℕ)} (config : Config) (word : ℕ) (s : History) (before rest : List ℕ) → s ≡ record { config = config; word = word; events = []; failure = Sound }
-    → before ≡ [] → rest ≡ before ++ show (opening config word).connection.acts → Streams config word [] s held held rest
+    → before ≡ [] → rest ≡ before ++ show (opening_actions config word) → Streams config word [] s held held rest
 streams_none {held} config word s before rest made empty shown = record {
   kept = kept_none config word [] (trace_of config word []) s made (trace_of-none config word);
-  sent = sent_none rest (show (trace_of config word [])) (shown ∙ ap (λ (xs : List ℕ). xs ++ show (opening config word).connection.acts) empty ∙ ap (λ (acts : List Action). show acts) (sym (trace_of-none config word)));
+  sent = sent_none rest (show (trace_of config word [])) (shown ∙ ap (λ (xs : List ℕ). xs ++ show (opening_actions config word)) empty ∙ ap (λ (acts : List Action). show acts) (sym (trace_of-none config word)));
 }
+
+-- one event more is kept
+kept_next : (config : Config) (word : ℕ) (taken : List Event) (s t : History) (e : Event) → Kept config word taken [] s (trace_of config word taken) → t ≡ record s { events = s.events ++ e ∷ [] }
+    → is_bad_after s.config s.word s.events e ≡ false → is_spent_after s.config s.word s.events e ≡ false → Kept config word (taken ++ e ∷ []) [] t (trace_of config word (taken ++ e ∷ []))
+kept_next config word taken s t e h made good unspent =
+    let before = trace_of config word taken in
+    let same = ap (λ (x : History). actions_of (state_after x.config x.word x.events) e) h.made in
+    kept_more config word taken [] before (trace_of config word (taken ++ e ∷ [])) s t e h made
+    (trace_of-more config word taken e ∙ ap (λ (acted : List Action). before ++ acted) (sym same)) good unspent
 
 pub streams_more : {old mid new : Option (List ℕ)} (config : Config) (word : ℕ) (taken : List Event) (s t : History) (e : Event) (rest grown after : List ℕ) →
     Streams config word taken s old mid rest → t ≡ record s { events = s.events ++ e ∷ [] } → is_bad_after s.config s.word s.events e ≡ false
@@ -92,15 +102,14 @@ streams_more {old} {mid} {new} config word taken s t e rest grown after h made g
     let same : actions_of (state_after s.config s.word s.events) e ≡ acts = ap (λ (x : History). actions_of (state_after x.config x.word x.events) e) h.kept.made in
     let next : trace_of config word (taken ++ e ∷ []) ≡ trace_of config word taken ++ acts = trace_of-more config word taken e in
     record {
-      kept = kept_more config word taken [] (trace_of config word taken) (trace_of config word (taken ++ e ∷ [])) s t e h.kept made
-          (next ∙ ap (λ (acted : List Action). trace_of config word taken ++ acted) (sym same)) good unspent;
+      kept = kept_next config word taken s t e h.kept made good unspent;
       sent = subst (λ (xs : List ℕ). Sent old new after xs) (sym (ap (λ (acted : List Action). show acted) next ∙ show-append (trace_of config word taken) acts))
           (sent_more rest grown after (show (trace_of config word taken)) (show acts) h.sent (shown ∙ ap (λ (acted : List Action). rest ++ show acted) same) sent);
     }
 
 -- the events so far are taken
-taken_before : {old new : Option (List ℕ)} (config : Config) (word : ℕ) (all : List Event) (index : ℕ) (s : History) (rest : List ℕ) → index < length all → Streams config word (take index all) s old new rest → AreTaken config word all index
-taken_before {old} {new} config word all index s rest l h = record { within = omega arith; good = h.kept.good; unspent = h.kept.unspent }
+taken_before : {old new : Option (List ℕ)} (config : Config) (word : ℕ) (all : List Event) (index : ℕ) (s : History) (rest : List ℕ) → index ≤ length all → Streams config word (take index all) s old new rest → AreTaken config word all index
+taken_before {old} {new} config word all index s rest l h = record { within = l; good = h.kept.good; unspent = h.kept.unspent }
 
 -- a bad event ends a replay into a sink
 pub ends_badly : {old new : Option (List ℕ)} (config : Config) (word : ℕ) (all : List Event) (index number : ℕ) (s : History) (e : Event) (before after : List ℕ) →
@@ -112,7 +121,7 @@ ends_badly {old} {new} config word all index number s e before after l is h same
       index = index;
       counted = counted ∙ ap (λ (k : ℕ). k + 1) count;
       first = record {
-        before = taken_before config word all index s before l h;
+        before = taken_before config word all index s before (omega arith) h;
         bad = record { event = e; stands = is; bad = sym (ap (λ (x : History). is_bad_after x.config x.word x.events e) h.kept.made) ∙ b };
       };
       sent = subst (λ (xs : List ℕ). Sent old new xs (turns_before config word all index)) (sym same) h.sent;
@@ -130,7 +139,7 @@ ends_spent {old} {new} config word all index number s e before after l is h same
       index = index;
       counted = counted ∙ ap (λ (k : ℕ). k + 1) count;
       first = record {
-        before = taken_before config word all index s before l h;
+        before = taken_before config word all index s before (omega arith) h;
         spent = subst (λ (k : ℕ). IsSpentAt config word all k) count stops.1;
       };
       sent = subst (λ (xs : List ℕ). Sent old new xs (turns_before config word all index)) (sym same) h.sent;
@@ -141,7 +150,7 @@ pub sent_turns : {old new : Option (List ℕ)} (config : Config) (word : ℕ) (a
     index ≤ length all → Streams config word (take index all) s old new before → after ≡ before → SentTurns config word all old new after
 sent_turns {old} {new} config word all index s before after l h same = record {
   text = turns_before config word all index;
-  turns = inr (index, l, refl);
+  turns = inr (index, taken_before config word all index s before l h, refl);
   sent = subst (λ (xs : List ℕ). Sent old new xs (turns_before config word all index)) (sym same) h.sent;
 }
 
@@ -156,24 +165,37 @@ front_of_turns {old} {new} config word all text turns part = record { text = tex
 -- the sink failed behind an event: it has the front of the turns up to that event's
 pub cut_short : {old mid new : Option (List ℕ)} (config : Config) (word : ℕ) (all : List Event) (index : ℕ) (s : History) (e : Event) (before grown : List ℕ) →
     index < length all → take (index + 1) all ≡ take index all ++ e ∷ [] → Streams config word (take index all) s old mid before
+    → is_bad_after s.config s.word s.events e ≡ false → is_spent_after s.config s.word s.events e ≡ false
     → grown ≡ before ++ show (actions_of (state_after s.config s.word s.events) e) → GainedPart mid new grown → GainedFront config word all old new
-cut_short {old} {mid} {new} config word all index s e before grown l next h shown part =
+cut_short {old} {mid} {new} config word all index s e before grown l next h good unspent shown part =
     let taken = take index all in
+    let kept = kept_next config word taken s (record s { events = s.events ++ e ∷ [] }) e h.kept refl good unspent in
+    let more_taken : AreTaken config word all (index + 1) = record {
+      within = omega arith;
+      good = subst (λ (es : List Event). AreGood config word es) (sym next) kept.good;
+      unspent = subst (λ (es : List Event). AreUnspent config word es) (sym next) kept.unspent;
+    } in
     let acts = actions_of (state_after config word taken) e in
     let same : actions_of (state_after s.config s.word s.events) e ≡ acts = ap (λ (x : History). actions_of (state_after x.config x.word x.events) e) h.kept.made in
     let more : grown ≡ before ++ show acts = shown ∙ ap (λ (acted : List Action). before ++ show acted) same in
     let turns : turns_before config word all index ++ show acts ≡ turns_before config word all (index + 1) =
     sym (ap (λ (es : List Event). show (trace_of config word es)) next ∙ ap (λ (acted : List Action). show acted) (trace_of-more config word taken e) ∙ show-append (trace_of config word taken) acts) in
-    front_of_turns config word all (turns_before config word all index ++ show acts) (inr (index + 1, omega arith, turns))
+    front_of_turns config word all (turns_before config word all index ++ show acts) (inr (index + 1, more_taken, turns))
     (sent_part before (turns_before config word all index) (show acts) h.sent (subst (λ (xs : List ℕ). GainedPart mid new xs) more part))
 
 -- the sink failed at the end of a whole replay
-pub cut_whole : {old mid new : Option (List ℕ)} (config : Config) (word : ℕ) (all taken : List Event) (rest : List ℕ) → taken ≡ all → Sent old mid rest (show (trace_of config word taken)) → GainedPart mid new rest
-    → GainedFront config word all old new
-cut_whole {old} {mid} {new} config word all taken rest same sent part =
+pub cut_whole : {old mid new : Option (List ℕ)} (config : Config) (word : ℕ) (all taken : List Event) (rest : List ℕ) → taken ≡ all → AreGood config word taken → AreUnspent config word taken
+    → Sent old mid rest (show (trace_of config word taken)) → GainedPart mid new rest → GainedFront config word all old new
+cut_whole {old} {mid} {new} config word all taken rest same good unspent sent part =
+    let is : taken ≡ take (length all) all = same ∙ sym (take-length all) in
+    let all_taken : AreTaken config word all (length all) = record {
+      within = le_refl (length all);
+      good = subst (λ (es : List Event). AreGood config word es) is good;
+      unspent = subst (λ (es : List Event). AreUnspent config word es) is unspent;
+    } in
     let whole : show (trace_of config word taken) ++ [] ≡ turns_before config word all (length all) =
-    append-nil (show (trace_of config word taken)) ∙ ap (λ (es : List Event). show (trace_of config word es)) (same ∙ sym (take-length all)) in
-    front_of_turns config word all (show (trace_of config word taken) ++ []) (inr (length all, le_refl (length all), whole))
+    append-nil (show (trace_of config word taken)) ∙ ap (λ (es : List Event). show (trace_of config word es)) is in
+    front_of_turns config word all (show (trace_of config word taken) ++ []) (inr (length all, all_taken, whole))
     (sent_part rest (show (trace_of config word taken)) [] sent (subst (λ (xs : List ℕ). GainedPart mid new xs) (sym (append-nil rest)) part))
 
 -- the line of where it stopped is written behind the turns before it
@@ -193,35 +215,35 @@ cut_at_line {old} {mid} {new} First turns words number rest h part =
 
 -- the front of whole turns, or of them and the line behind them
 front_first : {old mid new : Option (List ℕ)} (config : Config) (word : ℕ) (all : List Event) (First : ℕ → Type 0) (words : List ℕ) (number : ℕ) (rest : List ℕ) →
-    ((text : List ℕ) → EndsWith First (turns_before config word all) words text → IsReplayText config word all text) → ((k : ℕ) → First k → k ≤ length all)
+    ((text : List ℕ) → EndsWith First (turns_before config word all) words text → IsReplayText config word all text) → ((k : ℕ) → First k → AreTaken config word all k)
     → EndsAt First (turns_before config word all) number old mid rest → GainedPart mid new (rest ++ numbered_line words number) ⊎ GainedPart mid new (rest ++ []) → GainedFront config word all old new
-front_first {old} {mid} {new} config word all First words number rest inject within h (inl part) =
+front_first {old} {mid} {new} config word all First words number rest inject before h (inl part) =
     let text = turns_before config word all h.index ++ event_line words h.index in
     record {
       text = text;
       is = inject text (record { index = h.index; first = h.first; is = refl });
       part = cut_at_line First (turns_before config word all) words number rest h part;
     }
-front_first {old} {mid} {new} config word all First words number rest inject within h (inr part) =
+front_first {old} {mid} {new} config word all First words number rest inject before h (inr part) =
     let turns = turns_before config word all h.index in
-    front_of_turns config word all (turns ++ []) (inr (h.index, within h.index h.first, append-nil turns)) (sent_part rest turns [] h.sent part)
+    front_of_turns config word all (turns ++ []) (inr (h.index, before h.index h.first, append-nil turns)) (sent_part rest turns [] h.sent part)
 
 -- whole turns, and no line
-turns_first : {old mid new : Option (List ℕ)} (config : Config) (word : ℕ) (all : List Event) (First : ℕ → Type 0) (number : ℕ) (rest : List ℕ) → ((k : ℕ) → First k → k ≤ length all)
+turns_first : {old mid new : Option (List ℕ)} (config : Config) (word : ℕ) (all : List Event) (First : ℕ → Type 0) (number : ℕ) (rest : List ℕ) → ((k : ℕ) → First k → AreTaken config word all k)
     → EndsAt First (turns_before config word all) number old mid rest → Gained mid new (rest ++ []) → GainedTurns config word all old new
-turns_first {old} {mid} {new} config word all First number rest within h gained =
+turns_first {old} {mid} {new} config word all First number rest before h gained =
     let turns = turns_before config word all h.index in
     record {
       text = turns ++ [];
-      turns = inr (h.index, within h.index h.first, append-nil turns);
+      turns = inr (h.index, before h.index h.first, append-nil turns);
       gained = sent_end_more rest turns [] h.sent gained;
     }
 
-bad_within : (config : Config) (word : ℕ) (all : List Event) (k : ℕ) → IsFirstBad config word all k → k ≤ length all
-bad_within config word all k h = h.before.within
+taken_before_bad : (config : Config) (word : ℕ) (all : List Event) (k : ℕ) → IsFirstBad config word all k → AreTaken config word all k
+taken_before_bad config word all k h = h.before
 
-spent_within : (config : Config) (word : ℕ) (all : List Event) (k : ℕ) → IsFirstSpent config word all k → k ≤ length all
-spent_within config word all k h = h.before.within
+taken_before_spent : (config : Config) (word : ℕ) (all : List Event) (k : ℕ) → IsFirstSpent config word all k → AreTaken config word all k
+taken_before_spent config word all k h = h.before
 
 no_fault : stop.NoMemory ≡ stop.WriteFault → ⊥
 no_fault is = cc
@@ -245,8 +267,8 @@ told_same old mid new config word all stop.WriteFault rest ends same told = subs
 -- memory was refused for its line
 told_less : (old mid new : Option (List ℕ)) (config : Config) (word : ℕ) (all : List Event) (s : Stop) (rest : List ℕ) → Ends s config word all old mid rest → (s ≡ stop.WriteFault → ⊥)
     → Gained mid new (rest ++ []) → GainedTurns config word all old new
-told_less old mid new config word all (stop.BadEvent n) rest ends not_fault told = turns_first config word all (IsFirstBad config word all) n rest (bad_within config word all) ends told
-told_less old mid new config word all (stop.Spent n) rest ends not_fault told = turns_first config word all (IsFirstSpent config word all) n rest (spent_within config word all) ends told
+told_less old mid new config word all (stop.BadEvent n) rest ends not_fault told = turns_first config word all (IsFirstBad config word all) n rest (taken_before_bad config word all) ends told
+told_less old mid new config word all (stop.Spent n) rest ends not_fault told = turns_first config word all (IsFirstSpent config word all) n rest (taken_before_spent config word all) ends told
 told_less old mid new config word all stop.NoMemory rest ends not_fault told =
     record { text = ends.text ++ []; turns = subst (λ (xs : List ℕ). AreTurns config word all xs) (sym (append-nil ends.text)) ends.turns; gained = sent_end_more rest ends.text [] ends.sent told }
 told_less old mid new config word all stop.WriteFault rest ends not_fault told = absurd (not_fault refl)
@@ -256,10 +278,10 @@ told_cut : (old mid new : Option (List ℕ)) (config : Config) (word : ℕ) (all
     → (s ≡ stop.WriteFault) ⊎ (GainedPart mid new (rest ++ stop_line s) ⊎ GainedPart mid new (rest ++ [])) → GainedFront config word all old new
 told_cut old mid new config word all stop.WriteFault rest ends same cut = subst (λ (x : Option (List ℕ)). GainedFront config word all old x) (sym (same refl)) ends
 told_cut old mid new config word all (stop.BadEvent n) rest ends same (inr cut) =
-    front_first config word all (IsFirstBad config word all) (codes "bad event") n rest (λ text is. inr (inl is)) (bad_within config word all) ends cut
+    front_first config word all (IsFirstBad config word all) (codes "bad event") n rest (λ text is. inr (inl is)) (taken_before_bad config word all) ends cut
 told_cut old mid new config word all (stop.BadEvent n) rest ends same (inl is) = cc
 told_cut old mid new config word all (stop.Spent n) rest ends same (inr cut) =
-    front_first config word all (IsFirstSpent config word all) (codes "spent event") n rest (λ text is. inr (inr is)) (spent_within config word all) ends cut
+    front_first config word all (IsFirstSpent config word all) (codes "spent event") n rest (λ text is. inr (inr is)) (taken_before_spent config word all) ends cut
 told_cut old mid new config word all (stop.Spent n) rest ends same (inl is) = cc
 told_cut old mid new config word all stop.NoMemory rest ends same (inr cut) =
     front_of_turns config word all (ends.text ++ []) (subst (λ (xs : List ℕ). AreTurns config word all xs) (sym (append-nil ends.text)) ends.turns)

@@ -1,16 +1,19 @@
 -- What a finished replay gives its callers, said of its trace.
-use Rattle.std.specs.Prelude.{◌≡◌, ℕ, List, [], None, Ok}
+use Rattle.std.specs.Prelude.{◌≡◌, ℕ, List, Ok, take}
 use Rattle.driver_model.specs.declared.action.Action.{Action}
 use Rattle.driver_model.specs.declared.config.Config.{Config}
 use Rattle.driver_model.specs.declared.event.Event.{Event}
 use Rattle.script_text.specs.Script.{script_of}
 use Rattle.script_text.specs.declared.script.Script.{Script}
-use Rattle.shared_session.specs.Replay.{trace_of}
-use Rattle.text_laws.specs.Fits.{FitsHistory}
+use Rattle.shared_session.specs.Replay.{trace_of, AreGood}
+use Rattle.text_laws.specs.Fits.{FitsHistory, HaveForms}
 use Rattle.trace_text.specs.Show.{show}
-use Rattle.trace_model.specs.LinkLedger.{link_ledger, stream}
-use Rattle.trace_model.specs.Order.{AreInOrder, OutcomesAscend}
-use Rattle.trace_model.specs.Legal.{IsPrefix, sent, AllStand, Legal}
+use Rattle.legal_trace.specs.Ledger.{stream, joined}
+use Rattle.legal_trace.specs.Book.{blank_book, book}
+use Rattle.legal_trace.specs.Legal.{AllStand, IsSettled, Legal}
+use Rattle.legal_laws.specs.Answers.{AnswersOnce, AnswersAll}
+use Rattle.legal_laws.specs.Links.{IsPrefix}
+use Rattle.legal_laws.specs.Segments.{AreInOrder}
 
 -- these bytes are a script, and that holds of its trace
 pub record OfTrace (bytes : List ℕ) (P : List Action → Type 0) : Type 0 where
@@ -18,21 +21,49 @@ pub record OfTrace (bytes : List ℕ) (P : List Action → Type 0) : Type 0 wher
   pub reads : script_of bytes ≡ Ok script
   pub holds : P (trace_of script.config script.word script.events)
 
--- the bytes that the link took, and those offered to it, are the front of the messages that started there
+-- the bytes that each link took, and then those offered to it, are the first of the messages that started there
 abbrev pub IsInOrder : List Action → Type 0
-IsInOrder trace = IsPrefix (stream (link_ledger 0 trace)) (sent 0 trace)
+IsInOrder trace = (l : ℕ) → let link = (book trace).link l in IsPrefix (stream link) (joined link.starts)
 
--- each action stands where it may, each start, offer, wait and close, and each outcome with its cause; those of a turn
--- have the order of its steps, and its outcomes that of their submissions
-abbrev pub IsInPlace : List Action → Type 0
-IsInPlace trace = AllStand [] trace × AreInOrder 0 trace × OutcomesAscend None trace
+-- each action stands where it may: each start, offer, wait and close, and each outcome with its cause; and those of each
+-- turn stand segment by segment
+pub record IsInPlace (trace : List Action) : Type 0 where
+  pub each : AllStand blank_book trace
+  pub segments : AreInOrder 0 blank_book trace each
 
--- no other trace of a replay has the same text, of all histories that the types hold
-abbrev pub HasOwnText : List Action → Type 0
-HasOwnText trace = (config : Config) (word : ℕ) (events : List Event) → FitsHistory config word events → show (trace_of config word events) ≡ show trace → trace_of config word events ≡ trace
+-- after its last turn all is settled
+abbrev pub EndsSettled : List Action → Type 0
+EndsSettled trace = IsSettled (book trace)
+
+-- a history of which the types hold, and whose replay has the text of this trace, has this trace
+abbrev pub TellsTrace : List Action → Config → ℕ → List Event → Type 0
+TellsTrace trace config word events =
+    FitsHistory config word events → show (trace_of config word events) ≡ show trace → trace_of config word events ≡ trace
+
+-- no other trace of a replay has the same text, of all histories that the types hold and in which no event is bad; also
+-- where an event is bad, if no submission is without a form
+pub record HasOwnText (trace : List Action) : Type 0 where
+  pub of_good : (config : Config) (word : ℕ) (events : List Event) → AreGood config word events → TellsTrace trace config word events
+  pub also_of_bad : (config : Config) (word : ℕ) (events : List Event) → HaveForms events → TellsTrace trace config word events
+
+-- the trace of a script's first events is a legal one of them
+abbrev pub IsLegalUpTo : Script → ℕ → Type 0
+IsLegalUpTo script index =
+    let taken = take index script.events in
+    Legal script.config script.word taken (trace_of script.config script.word taken)
 
 -- these bytes are a script, and its trace is a legal one of its events
 pub record IsLegal (bytes : List ℕ) : Type 0 where
   pub script : Script
   pub reads : script_of bytes ≡ Ok script
   pub legal : Legal script.config script.word script.events (trace_of script.config script.word script.events)
+
+-- the headline: what holds of the trace of these bytes where their replay is done
+pub record Headline (bytes : List ℕ) : Type 0 where
+  pub legal : IsLegal bytes
+  pub in_order : OfTrace bytes IsInOrder
+  pub in_place : OfTrace bytes IsInPlace
+  pub settled : OfTrace bytes EndsSettled
+  pub answers_once : OfTrace bytes AnswersOnce
+  pub answers_all : OfTrace bytes AnswersAll
+  pub one_trace : OfTrace bytes HasOwnText

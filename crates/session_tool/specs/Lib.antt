@@ -5,3 +5,6 @@ pub mod Runs
 pub mod Stops
 pub mod Streaming
 pub mod Words
+pub mod Does
+pub mod Sides
+pub mod Status

@@ -1,5 +1,5 @@
 -- The last lines of a run.
-use Rattle.std.specs.Prelude.{ℕ, ◌==◌, Bool, not, ◌&&◌, nat_le, List, [], ◌∷◌, ◌++◌, decimal, codes}
+use Rattle.std.specs.Prelude.{ℕ, List, [], ◌∷◌, ◌++◌, decimal, codes}
 
 -- words, a space and a number as a line
 unfoldable pub numbered_line : List ℕ → ℕ → List ℕ
@@ -16,10 +16,6 @@ version_line = codes "session_tool 0.1.0" ++ 10 ∷ []
 -- the line where the source failed
 abbrev pub read_fault_line : List ℕ
 read_fault_line = codes "read fault" ++ 10 ∷ []
-
--- the statuses that a run ends with
-abbrev pub is_status : ℕ → Bool
-is_status status = nat_le status 8 && not (status == 3)
 
 -- what the program says of itself
 abbrev pub help_line : List ℕ

@@ -4,10 +4,10 @@ use Rattle.script_text.specs.Script.{script_of}
 use Rattle.script_text.specs.declared.script.Script.{Script}
 use Rattle.shared_session.specs.Replay.{trace_of, AreGood, AreUnspent}
 use Rattle.trace_text.specs.Show.{show}
-use Rattle.outside.specs.Ends.{Rose, Gained, GainedPart}
-use Rattle.session_tool.specs.declared.command.Command.{Command}
-use Rattle.session_tool.specs.declared.command.Command.TheVariants.{Replay, Help, Version, Unknown}
-use Rattle.session_tool.specs.Lines.{numbered_line, read_fault_line, usage_line, help_line, version_line}
+use Rattle.outside.specs.Ends.{Gained, GainedPart}
+use Rattle.session_tool.specs.Lines.{numbered_line, read_fault_line}
+use Rattle.session_tool.specs.Headline.{IsLegalUpTo}
+use Rattle.session_tool.specs.Sides.{Side, Fails}
 use Rattle.session_tool.specs.Stops.{IsToldBad, IsToldSpent, AreTurns, IsReplayText}
 
 -- the bytes are a script without a bad event or a spent step, they were read to their end, and the sink gained the
@@ -26,19 +26,21 @@ pub record IsRefusal (bytes : List ℕ) (old new : Option (List ℕ)) : Type 0 w
   pub fault : script_of bytes ≡ Err line
   pub told : Gained old new (numbered_line (codes "script line") line)
 
--- an event of the script is the first bad one, and no step before it is spent: the sink gained the turns before it, and
--- its number
+-- an event of the script is the first bad one, and no step before it is spent: the sink gained the turns before it, which
+-- are legal, and its number
 pub record IsBadRun (bytes : List ℕ) (old new : Option (List ℕ)) : Type 0 where
   pub script : Script
   pub reads : script_of bytes ≡ Ok script
   pub told : IsToldBad script.config script.word script.events old new
+  pub legal : IsLegalUpTo script told.index
 
 -- the step of an event of the script is the first spent one, and no event up to it is bad: the sink gained the turns
--- before it, and its number
+-- before it, which are legal, and its number
 pub record IsSpentRun (bytes : List ℕ) (old new : Option (List ℕ)) : Type 0 where
   pub script : Script
   pub reads : script_of bytes ≡ Ok script
   pub told : IsToldSpent script.config script.word script.events old new
+  pub legal : IsLegalUpTo script told.index
 
 -- whole turns of the script that the bytes are, if they are one
 pub record AreTurnsOf (bytes text : List ℕ) : Type 0 where
@@ -58,23 +60,19 @@ pub record IsTextOf (bytes text : List ℕ) : Type 0 where
   pub reads : script_of bytes ≡ Ok script
   pub replay : IsReplayText script.config script.word script.events text
 
--- all that a replay of these bytes may write: that the source failed, the line of the script that is at fault, or the
--- text of the script's replay
-abbrev pub IsOutput : List ℕ → List ℕ → Type 0
-IsOutput bytes text = (text ≡ read_fault_line) ⊎ ((line : ℕ) × (script_of bytes ≡ Err line) × (text ≡ numbered_line (codes "script line") line)) ⊎ IsTextOf bytes text
+-- all that a replay of these bytes may write: that the source failed, if it did; the line of the script that is at fault; or
+-- the text of the script's replay
+abbrev pub IsOutput : List ℕ → Side → Side → List ℕ → Type 0
+IsOutput bytes source source' text =
+    ((text ≡ read_fault_line) × Fails source source')
+    ⊎ ((line : ℕ) × (script_of bytes ≡ Err line) × (text ≡ numbered_line (codes "script line") line))
+    ⊎ IsTextOf bytes text
 
 -- the sink gained the front of what the replay writes
-pub record IsCutRun (bytes : List ℕ) (old new : Option (List ℕ)) : Type 0 where
+pub record IsCutRun (bytes : List ℕ) (source source' sink sink' : Side) : Type 0 where
   pub text : List ℕ
-  pub output : IsOutput bytes text
-  pub part : GainedPart old new text
-
--- the sink gained the front of what the command writes; of a replay this is said where the source tells its bytes
-abbrev pub IsCut : Command → Option (List ℕ) → Option (List ℕ) → Option (List ℕ) → Type 0
-IsCut Replay left old new = (bytes : List ℕ) → left ≡ Some bytes → IsCutRun bytes old new
-IsCut Help left old new = GainedPart old new help_line
-IsCut Version left old new = GainedPart old new version_line
-IsCut Unknown left old new = GainedPart old new usage_line
+  pub output : IsOutput bytes source source' text
+  pub part : GainedPart sink.bytes sink'.bytes text
 
 -- the bytes are a script, no event is bad, and no step is spent
 pub record IsSound (bytes : List ℕ) : Type 0 where
@@ -82,7 +80,3 @@ pub record IsSound (bytes : List ℕ) : Type 0 where
   pub reads : script_of bytes ≡ Ok script
   pub good : AreGood script.config script.word script.events
   pub unspent : AreUnspent script.config script.word script.events
-
--- no fault was counted
-abbrev pub IsUnfailed : ℕ → ℕ → Type 0
-IsUnfailed old new = Rose old new → ⊥

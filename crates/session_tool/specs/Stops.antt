@@ -31,9 +31,11 @@ pub record IsFirstSpent (config : Config) (word : ℕ) (events : List Event) (in
 abbrev pub turns_before : Config → ℕ → List Event → ℕ → List ℕ
 turns_before config word events index = show (trace_of config word (take index events))
 
--- nothing, or the text of whole turns: the opening's, and those of the first events
+-- nothing, or the text of whole turns: the opening's, and those of the first events, of which none is bad and no step is
+-- spent
 abbrev pub AreTurns : Config → ℕ → List Event → List ℕ → Type 0
-AreTurns config word events text = (text ≡ []) ⊎ ((index : ℕ) × (index ≤ length events) × (text ≡ turns_before config word events index))
+AreTurns config word events text =
+    (text ≡ []) ⊎ ((index : ℕ) × AreTaken config word events index × (text ≡ turns_before config word events index))
 
 -- the line of the event at this index. Events are counted from 1
 abbrev pub event_line : List ℕ → ℕ → List ℕ

@@ -1,16 +1,20 @@
 //! Replays a script of events for one multiplexed connection, and writes the trace.
 #![tactic(auto)]
 
+#[cfg(test)]
+mod calls;
 mod command;
 mod lines;
 mod reading;
 mod replaying;
 mod running;
+mod status;
 mod streaming;
 #[cfg(test)]
 mod tests;
 
-use crate::running::{NO_MEMORY, run};
+use crate::running::run;
+use crate::status::Status;
 use outside::{MemWorld, WorldScript, standard_input, standard_output};
 use std::alloc::{AllocError, Global};
 use std::env::Args;
@@ -40,7 +44,7 @@ fn words_of(alloc: Global, args: io::Result<Args>) -> Result<Vec<String>, AllocE
 fn main(rt: HostRuntime) -> ExitCode {
     let alloc = rt.alloc();
     let Ok(words) = words_of(alloc, env::args(&rt)) else {
-        return ExitCode::from(NO_MEMORY);
+        return Status::NoMemory.code();
     };
     let mut source = standard_input(&rt);
     let mut sink = standard_output(&rt);
@@ -53,5 +57,5 @@ fn main(rt: HostRuntime) -> ExitCode {
         &mut sink,
         &mut world,
     );
-    ExitCode::from(status)
+    status.code()
 }

@@ -54,14 +54,19 @@ fn read_once<S: Source>(
     room: &mut [u8],
 ) -> Result<Progress, ReadError>
     requires { 0 < length room.old }
-    ensures more { result ≡ Ok Progress.More → Gains (S.left source.old) (S.left source.new) intake.old intake.new }
-    ensures falls { result ≡ Ok Progress.More → max_text - length intake.new < max_text - length intake.old }
+    ensures more { result ≡ Ok Progress.More
+        → Gains (S.left source.old) (S.left source.new) intake.old intake.new }
+    ensures falls { result ≡ Ok Progress.More
+        → max_text - length intake.new < max_text - length intake.old }
     ensures same { result ≡ Ok Progress.Ended → intake.new ≡ intake.old }
-    ensures ended { result ≡ Ok Progress.Ended → Gains (S.left source.old) (S.left source.new) intake.old intake.new }
+    ensures ended { result ≡ Ok Progress.Ended
+        → Gains (S.left source.old) (S.left source.new) intake.old intake.new }
     ensures end { result ≡ Ok Progress.Ended → IsAtEnd (S.left source.new) }
-    ensures passed { result ≡ Ok Progress.Passed → Refuses (S.left source.old) (S.left source.new) intake.old intake.new }
+    ensures passed { result ≡ Ok Progress.Passed
+        → Refuses (S.left source.old) (S.left source.new) intake.old intake.new }
     ensures later { S.fault_count source.old ≤ S.fault_count source.new }
-    ensures cause { IsErrOf result ReadError.Fault → Rose (S.fault_count source.old) (S.fault_count source.new) }
+    ensures cause { IsErrOf result ReadError.Fault
+        → Rose (S.fault_count source.old) (S.fault_count source.new) }
 {
     match source.read(room) {
         Got::Read(count) => {
@@ -80,7 +85,8 @@ fn read_once<S: Source>(
 pub fn read_text<S: Source>(alloc: Global, source: &mut S) -> Result<Intake, ReadError>
     ensures text { IfOk result (Decides (S.left source.old) (S.left source.new)) }
     ensures later { S.fault_count source.old ≤ S.fault_count source.new }
-    ensures cause { IsErrOf result ReadError.Fault → Rose (S.fault_count source.old) (S.fault_count source.new) }
+    ensures cause { IsErrOf result ReadError.Fault
+        → Rose (S.fault_count source.old) (S.fault_count source.new) }
 {
     let mut intake = Intake::new(alloc);
     let mut room = new_room(alloc)?;

@@ -1,6 +1,7 @@
 ghost use Rattle.std.specs.Prelude.{◌≡◌, ◌⊎◌, ℕ, ◌+◌, ◌≤◌, ◌++◌, [], ◌∷◌, length, true, false, OnOk, OnErr, IfOk, IfErr, IsErrOf};
 ghost use Rattle.outside.specs.Ends.{Rose};
-ghost use Rattle.shared_session.specs.Replay.{opening, state_after, actions_of, trace_of, is_bad_after, is_spent_after, AreGood, AreUnspent};
+ghost use Rattle.shared_session.specs.Replay.{opening_actions, state_after, trace_of, is_bad_after, is_spent_after, AreGood, AreUnspent};
+ghost use Rattle.shared_session.specs.Turn.{actions_of};
 ghost use Rattle.shared_session.specs.declared.session.Failure.TheVariants.{Sound, Spent};
 ghost use Rattle.shared_session.specs.Stops.{IsSpentBy};
 ghost use Rattle.trace_text.specs.Show.{show};
@@ -44,8 +45,10 @@ fn open_session(
     word: u64,
     text: &mut Bytes,
 ) -> Result<Session, AllocError>
-    ensures made { IfOk result (λ s. s ≡ record { config = config.now; word = word; events = []; failure = Sound }) }
-    ensures shown { OnOk result (text.new ≡ text.old ++ show (opening config.now word).connection.acts) }
+    ensures made { IfOk result (λ s.
+        s ≡ record { config = config.now; word = word; events = []; failure = Sound }
+        ) }
+    ensures shown { OnOk result (text.new ≡ text.old ++ show (opening_actions config.now word)) }
     ensures err { OnErr result (text.new ≡ text.old) }
 {
     let config = config.clone(alloc)?;
@@ -65,13 +68,25 @@ fn take_turn(
     event: &Event,
     text: &mut Bytes,
 ) -> Result<(), Stop>
-    ensures ok { OnOk result (session.new ≡ record session.old { events = session.old.events ++ event.now ∷ [] }) }
-    ensures shown { OnOk result (text.new ≡ text.old ++ show (actions_of (state_after session.old.config session.old.word session.old.events) event.now)) }
-    ensures good { OnOk result (is_bad_after session.old.config session.old.word session.old.events event.now ≡ false) }
-    ensures bad { (n : ℕ) → IsErrOf result (Stop.BadEvent n) → is_bad_after session.old.config session.old.word session.old.events event.now ≡ true }
-    ensures number { (n : ℕ) → IsErrOf result (Stop.BadEvent n) → n ≡ length session.old.events + 1 }
-    ensures unspent { OnOk result (is_spent_after session.old.config session.old.word session.old.events event.now ≡ false) }
-    ensures spent { (n : ℕ) → IsErrOf result (Stop.Spent n) → (session.old.failure ≡ Spent) ⊎ IsSpentBy session.old event.now }
+    ensures ok { OnOk result (
+        session.new ≡ record session.old { events = session.old.events ++ event.now ∷ [] }
+        ) }
+    ensures shown { OnOk result (
+        text.new ≡ text.old ++ show
+        (actions_of (state_after session.old.config session.old.word session.old.events) event.now)
+        ) }
+    ensures good { OnOk result (
+        is_bad_after session.old.config session.old.word session.old.events event.now ≡ false
+        ) }
+    ensures bad { (n : ℕ) → IsErrOf result (Stop.BadEvent n)
+        → is_bad_after session.old.config session.old.word session.old.events event.now ≡ true }
+    ensures number { (n : ℕ) → IsErrOf result (Stop.BadEvent n)
+        → n ≡ length session.old.events + 1 }
+    ensures unspent { OnOk result (
+        is_spent_after session.old.config session.old.word session.old.events event.now ≡ false
+        ) }
+    ensures spent { (n : ℕ) → IsErrOf result (Stop.Spent n) → (session.old.failure ≡ Spent)
+        ⊎ IsSpentBy session.old event.now }
     ensures count { (n : ℕ) → IsErrOf result (Stop.Spent n) → n ≡ length session.old.events + 1 }
     ensures writes { IsErrOf result Stop.WriteFault → ⊥ }
     ensures err { OnErr result (text.new ≡ text.old) }
@@ -99,12 +114,18 @@ pub fn replay_into<K: Sink>(
     text: &mut Bytes,
 ) -> Result<(), Stop>
     requires { text.old ≡ [] }
-    ensures sent { OnOk result (Sent (K.held sink.old) (K.held sink.new) text.new (show (trace_of config.now word events.now))) }
+    ensures sent { OnOk result (
+        Sent (K.held sink.old) (K.held sink.new) text.new
+        (show (trace_of config.now word events.now))
+        ) }
     ensures good { OnOk result (AreGood config.now word events.now) }
     ensures unspent { OnOk result (AreUnspent config.now word events.now) }
-    ensures stops { IfErr result (λ stop. Ends stop config.now word events.now (K.held sink.old) (K.held sink.new) text.new) }
+    ensures stops { IfErr result (λ stop.
+        Ends stop config.now word events.now (K.held sink.old) (K.held sink.new) text.new
+        ) }
     ensures later { K.fault_count sink.old ≤ K.fault_count sink.new }
-    ensures cause { IsErrOf result Stop.WriteFault → Rose (K.fault_count sink.old) (K.fault_count sink.new) }
+    ensures cause { IsErrOf result Stop.WriteFault
+        → Rose (K.fault_count sink.old) (K.fault_count sink.new) }
 {
     let mut session = match open_session(alloc, config, word, text) {
         Ok(session) => session,

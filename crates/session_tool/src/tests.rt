@@ -5,6 +5,7 @@ ghost use Rattle.session_tool.specs.Words.{command_of};
 use super::command::Command;
 use super::reading::read_text;
 use super::running::{run, run_alone};
+use super::status::Status;
 use containers::{Bytes, Seq};
 use outside::{MemSink, MemSource, MemWorld, Source, SureSink, SureSource, WorldScript};
 use std::alloc::{AllocError, Global};
@@ -456,13 +457,20 @@ fn answer(
     let mut source = MemSource::new(Bytes::from_slice(alloc, script)?, 10, numbers(alloc, read)?);
     let mut sink = MemSink::new(alloc, 20, numbers(alloc, write)?);
     let status = run_alone(alloc, words.as_slice(), &mut source, &mut sink);
-    Ok((status, sink))
+    Ok((status.number(), sink))
 }
 
 /// A run over a source and a sink that never fail. The replay of a script without a bad event or a spent step ends well,
 /// or for want of memory.
-fn run_surely(alloc: Global, words: &[String], source: &mut SureSource, sink: &mut SureSink) -> u8
-    ensures { command_of words.now ≡ Command.Replay → (bytes : List ℕ) → ⟦<SureSource as Source>⟧.left source.old ≡ Some bytes → IsSound bytes → (result ≡ 0) ⊎ (result ≡ 5) }
+fn run_surely(
+    alloc: Global,
+    words: &[String],
+    source: &mut SureSource,
+    sink: &mut SureSink,
+) -> Status
+    ensures { command_of words.now ≡ Command.Replay → (bytes : List ℕ)
+        → ⟦<SureSource as Source>⟧.left source.old ≡ Some bytes → IsSound bytes
+        → (result ≡ Status.Done) ⊎ (result ≡ Status.NoMemory) }
 {
     run_alone(alloc, words, source, sink)
 }
@@ -474,7 +482,7 @@ fn ends_that_never_fail_end_no_run(rt: HostRuntime) -> Result<(), Fail> {
         let mut source = SureSource::new(Bytes::from_slice(rt.alloc(), row.script)?);
         let mut sink = SureSink::new();
         let status = run_surely(rt.alloc(), words.as_slice(), &mut source, &mut sink);
-        assert_eq!(rt; status, 0);
+        assert_eq!(rt; status.number(), 0);
     }
     Ok(())
 }
@@ -590,7 +598,7 @@ fn replayed(alloc: Global, text: Bytes, size: usize) -> Result<(u8, MemSink), Al
     let mut source = MemSource::new(text, size, Seq::new(alloc));
     let mut sink = MemSink::new(alloc, 65_536, Seq::new(alloc));
     let status = run_alone(alloc, words.as_slice(), &mut source, &mut sink);
-    Ok((status, sink))
+    Ok((status.number(), sink))
 }
 
 /// Scripts at a limit: 1,000,000 lines, a line of 1,048,576 bytes, and 67,108,864 bytes in all.
@@ -708,7 +716,7 @@ fn a_run_does_what_one_alone_does(rt: HostRuntime) -> Result<(), Fail> {
         &mut sink,
         &mut world,
     );
-    assert_eq!(rt; status, 0);
+    assert_eq!(rt; status.number(), 0);
     assert_eq!(rt; sink.as_slice(), ANSWERED.output);
     Ok(())
 }

@@ -1,5 +1,5 @@
 -- The configuration, the word and the events are read back from the words of their causes.
-use Rattle.std.proofs.Common.{◌≡◌, ◌≢◌, ℕ, ◌<◌, ◌^◌, ◌==◌, List, [], ◌∷◌, ◌++◌, All, Some, None, map, drop, option_map, option_and_then, decimal, refl, sym, ap, ◌∙◌, if◌then◌else◌, arith}
+use Rattle.std.proofs.Common.{◌≡◌, ◌≢◌, ℕ, false, ◌<◌, ◌^◌, ◌==◌, List, [], ◌∷◌, ◌++◌, All, Some, None, map, drop, option_map, option_and_then, decimal, refl, sym, ap, ◌∙◌, if◌then◌else◌, arith}
 use Rattle.std.proofs.lemmas.List.Elements.{All-head, All-tail}
 use Rattle.driver_model.specs.declared.action.Cause.TheVariants as cause
 use Rattle.driver_model.specs.declared.config.Config.{Config}
@@ -8,16 +8,17 @@ use Rattle.driver_model.specs.declared.event.EventKind.{EventKind}
 use Rattle.driver_model.specs.declared.event.EventKind.TheVariants as event
 use Rattle.driver_model.specs.declared.event.Submission.{Submission}
 use Rattle.driver_model.specs.declared.event.Submission.TheVariants as submission
+use Rattle.driver_model.specs.Request.{is_one_nameless, is_formless}
 use Rattle.redis_error.specs.declared.fault_kind.FaultKind.{FaultKind}
 use Rattle.redis_error.specs.declared.fault_kind.FaultKind.TheVariants as fault
 use Rattle.redis_error.specs.Names.{fault_name}
 use Rattle.script_text.specs.Numbers.{number, max_u16, max_u32, max_u64}
 use Rattle.script_text.specs.EventLine.{by_first, commands, submissions, faults, fault_among, failed, others, event_of}
 use Rattle.script_text.specs.Words.{LineWords, all_of}
-use Rattle.trace_model.specs.Legal.{event_causes}
+use Rattle.legal_trace.specs.Legal.{event_causes}
 use Rattle.trace_text.specs.Show.{url, draw_words, config_words, first_of, behind_first, submission_words, submission_more, event_words, event_more}
 use Rattle.containers.proofs.Tests.{chosen, eq_from, eq_test, ne_test}
-use Rattle.text_laws.specs.Fits.{FitsSubmission, FitsKind, FitsEvent, FitsConfig, FitsHistory}
+use Rattle.text_laws.specs.Fits.{FitsSubmission, FitsKind, FitsEvent, FitsConfig, FitsHistory, HasForm, HaveForms}
 use Rattle.text_laws.specs.History.{drawn, onto_cut, cut_at_last, config_from, config_in, opening_in, drawing, event_in, script_with, history_in}
 use Rattle.text_laws.proofs.Bytes.{number_back, decimal_no_colon}
 use Rattle.text_laws.proofs.Turns.{cause_line}
@@ -31,22 +32,22 @@ long_number n fits = number_back max_u64 n (omega arith) fits
 undrawn : EventKind → Event
 undrawn kind = record { word = 0; kind = kind }
 
--- a list of commands that has a line
-commands_back : (all : List (List (List ℕ))) → all ≢ [] ∷ [] → commands (first_of all) (behind_first all) ≡ all
-commands_back [] line = refl
-commands_back ([] ∷ []) line = absurd (line refl)
-commands_back ([] ∷ command ∷ rest) line = refl
-commands_back ((word ∷ words) ∷ rest) line = refl
+-- a list of commands that is no single nameless one
+commands_back : (all : List (List (List ℕ))) → is_one_nameless all ≡ false → commands (first_of all) (behind_first all) ≡ all
+commands_back [] form = refl
+commands_back ([] ∷ []) form = cc
+commands_back ([] ∷ command ∷ rest) form = refl
+commands_back ((word ∷ words) ∷ rest) form = refl
 
-submission_back : (s : Submission) → FitsSubmission s → by_first submissions (submission_words s) (submission_more s) ≡ Some s
-submission_back (submission.Cmd args) fits = refl
-submission_back (submission.NoReply args) fits = refl
-submission_back (submission.Pipe all) fits = ap (λ cs. Some (submission.Pipe cs)) (commands_back all fits.line)
-submission_back (submission.Multi all) fits = ap (λ cs. Some (submission.Multi cs)) (commands_back all fits.line)
-submission_back (submission.Packed offset count all) fits =
+submission_back : (s : Submission) → FitsSubmission s → is_formless s ≡ false → by_first submissions (submission_words s) (submission_more s) ≡ Some s
+submission_back (submission.Cmd args) fits form = refl
+submission_back (submission.NoReply args) fits form = refl
+submission_back (submission.Pipe all) fits form = ap (λ cs. Some (submission.Pipe cs)) (commands_back all form)
+submission_back (submission.Multi all) fits form = ap (λ cs. Some (submission.Multi cs)) (commands_back all form)
+submission_back (submission.Packed offset count all) fits form =
     ap (option_and_then (λ o. option_map (λ c. submission.Packed o c (commands (first_of all) (behind_first all))) (number max_u32 (decimal count)))) (small_number offset fits.0)
     ∙ ap (option_map (λ c. submission.Packed offset c (commands (first_of all) (behind_first all)))) (small_number count fits.1)
-    ∙ ap (λ cs. Some (submission.Packed offset count cs)) (commands_back all fits.2.line)
+    ∙ ap (λ cs. Some (submission.Packed offset count cs)) (commands_back all form)
 
 fault_back : (kind : FaultKind) → fault_among faults (fault_name kind) ≡ Some kind
 fault_back fault.Refused = refl
@@ -68,19 +69,19 @@ failed_back f link kind fits =
 abbrev kind_line : EventKind → LineWords
 kind_line kind = record { words = event_words kind; more = event_more kind }
 
-kind_back : (kind : EventKind) → FitsKind kind → event_of (kind_line kind) ≡ Some (record { word = 0; kind = kind })
+kind_back : (kind : EventKind) → FitsKind kind → HasForm kind → event_of (kind_line kind) ≡ Some (record { word = 0; kind = kind })
 unfolding event_of others undrawn
-kind_back (event.Submit s) fits = ap (λ o. option_map undrawn (option_map event.Submit o)) (submission_back s fits)
-kind_back (event.Cancel s) fits = ap (λ o. option_map undrawn (option_map event.Cancel o)) (small_number s fits)
-kind_back (event.Connected link) fits = ap (λ o. option_map undrawn (option_map event.Connected o)) (small_number link fits)
-kind_back (event.Wrote link count) fits =
+kind_back (event.Submit s) fits form = ap (λ o. option_map undrawn (option_map event.Submit o)) (submission_back s fits form)
+kind_back (event.Cancel s) fits form = ap (λ o. option_map undrawn (option_map event.Cancel o)) (small_number s fits)
+kind_back (event.Connected link) fits form = ap (λ o. option_map undrawn (option_map event.Connected o)) (small_number link fits)
+kind_back (event.Wrote link count) fits form =
     ap (λ o. option_map undrawn (option_and_then (λ l. option_map (event.Wrote l) (number max_u64 (decimal count))) o)) (small_number link fits.0)
     ∙ ap (λ o. option_map undrawn (option_map (event.Wrote link) o)) (long_number count fits.1)
-kind_back (event.Bytes link piece) fits = ap (λ o. option_map undrawn (option_map (λ l. event.Bytes l piece) o)) (small_number link fits.0)
-kind_back (event.Ended link) fits = ap (λ o. option_map undrawn (option_map event.Ended o)) (small_number link fits)
-kind_back (event.ReadFault link kind) fits = ap (option_map undrawn) (failed_back event.ReadFault link kind fits)
-kind_back (event.WriteFault link kind) fits = ap (option_map undrawn) (failed_back event.WriteFault link kind fits)
-kind_back event.Shutdown fits = refl
+kind_back (event.Bytes link piece) fits form = ap (λ o. option_map undrawn (option_map (λ l. event.Bytes l piece) o)) (small_number link fits.0)
+kind_back (event.Ended link) fits form = ap (λ o. option_map undrawn (option_map event.Ended o)) (small_number link fits)
+kind_back (event.ReadFault link kind) fits form = ap (option_map undrawn) (failed_back event.ReadFault link kind fits)
+kind_back (event.WriteFault link kind) fits form = ap (option_map undrawn) (failed_back event.WriteFault link kind fits)
+kind_back event.Shutdown fits form = refl
 
 -- words that begin with no draw
 abbrev IsUndrawn : List (List ℕ) → Type 0
@@ -104,10 +105,10 @@ drawn_back w words small none =
     (λ t. none ∙ ap (λ n. Some (n, words)) (sym (eq_from w 0 t)))
     (λ f. ap (option_map (λ n. (n, words))) (long_number w small))
 
-event_back : (e : Event) → FitsEvent e → event_in (cause_line (cause.Event e)) ≡ Some e
-event_back e fits =
+event_back : (e : Event) → FitsEvent e → HasForm e.kind → event_in (cause_line (cause.Event e)) ≡ Some e
+event_back e fits form =
     ap (option_and_then (λ d. option_map (drawing d.0) (event_of (record { words = d.1; more = event_more e.kind })))) (drawn_back e.word (event_words e.kind) fits.word (kind_undrawn e.kind))
-    ∙ ap (option_map (drawing e.word)) (kind_back e.kind fits.kind)
+    ∙ ap (option_map (drawing e.word)) (kind_back e.kind fits.kind form)
 
 -- the last of the bytes b is found
 last_cut : (b : ℕ) (front rest : List ℕ) → cut_at_last b rest ≡ None → cut_at_last b (front ++ b ∷ rest) ≡ Some (front, rest)
@@ -136,15 +137,18 @@ opening_back config word fits small =
     ap (option_and_then (λ d. option_map (λ c. (c, d.0)) (config_in d.1))) (drawn_back word (config_words config) small (config_undrawn config))
     ∙ ap (option_map (λ c. (c, word))) (config_back config fits)
 
-events_back : (events : List Event) → All FitsEvent events → all_of (map event_in (map cause_line (event_causes events))) ≡ Some events
-events_back [] fits = refl
-events_back (e ∷ es) fits =
-    ap (λ o. all_of (o ∷ map event_in (map cause_line (event_causes es)))) (event_back e (All-head FitsEvent e es fits))
-    ∙ ap (option_map (λ xs. e ∷ xs)) (events_back es (All-tail FitsEvent e es fits))
+abbrev WithForm : Event → Type 0
+WithForm e = HasForm e.kind
+
+events_back : (events : List Event) → All FitsEvent events → HaveForms events → all_of (map event_in (map cause_line (event_causes events))) ≡ Some events
+events_back [] fits forms = refl
+events_back (e ∷ es) fits forms =
+    ap (λ o. all_of (o ∷ map event_in (map cause_line (event_causes es)))) (event_back e (All-head FitsEvent e es fits) (All-head WithForm e es forms))
+    ∙ ap (option_map (λ xs. e ∷ xs)) (events_back es (All-tail FitsEvent e es fits) (All-tail WithForm e es forms))
 
 -- a history is read back from what the text says of its causes
-pub causes_back : (config : Config) (word : ℕ) (events : List Event) → FitsHistory config word events
+pub causes_back : (config : Config) (word : ℕ) (events : List Event) → FitsHistory config word events → HaveForms events
     → history_in (map cause_line (cause.Opening config word ∷ event_causes events)) ≡ Some (record { config = config; word = word; events = events })
-causes_back config word events fits =
+causes_back config word events fits forms =
     ap (option_and_then (λ opening. option_map (script_with opening) (all_of (map event_in (map cause_line (event_causes events)))))) (opening_back config word fits.config fits.word)
-    ∙ ap (option_map (script_with (config, word))) (events_back events fits.events)
+    ∙ ap (option_map (script_with (config, word))) (events_back events fits.events forms)

@@ -116,18 +116,18 @@ behind_bytes (command ∷ commands) small = All-tail (All AreBytes) command comm
 submission_bytes : (s : Submission) → FitsSubmission s → All AreBytes (submission_words s)
 submission_bytes (submission.Cmd args) fits = word_and (codes "cmd") args (looked (codes "cmd") refl) fits
 submission_bytes (submission.NoReply args) fits = word_and (codes "noreply") args (looked (codes "noreply") refl) fits
-submission_bytes (submission.Pipe commands) fits = word_and (codes "pipe") (first_of commands) (looked (codes "pipe") refl) (first_bytes commands fits.bytes)
-submission_bytes (submission.Multi commands) fits = word_and (codes "multi") (first_of commands) (looked (codes "multi") refl) (first_bytes commands fits.bytes)
+submission_bytes (submission.Pipe commands) fits = word_and (codes "pipe") (first_of commands) (looked (codes "pipe") refl) (first_bytes commands fits)
+submission_bytes (submission.Multi commands) fits = word_and (codes "multi") (first_of commands) (looked (codes "multi") refl) (first_bytes commands fits)
 submission_bytes (submission.Packed offset count commands) fits =
     word_and (codes "packed") (decimal offset ∷ decimal count ∷ first_of commands) (looked (codes "packed") refl)
-    (word_and (decimal offset) (decimal count ∷ first_of commands) (decimal_bytes offset) (word_and (decimal count) (first_of commands) (decimal_bytes count) (first_bytes commands fits.2.bytes)))
+    (word_and (decimal offset) (decimal count ∷ first_of commands) (decimal_bytes offset) (word_and (decimal count) (first_of commands) (decimal_bytes count) (first_bytes commands fits.2)))
 
 submission_more_bytes : (s : Submission) → FitsSubmission s → All (All AreBytes) (submission_more s)
 submission_more_bytes (submission.Cmd args) fits = All-nil (All AreBytes)
 submission_more_bytes (submission.NoReply args) fits = All-nil (All AreBytes)
-submission_more_bytes (submission.Pipe commands) fits = behind_bytes commands fits.bytes
-submission_more_bytes (submission.Multi commands) fits = behind_bytes commands fits.bytes
-submission_more_bytes (submission.Packed offset count commands) fits = behind_bytes commands fits.2.bytes
+submission_more_bytes (submission.Pipe commands) fits = behind_bytes commands fits
+submission_more_bytes (submission.Multi commands) fits = behind_bytes commands fits
+submission_more_bytes (submission.Packed offset count commands) fits = behind_bytes commands fits.2
 
 kind_bytes : (kind : EventKind) → FitsKind kind → All AreBytes (event_words kind)
 kind_bytes (event.Submit s) fits = word_and (codes "submit") (submission_words s) (looked (codes "submit") refl) (submission_bytes s fits)

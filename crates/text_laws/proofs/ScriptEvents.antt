@@ -1,15 +1,18 @@
--- The events of scripts are events that their types hold, and lists of commands among them have lines.
-use Rattle.std.proofs.Common.{◌≢◌, ℕ, ◌<◌, ◌≤◌, ◌^◌, List, [], ◌∷◌, length, All, Option, IfSome, bytes_eq, option_map, ap, arith}
+-- The events of scripts are events that their types hold, and their submissions have forms.
+use Rattle.std.proofs.Common.{◌≡◌, ℕ, ◌<◌, ◌≤◌, ◌^◌, false, List, [], ◌∷◌, All, Option, IfSome, bytes_eq, option_map, refl, arith}
 use Rattle.std.proofs.lemmas.List.Elements.{All-cons, All-head, All-tail}
+use Rattle.driver_model.specs.declared.event.Event.{Event}
 use Rattle.driver_model.specs.declared.event.EventKind.{EventKind}
 use Rattle.driver_model.specs.declared.event.EventKind.TheVariants.{Submit, Cancel, Connected, Wrote, Bytes, Ended, ReadFault, WriteFault, Shutdown}
+use Rattle.driver_model.specs.declared.event.Submission.{Submission}
 use Rattle.driver_model.specs.declared.event.Submission.TheVariants.{Packed}
+use Rattle.driver_model.specs.Request.{is_one_nameless, is_formless}
 use Rattle.redis_error.specs.declared.fault_kind.FaultKind.{FaultKind}
 use Rattle.script_text.specs.Numbers.{number, max_u32, max_u64}
 use Rattle.script_text.specs.Words.{LineWords}
 use Rattle.script_text.specs.EventLine.{Forms, by_first, whole, numbered, wrote, came, alone, faults, fault_among, failed, commands, packed, submissions, others, events, event_of}
 use Rattle.containers.proofs.Tests.{chosen}
-use Rattle.text_laws.specs.Fits.{AreBytes, FitsCommands, FitsSubmission, FitsKind, FitsEvent}
+use Rattle.text_laws.specs.Fits.{AreBytes, FitsCommands, FitsSubmission, FitsKind, FitsEvent, HasForm}
 use Rattle.text_laws.proofs.Held.{mapped, then_read, any_read, number_within}
 
 -- the words of a line are bytes
@@ -44,94 +47,102 @@ whole_fits P read each words (next ∷ more) small behind = tt
 small_number : (word : List ℕ) → IfSome (number max_u32 word) (λ n. n ≤ max_u32)
 small_number word = number_within max_u32 word
 
-one_number : (f : ℕ → EventKind) → ((n : ℕ) → n < 2 ^ 32 → FitsKind (f n)) → Reads FitsKind (numbered f)
+-- commands that their type holds, and that are no single nameless one
+abbrev SaidCommands : List (List (List ℕ)) → Type 0
+SaidCommands commands = FitsCommands commands × (is_one_nameless commands ≡ false)
+
+-- a submission that its type holds, and that has a form
+abbrev SaidSubmission : Submission → Type 0
+SaidSubmission s = FitsSubmission s × (is_formless s ≡ false)
+
+abbrev SaidKind : EventKind → Type 0
+SaidKind kind = FitsKind kind × HasForm kind
+
+-- an event that its type holds, and whose submission has a form
+abbrev pub SaidEvent : Event → Type 0
+SaidEvent e = FitsEvent e × HasForm e.kind
+
+one_number : (f : ℕ → EventKind) → ((n : ℕ) → n < 2 ^ 32 → SaidKind (f n)) → Reads SaidKind (numbered f)
 one_number f fits [] small = tt
-one_number f fits (word ∷ []) small = mapped (λ n. n ≤ max_u32) FitsKind f (λ n l. fits n (omega arith)) (number max_u32 word) (small_number word)
+one_number f fits (word ∷ []) small = mapped (λ n. n ≤ max_u32) SaidKind f (λ n l. fits n (omega arith)) (number max_u32 word) (small_number word)
 one_number f fits (word ∷ next ∷ rest) small = tt
 
-wrote_fits : Reads FitsKind wrote
+wrote_fits : Reads SaidKind wrote
 wrote_fits [] small = tt
 wrote_fits (link ∷ []) small = tt
 wrote_fits (link ∷ count ∷ []) small =
-    then_read (λ l. l ≤ max_u32) FitsKind (λ l. option_map (Wrote l) (number max_u64 count))
-    (λ l within. mapped (λ n. n ≤ max_u64) FitsKind (Wrote l) (λ n few. (omega arith, omega arith)) (number max_u64 count) (number_within max_u64 count))
+    then_read (λ l. l ≤ max_u32) SaidKind (λ l. option_map (Wrote l) (number max_u64 count))
+    (λ l within. mapped (λ n. n ≤ max_u64) SaidKind (Wrote l) (λ n few. ((omega arith, omega arith), tt)) (number max_u64 count) (number_within max_u64 count))
     (number max_u32 link) (small_number link)
 wrote_fits (link ∷ count ∷ next ∷ rest) small = tt
 
-came_fits : Reads FitsKind came
+came_fits : Reads SaidKind came
 came_fits [] small = tt
 came_fits (link ∷ []) small = tt
 came_fits (link ∷ piece ∷ []) small =
-    mapped (λ l. l ≤ max_u32) FitsKind (λ l. Bytes l piece) (λ l within. (omega arith, All-head AreBytes piece [] (All-tail AreBytes link (piece ∷ []) small))) (number max_u32 link) (small_number link)
+    mapped (λ l. l ≤ max_u32) SaidKind (λ l. Bytes l piece) (λ l within. ((omega arith, All-head AreBytes piece [] (All-tail AreBytes link (piece ∷ []) small)), tt)) (number max_u32 link) (small_number link)
 came_fits (link ∷ piece ∷ next ∷ rest) small = tt
 
-alone_fits : Reads FitsKind (alone Shutdown)
-alone_fits [] small = tt
+alone_fits : Reads SaidKind (alone Shutdown)
+alone_fits [] small = (tt, tt)
 alone_fits (word ∷ words) small = tt
 
-failed_fits : (f : ℕ → FaultKind → EventKind) → ((l : ℕ) (kind : FaultKind) → l < 2 ^ 32 → FitsKind (f l kind)) → Reads FitsKind (failed f)
+failed_fits : (f : ℕ → FaultKind → EventKind) → ((l : ℕ) (kind : FaultKind) → l < 2 ^ 32 → SaidKind (f l kind)) → Reads SaidKind (failed f)
 failed_fits f fits [] small = tt
 failed_fits f fits (link ∷ []) small = tt
 failed_fits f fits (link ∷ kind ∷ []) small =
-    then_read (λ l. l ≤ max_u32) FitsKind (λ l. option_map (f l) (fault_among faults kind))
-    (λ l within. mapped (λ _. Unit {0}) FitsKind (f l) (λ k any. fits l k (omega arith)) (fault_among faults kind) (any_read (fault_among faults kind)))
+    then_read (λ l. l ≤ max_u32) SaidKind (λ l. option_map (f l) (fault_among faults kind))
+    (λ l within. mapped (λ _. Unit {0}) SaidKind (f l) (λ k any. fits l k (omega arith)) (fault_among faults kind) (any_read (fault_among faults kind)))
     (number max_u32 link) (small_number link)
 failed_fits f fits (link ∷ kind ∷ next ∷ rest) small = tt
 
-not_one : (command : List (List ℕ)) (commands : List (List (List ℕ))) → [] ∷ command ∷ commands ≢ [] ∷ []
-not_one command commands e = omega (arith, ap length e)
+-- a line of commands is never a single nameless one
+commands_fit : (first : List (List ℕ)) (more : List (List (List ℕ))) → All AreBytes first → All (All AreBytes) more → SaidCommands (commands first more)
+commands_fit [] [] small behind = (behind, refl)
+commands_fit [] (next ∷ more) small behind = (All-cons (All AreBytes) [] (next ∷ more) small behind, refl)
+commands_fit (word ∷ words) more small behind = (All-cons (All AreBytes) (word ∷ words) more small behind, refl)
 
--- a line of commands is one that their list has
-commands_fit : (first : List (List ℕ)) (more : List (List (List ℕ))) → All AreBytes first → All (All AreBytes) more → FitsCommands (commands first more)
-commands_fit [] [] small behind = record { bytes = behind; line = λ e. omega (arith, ap length e) }
-commands_fit [] (next ∷ more) small behind = record { bytes = All-cons (All AreBytes) [] (next ∷ more) small behind; line = not_one next more }
-commands_fit (word ∷ words) more small behind = record { bytes = All-cons (All AreBytes) (word ∷ words) more small behind; line = λ e. omega (arith, ap words_in_first e) }
-  where
-    words_in_first : List (List (List ℕ)) → ℕ
-    words_in_first [] = 0
-    words_in_first (command ∷ commands) = length command
-
-packed_fits : ReadsAll FitsSubmission packed
+packed_fits : ReadsAll SaidSubmission packed
 packed_fits [] more small behind = tt
 packed_fits (offset ∷ []) more small behind = tt
 packed_fits (offset ∷ count ∷ first) more small behind =
     let fits = commands_fit first more (All-tail AreBytes count first (All-tail AreBytes offset (count ∷ first) small)) behind in
-    then_read (λ o. o ≤ max_u32) FitsSubmission (λ o. option_map (λ c. Packed o c (commands first more)) (number max_u32 count))
-    (λ o within. mapped (λ c. c ≤ max_u32) FitsSubmission (λ c. Packed o c (commands first more)) (λ c few. (omega arith, omega arith, fits)) (number max_u32 count) (small_number count))
+    then_read (λ o. o ≤ max_u32) SaidSubmission (λ o. option_map (λ c. Packed o c (commands first more)) (number max_u32 count))
+    (λ o within. mapped (λ c. c ≤ max_u32) SaidSubmission (λ c. Packed o c (commands first more)) (λ c few. ((omega arith, omega arith, fits.0), fits.1)) (number max_u32 count) (small_number count))
     (number max_u32 offset) (small_number offset)
 
-submissions_fit : AllRead FitsSubmission submissions
+submissions_fit : AllRead SaidSubmission submissions
 submissions_fit =
-    (whole_fits FitsSubmission _ (λ args each. each), (whole_fits FitsSubmission _ (λ args each. each), (commands_fit, (commands_fit, (packed_fits, tt)))))
+    (whole_fits SaidSubmission _ (λ args each. (each, refl)), (whole_fits SaidSubmission _ (λ args each. (each, refl)), (commands_fit, (commands_fit, (packed_fits, tt)))))
 
-submitted_fits : ReadsAll FitsKind (λ words more. option_map Submit (by_first submissions words more))
+submitted_fits : ReadsAll SaidKind (λ words more. option_map Submit (by_first submissions words more))
 submitted_fits words more small behind =
-    mapped FitsSubmission FitsKind Submit (λ s fits. fits) (by_first submissions words more) (by_form FitsSubmission submissions submissions_fit words more small behind)
+    mapped SaidSubmission SaidKind Submit (λ s fits. fits) (by_first submissions words more) (by_form SaidSubmission submissions submissions_fit words more small behind)
 
-plain : (read : List (List ℕ) → Option EventKind) → Reads FitsKind read → ReadsAll FitsKind (whole read)
-plain = whole_fits FitsKind
+plain : (read : List (List ℕ) → Option EventKind) → Reads SaidKind read → ReadsAll SaidKind (whole read)
+plain = whole_fits SaidKind
 
-others_fit : AllRead FitsKind others
+others_fit : AllRead SaidKind others
 unfolding others
 others_fit = (
-  plain _ (one_number Cancel (λ n l. l)),
+  plain _ (one_number Cancel (λ n l. (l, tt))),
   (
-    plain _ (one_number Connected (λ n l. l)),
+    plain _ (one_number Connected (λ n l. (l, tt))),
     (
       plain _ wrote_fits,
       (
         plain _ came_fits,
         (
-          plain _ (one_number Ended (λ n l. l)),
-          (plain _ (failed_fits ReadFault (λ l kind small. small)), (plain _ (failed_fits WriteFault (λ l kind small. small)), (plain _ alone_fits, tt))),
+          plain _ (one_number Ended (λ n l. (l, tt))),
+          (plain _ (failed_fits ReadFault (λ l kind small. (small, tt))), (plain _ (failed_fits WriteFault (λ l kind small. (small, tt))), (plain _ alone_fits, tt))),
         ),
       ),
     ),
   ),
 )
 
-pub event_fits : (line : LineWords) → IsByteLine line → IfSome (event_of line) FitsEvent
+pub event_fits : (line : LineWords) → IsByteLine line → IfSome (event_of line) SaidEvent
 unfolding event_of
 event_fits line small =
-    mapped FitsKind FitsEvent (λ kind. record { word = 0; kind = kind }) (λ kind fits. record { word = omega arith; kind = fits }) (by_first events line.words line.more)
-    (by_form FitsKind events (submitted_fits, others_fit) line.words line.more small.words small.more)
+    mapped SaidKind SaidEvent (λ kind. record { word = 0; kind = kind }) (λ kind fits. (record { word = omega arith; kind = fits.0 }, fits.1)) (by_first events line.words line.more)
+    (by_form SaidKind events (submitted_fits, others_fit) line.words line.more small.words small.more)

@@ -1,4 +1,4 @@
--- The history that a script is has nothing but what its types hold.
+-- The history that a script is has nothing but what its types hold, and its submissions have forms.
 use Rattle.std.proofs.Common.{◌≡◌, ℕ, ◌+◌, ◌-◌, Bool, ◌&&◌, ◌==◌, bytes_eq, codes, nat_le, nat_lt, List, [], ◌∷◌, length, All, Some, None, Option, IfSome, IfOk, Ok, Err, Result, map, option_and_then, if◌then◌else◌, arith}
 use Rattle.std.specs.List.{onto_first, slice_split}
 use Rattle.std.specs.Result.{result_map_both}
@@ -14,9 +14,9 @@ use Rattle.script_text.specs.EventLine.{event_of}
 use Rattle.script_text.specs.ConfigLine.{config_of}
 use Rattle.script_text.specs.Script.{max_lines, max_line, max_text, line_at, words_at, is_end, is_nothing, event_then, line_then, events_from, config_then, script_from, script_of}
 use Rattle.containers.proofs.Tests.{chosen}
-use Rattle.text_laws.specs.Fits.{IsByte, AreBytes, FitsConfig, FitsEvent, FitsHistory}
+use Rattle.text_laws.specs.Fits.{IsByte, AreBytes, FitsConfig, FitsEvent, FitsHistory, HasForm, HaveForms}
 use Rattle.text_laws.proofs.Held.{then_read, if_read, all_read}
-use Rattle.text_laws.proofs.ScriptEvents.{IsByteLine, event_fits}
+use Rattle.text_laws.proofs.ScriptEvents.{IsByteLine, SaidEvent, event_fits}
 use Rattle.text_laws.proofs.ScriptConfigs.{config_fits}
 
 abbrev AllBytes : List (List ℕ) → Type 0
@@ -72,14 +72,14 @@ words_bytes : (number room : ℕ) (lines : List (List ℕ)) → AllBytes lines �
 words_bytes number room lines each = then_read AreBytes IsByteLine words_of_line byte_line (line_at number room lines) (line_bytes number room lines each)
 
 abbrev AllFit : List Event → Type 0
-AllFit = All FitsEvent
+AllFit = All SaidEvent
 
 -- the events of lines
-event_before : (e : Event) → FitsEvent e → (rest : Result (List Event) ℕ) → IfOk rest AllFit → IfOk (result_map_both (λ es. e ∷ es) (λ n. n) rest) AllFit
-event_before e fits (Ok es) each = All-cons FitsEvent e es fits each
+event_before : (e : Event) → SaidEvent e → (rest : Result (List Event) ℕ) → IfOk rest AllFit → IfOk (result_map_both (λ es. e ∷ es) (λ n. n) rest) AllFit
+event_before e fits (Ok es) each = All-cons SaidEvent e es fits each
 event_before e fits (Err n) each = tt
 
-event_then_fits : (number : ℕ) (o : Option Event) → IfSome o FitsEvent → (rest : Result (List Event) ℕ) → IfOk rest AllFit → IfOk (event_then number o rest) AllFit
+event_then_fits : (number : ℕ) (o : Option Event) → IfSome o SaidEvent → (rest : Result (List Event) ℕ) → IfOk rest AllFit → IfOk (event_then number o rest) AllFit
 event_then_fits number None fits rest each = tt
 event_then_fits number (Some e) fits rest each = event_before e fits rest each
 
@@ -87,7 +87,7 @@ line_then_fits : (number : ℕ) (o : Option LineWords) → IfSome o IsByteLine �
 line_then_fits number None small nothing_behind rest each = tt
 line_then_fits number (Some words) small nothing_behind rest each =
     chosen (λ r. IfOk r AllFit) (is_end words) (if nothing_behind then Ok [] else Err (number + 1)) (event_then number (event_of words) rest)
-    (λ t. chosen (λ r. IfOk r AllFit) nothing_behind (Ok []) (Err (number + 1)) (λ u. All-nil FitsEvent) (λ f. tt))
+    (λ t. chosen (λ r. IfOk r AllFit) nothing_behind (Ok []) (Err (number + 1)) (λ u. All-nil SaidEvent) (λ f. tt))
     (λ f. event_then_fits number (event_of words) (event_fits words small) rest each)
 
 events_fit : (number room : ℕ) (lines : List (List ℕ)) → AllBytes lines → IfOk (events_from number room lines) AllFit
@@ -96,11 +96,13 @@ events_fit number room (line ∷ rest) each =
     line_then_fits number (words_at number room (line ∷ rest)) (words_bytes number room (line ∷ rest) each) (is_nothing rest)
     (events_from (number + 1) (room - (length line + 1)) rest) (events_fit (number + 1) (room - (length line + 1)) rest (All-tail AreBytes line rest each))
 
+-- a script that its types hold, and whose submissions have forms
 abbrev FitsScript : Script → Type 0
-FitsScript s = FitsHistory s.config s.word s.events
+FitsScript s = FitsHistory s.config s.word s.events × HaveForms s.events
 
 with_config : (config : Config) → FitsConfig config → (rest : Result (List Event) ℕ) → IfOk rest AllFit → IfOk (config_then (Some config) rest) FitsScript
-with_config config fits (Ok es) each = record { config = fits; word = omega arith; events = each }
+with_config config fits (Ok es) each =
+    (record { config = fits; word = omega arith; events = All-weaker SaidEvent FitsEvent (λ e said. said.0) es each }, All-weaker SaidEvent (λ e. HasForm e.kind) (λ e said. said.1) es each)
 with_config config fits (Err n) each = tt
 
 config_then_fits : (o : Option Config) → IfSome o FitsConfig → (rest : Result (List Event) ℕ) → IfOk rest AllFit → IfOk (config_then o rest) FitsScript
@@ -118,5 +120,6 @@ text_fits : (text : List ℕ) → AreBytes text → IfOk (script_of text) FitsSc
 unfolding script_of
 text_fits text small = lines_fit (parts 10 text) (parts_bytes 10 text small)
 
-pub script_fits : (text : List ℕ) (s : Script) → AreBytes text → script_of text ≡ Ok s → FitsHistory s.config s.word s.events
+-- what a text of bytes says
+pub script_fits : (text : List ℕ) (s : Script) → AreBytes text → script_of text ≡ Ok s → FitsHistory s.config s.word s.events × HaveForms s.events
 script_fits text s small reads = IfOk-at_ok FitsScript reads (text_fits text small)

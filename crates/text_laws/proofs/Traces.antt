@@ -1,5 +1,5 @@
 -- The turns of a replay's trace are those of its history, and its text tells them.
-use Rattle.std.proofs.Common.{◌≡◌, ℕ, List, [], ◌∷◌, ◌++◌, All, Some, map, refl, ap, ◌∙◌}
+use Rattle.std.proofs.Common.{◌≡◌, ℕ, false, List, [], ◌∷◌, ◌++◌, All, Some, map, refl, ap, ◌∙◌}
 use Rattle.std.specs.Prelude.{option_and_then}
 use Rattle.std.proofs.lemmas.List.Elements.{All-nil, All-cons, All-head, All-tail, All-same}
 use Rattle.driver_model.specs.declared.action.Action.{Action}
@@ -8,36 +8,57 @@ use Rattle.driver_model.specs.declared.action.Cause.{Cause}
 use Rattle.driver_model.specs.declared.action.Cause.TheVariants as cause
 use Rattle.driver_model.specs.declared.config.Config.{Config}
 use Rattle.driver_model.specs.declared.event.Event.{Event}
+use Rattle.driver_model.specs.declared.event.EventKind.{EventKind}
+use Rattle.driver_model.specs.declared.event.EventKind.TheVariants as event
+use Rattle.mux_conn.specs.declared.act.LinkAct.{LinkAct}
+use Rattle.mux_conn.specs.declared.act.LinkAct.TheVariants as act
 use Rattle.shared_session.specs.declared.core_state.Core.{Core}
-use Rattle.shared_session.specs.Steps.{acts}
-use Rattle.shared_session.specs.Turn.{quiet, turn}
-use Rattle.shared_session.specs.Replay.{opening, actions_of, turns_on, trace_of}
-use Rattle.trace_model.specs.Turns.{causes}
-use Rattle.trace_model.specs.Legal.{event_causes}
-use Rattle.session_laws.proofs.Account.{causes-append}
-use Rattle.session_laws.proofs.Announced.{rest_same}
+use Rattle.shared_session.specs.Turn.{turn, is_bad, shown_each, actions_of}
+use Rattle.shared_session.specs.Replay.{opening, turns_on, trace_of, AreGoodOn, AreGood}
+use Rattle.legal_trace.specs.Legal.{causes, event_causes}
 use Rattle.trace_text.specs.Show.{show}
-use Rattle.text_laws.specs.Fits.{FitsEvent, FitsHistory}
+use Rattle.text_laws.specs.Fits.{FitsEvent, FitsHistory, HasForm, HaveForms}
 use Rattle.text_laws.specs.History.{history_in, history_of}
 use Rattle.text_laws.proofs.Back.{causes_back}
 use Rattle.text_laws.proofs.Bytes.{FitsCause}
 use Rattle.text_laws.proofs.Turns.{cause_line, turns_told}
 
-one_cause : (c : Core) (e : Event) → c.connection.acts ≡ [] → causes (actions_of c e) ≡ cause.Event e ∷ []
-unfolding turn
-one_cause c e none =
-    rest_same (acts c.connection (action.Turn c.turns (cause.Event e))) e.kind ∙ ap (λ (x : List Action). causes (x ++ action.Turn c.turns (cause.Event e) ∷ [])) none
+-- what a connection shows begins no turn
+no_causes : (l : ℕ) (acts : List LinkAct) → causes (shown_each l acts) ≡ []
+no_causes l [] = refl
+no_causes l (act.Created ∷ more) = no_causes l more
+no_causes l (act.Close ∷ more) = no_causes l more
+no_causes l (act.Write bytes ∷ more) = no_causes l more
+no_causes l (act.Wait n kind ∷ more) = no_causes l more
+no_causes l (act.Start message n need len ∷ more) = no_causes l more
+no_causes l (act.Outcome n o ∷ more) = no_causes l more
 
-causes_on : (c : Core) (es : List Event) → c.connection.acts ≡ [] → causes (turns_on c es) ≡ event_causes es
-causes_on c [] none = refl
-causes_on c (e ∷ es) none =
-    causes-append (actions_of c e) (turns_on (quiet (turn c e)) es) ∙ ap (λ (cs : List Cause). cs ++ causes (turns_on (quiet (turn c e)) es)) (one_cause c e none)
-    ∙ ap (λ (cs : List Cause). cause.Event e ∷ cs) (causes_on (quiet (turn c e)) es refl)
+causes_append : (xs ys : List Action) → causes (xs ++ ys) ≡ causes xs ++ causes ys
+causes_append [] ys = refl
+causes_append (action.Turn k c ∷ xs) ys = ap (λ (cs : List Cause). c ∷ cs) (causes_append xs ys)
+causes_append (action.Connect link host port ∷ xs) ys = causes_append xs ys
+causes_append (action.Close link ∷ xs) ys = causes_append xs ys
+causes_append (action.Write link bytes ∷ xs) ys = causes_append xs ys
+causes_append (action.Wait owner kind ∷ xs) ys = causes_append xs ys
+causes_append (action.Start link message owner need len ∷ xs) ys = causes_append xs ys
+causes_append (action.Created ∷ xs) ys = causes_append xs ys
+causes_append (action.Outcome s outcome ∷ xs) ys = causes_append xs ys
+
+-- a turn has its own cause alone
+one_cause : (c : Core) (e : Event) → causes (actions_of c e) ≡ cause.Event e ∷ []
+one_cause c e = ap (λ (cs : List Cause). cause.Event e ∷ cs) (no_causes c.single.link (turn c e.kind).acts)
+
+causes_on : (c : Core) (es : List Event) → causes (turns_on c es) ≡ event_causes es
+causes_on c [] = refl
+causes_on c (e ∷ es) =
+    let next = (turn c e.kind).core in
+    causes_append (actions_of c e) (turns_on next es) ∙ ap (λ (cs : List Cause). cs ++ causes (turns_on next es)) (one_cause c e)
+    ∙ ap (λ (cs : List Cause). cause.Event e ∷ cs) (causes_on next es)
 
 -- also where an event is bad
 pub turns_of_history : (config : Config) (word : ℕ) (events : List Event) → causes (trace_of config word events) ≡ cause.Opening config word ∷ event_causes events
 unfolding trace_of
-turns_of_history config word events = ap (λ (cs : List Cause). cause.Opening config word ∷ cs) (causes_on (quiet (opening config word)) events refl)
+turns_of_history config word events = ap (λ (cs : List Cause). cause.Opening config word ∷ cs) (causes_on (opening config word) events)
 
 events_fit : (es : List Event) → All FitsEvent es → All FitsCause (event_causes es)
 events_fit [] fits = All-nil FitsCause
@@ -46,10 +67,38 @@ events_fit (e ∷ es) fits = All-cons FitsCause (cause.Event e) (event_causes es
 causes_fit : (config : Config) (word : ℕ) (events : List Event) → FitsHistory config word events → All FitsCause (cause.Opening config word ∷ event_causes events)
 causes_fit config word events fits = All-cons FitsCause (cause.Opening config word) (event_causes events) (fits.config, fits.word) (events_fit events fits.events)
 
-pub history_back : (config : Config) (word : ℕ) (events : List Event) → FitsHistory config word events
+-- also where an event is bad, if no submission is without a form
+pub history_back : (config : Config) (word : ℕ) (events : List Event) → FitsHistory config word events → HaveForms events
     → history_of (show (trace_of config word events)) ≡ Some (record { config = config; word = word; events = events })
 unfolding history_of
-history_back config word events fits =
+history_back config word events fits forms =
     let turns = turns_of_history config word events in
     ap (option_and_then history_in) (turns_told (trace_of config word events) (All-same FitsCause _ _ turns (causes_fit config word events fits)))
-    ∙ ap (λ (cs : List Cause). history_in (map cause_line cs)) turns ∙ causes_back config word events fits
+    ∙ ap (λ (cs : List Cause). history_in (map cause_line cs)) turns ∙ causes_back config word events fits forms
+
+-- a good event hands in nothing without a form
+good_form : (c : Core) (kind : EventKind) → is_bad c kind ≡ false → HasForm kind
+unfolding is_bad
+good_form c (event.Submit what) good = good
+good_form c (event.Cancel n) good = tt
+good_form c (event.Connected l) good = tt
+good_form c (event.Wrote l count) good = tt
+good_form c (event.Bytes l piece) good = tt
+good_form c (event.Ended l) good = tt
+good_form c (event.ReadFault l kind) good = tt
+good_form c (event.WriteFault l kind) good = tt
+good_form c event.Shutdown good = tt
+
+good_forms_on : (c : Core) (es : List Event) → AreGoodOn c es → HaveForms es
+good_forms_on c [] good = All-nil (λ e. HasForm e.kind)
+good_forms_on c (e ∷ es) good = All-cons (λ x. HasForm x.kind) e es (good_form c e.kind good.0) (good_forms_on (turn c e.kind).core es good.1)
+
+-- nor does a good history
+pub good_forms : (config : Config) (word : ℕ) (events : List Event) → AreGood config word events → HaveForms events
+unfolding AreGood
+good_forms config word events good = good_forms_on (opening config word) events good
+
+-- without exception where no event is bad
+pub good_history_back : (config : Config) (word : ℕ) (events : List Event) → FitsHistory config word events → AreGood config word events
+    → history_of (show (trace_of config word events)) ≡ Some (record { config = config; word = word; events = events })
+good_history_back config word events fits good = history_back config word events fits (good_forms config word events good)

@@ -5,7 +5,7 @@ use Rattle.driver_model.specs.declared.action.Action.{Action}
 use Rattle.driver_model.specs.declared.action.Action.TheVariants as action
 use Rattle.driver_model.specs.declared.action.Cause.{Cause}
 use Rattle.script_text.specs.Words.{LineWords, parts, all_of}
-use Rattle.trace_model.specs.Turns.{causes}
+use Rattle.legal_trace.specs.Legal.{causes}
 use Rattle.trace_text.specs.Words.{escaped, line_of}
 use Rattle.trace_text.specs.Show.{address, owner_word, wait_word, submission_word, outcome_words, cause_words, cause_more, words_of, action_line, show}
 use Rattle.text_laws.specs.History.{begins_turn, turn_lines, without, cause_in}

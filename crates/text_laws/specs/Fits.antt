@@ -1,12 +1,13 @@
--- What the types of a history hold and a script can say: each number is in the range of its type, each byte is one, and
--- no list is that of just one command without arguments, which has no line.
-use Rattle.std.specs.Prelude.{ℕ, ◌^◌, ◌<◌, ◌≢◌, List, [], ◌∷◌, All}
+-- What the types of a history hold: each number is in the range of its type, and each byte is one. And which histories have
+-- submissions with forms alone.
+use Rattle.std.specs.Prelude.{◌≡◌, ℕ, ◌^◌, ◌<◌, false, List, All}
 use Rattle.driver_model.specs.declared.config.Config.{Config}
 use Rattle.driver_model.specs.declared.event.Event.{Event}
 use Rattle.driver_model.specs.declared.event.EventKind.{EventKind}
 use Rattle.driver_model.specs.declared.event.EventKind.TheVariants as event
 use Rattle.driver_model.specs.declared.event.Submission.{Submission}
 use Rattle.driver_model.specs.declared.event.Submission.TheVariants as submission
+use Rattle.driver_model.specs.Request.{is_formless}
 
 -- a byte
 abbrev pub IsByte : ℕ → Type 0
@@ -16,12 +17,11 @@ IsByte b = b < 2 ^ 8
 abbrev pub AreBytes : List ℕ → Type 0
 AreBytes bytes = All IsByte bytes
 
--- a list of commands that has a line
-pub record FitsCommands (commands : List (List (List ℕ))) : Type 0 where
-  pub bytes : All (All AreBytes) commands
-  pub line : commands ≢ [] ∷ []
+-- the words of these commands are bytes
+abbrev pub FitsCommands : List (List (List ℕ)) → Type 0
+FitsCommands commands = All (All AreBytes) commands
 
--- a submission that its type holds and that has a line
+-- a submission that its type holds
 abbrev pub FitsSubmission : Submission → Type 0
 FitsSubmission (submission.Cmd args) = All AreBytes args
 FitsSubmission (submission.NoReply args) = All AreBytes args
@@ -56,3 +56,19 @@ pub record FitsHistory (c : Config) (w : ℕ) (es : List Event) : Type 0 where
   pub config : FitsConfig c
   pub word : w < 2 ^ 64
   pub events : All FitsEvent es
+
+-- an event that hands in no submission without a form
+abbrev pub HasForm : EventKind → Type 0
+HasForm (event.Submit s) = is_formless s ≡ false
+HasForm (event.Cancel s) = Unit {0}
+HasForm (event.Connected link) = Unit {0}
+HasForm (event.Wrote link count) = Unit {0}
+HasForm (event.Bytes link piece) = Unit {0}
+HasForm (event.Ended link) = Unit {0}
+HasForm (event.ReadFault link kind) = Unit {0}
+HasForm (event.WriteFault link kind) = Unit {0}
+HasForm event.Shutdown = Unit {0}
+
+-- each submission has a form
+abbrev pub HaveForms : List Event → Type 0
+HaveForms events = All (λ e. HasForm e.kind) events

@@ -45,4 +45,4 @@ returns-then-not-write_large-clause-stops g c =
     let e = c.event-item.result in
     let next : take (k + 1) all ≡ take k all ++ e ∷ [] = take_more all k e c.loop-event-test.true ∙ ap (λ (x : Event). take k all ++ x ∷ []) (sym c.event-item.is) in
     cut_short c.args.config.now c.args.word all k c.loop-event.session e c.loop-event.text c.take_turn.new.text c.loop-event-test.true next c.loop-event.invariant.streams
-    c.in-Ok-take_turn.ensures.shown (c.if-not-write_large.ensures.part refl)
+    c.in-Ok-take_turn.ensures.good c.in-Ok-take_turn.ensures.unspent c.in-Ok-take_turn.ensures.shown (c.if-not-write_large.ensures.part refl)

@@ -1,19 +1,35 @@
 use Rattle.std.proofs.Common.{◌≡◌, ℕ, List, subst}
 use Rattle.std.specs.Prelude.{Ok}
 use Rattle.script_text.specs.Script.{script_of}
-use Rattle.session_tool.proofs.Outcomes.{no_bad_run, no_spent_run}
+use Rattle.text_laws.specs.Fits.{AreBytes}
+use Rattle.session_tool.specs.Sides.{side}
+use Rattle.session_tool.proofs.Outcomes.{done_does, bad_does, spent_does}
 use Rattle.session_tool.proofs.running.replay_source.Goals as goal
 
-pub returns-in-Err-BadEvent-clause-complete : goal.returns-in-Err-BadEvent-clause-complete
-returns-in-Err-BadEvent-clause-complete g c bytes told sound read wrote =
+pub returns-in-Ok-replay_script : goal.returns-in-Ok-replay_script
+returns-in-Ok-replay_script g c =
+    let script = c.in-Ok-read_script.script in
+    let reads : script_of c.in-Ok.intake ≡ Ok script = subst (λ (text : List ℕ). script_of text ≡ Ok script) c.text-text.ensures c.in-Ok-read_script.ensures.script in
+    let small : AreBytes c.in-Ok.intake = subst (λ (text : List ℕ). AreBytes text) c.text-text.ensures c.a_slice_has_bytes.ensures in
+    let done = c.in-Ok-replay_script.ensures in
+    done_does (side (g.S.Source.left c.args.source.now) (g.S.Source.fault_count c.args.source.now)) (side (g.S.Source.left c.read_text.new.source) (g.S.Source.fault_count c.read_text.new.source))
+    (side (g.K.Sink.held c.args.sink.now) (g.K.Sink.fault_count c.args.sink.now)) (side (g.K.Sink.held c.replay_script.new.sink) (g.K.Sink.fault_count c.replay_script.new.sink))
+    c.in-Ok.intake script c.in-Ok.ensures.text reads small done.trace done.good done.unspent
+
+pub returns-in-Err-BadEvent : goal.returns-in-Err-BadEvent
+returns-in-Err-BadEvent g c =
     let script = c.in-Ok-read_script.script in
     let reads : script_of c.in-Ok.intake ≡ Ok script = subst (λ (text : List ℕ). script_of text ≡ Ok script) c.text-text.ensures c.in-Ok-read_script.ensures.script in
     let stop = rw c.in-Err-BadEvent.field-0-is at c.in-Err-BadEvent.ensures in
-    absurd (no_bad_run c.in-Ok.intake script c.in-Ok.ensures.text reads stop.stops bytes told sound)
+    bad_does (side (g.S.Source.left c.args.source.now) (g.S.Source.fault_count c.args.source.now)) (side (g.S.Source.left c.read_text.new.source) (g.S.Source.fault_count c.read_text.new.source))
+    (side (g.K.Sink.held c.args.sink.now) (g.K.Sink.fault_count c.args.sink.now)) (side (g.K.Sink.held c.replay_script.new.sink) (g.K.Sink.fault_count c.replay_script.new.sink))
+    c.in-Ok.intake script c.in-Ok.ensures.text reads stop.stops
 
-pub returns-clause-complete : goal.returns-clause-complete
-returns-clause-complete g c bytes told sound read wrote =
+pub returns : goal.returns
+returns g c =
     let script = c.in-Ok-read_script.script in
     let reads : script_of c.in-Ok.intake ≡ Ok script = subst (λ (text : List ℕ). script_of text ≡ Ok script) c.text-text.ensures c.in-Ok-read_script.ensures.script in
     let stop = rw c.in-Err-Spent.field-0-is at c.in-Err-Spent.ensures in
-    absurd (no_spent_run c.in-Ok.intake script c.in-Ok.ensures.text reads stop.stops bytes told sound)
+    spent_does (side (g.S.Source.left c.args.source.now) (g.S.Source.fault_count c.args.source.now)) (side (g.S.Source.left c.read_text.new.source) (g.S.Source.fault_count c.read_text.new.source))
+    (side (g.K.Sink.held c.args.sink.now) (g.K.Sink.fault_count c.args.sink.now)) (side (g.K.Sink.held c.replay_script.new.sink) (g.K.Sink.fault_count c.replay_script.new.sink))
+    c.in-Ok.intake script c.in-Ok.ensures.text reads stop.stops

@@ -1,0 +1,61 @@
+-- What a command does, from what it comes to with its status.
+use Rattle.std.proofs.Common.{◌≡◌, ◌⊎◌, inl, inr, ℕ, List, Some, refl, sym, subst, ◌∙◌}
+use Rattle.std.specs.Prelude.{Ok, Err}
+use Rattle.outside.specs.Ends.{Gained, GainedPart}
+use Rattle.script_text.specs.Script.{script_of}
+use Rattle.session_tool.specs.declared.command.Command.{Command}
+use Rattle.session_tool.specs.declared.command.Command.TheVariants.{Replay, Help, Version, Unknown}
+use Rattle.session_tool.specs.declared.status.Status.{Status}
+use Rattle.session_tool.specs.declared.status.Status.TheVariants as status
+use Rattle.session_tool.specs.Does.{Does, EndsWell, Prints}
+use Rattle.session_tool.specs.Headline.{Headline}
+use Rattle.session_tool.specs.Lines.{read_fault_line, usage_line, help_line, version_line}
+use Rattle.session_tool.specs.Runs.{IsReplay, IsRefusal, IsBadRun, IsSpentRun, IsWholeRun, IsCutRun, IsSound}
+use Rattle.session_tool.specs.Sides.{Side, Fails, IfTold}
+use Rattle.session_tool.proofs.Sound.{not_bad, not_spent, not_refused}
+
+-- what a replay comes to, status by status
+abbrev pub Comes : Status → Side → Side → Side → Side → Type 0
+Comes status.Done source source' sink sink' = IfTold source (λ bytes. IsReplay bytes source'.bytes sink.bytes sink'.bytes × Headline bytes)
+Comes status.Usage source source' sink sink' = ⊥
+Comes status.Script source source' sink sink' = IfTold source (λ bytes. IsRefusal bytes sink.bytes sink'.bytes)
+Comes status.BadEvent source source' sink sink' = IfTold source (λ bytes. IsBadRun bytes sink.bytes sink'.bytes)
+Comes status.NoMemory source source' sink sink' = IfTold source (λ bytes. IsWholeRun bytes sink.bytes sink'.bytes)
+Comes status.ReadFault source source' sink sink' = Gained sink.bytes sink'.bytes read_fault_line × Fails source source'
+Comes status.WriteFault source source' sink sink' = IfTold source (λ bytes. IsCutRun bytes source source' sink sink') × Fails sink sink'
+Comes status.Spent source source' sink sink' = IfTold source (λ bytes. IsSpentRun bytes sink.bytes sink'.bytes)
+
+-- the replay of a sound script over ends that didn't fail is done, or memory was refused
+ends_well : (s : Status) (source source' sink sink' : Side) → Comes s source source' sink sink' → IfTold source (λ bytes. EndsWell bytes s source source' sink sink')
+ends_well status.Done source source' sink sink' comes bytes told sound read wrote = inl refl
+ends_well status.Usage source source' sink sink' comes bytes told sound read wrote = absurd comes
+ends_well status.Script source source' sink sink' comes bytes told sound read wrote = let h = comes bytes told in absurd (not_refused bytes h.line h.fault sound)
+ends_well status.BadEvent source source' sink sink' comes bytes told sound read wrote = let h = comes bytes told in absurd (not_bad bytes h.script h.reads h.told.index h.told.first sound)
+ends_well status.NoMemory source source' sink sink' comes bytes told sound read wrote = inr refl
+ends_well status.ReadFault source source' sink sink' comes bytes told sound read wrote = absurd (read comes.1)
+ends_well status.WriteFault source source' sink sink' comes bytes told sound read wrote = absurd (wrote comes.1)
+ends_well status.Spent source source' sink sink' comes bytes told sound read wrote = let h = comes bytes told in absurd (not_spent bytes h.script h.reads h.told.index h.told.first sound)
+
+-- a replay does what it comes to
+pub replay_does : (s : Status) (source source' sink sink' : Side) → Comes s source source' sink sink' → Does Replay s source source' sink sink'
+replay_does s source source' sink sink' comes =
+    let at : (t : Status) → s ≡ t → Comes t source source' sink sink' = λ t is. subst (λ (x : Status). Comes x source source' sink sink') is comes in
+    record {
+      done = λ is replay bytes told. (at status.Done is bytes told).0;
+      headline = λ is replay bytes told. (at status.Done is bytes told).1;
+      version = λ is other. cc;
+      help = λ is other. cc;
+      words = λ is. absurd (at status.Usage is);
+      unknown = λ other. cc;
+      usage = λ is. absurd (at status.Usage is);
+      script = at status.Script;
+      bad = at status.BadEvent;
+      free = λ is. refl;
+      whole = at status.NoMemory;
+      fault = λ is. (at status.ReadFault is).0;
+      read = λ is. (at status.ReadFault is).1;
+      cut = λ is. (at status.WriteFault is).0;
+      write = λ is. (at status.WriteFault is).1;
+      spent = at status.Spent;
+      complete = λ replay. ends_well s source source' sink sink' comes;
+    }

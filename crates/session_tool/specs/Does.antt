@@ -1,0 +1,60 @@
+-- What a run of the program does and answers.
+use Rattle.std.specs.Prelude.{◌≡◌, ◌⊎◌, ℕ, List}
+use Rattle.outside.specs.Ends.{Gained, GainedPart}
+use Rattle.session_tool.specs.declared.command.Command.{Command}
+use Rattle.session_tool.specs.declared.command.Command.TheVariants.{Replay, Help, Version, Unknown}
+use Rattle.session_tool.specs.declared.status.Status.{Status}
+use Rattle.session_tool.specs.declared.status.Status.TheVariants as status
+use Rattle.session_tool.specs.Headline.{Headline}
+use Rattle.session_tool.specs.Lines.{read_fault_line, usage_line, help_line, version_line}
+use Rattle.session_tool.specs.Runs.{IsReplay, IsRefusal, IsBadRun, IsSpentRun, IsWholeRun, IsCutRun, IsSound}
+use Rattle.session_tool.specs.Sides.{Side, Fails, IfTold}
+
+-- the sink gained the front of what the command writes; of a replay this is said where the source tells its bytes
+abbrev pub IsCut : Command → Side → Side → Side → Side → Type 0
+IsCut Replay source source' sink sink' = IfTold source (λ bytes. IsCutRun bytes source source' sink sink')
+IsCut Help source source' sink sink' = GainedPart sink.bytes sink'.bytes help_line
+IsCut Version source source' sink sink' = GainedPart sink.bytes sink'.bytes version_line
+IsCut Unknown source source' sink sink' = GainedPart sink.bytes sink'.bytes usage_line
+
+-- where the bytes are a script without a bad event or a spent step, and no count of faults rose, the replay is done, or
+-- memory was refused
+abbrev pub EndsWell : List ℕ → Status → Side → Side → Side → Side → Type 0
+EndsWell bytes s source source' sink sink' =
+    IsSound bytes → (Fails source source' → ⊥) → (Fails sink sink' → ⊥) → (s ≡ status.Done) ⊎ (s ≡ status.NoMemory)
+
+-- a line was written, with which a command ends with its status; or its front, and the sink failed
+abbrev pub Prints : Status → List ℕ → Status → Side → Side → Type 0
+Prints its line s sink sink' =
+    ((s ≡ its) × Gained sink.bytes sink'.bytes line)
+    ⊎ ((s ≡ status.WriteFault) × GainedPart sink.bytes sink'.bytes line × Fails sink sink')
+
+-- What a command does that ends with this status, from its source and its sink as they were to what they come to.
+pub record Does (command : Command) (s : Status) (source source' sink sink' : Side) : Type 0 where
+  -- 0, of a replay
+  pub done : s ≡ status.Done → command ≡ Replay → IfTold source (λ bytes. IsReplay bytes source'.bytes sink.bytes sink'.bytes)
+  pub headline : s ≡ status.Done → command ≡ Replay → IfTold source Headline
+  -- 0, of other commands
+  pub version : s ≡ status.Done → command ≡ Version → Gained sink.bytes sink'.bytes version_line
+  pub help : s ≡ status.Done → command ≡ Help → Gained sink.bytes sink'.bytes help_line
+  -- 1
+  pub words : s ≡ status.Usage → command ≡ Unknown
+  pub unknown : command ≡ Unknown → (s ≡ status.Usage) ⊎ (s ≡ status.WriteFault)
+  pub usage : s ≡ status.Usage → Gained sink.bytes sink'.bytes usage_line
+  -- 2
+  pub script : s ≡ status.Script → IfTold source (λ bytes. IsRefusal bytes sink.bytes sink'.bytes)
+  -- 4
+  pub bad : s ≡ status.BadEvent → IfTold source (λ bytes. IsBadRun bytes sink.bytes sink'.bytes)
+  -- 5
+  pub free : s ≡ status.NoMemory → command ≡ Replay
+  pub whole : s ≡ status.NoMemory → IfTold source (λ bytes. IsWholeRun bytes sink.bytes sink'.bytes)
+  -- 6
+  pub fault : s ≡ status.ReadFault → Gained sink.bytes sink'.bytes read_fault_line
+  pub read : s ≡ status.ReadFault → Fails source source'
+  -- 7
+  pub cut : s ≡ status.WriteFault → IsCut command source source' sink sink'
+  pub write : s ≡ status.WriteFault → Fails sink sink'
+  -- 8
+  pub spent : s ≡ status.Spent → IfTold source (λ bytes. IsSpentRun bytes sink.bytes sink'.bytes)
+  -- 0 or 5
+  pub complete : command ≡ Replay → IfTold source (λ bytes. EndsWell bytes s source source' sink sink')
