@@ -3,7 +3,8 @@ ghost use Rattle.std.specs.Prelude.{Some};
 
 use super::running::run_alone;
 use super::status::Status;
-use containers::{Bytes, Seq};
+use super::tests::{ANSWERED, numbers, strings};
+use containers::Bytes;
 use outside::{Got, MemSink, MemSource, Put, Sink, Source};
 use std::alloc::{AllocError, Global};
 use std::process::ExitCode;
@@ -53,19 +54,11 @@ impl Sink for CountedSink {
     }
 }
 
-const SCRIPT: &[u8] = b"config single url=redis://h:6379 connect=none response=none lib=off
-connected 0
-submit cmd GET a
-wrote 0 20
-bytes 0 +x%0D%0A
-end
-";
-
 /// A read and a write that fail, counted from 0, and the status, the reads and the writes of a replay then. Ten bytes are
 /// read at a time, and twenty written.
 type Counted = (Option<u64>, Option<u64>, Status, u64, u64);
 
-/// The script has 129 bytes: thirteen reads, and one more meets its end.
+/// The script of an answered request has 129 bytes: thirteen reads, and one more meets its end.
 const COUNTED: [Counted; 6] = [
     (Some(0), None, Status::ReadFault, 1, 1),
     (Some(1), None, Status::ReadFault, 2, 1),
@@ -75,23 +68,14 @@ const COUNTED: [Counted; 6] = [
     (Some(1), Some(0), Status::WriteFault, 2, 1),
 ];
 
-fn numbers(alloc: Global, number: Option<u64>) -> Result<Seq<u64>, AllocError> {
-    let mut all = Seq::new(alloc);
-    if let Some(number) = number {
-        all.push(number)?;
-    }
-    Ok(all)
-}
-
 /// The status of a replay of the script, and how many reads and writes it made.
 fn calls(
     alloc: Global,
     read: Option<u64>,
     write: Option<u64>,
 ) -> Result<(Status, u64, u64), AllocError> {
-    let mut words = Vec::new(alloc);
-    words.push(String::from_str(alloc, "replay")?)?;
-    let text = Bytes::from_slice(alloc, SCRIPT)?;
+    let words = strings(alloc, &["replay"])?;
+    let text = Bytes::from_slice(alloc, ANSWERED.script)?;
     let mut source = CountedSource {
         source: MemSource::new(text, 10, numbers(alloc, read)?),
         reads: 0,

@@ -13,8 +13,8 @@ use std::test::Fail;
 
 /// A script, the output of its replay, and the status.
 #[derive(Clone, Copy)]
-struct Row {
-    script: &'static [u8],
+pub struct Row {
+    pub script: &'static [u8],
     output: &'static [u8],
     status: u8,
 }
@@ -31,7 +31,7 @@ connect 0 h:6379
 };
 
 /// A request that is answered.
-const ANSWERED: Row = Row {
+pub const ANSWERED: Row = Row {
     script: b"config single url=redis://h:6379 connect=none response=none lib=off
 connected 0
 submit cmd GET a
@@ -429,7 +429,7 @@ outcome s1 err closed
     status: 0,
 };
 
-fn strings(alloc: Global, words: &[&str]) -> Result<Vec<String>, AllocError> {
+pub fn strings(alloc: Global, words: &[&str]) -> Result<Vec<String>, AllocError> {
     let mut all = Vec::new(alloc);
     for word in words {
         all.push(String::from_str(alloc, word)?)?;
@@ -437,7 +437,7 @@ fn strings(alloc: Global, words: &[&str]) -> Result<Vec<String>, AllocError> {
     Ok(all)
 }
 
-fn numbers(alloc: Global, number: Option<u64>) -> Result<Seq<u64>, AllocError> {
+pub fn numbers(alloc: Global, number: Option<u64>) -> Result<Seq<u64>, AllocError> {
     let mut all = Seq::new(alloc);
     if let Some(number) = number {
         all.push(number)?;
