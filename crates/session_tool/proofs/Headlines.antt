@@ -14,7 +14,7 @@ use Rattle.legal_laws.proofs.Answers.{at_most_one, exactly_one}
 use Rattle.legal_laws.proofs.Lines.{ledgers_are_told}
 use Rattle.legal_laws.proofs.Links.{links_take_in_order}
 use Rattle.legal_laws.proofs.Segments.{in_segments}
-use Rattle.session_laws.proofs.Legality.{legal}
+use Rattle.session_laws.proofs.Legality.{replay_legal}
 use Rattle.text_laws.specs.Fits.{AreBytes}
 use Rattle.text_laws.proofs.OneTrace.{same_trace}
 use Rattle.text_laws.proofs.Scripts.{script_fits}
@@ -39,7 +39,7 @@ own_text text script small reads =
 
 -- the turns of events that were taken are legal
 pub legal_up_to : (script : Script) (index : ℕ) → AreTaken script.config script.word script.events index → IsLegalUpTo script index
-legal_up_to script index taken = legal script.config script.word (take index script.events) taken.good
+legal_up_to script index taken = replay_legal script.config script.word (take index script.events) taken.good
 
 -- a text of bytes is kept of all that is read, which says the same script
 pub headline : (kept bytes : List ℕ) (script : Script) → AreBytes kept → script_of kept ≡ Ok script → script_of bytes ≡ Ok script → AreGood script.config script.word script.events → Headline bytes
@@ -48,7 +48,7 @@ headline kept bytes script small reads says good =
     let word = script.word in
     let events = script.events in
     let trace = trace_of config word events in
-    let h = legal config word events good in
+    let h = replay_legal config word events good in
     record {
       legal = record { script = script; reads = says; legal = h };
       in_order = record { script = script; reads = says; holds = takes_in_order config word events trace h };
