@@ -1,7 +1,7 @@
 -- Over whole histories, the cancel of a started request changes nothing but its own outcome.
 use Rattle.std.proofs.Common.{◌≡◌, ◌≢◌, ℕ, ◌+◌, ◌<◌, nat_le, ◌||◌, Bool, true, false, List, [], ◌∷◌, ◌++◌, length, Option, Some, slice_get, refl, sym, ap, ◌∙◌, subst, append_assoc, arith, ◌==◌, ◌&&◌}
 use Rattle.std.proofs.Math.Bool.{or-false}
-use Rattle.containers.proofs.Tests.{chosen, not_le_test, not_both}
+use Rattle.containers.proofs.Choices.{chosen, not_le_test, not_both}
 use Rattle.containers.proofs.Places.{get_within}
 use Rattle.driver_model.specs.declared.action.Action.{Action}
 use Rattle.driver_model.specs.declared.action.Action.TheVariants as action

@@ -1,6 +1,6 @@
 -- A request whose message has left the queue never waits again, and where its verdict is not wanted, it never is again.
 use Rattle.std.proofs.Common.{◌≡◌, ◌≢◌, ℕ, ◌<◌, ◌==◌, ◌&&◌, Bool, false, List, [], ◌∷◌, ◌++◌, length, refl, sym, ap, ◌∙◌, subst, arith, length-append}
-use Rattle.containers.proofs.Tests.{ne_test}
+use Rattle.containers.proofs.Choices.{ne_test}
 use Rattle.link_core.specs.declared.message.Entry.{Entry}
 use Rattle.mux_conn.specs.declared.life.Life.{Life}
 use Rattle.mux_conn.specs.declared.life.Life.TheVariants.{Dialing, Ready, Ended}

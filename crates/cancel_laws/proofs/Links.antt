@@ -1,7 +1,7 @@
 -- A link does the same where the verdict of one message is not wanted.
 use Rattle.std.proofs.Common.{◌≡◌, ℕ, ◌==◌, ◌&&◌, not, nat_lt, Bool, true, false, List, [], ◌∷◌, ◌++◌, length, if◌then◌else◌, refl, sym, ap, ◌∙◌, inl, inr, arith}
 use Rattle.std.proofs.Math.Bool.{and-false}
-use Rattle.containers.proofs.Tests.{by_test, chosen, left_if, eq_from, eq_test}
+use Rattle.containers.proofs.Choices.{by_test, chosen, left_if, eq_from, eq_test}
 use Rattle.resp_value.specs.Data.{Data}
 use Rattle.resp_read.specs.Items.{items}
 use Rattle.driver_model.specs.Shape.{need}

@@ -1,7 +1,7 @@
 -- A request has at most one message on its link.
 use Rattle.std.proofs.Common.{◌≡◌, ℕ, zero, suc, ◌+◌, ◌≤◌, ◌==◌, nat_lt, ◌&&◌, Bool, true, false, List, [], ◌∷◌, ◌++◌, length, Option, Some, None, slice_get, if◌then◌else◌, refl, ap, subst, arith}
 use Rattle.std.proofs.Math.Bool.{and-false}
-use Rattle.containers.proofs.Tests.{by_test, chosen, taken_if, left_if, eq_from}
+use Rattle.containers.proofs.Choices.{by_test, chosen, taken_if, left_if, eq_from}
 use Rattle.resp_value.specs.Data.{Data}
 use Rattle.resp_read.specs.Items.{items}
 use Rattle.driver_model.specs.Shape.{need}

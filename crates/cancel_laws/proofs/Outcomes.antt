@@ -1,6 +1,6 @@
 -- What traces tell of outcomes, but for those of one submission.
 use Rattle.std.proofs.Common.{◌≡◌, ◌≢◌, ℕ, zero, suc, ◌==◌, List, [], ◌∷◌, ◌++◌, Option, Some, None, slice_set, if◌then◌else◌, refl, sym, ap, ◌∙◌}
-use Rattle.containers.proofs.Tests.{by_test, chosen, taken_if, left_if, eq_from, ne_from}
+use Rattle.containers.proofs.Choices.{by_test, chosen, taken_if, left_if, eq_from, ne_from}
 use Rattle.containers.proofs.Places.{get_set_other}
 use Rattle.driver_model.specs.declared.action.Action.{Action}
 use Rattle.driver_model.specs.declared.action.Action.TheVariants as action

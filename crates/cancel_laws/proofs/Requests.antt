@@ -1,6 +1,6 @@
 -- Requests by their numbers: what a change of progress does, and what it leaves alone.
 use Rattle.std.proofs.Common.{◌≡◌, ◌≢◌, ℕ, zero, suc, ◌<◌, true, false, List, [], ◌∷◌, ◌++◌, length, Some, slice_get, refl, sym, ap, ◌∙◌, arith, length-set, ◌==◌}
-use Rattle.containers.proofs.Tests.{by_test, eq_from, ne_from}
+use Rattle.containers.proofs.Choices.{by_test, eq_from, ne_from}
 use Rattle.containers.proofs.Places.{get_set_other}
 use Rattle.link_laws.proofs.Lists.{get_before}
 use Rattle.mux_conn.specs.declared.request.Progress.{Progress}

@@ -1,6 +1,6 @@
 -- After each turn nothing is left to do, and a turn that changes nothing shows nothing.
 use Rattle.std.proofs.Common.{◌≡◌, ℕ, ◌<◌, ◌==◌, nat_lt, nat_le, ◌&&◌, not, Bool, true, false, List, [], ◌∷◌, length, refl, sym, ap, ◌∙◌, subst, arith}
-use Rattle.containers.proofs.Tests.{chosen, taken_if, left_if, not_le_test, not_both}
+use Rattle.containers.proofs.Choices.{chosen, taken_if, left_if, not_le_test, not_both}
 use Rattle.link_core.specs.declared.message.Queued.{Queued}
 use Rattle.link_core.specs.declared.message.Started.{Started}
 use Rattle.link_core.specs.Link.{LinkState, Starting, Settling, no_boundary, is_full, is_held_back, started_one, started_each, started_all}

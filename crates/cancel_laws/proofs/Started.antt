@@ -1,6 +1,6 @@
 -- A submission that is handed in after the link's connect has started.
 use Rattle.std.proofs.Common.{◌≡◌, ◌≢◌, ℕ, ◌==◌, Bool, true, false, List, [], ◌∷◌, length, Some, slice_get, refl, sym, ◌∙◌, subst, arith}
-use Rattle.containers.proofs.Tests.{chosen, ne_test, not_both}
+use Rattle.containers.proofs.Choices.{chosen, ne_test, not_both}
 use Rattle.driver_model.specs.declared.config.Config.{Config}
 use Rattle.driver_model.specs.declared.event.EventKind.TheVariants as event
 use Rattle.driver_model.specs.declared.event.Submission.{Submission}

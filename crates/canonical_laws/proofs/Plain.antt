@@ -7,7 +7,7 @@ use Rattle.std.specs.Char.{digit_value}
 use Rattle.std.specs.Fmt.{signed_decimal}
 use Rattle.std.specs.Prelude.{ℤ, pos, negsuc, neg_ℤ, decimal, nat_lt, ◌==◌, ◌||◌, option_map, bytes_eq}
 use Rattle.std.specs.Str.Parse.{AllDigits, digits_value}
-use Rattle.containers.proofs.Tests.{taken_if}
+use Rattle.containers.proofs.Choices.{taken_if}
 use Rattle.resp_value.specs.declared.server_error.ServerError.{ServerError}
 use Rattle.resp_value.specs.Data.{Data, nil, int, bulk, array, simple, okay, dict, attribute, set, double, boolean, verbatim, big, push, error}
 use Rattle.resp_read.specs.Grammar.{Limits, read, short, found_and_then, found_map, Table, form, number, is_double, is_big, body, before_space, after_space, error_of, simple_line, error_line, number_line, null_line, boolean_line, double_line, big_line, bulk_of, error_body, format, colon, text_of, verbatim_of}

@@ -1,6 +1,6 @@
 -- What is done stays done while messages start, are written and wait.
 use Rattle.std.proofs.Common.{◌≡◌, ◌≢◌, ◌⊎◌, inl, inr, ℕ, ◌==◌, true, List, [], ◌∷◌, Option, None, if◌then◌else◌, refl, sym, subst}
-use Rattle.containers.proofs.Tests.{chosen, eq_from, eq_test, if_true}
+use Rattle.containers.proofs.Choices.{chosen, eq_from, eq_test, if_true}
 use Rattle.driver_model.specs.declared.action.Action.{Action}
 use Rattle.driver_model.specs.declared.action.Action.TheVariants as action
 use Rattle.driver_model.specs.declared.action.Owner.TheVariants as owner

@@ -1,6 +1,6 @@
 -- What a legal trace tells of each link is legal.
 use Rattle.std.proofs.Common.{◌≡◌, ◌≢◌, inl, inr, ℕ, ◌-◌, ◌≤◌, ◌==◌, nat_lt, Bool, true, false, ◌&&◌, not, List, [], ◌∷◌, length, ◌||◌, is_some, arith, refl, sym, ◌∙◌, subst, ap}
-use Rattle.containers.proofs.Tests.{chosen, eq_from, or_right, not_lt_from}
+use Rattle.containers.proofs.Choices.{chosen, eq_from, or_right, not_lt_from}
 use Rattle.driver_model.specs.declared.action.Action.{Action}
 use Rattle.driver_model.specs.declared.action.Action.TheVariants as action
 use Rattle.driver_model.specs.declared.action.Cause.TheVariants as cause

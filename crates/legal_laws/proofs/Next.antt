@@ -1,6 +1,6 @@
 -- At most one action may stand next.
 use Rattle.std.proofs.Common.{◌≡◌, ◌⊎◌, inl, inr, ℕ, zero, suc, ◌<◌, ◌≤◌, nat_lt, Bool, true, false, List, [], length, Some, None, refl, sym, ◌∙◌, subst, ap, arith}
-use Rattle.containers.proofs.Tests.{by_test, lt_from, not_lt_from, not_both}
+use Rattle.containers.proofs.Choices.{by_test, lt_from, not_lt_from, not_both}
 use Rattle.driver_model.specs.declared.action.Action.{Action}
 use Rattle.driver_model.specs.declared.action.Action.TheVariants as action
 use Rattle.driver_model.specs.declared.action.Cause.TheVariants as cause

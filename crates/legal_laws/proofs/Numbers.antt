@@ -1,6 +1,6 @@
 -- Links and submissions are numbered in order.
 use Rattle.std.proofs.Common.{◌≡◌, ◌≢◌, ◌⊎◌, inl, inr, ℕ, ◌+◌, ◌-◌, ◌<◌, ◌≤◌, ◌==◌, nat_le, Bool, true, false, if◌then◌else◌, refl, sym, ◌∙◌, subst, arith}
-use Rattle.containers.proofs.Tests.{by_test, left_if, le_from, not_le_from, ne_test, ne_from, not_both}
+use Rattle.containers.proofs.Choices.{by_test, left_if, le_from, not_le_from, ne_test, ne_from, not_both}
 use Rattle.driver_model.specs.declared.action.Action.{Action}
 use Rattle.driver_model.specs.declared.action.Action.TheVariants as action
 use Rattle.driver_model.specs.declared.action.Cause.TheVariants as cause

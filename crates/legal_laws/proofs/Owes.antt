@@ -1,7 +1,7 @@
 -- When a submission is owed nothing, and that it stays so while messages start.
 use Rattle.std.proofs.Common.{◌≡◌, ◌≢◌, ℕ, ◌+◌, ◌<◌, ◌≤◌, ◌==◌, nat_le, Bool, true, false, [], ◌∷◌, ◌++◌, length, take, Option, Some, None, if◌then◌else◌, refl, ◌∙◌, ap, arith, length-append}
 use Rattle.std.proofs.lemmas.List.{take-append-le, take_all}
-use Rattle.containers.proofs.Tests.{not_le_test, left_if, not_both, eq_test}
+use Rattle.containers.proofs.Choices.{not_le_test, left_if, not_both, eq_test}
 use Rattle.redis_error.specs.declared.redis_error.RedisError.TheVariants as error
 use Rattle.driver_model.specs.declared.outcome.Outcome.{Outcome}
 use Rattle.driver_model.specs.declared.outcome.Outcome.TheVariants as outcome

@@ -1,6 +1,6 @@
 -- In which order things are due: each action has a rank, and what comes later asks that all before it is done.
 use Rattle.std.proofs.Common.{◌≡◌, ◌≢◌, ◌⊎◌, inl, inr, ℕ, zero, suc, ◌<◌, ◌≤◌, ◌==◌, nat_lt, Bool, true, false, ◌&&◌, not, List, [], Some, None, if◌then◌else◌, refl, sym, ◌∙◌, subst, ap, arith}
-use Rattle.containers.proofs.Tests.{by_test, eq_from, ne_from, left_if, lt_from, not_lt_from}
+use Rattle.containers.proofs.Choices.{by_test, eq_from, ne_from, left_if, lt_from, not_lt_from}
 use Rattle.driver_model.specs.declared.action.Action.{Action}
 use Rattle.driver_model.specs.declared.action.Action.TheVariants as action
 use Rattle.driver_model.specs.declared.action.Cause.TheVariants as cause

@@ -1,6 +1,6 @@
 -- The actions of a turn stand segment by segment.
 use Rattle.std.proofs.Common.{◌⊎◌, inl, inr, ℕ, zero, suc, ◌<◌, ◌≤◌, nat_le, List, [], ◌∷◌, arith}
-use Rattle.containers.proofs.Tests.{by_test, le_from, not_le_from}
+use Rattle.containers.proofs.Choices.{by_test, le_from, not_le_from}
 use Rattle.driver_model.specs.declared.action.Action.{Action}
 use Rattle.driver_model.specs.declared.action.Action.TheVariants as action
 use Rattle.driver_model.specs.declared.action.Cause.TheVariants as cause

@@ -1,6 +1,6 @@
 -- What every link hears of a shutdown.
 use Rattle.std.proofs.Common.{◌≡◌, ℕ, ◌-◌, ◌==◌, Bool, true, false, ◌&&◌, ◌||◌, not, Option, Some, None, is_some, if◌then◌else◌, refl, sym, ◌∙◌, subst}
-use Rattle.containers.proofs.Tests.{not_both}
+use Rattle.containers.proofs.Choices.{not_both}
 use Rattle.driver_model.specs.declared.action.Action.{Action}
 use Rattle.driver_model.specs.declared.action.Action.TheVariants as action
 use Rattle.driver_model.specs.declared.action.Cause.TheVariants as cause

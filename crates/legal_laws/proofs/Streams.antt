@@ -2,7 +2,7 @@
 use Rattle.std.proofs.Common.{◌≡◌, ℕ, true, List, [], ◌∷◌, ◌++◌, length, take, drop, refl, sym, ◌∙◌, ap, subst, append_assoc}
 use Rattle.std.proofs.lemmas.List.{append-nil, take-append-drop}
 use Rattle.std.proofs.Math.Seq.{drop-append_seam}
-use Rattle.containers.proofs.Tests.{chosen}
+use Rattle.containers.proofs.Choices.{chosen}
 use Rattle.driver_model.specs.News.{News, silence, connected, took, came, failed, shut}
 use Rattle.legal_trace.specs.Ledger.{Ledger, Line, asks, hears, begins, offers, ends, blank_ledger, noted, noted_each, with_news, bytes_came, is_over, joined, stream, MayNote, AllNoted, LinkLegal}
 use Rattle.legal_trace.proofs.Ledgers.{joined_more}

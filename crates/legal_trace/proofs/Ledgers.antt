@@ -1,6 +1,6 @@
 -- What holds of any ledger, and what lines do to it.
 use Rattle.std.proofs.Common.{◌≡◌, ◌≢◌, ℕ, ◌+◌, ◌-◌, ◌<◌, ◌≤◌, ◌==◌, min, if◌then◌else◌, Bool, true, false, List, [], ◌∷◌, ◌++◌, length, take, drop, None, refl, sym, ap, ◌∙◌, subst, arith, append_assoc, length-append}
-use Rattle.containers.proofs.Tests.{chosen, if_false, ne_from}
+use Rattle.containers.proofs.Choices.{chosen, if_false, ne_from}
 use Rattle.std.proofs.lemmas.List.{append-nil, length-take}
 use Rattle.resp_read.specs.Values.{left_over}
 use Rattle.resp_read.specs.Items.{items}

@@ -1,6 +1,6 @@
 -- What alike rows come to.
 use Rattle.std.proofs.Common.{◌≡◌, ℕ, ◌==◌, nat_lt, Bool, true, false, List, [], ◌∷◌, ◌++◌, length, if◌then◌else◌, refl, sym, ap, ◌∙◌, subst, inl, inr}
-use Rattle.containers.proofs.Tests.{taken_if, eq_test}
+use Rattle.containers.proofs.Choices.{taken_if, eq_test}
 use Rattle.resp_value.specs.Data.{Data}
 use Rattle.redis_error.specs.declared.redis_error.RedisError.{RedisError}
 use Rattle.driver_model.specs.Shape.{need, verdict}

@@ -1,6 +1,6 @@
 -- The size of a queue and the boundary of a link, at the number itself and beside it.
 use Rattle.std.proofs.Common.{◌≡◌, ◌+◌, ◌<◌, nat_lt, nat_le, Bool, true, false, ◌&&◌, length, refl, arith}
-use Rattle.containers.proofs.Tests.{le_test, not_le_test}
+use Rattle.containers.proofs.Choices.{le_test, not_le_test}
 use Rattle.link_core.specs.Link.{LinkState, is_full, is_held_back, no_boundary}
 use Rattle.link_laws.proofs.Choices.{lt_test, not_lt_test}
 

@@ -1,6 +1,6 @@
 -- A cancel of a started message: from then on its link does all as it would have, but for that message's own verdict.
 use Rattle.std.proofs.Common.{◌≡◌, ℕ, ◌==◌, Bool, true, false, List, [], ◌∷◌, ◌++◌, if◌then◌else◌, refl, sym, ap, subst, inl, inr}
-use Rattle.containers.proofs.Tests.{eq_from}
+use Rattle.containers.proofs.Choices.{eq_from}
 use Rattle.redis_error.specs.declared.redis_error.RedisError.TheVariants as error
 use Rattle.resp_read.specs.Items.{items}
 use Rattle.driver_model.specs.declared.news.LinkFault.{LinkFault}

@@ -3,7 +3,7 @@ use Rattle.std.proofs.Common.{◌≡◌, ℕ, suc, ◌+◌, ◌-◌, ◌<◌, �
 use Rattle.std.specs.List.{AllByRecursion}
 use Rattle.std.proofs.lemmas.List.{append-nil, drop-append-le, take_all, take-append-le, length_push, drop-drop}
 use Rattle.containers.proofs.Places.{get_within}
-use Rattle.containers.proofs.Tests.{by_test, chosen, if_true, if_false, le_from, not_le_from, le_test, not_le_test, lt_from, not_lt_from}
+use Rattle.containers.proofs.Choices.{by_test, chosen, if_true, if_false, le_from, not_le_from, le_test, not_le_test, lt_from, not_lt_from}
 use Rattle.resp_value.specs.Data.{Data}
 use Rattle.driver_model.specs.declared.action.Owner.{Owner}
 use Rattle.driver_model.specs.declared.outcome.Shape.{Shape}

@@ -1,7 +1,7 @@
 -- Bytes that come in pieces, and the pushes among their values.
 use Rattle.std.proofs.Common.{◌≡◌, ℕ, nat_lt, Bool, true, false, if◌then◌else◌, List, [], ◌∷◌, ◌++◌, length, refl, sym, ap, ◌∙◌, subst, append_assoc}
 use Rattle.std.proofs.lemmas.List.{append-nil}
-use Rattle.containers.proofs.Tests.{chosen, if_true, if_false, not_both}
+use Rattle.containers.proofs.Choices.{chosen, if_true, if_false, not_both}
 use Rattle.resp_value.specs.Data.{Data, Items, push, list_of}
 use Rattle.resp_value.specs.declared.push_kind.PushKind.{PushKind}
 use Rattle.resp_read.specs.Values.{values, left_over, is_spoiled}

@@ -1,7 +1,7 @@
 -- The messages of a ledger that take more items, and where they stand.
 use Rattle.std.proofs.Common.{◌≡◌, ℕ, zero, suc, ◌+◌, ◌<◌, ◌≤◌, nat_le, true, if◌then◌else◌, List, [], ◌∷◌, ◌++◌, length, take, drop, Some, slice_get, refl, ap, subst, arith, length-drop, length-append}
 use Rattle.std.proofs.lemmas.List.{drop-append-le, length_push, drop_all}
-use Rattle.containers.proofs.Tests.{by_test, le_from, not_le_from, le_test, not_le_test}
+use Rattle.containers.proofs.Choices.{by_test, le_from, not_le_from, le_test, not_le_test}
 use Rattle.resp_value.specs.Data.{Data}
 use Rattle.driver_model.specs.declared.action.Owner.{Owner}
 use Rattle.driver_model.specs.declared.outcome.Shape.{Shape}

@@ -2,7 +2,7 @@
 use Rattle.std.proofs.Common.{◌≡◌, ◌-◌, ◌≢◌, ◌⊎◌, inl, inr, ℕ, ◌==◌, nat_le, Bool, true, false, ◌||◌, List, [], ◌∷◌, ◌++◌, length, Some, None, refl, sym, ap, ◌∙◌, subst, append_assoc}
 use Rattle.std.specs.List.{AllByRecursion}
 use Rattle.std.proofs.lemmas.List.{append-nil}
-use Rattle.containers.proofs.Tests.{not_both, chosen, if_true, if_false, taken_if, le_from, ne_from, or_right}
+use Rattle.containers.proofs.Choices.{not_both, chosen, if_true, if_false, taken_if, le_from, ne_from, or_right}
 use Rattle.resp_read.specs.Values.{is_spoiled}
 use Rattle.resp_read.proofs.ValueLaws.{values-empty}
 use Rattle.driver_model.specs.declared.action.Owner.{Owner}

@@ -1,7 +1,7 @@
 -- Through a run, each message whose verdict is wanted is settled once, in order, and the end settles all that are left.
 use Rattle.std.proofs.Common.{◌≡◌, ℕ, ◌==◌, nat_le, true, false, ◌||◌, if◌then◌else◌, List, [], ◌∷◌, ◌++◌, length, refl, sym, ap, ◌∙◌, append_assoc}
 use Rattle.std.proofs.lemmas.List.{append-nil}
-use Rattle.containers.proofs.Tests.{chosen, if_true, if_false, not_both}
+use Rattle.containers.proofs.Choices.{chosen, if_true, if_false, not_both}
 use Rattle.resp_read.specs.Items.{items}
 use Rattle.driver_model.specs.declared.action.Owner.{Owner}
 use Rattle.driver_model.specs.declared.news.LinkFault.{LinkFault}

@@ -1,7 +1,7 @@
 -- What a link settles is what its ledger owes.
 use Rattle.std.proofs.Common.{◌≡◌, ℕ, suc, ◌+◌, ◌-◌, ◌<◌, ◌≤◌, ◌==◌, nat_le, Bool, true, false, List, [], ◌∷◌, length, take, drop, Some, None, slice_get, refl, sym, ap, ◌∙◌, subst, arith, add-one, length-drop}
 use Rattle.std.specs.List.{AllByRecursion}
-use Rattle.containers.proofs.Tests.{chosen, taken_if, left_if, le_from, not_le_from, le_test, not_le_test, eq_test, ne_test}
+use Rattle.containers.proofs.Choices.{chosen, taken_if, left_if, le_from, not_le_from, le_test, not_le_test, eq_test, ne_test}
 use Rattle.resp_value.specs.Data.{Data}
 use Rattle.redis_error.specs.declared.redis_error.RedisError.{RedisError}
 use Rattle.redis_error.specs.declared.redis_error.RedisError.TheVariants as error

@@ -1,7 +1,7 @@
 -- Started messages by their numbers: those that take more items, those that are full, and those of one call.
 use Rattle.std.proofs.Common.{◌≡◌, ◌⊎◌, inl, inr, ℕ, suc, ◌+◌, ◌<◌, ◌≤◌, ◌==◌, nat_lt, true, false, List, [], ◌∷◌, ◌++◌, length, Some, None, slice_get, refl, sym, ap, ◌∙◌, subst, append_assoc, arith}
 use Rattle.std.proofs.lemmas.List.{append-nil}
-use Rattle.containers.proofs.Tests.{by_test, left_if, eq_from, ne_from, lt_from, not_lt_from}
+use Rattle.containers.proofs.Choices.{by_test, left_if, eq_from, ne_from, lt_from, not_lt_from}
 use Rattle.driver_model.specs.declared.action.Owner.{Owner}
 use Rattle.link_core.specs.declared.message.Entry.{Entry}
 use Rattle.link_core.specs.declared.message.Queued.{Queued}

@@ -3,7 +3,7 @@ use Rattle.std.proofs.Common.{◌≡◌, ◌≢◌, if◌then◌else◌, ◌⊎�
 use Rattle.std.specs.List.{AllByRecursion}
 use Rattle.std.proofs.Math.Seq.{drop-append_seam}
 use Rattle.std.proofs.lemmas.List.{take-append-le, take_all, take-take, take-append-drop, length_push}
-use Rattle.containers.proofs.Tests.{left_if, by_test, chosen, if_true, if_false, both_left, both_right, eq_from, ne_from, ne_test}
+use Rattle.containers.proofs.Choices.{left_if, by_test, chosen, if_true, if_false, both_left, both_right, eq_from, ne_from, ne_test}
 use Rattle.resp_value.specs.Data.{Data}
 use Rattle.resp_read.specs.Values.{left_over, is_spoiled}
 use Rattle.resp_read.specs.Items.{items}

@@ -1,7 +1,7 @@
 -- Which entry of those that wait is a request's.
 use Rattle.std.proofs.Common.{◌≡◌, ℕ, ◌+◌, ◌<◌, ◌≤◌, true, false, List, [], ◌∷◌, length, drop, get_or, None, Some, ap, ◌∙◌}
 use Rattle.std.proofs.lemmas.List.{drop_all}
-use Rattle.containers.proofs.Tests.{taken_if, left_if}
+use Rattle.containers.proofs.Choices.{taken_if, left_if}
 use Rattle.link_core.proofs.FirstLemmas.{from_index}
 use Rattle.mux_conn.specs.declared.request.Waiting.{Waiting}
 use Rattle.mux_conn.specs.Passes.{is_of, entry_of}

@@ -3,7 +3,7 @@ use Rattle.std.proofs.Common.{◌≡◌, ℕ, ◌+◌, ◌-◌, ◌*◌, ◌≤�
 use Rattle.std.proofs.lemmas.List.{append-nil}
 use Rattle.std.proofs.lemmas.Bool.Decides.{nat_tests}
 use Rattle.std.specs.Prelude.{◌&&◌, ◌||◌, ◌==◌, nat_le, nat_lt, is_some}
-use Rattle.containers.proofs.Tests.{both_true}
+use Rattle.containers.proofs.Choices.{both_true}
 use Rattle.resp_read.specs.Grammar.{max_line, fits, is_digit, digits_after, at_most, natural, at_least, count, made_by, count_begun, count_line, reader_limits}
 use Rattle.resp_read.proofs.LineLaws.{IsOneLine, LawfulLine, fits_is, fits_within}
 use Rattle.resp_read.proofs.Numbers.{Begins, natural_stays, one_of_two, neither}

@@ -4,7 +4,7 @@ use Rattle.std.specs.Prelude.{◌==◌, ◌&&◌, nat_le}
 use Rattle.std.specs.List.{onto_first, list_all}
 use Rattle.std.proofs.lemmas.Bool.Decides.{nat_tests}
 use Rattle.std.proofs.lemmas.List.{append-nil}
-use Rattle.containers.proofs.Tests.{both_true}
+use Rattle.containers.proofs.Choices.{both_true}
 use Rattle.script_text.specs.Words.{parts}
 use Rattle.script_text.specs.Script.{max_line, max_text}
 use Rattle.script_text.specs.Limits.{last_of, is_short, keeps_limits, is_within, Counts}

@@ -1,7 +1,7 @@
 -- A request is closed, and with it its submission, by an outcome or by the leave of its caller.
 use Rattle.std.proofs.Common.{◌≡◌, ◌≢◌, inl, inr, ℕ, ◌<◌, ◌==◌, Bool, false, List, [], ◌∷◌, length, Option, Some, None, slice_get, refl, sym, ap, ◌∙◌, subst}
 use Rattle.std.specs.List.{AllByRecursion}
-use Rattle.containers.proofs.Tests.{chosen, left_if, eq_from, ne_from, ne_test}
+use Rattle.containers.proofs.Choices.{chosen, left_if, eq_from, ne_from, ne_test}
 use Rattle.containers.proofs.Places.{get_within}
 use Rattle.driver_model.specs.declared.outcome.Shape.{Shape}
 use Rattle.link_core.specs.declared.message.Queued.{Queued}

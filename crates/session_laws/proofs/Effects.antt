@@ -1,6 +1,6 @@
 -- The event's own effect: each kind of event leaves the session tied to its book, and nothing due but what moves.
 use Rattle.std.proofs.Common.{◌≡◌, ℕ, ◌==◌, ◌&&◌, false, List, [], ◌∷◌, ◌++◌, refl, sym, ◌∙◌, subst}
-use Rattle.containers.proofs.Tests.{or_left, or_right, eq_test, not_le_from, not_lt_from}
+use Rattle.containers.proofs.Choices.{or_left, or_right, eq_test, not_le_from, not_lt_from}
 use Rattle.driver_model.specs.declared.action.Action.{Action}
 use Rattle.driver_model.specs.declared.event.EventKind.{EventKind}
 use Rattle.driver_model.specs.declared.event.EventKind.TheVariants as event

@@ -1,7 +1,7 @@
 -- A fault ends the connection's link, or the shutdown does.
 use Rattle.std.proofs.Common.{◌≡◌, ◌≢◌, ℕ, ◌-◌, true, false, List, [], ◌∷◌, ◌++◌, Some, None, refl, sym, ap, ◌∙◌, subst, ◌&&◌, not, is_some, arith}
 use Rattle.std.specs.List.{AllByRecursion}
-use Rattle.containers.proofs.Tests.{taken_if, left_if}
+use Rattle.containers.proofs.Choices.{taken_if, left_if}
 use Rattle.driver_model.specs.declared.action.Action.{Action}
 use Rattle.driver_model.specs.declared.action.Owner.{Owner}
 use Rattle.driver_model.specs.declared.event.EventKind.{EventKind}

@@ -1,6 +1,6 @@
 -- The turn of an event with news: how it begins, and where no act follows.
 use Rattle.std.proofs.Common.{◌≡◌, ◌≢◌, ℕ, ◌==◌, false, ◌&&◌, not, List, [], ◌∷◌, ◌++◌, Option, None, if◌then◌else◌, refl, sym, ap, ◌∙◌, subst, arith}
-use Rattle.containers.proofs.Tests.{by_test, chosen, if_false, left_if, eq_from, ne_from, not_both}
+use Rattle.containers.proofs.Choices.{by_test, chosen, if_false, left_if, eq_from, ne_from, not_both}
 use Rattle.driver_model.specs.declared.action.Action.{Action}
 use Rattle.driver_model.specs.declared.event.EventKind.{EventKind}
 use Rattle.driver_model.specs.News.{News, silence, connected, took, came, failed, shut, news}

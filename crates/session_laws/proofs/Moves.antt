@@ -1,6 +1,6 @@
 -- Whose message may start.
 use Rattle.std.proofs.Common.{List, [], ap, arith, inl, inr, length, refl, subst, sym, true, ℕ, ◌++◌, ◌<◌, ◌∙◌, ◌∷◌, ◌≡◌, ◌≢◌}
-use Rattle.containers.proofs.Tests.{not_both}
+use Rattle.containers.proofs.Choices.{not_both}
 use Rattle.link_laws.proofs.Started.{row_open}
 use Rattle.link_laws.specs.Settles.{StandsAs, wanted}
 use Rattle.mux_conn.specs.Requests.{name_at}

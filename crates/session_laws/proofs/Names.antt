@@ -1,7 +1,7 @@
 -- Requests by their numbers, and their names.
 use Rattle.std.proofs.Common.{◌≡◌, ◌≢◌, ◌⊎◌, inl, inr, ℕ, zero, suc, ◌<◌, ◌==◌, nat_lt, Bool, true, false, List, [], ◌∷◌, ◌++◌, length, Option, Some, None, slice_get, slice_set, refl, sym, ap, ◌∙◌, arith, length-set}
 use Rattle.containers.proofs.Places.{get_set_same, get_set_other, get_within}
-use Rattle.containers.proofs.Tests.{by_test, not_both, eq_from, ne_from, lt_from, not_lt_from}
+use Rattle.containers.proofs.Choices.{by_test, not_both, eq_from, ne_from, lt_from, not_lt_from}
 use Rattle.driver_model.specs.declared.action.Owner.TheVariants as owner
 use Rattle.link_laws.proofs.Lists.{get_before, get_last}
 use Rattle.mux_conn.specs.declared.request.Pending.{Pending}

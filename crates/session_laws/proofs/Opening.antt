@@ -1,7 +1,7 @@
 -- The opening: the first link is asked for.
 use Rattle.std.proofs.Common.{List, None, [], ap, arith, refl, subst, sym, ℕ, ◌∙◌, ◌∷◌, ◌≡◌, ◌≢◌}
 use Rattle.std.specs.Prelude.{◌==◌}
-use Rattle.containers.proofs.Tests.{chosen, left_if, ne_test}
+use Rattle.containers.proofs.Choices.{chosen, left_if, ne_test}
 use Rattle.resp_value.specs.declared.value.Value.TheVariants.{Nil}
 use Rattle.driver_model.specs.declared.action.Action.TheVariants as action
 use Rattle.driver_model.specs.declared.action.Cause.TheVariants as cause

@@ -4,7 +4,7 @@ use Rattle.std.proofs.Common.{List, None, Option, Some, [], ap, arith, inl, inr,
 use Rattle.std.proofs.lemmas.List.{length_push}
 use Rattle.std.specs.Prelude.{◌&&◌, ◌==◌}
 use Rattle.containers.proofs.Places.{get_set_other, get_set_same}
-use Rattle.containers.proofs.Tests.{both_left, by_test, chosen, eq_from, le_from, ne_from, not_both, not_le_from}
+use Rattle.containers.proofs.Choices.{both_left, by_test, chosen, eq_from, le_from, ne_from, not_both, not_le_from}
 use Rattle.driver_model.specs.declared.action.Action.{Action}
 use Rattle.driver_model.specs.declared.action.Action.TheVariants as action
 use Rattle.driver_model.specs.declared.action.Cause.TheVariants as cause

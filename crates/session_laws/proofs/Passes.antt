@@ -3,7 +3,7 @@ use Rattle.mux_conn.specs.Passes.{started}
 use Rattle.std.proofs.Common.{List, [], ap, false, inl, inr, length, nat_le, refl, slice_set, subst, suc, sym, true, zero, ℕ, ◌++◌, ◌<◌, ◌∙◌, ◌∷◌, ◌≡◌}
 use Rattle.std.proofs.lemmas.List.{append-nil}
 use Rattle.std.specs.Prelude.{◌==◌}
-use Rattle.containers.proofs.Tests.{chosen, eq_from, if_false, if_true}
+use Rattle.containers.proofs.Choices.{chosen, eq_from, if_false, if_true}
 use Rattle.resp_value.specs.declared.value.Value.TheVariants.{Nil}
 use Rattle.driver_model.specs.declared.action.Action.{Action}
 use Rattle.driver_model.specs.declared.action.Action.TheVariants as action

@@ -2,7 +2,7 @@
 use Rattle.std.proofs.Common.{Bool, List, None, Option, Some, [], ap, arith, false, inl, inr, length, refl, slice_get, subst, sym, true, ℕ, ◌++◌, ◌<◌, ◌∙◌, ◌∷◌, ◌≡◌, ◌⊎◌}
 use Rattle.std.specs.List.{AllByRecursion}
 use Rattle.std.specs.Prelude.{if◌then◌else◌, ◌==◌}
-use Rattle.containers.proofs.Tests.{by_test, eq_from, eq_test, ne_from, not_both, taken_if}
+use Rattle.containers.proofs.Choices.{by_test, eq_from, eq_test, ne_from, not_both, taken_if}
 use Rattle.resp_value.specs.declared.value.Value.TheVariants.{Nil}
 use Rattle.resp_read.specs.Grammar.{line}
 use Rattle.driver_model.specs.declared.action.Action.TheVariants as action

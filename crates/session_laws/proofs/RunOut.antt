@@ -2,7 +2,7 @@
 use Rattle.std.proofs.Common.{Bool, List, None, Option, Some, [], ap, arith, false, inl, inr, length, nat_le, refl, slice_get, subst, suc, sym, true, ℕ, ◌++◌, ◌+◌, ◌<◌, ◌∙◌, ◌∷◌, ◌≡◌, ◌≤◌, ◌⊎◌}
 use Rattle.std.specs.Prelude.{if◌then◌else◌, ◌==◌, ◌^◌, ◌||◌}
 use Rattle.containers.proofs.Places.{get_within}
-use Rattle.containers.proofs.Tests.{by_test, chosen, eq_from, le_from, le_test, ne_from}
+use Rattle.containers.proofs.Choices.{by_test, chosen, eq_from, le_from, le_test, ne_from}
 use Rattle.redis_error.specs.declared.redis_error.RedisError.TheVariants as error
 use Rattle.driver_model.specs.Request.{packed}
 use Rattle.driver_model.specs.declared.config.Config.{Config}

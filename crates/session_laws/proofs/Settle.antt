@@ -1,7 +1,7 @@
 -- Those that are to be answered are, one after another.
 use Rattle.std.proofs.Common.{is_some, ◌≡◌, inl, ℕ, suc, true, false, List, [], ◌∷◌, ◌++◌, length, Option, Some, refl, sym, ap, ◌∙◌, subst, arith}
 use Rattle.std.specs.List.{AllByRecursion}
-use Rattle.containers.proofs.Tests.{chosen, not_both}
+use Rattle.containers.proofs.Choices.{chosen, not_both}
 use Rattle.driver_model.specs.declared.action.Action.{Action}
 use Rattle.driver_model.specs.declared.outcome.Outcome.{Outcome}
 use Rattle.driver_model.specs.Shape.{outcome_of}

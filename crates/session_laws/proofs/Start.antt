@@ -3,7 +3,7 @@ use Rattle.std.proofs.Common.{List, None, Some, [], ap, append_assoc, arith, inl
 use Rattle.std.proofs.lemmas.List.{append-nil}
 use Rattle.std.specs.Prelude.{if◌then◌else◌, ◌==◌}
 use Rattle.containers.proofs.Places.{get_within}
-use Rattle.containers.proofs.Tests.{chosen, eq_test, left_if, ne_test, taken_if}
+use Rattle.containers.proofs.Choices.{chosen, eq_test, left_if, ne_test, taken_if}
 use Rattle.resp_read.specs.Frames.{within}
 use Rattle.driver_model.specs.Shape.{need}
 use Rattle.driver_model.specs.declared.action.Action.{Action}

@@ -2,7 +2,7 @@
 use Rattle.std.proofs.Common.{List, [], ap, append_assoc, inl, inr, length, refl, subst, sym, true, ℕ, ◌++◌, ◌<◌, ◌∙◌, ◌∷◌, ◌≡◌, ◌⊎◌}
 use Rattle.std.proofs.lemmas.List.{append-nil}
 use Rattle.std.specs.Prelude.{◌==◌}
-use Rattle.containers.proofs.Tests.{by_test, chosen, if_false, ne_from}
+use Rattle.containers.proofs.Choices.{by_test, chosen, if_false, ne_from}
 use Rattle.driver_model.specs.Shape.{need}
 use Rattle.driver_model.specs.declared.action.Action.{Action}
 use Rattle.link_core.specs.Link.{LinkState, Starting, is_held_back, no_boundary, start_of, started_each, started_one}

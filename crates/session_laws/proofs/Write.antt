@@ -1,7 +1,7 @@
 -- All bytes of a link are offered.
 use Rattle.std.proofs.Common.{Bool, List, [], arith, false, length, not, refl, subst, sym, true, ◌∙◌, ◌≡◌}
 use Rattle.std.specs.Prelude.{◌&&◌, ◌==◌}
-use Rattle.containers.proofs.Tests.{by_test, chosen, eq_from, ne_from, not_both}
+use Rattle.containers.proofs.Choices.{by_test, chosen, eq_from, ne_from, not_both}
 use Rattle.driver_model.specs.declared.action.Action.{Action}
 use Rattle.driver_model.specs.declared.action.Action.TheVariants as action
 use Rattle.link_core.specs.Link.{LinkState, offered_of}

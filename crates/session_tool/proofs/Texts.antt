@@ -3,7 +3,7 @@ use Rattle.std.proofs.Common.{◌≡◌, ◌≤◌, ◌<◌, ◌-◌, ℕ, true,
 use Rattle.std.proofs.lemmas.List.{append-nil, length-take-le}
 use Rattle.std.proofs.lemmas.Bool.{leb-true, both_ways}
 use Rattle.std.specs.Prelude.{Result, Ok, IsErr, is_err, nat_le}
-use Rattle.containers.proofs.Tests.{both_left}
+use Rattle.containers.proofs.Choices.{both_left}
 use Rattle.outside.specs.Ends.{Gave, IsAtEnd}
 use Rattle.script_text.specs.Limits.{keeps_limits, is_short, lines_begun}
 use Rattle.script_text.specs.Script.{max_text, max_lines, script_of}

@@ -1,7 +1,7 @@
 -- A number that has run out in the passes has run out in the turn.
 use Rattle.std.proofs.Common.{◌≡◌, ◌⊎◌, inl, inr, ℕ, ◌^◌, ◌<◌, nat_le, ◌||◌, Bool, true, false, Option, Some, None, refl, sym, ap, subst, ◌∙◌, arith, length}
 use Rattle.std.proofs.lemmas.Bool.Decides.{nat_tests}
-use Rattle.containers.proofs.Tests.{or_right}
+use Rattle.containers.proofs.Choices.{or_right}
 use Rattle.driver_model.specs.declared.event.EventKind.{EventKind}
 use Rattle.mux_conn.specs.declared.errors.ConnectionError.{ConnectionError}
 use Rattle.mux_conn.specs.Connection.{is_spent_in}

@@ -1,6 +1,6 @@
 -- A good event says no more than was offered, and names what was given out.
 use Rattle.std.proofs.Common.{◌≡◌, refl, arith, ℕ, ◌<◌, ◌≤◌, ◌==◌, nat_lt, nat_le, ◌&&◌, ◌||◌, Bool, true, false, length}
-use Rattle.containers.proofs.Tests.{not_le_from, not_lt_from, or_right}
+use Rattle.containers.proofs.Choices.{not_le_from, not_lt_from, or_right}
 use Rattle.driver_model.specs.declared.event.EventKind.{EventKind}
 use Rattle.driver_model.specs.declared.event.EventKind.TheVariants as event
 use Rattle.driver_model.specs.News.{News, silence, connected, took, came, failed, shut, for_link, news}

@@ -17,7 +17,7 @@ use Rattle.script_text.specs.EventLine.{by_first, commands, submissions, faults,
 use Rattle.script_text.specs.Words.{LineWords, all_of}
 use Rattle.legal_trace.specs.Legal.{event_causes}
 use Rattle.trace_text.specs.Show.{url, draw_words, config_words, first_of, behind_first, submission_words, submission_more, event_words, event_more}
-use Rattle.containers.proofs.Tests.{chosen, eq_from, eq_test, ne_test}
+use Rattle.containers.proofs.Choices.{chosen, eq_from, eq_test, ne_test}
 use Rattle.text_laws.specs.Fits.{FitsSubmission, FitsKind, FitsEvent, FitsConfig, FitsHistory, HasForm, HaveForms}
 use Rattle.text_laws.specs.History.{drawn, onto_cut, cut_at_last, config_from, config_in, opening_in, drawing, event_in, script_with, history_in}
 use Rattle.text_laws.proofs.Bytes.{number_back, decimal_no_colon}

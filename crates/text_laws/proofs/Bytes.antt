@@ -21,7 +21,7 @@ use Rattle.redis_error.specs.declared.fault_kind.FaultKind.TheVariants as fault
 use Rattle.redis_error.specs.Names.{fault_name}
 use Rattle.script_text.specs.Numbers.{is_decimal, number}
 use Rattle.trace_text.specs.Show.{address, url, bare_words, draw_words, config_words, first_of, behind_first, submission_words, submission_more, event_words, event_more, cause_words, cause_more}
-use Rattle.containers.proofs.Tests.{chosen, lt_from, not_lt_from, le_test}
+use Rattle.containers.proofs.Choices.{chosen, lt_from, not_lt_from, le_test}
 use Rattle.text_laws.specs.Fits.{IsByte, AreBytes, FitsSubmission, FitsKind, FitsEvent, FitsConfig}
 
 -- a text whose bytes were looked at one by one

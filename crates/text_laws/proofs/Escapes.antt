@@ -10,7 +10,7 @@ use Rattle.percent_encoding.specs.Percent.{percent_encode_byte, percent_decode}
 use Rattle.percent_encoding.proofs.PercentLemmas.{percent_decode-nil, percent_decode_not_percent, percent_decode-percent_encode_byte}
 use Rattle.script_text.specs.Words.{begins_with_hex, is_well_escaped, unescaped}
 use Rattle.script_text.specs.Words.{is_separator as parts_commands}
-use Rattle.containers.proofs.Tests.{chosen}
+use Rattle.containers.proofs.Choices.{chosen}
 use Rattle.trace_text.specs.Words.{is_plain, escaped_byte, is_separator, escaped}
 use Rattle.text_laws.specs.Fits.{IsByte, AreBytes}
 

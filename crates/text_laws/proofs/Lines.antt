@@ -11,7 +11,7 @@ use Rattle.percent_encoding.proofs.PercentLemmas.{IsEscapeByte, All-percent_enco
 use Rattle.script_text.specs.Words.{parts, unescaped, all_of, group_of, line_words, words_of_line}
 use Rattle.script_text.specs.Words.{is_separator as parts_commands}
 use Rattle.trace_text.specs.Words.{is_plain, is_separator, escaped, following, separated, line_of}
-use Rattle.containers.proofs.Tests.{chosen}
+use Rattle.containers.proofs.Choices.{chosen}
 use Rattle.text_laws.specs.Fits.{AreBytes}
 use Rattle.text_laws.proofs.Escapes.{all_escaped, plain_is, escaped_no_separator, read_back}
 

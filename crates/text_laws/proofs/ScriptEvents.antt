@@ -11,7 +11,7 @@ use Rattle.redis_error.specs.declared.fault_kind.FaultKind.{FaultKind}
 use Rattle.script_text.specs.Numbers.{number, max_u32, max_u64}
 use Rattle.script_text.specs.Words.{LineWords}
 use Rattle.script_text.specs.EventLine.{Forms, by_first, whole, numbered, wrote, came, alone, faults, fault_among, failed, commands, packed, submissions, others, events, event_of}
-use Rattle.containers.proofs.Tests.{chosen}
+use Rattle.containers.proofs.Choices.{chosen}
 use Rattle.text_laws.specs.Fits.{AreBytes, FitsCommands, FitsSubmission, FitsKind, FitsEvent, HasForm}
 use Rattle.text_laws.proofs.Held.{mapped, then_read, any_read, number_within}
 

@@ -1,6 +1,6 @@
 -- What is true of all numbers that a trace doesn't name: no submission has one that wasn't given out, and of links there is the first alone.
 use Rattle.std.proofs.Common.{◌≡◌, ℕ, ◌+◌, ◌<◌, ◌≤◌, ◌==◌, Bool, true, false, None, refl, arith}
-use Rattle.containers.proofs.Tests.{chosen, ne_test, eq_from}
+use Rattle.containers.proofs.Choices.{chosen, ne_test, eq_from}
 use Rattle.driver_model.specs.declared.action.Action.{Action}
 use Rattle.driver_model.specs.declared.action.Action.TheVariants as action
 use Rattle.driver_model.specs.declared.action.Cause.TheVariants as cause
