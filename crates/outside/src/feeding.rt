@@ -1,4 +1,5 @@
-ghost use Rattle.std.specs.Prelude.{◌≡◌, ◌<◌, ◌≤◌, ◌++◌, ◌-◌, ℕ, Bool, List, length, not, true, false, Some, None, Ok, OnOk, IfOk, IsErrOf};
+ghost use Rattle.std.specs.Prelude.{◌≡◌, ◌<◌, ◌≤◌, ◌++◌, ◌-◌, ℕ, Bool, List, length, not, true, false};
+ghost use Rattle.std.specs.Prelude.{Some, None, Ok, OnOk, IfOk, IsErrOf};
 ghost use Rattle.outside.specs.Ends.{Rose, GaveSome, IsAtEnd};
 ghost use Rattle.outside.specs.Feeding.{Passed, has_enough, is_enough};
 
@@ -72,14 +73,17 @@ fn feed_once<S: Source, F: Feed>(
 ) -> Result<Option<Fed>, FeedError>
     requires room { 0 < length room.old }
     requires wants { F.enough feed.old ≡ false }
-    ensures fed { OnOk result (Passed (S.left source.old) (S.left source.new) (F.kept feed.old) (F.kept feed.new)) }
+    ensures fed { OnOk result
+        (Passed (S.left source.old) (S.left source.new) (F.kept feed.old) (F.kept feed.new)) }
     ensures ended { result ≡ Ok (Some Fed.Ended) → IsAtEnd (S.left source.new) }
     ensures enough { IfOk result (λ fed. F.enough feed.new ≡ has_enough fed) }
-    ensures falls { result ≡ Ok None → F.most feed.new - length (F.kept feed.new) < F.most feed.old - length (F.kept feed.old) }
+    ensures falls { result ≡ Ok None
+        → F.most feed.new - length (F.kept feed.new) < F.most feed.old - length (F.kept feed.old) }
     ensures same { F.most feed.new ≡ F.most feed.old }
     ensures rest { GaveSome (S.left source.old) (S.left source.new) }
     ensures later { S.fault_count source.old ≤ S.fault_count source.new }
-    ensures cause { IsErrOf result FeedError.Fault → Rose (S.fault_count source.old) (S.fault_count source.new) }
+    ensures cause { IsErrOf result FeedError.Fault
+        → Rose (S.fault_count source.old) (S.fault_count source.new) }
 {
     match source.read(room) {
         Got::Read(count) => {
@@ -101,13 +105,15 @@ pub fn feed_all<S: Source, F: Feed>(
     feed: &mut F,
 ) -> Result<Fed, FeedError>
     requires { F.enough feed.old ≡ false }
-    ensures fed { OnOk result (Passed (S.left source.old) (S.left source.new) (F.kept feed.old) (F.kept feed.new)) }
+    ensures fed { OnOk result
+        (Passed (S.left source.old) (S.left source.new) (F.kept feed.old) (F.kept feed.new)) }
     ensures ended { result ≡ Ok Fed.Ended → IsAtEnd (S.left source.new) }
     ensures enough { IfOk result (λ fed. F.enough feed.new ≡ is_enough fed) }
     ensures same { F.most feed.new ≡ F.most feed.old }
     ensures rest { GaveSome (S.left source.old) (S.left source.new) }
     ensures later { S.fault_count source.old ≤ S.fault_count source.new }
-    ensures cause { IsErrOf result FeedError.Fault → Rose (S.fault_count source.old) (S.fault_count source.new) }
+    ensures cause { IsErrOf result FeedError.Fault
+        → Rose (S.fault_count source.old) (S.fault_count source.new) }
 {
     let mut room = new_room(alloc)?;
     let room = room.as_mut_slice();

@@ -1,7 +1,9 @@
 ghost use Rattle.std.specs.Prelude.{◌≡◌, ◌<◌, ◌≤◌, ◌++◌, [], Some, length, min, option_map};
 ghost use Rattle.outside.specs.Ends.{Rose};
 ghost use Rattle.outside.specs.World.{Adds, DialFailed, GotFailed, LinkGotWithin, LinkPutWithin, PutFailed, link_given};
-ghost use Rattle.outside.specs.MemWorld.{calls_told, dial_answer, number_answer, read_answer, read_some, rest_of, script_of, world_faults, write_answer};
+ghost use Rattle.outside.specs.MemWorld.{calls_told, rest_of, script_of, world_faults};
+ghost use Rattle.outside.specs.MemWorld.{dial_answer, number_answer, read_answer, read_some, write_answer};
+ghost use Rattle.outside.specs.MemWorld.{dial_answered, moment_told, read_answered, word_told, write_answered};
 
 use crate::call_log::CallLog;
 use crate::world::{Call, Dialed, LinkGot, LinkPut, World};
@@ -198,12 +200,13 @@ impl World for MemWorld {
     }
 
     fn dial(&mut self, link: u32, host: &str, port: u16) -> Dialed
-        ensures tells { Adds (calls_told self.old) (calls_told self.new) (Call.Dial link host.now port result) }
+        ensures tells { Adds (calls_told self.old) (calls_told self.new)
+            (Call.Dial link host.now port result) }
         ensures later { world_faults self.old ≤ world_faults self.new }
         ensures cause { DialFailed result → Rose (world_faults self.old) (world_faults self.new) }
 
         ensures answer { result ≡ dial_answer (script_of self.old).dials }
-        ensures script { script_of self.new ≡ record (script_of self.old) { dials = rest_of (script_of self.old).dials } }
+        ensures script { script_of self.new ≡ dial_answered (script_of self.old) }
     {
         let answer = next_dial(&mut self.script.dials);
         self.faults = after_dial(self.faults, answer);
@@ -214,13 +217,18 @@ impl World for MemWorld {
     fn read(&mut self, link: u32, room: &mut [u8]) -> LinkGot
         requires { 0 < length room.old }
         ensures within { LinkGotWithin (length room.old) result }
-        ensures tells { Adds (calls_told self.old) (calls_told self.new) (Call.Read link (length room.old) result (link_given room.new result)) }
+        ensures tells { Adds (calls_told self.old) (calls_told self.new)
+            (Call.Read link (length room.old) result (link_given room.new result)) }
         ensures later { world_faults self.old ≤ world_faults self.new }
         ensures cause { GotFailed result → Rose (world_faults self.old) (world_faults self.new) }
 
-        ensures answer { result ≡ read_answer (script_of self.old).reads (length (script_of self.old).incoming) (length room.old) }
-        ensures given { link_given room.new result ++ (script_of self.new).incoming ≡ (script_of self.old).incoming }
-        ensures script { script_of self.new ≡ record (script_of self.old) { reads = rest_of (script_of self.old).reads; incoming = (script_of self.new).incoming } }
+        ensures answer { result
+            ≡ read_answer (script_of self.old).reads (length (script_of self.old).incoming)
+            (length room.old) }
+        ensures given { link_given room.new result ++ (script_of self.new).incoming
+            ≡ (script_of self.old).incoming }
+        ensures script { script_of self.new
+            ≡ read_answered (script_of self.old) (script_of self.new).incoming }
     {
         let answer = next_read(&mut self.script.reads, &mut self.script.incoming, room);
         self.faults = after_read(self.faults, answer);
@@ -232,12 +240,13 @@ impl World for MemWorld {
     fn write(&mut self, link: u32, piece: &[u8]) -> LinkPut
         requires { 0 < length piece.now }
         ensures within { LinkPutWithin (length piece.now) result }
-        ensures tells { Adds (calls_told self.old) (calls_told self.new) (Call.Write link piece.now result) }
+        ensures tells { Adds (calls_told self.old) (calls_told self.new)
+            (Call.Write link piece.now result) }
         ensures later { world_faults self.old ≤ world_faults self.new }
         ensures cause { PutFailed result → Rose (world_faults self.old) (world_faults self.new) }
 
         ensures answer { result ≡ write_answer (script_of self.old).writes (length piece.now) }
-        ensures script { script_of self.new ≡ record (script_of self.old) { writes = rest_of (script_of self.old).writes } }
+        ensures script { script_of self.new ≡ write_answered (script_of self.old) }
     {
         let answer = next_write(&mut self.script.writes, piece.len());
         self.faults = after_write(self.faults, answer);
@@ -259,7 +268,7 @@ impl World for MemWorld {
         ensures later { world_faults self.old ≤ world_faults self.new }
 
         ensures answer { result ≡ number_answer (script_of self.old).moments }
-        ensures script { script_of self.new ≡ record (script_of self.old) { moments = rest_of (script_of self.old).moments } }
+        ensures script { script_of self.new ≡ moment_told (script_of self.old) }
     {
         let answer = next_number(&mut self.script.moments);
         self.log.note(Call::Now { answer });
@@ -271,7 +280,7 @@ impl World for MemWorld {
         ensures later { world_faults self.old ≤ world_faults self.new }
 
         ensures answer { result ≡ number_answer (script_of self.old).words }
-        ensures script { script_of self.new ≡ record (script_of self.old) { words = rest_of (script_of self.old).words } }
+        ensures script { script_of self.new ≡ word_told (script_of self.old) }
     {
         let answer = next_number(&mut self.script.words);
         self.log.note(Call::Word { answer });

@@ -1,6 +1,7 @@
 ghost use Rattle.std.specs.Prelude.{◌≡◌, ◌<◌, ◌≤◌, ◌+◌, ◌-◌, ◌^◌, ◌↔◌, [], min, max, length, Some, Contains};
 ghost use Rattle.outside.specs.Ends.{Rose, Gave, Gained, GotWithin, IsAtEnd, PutWithin, given, taken};
-ghost use Rattle.outside.specs.Memory.{failing_reads, failing_writes, held_bytes, most_given, most_taken, read_faults, reads_done, unread, write_faults, writes_done};
+ghost use Rattle.outside.specs.Memory.{failing_reads, most_given, read_faults, reads_done, unread};
+ghost use Rattle.outside.specs.Memory.{failing_writes, held_bytes, most_taken, write_faults, writes_done};
 
 use crate::sink::{Put, Sink};
 use crate::source::{Got, Source};
@@ -49,13 +50,16 @@ impl Source for MemSource {
     fn read(&mut self, room: &mut [u8]) -> Got
         requires { 0 < length room.old }
         ensures within { GotWithin (length room.old) result }
-        ensures gives { Gave (Some (unread self.old)) (Some (unread self.new)) (given room.new result) }
+        ensures gives { Gave (Some (unread self.old)) (Some (unread self.new))
+            (given room.new result) }
         ensures ends { result ≡ Got.End → IsAtEnd (Some (unread self.new)) }
         ensures later { read_faults self.old ≤ read_faults self.new }
-        ensures cause { result ≡ Got.Failed → Rose (read_faults self.old) (read_faults self.new) }
+        ensures cause { result ≡ Got.Failed
+            → Rose (read_faults self.old) (read_faults self.new) }
 
         // It fails exactly at the reads that are to fail.
-        ensures fails { (result ≡ Got.Failed) ↔ Contains (failing_reads self.old) (reads_done self.old) }
+        ensures fails { (result ≡ Got.Failed)
+            ↔ Contains (failing_reads self.old) (reads_done self.old) }
         ensures most { GotWithin (most_given self.old) result }
         ensures done { reads_done self.new ≡ min (reads_done self.old + 1) (2 ^ 64 - 1) }
         ensures failing { failing_reads self.new ≡ failing_reads self.old }
@@ -135,12 +139,15 @@ impl Sink for MemSink {
     fn write(&mut self, piece: &[u8]) -> Put
         requires { 0 < length piece.now }
         ensures within { PutWithin (length piece.now) result }
-        ensures takes { Gained (Some (held_bytes self.old)) (Some (held_bytes self.new)) (taken piece.now result) }
+        ensures takes { Gained (Some (held_bytes self.old)) (Some (held_bytes self.new))
+            (taken piece.now result) }
         ensures later { write_faults self.old ≤ write_faults self.new }
-        ensures cause { result ≡ Put.Failed → Rose (write_faults self.old) (write_faults self.new) }
+        ensures cause { result ≡ Put.Failed
+            → Rose (write_faults self.old) (write_faults self.new) }
 
         // It fails at the writes that are to fail.
-        ensures fails { Contains (failing_writes self.old) (writes_done self.old) → result ≡ Put.Failed }
+        ensures fails { Contains (failing_writes self.old) (writes_done self.old)
+            → result ≡ Put.Failed }
         ensures most { PutWithin (most_taken self.old) result }
         ensures done { writes_done self.new ≡ min (writes_done self.old + 1) (2 ^ 64 - 1) }
         ensures failing { failing_writes self.new ≡ failing_writes self.old }

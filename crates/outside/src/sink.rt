@@ -28,7 +28,8 @@ pub trait Sink {
         ensures within { PutWithin (length piece.now) result }
         ensures takes { Gained (held self.old) (held self.new) (taken piece.now result) }
         ensures later { fault_count self.old ≤ fault_count self.new }
-        ensures cause { result ≡ Put.Failed → Rose (fault_count self.old) (fault_count self.new) };
+        ensures cause { result ≡ Put.Failed
+            → Rose (fault_count self.old) (fault_count self.new) };
 }
 
 /// Writes all bytes, in as many writes as it takes. `false`: the sink failed, and took a part of them.

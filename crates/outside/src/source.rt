@@ -31,5 +31,6 @@ pub trait Source {
         ensures gives { Gave (left self.old) (left self.new) (given room.new result) }
         ensures ends { result ≡ Got.End → IsAtEnd (left self.new) }
         ensures later { fault_count self.old ≤ fault_count self.new }
-        ensures cause { result ≡ Got.Failed → Rose (fault_count self.old) (fault_count self.new) };
+        ensures cause { result ≡ Got.Failed
+            → Rose (fault_count self.old) (fault_count self.new) };
 }

@@ -49,7 +49,8 @@ pub fn read_all<S: Source>(
     ensures long { IsErrOf result ReadAllError.TooLong → HasMore most (S.left source.old) }
     ensures rest { GaveSome (S.left source.old) (S.left source.new) }
     ensures later { S.fault_count source.old ≤ S.fault_count source.new }
-    ensures cause { IsErrOf result ReadAllError.Fault → Rose (S.fault_count source.old) (S.fault_count source.new) }
+    ensures cause { IsErrOf result ReadAllError.Fault
+        → Rose (S.fault_count source.old) (S.fault_count source.new) }
 {
     let mut whole = Whole {
         bytes: Bytes::new(alloc),

@@ -93,7 +93,8 @@ pub trait World {
     fn read(&mut self, link: u32, room: &mut [u8]) -> LinkGot
         requires { 0 < length room.old }
         ensures within { LinkGotWithin (length room.old) result }
-        ensures tells { Adds (told self.old) (told self.new) (Call.Read link (length room.old) result (link_given room.new result)) }
+        ensures tells { Adds (told self.old) (told self.new)
+            (Call.Read link (length room.old) result (link_given room.new result)) }
         ensures later { fault_count self.old ≤ fault_count self.new }
         ensures cause { GotFailed result → Rose (fault_count self.old) (fault_count self.new) };
 
