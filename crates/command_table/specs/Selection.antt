@@ -1,5 +1,6 @@
 -- One part of a command with keys in several slots.
 use Rattle.std.specs.Prelude.{ℕ, ◌*◌, ◌/◌, Bool, true, false, List, [], ◌∷◌, ◌++◌, length, take, drop}
+use Rattle.resp_write.specs.Command.{Command}
 use Rattle.command_table.specs.declared.commands.Form.{Form}
 use Rattle.command_table.specs.declared.commands.Form.TheVariants.{AllPrimaries, AllNodes, EachKey, EachPair, Random, CountedKey, AfterStreams, SecondKey, FirstKey}
 use Rattle.command_table.specs.Lookup.{form_of}
@@ -51,3 +52,7 @@ chosen width args (i ∷ is) = take width (drop (width * i) args) ++ chosen widt
 abbrev pub part_of : List (List ℕ) → List ℕ → List (List ℕ)
 part_of [] indices = []
 part_of (name ∷ args) indices = name ∷ chosen (width (form_of name args)) args indices
+
+-- the command of a part: the same, with these keys alone
+abbrev pub part_for : Command → List ℕ → Command
+part_for c indices = record c { args = part_of c.args indices }

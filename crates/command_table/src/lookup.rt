@@ -28,7 +28,8 @@ fn found_one(mut table: &[(&[u8], Form)], name: &[u8]) -> Option<Form>
 
 /// The form of the first row with these two words.
 fn found_two(mut table: &[(&[u8], &[u8], Form)], name: &[u8], next: &[u8]) -> Option<Form>
-    ensures { result ≡ found_two (map (λ c. (c.0.now, c.1.now, c.2)) table.entry.now) name.now next.now }
+    ensures { result
+        ≡ found_two (map (λ c. (c.0.now, c.1.now, c.2)) table.entry.now) name.now next.now }
 {
     while let [row, rest @ ..] = table {
         if is_same_name(row.0, name) && is_same_name(row.1, next) {

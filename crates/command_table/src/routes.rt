@@ -1,5 +1,6 @@
 ghost use Rattle.std.specs.Prelude.{◌≡◌, ◌==◌, true, IfOk, IfSome, option_copied};
-ghost use Rattle.command_table.specs.Routing.{random, to_slot, by_key, by_count, after_streams, is_number, routing_by, routing_of};
+ghost use Rattle.command_table.specs.Routing.{random, to_slot, by_key, by_count, after_streams, is_number};
+ghost use Rattle.command_table.specs.Routing.{routing_by, routing_of};
 ghost use Rattle.command_table.specs.Splitting.{can_be_split};
 ghost use Rattle.std.specs.Str.Parse.{digits_value};
 
@@ -141,7 +142,8 @@ impl RoutingInfo {
     /// the command of each part.
     pub fn for_routable(alloc: Global, cmd: &Cmd) -> Result<Option<RoutingInfo>, AllocError>
         ensures is { IfOk result (λ r. r ≡ routing_of cmd.now.args) }
-        ensures parts { IfOk result (λ r. IfSome r (λ to. can_be_split cmd.now.args to ≡ true)) }
+        ensures parts { IfOk result
+            (λ r. IfSome r (λ to. can_be_split cmd.now.args to ≡ true)) }
     {
         routing_of(alloc, cmd.args())
     }

@@ -82,7 +82,8 @@ impl KeyIndices {
     }
 }
 
-/// The routes of a command with keys in several slots, each with the places of its keys. Contracts see the list of them.
+/// The routes of a command with keys in several slots, each with the places of its keys. Contracts see the list of
+/// them.
 #[derive(Drop)]
 pub struct SlotParts {
     items: Vec<(Route, KeyIndices)>,

@@ -1,5 +1,6 @@
-ghost use Rattle.std.specs.Prelude.{◌≡◌, true, ◌++◌, IfOk, OnOk};
-ghost use Rattle.command_table.specs.Selection.{may_be_several, key_count, part_of, width};
+ghost use Rattle.std.specs.Prelude.{◌≡◌, true, IfOk, OnOk};
+ghost use Rattle.resp_write.specs.Command.{with_args};
+ghost use Rattle.command_table.specs.Selection.{may_be_several, key_count, part_for, width};
 ghost use Rattle.command_table.specs.Splitting.{are_within};
 
 use crate::commands::Form;
@@ -21,7 +22,7 @@ fn width(form: Form) -> usize
 
 /// More arguments at a command's end.
 fn push_args(alloc: Global, cmd: &mut Cmd, args: &[Bytes]) -> Result<(), AllocError>
-    ensures { OnOk result (cmd.new ≡ record { args = cmd.old.args ++ args.now; no_response = cmd.old.no_response }) }
+    ensures { OnOk result (cmd.new ≡ with_args cmd.old args.now) }
 {
     for arg in args {
         cmd.arg(alloc, arg.as_slice())?;
@@ -38,7 +39,7 @@ pub fn command_for_multi_slot_indices(
 ) -> Result<Cmd, AllocError>
     requires several { may_be_several cmd.now.args ≡ true }
     requires within { are_within (key_count cmd.now.args) indices.now ≡ true }
-    ensures { IfOk result (λ part. part ≡ record { args = part_of cmd.now.args indices.now; no_response = cmd.now.no_response }) }
+    ensures { IfOk result (λ part. part ≡ part_for cmd.now indices.now) }
 {
     let mut part = Cmd::new(alloc);
     part.set_no_response(cmd.is_no_response());

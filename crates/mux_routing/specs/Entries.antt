@@ -18,10 +18,14 @@ abbrev pub numbered : {T : Type 0} → List T → Option ℕ → Option T
 numbered items None = None
 numbered items (Some k) = slice_get items k
 
+-- what the entries say of a slot
+abbrev pub entry_of : List (Option ℕ) → ℕ → Option ℕ
+entry_of entries slot = slice_index_or entries slot None
+
 -- an entry for each slot
 pub record AreEntries (entries : List (Option ℕ)) (rows : List SlotRow) : Type 0 where
   pub count : length entries ≡ 16_384
-  pub each : (slot : ℕ) → slot < 16_384 → slice_index_or entries slot None ≡ owner slot rows
+  pub each : (slot : ℕ) → slot < 16_384 → entry_of entries slot ≡ owner slot rows
 
 -- all that a map keeps beside its rows
 pub record AreKept (nodes : List NodeAddress) (kept : List Shard) (entries : List (Option ℕ)) (rows : List SlotRow) : Type 0 where

@@ -3,6 +3,7 @@ use Rattle.std.specs.Prelude.{ℕ, zero, suc, ◌==◌, ◌||◌, ◌&&◌, nat_
 use Rattle.std.specs.List.{list_all}
 use Rattle.std.specs.Str.{bytes_eq}
 use Rattle.slot_hash.specs.declared.address.NodeAddress.{NodeAddress}
+use Rattle.command_table.specs.declared.routing.Route.{Route}
 use Rattle.command_table.specs.declared.routing.SlotAddr.{SlotAddr}
 use Rattle.command_table.specs.declared.routing.SlotAddr.TheVariants.{Master, ReplicaOptional, ReplicaRequired}
 use Rattle.mux_routing.specs.declared.rows.SlotRow.{SlotRow}
@@ -105,6 +106,23 @@ asks addr (Some shard) = may_pick addr && nat_lt 0 (length shard.replicas)
 abbrev pub replica_count : Option Shard → ℕ
 replica_count None = 0
 replica_count (Some shard) = length shard.replicas
+
+-- how a strategy picks one of so many replicas by this draw, where there is one
+abbrev pub picking : {R : Type 0} → (R → ℕ → ℕ → ℕ) → Option R → ℕ → Option (ℕ → ℕ)
+picking pick_of reads draw = option_map (λ r n. pick_of r n draw) reads
+
+-- the strategy after a route to a shard, where there is one: it has picked if it was asked
+abbrev pub reads_after : {R : Type 0} → (R → ℕ → ℕ → R) → SlotAddr → Option Shard → ℕ → Option R → Option R
+reads_after picked addr shard draw reads =
+    if asks addr shard then option_map (λ r. picked r (replica_count shard) draw) reads else reads
+
+-- the place to which a route leads, if a row holds its slot
+abbrev pub place_led_to : Route → Option (ℕ → ℕ) → List SlotRow → Option ℕ
+place_led_to route pick rows = option_map (node_in route.addr pick) (shard_at route.slot rows)
+
+-- the address to which a route leads, if a row holds its slot
+abbrev pub address_led_to : Route → Option (ℕ → ℕ) → List SlotRow → Option NodeAddress
+address_led_to route pick rows = option_map (address_in route.addr pick) (last_row route.slot rows)
 
 -- of a primary and its replicas those that may stand in
 abbrev pub stand_ins : {T : Type 0} → SlotAddr → T → List T → List T

@@ -1,5 +1,5 @@
-ghost use Rattle.std.specs.Prelude.{◌≡◌, ◌<◌, ◌≤◌, ℕ, true, [], length, IfOk, Some, slice_index_or, None, if◌then◌else◌};
-ghost use Rattle.mux_routing.specs.Entries.{AreEntries};
+ghost use Rattle.std.specs.Prelude.{◌≡◌, ◌<◌, ◌≤◌, ℕ, true, [], length, IfOk, Some, None, if◌then◌else◌};
+ghost use Rattle.mux_routing.specs.Entries.{AreEntries, entry_of};
 ghost use Rattle.mux_routing.specs.Reply.{in_range};
 ghost use Rattle.mux_routing.specs.Shards.{holds};
 
@@ -25,7 +25,9 @@ fn give(entries: &mut Vec<Option<u32>>, row: &SlotRow, number: u32)
     requires order { row.now.start ≤ row.now.end }
     requires within { row.now.end < length entries.old.items }
     ensures count { length entries.new.items ≡ length entries.old.items }
-    ensures each { (slot : ℕ) → slot < length entries.old.items → slice_index_or entries.new.items slot None ≡ (if holds slot row.now then Some number else slice_index_or entries.old.items slot None) }
+    ensures each { (slot : ℕ) → slot < length entries.old.items
+        → entry_of entries.new.items slot
+        ≡ (if holds slot row.now then Some number else entry_of entries.old.items slot) }
 {
     let end = usize::from(row.end);
     let mut slot = usize::from(row.start);

@@ -1,8 +1,10 @@
-ghost use Rattle.std.specs.Prelude.{◌≡◌, ◌==◌, ◌||◌, nat_lt, true, length, IfOk, IsErrOf, Some, None, MatchOption, codes};
+ghost use Rattle.std.specs.Prelude.{◌≡◌, ◌==◌, ◌||◌, nat_lt, true, length, codes};
+ghost use Rattle.std.specs.Prelude.{IfOk, IsErrOf, Some, None, MatchOption};
 ghost use Rattle.std.specs.Str.{bytes_eq};
 ghost use Rattle.resp_value.specs.Data.{int};
 ghost use Rattle.resp_value.specs.View.{data_of, list_view};
-ghost use Rattle.mux_routing.specs.Reply.{all_told, are_rows, elements, host_text, is_answering, node_count, node_of, number_to, row_of, rows_of, text_of};
+ghost use Rattle.mux_routing.specs.Reply.{elements, host_text, is_answering, number_to, text_of};
+ghost use Rattle.mux_routing.specs.Reply.{all_told, are_rows, node_count, node_of, row_of, rows_of};
 
 use crate::rows::{SlotRow, SlotRows, SlotsError};
 use containers::{Bytes, Seq};
@@ -13,7 +15,8 @@ use std::alloc::Global;
 /// The elements of an array.
 #[tactic(auto, using(crate::proofs::Elements::of_array))]
 fn elements(value: &Value) -> Option<&[Value]>
-    ensures { MatchOption result (elements (data_of value.now) ≡ None) (λ xs. elements (data_of value.now) ≡ Some (list_view xs.now)) }
+    ensures { MatchOption result (elements (data_of value.now) ≡ None)
+        (λ xs. elements (data_of value.now) ≡ Some (list_view xs.now)) }
 {
     match value {
         Value::Array(items) => Some(items.as_slice()),
@@ -23,14 +26,16 @@ fn elements(value: &Value) -> Option<&[Value]>
 
 /// A text, if it is UTF-8.
 fn text_of(text: &[u8]) -> Option<&[u8]>
-    ensures { MatchOption result (text_of text.now ≡ None) (λ t. text_of text.now ≡ Some t.now) }
+    ensures { MatchOption result (text_of text.now ≡ None)
+        (λ t. text_of text.now ≡ Some t.now) }
 {
     if is_text(text) { Some(text) } else { None }
 }
 
 /// The host that a node tells.
 fn host_text(value: &Value) -> Option<&[u8]>
-    ensures { MatchOption result (host_text (data_of value.now) ≡ None) (λ t. host_text (data_of value.now) ≡ Some t.now) }
+    ensures { MatchOption result (host_text (data_of value.now) ≡ None)
+        (λ t. host_text (data_of value.now) ≡ Some t.now) }
 {
     match value {
         Value::Nil => Some(b""),
@@ -79,7 +84,8 @@ fn is_unknown(text: &[u8]) -> bool
 #[tactic(auto, unfolding(crate::specs::Reply::node_of))]
 fn node(alloc: Global, host: &[u8], value: &Value) -> Result<Option<NodeAddress>, SlotsError>
     ensures ok { IfOk result (λ n. node_of host.now (data_of value.now) ≡ Some n) }
-    ensures parse { IsErrOf result SlotsError.Parse → node_of host.now (data_of value.now) ≡ None }
+    ensures parse { IsErrOf result SlotsError.Parse
+        → node_of host.now (data_of value.now) ≡ None }
 {
     let Some([first, second, ..]) = elements(value) else {
         return Err(SlotsError::Parse);
@@ -101,8 +107,10 @@ fn node(alloc: Global, host: &[u8], value: &Value) -> Result<Option<NodeAddress>
 /// The nodes that aren't left out.
 #[tactic(auto, using(crate::proofs::Elements::one_more, crate::proofs::Elements::one_left_out))]
 fn nodes(alloc: Global, host: &[u8], mut values: &[Value]) -> Result<Seq<NodeAddress>, SlotsError>
-    ensures ok { IfOk result (λ ns. all_told (node_of host.now) (list_view values.entry.now) ≡ Some ns) }
-    ensures parse { IsErrOf result SlotsError.Parse → all_told (node_of host.now) (list_view values.entry.now) ≡ None }
+    ensures ok { IfOk result
+        (λ ns. all_told (node_of host.now) (list_view values.entry.now) ≡ Some ns) }
+    ensures parse { IsErrOf result SlotsError.Parse
+        → all_told (node_of host.now) (list_view values.entry.now) ≡ None }
 {
     let mut nodes = Seq::new(alloc);
     while let [value, rest @ ..] = values {
@@ -120,7 +128,8 @@ fn nodes(alloc: Global, host: &[u8], mut values: &[Value]) -> Result<Seq<NodeAdd
 #[tactic(auto, unfolding(crate::specs::Reply::row_of))]
 fn row(alloc: Global, host: &[u8], value: &Value) -> Result<Option<SlotRow>, SlotsError>
     ensures ok { IfOk result (λ r. row_of host.now (data_of value.now) ≡ Some r) }
-    ensures parse { IsErrOf result SlotsError.Parse → row_of host.now (data_of value.now) ≡ None }
+    ensures parse { IsErrOf result SlotsError.Parse
+        → row_of host.now (data_of value.now) ≡ None }
 {
     let Some([first, last, primary, replicas @ ..]) = elements(value) else {
         return Err(SlotsError::Parse);
@@ -156,8 +165,10 @@ fn row(alloc: Global, host: &[u8], value: &Value) -> Result<Option<SlotRow>, Slo
 /// The rows that aren't left out.
 #[tactic(auto, using(crate::proofs::Elements::one_more, crate::proofs::Elements::one_left_out))]
 fn rows(alloc: Global, host: &[u8], mut values: &[Value]) -> Result<SlotRows, SlotsError>
-    ensures ok { IfOk result (λ rs. all_told (row_of host.now) (list_view values.entry.now) ≡ Some rs) }
-    ensures parse { IsErrOf result SlotsError.Parse → all_told (row_of host.now) (list_view values.entry.now) ≡ None }
+    ensures ok { IfOk result
+        (λ rs. all_told (row_of host.now) (list_view values.entry.now) ≡ Some rs) }
+    ensures parse { IsErrOf result SlotsError.Parse
+        → all_told (row_of host.now) (list_view values.entry.now) ≡ None }
 {
     let mut rows = Seq::new(alloc);
     while let [value, rest @ ..] = values {
@@ -191,7 +202,8 @@ fn are_few(rows: &[SlotRow]) -> bool
 pub fn parse_slots(alloc: Global, reply: &Value, host: &[u8]) -> Result<SlotRows, SlotsError>
     ensures ok { IfOk result (λ rows. rows_of host.now (data_of reply.now) ≡ Some rows) }
     ensures valid { IfOk result (λ rows. are_rows rows ≡ true) }
-    ensures parse { IsErrOf result SlotsError.Parse → rows_of host.now (data_of reply.now) ≡ None }
+    ensures parse { IsErrOf result SlotsError.Parse
+        → rows_of host.now (data_of reply.now) ≡ None }
 {
     let Some(values) = elements(reply) else {
         return Err(SlotsError::Parse);

@@ -1,6 +1,6 @@
-ghost use Rattle.std.specs.Prelude.{◌≡◌, map, IfOk, option_copied, option_map, Some, if◌then◌else◌, length};
+ghost use Rattle.std.specs.Prelude.{◌≡◌, map, IfOk, option_copied, Some};
 ghost use Rattle.mux_routing.specs.Entries.{numbered};
-ghost use Rattle.mux_routing.specs.Shards.{asks, first_numbers, leading_below, leads, node_in, place_of, shard_of};
+ghost use Rattle.mux_routing.specs.Shards.{first_numbers, leading_below, leads, node_in, picking, place_of, reads_after, shard_of};
 
 use crate::addresses::place_of;
 use crate::rows::SlotRow;
@@ -147,8 +147,8 @@ pub fn node_in<R: ReadRoutingStrategy>(
     reads: &mut Option<R>,
     draw: u64,
 ) -> u32
-    ensures index { result ≡ node_in addr (option_map (λ r n. R.pick_of r n draw) reads.old) shard.now }
-    ensures reads { reads.new ≡ (if asks addr (Some shard.now) then option_map (λ r. R.picked r (length shard.now.replicas) draw) reads.old else reads.old) }
+    ensures index { result ≡ node_in addr (picking R.pick_of reads.old draw) shard.now }
+    ensures reads { reads.new ≡ reads_after R.picked addr (Some shard.now) draw reads.old }
 {
     if addr == SlotAddr::Master || shard.count == 0 {
         return shard.primary;

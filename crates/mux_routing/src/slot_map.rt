@@ -34,9 +34,12 @@ impl Model for SlotMap {
 }
 
 impl SlotMap {
-    ghost use Rattle.std.specs.Prelude.{◌≡◌, ◌<◌, ◌^◌, true, length, map, IfOk, IfSome, Some, slice_get, option_and_then, option_copied, option_map, if◌then◌else◌};
+    ghost use Rattle.std.specs.Prelude.{◌≡◌, ◌<◌, ◌^◌, true, map, IfOk, IfSome, Some, slice_get, option_and_then, option_copied};
     ghost use Rattle.mux_routing.specs.Reply.{are_rows};
-    ghost use Rattle.mux_routing.specs.Shards.{address_in, addresses, are_places, asks, fallback_addresses, fallbacks_in, in_order, is_place, last_row, node_in, node_places, primaries, replica_count, shard_at};
+    ghost use Rattle.mux_routing.specs.Shards.{addresses, in_order, last_row, shard_at};
+    ghost use Rattle.mux_routing.specs.Shards.{address_led_to, picking, place_led_to, reads_after};
+    ghost use Rattle.mux_routing.specs.Shards.{fallback_addresses, fallbacks_in, node_places, primaries};
+    ghost use Rattle.mux_routing.specs.Shards.{are_places, is_place};
 
     /// The map of these rows.
     #[tactic(auto, using(crate::proofs::Finding::are_in_order))]
@@ -76,10 +79,12 @@ impl SlotMap {
         draw: u64,
     ) -> Option<NodeIndex>
         requires { route.slot < 2 ^ 14 }
-        ensures index { result ≡ option_map (node_in route.addr (option_map (λ r n. R.pick_of r n draw) reads.old)) (shard_at route.slot self.now) }
-        ensures address { option_and_then (slice_get (addresses self.now)) result ≡ option_map (address_in route.addr (option_map (λ r n. R.pick_of r n draw) reads.old)) (last_row route.slot self.now) }
+        ensures index { result ≡ place_led_to route (picking R.pick_of reads.old draw) self.now }
+        ensures address { option_and_then (slice_get (addresses self.now)) result
+            ≡ address_led_to route (picking R.pick_of reads.old draw) self.now }
         ensures place { IfSome result (λ i. is_place self.now i ≡ true) }
-        ensures reads { reads.new ≡ (if asks route.addr (shard_at route.slot self.now) then option_map (λ r. R.picked r (replica_count (shard_at route.slot self.now)) draw) reads.old else reads.old) }
+        ensures reads { reads.new
+            ≡ reads_after R.picked route.addr (shard_at route.slot self.now) draw reads.old }
     {
         let shard = self.shard(route.slot)?;
         Some(node_in(shard, route.addr, reads, draw))
@@ -93,8 +98,11 @@ impl SlotMap {
         route: Route,
     ) -> Result<Vec<NodeIndex>, AllocError>
         requires { route.slot < 2 ^ 14 }
-        ensures are { IfOk result (λ v. v.items ≡ fallbacks_in route.addr (shard_at route.slot self.now)) }
-        ensures addresses { IfOk result (λ v. map (slice_get (addresses self.now)) v.items ≡ map Some (fallback_addresses route.addr (last_row route.slot self.now))) }
+        ensures are { IfOk result
+            (λ v. v.items ≡ fallbacks_in route.addr (shard_at route.slot self.now)) }
+        ensures addresses { IfOk result
+            (λ v. map (slice_get (addresses self.now)) v.items
+            ≡ map Some (fallback_addresses route.addr (last_row route.slot self.now))) }
         ensures places { IfOk result (λ v. are_places self.now v.items ≡ true) }
     {
         let Some(shard) = self.shard(route.slot) else {

@@ -26,9 +26,9 @@ pub enum ReadStrategy {
 }
 
 impl ReadRoutingStrategy for ReadStrategy {
-    ghost use Rattle.mux_routing.specs.Strategies.{pick_of as the_pick, picked as after_pick};
+    ghost use Rattle.mux_routing.specs.Strategies.{after_pick, place_picked};
 
-    ghost pick_of = { the_pick };
+    ghost pick_of = { place_picked };
 
     ghost picked = { after_pick };
 

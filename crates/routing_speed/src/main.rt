@@ -1,4 +1,5 @@
-//! Looks up slots or routes so many times, for bench/routing to measure, and prints a number that depends on each answer.
+//! Looks up slots or routes so many times, for bench/routing to measure, and prints a number that depends on each
+//! answer.
 #![tactic(auto)]
 
 use mux_routing::{RoutingInfo, key_slot};
