@@ -1,7 +1,20 @@
--- What a writer holds.
-use Rattle.std.specs.Prelude.{ℕ, List}
+-- What a writer holds, and what was written to it.
+use Rattle.std.specs.Prelude.{◌≡◌, ℕ, List, ◌++◌}
+use Rattle.trace_text.specs.Words.{following, separated}
 
 -- the text before this line, and the line as far as it is written
 pub record Written : Type 0 where
   pub before : List ℕ
   pub line : List ℕ
+
+-- these bytes were added to the line
+abbrev pub Added : Written → Written → List ℕ → Type 0
+Added old new bytes = new.line ≡ old.line ++ bytes
+
+-- these words were added to the line, each after a space
+abbrev pub AddedWords : Written → Written → List (List ℕ) → Type 0
+AddedWords old new words = Added old new (following words)
+
+-- these words, and more words behind separators
+abbrev pub AddedParts : Written → Written → List (List ℕ) → List (List (List ℕ)) → Type 0
+AddedParts old new words more = new.line ≡ old.line ++ following words ++ separated more

@@ -1,6 +1,7 @@
 ghost use Rattle.std.specs.Prelude.{◌≡◌, ◌++◌, OnOk, OnErr, IfOk};
 ghost use Rattle.trace_text.specs.Words.{following};
 ghost use Rattle.trace_text.specs.Show.{show, action_line};
+ghost use Rattle.trace_text.specs.Writer.{Added};
 
 use crate::writer::Writer;
 use containers::Bytes;
@@ -11,7 +12,8 @@ use std::mem;
 impl Writer {
     fn turn(&mut self, alloc: Global, number: u32, cause: &Cause) -> Result<(), AllocError>
         ensures before { self.new.before ≡ self.old.before }
-        ensures ok { OnOk result (self.new.line ≡ self.old.line ++ action_line (Action.Turn number cause.now)) }
+        ensures ok { OnOk result
+            (Added self.old self.new (action_line (Action.Turn number cause.now))) }
     {
         self.first(b"turn")?;
         self.number(u64::from(number))?;
@@ -27,7 +29,8 @@ impl Writer {
         port: u16,
     ) -> Result<(), AllocError>
         ensures before { self.new.before ≡ self.old.before }
-        ensures ok { OnOk result (self.new.line ≡ self.old.line ++ action_line (Action.Connect link host.now port)) }
+        ensures ok { OnOk result
+            (Added self.old self.new (action_line (Action.Connect link host.now port))) }
     {
         self.first(b"connect")?;
         self.number(u64::from(link))?;
@@ -37,7 +40,7 @@ impl Writer {
 
     fn close(&mut self, link: u32) -> Result<(), AllocError>
         ensures before { self.new.before ≡ self.old.before }
-        ensures ok { OnOk result (self.new.line ≡ self.old.line ++ action_line (Action.Close link)) }
+        ensures ok { OnOk result (Added self.old self.new (action_line (Action.Close link))) }
     {
         self.first(b"close")?;
         self.number(u64::from(link))?;
@@ -46,7 +49,8 @@ impl Writer {
 
     fn write(&mut self, link: u32, bytes: &Bytes) -> Result<(), AllocError>
         ensures before { self.new.before ≡ self.old.before }
-        ensures ok { OnOk result (self.new.line ≡ self.old.line ++ action_line (Action.Write link bytes.now)) }
+        ensures ok { OnOk result
+            (Added self.old self.new (action_line (Action.Write link bytes.now))) }
     {
         self.first(b"write")?;
         self.number(u64::from(link))?;
@@ -56,7 +60,7 @@ impl Writer {
 
     fn wait(&mut self, alloc: Global, owner: Owner, wait: WaitKind) -> Result<(), AllocError>
         ensures before { self.new.before ≡ self.old.before }
-        ensures ok { OnOk result (self.new.line ≡ self.old.line ++ action_line (Action.Wait owner wait)) }
+        ensures ok { OnOk result (Added self.old self.new (action_line (Action.Wait owner wait))) }
     {
         let WaitKind::Connect = wait;
         self.first(b"wait")?;
@@ -75,7 +79,8 @@ impl Writer {
         len: u64,
     ) -> Result<(), AllocError>
         ensures before { self.new.before ≡ self.old.before }
-        ensures ok { OnOk result (self.new.line ≡ self.old.line ++ action_line (Action.Start link message owner need len)) }
+        ensures ok { OnOk result
+            (Added self.old self.new (action_line (Action.Start link message owner need len))) }
     {
         self.first(b"start")?;
         self.number(u64::from(link))?;
@@ -88,7 +93,7 @@ impl Writer {
 
     fn created(&mut self) -> Result<(), AllocError>
         ensures before { self.new.before ≡ self.old.before }
-        ensures ok { OnOk result (self.new.line ≡ self.old.line ++ action_line Action.Created) }
+        ensures ok { OnOk result (Added self.old self.new (action_line Action.Created)) }
     {
         self.first(b"created")?;
         self.word(b"ok")?;
@@ -102,7 +107,8 @@ impl Writer {
         outcome: &Outcome,
     ) -> Result<(), AllocError>
         ensures before { self.new.before ≡ self.old.before }
-        ensures ok { OnOk result (self.new.line ≡ self.old.line ++ action_line (Action.Outcome submission outcome.now)) }
+        ensures ok { OnOk result
+            (Added self.old self.new (action_line (Action.Outcome submission outcome.now))) }
     {
         self.first(b"outcome")?;
         self.submission(alloc, submission)?;
@@ -113,7 +119,7 @@ impl Writer {
     /// The line of an action.
     fn action(&mut self, alloc: Global, action: &Action) -> Result<(), AllocError>
         ensures before { self.new.before ≡ self.old.before }
-        ensures ok { OnOk result (self.new.line ≡ self.old.line ++ action_line action.now) }
+        ensures ok { OnOk result (Added self.old self.new (action_line action.now)) }
     {
         match action {
             Action::Turn { number, cause } => self.turn(alloc, *number, cause),

@@ -1,7 +1,10 @@
 ghost use Rattle.std.specs.Prelude.{◌≡◌, ◌++◌, ◌∷◌, [], OnOk, decimal};
 ghost use Rattle.redis_error.specs.Names.{fault_name};
 ghost use Rattle.trace_text.specs.Words.{following, separated};
-ghost use Rattle.trace_text.specs.Show.{bare_words, behind_first, cause_more, cause_words, config_words, event_more, event_words, first_of, submission_more, submission_words, url};
+ghost use Rattle.trace_text.specs.Show.{bare_words, behind_first, config_words, first_of, url};
+ghost use Rattle.trace_text.specs.Show.{cause_more, cause_words, event_more, event_words};
+ghost use Rattle.trace_text.specs.Show.{submission_more, submission_words};
+ghost use Rattle.trace_text.specs.Writer.{Added, AddedWords, AddedParts};
 
 use crate::writer::Writer;
 use containers::{Bytes, Names};
@@ -13,7 +16,7 @@ impl Writer {
     /// The words of a connection without timers and setup.
     fn bare_words(&mut self) -> Result<(), AllocError>
         ensures before { self.new.before ≡ self.old.before }
-        ensures ok { OnOk result (self.new.line ≡ self.old.line ++ following bare_words) }
+        ensures ok { OnOk result (AddedWords self.old self.new bare_words) }
     {
         self.word(b"connect=none")?;
         self.word(b"response=none")?;
@@ -24,7 +27,7 @@ impl Writer {
     #[tactic(auto, unfolding(crate::specs::Show::url))]
     fn url(&mut self, alloc: Global, config: &Config) -> Result<(), AllocError>
         ensures before { self.new.before ≡ self.old.before }
-        ensures ok { OnOk result (self.new.line ≡ self.old.line ++ following (url config.now ∷ [])) }
+        ensures ok { OnOk result (AddedWords self.old self.new (url config.now ∷ [])) }
     {
         self.address(alloc, b"url=redis://", &config.host, config.port)
     }
@@ -32,7 +35,7 @@ impl Writer {
     /// The words of a config line.
     fn config(&mut self, alloc: Global, config: &Config) -> Result<(), AllocError>
         ensures before { self.new.before ≡ self.old.before }
-        ensures ok { OnOk result (self.new.line ≡ self.old.line ++ following (config_words config.now)) }
+        ensures ok { OnOk result (AddedWords self.old self.new (config_words config.now)) }
     {
         self.word(b"config")?;
         self.word(b"single")?;
@@ -43,7 +46,7 @@ impl Writer {
     /// Each argument as a word.
     fn arguments(&mut self, args: &[Bytes]) -> Result<(), AllocError>
         ensures before { self.new.before ≡ self.old.before }
-        ensures ok { OnOk result (self.new.line ≡ self.old.line ++ following args.now) }
+        ensures ok { OnOk result (AddedWords self.old self.new args.now) }
     {
         for arg in args {
             self.word(arg.as_slice())?;
@@ -54,7 +57,7 @@ impl Writer {
     /// More commands, each behind a separator.
     fn separated(&mut self, more: &[Names]) -> Result<(), AllocError>
         ensures before { self.new.before ≡ self.old.before }
-        ensures ok { OnOk result (self.new.line ≡ self.old.line ++ separated more.now) }
+        ensures ok { OnOk result (Added self.old self.new (separated more.now)) }
     {
         for command in more {
             self.push(b" ;")?;
@@ -66,7 +69,8 @@ impl Writer {
     /// Commands with a separator between two.
     fn commands(&mut self, commands: &[Names]) -> Result<(), AllocError>
         ensures before { self.new.before ≡ self.old.before }
-        ensures ok { OnOk result (self.new.line ≡ self.old.line ++ following (first_of commands.now) ++ separated (behind_first commands.now)) }
+        ensures ok { OnOk result
+            (AddedParts self.old self.new (first_of commands.now) (behind_first commands.now)) }
     {
         let [first, more @ ..] = commands else {
             return Ok(());
@@ -78,7 +82,9 @@ impl Writer {
     /// The words of what a caller hands in.
     fn submitted(&mut self, submission: &Submission) -> Result<(), AllocError>
         ensures before { self.new.before ≡ self.old.before }
-        ensures ok { OnOk result (self.new.line ≡ self.old.line ++ following (submission_words submission.now) ++ separated (submission_more submission.now)) }
+        ensures ok { OnOk result
+            (AddedParts self.old self.new (submission_words submission.now)
+            (submission_more submission.now)) }
     {
         match submission {
             Submission::Cmd { args } => {
@@ -113,7 +119,8 @@ impl Writer {
     /// A link and its fault.
     fn fault(&mut self, link: u32, fault: FaultKind) -> Result<(), AllocError>
         ensures before { self.new.before ≡ self.old.before }
-        ensures ok { OnOk result (self.new.line ≡ self.old.line ++ following (decimal link ∷ fault_name fault ∷ [])) }
+        ensures ok { OnOk result
+            (AddedWords self.old self.new (decimal link ∷ fault_name fault ∷ [])) }
     {
         self.number(u64::from(link))?;
         self.word(fault.name().as_bytes())
@@ -122,7 +129,8 @@ impl Writer {
     /// The words of an event.
     fn event(&mut self, kind: &EventKind) -> Result<(), AllocError>
         ensures before { self.new.before ≡ self.old.before }
-        ensures ok { OnOk result (self.new.line ≡ self.old.line ++ following (event_words kind.now) ++ separated (event_more kind.now)) }
+        ensures ok { OnOk result
+            (AddedParts self.old self.new (event_words kind.now) (event_more kind.now)) }
     {
         match kind {
             EventKind::Submit { submission } => {
@@ -166,7 +174,8 @@ impl Writer {
     /// The words of what a turn is the turn of.
     pub fn cause(&mut self, alloc: Global, cause: &Cause) -> Result<(), AllocError>
         ensures before { self.new.before ≡ self.old.before }
-        ensures ok { OnOk result (self.new.line ≡ self.old.line ++ following (cause_words cause.now) ++ separated (cause_more cause.now)) }
+        ensures ok { OnOk result
+            (AddedParts self.old self.new (cause_words cause.now) (cause_more cause.now)) }
     {
         match cause {
             Cause::Opening { config, word } => {

@@ -1,6 +1,7 @@
 ghost use Rattle.std.specs.Prelude.{◌≡◌, ◌++◌, ◌∷◌, [], OnOk, map, decimal};
 ghost use Rattle.trace_text.specs.Words.{following};
 ghost use Rattle.trace_text.specs.Errors.{abort_word, error_words, server_text};
+ghost use Rattle.trace_text.specs.Writer.{AddedWords};
 
 use crate::writer::Writer;
 use containers::Bytes;
@@ -26,7 +27,7 @@ impl Writer {
     /// The words of why there is no reply.
     pub fn error(&mut self, alloc: Global, error: &RedisError) -> Result<(), AllocError>
         ensures before { self.new.before ≡ self.old.before }
-        ensures ok { OnOk result (self.new.line ≡ self.old.line ++ following (error_words error.now)) }
+        ensures ok { OnOk result (AddedWords self.old self.new (error_words error.now)) }
     {
         match error {
             RedisError::Config { name } => self.word_and(b"config", name.name().as_bytes()),
@@ -55,7 +56,7 @@ impl Writer {
     /// Two more words.
     fn word_and(&mut self, word: &[u8], next: &[u8]) -> Result<(), AllocError>
         ensures before { self.new.before ≡ self.old.before }
-        ensures ok { OnOk result (self.new.line ≡ self.old.line ++ following (word.now ∷ next.now ∷ [])) }
+        ensures ok { OnOk result (AddedWords self.old self.new (word.now ∷ next.now ∷ [])) }
     {
         self.word(word)?;
         self.word(next)
@@ -63,7 +64,8 @@ impl Writer {
 
     fn convert(&mut self, alloc: Global, value: &Value) -> Result<(), AllocError>
         ensures before { self.new.before ≡ self.old.before }
-        ensures ok { OnOk result (self.new.line ≡ self.old.line ++ following (error_words (RedisError.Convert value.now))) }
+        ensures ok { OnOk result
+            (AddedWords self.old self.new (error_words (RedisError.Convert value.now))) }
     {
         let text = canonical_text(alloc, value)?;
         self.word_and(b"convert", text.as_slice())
@@ -71,7 +73,8 @@ impl Writer {
 
     fn server(&mut self, error: &ServerError) -> Result<(), AllocError>
         ensures before { self.new.before ≡ self.old.before }
-        ensures ok { OnOk result (self.new.line ≡ self.old.line ++ following (error_words (RedisError.Server error.now))) }
+        ensures ok { OnOk result
+            (AddedWords self.old self.new (error_words (RedisError.Server error.now))) }
     {
         self.word_and(b"server", error.code.as_slice())?;
         match &error.detail {
@@ -82,7 +85,8 @@ impl Writer {
 
     fn cross_slot(&mut self, first: u16, second: u16) -> Result<(), AllocError>
         ensures before { self.new.before ≡ self.old.before }
-        ensures ok { OnOk result (self.new.line ≡ self.old.line ++ following (error_words (RedisError.CrossSlot first second))) }
+        ensures ok { OnOk result
+            (AddedWords self.old self.new (error_words (RedisError.CrossSlot first second))) }
     {
         self.word(b"cross-slot")?;
         self.number(u64::from(first))?;
@@ -92,7 +96,8 @@ impl Writer {
     /// One more word: a position in a transaction and the server's error there.
     fn abort(&mut self, alloc: Global, position: u32, error: &ServerError) -> Result<(), AllocError>
         ensures before { self.new.before ≡ self.old.before }
-        ensures ok { OnOk result (self.new.line ≡ self.old.line ++ following (abort_word (position, error.now) ∷ [])) }
+        ensures ok { OnOk result
+            (AddedWords self.old self.new (abort_word (position, error.now) ∷ [])) }
     {
         let mut digits = Buffer::new();
         let mut word = Bytes::from_slice(alloc, digits.format(position).as_bytes())?;
@@ -103,7 +108,8 @@ impl Writer {
 
     fn aborted(&mut self, alloc: Global, errors: &[(u32, ServerError)]) -> Result<(), AllocError>
         ensures before { self.new.before ≡ self.old.before }
-        ensures ok { OnOk result (self.new.line ≡ self.old.line ++ following (error_words (RedisError.Aborted errors.now))) }
+        ensures ok { OnOk result
+            (AddedWords self.old self.new (error_words (RedisError.Aborted errors.now))) }
     {
         self.word(b"aborted")?;
         self.aborts(alloc, errors)
@@ -111,7 +117,7 @@ impl Writer {
 
     fn aborts(&mut self, alloc: Global, errors: &[(u32, ServerError)]) -> Result<(), AllocError>
         ensures before { self.new.before ≡ self.old.before }
-        ensures ok { OnOk result (self.new.line ≡ self.old.line ++ following (map abort_word errors.now)) }
+        ensures ok { OnOk result (AddedWords self.old self.new (map abort_word errors.now)) }
     {
         for item in errors {
             self.abort(alloc, item.0, &item.1)?;
@@ -121,7 +127,8 @@ impl Writer {
 
     fn no_link(&mut self, routes: &[u32]) -> Result<(), AllocError>
         ensures before { self.new.before ≡ self.old.before }
-        ensures ok { OnOk result (self.new.line ≡ self.old.line ++ following (error_words (RedisError.RouteWithoutLink routes.now))) }
+        ensures ok { OnOk result
+            (AddedWords self.old self.new (error_words (RedisError.RouteWithoutLink routes.now))) }
     {
         self.word(b"no-link")?;
         self.numbers(routes)
@@ -130,7 +137,7 @@ impl Writer {
     /// Each number as a word.
     fn numbers(&mut self, numbers: &[u32]) -> Result<(), AllocError>
         ensures before { self.new.before ≡ self.old.before }
-        ensures ok { OnOk result (self.new.line ≡ self.old.line ++ following (map decimal numbers.now)) }
+        ensures ok { OnOk result (AddedWords self.old self.new (map decimal numbers.now)) }
     {
         for number in numbers {
             self.number(u64::from(*number))?;

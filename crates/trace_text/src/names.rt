@@ -1,6 +1,7 @@
 ghost use Rattle.std.specs.Prelude.{◌≡◌, ◌++◌, ◌∷◌, [], OnOk};
 ghost use Rattle.trace_text.specs.Words.{following};
 ghost use Rattle.trace_text.specs.Show.{address, draw_words, owner_word, submission_word};
+ghost use Rattle.trace_text.specs.Writer.{AddedWords};
 
 use crate::writer::Writer;
 use containers::Bytes;
@@ -18,7 +19,8 @@ impl Writer {
         port: u16,
     ) -> Result<(), AllocError>
         ensures before { self.new.before ≡ self.old.before }
-        ensures ok { OnOk result (self.new.line ≡ self.old.line ++ following ((lead.now ++ address host.now port) ∷ [])) }
+        ensures ok { OnOk result
+            (AddedWords self.old self.new ((lead.now ++ address host.now port) ∷ [])) }
     {
         let mut digits = Buffer::new();
         let mut word = Bytes::from_slice(alloc, lead)?;
@@ -31,7 +33,8 @@ impl Writer {
     /// One more word: a submission.
     pub fn submission(&mut self, alloc: Global, submission: u32) -> Result<(), AllocError>
         ensures before { self.new.before ≡ self.old.before }
-        ensures ok { OnOk result (self.new.line ≡ self.old.line ++ following (submission_word submission ∷ [])) }
+        ensures ok { OnOk result
+            (AddedWords self.old self.new (submission_word submission ∷ [])) }
     {
         let word = format!(in alloc; "s{submission}")?;
         self.word(word.as_bytes())
@@ -40,7 +43,7 @@ impl Writer {
     /// One more word: a try of a submission.
     pub fn owner(&mut self, alloc: Global, owner: Owner) -> Result<(), AllocError>
         ensures before { self.new.before ≡ self.old.before }
-        ensures ok { OnOk result (self.new.line ≡ self.old.line ++ following (owner_word owner ∷ [])) }
+        ensures ok { OnOk result (AddedWords self.old self.new (owner_word owner ∷ [])) }
     {
         let Owner::Try { submission, round } = owner;
         let word = format!(in alloc; "s{submission}.{round}")?;
@@ -50,7 +53,7 @@ impl Writer {
     /// The word that random draws come from, where it isn't 0.
     pub fn draw(&mut self, alloc: Global, number: u64) -> Result<(), AllocError>
         ensures before { self.new.before ≡ self.old.before }
-        ensures ok { OnOk result (self.new.line ≡ self.old.line ++ following (draw_words number)) }
+        ensures ok { OnOk result (AddedWords self.old self.new (draw_words number)) }
     {
         if number == 0 {
             return Ok(());

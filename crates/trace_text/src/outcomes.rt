@@ -1,6 +1,7 @@
 ghost use Rattle.std.specs.Prelude.{◌≡◌, ◌++◌, OnOk};
 ghost use Rattle.trace_text.specs.Words.{following};
 ghost use Rattle.trace_text.specs.Show.{outcome_words};
+ghost use Rattle.trace_text.specs.Writer.{AddedWords};
 
 use crate::writer::Writer;
 use driver_model::Outcome;
@@ -12,7 +13,7 @@ impl Writer {
     /// The words of what a submission came to.
     pub fn outcome(&mut self, alloc: Global, outcome: &Outcome) -> Result<(), AllocError>
         ensures before { self.new.before ≡ self.old.before }
-        ensures ok { OnOk result (self.new.line ≡ self.old.line ++ following (outcome_words outcome.now)) }
+        ensures ok { OnOk result (AddedWords self.old self.new (outcome_words outcome.now)) }
     {
         match outcome {
             Outcome::One(value) => self.reply(alloc, value),
@@ -26,7 +27,8 @@ impl Writer {
 
     fn reply(&mut self, alloc: Global, value: &Value) -> Result<(), AllocError>
         ensures before { self.new.before ≡ self.old.before }
-        ensures ok { OnOk result (self.new.line ≡ self.old.line ++ following (outcome_words (Outcome.One value.now))) }
+        ensures ok { OnOk result
+            (AddedWords self.old self.new (outcome_words (Outcome.One value.now))) }
     {
         let text = canonical_text(alloc, value)?;
         self.word(b"ok")?;
@@ -35,7 +37,8 @@ impl Writer {
 
     fn replies(&mut self, alloc: Global, values: &Values) -> Result<(), AllocError>
         ensures before { self.new.before ≡ self.old.before }
-        ensures ok { OnOk result (self.new.line ≡ self.old.line ++ following (outcome_words (Outcome.Many values.now))) }
+        ensures ok { OnOk result
+            (AddedWords self.old self.new (outcome_words (Outcome.Many values.now))) }
     {
         let text = list_text(alloc, values)?;
         self.word(b"many")?;

@@ -1,6 +1,7 @@
-ghost use Rattle.std.specs.Prelude.{◌≡◌, ◌++◌, ◌∷◌, [], OnOk, codes, decimal, flat_map};
+ghost use Rattle.std.specs.Prelude.{◌≡◌, ◌∷◌, [], OnOk, codes, decimal, flat_map};
 ghost use Rattle.std.specs.Str.{byte};
 ghost use Rattle.trace_text.specs.Words.{escaped, escaped_byte, following, is_plain, is_separator};
+ghost use Rattle.trace_text.specs.Writer.{Added, AddedWords};
 
 use crate::writer::Writer;
 use itoa::Buffer;
@@ -24,7 +25,7 @@ fn is_separator(word: &[u8]) -> bool
 impl Writer {
     fn escaped_byte(&mut self, byte: u8) -> Result<(), AllocError>
         ensures before { self.new.before ≡ self.old.before }
-        ensures ok { OnOk result (self.new.line ≡ self.old.line ++ escaped_byte byte) }
+        ensures ok { OnOk result (Added self.old self.new (escaped_byte byte)) }
     {
         if is_plain(byte) {
             return self.push(&[byte]);
@@ -34,7 +35,7 @@ impl Writer {
 
     fn escaped_bytes(&mut self, word: &[u8]) -> Result<(), AllocError>
         ensures before { self.new.before ≡ self.old.before }
-        ensures ok { OnOk result (self.new.line ≡ self.old.line ++ flat_map escaped_byte word.now) }
+        ensures ok { OnOk result (Added self.old self.new (flat_map escaped_byte word.now)) }
     {
         for byte in word {
             self.escaped_byte(*byte)?;
@@ -46,7 +47,7 @@ impl Writer {
     #[tactic(auto, unfolding(crate::specs::Words::escaped))]
     pub fn first(&mut self, word: &[u8]) -> Result<(), AllocError>
         ensures before { self.new.before ≡ self.old.before }
-        ensures ok { OnOk result (self.new.line ≡ self.old.line ++ escaped word.now) }
+        ensures ok { OnOk result (Added self.old self.new (escaped word.now)) }
     {
         if word.is_empty() {
             return self.push(b"%-");
@@ -60,7 +61,7 @@ impl Writer {
     /// One more word.
     pub fn word(&mut self, word: &[u8]) -> Result<(), AllocError>
         ensures before { self.new.before ≡ self.old.before }
-        ensures ok { OnOk result (self.new.line ≡ self.old.line ++ following (word.now ∷ [])) }
+        ensures ok { OnOk result (AddedWords self.old self.new (word.now ∷ [])) }
     {
         self.push(b" ")?;
         self.first(word)
@@ -69,7 +70,7 @@ impl Writer {
     /// One more word, a number.
     pub fn number(&mut self, number: u64) -> Result<(), AllocError>
         ensures before { self.new.before ≡ self.old.before }
-        ensures ok { OnOk result (self.new.line ≡ self.old.line ++ following (decimal number ∷ [])) }
+        ensures ok { OnOk result (AddedWords self.old self.new (decimal number ∷ [])) }
     {
         let mut digits = Buffer::new();
         self.word(digits.format(number).as_bytes())
@@ -78,7 +79,7 @@ impl Writer {
     /// The end of the line.
     pub fn end_line(&mut self) -> Result<(), AllocError>
         ensures before { self.new.before ≡ self.old.before }
-        ensures ok { OnOk result (self.new.line ≡ self.old.line ++ codes "\n") }
+        ensures ok { OnOk result (Added self.old self.new (codes "\n")) }
     {
         self.push(b"\n")
     }

@@ -1,4 +1,5 @@
 ghost use Rattle.std.specs.Prelude.{◌≡◌, ◌++◌, [], OnOk};
+ghost use Rattle.trace_text.specs.Writer.{Added};
 
 use containers::Bytes;
 use std::alloc::AllocError;
@@ -50,7 +51,7 @@ impl Writer {
     /// Bytes of the line as they are.
     pub fn push(&mut self, bytes: &[u8]) -> Result<(), AllocError>
         ensures before { self.new.before ≡ self.old.before }
-        ensures ok { OnOk result (self.new.line ≡ self.old.line ++ bytes.now) }
+        ensures ok { OnOk result (Added self.old self.new bytes.now) }
     {
         self.text.extend_from_slice(bytes)
     }
