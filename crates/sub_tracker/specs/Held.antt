@@ -1,5 +1,5 @@
 -- The names that a tracker holds, and what a tracked command makes of them.
-use Rattle.std.specs.Prelude.{ℕ, Bool, List, [], ◌∷◌}
+use Rattle.std.specs.Prelude.{ℕ, Bool, false, List, [], ◌∷◌}
 use Rattle.std.specs.BTreeMap.{is_at}
 use Rattle.std.specs.BTreeSet.{insert_key}
 use Rattle.std.specs.Set.{remove_key}
@@ -17,6 +17,10 @@ pub record Held : Type 0 where
 pub record TrackerState : Type 0 where
   pub held : Held
   pub failed : Bool
+
+-- a tracker that holds these names, and has not failed
+abbrev pub holding : Held → TrackerState
+holding h = record { held = h; failed = false }
 
 abbrev pub nothing : Held
 nothing = record { plain = []; sharded = []; pattern = [] }

@@ -30,3 +30,8 @@ pub record Resubscribes (history : List Request) (p : CommandList) : Type 0 wher
   pub names : Held
   pub exact : (f : Family) → AreSubscribed f history (names_of f names)
   pub is : p ≡ resubscription names
+
+-- two pipelines that subscribe again what is subscribed after the same commands are one
+abbrev pub OnePipeline : Type 0
+OnePipeline =
+    (history : List Request) (p q : CommandList) → Resubscribes history p → Resubscribes history q → p ≡ q

@@ -1,5 +1,5 @@
 -- Which names are subscribed after a list of tracked commands.
-use Rattle.std.specs.Prelude.{◌≡◌, ℕ, ◌==◌, Bool, true, false, ◌&&◌, List, [], ◌∷◌, if◌then◌else◌}
+use Rattle.std.specs.Prelude.{◌≡◌, ℕ, ◌==◌, Bool, true, false, ◌&&◌, List, [], ◌∷◌, ◌++◌, if◌then◌else◌}
 use Rattle.std.specs.List.{list_any}
 use Rattle.std.specs.List.Sorted.{IsStrictlySortedBy}
 use Rattle.std.specs.declared.cmp.Ordering.{Ordering}
@@ -59,6 +59,18 @@ subscribed_on f name was (r ∷ rs) = subscribed_on f name (if concerns f name r
 -- whether the last of these commands that is of this family and gives the name subscribed it; a name that none gives is not subscribed
 abbrev pub subscribed : Family → List ℕ → List Request → Bool
 subscribed f name history = subscribed_on f name false history
+
+-- a command of the family that gives the name decides whether it is subscribed after it
+abbrev pub LastDecides : Type 0
+LastDecides =
+    (f : Family) (name : List ℕ) (history : List Request) (r : Request) → concerns f name r ≡ true
+    → subscribed f name (history ++ r ∷ []) ≡ subscribes r.0
+
+-- any other command leaves that as it was
+abbrev pub OthersLeave : Type 0
+OthersLeave =
+    (f : Family) (name : List ℕ) (history : List Request) (r : Request) → concerns f name r ≡ false
+    → subscribed f name (history ++ r ∷ []) ≡ subscribed f name history
 
 -- the order of names by their bytes
 abbrev pub byte_order : List ℕ → List ℕ → Ordering

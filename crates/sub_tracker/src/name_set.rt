@@ -71,7 +71,8 @@ impl NameSet {
 
     /// The command of this word with all names.
     fn command(&self, alloc: Global, word: &[u8]) -> Result<Cmd, AllocError>
-        ensures { IfOk result (λ c. c ≡ record { args = word.now ∷ self.now; no_response = false }) }
+        ensures { IfOk result
+            (λ c. c ≡ record { args = word.now ∷ self.now; no_response = false }) }
     {
         let mut command = cmd(alloc, word)?;
         for name in &self.names {
@@ -87,7 +88,8 @@ impl NameSet {
         word: &[u8],
         pipeline: &mut Pipeline,
     ) -> Result<(), AllocError>
-        ensures { OnOk result (pipeline.new ≡ followed_by pipeline.old (command_for word.now self.now)) }
+        ensures { OnOk result
+            (pipeline.new ≡ followed_by pipeline.old (command_for word.now self.now)) }
     {
         if self.names.is_empty() {
             return Ok(());

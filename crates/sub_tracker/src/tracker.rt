@@ -1,6 +1,6 @@
 ghost use Rattle.std.specs.Prelude.{◌≡◌, List, [], ◌∷◌, ◌++◌, true, false, OnOk, OnErr, IfOk, IsOk, IsErr};
 ghost use Rattle.sub_tracker.specs.Subscribed.{Request, subscribes};
-ghost use Rattle.sub_tracker.specs.Held.{nothing, held_with, held_after};
+ghost use Rattle.sub_tracker.specs.Held.{nothing, holding, held_with, held_after};
 ghost use Rattle.sub_tracker.specs.Pipeline.{request_of, resubscription, Resubscribes};
 
 use crate::name_set::NameSet;
@@ -22,14 +22,17 @@ impl Model for SubscriptionTracker {
 
     ghost Value = { TrackerState };
 
-    ghost view = { λ t. record { held = record { plain = t.plain; sharded = t.sharded; pattern = t.pattern }; failed = t.failed } };
+    ghost view = { λ t. record {
+      held = record { plain = t.plain; sharded = t.sharded; pattern = t.pattern };
+      failed = t.failed;
+    } };
 }
 
 impl SubscriptionTracker {
     /// A tracker of no commands. Takes no memory.
     #[tactic(auto, unfolding(crate::specs::Held::held_after))]
     pub fn new(alloc: Global) -> SubscriptionTracker
-        ensures { result ≡ record { held = held_after []; failed = false } }
+        ensures { result ≡ holding (held_after []) }
     {
         SubscriptionTracker {
             plain: NameSet::new(alloc),
@@ -66,7 +69,8 @@ impl SubscriptionTracker {
         action: SubscriptionAction,
         names: &Names,
     ) -> Result<(), AllocError>
-        ensures ok { OnOk result (self.new ≡ record { held = held_with self.old.held action names.now; failed = self.old.failed }) }
+        ensures ok { OnOk result
+            (self.new ≡ record self.old { held = held_with self.old.held action names.now }) }
         ensures spared { subscribes action ≡ false → IsOk result }
     {
         match action {
@@ -95,8 +99,9 @@ impl SubscriptionTracker {
         action: SubscriptionAction,
         names: &Names,
     ) -> Result<(), AllocError>
-        ensures ok { OnOk result (self.new ≡ record { held = held_with self.old.held action names.now; failed = false }) }
-        ensures tracked { (history : List Request) → self.old.held ≡ held_after history → OnOk result (self.new.held ≡ held_after (history ++ (action, names.now) ∷ [])) }
+        ensures ok { OnOk result (self.new ≡ holding (held_with self.old.held action names.now)) }
+        ensures tracked { (history : List Request) → self.old.held ≡ held_after history
+            → OnOk result (self.new.held ≡ held_after (history ++ (action, names.now) ∷ [])) }
         ensures err { OnErr result (self.new.failed ≡ true) }
         ensures failed { self.old.failed ≡ true → IsErr result }
         ensures spared { subscribes action ≡ false → self.old.failed ≡ false → IsOk result }
@@ -127,7 +132,8 @@ impl SubscriptionTracker {
     /// The commands that subscribe again what is subscribed.
     pub fn get_subscription_pipeline(&self, alloc: Global) -> Result<Pipeline, AllocError>
         ensures value { IfOk result (λ p. p ≡ resubscription self.now.held) }
-        ensures subscribed { (history : List Request) → self.now.held ≡ held_after history → IfOk result (Resubscribes history) }
+        ensures subscribed { (history : List Request) → self.now.held ≡ held_after history
+            → IfOk result (Resubscribes history) }
         ensures failed { self.now.failed ≡ true → IsErr result }
     {
         if self.failed {

@@ -1,12 +1,11 @@
 -- The fronts of the traces that are refused for what comes next.
 use Rattle.std.specs.Prelude.{ℕ, List, [], ◌∷◌, ◌++◌}
 use Rattle.driver_model.specs.declared.action.Action.{Action}
-use Rattle.driver_model.specs.declared.action.Action.TheVariants as action
 use Rattle.driver_model.specs.declared.config.Config.{Config}
 use Rattle.legal_trace.specs.Book.{blank_book}
 use Rattle.legal_trace.specs.Legal.{AllStand}
-use Rattle.trace_examples.specs.Parts.{command, unawaited, two_together, reply}
-use Rattle.trace_examples.specs.Traces.{cut_off_alone, taken_in_part, came_up, arrived, started_one, answered_both, answered_alike, pushed, cut_off, told_first, half_filled, refused, left_alone, shut_down, shut_in_wait, left_untold, both_in_wait, up_in_wait, spoiled, held_back, first_of_both, started_unoffered, left_out, ended}
+use Rattle.trace_examples.specs.Parts.{command, unawaited, two_together}
+use Rattle.trace_examples.specs.Traces.{cut_off_alone, taken_in_part, came_up, arrived, started_one, answered_both, answered_first, answered_alike, pushed, cut_off, told_first, half_filled, refused, left_alone, shut_down, shut_in_wait, left_untold, both_in_wait, up_in_wait, spoiled, held_back, first_of_both, started_unoffered, left_out, ended}
 
 -- the actions of each of these stand where they may
 abbrev pub EachStands : List (List Action) → Type 0
@@ -15,7 +14,7 @@ EachStands (front ∷ more) = AllStand blank_book front × EachStands more
 
 -- those where replies came
 abbrev pub answered_fronts : Config → ℕ → List (List Action)
-answered_fronts config word = answered_both config word ∷ answered_alike config word ∷ (answered_both config word ++ action.Outcome 0 (reply 120) ∷ []) ∷ told_first config word ∷ left_alone config word ∷ []
+answered_fronts config word = answered_both config word ∷ answered_alike config word ∷ answered_first config word ∷ told_first config word ∷ left_alone config word ∷ []
 
 -- those where a message isn't full, or is full and not answered
 abbrev pub unanswered_fronts : Config → ℕ → List (List Action)

@@ -1,3 +1,4 @@
 pub mod Parts
 pub mod Traces
 pub mod Fronts
+pub mod Claims

@@ -14,7 +14,7 @@ use Rattle.driver_model.specs.declared.event.Submission.{Submission}
 use Rattle.driver_model.specs.declared.event.Submission.TheVariants as submission
 use Rattle.driver_model.specs.declared.outcome.Outcome.TheVariants as outcome
 use Rattle.driver_model.specs.Request.{packed}
-use Rattle.trace_examples.specs.Parts.{turn, command, unawaited, one_atomic, one_skipped, one_reply, replies, replies_alike, a_reply_and_more, spoiled_behind, okay_line, a_push, refusals, multi_refused, exec_refused, executed}
+use Rattle.trace_examples.specs.Parts.{turn, command, unawaited, one_atomic, one_skipped, reply, one_reply, replies, replies_alike, a_reply_and_more, spoiled_behind, okay_line, a_push, refusals, multi_refused, exec_refused, executed}
 
 -- the opening
 abbrev pub opening : Config → ℕ → List Action
@@ -47,6 +47,10 @@ sent_both config word = started_both config word ++ turn 4 (event.Wrote 0 11) �
 -- and both replies came
 abbrev pub answered_both : Config → ℕ → List Action
 answered_both config word = sent_both config word ++ turn 6 (event.Bytes 0 replies) ∷ []
+
+-- and the first was answered
+abbrev pub answered_first : Config → ℕ → List Action
+answered_first config word = answered_both config word ++ action.Outcome 0 (reply 120) ∷ []
 
 -- or +x came twice
 abbrev pub answered_alike : Config → ℕ → List Action
