@@ -2,3 +2,4 @@ pub mod Links
 pub mod Answers
 pub mod Next
 pub mod Segments
+pub mod Laws

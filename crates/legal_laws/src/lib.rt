@@ -1,22 +1,18 @@
 //! What follows for any trace that can be relied on.
 #![tactic(auto)]
 
-ghost use Rattle.std.specs.Prelude.{◌≡◌, ℕ, List};
+ghost use Rattle.std.specs.Prelude.{List};
 ghost use Rattle.driver_model.specs.declared.action.Action.{Action};
-ghost use Rattle.driver_model.specs.declared.config.Config.{Config};
-ghost use Rattle.driver_model.specs.declared.event.Event.{Event};
-ghost use Rattle.legal_trace.specs.Book.{blank_book};
 ghost use Rattle.legal_trace.specs.Ledger.{Line, LinkLegal};
-ghost use Rattle.legal_trace.specs.Legal.{Legal};
-ghost use Rattle.legal_laws.specs.Links.{lines_for, LinksAreLegal, LedgersAreTold, TakesInOrder};
+ghost use Rattle.legal_laws.specs.Links.{LinksAreLegal, LedgersAreTold, TakesInOrder};
 ghost use Rattle.legal_laws.specs.Answers.{AnswersOnce, AnswersAll};
 ghost use Rattle.legal_laws.specs.Next.{OneIsNextBehind};
-ghost use Rattle.legal_laws.specs.Segments.{AreInOrder};
+ghost use Rattle.legal_laws.specs.Laws.{OfEachLegal, LinksTakeInOrder, OneIsLegal, TurnsAreInOrder};
 
 /// Does nothing. Its contract: what a legal trace tells of each link is legal by itself. What the book of any trace has of
 /// a link is what these lines come to.
 pub fn every_link_is_legal()
-    ensures legal { (config : Config) (word : ℕ) (events : List Event) (trace : List Action) → Legal config word events trace → LinksAreLegal trace }
+    ensures legal { OfEachLegal LinksAreLegal }
     ensures told { (trace : List Action) → LedgersAreTold trace }
 {}
 
@@ -24,17 +20,17 @@ pub fn every_link_is_legal()
 /// after another. So it is for whatever can be relied on that is told of a link, and for each link of a legal trace.
 pub fn bytes_are_a_front_of_the_messages()
     ensures alone { (lines : List Line) → LinkLegal lines → TakesInOrder lines }
-    ensures within { (config : Config) (word : ℕ) (events : List Event) (trace : List Action) → Legal config word events trace → (l : ℕ) → TakesInOrder (lines_for trace l) }
+    ensures within { OfEachLegal LinksTakeInOrder }
 {}
 
 /// Does nothing. Its contract: in a legal trace no submission has a second outcome.
 pub fn a_legal_trace_answers_once()
-    ensures { (config : Config) (word : ℕ) (events : List Event) (trace : List Action) → Legal config word events trace → AnswersOnce trace }
+    ensures { OfEachLegal AnswersOnce }
 {}
 
 /// Does nothing. Its contract: after a shutdown each submission of a legal trace that was not cancelled has one outcome.
 pub fn after_a_shutdown_all_are_answered()
-    ensures { (config : Config) (word : ℕ) (events : List Event) (trace : List Action) → Legal config word events trace → AnswersAll trace }
+    ensures { OfEachLegal AnswersAll }
 {}
 
 /// Does nothing. Its contract: behind actions that may stand, at most one action may stand next, but for the cause of a
@@ -45,10 +41,10 @@ pub fn one_action_may_stand()
 
 /// Does nothing. Its contract: a configuration, a word and events have at most one legal trace.
 pub fn two_legal_traces_are_equal()
-    ensures { (config : Config) (word : ℕ) (events : List Event) (s t : List Action) → Legal config word events s → Legal config word events t → s ≡ t }
+    ensures { OneIsLegal }
 {}
 
 /// Does nothing. Its contract: in a legal trace the actions of each turn stand segment by segment.
 pub fn a_turn_has_five_segments()
-    ensures { (config : Config) (word : ℕ) (events : List Event) (trace : List Action) (h : Legal config word events trace) → AreInOrder 0 blank_book trace h.each }
+    ensures { TurnsAreInOrder }
 {}

@@ -1,0 +1,30 @@
+-- The laws of legal traces, each as one statement.
+use Rattle.std.specs.Prelude.{◌≡◌, ℕ, List}
+use Rattle.driver_model.specs.declared.action.Action.{Action}
+use Rattle.driver_model.specs.declared.config.Config.{Config}
+use Rattle.driver_model.specs.declared.event.Event.{Event}
+use Rattle.legal_trace.specs.Book.{blank_book}
+use Rattle.legal_trace.specs.Legal.{Legal}
+use Rattle.legal_laws.specs.Links.{lines_for, TakesInOrder}
+use Rattle.legal_laws.specs.Segments.{AreInOrder}
+
+-- it is so of each legal trace
+abbrev pub OfEachLegal : (List Action → Type 0) → Type 0
+OfEachLegal P =
+    (config : Config) (word : ℕ) (events : List Event) (trace : List Action) → Legal config word events trace → P trace
+
+-- the bytes that a link of the trace took and is offered are the first of those of its started messages
+abbrev pub LinksTakeInOrder : List Action → Type 0
+LinksTakeInOrder trace = (l : ℕ) → TakesInOrder (lines_for trace l)
+
+-- a configuration, a word and events have at most one legal trace
+abbrev pub OneIsLegal : Type 0
+OneIsLegal =
+    (config : Config) (word : ℕ) (events : List Event) (s t : List Action) → Legal config word events s
+    → Legal config word events t → s ≡ t
+
+-- in a legal trace the actions of each turn stand segment by segment
+abbrev pub TurnsAreInOrder : Type 0
+TurnsAreInOrder =
+    (config : Config) (word : ℕ) (events : List Event) (trace : List Action) (h : Legal config word events trace)
+    → AreInOrder 0 blank_book trace h.each
