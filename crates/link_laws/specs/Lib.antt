@@ -4,3 +4,4 @@ pub mod Settles
 pub mod Starts
 pub mod Runs
 pub mod Pieces
+pub mod Laws

@@ -3,12 +3,12 @@ use Rattle.link_laws.proofs.calls_keep_links_alike.Goals as goal
 
 pub returns : goal.returns
 returns c = record {
-  enqueue = enqueue_alike;
+  enqueue = λ q id s t h. enqueue_alike id s t q h;
   offer = offer_alike;
-  wrote = wrote_alike;
-  cancel = cancel_alike;
+  wrote = λ n id s t h. wrote_alike id s t n h;
+  cancel = λ other id s t h. cancel_alike id other s t h;
   start = start_alike;
-  bytes = bytes_alike;
+  bytes = λ piece id s t out out' h o. bytes_alike id s t out out' piece h o;
   close = close_alike;
-  fault = fault_alike;
+  fault = λ f id s t out out' h o. fault_alike id f s t out out' h o;
 }
