@@ -1,5 +1,5 @@
 -- What ties a link to its ledger, and what each call makes of both.
-use Rattle.std.proofs.Common.{◌≡◌, ◌≢◌, if◌then◌else◌, ◌⊎◌, inl, inr, ℕ, zero, suc, ◌<◌, ◌≤◌, ◌==◌, Bool, true, false, ◌&&◌, not, List, [], ◌∷◌, ◌++◌, length, take, drop, None, refl, sym, ap, ◌∙◌, subst, append_assoc, arith, length-append, length-take}
+use Rattle.std.proofs.Common.{◌≡◌, ◌≢◌, if◌then◌else◌, ◌⊎◌, inl, inr, ℕ, zero, suc, ◌<◌, ◌≤◌, ◌==◌, Bool, true, false, ◌&&◌, not, List, [], ◌∷◌, ◌++◌, length, take, drop, Option, None, refl, sym, ap, ◌∙◌, subst, append_assoc, arith, length-append, length-take}
 use Rattle.std.specs.List.{AllByRecursion}
 use Rattle.std.proofs.Math.Seq.{drop-append_seam}
 use Rattle.std.proofs.lemmas.List.{take-append-le, take_all, take-take, take-append-drop, length_push}
@@ -18,7 +18,8 @@ use Rattle.link_core.specs.Dealing.{Dealing, dealt_each}
 use Rattle.link_core.specs.Link.{LinkState, Starting, Settling, fresh, entry_of, enqueued, is_held_back, started_one, started_each, offered_of, wrote_of, cancelled, read_on, came, emptied}
 use Rattle.link_core.specs.Outbox.{can_offer}
 use Rattle.link_core.specs.Row.{silent, silenced}
-use Rattle.legal_trace.specs.Ledger.{Start, Ledger, asks, hears, begins, offers, ends, blank_ledger, is_over, reach, bytes_came, noted, noted_each, joined, unwritten, IsOffered, MayNote, AllNoted}
+use Rattle.link_core.specs.Waiting.{without}
+use Rattle.legal_trace.specs.Ledger.{Start, End, Ledger, ended, asks, hears, begins, offers, ends, blank_ledger, is_over, reach, bytes_came, noted, noted_each, joined, unwritten, IsOffered, MayNote, AllNoted}
 use Rattle.legal_trace.proofs.Ledgers.{joined_more}
 use Rattle.link_laws.specs.Starts.{start_from, begun, starting, begins_each}
 use Rattle.link_laws.proofs.Choices.{chosen_both}
@@ -58,11 +59,13 @@ fresh_tied name size boundary = record {
   row = λ e. refl;
 }
 
--- what is told without a change of the link
+-- what changes no bytes and no starts
 --
--- whether it is asked for, up, and what it was told last
-pub told_tied : (name : ℕ → Owner) (l : Ledger) (s : LinkState) (asked up : Bool) (news : News) → TiedLink name l s → TiedLink name (record l { asked = asked; up = up; heard = news }) s
-told_tied name l s asked up news h = record {
+-- whether it is asked for, up or over, what it was told last, its queue, and the names and verdicts of its row
+retied : (name other : ℕ → Owner) (l : Ledger) (s : LinkState) (asked up : Bool) (end : Option End) (news : News) (queue : List Queued) (row : List Entry) → TiedLink name l s
+    → (end ≡ None → open_list other row ≡ open_rows l.starts l.dealt)
+    → TiedLink other (record l { asked = asked; up = up; end = end; heard = news }) (record s { queue = queue; row = row })
+retied name other l s asked up end news queue row h rows = record {
   sent = h.sent;
   offer = h.offer;
   bound = h.bound;
@@ -71,8 +74,14 @@ told_tied name l s asked up news h = record {
   started = h.started;
   within = h.within;
   bytes = h.bytes;
-  row = h.row;
+  row = rows;
 }
+
+-- what is told without a change of the link
+--
+-- whether it is asked for, up, and what it was told last
+pub told_tied : (name : ℕ → Owner) (l : Ledger) (s : LinkState) (asked up : Bool) (news : News) → TiedLink name l s → TiedLink name (record l { asked = asked; up = up; heard = news }) s
+told_tied name l s asked up news h = retied name name l s asked up l.end news s.queue s.row h h.row
 
 -- its connect is asked for
 pub asked_tied : (name : ℕ → Owner) (l : Ledger) (s : LinkState) → TiedLink name l s → TiedLink name (noted l asks) s
@@ -101,17 +110,7 @@ unheard_tied name l s shut f h = told_tied name l s l.asked l.up shut h
 -- what changes the link alone
 --
 pub queue_tied : (name : ℕ → Owner) (l : Ledger) (s : LinkState) (queue : List Queued) → TiedLink name l s → TiedLink name l (record s { queue = queue })
-queue_tied name l s queue h = record {
-  sent = h.sent;
-  offer = h.offer;
-  bound = h.bound;
-  rest = h.rest;
-  broken = h.broken;
-  started = h.started;
-  within = h.within;
-  bytes = h.bytes;
-  row = h.row;
-}
+queue_tied name l s queue h = retied name name l s l.asked l.up l.end l.heard queue s.row h h.row
 
 -- a message takes a place in the queue
 pub enqueued_tied : (name : ℕ → Owner) (l : Ledger) (s : LinkState) (q : Queued) → TiedLink name l s → TiedLink name l (enqueued s q)
@@ -127,17 +126,7 @@ silenced_open name (e ∷ es) id =
 
 -- the caller of a message has gone
 pub cancelled_tied : (name : ℕ → Owner) (l : Ledger) (s : LinkState) (id : ℕ) → TiedLink name l s → TiedLink name l (cancelled s id)
-cancelled_tied name l s id h = record {
-  sent = h.sent;
-  offer = h.offer;
-  bound = h.bound;
-  rest = h.rest;
-  broken = h.broken;
-  started = h.started;
-  within = h.within;
-  bytes = h.bytes;
-  row = λ e. silenced_open name s.row id ∙ h.row e;
-}
+cancelled_tied name l s id h = retied name name l s l.asked l.up l.end l.heard (without s.queue id) (silenced s.row id) h (λ e. silenced_open name s.row id ∙ h.row e)
 
 -- names that are the same for each message of a row
 abbrev pub SameNames : (ℕ → Owner) → (ℕ → Owner) → List Entry → Type 0
@@ -155,17 +144,7 @@ named_open name other (e ∷ es) all = (λ i. record { owner = all.0 i; shape = 
 
 -- the names of other messages are of no account
 pub named_tied : (name other : ℕ → Owner) (l : Ledger) (s : LinkState) → SameNames name other s.row → TiedLink name l s → TiedLink other l s
-named_tied name other l s same h = record {
-  sent = h.sent;
-  offer = h.offer;
-  bound = h.bound;
-  rest = h.rest;
-  broken = h.broken;
-  started = h.started;
-  within = h.within;
-  bytes = h.bytes;
-  row = λ e. sym (named_open name other s.row same) ∙ h.row e;
-}
+named_tied name other l s same h = retied name other l s l.asked l.up l.end l.heard s.queue s.row h (λ e. sym (named_open name other s.row same) ∙ h.row e)
 
 -- messages start
 --
@@ -356,14 +335,6 @@ came_tied name l s out piece up lives sound h =
 -- the link ends
 --
 pub ended_tied : (name : ℕ → Owner) (l : Ledger) (s : LinkState) (out more : List Settled) (turn : ℕ) → TiedLink name l s → TiedLink name (noted l (ends turn)) (emptied (record { link = s; out = out }) more).link
-ended_tied name l s out more turn h = record {
-  sent = h.sent;
-  offer = h.offer;
-  bound = h.bound;
-  rest = h.rest;
-  broken = h.broken;
-  started = h.started;
-  within = h.within;
-  bytes = h.bytes;
-  row = λ e. cc;
-}
+ended_tied name l s out more turn h =
+    let m = ended l turn in
+    retied name name l s m.asked m.up m.end m.heard [] [] h (λ e. cc)
