@@ -20,6 +20,7 @@ use Rattle.mux_conn.specs.Effects.{cancelled_in, left}
 use Rattle.shared_session.specs.declared.core_state.Core.{Core}
 use Rattle.shared_session.specs.Turn.{Turning, work_of, with_work, heard, left_by, counted, moved_on, takes_too_much, is_bad, shown_each, actions_of, turn}
 use Rattle.shared_session.specs.Replay.{opening, opening_actions, run_on, state_after, turns_on, trace_of, told_each, outcomes_in, outcome_at, is_bad_after}
+use Rattle.shared_session.proofs.Replays.{turns_after}
 use Rattle.cancel_laws.specs.ButFor.{all_unnumbered, but_for, hushed_life}
 use Rattle.cancel_laws.specs.Cancels.{cancel_of, HasStarted, GoesOn}
 use Rattle.cancel_laws.proofs.Requests.{own_closed}
@@ -32,7 +33,7 @@ use Rattle.cancel_laws.proofs.Once.{IsOnce, silenced_once, row_once}
 use Rattle.cancel_laws.proofs.Rest.{nothing_moves, left_idle}
 use Rattle.cancel_laws.proofs.Silent.{IsSilent}
 use Rattle.cancel_laws.proofs.Turns.{bare_core, above, more_after, AreAlike, turn_gone}
-use Rattle.cancel_laws.proofs.Ready.{IsReady, ready_on, opening_ready, number_on}
+use Rattle.cancel_laws.proofs.Ready.{IsReady, ready_on, opening_ready}
 use Rattle.cancel_laws.proofs.Shown.{shown_alike, alike_on, silent_shown}
 use Rattle.cancel_laws.proofs.Outcomes.{told-append, all_told_unnumbered, erased, other_outcome, erased_told, none_told}
 
@@ -157,8 +158,7 @@ ready_after config word before = ready_on (opening config word) before (opening_
 
 -- the number of the next turn
 number_after : (config : Config) (word : ℕ) (before : List Event) → (state_after config word before).turns ≡ length before + 1
-unfolding state_after
-number_after config word before = omega (arith, number_on (opening config word) before)
+number_after config word before = omega (arith, turns_after config word before)
 
 -- the two sessions are alike after all later events
 alike_after : (config : Config) (word draw n : ℕ) (before after : List Event) (h : HasStarted n (state_after config word before))

@@ -119,35 +119,3 @@ opening_ready config word = record {
   once = λ p. record { within = omega arith };
   named = record { to = λ n p e. cc; back = λ q n e. cc };
 }
-
--- the numbers of turns
---
--- a submission is left
-left_turns : (t : Turning) (who : Option (Option Pending)) → (left_by t who).core.turns ≡ t.core.turns
-left_turns t None = refl
-left_turns t (Some None) = refl
-left_turns t (Some (Some p)) = refl
-
--- what an event is to the submissions
-requested_turns : (t : Turning) (kind : EventKind) → (requested t kind).core.turns ≡ t.core.turns
-requested_turns t (event.Submit s) =
-    chosen (λ (x : Turning). x.core.turns ≡ t.core.turns) t.core.shut _ _ (λ u. refl)
-    (λ f. chosen (λ (x : Turning). x.core.turns ≡ t.core.turns) (length (packed s) == 0) _ _ (λ u. refl) (λ g. refl))
-requested_turns t (event.Cancel n) = left_turns t (slice_get t.core.table n)
-requested_turns t (event.Connected l) = refl
-requested_turns t (event.Wrote l count) = refl
-requested_turns t (event.Bytes l piece) = refl
-requested_turns t (event.Ended l) = refl
-requested_turns t (event.ReadFault l kind) = refl
-requested_turns t (event.WriteFault l kind) = refl
-requested_turns t event.Shutdown = refl
-
--- a turn counts one
-turn_number : (c : Core) (kind : EventKind) → (turn c kind).core.turns ≡ c.turns + 1
-unfolding turn
-turn_number c kind = requested_turns (heard (counted c) kind) kind
-
--- and more of them count theirs
-pub number_on : (c : Core) (es : List Event) → (run_on c es).turns ≡ c.turns + length es
-number_on c [] = omega arith
-number_on c (e ∷ es) = omega (arith, number_on (turn c e.kind).core es, turn_number c e.kind)

@@ -1,2 +1,3 @@
 pub mod ButFor
 pub mod Cancels
+pub mod Laws

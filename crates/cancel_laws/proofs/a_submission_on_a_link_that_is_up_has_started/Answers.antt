@@ -3,8 +3,8 @@ use Rattle.cancel_laws.proofs.a_submission_on_a_link_that_is_up_has_started.Goal
 
 pub returns : goal.returns
 returns c = record {
-  any = any_started;
-  command = command_started;
-  pipeline = pipeline_started;
-  transaction = transaction_started;
+  any = λ s some awaited config word draw later. any_started config word draw later s some awaited;
+  command = λ name args config word draw later. command_started config word draw later name args;
+  pipeline = λ name args more config word draw later. pipeline_started config word draw later name args more;
+  transaction = λ args more config word draw later. transaction_started config word draw later args more;
 }

@@ -1,0 +1,63 @@
+-- The laws of cancels, each as one statement. They speak of a history behind which submission n has started and is open.
+use Rattle.std.specs.Prelude.{◌≡◌, ◌≢◌, ℕ, false, List, ◌∷◌, ◌++◌, Option}
+use Rattle.driver_model.specs.declared.config.Config.{Config}
+use Rattle.driver_model.specs.declared.event.Event.{Event}
+use Rattle.driver_model.specs.declared.event.Submission.{Submission}
+use Rattle.driver_model.specs.declared.outcome.Outcome.{Outcome}
+use Rattle.mux_conn.specs.declared.life.Life.{Life}
+use Rattle.shared_session.specs.Replay.{state_after, trace_of, outcomes_in, outcome_at, is_bad_after}
+use Rattle.cancel_laws.specs.ButFor.{hushed_life}
+use Rattle.cancel_laws.specs.Cancels.{cancel_of, handed_in_after_connect, HasStarted, GoesOn}
+
+-- what submission m has come to behind a history, if it has come to anything
+abbrev pub outcome_after : Config → ℕ → List Event → ℕ → Option Outcome
+outcome_after config word events m = outcome_at (outcomes_in (trace_of config word events)) m
+
+-- where the link is in its life behind a history
+abbrev pub life_after : Config → ℕ → List Event → Life
+life_after config word events = (state_after config word events).single.connection.life
+
+-- the cancel of n is not bad there
+abbrev pub CancelIsGood : Type 0
+CancelIsGood =
+    (config : Config) (word draw n : ℕ) (before : List Event) → HasStarted n (state_after config word before)
+    → is_bad_after config word before (cancel_of draw n) ≡ false
+
+-- it changes no other submission's outcome, whatever comes after
+abbrev pub OthersKeepOutcomes : Type 0
+OthersKeepOutcomes =
+    (config : Config) (word draw n m : ℕ) (before after : List Event) → HasStarted n (state_after config word before)
+    → m ≢ n
+    → outcome_after config word (before ++ after) m ≡ outcome_after config word (before ++ cancel_of draw n ∷ after) m
+
+-- n itself gets no outcome any more
+abbrev pub CancelledGetsNone : Type 0
+CancelledGetsNone =
+    (config : Config) (word draw n : ℕ) (before after : List Event) → HasStarted n (state_after config word before)
+    → outcome_after config word (before ++ cancel_of draw n ∷ after) n ≡ outcome_after config word before n
+
+-- the turns show the same but for n's outcome, in the same order
+abbrev pub TurnsGoOn : Type 0
+TurnsGoOn =
+    (config : Config) (word draw n : ℕ) (before after : List Event) → HasStarted n (state_after config word before)
+    → GoesOn config word n before (cancel_of draw n) after
+
+-- each item goes to the same message, where n's own is not wanted
+abbrev pub ItemsGoTheSameWay : Type 0
+ItemsGoTheSameWay =
+    (config : Config) (word draw n : ℕ) (before after : List Event)
+    (h : HasStarted n (state_after config word before))
+    → hushed_life h.pending.number (life_after config word (before ++ after))
+    ≡ life_after config word (before ++ cancel_of draw n ∷ after)
+
+-- the same events are bad
+abbrev pub SameAreBad : Type 0
+SameAreBad =
+    (config : Config) (word draw n : ℕ) (before after : List Event) (e : Event)
+    → HasStarted n (state_after config word before)
+    → is_bad_after config word (before ++ after) e ≡ is_bad_after config word (before ++ cancel_of draw n ∷ after) e
+
+-- a submission has started where it is the first that is handed in, after the link's connect
+abbrev pub StartsWhereHandedIn : Submission → Type 0
+StartsWhereHandedIn s =
+    (config : Config) (word draw later : ℕ) → HasStarted 0 (handed_in_after_connect config word draw later s)
