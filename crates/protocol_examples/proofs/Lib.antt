@@ -1,0 +1,5 @@
+pub mod Computed
+pub mod Nesting
+pub mod LineEnds
+pub mod Led
+pub mod Again

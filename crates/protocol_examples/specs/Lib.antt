@@ -1,0 +1,9 @@
+pub mod Tables
+pub mod Grammar
+pub mod Limits
+pub mod Pushes
+pub mod Errors
+pub mod Slots
+pub mod Packing
+pub mod Canonical
+pub mod Tracking

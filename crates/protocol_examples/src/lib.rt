@@ -1,0 +1,113 @@
+//! Examples of the protocol, each with the proof: what its definitions say of texts, keys, commands and errors.
+#![tactic(auto)]
+
+ghost use Rattle.std.specs.Prelude.{◌≡◌, ℕ, List, ◌++◌};
+ghost use Rattle.std.specs.List.{All};
+ghost use Rattle.resp_value.specs.Kinds.{kind_of, has_reply};
+ghost use Rattle.resp_value.specs.Redirect.{LeadsNowhere};
+ghost use Rattle.resp_read.specs.Reads.{Reads, IsProperPrefix, IsMalformed};
+ghost use Rattle.resp_write.specs.Canonical.{canonical};
+ghost use Rattle.resp_write.specs.Pack.{pack, pack_pipeline};
+ghost use Rattle.slot_hash.specs.Crc.{crc16};
+ghost use Rattle.slot_hash.specs.Tag.{hashed, slot_of};
+ghost use Rattle.sub_tracker.specs.Subscribed.{Request};
+ghost use Rattle.sub_tracker.specs.Held.{held_after};
+ghost use Rattle.sub_tracker.specs.Pipeline.{request_of};
+ghost use Rattle.protocol_examples.specs.Tables.{Gives};
+ghost use Rattle.protocol_examples.specs.Grammar.{IsValue, lines, scalars, sized_texts, lists, tagged, malformed_lines, malformed_lengths, short_lines, short_lengths};
+ghost use Rattle.protocol_examples.specs.Limits.{one_in_arrays, nested_one, IsReadToItsEnd, IsTooLong, greatest_lengths, lengths_too_great};
+ghost use Rattle.protocol_examples.specs.Pushes.{kinds_of_texts, replies_of_kinds};
+ghost use Rattle.protocol_examples.specs.Errors.{told_by_code, codes_of_errors, told_by_error, errors_of_the_driver, faults, IsLead, leads, strays};
+ghost use Rattle.protocol_examples.specs.Slots.{checksums, hash_tags, slots_of_keys};
+ghost use Rattle.protocol_examples.specs.Packing.{packed_commands, packed_pipelines};
+ghost use Rattle.protocol_examples.specs.Canonical.{texts_of_scalars, texts_of_aggregates};
+ghost use Rattle.protocol_examples.specs.Tracking.{tracked_commands, subscribed_after, resubscribing, bytes_that_resubscribe, tracked_again};
+
+/// Does nothing. Its contract: each of these texts is the value beside it, whatever follows it.
+pub fn these_texts_are_values()
+    ensures lines { All IsValue lines }
+    ensures scalars { All IsValue scalars }
+    ensures sized { All IsValue sized_texts }
+    ensures lists { All IsValue lists }
+    ensures tagged { All IsValue tagged }
+{}
+
+/// Does nothing. Its contract: whatever follows these texts, no value begins with them.
+pub fn these_texts_are_malformed()
+    ensures lines { All IsMalformed malformed_lines }
+    ensures lengths { All IsMalformed malformed_lengths }
+{}
+
+/// Does nothing. Its contract: these texts are no values yet, and with more bytes they are.
+pub fn these_texts_are_not_whole()
+    ensures lines { All IsProperPrefix short_lines }
+    ensures lengths { All IsProperPrefix short_lengths }
+{}
+
+/// Does nothing. Its contract: a number in a hundred arrays is a value, and in one more it is none.
+pub fn a_hundred_arrays_nest()
+    ensures at_most { (rest : List ℕ) → Reads (one_in_arrays 100 ++ rest) (nested_one 100) rest }
+    ensures one_more { IsMalformed (one_in_arrays 101) }
+{}
+
+/// Does nothing. Its contract: a line has at most 1,048,576 bytes, a text of announced length at most 536,870,912, and
+/// an aggregate at most 2,147,483,647 values or pairs.
+pub fn lengths_have_limits()
+    ensures longest_line { IsReadToItsEnd 1_048_576 }
+    ensures longer_line { IsTooLong 1_048_577 }
+    ensures announced { All IsProperPrefix greatest_lengths }
+    ensures not_announced { All IsMalformed lengths_too_great }
+{}
+
+/// Does nothing. Its contract: the kinds of pushes, by their texts, and which of them are replies.
+pub fn pushes_have_these_kinds()
+    ensures kinds { Gives kind_of kinds_of_texts }
+    ensures replies { Gives has_reply replies_of_kinds }
+{}
+
+/// Does nothing. Its contract: what these errors are about, and how their requests are tried again: of a server by their
+/// codes, of the driver, and of a link.
+pub fn errors_tell_how_to_go_on()
+    ensures codes { Gives told_by_code codes_of_errors }
+    ensures driver { Gives told_by_error errors_of_the_driver }
+    ensures faults { Gives told_by_error faults }
+{}
+
+/// Does nothing. Its contract: where these errors lead, and that others lead nowhere.
+pub fn redirects_lead_there()
+    ensures leads { All IsLead leads }
+    ensures strays { All LeadsNowhere strays }
+{}
+
+/// Does nothing. Its contract: the slots of these keys, by the part of each that counts and its checksum.
+pub fn keys_have_these_slots()
+    ensures checksums { Gives crc16 checksums }
+    ensures tags { Gives hashed hash_tags }
+    ensures slots { Gives slot_of slots_of_keys }
+{}
+
+/// Does nothing. Its contract: the bytes of these commands, pipelines and transactions.
+pub fn commands_have_these_bytes()
+    ensures commands { Gives pack packed_commands }
+    ensures pipelines { Gives pack_pipeline packed_pipelines }
+{}
+
+/// Does nothing. Its contract: the texts by which these values are shown.
+pub fn values_have_these_texts()
+    ensures scalars { Gives canonical texts_of_scalars }
+    ensures aggregates { Gives canonical texts_of_aggregates }
+{}
+
+/// Does nothing. Its contract: what is tracked of these commands, which names are subscribed after them, and the bytes
+/// that subscribe those again.
+pub fn these_names_are_subscribed()
+    ensures commands { Gives request_of tracked_commands }
+    ensures names { Gives held_after subscribed_after }
+    ensures bytes { Gives resubscribing bytes_that_resubscribe }
+{}
+
+/// Does nothing. Its contract: a tracker of the commands that subscribe again what is subscribed, and of nothing before
+/// them, holds the same names.
+pub fn resubscribing_gives_the_same_names()
+    ensures { (history : List Request) → tracked_again (held_after history) ≡ held_after history }
+{}
