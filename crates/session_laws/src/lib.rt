@@ -9,20 +9,20 @@ pub fn every_replay_is_legal()
     ensures { ReplaysAreLegal }
 {}
 
-/// Does nothing. Its contract: behind a history without a bad event, the bad events are those that the book of its trace
-/// says are.
+/// Does nothing. Its contract: behind a history without a bad event, the bad events are those that
+/// the book of its trace says are.
 pub fn bad_events_are_those_of_the_book()
     ensures { BadByTheBook }
 {}
 
-/// Does nothing. Its contract: what the outcome actions of a replay's trace say of a submission is the last outcome of its
-/// story.
+/// Does nothing. Its contract: what the outcome actions of a replay's trace say of a submission is
+/// the last outcome of its story.
 pub fn outcomes_are_those_of_the_trace()
     ensures { OutcomesByTheBook }
 {}
 
-/// Does nothing. Its contract: behind a history without a bad event, the step of a good event is spent exactly where
-/// numbers of a sort have run out by the end of its turn.
+/// Does nothing. Its contract: behind a history without a bad event, the step of a good event is
+/// spent exactly where numbers of a sort have run out by the end of its turn.
 pub fn a_spent_step_gives_out_the_last_number()
     ensures given { SpentHasRunOut }
     ensures spent { RunOutIsSpent }
