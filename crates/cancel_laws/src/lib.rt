@@ -1,4 +1,5 @@
-//! The law of cancels: over whole histories, the cancel of a started request changes nothing but its own outcome.
+//! The law of cancels: over whole histories, the cancel of a started request changes nothing but
+//! its own outcome.
 #![tactic(auto)]
 
 ghost use Rattle.std.specs.Prelude.{◌≡◌, ◌≢◌, ℕ, true, List, [], ◌∷◌};
@@ -9,10 +10,11 @@ ghost use Rattle.cancel_laws.specs.Laws.{CancelIsGood, OthersKeepOutcomes, Cance
 ghost use Rattle.cancel_laws.specs.Laws.{TurnsGoOn, ItemsGoTheSameWay, SameAreBad};
 ghost use Rattle.cancel_laws.specs.Laws.{StartsWhereHandedIn};
 
-/// Does nothing. Its contract: where submission n has started and is open after a history, its cancel there changes
-/// nothing of what comes later but n's own outcome, which it never gets. All other submissions have the same outcomes;
-/// the turns show the same starts, offers, waits and closes in the same order; each item goes to the same message, where n's
-/// own is not wanted; and the same events are bad.
+/// Does nothing. Its contract: where submission n has started and is open after a history, its
+/// cancel there changes nothing of what comes later but n's own outcome, which it never gets. All
+/// other submissions have the same outcomes; the turns show the same starts, offers, waits and
+/// closes in the same order; each item goes to the same message, where n's own is not wanted; and
+/// the same events are bad.
 pub fn a_cancel_changes_one_outcome()
     ensures good { CancelIsGood }
     ensures outcomes { OthersKeepOutcomes }
@@ -22,8 +24,9 @@ pub fn a_cancel_changes_one_outcome()
     ensures bad { SameAreBad }
 {}
 
-/// Does nothing. Its contract: such submissions exist. Any that has bytes, and whose reply is awaited, has started where
-/// it is handed in after the link's connect: so a command, a pipeline whose first command has a name, and a transaction.
+/// Does nothing. Its contract: such submissions exist. Any that has bytes, and whose reply is
+/// awaited, has started where it is handed in after the link's connect: so a command, a pipeline
+/// whose first command has a name, and a transaction.
 pub fn a_submission_on_a_link_that_is_up_has_started()
     ensures any { (s : Submission) → packed s ≢ [] → awaits_reply s ≡ true
         → StartsWhereHandedIn s }

@@ -10,4 +10,6 @@ AnswersOnce trace = (n : ℕ) → length ((book trace).story n).outcomes ≤ 1
 
 -- after a shutdown each submission that was not cancelled has one outcome
 abbrev pub AnswersAll : List Action → Type 0
-AnswersAll trace = (book trace).shut ≡ true → (n : ℕ) (s : Submission) → ((book trace).story n).submission ≡ Some s → ((book trace).story n).cancelled ≡ false → length ((book trace).story n).outcomes ≡ 1
+AnswersAll trace =
+    (book trace).shut ≡ true → (n : ℕ) (s : Submission) → ((book trace).story n).submission ≡ Some s
+    → ((book trace).story n).cancelled ≡ false → length ((book trace).story n).outcomes ≡ 1

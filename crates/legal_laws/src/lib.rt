@@ -9,15 +9,16 @@ ghost use Rattle.legal_laws.specs.Answers.{AnswersOnce, AnswersAll};
 ghost use Rattle.legal_laws.specs.Next.{OneIsNextBehind};
 ghost use Rattle.legal_laws.specs.Laws.{OfEachLegal, LinksTakeInOrder, OneIsLegal, TurnsAreInOrder};
 
-/// Does nothing. Its contract: what a legal trace tells of each link is legal by itself. What the book of any trace has of
-/// a link is what these lines come to.
+/// Does nothing. Its contract: what a legal trace tells of each link is legal by itself. What the
+/// book of any trace has of a link is what these lines come to.
 pub fn every_link_is_legal()
     ensures legal { OfEachLegal LinksAreLegal }
     ensures told { (trace : List Action) → LedgersAreTold trace }
 {}
 
-/// Does nothing. Its contract: the bytes that a link took and is offered are the first bytes of its started messages, one
-/// after another. So it is for whatever can be relied on that is told of a link, and for each link of a legal trace.
+/// Does nothing. Its contract: the bytes that a link took and is offered are the first bytes of its
+/// started messages, one after another. So it is for whatever can be relied on that is told of a
+/// link, and for each link of a legal trace.
 pub fn bytes_are_a_front_of_the_messages()
     ensures alone { (lines : List Line) → LinkLegal lines → TakesInOrder lines }
     ensures within { OfEachLegal LinksTakeInOrder }
@@ -28,13 +29,14 @@ pub fn a_legal_trace_answers_once()
     ensures { OfEachLegal AnswersOnce }
 {}
 
-/// Does nothing. Its contract: after a shutdown each submission of a legal trace that was not cancelled has one outcome.
+/// Does nothing. Its contract: after a shutdown each submission of a legal trace that was not
+/// cancelled has one outcome.
 pub fn after_a_shutdown_all_are_answered()
     ensures { OfEachLegal AnswersAll }
 {}
 
-/// Does nothing. Its contract: behind actions that may stand, at most one action may stand next, but for the cause of a
-/// turn.
+/// Does nothing. Its contract: behind actions that may stand, at most one action may stand next,
+/// but for the cause of a turn.
 pub fn one_action_may_stand()
     ensures { (front : List Action) → OneIsNextBehind front }
 {}

@@ -1,5 +1,5 @@
-//! The laws of a link: what is told of it is legal, and what it settles is owed; what a cut of its bytes and a cancel
-//! change; in which order messages start, and what holds them back.
+//! The laws of a link: what is told of it is legal, and what it settles is owed; what a cut of its
+//! bytes and a cancel change; in which order messages start, and what holds them back.
 #![tactic(auto)]
 
 ghost use Rattle.std.specs.Prelude.{◌≡◌, ◌+◌, ◌<◌, ℕ, true, false, List, [], ◌∷◌, ◌++◌, length};
@@ -19,15 +19,16 @@ ghost use Rattle.link_laws.specs.Laws.{LackWhatWasNotDealt, OneLine, EndSettlesA
 ghost use Rattle.link_laws.specs.Laws.{PushStandsBehind};
 ghost use Rattle.link_laws.specs.Laws.{WithdrawalIsNotTold, WithdrawalSparesOthers};
 
-/// Does nothing. Its contract: a cancel of a message that has left the queue changes nothing of its link but that the
-/// message's own verdict is not wanted.
+/// Does nothing. Its contract: a cancel of a message that has left the queue changes nothing of its
+/// link but that the message's own verdict is not wanted.
 pub fn a_cancel_changes_one_verdict()
     ensures { (id : ℕ) (s : LinkState) → without s.queue id ≡ s.queue
         → SameLink id s (cancelled s id) }
 {}
 
-/// Does nothing. Its contract: links that are alike but for one message's own verdict stay so through each call. The
-/// same messages start in the same order, each item goes to the same message, and all other verdicts are the same.
+/// Does nothing. Its contract: links that are alike but for one message's own verdict stay so
+/// through each call. The same messages start in the same order, each item goes to the same
+/// message, and all other verdicts are the same.
 pub fn calls_keep_links_alike()
     ensures enqueue { (q : Queued) → KeepsAlike (λ s. enqueued s q) }
     ensures offer { KeepsAlike offered_of }
@@ -39,8 +40,8 @@ pub fn calls_keep_links_alike()
     ensures fault { (f : LinkFault) → SettlesAlike (λ d. faulted d f) }
 {}
 
-/// Does nothing. Its contract: a new message has the last place of the queue, and messages start from its front, in
-/// order, while all others keep their places.
+/// Does nothing. Its contract: a new message has the last place of the queue, and messages start
+/// from its front, in order, while all others keep their places.
 pub fn messages_start_in_the_order_of_their_places()
     ensures last { (s : LinkState) (q : Queued)
         → places (enqueued s q).queue ≡ places s.queue ++ q.id ∷ [] }
@@ -53,9 +54,10 @@ pub fn every_run_of_a_link_is_legal()
         → LinkLegal (run name size boundary ops).lines }
 {}
 
-/// Does nothing. Its contract: whatever is done with a link, each started message that it settles comes to what its
-/// ledger owes it by its number, and each that waits when the link ends to what the ledger owes such a one. And until the
-/// link ends, its started messages lack as many items as the starts take and were not dealt.
+/// Does nothing. Its contract: whatever is done with a link, each started message that it settles
+/// comes to what its ledger owes it by its number, and each that waits when the link ends to what
+/// the ledger owes such a one. And until the link ends, its started messages lack as many items as
+/// the starts take and were not dealt.
 pub fn what_a_link_settles_is_owed()
     ensures settled { (name : ℕ → Owner) (size boundary : ℕ) (ops : List Operation)
         → AreOwed name (ledger (run name size boundary ops).lines) (run name size boundary ops) }
@@ -63,28 +65,31 @@ pub fn what_a_link_settles_is_owed()
         → LackWhatWasNotDealt (run name size boundary ops) }
 {}
 
-/// Does nothing. Its contract: the messages that were settled, and then those whose verdict is wanted, stand in one line.
-/// A message joins it at its end, by its place in the queue, and no operation but a withdrawal moves anyone out of it. What
-/// ends a link settles all that it has, in order.
+/// Does nothing. Its contract: the messages that were settled, and then those whose verdict is
+/// wanted, stand in one line. A message joins it at its end, by its place in the queue, and no
+/// operation but a withdrawal moves anyone out of it. What ends a link settles all that it has, in
+/// order.
 pub fn an_end_answers_each_message_once()
     ensures line { OneLine }
     ensures end { EndSettlesAll }
 {}
 
-/// Does nothing. Its contract: a push stands behind as many messages as the values before it, in the same bytes, settled.
+/// Does nothing. Its contract: a push stands behind as many messages as the values before it, in
+/// the same bytes, settled.
 pub fn a_push_stands_behind_what_came_before_it()
     ensures { PushStandsBehind }
 {}
 
-/// Does nothing. Its contract: one withdrawal more, of a message that has left the queue, changes nothing of what is told
-/// of a link, and nothing of what it settles but that message's own verdict.
+/// Does nothing. Its contract: one withdrawal more, of a message that has left the queue, changes
+/// nothing of what is told of a link, and nothing of what it settles but that message's own
+/// verdict.
 pub fn a_cancel_changes_no_other_verdict()
     ensures lines { WithdrawalIsNotTold }
     ensures settled { WithdrawalSparesOthers }
 {}
 
-/// Does nothing. Its contract: bytes that come in two pieces are read as if they had come in one. Where the first breaks
-/// the link, so does the whole, with the same settled messages.
+/// Does nothing. Its contract: bytes that come in two pieces are read as if they had come in one.
+/// Where the first breaks the link, so does the whole, with the same settled messages.
 pub fn a_cut_changes_nothing()
     ensures sound { (d : Settling) (p q : List ℕ) → (came d p).link.broken ≡ false
         → came (came d p) q ≡ came d (p ++ q) }
@@ -96,8 +101,8 @@ pub fn a_cut_changes_nothing()
         → (came d (p ++ q)).out ≡ (came d p).out }
 {}
 
-/// Does nothing. Its contract: messages are held back from the boundary on, and not one byte below it; never where
-/// nothing is unwritten, nor at the greatest boundary.
+/// Does nothing. Its contract: messages are held back from the boundary on, and not one byte below
+/// it; never where nothing is unwritten, nor at the greatest boundary.
 pub fn a_link_is_held_back_at_its_boundary()
     ensures below { (s : LinkState) → length s.outbox.unwritten + 1 ≡ s.boundary
         → is_held_back s ≡ false }

@@ -1,6 +1,7 @@
 ghost use Rattle.std.specs.Prelude.{◌≡◌, map, IfOk, option_copied, Some};
 ghost use Rattle.mux_routing.specs.Entries.{numbered};
-ghost use Rattle.mux_routing.specs.Shards.{first_numbers, leading_below, leads, node_in, picking, place_of, reads_after, shard_of};
+ghost use Rattle.mux_routing.specs.Shards.{first_numbers, leading_below, leads, place_of, shard_of};
+ghost use Rattle.mux_routing.specs.Shards.{node_in, picking, reads_after};
 
 use crate::addresses::place_of;
 use crate::rows::SlotRow;

@@ -34,7 +34,8 @@ impl Model for SlotMap {
 }
 
 impl SlotMap {
-    ghost use Rattle.std.specs.Prelude.{◌≡◌, ◌<◌, ◌^◌, true, map, IfOk, IfSome, Some, slice_get, option_and_then, option_copied};
+    ghost use Rattle.std.specs.Prelude.{◌≡◌, ◌<◌, ◌^◌, true, map, slice_get};
+    ghost use Rattle.std.specs.Prelude.{IfOk, IfSome, Some, option_and_then, option_copied};
     ghost use Rattle.mux_routing.specs.Reply.{are_rows};
     ghost use Rattle.mux_routing.specs.Shards.{addresses, in_order, last_row, shard_at};
     ghost use Rattle.mux_routing.specs.Shards.{address_led_to, picking, place_led_to, reads_after};

@@ -28,20 +28,23 @@ abbrev pub rest_of : {T : Type 0} → List T → List T
 rest_of [] = []
 rest_of (x ∷ xs) = xs
 
--- a script after the answer to a dial, a write, a moment or a word: its list without the first item
+-- a script after the answer to a dial
 abbrev pub dial_answered : WorldScript → WorldScript
 dial_answered s = record s { dials = rest_of s.dials }
 
+-- a script after the answer to a write
 abbrev pub write_answered : WorldScript → WorldScript
 write_answered s = record s { writes = rest_of s.writes }
 
+-- a script after it told a moment
 abbrev pub moment_told : WorldScript → WorldScript
 moment_told s = record s { moments = rest_of s.moments }
 
+-- a script after it told a word
 abbrev pub word_told : WorldScript → WorldScript
 word_told s = record s { words = rest_of s.words }
 
--- and after the answer to a read, with these bytes still to come
+-- a script after the answer to a read, with these bytes still to come
 abbrev pub read_answered : WorldScript → List ℕ → WorldScript
 read_answered s left = record s { reads = rest_of s.reads; incoming = left }
 

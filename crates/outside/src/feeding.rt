@@ -78,7 +78,8 @@ fn feed_once<S: Source, F: Feed>(
     ensures ended { result ≡ Ok (Some Fed.Ended) → IsAtEnd (S.left source.new) }
     ensures enough { IfOk result (λ fed. F.enough feed.new ≡ has_enough fed) }
     ensures falls { result ≡ Ok None
-        → F.most feed.new - length (F.kept feed.new) < F.most feed.old - length (F.kept feed.old) }
+        → F.most feed.new - length (F.kept feed.new)
+        < F.most feed.old - length (F.kept feed.old) }
     ensures same { F.most feed.new ≡ F.most feed.old }
     ensures rest { GaveSome (S.left source.old) (S.left source.new) }
     ensures later { S.fault_count source.old ≤ S.fault_count source.new }

@@ -1,5 +1,5 @@
-//! Reads commands, one a line with a blank before each argument, and writes the pipeline that subscribes again what they
-//! leave subscribed. The measurement of the tracker's speed runs it.
+//! Reads commands, one a line with a blank before each argument, and writes the pipeline that
+//! subscribes again what they leave subscribed. The measurement of the tracker's speed runs it.
 #![tactic(auto)]
 
 use mux_resp::Cmd;

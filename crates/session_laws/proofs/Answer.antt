@@ -24,6 +24,7 @@ use Rattle.legal_trace.specs.Owed.{owed, owed_to_try, owed_to_message, owed_unst
 use Rattle.legal_trace.specs.Legal.{NoneEnds, VerdictsAreShown, MayAnswer}
 use Rattle.session_laws.proofs.Numbers.{IsIn, in_right, in_left, Rising, rising_in}
 use Rattle.session_laws.proofs.Tied.{Inner, link_in, queue_ids, waiting_ids, IsUnknown, TiedLife, TiedNames, IsEntry, TiedLines, Tied}
+use Rattle.session_laws.proofs.Relined.{relined}
 use Rattle.session_laws.proofs.Names.{open_within, earlier_name, owners_still, length_still, names_progressed, there_other, there_then}
 use Rattle.session_laws.proofs.InLine.{line_of, IsInLine, first_is_apart}
 use Rattle.session_laws.proofs.Closing.{Closes, with_closed, story_closed, tries_closed, packs_closed, queue_closed, waits_closed}
@@ -192,23 +193,14 @@ answer_tied b t p pending o l r h = answer_apart b t p pending o l (first_is_apa
 
 -- one that isn't open is answered with nothing shown
 pub skip_tied : (b : Book) (t : Inner) (p : ℕ) (pending : List ℕ) → is_open_at t.requests p ≡ false → Tied b (record t { pending = p ∷ pending }) → Tied b (record t { pending = pending })
-skip_tied b t p pending closed h = record {
-  numbers = record { turns = h.numbers.turns; links = h.numbers.links; submissions = h.numbers.submissions; shut = h.numbers.shut; one = h.numbers.one; only = h.numbers.only };
-  others = h.others;
-  life = h.life;
-  link = h.link;
-  names = h.names;
-  story = h.story;
-  tries = h.tries;
-  lines = record {
-    line = h.lines.line;
-    queued = h.lines.queued;
-    entries = h.lines.entries;
-    packs = h.lines.packs;
-    there = λ q e. elim (h.lines.there q e) [
-      | inl i ↦ elim i [ inl same ↦ absurd (not_both (is_open_at t.requests q) (ap (is_open_at t.requests) (sym same) ∙ closed) e) | inr j ↦ inl j ]
-      | inr w ↦ inr w
-    ];
-  };
-  waits = h.waits;
-}
+skip_tied b t p pending closed h =
+    relined b (record t { pending = p ∷ pending }) t.waiting t.fresh pending h (record {
+      line = h.lines.line;
+      queued = h.lines.queued;
+      entries = h.lines.entries;
+      packs = h.lines.packs;
+      there = λ q e. elim (h.lines.there q e) [
+        | inl i ↦ elim i [ inl same ↦ absurd (not_both (is_open_at t.requests q) (ap (is_open_at t.requests) (sym same) ∙ closed) e) | inr j ↦ inl j ]
+        | inr w ↦ inr w
+      ];
+    }) h.waits

@@ -25,6 +25,7 @@ use Rattle.legal_trace.specs.Owed.{owed, owed_unstarted}
 use Rattle.legal_trace.specs.Legal.{MayClose}
 use Rattle.session_laws.proofs.Numbers.{IsIn, in_left, in_right, Rising, rising_in, rising_within, rising_right, rising_tail}
 use Rattle.session_laws.proofs.Tied.{Inner, link_in, owner_of, queue_ids, waiting_ids, TiedLines, Tied}
+use Rattle.session_laws.proofs.Relined.{relined}
 use Rattle.session_laws.proofs.States.{HasApplied}
 use Rattle.session_laws.proofs.InLine.{line_of, IsInLine, awaited_rises}
 use Rattle.session_laws.proofs.Owes.{none_owed, in_line, later_unstarted, owed_none_started, settled_owed}
@@ -134,17 +135,8 @@ waiting_lines story requests link waiting started h = record {
 
 -- the session is tied with them to be answered
 waiting_tied : (b : Book) (t : Inner) → Tied b (record t { pending = [] }) → Tied b (record t { waiting = []; pending = waiting_ids t.waiting ++ [] })
-waiting_tied b t h = record {
-  numbers = record { turns = h.numbers.turns; links = h.numbers.links; submissions = h.numbers.submissions; shut = h.numbers.shut; one = h.numbers.one; only = h.numbers.only };
-  others = h.others;
-  life = h.life;
-  link = h.link;
-  names = h.names;
-  story = h.story;
-  tries = h.tries;
-  lines = waiting_lines b.story t.requests (link_in t.life) t.waiting t.started h.lines;
-  waits = h.waits;
-}
+waiting_tied b t h =
+    relined b (record t { pending = [] }) [] t.fresh (waiting_ids t.waiting ++ []) h (waiting_lines b.story t.requests (link_in t.life) t.waiting t.started h.lines) h.waits
 
 -- and they are in line
 waiting_in_line : (requests : List Request) (life : Life) (waiting : List Waiting) → life ≡ Ended → IsInLine requests (link_in life) waiting [] → IsInLine requests (link_in life) [] (waiting_ids waiting ++ [])

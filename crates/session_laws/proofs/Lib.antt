@@ -7,6 +7,7 @@ pub mod InLine
 pub mod Behind
 pub mod Owes
 pub mod Closing
+pub mod Relined
 pub mod Answer
 pub mod Kept
 pub mod Start

@@ -31,6 +31,7 @@ use Rattle.session_laws.proofs.Numbers.{IsIn, Rising, in_either, in_left, in_rig
 use Rattle.session_laws.proofs.Owes.{in_line, request_story}
 use Rattle.session_laws.proofs.Start.{not_dialing, on_link, with_queue}
 use Rattle.session_laws.proofs.Tied.{Inner, IsEntry, IsNew, IsOf, IsPacked, IsQueued, Tied, TiedStory, TiedTries, owner_of, owners_each, waiting_ids}
+use Rattle.session_laws.proofs.Relined.{relined}
 
 -- the session with these that wait
 abbrev pub with_waiting : Inner → LinkState → List Waiting → Inner
@@ -52,26 +53,17 @@ waiting_open requests p w = open_then (slice_get requests p) w
 -- one that no longer waits is passed over
 --
 pub passed_over : (b : Book) (t : Inner) (link : LinkState) (q : Waiting) (qs : List Waiting) → is_waiting_at t.requests q.number ≡ false → Tied b (with_waiting t (with_queue link []) (q ∷ qs)) → Tied b (with_waiting t (with_queue link []) qs)
-passed_over b t link q qs gone h = record {
-  numbers = numbers_kept b _ _ (with_waiting t (with_queue link []) (q ∷ qs)) _ _ _ _ _ _ h.numbers;
-  others = h.others;
-  life = h.life;
-  link = h.link;
-  names = h.names;
-  story = h.story;
-  tries = h.tries;
-  lines = record {
-    line = rising_without 0 t.started q.number (waiting_ids qs) (length t.requests) h.lines.line;
-    queued = h.lines.queued;
-    entries = h.lines.entries;
-    packs = h.lines.packs.1;
-    there = λ p e. elim (h.lines.there p e) [
-      | inl i ↦ inl i
-      | inr w ↦ elim w.1 [ inl same ↦ absurd (not_both (is_waiting_at t.requests p) (ap (is_waiting_at t.requests) (sym same) ∙ gone) w.0) | inr i ↦ inr (w.0, i) ]
-    ];
-  };
-  waits = h.waits;
-}
+passed_over b t link q qs gone h =
+    relined b (with_waiting t (with_queue link []) (q ∷ qs)) qs t.fresh [] h (record {
+      line = rising_without 0 t.started q.number (waiting_ids qs) (length t.requests) h.lines.line;
+      queued = h.lines.queued;
+      entries = h.lines.entries;
+      packs = h.lines.packs.1;
+      there = λ p e. elim (h.lines.there p e) [
+        | inl i ↦ inl i
+        | inr w ↦ elim w.1 [ inl same ↦ absurd (not_both (is_waiting_at t.requests p) (ap (is_waiting_at t.requests) (sym same) ∙ gone) w.0) | inr i ↦ inr (w.0, i) ]
+      ];
+    }) h.waits
 
 -- one whose reply is awaited
 --
@@ -177,26 +169,17 @@ place_tied b t link q qs w yes_awaited h =
 --
 -- it is to be answered, and waits no longer
 waiting_pending : (b : Book) (t : Inner) (link : LinkState) (q : Waiting) (qs : List Waiting) → Tied b (with_waiting t (with_queue link []) (q ∷ qs)) → Tied b (record (with_waiting t (with_queue link []) qs) { pending = q.number ∷ [] })
-waiting_pending b t link q qs h = record {
-  numbers = numbers_kept b _ _ (with_waiting t (with_queue link []) (q ∷ qs)) _ _ _ _ _ _ h.numbers;
-  others = h.others;
-  life = h.life;
-  link = h.link;
-  names = h.names;
-  story = h.story;
-  tries = h.tries;
-  lines = record {
-    line = rising_without 0 t.started q.number (waiting_ids qs) (length t.requests) h.lines.line;
-    queued = h.lines.queued;
-    entries = h.lines.entries;
-    packs = h.lines.packs.1;
-    there = λ p e. elim (h.lines.there p e) [
-      | inl i ↦ inl (inr i)
-      | inr w ↦ elim w.1 [ inl same ↦ inl (inl same) | inr i ↦ inr (w.0, i) ]
-    ];
-  };
-  waits = h.waits;
-}
+waiting_pending b t link q qs h =
+    relined b (with_waiting t (with_queue link []) (q ∷ qs)) qs t.fresh (q.number ∷ []) h (record {
+      line = rising_without 0 t.started q.number (waiting_ids qs) (length t.requests) h.lines.line;
+      queued = h.lines.queued;
+      entries = h.lines.entries;
+      packs = h.lines.packs.1;
+      there = λ p e. elim (h.lines.there p e) [
+        | inl i ↦ inl (inr i)
+        | inr w ↦ elim w.1 [ inl same ↦ inl (inl same) | inr i ↦ inr (w.0, i) ]
+      ];
+    }) h.waits
 
 -- a message has the last place of an empty queue
 enqueue_tied : (b : Book) (t : Inner) (link : LinkState) (m : Queued) → IsQueued b.story t.requests m → Rising 0 (t.started ++ (m.id ∷ waiting_ids t.waiting)) (length t.requests) → Tied b (on_link t (with_queue link [])) → Tied b (on_link t (with_queue link (m ∷ [])))

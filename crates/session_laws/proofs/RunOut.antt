@@ -1,26 +1,22 @@
 -- When numbers run out.
-use Rattle.std.proofs.Common.{Bool, List, None, Option, Some, [], ap, arith, false, inl, inr, length, nat_le, refl, slice_get, subst, suc, sym, true, ℕ, ◌++◌, ◌+◌, ◌<◌, ◌∙◌, ◌∷◌, ◌≡◌, ◌≤◌, ◌⊎◌}
-use Rattle.std.specs.Prelude.{if◌then◌else◌, ◌==◌, ◌^◌, ◌||◌}
+use Rattle.std.proofs.Common.{Bool, List, Some, [], ap, arith, false, inl, inr, length, nat_le, refl, slice_get, subst, suc, sym, true, ℕ, ◌++◌, ◌+◌, ◌<◌, ◌∙◌, ◌∷◌, ◌≡◌, ◌≤◌, ◌⊎◌}
+use Rattle.std.specs.Prelude.{◌==◌, ◌^◌, ◌||◌}
+use Rattle.std.proofs.lemmas.List.{length_push}
 use Rattle.containers.proofs.Places.{get_within}
-use Rattle.containers.proofs.Choices.{by_test, chosen, eq_from, le_from, le_test, ne_from}
-use Rattle.redis_error.specs.declared.redis_error.RedisError.TheVariants as error
-use Rattle.driver_model.specs.Request.{packed}
+use Rattle.containers.proofs.Choices.{by_test, eq_from, le_from, le_test, ne_from}
 use Rattle.driver_model.specs.declared.config.Config.{Config}
 use Rattle.driver_model.specs.declared.event.Event.{Event}
-use Rattle.driver_model.specs.declared.event.EventKind.{EventKind}
-use Rattle.driver_model.specs.declared.event.EventKind.TheVariants as event
-use Rattle.driver_model.specs.declared.event.Submission.{Submission}
 use Rattle.mux_conn.specs.Connection.{is_spent_in, started_in}
 use Rattle.mux_conn.specs.declared.life.Life.{Life}
 use Rattle.mux_conn.specs.declared.life.Life.TheVariants.{Dialing, Ended, Ready}
-use Rattle.mux_conn.specs.declared.request.Pending.{Pending}
 use Rattle.mux_conn.specs.declared.request.Request.{Request}
 use Rattle.shared_session.specs.Replay.{AreGood, AreGoodOn, is_bad_after, is_spent_after, opening, run_on, state_after, trace_of}
-use Rattle.shared_session.specs.Turn.{Turning, asked_for, counted, effect, heard, is_bad, is_spent, left_by, refused, spends, submitted, turn}
+use Rattle.shared_session.specs.Turn.{is_bad, is_spent, spends, turn}
 use Rattle.shared_session.specs.declared.core_state.Core.{Core}
 use Rattle.legal_trace.specs.Book.{Book, book}
 use Rattle.legal_trace.specs.Events.{HasRunOut}
 use Rattle.legal_trace.specs.Ledger.{Start}
+use Rattle.shared_session.proofs.Replays.{state_after-more, turns_after}
 use Rattle.session_laws.proofs.Legality.{replay_between}
 use Rattle.session_laws.proofs.Numbers.{Rising, rising_left}
 use Rattle.session_laws.proofs.Start.{owners_length}
@@ -28,54 +24,21 @@ use Rattle.session_laws.proofs.Tied.{Inner, Tied, inner, link_in, queue_ids, wai
 
 -- one event more
 --
-run_more : (c : Core) (es : List Event) (e : Event) → run_on c (es ++ e ∷ []) ≡ (turn (run_on c es) e.kind).core
-run_more c [] e = refl
-run_more c (x ∷ es) e = run_more (turn c x.kind).core es e
-
 -- a good event behind good ones
 good_more : (c : Core) (es : List Event) (e : Event) → AreGoodOn c es → is_bad (run_on c es) e.kind ≡ false → AreGoodOn c (es ++ e ∷ [])
 good_more c [] e h good = (good, tt)
 good_more c (x ∷ es) e h good = (h.0, good_more (turn c x.kind).core es e h.1 good)
 
--- the state behind it
-pub state_more : (config : Config) (word : ℕ) (events : List Event) (e : Event) → state_after config word (events ++ e ∷ []) ≡ (turn (state_after config word events) e.kind).core
-unfolding state_after
-state_more config word events e = run_more (opening config word) events e
-
--- and it is good with them
+-- a history is good with a good event more
 pub are_good_more : (config : Config) (word : ℕ) (events : List Event) (e : Event) → AreGood config word events → is_bad_after config word events e ≡ false → AreGood config word (events ++ e ∷ [])
 unfolding state_after AreGood
 are_good_more config word events e h good = good_more (opening config word) events e h good
 
--- a turn is one more
-submitted_turns : (t : Turning) (what : Submission) → (submitted t what).core.turns ≡ t.core.turns
-submitted_turns t what =
-    chosen (λ (x : Turning). x.core.turns ≡ t.core.turns) t.core.shut (refused t error.Closed) (if length (packed what) == 0 then refused t error.EmptyCommand else asked_for t what)
-    (λ s. refl)
-    (λ f. chosen (λ (x : Turning). x.core.turns ≡ t.core.turns) (length (packed what) == 0) (refused t error.EmptyCommand) (asked_for t what) (λ s. refl) (λ g. refl))
-
--- a leave counts none
-left_turns : (t : Turning) (x : Option (Option Pending)) → (left_by t x).core.turns ≡ t.core.turns
-left_turns t None = refl
-left_turns t (Some None) = refl
-left_turns t (Some (Some p)) = refl
-
--- nor does any other event
-effect_turns : (c : Core) (kind : EventKind) → (effect (counted c) kind).core.turns ≡ c.turns + 1
-effect_turns c (event.Submit what) = submitted_turns (heard (counted c) (event.Submit what)) what
-effect_turns c (event.Cancel n) = left_turns (heard (counted c) (event.Cancel n)) (slice_get c.table n)
-effect_turns c (event.Connected l) = refl
-effect_turns c (event.Wrote l count) = refl
-effect_turns c (event.Bytes l piece) = refl
-effect_turns c (event.Ended l) = refl
-effect_turns c (event.ReadFault l kind) = refl
-effect_turns c (event.WriteFault l kind) = refl
-effect_turns c event.Shutdown = refl
-
--- so a whole turn is one
-turn_counted : (c : Core) (kind : EventKind) → (turn c kind).core.turns ≡ c.turns + 1
-unfolding turn
-turn_counted c kind = effect_turns c kind
+-- a turn counts one
+turn_counted : (config : Config) (word : ℕ) (events : List Event) (e : Event) → (turn (state_after config word events) e.kind).core.turns ≡ (state_after config word events).turns + 1
+turn_counted config word events e =
+    let one_more : (state_after config word (events ++ e ∷ [])).turns ≡ (state_after config word events).turns + 1 = omega (arith, turns_after config word (events ++ e ∷ []), turns_after config word events, length_push events e) in
+    ap (λ (c : Core). c.turns) (sym (state_after-more config word events e)) ∙ one_more
 
 -- how many there are of each sort
 --
@@ -228,7 +191,7 @@ next_tied : (config : Config) (word : ℕ) (events : List Event) (e : Event) →
     → (started : List ℕ) × Tied (book (trace_of config word (events ++ e ∷ []))) (inner (turn (state_after config word events) e.kind).core started)
 next_tied config word events e good fine =
     let h = replay_between config word (events ++ e ∷ []) (are_good_more config word events e good fine) in
-    (h.started, subst (λ c. Tied (book (trace_of config word (events ++ e ∷ []))) (inner c h.started)) (state_more config word events e) h.between.sound.tied)
+    (h.started, subst (λ c. Tied (book (trace_of config word (events ++ e ∷ []))) (inner c h.started)) (state_after-more config word events e) h.between.sound.tied)
 
 -- a spent step gives out the last number
 pub spent_run_out : (config : Config) (word : ℕ) (events : List Event) (e : Event) → AreGood config word events → is_bad_after config word events e ≡ false → is_spent_after config word events e ≡ true → HasRunOut (book (trace_of config word (events ++ e ∷ [])))
@@ -236,7 +199,7 @@ unfolding spends is_spent
 spent_run_out config word events e good fine spent =
     let c = state_after config word events in
     let h = next_tied config word events e good fine in
-    run_out_of (book (trace_of config word (events ++ e ∷ []))) (inner (turn c e.kind).core h.0) c.turns h.1 (turn_counted c e.kind) spent
+    run_out_of (book (trace_of config word (events ++ e ∷ []))) (inner (turn c e.kind).core h.0) c.turns h.1 (turn_counted config word events e) spent
 
 -- and one that gives it out is spent
 pub run_out_spent : (config : Config) (word : ℕ) (events : List Event) (e : Event) → AreGood config word events → is_bad_after config word events e ≡ false → HasRunOut (book (trace_of config word (events ++ e ∷ []))) → is_spent_after config word events e ≡ true
@@ -244,4 +207,4 @@ unfolding spends is_spent
 run_out_spent config word events e good fine out =
     let c = state_after config word events in
     let h = next_tied config word events e good fine in
-    spent_of (book (trace_of config word (events ++ e ∷ []))) (inner (turn c e.kind).core h.0) c.turns h.1 (turn_counted c e.kind) out
+    spent_of (book (trace_of config word (events ++ e ∷ []))) (inner (turn c e.kind).core h.0) c.turns h.1 (turn_counted config word events e) out

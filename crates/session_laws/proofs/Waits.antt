@@ -21,6 +21,7 @@ use Rattle.session_laws.proofs.Numbers.{IsIn, in_right}
 use Rattle.session_laws.proofs.Owes.{later_unstarted, open_request, request_story}
 use Rattle.session_laws.proofs.Place.{waiting_open}
 use Rattle.session_laws.proofs.Tied.{Inner, IsRequest, Tied, TiedLife, link_in, queue_ids, waiting_ids}
+use Rattle.session_laws.proofs.Relined.{relined}
 
 -- a wait
 --
@@ -89,23 +90,14 @@ wait_tied b t p within h =
 
 -- one that has gone, or whose link isn't dialing, shows none
 pub unshown_tied : (b : Book) (t : Inner) (p : ℕ) → (is_waiting_at t.requests p ≡ true → t.life ≡ Dialing → ⊥) → Tied b (with_fresh t (p ∷ [])) → Tied b (with_fresh t [])
-unshown_tied b t p none h = record {
-  numbers = record { turns = h.numbers.turns; links = h.numbers.links; submissions = h.numbers.submissions; shut = h.numbers.shut; one = h.numbers.one; only = h.numbers.only };
-  others = h.others;
-  life = h.life;
-  link = h.link;
-  names = h.names;
-  story = h.story;
-  tries = h.tries;
-  lines = h.lines;
-  waits = record {
-    new = tt;
-    shown = λ q w d. elim (h.waits.shown q w d) [
-      | inl e ↦ absurd (none (ap (is_waiting_at t.requests) (same_one p q e) ∙ w) d)
-      | inr e ↦ inr e
-    ];
-  };
-}
+unshown_tied b t p none h =
+    relined b (with_fresh t (p ∷ [])) t.waiting [] t.pending h h.lines (record {
+      new = tt;
+      shown = λ q w d. elim (h.waits.shown q w d) [
+        | inl e ↦ absurd (none (ap (is_waiting_at t.requests) (same_one p q e) ∙ w) d)
+        | inr e ↦ inr e
+      ];
+    })
 
 -- while the connect isn't answered
 --

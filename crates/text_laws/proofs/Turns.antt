@@ -12,43 +12,12 @@ use Rattle.text_laws.specs.History.{begins_turn, turn_lines, without, cause_in}
 use Rattle.text_laws.proofs.Lines.{raw_of, parts_words, parts_line, line_back}
 use Rattle.text_laws.proofs.Bytes.{FitsCause, looked, decimal_bytes, word_and, cause_bytes, more_bytes}
 
+-- a line is picked where its first word is `turn`
 picked : (here : Bool) (word : List ℕ) (words : List (List ℕ)) (more : List (List (List ℕ))) (rest : List ℕ) → bytes_eq (escaped word) (codes "turn") ≡ here
     → turn_lines (line_of (word ∷ words) more ++ rest) ≡ (if here then raw_of (word ∷ words) more ∷ turn_lines rest else turn_lines rest)
 picked here word words more rest is =
     ap (filter (λ line. begins_turn (parts 32 line))) (parts_line (word ∷ words) more rest)
     ∙ ap (λ b. cond b (raw_of (word ∷ words) more ∷ turn_lines rest) (turn_lines rest)) (ap begins_turn (parts_words word words more) ∙ is)
-
-turn_word : bytes_eq (escaped (codes "turn")) (codes "turn") ≡ true
-unfolding escaped
-turn_word = refl
-
-connect_word : bytes_eq (escaped (codes "connect")) (codes "turn") ≡ false
-unfolding escaped
-connect_word = refl
-
-close_word : bytes_eq (escaped (codes "close")) (codes "turn") ≡ false
-unfolding escaped
-close_word = refl
-
-write_word : bytes_eq (escaped (codes "write")) (codes "turn") ≡ false
-unfolding escaped
-write_word = refl
-
-wait_word_is : bytes_eq (escaped (codes "wait")) (codes "turn") ≡ false
-unfolding escaped
-wait_word_is = refl
-
-start_word : bytes_eq (escaped (codes "start")) (codes "turn") ≡ false
-unfolding escaped
-start_word = refl
-
-created_word : bytes_eq (escaped (codes "created")) (codes "turn") ≡ false
-unfolding escaped
-created_word = refl
-
-outcome_word : bytes_eq (escaped (codes "outcome")) (codes "turn") ≡ false
-unfolding escaped
-outcome_word = refl
 
 -- the words of a cause
 abbrev pub cause_line : Cause → LineWords
@@ -70,20 +39,22 @@ untold : (word : List ℕ) (words : List (List ℕ)) (rest : List ℕ) → bytes
 untold word words rest other = ap (λ ls. all_of (map cause_in ls)) (picked false word words [] rest other)
 
 a_turn : (k : ℕ) (c : Cause) (rest : List ℕ) → FitsCause c → told (action_line (action.Turn k c) ++ rest) ≡ option_map (λ cs. cause_line c ∷ cs) (told rest)
+unfolding escaped
 a_turn k c rest fits =
-    ap (λ ls. all_of (map cause_in ls)) (picked true (codes "turn") (decimal k ∷ cause_words c) (cause_more c) rest turn_word)
+    ap (λ ls. all_of (map cause_in ls)) (picked true (codes "turn") (decimal k ∷ cause_words c) (cause_more c) rest refl)
     ∙ ap (λ o. all_of (o ∷ map cause_in (turn_lines rest))) (cause_back k c fits)
 
 -- the text of a trace tells the causes of its turns
 pub turns_told : (trace : List Action) → All FitsCause (causes trace) → told (show trace) ≡ Some (map cause_line (causes trace))
+unfolding escaped
 turns_told [] fits = refl
 turns_told (action.Turn k c ∷ more) fits =
     a_turn k c (show more) (All-head FitsCause c (causes more) fits) ∙ ap (option_map (λ cs. cause_line c ∷ cs)) (turns_told more (All-tail FitsCause c (causes more) fits))
-turns_told (action.Connect link host port ∷ more) fits = untold (codes "connect") (decimal link ∷ address host port ∷ []) (show more) connect_word ∙ turns_told more fits
-turns_told (action.Close link ∷ more) fits = untold (codes "close") (decimal link ∷ []) (show more) close_word ∙ turns_told more fits
-turns_told (action.Write link bytes ∷ more) fits = untold (codes "write") (decimal link ∷ bytes ∷ []) (show more) write_word ∙ turns_told more fits
-turns_told (action.Wait owner kind ∷ more) fits = untold (codes "wait") (owner_word owner ∷ wait_word kind ∷ []) (show more) wait_word_is ∙ turns_told more fits
+turns_told (action.Connect link host port ∷ more) fits = untold (codes "connect") (decimal link ∷ address host port ∷ []) (show more) refl ∙ turns_told more fits
+turns_told (action.Close link ∷ more) fits = untold (codes "close") (decimal link ∷ []) (show more) refl ∙ turns_told more fits
+turns_told (action.Write link bytes ∷ more) fits = untold (codes "write") (decimal link ∷ bytes ∷ []) (show more) refl ∙ turns_told more fits
+turns_told (action.Wait owner kind ∷ more) fits = untold (codes "wait") (owner_word owner ∷ wait_word kind ∷ []) (show more) refl ∙ turns_told more fits
 turns_told (action.Start link message owner need len ∷ more) fits =
-    untold (codes "start") (decimal link ∷ decimal message ∷ owner_word owner ∷ decimal need ∷ decimal len ∷ []) (show more) start_word ∙ turns_told more fits
-turns_told (action.Created ∷ more) fits = untold (codes "created") (codes "ok" ∷ []) (show more) created_word ∙ turns_told more fits
-turns_told (action.Outcome s outcome ∷ more) fits = untold (codes "outcome") (submission_word s ∷ outcome_words outcome) (show more) outcome_word ∙ turns_told more fits
+    untold (codes "start") (decimal link ∷ decimal message ∷ owner_word owner ∷ decimal need ∷ decimal len ∷ []) (show more) refl ∙ turns_told more fits
+turns_told (action.Created ∷ more) fits = untold (codes "created") (codes "ok" ∷ []) (show more) refl ∙ turns_told more fits
+turns_told (action.Outcome s outcome ∷ more) fits = untold (codes "outcome") (submission_word s ∷ outcome_words outcome) (show more) refl ∙ turns_told more fits

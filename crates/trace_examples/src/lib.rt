@@ -37,9 +37,10 @@ ghost use Rattle.trace_examples.specs.Fronts.{EachStands, answered_fronts, unans
 ghost use Rattle.trace_examples.specs.Fronts.{ended_fronts, waiting_fronts, begun_fronts};
 ghost use Rattle.trace_examples.specs.Claims.{IsTraceOf, NoneBegins, NoneIs};
 
-/// Does nothing. Its contract: these traces are legal. A transaction is aborted by the error of its command; a
-/// command whose reply nobody awaits is answered at its place, and its item is not given to the next one; a fault
-/// hits a single command, and closes a pipeline; and a pipeline that lacks an item stays open.
+/// Does nothing. Its contract: these traces are legal. A transaction is aborted by the error of its
+/// command; a command whose reply nobody awaits is answered at its place, and its item is not given
+/// to the next one; a fault hits a single command, and closes a pipeline; and a pipeline that lacks
+/// an item stays open.
 pub fn these_are_legal()
     ensures transaction_refused { IsTraceOf
         (event.Connected 0 ∷ event.Submit one_atomic ∷ event.Bytes 0 refusals ∷ []) refused
@@ -60,10 +61,11 @@ pub fn these_are_legal()
         half_filled [] }
 {}
 
-/// Does nothing. Its contract: these are legal too. An error to MULTI is the verdict once all replies came; the
-/// replies to MULTI and to the commands as they were queued are skipped; one fault hits the oldest command and
-/// closes the connection for the next; the item of a message that was cancelled goes to nobody, and so does the
-/// fault that hits it; and a reply in front of bytes that begin no value is answered before they close the link.
+/// Does nothing. Its contract: these are legal too. An error to MULTI is the verdict once all
+/// replies came; the replies to MULTI and to the commands as they were queued are skipped; one
+/// fault hits the oldest command and closes the connection for the next; the item of a message that
+/// was cancelled goes to nobody, and so does the fault that hits it; and a reply in front of bytes
+/// that begin no value is answered before they close the link.
 pub fn so_are_these()
     ensures verdict_of_multi { IsTraceOf
         (event.Connected 0 ∷ event.Submit one_atomic ∷ event.Bytes 0 multi_refused
@@ -92,10 +94,10 @@ pub fn so_are_these()
         ∷ action.Outcome 1 (outcome.Fault error.Parse) ∷ []) }
 {}
 
-/// Does nothing. Its contract: these are legal too. A second connect, and bytes before the first, change nothing;
-/// the shutdown closes the connection of a command that was started, of one that waits, and of one that comes
-/// later; a command without words is empty; a Nil has its turn between two starts; and bytes that weren't taken are
-/// offered again.
+/// Does nothing. Its contract: these are legal too. A second connect, and bytes before the first,
+/// change nothing; the shutdown closes the connection of a command that was started, of one that
+/// waits, and of one that comes later; a command without words is empty; a Nil has its turn between
+/// two starts; and bytes that weren't taken are offered again.
 pub fn so_are_these_around_a_link()
     ensures connected_twice { IsTraceOf
         (event.Connected 0 ∷ event.Submit (command 71) ∷ event.Connected 0
@@ -125,7 +127,8 @@ pub fn so_are_these_around_a_link()
         (action.Write 0 (drop 5 (packed (command 71))) ∷ []) }
 {}
 
-/// Does nothing. Its contract: no trace that begins so is legal, whatever its events were and whatever comes after.
+/// Does nothing. Its contract: no trace that begins so is legal, whatever its events were and
+/// whatever comes after.
 pub fn these_are_not_legal()
     ensures swapped { NoneBegins answered_both (action.Outcome 0 (reply 121)) }
     ensures out_of_order { NoneBegins answered_alike (action.Outcome 1 (reply 120)) }
@@ -136,7 +139,8 @@ pub fn these_are_not_legal()
     ensures offered_twice { NoneBegins started_one (action.Write 0 (packed (command 71))) }
 {}
 
-/// Does nothing. Its contract: the same of pipelines, transactions and commands whose reply nobody awaits.
+/// Does nothing. Its contract: the same of pipelines, transactions and commands whose reply nobody
+/// awaits.
 pub fn nor_are_these()
     ensures fault_to_a_pipeline { (kind : FaultKind)
         → NoneBegins (λ config word. cut_off config word two_together 2 22)
@@ -152,8 +156,8 @@ pub fn nor_are_these()
         → NoneBegins refused (action.Outcome 0 (outcome.Many kept)) }
 {}
 
-/// Does nothing. Its contract: the same of what a cancelled message came to, of outcomes after a cancel, of
-/// outcomes before the close that gives them, and of a Nil that isn't due.
+/// Does nothing. Its contract: the same of what a cancelled message came to, of outcomes after a
+/// cancel, of outcomes before the close that gives them, and of a Nil that isn't due.
 pub fn nor_are_these_outcomes()
     ensures item_of_the_cancelled { NoneBegins left_alone (action.Outcome 1 (reply 120)) }
     ensures fault_of_the_cancelled { (kind : FaultKind)
@@ -171,8 +175,8 @@ pub fn nor_are_these_outcomes()
         (action.Outcome 0 (outcome.One Nil)) }
 {}
 
-/// Does nothing. Its contract: the same of closes, offers, waits and a creation that aren't due, and of a turn that
-/// begins too soon.
+/// Does nothing. Its contract: the same of closes, offers, waits and a creation that aren't due,
+/// and of a turn that begins too soon.
 pub fn nor_are_these_steps()
     ensures closed_before_the_reply { NoneBegins spoiled (action.Close 0) }
     ensures closed_twice { NoneBegins (λ config word. cut_off config word (command 71) 1 11)
@@ -190,8 +194,8 @@ pub fn nor_are_these_steps()
     ensures created_twice { NoneBegins came_up action.Created }
 {}
 
-/// Does nothing. Its contract: the same of starts on a link that isn't up, or with the need or the length of
-/// another message.
+/// Does nothing. Its contract: the same of starts on a link that isn't up, or with the need or the
+/// length of another message.
 pub fn nor_are_these_starts()
     ensures started_before_the_connect { (l k round count len : ℕ)
         → NoneBegins left_out (action.Start l k (owner.Try 0 round) count len) }
@@ -205,8 +209,8 @@ pub fn nor_are_these_starts()
         (action.Start 0 0 (owner.Try 0 0) count len) }
 {}
 
-/// Does nothing. Its contract: the same of turns whose events are bad: one command without words in a list, and
-/// more bytes taken than were offered.
+/// Does nothing. Its contract: the same of turns whose events are bad: one command without words in
+/// a list, and more bytes taken than were offered.
 pub fn nor_are_these_turns()
     ensures nameless { NoneBegins came_up (turn 2 (event.Submit one_nameless)) }
     ensures nameless_transaction { NoneBegins came_up (turn 2 (event.Submit nameless_atomic)) }
@@ -222,9 +226,9 @@ pub fn nobody_is_left_out()
     ensures held_back_last { NoneIs held_back }
 {}
 
-/// Does nothing. Its contract: each action of these fronts stands where it may. So the traces that begin with them
-/// are refused for what comes next. One front of those above isn't among them: a wait can be due before an earlier
-/// one only behind a turn that began too soon.
+/// Does nothing. Its contract: each action of these fronts stands where it may. So the traces that
+/// begin with them are refused for what comes next. One front of those above isn't among them: a
+/// wait can be due before an earlier one only behind a turn that began too soon.
 pub fn their_fronts_stand()
     ensures answered { (config : Config) (word : ℕ) → EachStands (answered_fronts config word) }
     ensures unanswered { (config : Config) (word : ℕ)
