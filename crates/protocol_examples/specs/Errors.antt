@@ -20,6 +20,7 @@ use Rattle.redis_error.specs.Errors.{error_kind, error_method}
 abbrev pub told_by_code : List ℕ → ServerErrorKind × RetryMethod
 told_by_code code = (kind_of code, method_of code)
 
+-- codes, and what they tell
 abbrev pub codes_of_errors : List (List ℕ × (ServerErrorKind × RetryMethod))
 codes_of_errors =
     (codes "ERR", (server.ResponseError, NoRetry))
@@ -49,6 +50,7 @@ told_by_error e = (error_kind e, error_method e)
 abbrev pub server_error : List ℕ → RedisError
 server_error code = error.Server (record { code = code; detail = None })
 
+-- errors that are no faults of a link
 abbrev pub errors_of_the_driver : List (RedisError × (ErrorKind × RetryMethod))
 errors_of_the_driver =
     (error.Config config.Url, (kind.InvalidClientConfig, NoRetry))
@@ -89,6 +91,7 @@ faults =
 abbrev pub Lead : Type 0
 Lead = ServerError × ℕ × List ℕ × Bool
 
+-- the error leads there
 abbrev pub IsLead : Lead → Type 0
 IsLead lead = IsRedirect lead.0 lead.1 lead.2 lead.3
 

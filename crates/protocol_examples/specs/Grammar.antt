@@ -99,7 +99,7 @@ tagged =
     ∷ (codes "*3\r\n:1\r\n:2\r\n|1\r\n+ttl\r\n:3600\r\n:3\r\n", array (items_of (natural_number 1 ∷ natural_number 2 ∷ attribute (natural_number 3) (members_of ((simple (codes "ttl"), natural_number 3600) ∷ [])) ∷ [])))
     ∷ []
 
--- a second first byte, no first byte of a value, a CR that no LF follows, a number out of 64 bits or with other bytes, and words that are none of the form's
+-- no first byte of a value, a CR that no LF follows, a number that is none or has more than 64 bits, and words that the form doesn't have
 abbrev pub malformed_lines : List (List ℕ)
 malformed_lines =
     codes "PING\r\n"

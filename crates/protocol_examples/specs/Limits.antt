@@ -4,11 +4,12 @@ use Rattle.std.specs.List.{All}
 use Rattle.resp_value.specs.Data.{Data, int, array, simple, items_of}
 use Rattle.resp_read.specs.Reads.{Reads, IsMalformed}
 
--- `:1` in so many arrays, one in another, and the value that it is
+-- `:1` in so many arrays, one in another
 abbrev pub one_in_arrays : ℕ → List ℕ
 one_in_arrays zero = codes ":1\r\n"
 one_in_arrays (suc n) = codes "*1\r\n" ++ one_in_arrays n
 
+-- the value that it is
 abbrev pub nested_one : ℕ → Data
 nested_one zero = int (pos 1)
 nested_one (suc n) = array (items_of (nested_one n ∷ []))

@@ -55,11 +55,12 @@ bytes_that_resubscribe =
     ∷ ((PSubscribe, codes "news.*" ∷ []) ∷ [], codes "*2\r\n$10\r\nPSUBSCRIBE\r\n$6\r\nnews.*\r\n")
     ∷ []
 
--- what is tracked of commands, of those that are tracked
+-- what is tracked of one command, before others
 abbrev pub tracked_with : Option Request → List Request → List Request
 tracked_with None requests = requests
 tracked_with (Some request) requests = request ∷ requests
 
+-- what is tracked of commands, in order
 abbrev pub tracked : List Command → List Request
 tracked [] = []
 tracked (command ∷ commands) = tracked_with (request_of command.args) (tracked commands)

@@ -10,6 +10,7 @@ ghost use Rattle.resp_write.specs.Canonical.{canonical};
 ghost use Rattle.resp_write.specs.Pack.{pack, pack_pipeline};
 ghost use Rattle.slot_hash.specs.Crc.{crc16};
 ghost use Rattle.slot_hash.specs.Tag.{hashed, slot_of};
+ghost use Rattle.command_table.specs.Routing.{routing_of};
 ghost use Rattle.sub_tracker.specs.Subscribed.{Request};
 ghost use Rattle.sub_tracker.specs.Held.{held_after};
 ghost use Rattle.sub_tracker.specs.Pipeline.{request_of};
@@ -22,6 +23,7 @@ ghost use Rattle.protocol_examples.specs.Slots.{checksums, hash_tags, slots_of_k
 ghost use Rattle.protocol_examples.specs.Packing.{packed_commands, packed_pipelines};
 ghost use Rattle.protocol_examples.specs.Canonical.{texts_of_scalars, texts_of_aggregates};
 ghost use Rattle.protocol_examples.specs.Tracking.{tracked_commands, subscribed_after, resubscribing, bytes_that_resubscribe, tracked_again};
+ghost use Rattle.protocol_examples.specs.Routes.{part_of_places, routes_to_all, routes_to_any, routes_by_key, routes_by_keys, commands_of_parts};
 
 /// Does nothing. Its contract: each of these texts is the value beside it, whatever follows it.
 pub fn these_texts_are_values()
@@ -110,4 +112,13 @@ pub fn these_names_are_subscribed()
 /// them, holds the same names.
 pub fn resubscribing_gives_the_same_names()
     ensures { (history : List Request) → tracked_again (held_after history) ≡ held_after history }
+{}
+
+/// Does nothing. Its contract: the routes of these commands in a cluster, and the commands of their parts.
+pub fn commands_have_these_routes()
+    ensures all { Gives routing_of routes_to_all }
+    ensures any { Gives routing_of routes_to_any }
+    ensures key { Gives routing_of routes_by_key }
+    ensures keys { Gives routing_of routes_by_keys }
+    ensures parts { Gives part_of_places commands_of_parts }
 {}
