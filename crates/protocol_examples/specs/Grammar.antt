@@ -30,7 +30,10 @@ lines =
     ∷ (codes "-ERR unknown command 'asdf'\r\n", server_error (codes "ERR") (codes "unknown command 'asdf'"))
     ∷ (codes "-WRONGTYPE Operation against a key holding the wrong kind of value\r\n", server_error (codes "WRONGTYPE") (codes "Operation against a key holding the wrong kind of value"))
     ∷ (codes "-EXECABORT\r\n", error (record { code = codes "EXECABORT"; detail = None }))
+    ∷ (codes "-ERR  two spaces\r\n", server_error (codes "ERR") (codes " two spaces"))
+    ∷ (codes "-\r\n", error (record { code = []; detail = None }))
     ∷ (codes ":0\r\n", natural_number 0)
+    ∷ (codes ":007\r\n", natural_number 7)
     ∷ (codes ":1000\r\n", natural_number 1000)
     ∷ (codes ":+7\r\n", natural_number 7)
     ∷ (codes ":-1\r\n", int (neg_ℤ (pos 1)))
@@ -47,11 +50,13 @@ scalars =
     ∷ (codes ",1.23\r\n", double (codes "1.23"))
     ∷ (codes ",10\r\n", double (codes "10"))
     ∷ (codes ",-1.5E+10\r\n", double (codes "-1.5E+10"))
+    ∷ (codes ",+1e5\r\n", double (codes "+1e5"))
     ∷ (codes ",inf\r\n", double (codes "inf"))
     ∷ (codes ",-inf\r\n", double (codes "-inf"))
     ∷ (codes ",nan\r\n", double (codes "nan"))
     ∷ (codes "(3492890328409238509324850943850943825024385\r\n", big (codes "3492890328409238509324850943850943825024385"))
     ∷ (codes "(-1\r\n", big (codes "-1"))
+    ∷ (codes "(+1\r\n", big (codes "+1"))
     ∷ []
 
 -- texts of announced length: bulk strings, errors and texts with their format
@@ -111,6 +116,7 @@ malformed_lines =
     ∷ codes ":+-1"
     ∷ codes ":1.5"
     ∷ codes ":9223372036854775808"
+    ∷ codes ":+9223372036854775808"
     ∷ codes ":-9223372036854775809"
     ∷ codes "_x"
     ∷ codes "_x\r\n"
@@ -122,8 +128,12 @@ malformed_lines =
     ∷ codes ",5.\r\n"
     ∷ codes ",1e\r\n"
     ∷ codes ",-nan"
+    ∷ codes ",+inf"
+    ∷ codes ",INF"
+    ∷ codes ",1e5.5"
     ∷ codes "(\r\n"
     ∷ codes "(1.5"
+    ∷ codes "(+-1"
     ∷ []
 
 -- lengths that are none, and bytes behind the announced ones that aren't CR LF; a text without `:` after its format; a push of no values, or whose kind is no string

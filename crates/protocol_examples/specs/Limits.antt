@@ -1,18 +1,42 @@
 -- The limits of the reader, as texts at each limit and one past it.
 use Rattle.std.specs.Prelude.{◌≡◌, ◌≢◌, ℕ, zero, suc, pos, List, [], ◌∷◌, ◌++◌, length, codes}
 use Rattle.std.specs.List.{All}
-use Rattle.resp_value.specs.Data.{Data, int, array, simple, items_of}
+use Rattle.resp_value.specs.declared.push_kind.PushKind.TheVariants.{Other}
+use Rattle.resp_value.specs.Data.{Data, nil, int, array, simple, dict, attribute, set, push, items_of, members_of}
 use Rattle.resp_read.specs.Reads.{Reads, IsMalformed}
 
--- `:1` in so many arrays, one in another
-abbrev pub one_in_arrays : ℕ → List ℕ
-one_in_arrays zero = codes ":1\r\n"
-one_in_arrays (suc n) = codes "*1\r\n" ++ one_in_arrays n
+-- how a value stands alone in another: the bytes before it, and what the other is
+pub record Wrapping : Type 0 where
+  pub before : List ℕ
+  pub around : Data → Data
+
+-- `:1` in so many of these, one in another
+abbrev pub wrapped_text : Wrapping → ℕ → List ℕ
+wrapped_text w zero = codes ":1\r\n"
+wrapped_text w (suc n) = w.before ++ wrapped_text w n
 
 -- the value that it is
-abbrev pub nested_one : ℕ → Data
-nested_one zero = int (pos 1)
-nested_one (suc n) = array (items_of (nested_one n ∷ []))
+abbrev pub wrapped : Wrapping → ℕ → Data
+wrapped w zero = int (pos 1)
+wrapped w (suc n) = w.around (wrapped w n)
+
+-- in an array, a set, a map, a push and an attribute's value
+abbrev pub wrappings : List Wrapping
+wrappings =
+    record { before = codes "*1\r\n"; around = λ d. array (items_of (d ∷ [])) }
+    ∷ record { before = codes "~1\r\n"; around = λ d. set (items_of (d ∷ [])) }
+    ∷ record { before = codes "%1\r\n+k\r\n"; around = λ d. dict (members_of ((simple (codes "k"), d) ∷ [])) }
+    ∷ record { before = codes ">2\r\n+k\r\n"; around = λ d. push (Other (codes "k")) (items_of (d ∷ [])) }
+    ∷ record { before = codes "|1\r\n+k\r\n_\r\n"; around = λ d. attribute d (members_of ((simple (codes "k"), nil) ∷ [])) }
+    ∷ []
+
+-- so many of them stand in one another
+abbrev pub MayNest : ℕ → Wrapping → Type 0
+MayNest n w = (rest : List ℕ) → Reads (wrapped_text w n ++ rest) (wrapped w n) rest
+
+-- so many don't
+abbrev pub MayNotNest : ℕ → Wrapping → Type 0
+MayNotNest n w = IsMalformed (wrapped_text w n)
 
 -- a line of so many bytes, none of them a CR, is a simple string
 abbrev pub IsReadToItsEnd : ℕ → Type 0

@@ -1,11 +1,11 @@
 //! Examples of the protocol, each with the proof: what its definitions say of texts, keys, commands and errors.
 #![tactic(auto)]
 
-ghost use Rattle.std.specs.Prelude.{◌≡◌, ℕ, List, ◌++◌};
+ghost use Rattle.std.specs.Prelude.{◌≡◌, List};
 ghost use Rattle.std.specs.List.{All};
 ghost use Rattle.resp_value.specs.Kinds.{kind_of, has_reply};
 ghost use Rattle.resp_value.specs.Redirect.{LeadsNowhere};
-ghost use Rattle.resp_read.specs.Reads.{Reads, IsProperPrefix, IsMalformed};
+ghost use Rattle.resp_read.specs.Reads.{IsProperPrefix, IsMalformed};
 ghost use Rattle.resp_write.specs.Canonical.{canonical};
 ghost use Rattle.resp_write.specs.Pack.{pack, pack_pipeline};
 ghost use Rattle.slot_hash.specs.Crc.{crc16};
@@ -16,7 +16,7 @@ ghost use Rattle.sub_tracker.specs.Held.{held_after};
 ghost use Rattle.sub_tracker.specs.Pipeline.{request_of};
 ghost use Rattle.protocol_examples.specs.Tables.{Gives};
 ghost use Rattle.protocol_examples.specs.Grammar.{IsValue, lines, scalars, sized_texts, lists, tagged, malformed_lines, malformed_lengths, short_lines, short_lengths};
-ghost use Rattle.protocol_examples.specs.Limits.{one_in_arrays, nested_one, IsReadToItsEnd, IsTooLong, greatest_lengths, lengths_too_great};
+ghost use Rattle.protocol_examples.specs.Limits.{wrappings, MayNest, MayNotNest, IsReadToItsEnd, IsTooLong, greatest_lengths, lengths_too_great};
 ghost use Rattle.protocol_examples.specs.Pushes.{kinds_of_texts, replies_of_kinds};
 ghost use Rattle.protocol_examples.specs.Errors.{told_by_code, codes_of_errors, told_by_error, errors_of_the_driver, faults, IsLead, leads, strays};
 ghost use Rattle.protocol_examples.specs.Slots.{checksums, hash_tags, slots_of_keys};
@@ -46,10 +46,10 @@ pub fn these_texts_are_not_whole()
     ensures lengths { All IsProperPrefix short_lengths }
 {}
 
-/// Does nothing. Its contract: a number in a hundred arrays is a value, and in one more it is none.
-pub fn a_hundred_arrays_nest()
-    ensures at_most { (rest : List ℕ) → Reads (one_in_arrays 100 ++ rest) (nested_one 100) rest }
-    ensures one_more { IsMalformed (one_in_arrays 101) }
+/// Does nothing. Its contract: a hundred aggregates of a kind may stand in one another, and one more may not.
+pub fn a_hundred_aggregates_nest()
+    ensures at_most { All (MayNest 100) wrappings }
+    ensures one_more { All (MayNotNest 101) wrappings }
 {}
 
 /// Does nothing. Its contract: a line has at most 1,048,576 bytes, a text of announced length at most 536,870,912, and
