@@ -3,3 +3,4 @@ pub mod Nesting
 pub mod LineEnds
 pub mod Led
 pub mod Again
+pub mod FirstBytes

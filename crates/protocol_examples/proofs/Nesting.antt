@@ -1,13 +1,13 @@
 -- Aggregates in one another: read where they may be nested so deep, and refused where they are one more.
 use Rattle.std.proofs.Common.{◌≡◌, ℕ, zero, suc, List, [], ◌∷◌, ◌++◌, refl, ap, ◌∙◌, append_assoc}
-use Rattle.std.specs.Prelude.{codes}
+use Rattle.std.specs.Prelude.{pos, codes}
 use Rattle.std.specs.List.{All}
 use Rattle.resp_value.specs.declared.push_kind.PushKind.TheVariants.{Other}
 use Rattle.resp_value.specs.Kinds.{kind_of}
-use Rattle.resp_value.specs.Data.{Data, nil, array, simple, dict, attribute, set, push, items_of, members_of}
+use Rattle.resp_value.specs.Data.{Data, nil, int, array, simple, dict, attribute, set, push, items_of, members_of}
 use Rattle.resp_read.specs.Grammar.{Found, read, short, bad, found_and_then, found_map, parse, max_depth}
 use Rattle.resp_read.proofs.ReadLaws.{malformed_from_bad}
-use Rattle.protocol_examples.specs.Limits.{Wrapping, wrapped_text, wrapped, wrappings, MayNest, MayNotNest}
+use Rattle.protocol_examples.specs.Limits.{Wrapping, wrapped_text, wrapped, wrappings, MayNest, MayHoldNil, MayNotNest, MayNotHoldEmpty}
 use Rattle.protocol_examples.proofs.Computed.{each}
 
 -- a value in one of these is what it is around it, at any depth; and where none more may stand, it is none
@@ -15,16 +15,21 @@ record Wraps (w : Wrapping) : Type 0 where
   around : (n : ℕ) (text : List ℕ) → parse (suc n) (w.before ++ text) ≡ found_map w.around (parse n text)
   innermost : (text : List ℕ) → parse 0 (w.before ++ text) ≡ bad
 
-nested_read : (w : Wrapping) → Wraps w → (n : ℕ) (rest : List ℕ) → parse n (wrapped_text w n ++ rest) ≡ read (wrapped w n) rest
-nested_read w is zero rest = refl
-nested_read w is (suc n) rest =
-    ap (parse (suc n)) (append_assoc w.before (wrapped_text w n) rest)
-    ∙ is.around n (wrapped_text w n ++ rest)
-    ∙ ap (found_map w.around) (nested_read w is n rest)
+nested_read : (w : Wrapping) → Wraps w → (text : List ℕ) (v : Data) → ((rest : List ℕ) → parse 0 (text ++ rest) ≡ read v rest) → (n : ℕ) (rest : List ℕ) → parse n (wrapped_text w text n ++ rest) ≡ read (wrapped w v n) rest
+nested_read w is text v reads zero rest = reads rest
+nested_read w is text v reads (suc n) rest =
+    ap (parse (suc n)) (append_assoc w.before (wrapped_text w text n) rest)
+    ∙ is.around n (wrapped_text w text n ++ rest)
+    ∙ ap (found_map w.around) (nested_read w is text v reads n rest)
 
-nested_bad : (w : Wrapping) → Wraps w → (n : ℕ) → parse n (wrapped_text w (suc n)) ≡ bad
-nested_bad w is zero = is.innermost (wrapped_text w zero)
-nested_bad w is (suc n) = is.around n (wrapped_text w (suc n)) ∙ ap (found_map w.around) (nested_bad w is n)
+nested_bad : (w : Wrapping) → Wraps w → (text : List ℕ) → parse 0 text ≡ bad → (n : ℕ) → parse n (wrapped_text w text n) ≡ bad
+nested_bad w is text none zero = none
+nested_bad w is text none (suc n) = is.around n (wrapped_text w text n) ∙ ap (found_map w.around) (nested_bad w is text none n)
+
+-- one more round a text
+one_more : (w : Wrapping) → Wraps w → (text : List ℕ) (n : ℕ) → parse n (wrapped_text w text (suc n)) ≡ bad
+one_more w is text zero = is.innermost text
+one_more w is text (suc n) = is.around n (wrapped_text w text (suc n)) ∙ ap (found_map w.around) (one_more w is text n)
 
 -- one value and no others, by what was found of it
 alone : (f : List Data → Data) (x : Found Data) → found_map f (found_and_then (λ d rest. found_map (λ others. d ∷ others) (read [] rest)) x) ≡ found_map (λ d. f (d ∷ [])) x
@@ -68,13 +73,34 @@ attribute_around (suc n) text = refl
 attribute_wraps : Wraps (record { before = codes "|1\r\n+k\r\n_\r\n"; around = λ d. attribute d (members_of ((simple (codes "k"), nil) ∷ [])) })
 attribute_wraps = record { around = attribute_around; innermost = λ text. refl }
 
-pub each_nests : All (MayNest 100) wrappings
-unfolding max_depth
-each_nests = each (MayNest 100) wrappings (nested_read _ array_wraps 100, (nested_read _ set_wraps 100, (nested_read _ dict_wraps 100, (nested_read _ push_wraps 100, (nested_read _ attribute_wraps 100, tt)))))
+-- what holds of each that wraps
+of_each : (P : Wrapping → Type 0) → ((w : Wrapping) → Wraps w → P w) → All P wrappings
+of_each P f = each P wrappings (f _ array_wraps, (f _ set_wraps, (f _ dict_wraps, (f _ push_wraps, (f _ attribute_wraps, tt)))))
 
-too_deep : (w : Wrapping) → Wraps w → MayNotNest 101 w
+may_nest : (w : Wrapping) → Wraps w → MayNest 100 w
 unfolding max_depth
-too_deep w is = malformed_from_bad (wrapped_text w 101) (nested_bad w is 100)
+may_nest w is = nested_read w is (codes ":1\r\n") (int (pos 1)) (λ rest. refl) 100
+
+may_hold_nil : (w : Wrapping) → Wraps w → MayHoldNil 100 w
+unfolding max_depth
+may_hold_nil w is = nested_read w is (codes "*-1\r\n") nil (λ rest. refl) 100
+
+may_not_nest : (w : Wrapping) → Wraps w → MayNotNest 101 w
+unfolding max_depth
+may_not_nest w is = malformed_from_bad (wrapped_text w (codes ":1\r\n") 101) (one_more w is (codes ":1\r\n") 100)
+
+may_not_hold_empty : (w : Wrapping) → Wraps w → MayNotHoldEmpty 100 w
+unfolding max_depth
+may_not_hold_empty w is = malformed_from_bad (wrapped_text w (codes "*0\r\n") 100) (nested_bad w is (codes "*0\r\n") refl 100)
+
+pub each_nests : All (MayNest 100) wrappings
+each_nests = of_each (MayNest 100) may_nest
+
+pub each_holds_nil : All (MayHoldNil 100) wrappings
+each_holds_nil = of_each (MayHoldNil 100) may_hold_nil
 
 pub none_nests_deeper : All (MayNotNest 101) wrappings
-none_nests_deeper = each (MayNotNest 101) wrappings (too_deep _ array_wraps, (too_deep _ set_wraps, (too_deep _ dict_wraps, (too_deep _ push_wraps, (too_deep _ attribute_wraps, tt)))))
+none_nests_deeper = of_each (MayNotNest 101) may_not_nest
+
+pub none_holds_empty : All (MayNotHoldEmpty 100) wrappings
+none_holds_empty = of_each (MayNotHoldEmpty 100) may_not_hold_empty

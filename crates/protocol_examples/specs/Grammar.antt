@@ -1,8 +1,9 @@
 -- Texts that are values, texts that begin none, and texts that are not whole.
-use Rattle.std.specs.Prelude.{ℕ, pos, neg_ℤ, true, false, List, [], ◌∷◌, ◌++◌, Some, None, codes}
+use Rattle.std.specs.Prelude.{◌≢◌, ℕ, pos, neg_ℤ, true, false, List, [], ◌∷◌, ◌++◌, Some, None, codes}
+use Rattle.std.specs.List.{All}
 use Rattle.resp_value.specs.declared.push_kind.PushKind.TheVariants.{Invalidate, Message, Other}
 use Rattle.resp_value.specs.Data.{Data, nil, int, bulk, array, simple, okay, dict, attribute, set, double, boolean, verbatim, big, push, error, items_of, members_of}
-use Rattle.resp_read.specs.Reads.{Reads}
+use Rattle.resp_read.specs.Reads.{Reads, IsMalformed}
 
 -- a text, and the value that it is
 abbrev pub Example : Type 0
@@ -110,6 +111,7 @@ malformed_lines =
     codes "PING\r\n"
     ∷ codes "\r\n"
     ∷ codes "?"
+    ∷ codes ":\r"
     ∷ codes "+one\rtwo"
     ∷ codes "-ERR one\rtwo"
     ∷ codes ":\r\n"
@@ -140,6 +142,8 @@ malformed_lines =
 abbrev pub malformed_lengths : List (List ℕ)
 malformed_lengths =
     codes "$\r\n"
+    ∷ codes "$-\r"
+    ∷ codes "*\r"
     ∷ codes "$-2"
     ∷ codes "$+5"
     ∷ codes "$5\r\nhello!"
@@ -181,18 +185,21 @@ short_lines =
     ∷ codes ",5."
     ∷ codes ",1e"
     ∷ codes ",-in"
+    ∷ codes ",n"
     ∷ codes "("
     ∷ codes "(349\r"
     ∷ []
 
--- announced bytes and values that have not come
+-- announced bytes and values that have not come; a length may begin with zeros, so that `>0` can become `>01`
 abbrev pub short_lengths : List (List ℕ)
 short_lengths =
     codes "$"
     ∷ codes "$-"
     ∷ codes "$5\r\nhel"
+    ∷ codes "$5\r\nhello"
     ∷ codes "$5\r\nhello\r"
     ∷ codes "!21\r\nSYNTAX"
+    ∷ codes "=3"
     ∷ codes "=15\r\ntx"
     ∷ codes "=15\r\ntxt:Some"
     ∷ codes "*-"
@@ -200,8 +207,17 @@ short_lengths =
     ∷ codes "~1\r\n"
     ∷ codes "%1\r\n+first\r\n"
     ∷ codes ">"
+    ∷ codes ">0"
     ∷ codes ">3\r\n"
     ∷ codes ">3\r\n$7\r\nmess"
     ∷ codes ">3\r\n+message\r\n+somechannel\r\n"
     ∷ codes "|1\r\n+ttl\r\n:3600\r\n"
     ∷ []
+
+-- the first bytes of the fifteen forms
+abbrev pub first_bytes : List ℕ
+first_bytes = codes "+-:$_#,(!=*~%>|"
+
+-- a byte that is none of them begins no value
+abbrev pub BeginsNone : ℕ → Type 0
+BeginsNone b = All (λ first. b ≢ first) first_bytes → IsMalformed (b ∷ [])

@@ -10,15 +10,15 @@ pub record Wrapping : Type 0 where
   pub before : List ℕ
   pub around : Data → Data
 
--- `:1` in so many of these, one in another
-abbrev pub wrapped_text : Wrapping → ℕ → List ℕ
-wrapped_text w zero = codes ":1\r\n"
-wrapped_text w (suc n) = w.before ++ wrapped_text w n
+-- a text in so many of these, one in another
+abbrev pub wrapped_text : Wrapping → List ℕ → ℕ → List ℕ
+wrapped_text w text zero = text
+wrapped_text w text (suc n) = w.before ++ wrapped_text w text n
 
--- the value that it is
-abbrev pub wrapped : Wrapping → ℕ → Data
-wrapped w zero = int (pos 1)
-wrapped w (suc n) = w.around (wrapped w n)
+-- the value that it is, where the text is v
+abbrev pub wrapped : Wrapping → Data → ℕ → Data
+wrapped w v zero = v
+wrapped w v (suc n) = w.around (wrapped w v n)
 
 -- in an array, a set, a map, a push and an attribute's value
 abbrev pub wrappings : List Wrapping
@@ -30,13 +30,21 @@ wrappings =
     ∷ record { before = codes "|1\r\n+k\r\n_\r\n"; around = λ d. attribute d (members_of ((simple (codes "k"), nil) ∷ [])) }
     ∷ []
 
--- so many of them stand in one another
+-- so many of them may stand in one another, with a number inside
 abbrev pub MayNest : ℕ → Wrapping → Type 0
-MayNest n w = (rest : List ℕ) → Reads (wrapped_text w n ++ rest) (wrapped w n) rest
+MayNest n w = (rest : List ℕ) → Reads (wrapped_text w (codes ":1\r\n") n ++ rest) (wrapped w (int (pos 1)) n) rest
 
--- so many don't
+-- or with the array that is Nil
+abbrev pub MayHoldNil : ℕ → Wrapping → Type 0
+MayHoldNil n w = (rest : List ℕ) → Reads (wrapped_text w (codes "*-1\r\n") n ++ rest) (wrapped w nil n) rest
+
+-- so many may not
 abbrev pub MayNotNest : ℕ → Wrapping → Type 0
-MayNotNest n w = IsMalformed (wrapped_text w n)
+MayNotNest n w = IsMalformed (wrapped_text w (codes ":1\r\n") n)
+
+-- nor so many with an empty array inside
+abbrev pub MayNotHoldEmpty : ℕ → Wrapping → Type 0
+MayNotHoldEmpty n w = IsMalformed (wrapped_text w (codes "*0\r\n") n)
 
 -- a line of so many bytes, none of them a CR, is a simple string
 abbrev pub IsReadToItsEnd : ℕ → Type 0

@@ -1,7 +1,7 @@
 //! Examples of the protocol, each with the proof: what its definitions say of texts, keys, commands and errors.
 #![tactic(auto)]
 
-ghost use Rattle.std.specs.Prelude.{◌≡◌, List};
+ghost use Rattle.std.specs.Prelude.{◌≡◌, ℕ, List};
 ghost use Rattle.std.specs.List.{All};
 ghost use Rattle.resp_value.specs.Kinds.{kind_of, has_reply};
 ghost use Rattle.resp_value.specs.Redirect.{LeadsNowhere};
@@ -15,8 +15,8 @@ ghost use Rattle.sub_tracker.specs.Subscribed.{Request};
 ghost use Rattle.sub_tracker.specs.Held.{held_after};
 ghost use Rattle.sub_tracker.specs.Pipeline.{request_of};
 ghost use Rattle.protocol_examples.specs.Tables.{Gives};
-ghost use Rattle.protocol_examples.specs.Grammar.{IsValue, lines, scalars, sized_texts, lists, tagged, malformed_lines, malformed_lengths, short_lines, short_lengths};
-ghost use Rattle.protocol_examples.specs.Limits.{wrappings, MayNest, MayNotNest, IsReadToItsEnd, IsTooLong, greatest_lengths, lengths_too_great};
+ghost use Rattle.protocol_examples.specs.Grammar.{IsValue, lines, scalars, sized_texts, lists, tagged, malformed_lines, malformed_lengths, short_lines, short_lengths, BeginsNone};
+ghost use Rattle.protocol_examples.specs.Limits.{wrappings, MayNest, MayHoldNil, MayNotNest, MayNotHoldEmpty, IsReadToItsEnd, IsTooLong, greatest_lengths, lengths_too_great};
 ghost use Rattle.protocol_examples.specs.Pushes.{kinds_of_texts, replies_of_kinds};
 ghost use Rattle.protocol_examples.specs.Errors.{told_by_code, codes_of_errors, told_by_error, errors_of_the_driver, faults, IsLead, leads, strays};
 ghost use Rattle.protocol_examples.specs.Slots.{checksums, hash_tags, slots_of_keys};
@@ -46,10 +46,18 @@ pub fn these_texts_are_not_whole()
     ensures lengths { All IsProperPrefix short_lengths }
 {}
 
-/// Does nothing. Its contract: a hundred aggregates of a kind may stand in one another, and one more may not.
+/// Does nothing. Its contract: a byte that is none of the fifteen first bytes begins no value.
+pub fn no_other_byte_begins_a_value()
+    ensures { (byte : ℕ) → BeginsNone byte }
+{}
+
+/// Does nothing. Its contract: a hundred aggregates of a kind may stand in one another, and one more may not; the array
+/// that is Nil is no aggregate, and the empty one is.
 pub fn a_hundred_aggregates_nest()
     ensures at_most { All (MayNest 100) wrappings }
+    ensures nil_inside { All (MayHoldNil 100) wrappings }
     ensures one_more { All (MayNotNest 101) wrappings }
+    ensures empty_inside { All (MayNotHoldEmpty 100) wrappings }
 {}
 
 /// Does nothing. Its contract: a line has at most 1,048,576 bytes, a text of announced length at most 536,870,912, and
