@@ -4,3 +4,5 @@ pub mod LineEnds
 pub mod Led
 pub mod Again
 pub mod FirstBytes
+pub mod Others
+pub mod Addresses

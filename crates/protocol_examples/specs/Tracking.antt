@@ -1,9 +1,9 @@
 -- What is tracked of commands, and the pipeline that subscribes it again.
-use Rattle.std.specs.Prelude.{ℕ, List, [], ◌∷◌, Option, Some, None, codes}
+use Rattle.std.specs.Prelude.{ℕ, Bool, true, false, List, [], ◌∷◌, Option, Some, None, codes}
 use Rattle.resp_write.specs.declared.subscription.SubscriptionAction.TheVariants.{Subscribe, Unsubscribe, PSubscribe, PUnsubscribe, SSubscribe, Sunsubscribe}
 use Rattle.resp_write.specs.Command.{Command}
 use Rattle.resp_write.specs.Pack.{pack_pipeline}
-use Rattle.sub_tracker.specs.Subscribed.{Request}
+use Rattle.sub_tracker.specs.Subscribed.{Request, Family, Plain, Sharded, Pattern, subscribed}
 use Rattle.sub_tracker.specs.Held.{Held, held_after}
 use Rattle.sub_tracker.specs.Pipeline.{request_of, resubscription}
 
@@ -41,6 +41,23 @@ subscribed_after =
     ∷ ((PSubscribe, codes "first" ∷ []) ∷ (SSubscribe, codes "first" ∷ []) ∷ (PUnsubscribe, codes "first" ∷ []) ∷ [], held [] (codes "first" ∷ []) [])
     ∷ ((SSubscribe, codes "first" ∷ []) ∷ (Sunsubscribe, codes "first" ∷ []) ∷ (SSubscribe, codes "first" ∷ []) ∷ [], held [] (codes "first" ∷ []) [])
     ∷ ((Subscribe, codes "first" ∷ []) ∷ (Unsubscribe, []) ∷ [], held (codes "first" ∷ []) [] [])
+    ∷ []
+
+-- whether a name of a family is subscribed after some commands
+abbrev pub is_subscribed : Family × List ℕ × List Request → Bool
+is_subscribed asked = subscribed asked.0 asked.1 asked.2
+
+-- names of families, and whether they are
+abbrev pub subscribed_names : List ((Family × List ℕ × List Request) × Bool)
+subscribed_names =
+    ((Plain, codes "first", of_each_family), true)
+    ∷ ((Plain, codes "news.*", of_each_family), false)
+    ∷ ((Pattern, codes "news.*", of_each_family), true)
+    ∷ ((Sharded, codes "orders", of_each_family), true)
+    ∷ ((Sharded, codes "first", of_each_family), false)
+    ∷ ((Plain, codes "first", (Subscribe, codes "first" ∷ []) ∷ (Unsubscribe, codes "first" ∷ []) ∷ []), false)
+    ∷ ((Plain, codes "first", (Unsubscribe, codes "first" ∷ []) ∷ (Subscribe, codes "first" ∷ []) ∷ []), true)
+    ∷ ((Pattern, codes "first", (PSubscribe, codes "first" ∷ []) ∷ (Unsubscribe, codes "first" ∷ []) ∷ []), true)
     ∷ []
 
 -- the bytes that subscribe again what is subscribed after these commands

@@ -4,10 +4,12 @@
 ghost use Rattle.std.specs.Prelude.{◌≡◌, ℕ, List};
 ghost use Rattle.std.specs.List.{All};
 ghost use Rattle.resp_value.specs.Kinds.{kind_of, has_reply};
+ghost use Rattle.resp_value.specs.ErrorTable.{is_unrecoverable};
 ghost use Rattle.resp_value.specs.Redirect.{LeadsNowhere};
 ghost use Rattle.resp_read.specs.Reads.{IsProperPrefix, IsMalformed};
-ghost use Rattle.resp_write.specs.Canonical.{canonical};
+ghost use Rattle.resp_write.specs.Canonical.{canonical, kind_text};
 ghost use Rattle.resp_write.specs.Pack.{pack, pack_pipeline};
+ghost use Rattle.slot_hash.specs.Address.{address_of};
 ghost use Rattle.slot_hash.specs.Crc.{crc16};
 ghost use Rattle.slot_hash.specs.Tag.{hashed, slot_of};
 ghost use Rattle.command_table.specs.Routing.{routing_of};
@@ -17,12 +19,12 @@ ghost use Rattle.sub_tracker.specs.Pipeline.{request_of};
 ghost use Rattle.protocol_examples.specs.Tables.{Gives};
 ghost use Rattle.protocol_examples.specs.Grammar.{IsValue, lines, scalars, sized_texts, lists, tagged, malformed_lines, malformed_lengths, short_lines, short_lengths, BeginsNone};
 ghost use Rattle.protocol_examples.specs.Limits.{wrappings, MayNest, MayHoldNil, MayNotNest, MayNotHoldEmpty, IsReadToItsEnd, IsTooLong, greatest_lengths, lengths_too_great};
-ghost use Rattle.protocol_examples.specs.Pushes.{kinds_of_texts, replies_of_kinds};
-ghost use Rattle.protocol_examples.specs.Errors.{told_by_code, codes_of_errors, told_by_error, errors_of_the_driver, faults, IsLead, leads, strays};
-ghost use Rattle.protocol_examples.specs.Slots.{checksums, hash_tags, slots_of_keys};
+ghost use Rattle.protocol_examples.specs.Pushes.{kinds_of_texts, IsOther, other_kinds, replies_of_kinds};
+ghost use Rattle.protocol_examples.specs.Errors.{told_by_code, codes_of_errors, TellsNothing, other_codes, told_by_error, errors_of_the_driver, faults, told_of_links, ends_of_links, unrecoverable_methods, IsLead, leads, strays};
+ghost use Rattle.protocol_examples.specs.Slots.{checksums, hash_tags, slots_of_keys, addresses};
 ghost use Rattle.protocol_examples.specs.Packing.{packed_commands, packed_pipelines};
-ghost use Rattle.protocol_examples.specs.Canonical.{texts_of_scalars, texts_of_aggregates};
-ghost use Rattle.protocol_examples.specs.Tracking.{tracked_commands, subscribed_after, resubscribing, bytes_that_resubscribe, tracked_again};
+ghost use Rattle.protocol_examples.specs.Canonical.{texts_of_scalars, texts_of_aggregates, texts_of_kinds};
+ghost use Rattle.protocol_examples.specs.Tracking.{tracked_commands, subscribed_after, is_subscribed, subscribed_names, resubscribing, bytes_that_resubscribe, tracked_again};
 ghost use Rattle.protocol_examples.specs.Routes.{part_of_places, routes_to_all, routes_to_any, routes_by_key, routes_by_keys, commands_of_parts};
 
 /// Does nothing. Its contract: each of these texts is the value beside it, whatever follows it.
@@ -72,6 +74,8 @@ pub fn lengths_have_limits()
 /// Does nothing. Its contract: the kinds of pushes, by their texts, and which of them are replies.
 pub fn pushes_have_these_kinds()
     ensures kinds { Gives kind_of kinds_of_texts }
+    ensures others { (text : List ℕ) → IsOther text }
+    ensures some_others { Gives kind_of other_kinds }
     ensures replies { Gives has_reply replies_of_kinds }
 {}
 
@@ -79,8 +83,12 @@ pub fn pushes_have_these_kinds()
 /// codes, of the driver, and of a link.
 pub fn errors_tell_how_to_go_on()
     ensures codes { Gives told_by_code codes_of_errors }
+    ensures others { (code : List ℕ) → TellsNothing code }
+    ensures some_others { Gives told_by_code other_codes }
     ensures driver { Gives told_by_error errors_of_the_driver }
     ensures faults { Gives told_by_error faults }
+    ensures ends { Gives told_of_links ends_of_links }
+    ensures unrecoverable { Gives is_unrecoverable unrecoverable_methods }
 {}
 
 /// Does nothing. Its contract: where these errors lead, and that others lead nowhere.
@@ -96,6 +104,11 @@ pub fn keys_have_these_slots()
     ensures slots { Gives slot_of slots_of_keys }
 {}
 
+/// Does nothing. Its contract: the addresses of nodes that these texts are, and that others are none.
+pub fn these_texts_are_addresses()
+    ensures { Gives address_of addresses }
+{}
+
 /// Does nothing. Its contract: the bytes of these commands, pipelines and transactions.
 pub fn commands_have_these_bytes()
     ensures commands { Gives pack packed_commands }
@@ -106,6 +119,7 @@ pub fn commands_have_these_bytes()
 pub fn values_have_these_texts()
     ensures scalars { Gives canonical texts_of_scalars }
     ensures aggregates { Gives canonical texts_of_aggregates }
+    ensures kinds { Gives kind_text texts_of_kinds }
 {}
 
 /// Does nothing. Its contract: what is tracked of these commands, which names are subscribed after them, and the bytes
@@ -113,6 +127,7 @@ pub fn values_have_these_texts()
 pub fn these_names_are_subscribed()
     ensures commands { Gives request_of tracked_commands }
     ensures names { Gives held_after subscribed_after }
+    ensures each_name { Gives is_subscribed subscribed_names }
     ensures bytes { Gives resubscribing bytes_that_resubscribe }
 {}
 
