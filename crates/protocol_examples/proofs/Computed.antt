@@ -24,9 +24,13 @@ pub each : {A : Type 0} (P : A → Type 0) (xs : List A) → Each P xs → All P
 each P [] h = All-nil P
 each P (x ∷ xs) h = All-cons P x xs h.0 (each P xs h.1)
 
+-- two functions that are the same on each of some
+pub each_same : {A B : Type 0} (f g : A → B) (xs : List A) → map f xs ≡ map g xs → All (λ x. f x ≡ g x) xs
+each_same f g [] e = All-nil (λ x. f x ≡ g x)
+each_same f g (x ∷ xs) e = All-cons (λ y. f y ≡ g y) x xs (first_same _ _ _ _ e) (each_same f g xs (others_same _ _ _ _ e))
+
 pub gives : {A B : Type 0} (f : A → B) (rows : List (A × B)) → map (λ row. f row.0) rows ≡ map (λ row. row.1) rows → Gives f rows
-gives f [] e = All-nil (λ row. f row.0 ≡ row.1)
-gives f (row ∷ rows) e = All-cons (λ r. f r.0 ≡ r.1) row rows (first_same _ _ _ _ e) (gives f rows (others_same _ _ _ _ e))
+gives f rows e = each_same (λ row. f row.0) (λ row. row.1) rows e
 
 pub are_values : (examples : List Example) → map (λ example. parse max_depth example.0) examples ≡ map (λ example. read example.1 []) examples → All IsValue examples
 are_values [] e = All-nil IsValue

@@ -1,6 +1,7 @@
 -- The one text by which each value is shown.
 use Rattle.std.specs.Prelude.{ℕ, pos, neg_ℤ, true, false, List, [], ◌∷◌, Some, None, codes}
-use Rattle.resp_value.specs.declared.push_kind.PushKind.TheVariants.{SUnsubscribe, Disconnection, Other}
+use Rattle.resp_value.specs.declared.push_kind.PushKind.{PushKind}
+use Rattle.resp_value.specs.declared.push_kind.PushKind.TheVariants.{Disconnection, Other, Invalidate, Message, PMessage, SMessage, Unsubscribe, PUnsubscribe, SUnsubscribe, Subscribe, PSubscribe, SSubscribe}
 use Rattle.resp_value.specs.Data.{Data, nil, int, bulk, array, simple, okay, dict, attribute, set, double, boolean, verbatim, big, push, error, items_of, members_of}
 
 -- values that hold no others
@@ -34,4 +35,21 @@ texts_of_aggregates =
     ∷ (push SUnsubscribe (items_of (bulk (codes "a") ∷ int (pos 0) ∷ [])), codes ">3\r\n$12\r\nsunsubscribe\r\n$1\r\na\r\n:0\r\n")
     ∷ (push (Other (codes "monitor")) (items_of []), codes ">1\r\n$7\r\nmonitor\r\n")
     ∷ (push Disconnection (items_of []), codes ">1\r\n$13\r\ndisconnection\r\n")
+    ∷ []
+
+-- the text of each kind of push
+abbrev pub texts_of_kinds : List (PushKind × List ℕ)
+texts_of_kinds =
+    (Invalidate, codes "invalidate")
+    ∷ (Message, codes "message")
+    ∷ (PMessage, codes "pmessage")
+    ∷ (SMessage, codes "smessage")
+    ∷ (Subscribe, codes "subscribe")
+    ∷ (PSubscribe, codes "psubscribe")
+    ∷ (SSubscribe, codes "ssubscribe")
+    ∷ (Unsubscribe, codes "unsubscribe")
+    ∷ (PUnsubscribe, codes "punsubscribe")
+    ∷ (SUnsubscribe, codes "sunsubscribe")
+    ∷ (Disconnection, codes "disconnection")
+    ∷ (Other (codes "monitor"), codes "monitor")
     ∷ []

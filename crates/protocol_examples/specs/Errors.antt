@@ -1,5 +1,6 @@
 -- What errors are about, how their requests are tried again, and where they lead.
-use Rattle.std.specs.Prelude.{ℕ, Bool, true, false, List, [], ◌∷◌, Some, None, codes}
+use Rattle.std.specs.Prelude.{◌≡◌, ◌≢◌, ℕ, Bool, true, false, List, [], ◌∷◌, Some, None, codes}
+use Rattle.std.specs.List.{All}
 use Rattle.resp_value.specs.declared.error_kind.ServerErrorKind.{ServerErrorKind}
 use Rattle.resp_value.specs.declared.error_kind.ServerErrorKind.TheVariants as server
 use Rattle.resp_value.specs.declared.retry_method.RetryMethod.{RetryMethod}
@@ -14,12 +15,13 @@ use Rattle.redis_error.specs.declared.error_kind.ErrorKind.TheVariants as kind
 use Rattle.redis_error.specs.declared.fault_kind.FaultKind.TheVariants as fault
 use Rattle.redis_error.specs.declared.redis_error.RedisError.{RedisError}
 use Rattle.redis_error.specs.declared.redis_error.RedisError.TheVariants as error
-use Rattle.redis_error.specs.Errors.{error_kind, error_method}
+use Rattle.redis_error.specs.Errors.{error_kind, error_method, is_io, is_dropped}
 
--- a code of a server error with its kind, and how its command is tried again; a code is told with its case
+-- a code of a server error with its kind, and how its command is tried again
 abbrev pub told_by_code : List ℕ → ServerErrorKind × RetryMethod
 told_by_code code = (kind_of code, method_of code)
 
+-- the codes that tell something; a code is told with its case
 abbrev pub codes_of_errors : List (List ℕ × (ServerErrorKind × RetryMethod))
 codes_of_errors =
     (codes "ERR", (server.ResponseError, NoRetry))
@@ -36,10 +38,15 @@ codes_of_errors =
     ∷ (codes "NOTBUSY", (server.NotBusy, NoRetry))
     ∷ (codes "NOSUB", (server.NoSub, NoRetry))
     ∷ (codes "NOPERM", (server.NoPerm, NoRetry))
-    ∷ (codes "WRONGTYPE", (server.Other, NoRetry))
-    ∷ (codes "moved", (server.Other, NoRetry))
-    ∷ ([], (server.Other, NoRetry))
     ∷ []
+
+-- a code that is none of them tells nothing
+abbrev pub TellsNothing : List ℕ → Type 0
+TellsNothing code = All (λ row. code ≢ row.0) codes_of_errors → told_by_code code ≡ (server.Other, NoRetry)
+
+-- some that are none of them
+abbrev pub other_codes : List (List ℕ × (ServerErrorKind × RetryMethod))
+other_codes = (codes "WRONGTYPE", (server.Other, NoRetry)) ∷ (codes "moved", (server.Other, NoRetry)) ∷ ([], (server.Other, NoRetry)) ∷ []
 
 -- an error of the driver with its kind, and how its request is tried again
 abbrev pub told_by_error : RedisError → ErrorKind × RetryMethod
@@ -49,6 +56,7 @@ told_by_error e = (error_kind e, error_method e)
 abbrev pub server_error : List ℕ → RedisError
 server_error code = error.Server (record { code = code; detail = None })
 
+-- errors that are no faults of a link
 abbrev pub errors_of_the_driver : List (RedisError × (ErrorKind × RetryMethod))
 errors_of_the_driver =
     (error.Config config.Url, (kind.InvalidClientConfig, NoRetry))
@@ -85,10 +93,44 @@ faults =
     ∷ (error.Io fault.Other, (kind.Io, NoRetry))
     ∷ []
 
+-- whether an error is one of input and output, and whether it says that the link was closed or dropped
+abbrev pub told_of_links : RedisError → Bool × Bool
+told_of_links e = (is_io e, is_dropped e)
+
+-- errors with both
+abbrev pub ends_of_links : List (RedisError × (Bool × Bool))
+ends_of_links =
+    (error.Closed, (true, true))
+    ∷ (error.Io fault.Refused, (true, false))
+    ∷ (error.Io fault.Reset, (true, true))
+    ∷ (error.Io fault.Aborted, (true, false))
+    ∷ (error.Io fault.NotConnected, (true, false))
+    ∷ (error.Io fault.BrokenPipe, (true, true))
+    ∷ (error.Io fault.Eof, (true, true))
+    ∷ (error.Io fault.TimedOut, (true, false))
+    ∷ (error.CreateFailed (codes "refused"), (true, false))
+    ∷ (error.Parse, (false, false))
+    ∷ (server_error (codes "ERR"), (false, false))
+    ∷ []
+
+-- whether a request can't be tried again on its link, by how it is tried again
+abbrev pub unrecoverable_methods : List (RetryMethod × Bool)
+unrecoverable_methods =
+    (Reconnect, true)
+    ∷ (ReconnectFromInitialConnections, true)
+    ∷ (NoRetry, false)
+    ∷ (RetryImmediately, false)
+    ∷ (WaitAndRetry, false)
+    ∷ (AskRedirect, false)
+    ∷ (MovedRedirect, false)
+    ∷ (RefreshSlotsAndRetry, false)
+    ∷ []
+
 -- an error, the slot and the address that it leads to, and whether for the one command alone
 abbrev pub Lead : Type 0
 Lead = ServerError × ℕ × List ℕ × Bool
 
+-- the error leads there
 abbrev pub IsLead : Lead → Type 0
 IsLead lead = IsRedirect lead.0 lead.1 lead.2 lead.3
 

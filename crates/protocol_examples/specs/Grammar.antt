@@ -1,8 +1,9 @@
 -- Texts that are values, texts that begin none, and texts that are not whole.
-use Rattle.std.specs.Prelude.{ℕ, pos, neg_ℤ, true, false, List, [], ◌∷◌, ◌++◌, Some, None, codes}
+use Rattle.std.specs.Prelude.{◌≢◌, ℕ, pos, neg_ℤ, true, false, List, [], ◌∷◌, ◌++◌, Some, None, codes}
+use Rattle.std.specs.List.{All}
 use Rattle.resp_value.specs.declared.push_kind.PushKind.TheVariants.{Invalidate, Message, Other}
 use Rattle.resp_value.specs.Data.{Data, nil, int, bulk, array, simple, okay, dict, attribute, set, double, boolean, verbatim, big, push, error, items_of, members_of}
-use Rattle.resp_read.specs.Reads.{Reads}
+use Rattle.resp_read.specs.Reads.{Reads, IsMalformed}
 
 -- a text, and the value that it is
 abbrev pub Example : Type 0
@@ -30,7 +31,10 @@ lines =
     ∷ (codes "-ERR unknown command 'asdf'\r\n", server_error (codes "ERR") (codes "unknown command 'asdf'"))
     ∷ (codes "-WRONGTYPE Operation against a key holding the wrong kind of value\r\n", server_error (codes "WRONGTYPE") (codes "Operation against a key holding the wrong kind of value"))
     ∷ (codes "-EXECABORT\r\n", error (record { code = codes "EXECABORT"; detail = None }))
+    ∷ (codes "-ERR  two spaces\r\n", server_error (codes "ERR") (codes " two spaces"))
+    ∷ (codes "-\r\n", error (record { code = []; detail = None }))
     ∷ (codes ":0\r\n", natural_number 0)
+    ∷ (codes ":007\r\n", natural_number 7)
     ∷ (codes ":1000\r\n", natural_number 1000)
     ∷ (codes ":+7\r\n", natural_number 7)
     ∷ (codes ":-1\r\n", int (neg_ℤ (pos 1)))
@@ -47,11 +51,13 @@ scalars =
     ∷ (codes ",1.23\r\n", double (codes "1.23"))
     ∷ (codes ",10\r\n", double (codes "10"))
     ∷ (codes ",-1.5E+10\r\n", double (codes "-1.5E+10"))
+    ∷ (codes ",+1e5\r\n", double (codes "+1e5"))
     ∷ (codes ",inf\r\n", double (codes "inf"))
     ∷ (codes ",-inf\r\n", double (codes "-inf"))
     ∷ (codes ",nan\r\n", double (codes "nan"))
     ∷ (codes "(3492890328409238509324850943850943825024385\r\n", big (codes "3492890328409238509324850943850943825024385"))
     ∷ (codes "(-1\r\n", big (codes "-1"))
+    ∷ (codes "(+1\r\n", big (codes "+1"))
     ∷ []
 
 -- texts of announced length: bulk strings, errors and texts with their format
@@ -99,18 +105,20 @@ tagged =
     ∷ (codes "*3\r\n:1\r\n:2\r\n|1\r\n+ttl\r\n:3600\r\n:3\r\n", array (items_of (natural_number 1 ∷ natural_number 2 ∷ attribute (natural_number 3) (members_of ((simple (codes "ttl"), natural_number 3600) ∷ [])) ∷ [])))
     ∷ []
 
--- a second first byte, no first byte of a value, a CR that no LF follows, a number out of 64 bits or with other bytes, and words that are none of the form's
+-- no first byte of a value, a CR that no LF follows, a number that is none or has more than 64 bits, and words that the form doesn't have
 abbrev pub malformed_lines : List (List ℕ)
 malformed_lines =
     codes "PING\r\n"
     ∷ codes "\r\n"
     ∷ codes "?"
+    ∷ codes ":\r"
     ∷ codes "+one\rtwo"
     ∷ codes "-ERR one\rtwo"
     ∷ codes ":\r\n"
     ∷ codes ":+-1"
     ∷ codes ":1.5"
     ∷ codes ":9223372036854775808"
+    ∷ codes ":+9223372036854775808"
     ∷ codes ":-9223372036854775809"
     ∷ codes "_x"
     ∷ codes "_x\r\n"
@@ -122,14 +130,20 @@ malformed_lines =
     ∷ codes ",5.\r\n"
     ∷ codes ",1e\r\n"
     ∷ codes ",-nan"
+    ∷ codes ",+inf"
+    ∷ codes ",INF"
+    ∷ codes ",1e5.5"
     ∷ codes "(\r\n"
     ∷ codes "(1.5"
+    ∷ codes "(+-1"
     ∷ []
 
 -- lengths that are none, and bytes behind the announced ones that aren't CR LF; a text without `:` after its format; a push of no values, or whose kind is no string
 abbrev pub malformed_lengths : List (List ℕ)
 malformed_lengths =
     codes "$\r\n"
+    ∷ codes "$-\r"
+    ∷ codes "*\r"
     ∷ codes "$-2"
     ∷ codes "$+5"
     ∷ codes "$5\r\nhello!"
@@ -171,18 +185,21 @@ short_lines =
     ∷ codes ",5."
     ∷ codes ",1e"
     ∷ codes ",-in"
+    ∷ codes ",n"
     ∷ codes "("
     ∷ codes "(349\r"
     ∷ []
 
--- announced bytes and values that have not come
+-- announced bytes and values that have not come; a length may begin with zeros, so that `>0` can become `>01`
 abbrev pub short_lengths : List (List ℕ)
 short_lengths =
     codes "$"
     ∷ codes "$-"
     ∷ codes "$5\r\nhel"
+    ∷ codes "$5\r\nhello"
     ∷ codes "$5\r\nhello\r"
     ∷ codes "!21\r\nSYNTAX"
+    ∷ codes "=3"
     ∷ codes "=15\r\ntx"
     ∷ codes "=15\r\ntxt:Some"
     ∷ codes "*-"
@@ -190,8 +207,17 @@ short_lengths =
     ∷ codes "~1\r\n"
     ∷ codes "%1\r\n+first\r\n"
     ∷ codes ">"
+    ∷ codes ">0"
     ∷ codes ">3\r\n"
     ∷ codes ">3\r\n$7\r\nmess"
     ∷ codes ">3\r\n+message\r\n+somechannel\r\n"
     ∷ codes "|1\r\n+ttl\r\n:3600\r\n"
     ∷ []
+
+-- the first bytes of the fifteen forms
+abbrev pub first_bytes : List ℕ
+first_bytes = codes "+-:$_#,(!=*~%>|"
+
+-- a byte that is none of them begins no value
+abbrev pub BeginsNone : ℕ → Type 0
+BeginsNone b = All (λ first. b ≢ first) first_bytes → IsMalformed (b ∷ [])

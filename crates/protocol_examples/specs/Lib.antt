@@ -7,3 +7,4 @@ pub mod Slots
 pub mod Packing
 pub mod Canonical
 pub mod Tracking
+pub mod Routes

@@ -1,17 +1,50 @@
 -- The limits of the reader, as texts at each limit and one past it.
 use Rattle.std.specs.Prelude.{◌≡◌, ◌≢◌, ℕ, zero, suc, pos, List, [], ◌∷◌, ◌++◌, length, codes}
 use Rattle.std.specs.List.{All}
-use Rattle.resp_value.specs.Data.{Data, int, array, simple, items_of}
+use Rattle.resp_value.specs.declared.push_kind.PushKind.TheVariants.{Other}
+use Rattle.resp_value.specs.Data.{Data, nil, int, array, simple, dict, attribute, set, push, items_of, members_of}
 use Rattle.resp_read.specs.Reads.{Reads, IsMalformed}
 
--- `:1` in so many arrays, one in another, and the value that it is
-abbrev pub one_in_arrays : ℕ → List ℕ
-one_in_arrays zero = codes ":1\r\n"
-one_in_arrays (suc n) = codes "*1\r\n" ++ one_in_arrays n
+-- how a value stands alone in another: the bytes before it, and what the other is
+pub record Wrapping : Type 0 where
+  pub before : List ℕ
+  pub around : Data → Data
 
-abbrev pub nested_one : ℕ → Data
-nested_one zero = int (pos 1)
-nested_one (suc n) = array (items_of (nested_one n ∷ []))
+-- a text in so many of these, one in another
+abbrev pub wrapped_text : Wrapping → List ℕ → ℕ → List ℕ
+wrapped_text w text zero = text
+wrapped_text w text (suc n) = w.before ++ wrapped_text w text n
+
+-- the value that it is, where the text is v
+abbrev pub wrapped : Wrapping → Data → ℕ → Data
+wrapped w v zero = v
+wrapped w v (suc n) = w.around (wrapped w v n)
+
+-- in an array, a set, a map, a push and an attribute's value
+abbrev pub wrappings : List Wrapping
+wrappings =
+    record { before = codes "*1\r\n"; around = λ d. array (items_of (d ∷ [])) }
+    ∷ record { before = codes "~1\r\n"; around = λ d. set (items_of (d ∷ [])) }
+    ∷ record { before = codes "%1\r\n+k\r\n"; around = λ d. dict (members_of ((simple (codes "k"), d) ∷ [])) }
+    ∷ record { before = codes ">2\r\n+k\r\n"; around = λ d. push (Other (codes "k")) (items_of (d ∷ [])) }
+    ∷ record { before = codes "|1\r\n+k\r\n_\r\n"; around = λ d. attribute d (members_of ((simple (codes "k"), nil) ∷ [])) }
+    ∷ []
+
+-- so many of them may stand in one another, with a number inside
+abbrev pub MayNest : ℕ → Wrapping → Type 0
+MayNest n w = (rest : List ℕ) → Reads (wrapped_text w (codes ":1\r\n") n ++ rest) (wrapped w (int (pos 1)) n) rest
+
+-- or with the array that is Nil
+abbrev pub MayHoldNil : ℕ → Wrapping → Type 0
+MayHoldNil n w = (rest : List ℕ) → Reads (wrapped_text w (codes "*-1\r\n") n ++ rest) (wrapped w nil n) rest
+
+-- so many may not
+abbrev pub MayNotNest : ℕ → Wrapping → Type 0
+MayNotNest n w = IsMalformed (wrapped_text w (codes ":1\r\n") n)
+
+-- nor so many with an empty array inside
+abbrev pub MayNotHoldEmpty : ℕ → Wrapping → Type 0
+MayNotHoldEmpty n w = IsMalformed (wrapped_text w (codes "*0\r\n") n)
 
 -- a line of so many bytes, none of them a CR, is a simple string
 abbrev pub IsReadToItsEnd : ℕ → Type 0

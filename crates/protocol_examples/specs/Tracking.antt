@@ -1,9 +1,9 @@
 -- What is tracked of commands, and the pipeline that subscribes it again.
-use Rattle.std.specs.Prelude.{ℕ, List, [], ◌∷◌, Option, Some, None, codes}
+use Rattle.std.specs.Prelude.{ℕ, Bool, true, false, List, [], ◌∷◌, Option, Some, None, codes}
 use Rattle.resp_write.specs.declared.subscription.SubscriptionAction.TheVariants.{Subscribe, Unsubscribe, PSubscribe, PUnsubscribe, SSubscribe, Sunsubscribe}
 use Rattle.resp_write.specs.Command.{Command}
 use Rattle.resp_write.specs.Pack.{pack_pipeline}
-use Rattle.sub_tracker.specs.Subscribed.{Request}
+use Rattle.sub_tracker.specs.Subscribed.{Request, Family, Plain, Sharded, Pattern, subscribed}
 use Rattle.sub_tracker.specs.Held.{Held, held_after}
 use Rattle.sub_tracker.specs.Pipeline.{request_of, resubscription}
 
@@ -43,6 +43,23 @@ subscribed_after =
     ∷ ((Subscribe, codes "first" ∷ []) ∷ (Unsubscribe, []) ∷ [], held (codes "first" ∷ []) [] [])
     ∷ []
 
+-- whether a name of a family is subscribed after some commands
+abbrev pub is_subscribed : Family × List ℕ × List Request → Bool
+is_subscribed asked = subscribed asked.0 asked.1 asked.2
+
+-- names of families, and whether they are
+abbrev pub subscribed_names : List ((Family × List ℕ × List Request) × Bool)
+subscribed_names =
+    ((Plain, codes "first", of_each_family), true)
+    ∷ ((Plain, codes "news.*", of_each_family), false)
+    ∷ ((Pattern, codes "news.*", of_each_family), true)
+    ∷ ((Sharded, codes "orders", of_each_family), true)
+    ∷ ((Sharded, codes "first", of_each_family), false)
+    ∷ ((Plain, codes "first", (Subscribe, codes "first" ∷ []) ∷ (Unsubscribe, codes "first" ∷ []) ∷ []), false)
+    ∷ ((Plain, codes "first", (Unsubscribe, codes "first" ∷ []) ∷ (Subscribe, codes "first" ∷ []) ∷ []), true)
+    ∷ ((Pattern, codes "first", (PSubscribe, codes "first" ∷ []) ∷ (Unsubscribe, codes "first" ∷ []) ∷ []), true)
+    ∷ []
+
 -- the bytes that subscribe again what is subscribed after these commands
 abbrev pub resubscribing : List Request → List ℕ
 resubscribing history = pack_pipeline (resubscription (held_after history))
@@ -55,11 +72,12 @@ bytes_that_resubscribe =
     ∷ ((PSubscribe, codes "news.*" ∷ []) ∷ [], codes "*2\r\n$10\r\nPSUBSCRIBE\r\n$6\r\nnews.*\r\n")
     ∷ []
 
--- what is tracked of commands, of those that are tracked
+-- what is tracked of one command, before others
 abbrev pub tracked_with : Option Request → List Request → List Request
 tracked_with None requests = requests
 tracked_with (Some request) requests = request ∷ requests
 
+-- what is tracked of commands, in order
 abbrev pub tracked : List Command → List Request
 tracked [] = []
 tracked (command ∷ commands) = tracked_with (request_of command.args) (tracked commands)
