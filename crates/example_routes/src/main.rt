@@ -3,7 +3,7 @@
 
 use mux_resp::{Cmd, Reader, Value};
 use mux_routing::{
-    MultipleNodeRoutingInfo, RoutingInfo, SlotMap, SlotParts, key_slot, parse_slots,
+    MultipleNodeRoutingInfo, NodeAddress, RoutingInfo, SlotMap, SlotParts, key_slot, parse_slots,
 };
 use std::alloc::{AllocError, Global};
 use std::io;
@@ -40,6 +40,10 @@ fn command(alloc: Global, words: &[&[u8]]) -> Result<Cmd, AllocError> {
     Ok(cmd)
 }
 
+fn print_node(rt: &impl Print, slot: u16, node: &NodeAddress) -> io::Result<()> {
+    print!(rt; "{slot} {}:{}", node.host.as_slice().escape_ascii(), node.port)
+}
+
 fn print_command(rt: &impl Print, cmd: &Cmd) -> io::Result<()> {
     for word in cmd.args() {
         print!(rt; " {}", word.as_slice().escape_ascii())?;
@@ -56,10 +60,13 @@ fn print_parts(
     parts: &SlotParts,
 ) -> io::Result<()> {
     for (k, part) in parts.as_slice().iter().enumerate() {
-        let (Some(node), Some(cmd)) = (map.address_for_route(part.0), parts.command(alloc, cmd, k)?) else {
+        let Some(node) = map.address_for_route(part.0) else {
             continue;
         };
-        print!(rt; "{} {}:{}", part.0.slot, node.host.as_slice().escape_ascii(), node.port)?;
+        let Some(cmd) = parts.command(alloc, cmd, k)? else {
+            continue;
+        };
+        print_node(rt, part.0.slot, node)?;
         print_command(rt, &cmd)?;
     }
     Ok(())
