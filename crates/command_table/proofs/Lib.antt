@@ -2,3 +2,4 @@ mod Placing
 mod Choosing
 mod Rows
 mod Splitting
+mod PartCommands

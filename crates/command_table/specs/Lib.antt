@@ -4,3 +4,4 @@ pub mod Parts
 pub mod Routing
 pub mod Selection
 pub mod Splitting
+pub mod PartCommand

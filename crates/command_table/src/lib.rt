@@ -3,6 +3,9 @@
 
 mod commands;
 mod lookup;
+mod part_command;
+#[cfg(test)]
+mod part_command_tests;
 mod parts;
 mod routes;
 mod routing;

@@ -11,7 +11,7 @@ use resp_write::Cmd;
 use std::alloc::{AllocError, Global};
 
 /// How many arguments go with a key.
-fn width(form: Form) -> usize
+pub(crate) fn width(form: Form) -> usize
     ensures { result ≡ width form }
 {
     match form {

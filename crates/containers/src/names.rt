@@ -1,4 +1,4 @@
-ghost use Rattle.std.specs.Prelude.{◌≡◌, ◌==◌, ◌<◌, [], ◌∷◌, ◌++◌, length, OnOk, OnErr, IfOk, Some, slice_get};
+ghost use Rattle.std.specs.Prelude.{◌≡◌, ◌==◌, ◌<◌, [], ◌∷◌, ◌++◌, length, map, OnOk, OnErr, IfOk, Some, slice_get};
 
 use crate::bytes::Bytes;
 use std::alloc::{AllocError, Global};
@@ -33,6 +33,18 @@ impl Names {
         ensures { result ≡ items.items }
     {
         Names { items }
+    }
+
+    /// A copy of each of these byte strings, in their order.
+    pub fn from_slices(alloc: Global, slices: &[&[u8]]) -> Result<Names, AllocError>
+        ensures { IfOk result (λ n. n ≡ map (λ s. s.now) slices.entry.now) }
+    {
+        let mut names = Names::new(alloc);
+        for slice in slices {
+            let copy = Bytes::from_slice(alloc, slice)?;
+            names.push(copy)?;
+        }
+        Ok(names)
     }
 
     pub fn len(&self) -> usize

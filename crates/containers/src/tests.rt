@@ -67,3 +67,14 @@ fn names_are_copied(rt: HostRuntime) -> Result<(), Fail> {
     assert_eq!(rt; copy.as_slice().len(), 2);
     Ok(())
 }
+
+#[test]
+fn names_are_made_of_slices(rt: HostRuntime) -> Result<(), Fail> {
+    let alloc = rt.alloc();
+    let names = Names::from_slices(alloc, &[b"SET", b"", b"a"])?;
+    assert_eq!(rt; names.len(), 3);
+    assert_eq!(rt; names.at(0).as_slice(), b"SET".as_slice());
+    assert!(rt; names.at(1).is_empty());
+    assert_eq!(rt; names.at(2).as_slice(), b"a".as_slice());
+    Ok(())
+}

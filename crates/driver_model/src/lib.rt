@@ -5,6 +5,9 @@ mod action;
 mod commands;
 mod config;
 mod event;
+mod making;
+#[cfg(test)]
+mod making_tests;
 mod news;
 mod outcome;
 mod request;

@@ -10,7 +10,7 @@ pub use resp_value::{
     Values,
 };
 pub use resp_write::{
-    ArgsIter, Cmd, CmdIter, Pipeline, SubscriptionAction, ToRedisArgs, cmd, pipe,
+    ArgsIter, Cmd, CmdIter, Pipeline, SubscriptionAction, ToRedisArgs, canonical_text, cmd, pipe,
 };
 
 #[cfg(test)]

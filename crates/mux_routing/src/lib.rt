@@ -5,6 +5,7 @@ mod addresses;
 mod entries;
 mod parsing;
 mod pipeline;
+mod route_address;
 mod rows;
 mod shard;
 mod slot_map;

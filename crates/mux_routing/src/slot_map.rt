@@ -149,4 +149,11 @@ impl SlotMap {
     {
         &self.nodes[i as usize]
     }
+
+    /// The address of this number, if the map has one.
+    pub fn get(&self, i: NodeIndex) -> Option<&NodeAddress>
+        ensures { option_copied result ≡ slice_get (addresses self.now) i }
+    {
+        self.nodes.get(i as usize)
+    }
 }
