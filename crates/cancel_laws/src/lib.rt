@@ -6,7 +6,7 @@ ghost use Rattle.driver_model.specs.declared.config.Config.{Config};
 ghost use Rattle.driver_model.specs.declared.event.Event.{Event};
 ghost use Rattle.driver_model.specs.declared.event.Submission.{Submission};
 ghost use Rattle.driver_model.specs.declared.event.Submission.TheVariants.{Cmd, Pipe, Multi};
-ghost use Rattle.driver_model.specs.Request.{packed, awaits_reply};
+ghost use Rattle.driver_model.specs.Request.{packed_bytes, is_reply_awaited};
 ghost use Rattle.shared_session.specs.Replay.{state_after, trace_of, outcomes_in, outcome_at, is_bad_after};
 ghost use Rattle.cancel_laws.specs.ButFor.{hushed_life};
 ghost use Rattle.cancel_laws.specs.Cancels.{cancel_of, handed_in_after_connect, HasStarted, GoesOn};
@@ -27,7 +27,7 @@ pub fn a_cancel_changes_one_outcome()
 /// Does nothing. Its contract: such submissions exist. Any that has bytes, and whose reply is awaited, has started where
 /// it is handed in after the link's connect: so a command, a pipeline whose first command has a name, and a transaction.
 pub fn a_submission_on_a_link_that_is_up_has_started()
-    ensures any { (config : Config) (word draw later : ℕ) (s : Submission) → packed s ≢ [] → awaits_reply s ≡ true → HasStarted 0 (handed_in_after_connect config word draw later s) }
+    ensures any { (config : Config) (word draw later : ℕ) (s : Submission) → packed_bytes s ≢ [] → is_reply_awaited s ≡ true → HasStarted 0 (handed_in_after_connect config word draw later s) }
     ensures command { (config : Config) (word draw later : ℕ) (name : List ℕ) (args : List (List ℕ)) → HasStarted 0 (handed_in_after_connect config word draw later (Cmd (name ∷ args))) }
     ensures pipeline { (config : Config) (word draw later : ℕ) (name : List ℕ) (args : List (List ℕ)) (more : List (List (List ℕ))) → HasStarted 0 (handed_in_after_connect config word draw later (Pipe ((name ∷ args) ∷ more))) }
     ensures transaction { (config : Config) (word draw later : ℕ) (args : List (List ℕ)) (more : List (List (List ℕ))) → HasStarted 0 (handed_in_after_connect config word draw later (Multi (args ∷ more))) }

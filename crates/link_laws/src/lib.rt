@@ -12,8 +12,8 @@ ghost use Rattle.link_core.specs.declared.message.Queued.{Queued};
 ghost use Rattle.link_core.specs.declared.message.Settled.{Settled};
 ghost use Rattle.link_core.specs.declared.message.Started.{Started};
 ghost use Rattle.link_core.specs.Dealing.{pushes_each};
-ghost use Rattle.link_core.specs.Link.{LinkState, Starting, Settling, no_boundary, is_full, is_held_back, enqueued, started_all, offered_of, wrote_of, cancelled, came, pushes_came, closed_all, faulted};
-ghost use Rattle.link_core.specs.Row.{lacks};
+ghost use Rattle.link_core.specs.Link.{LinkState, Starting, Settling, no_boundary, is_full, holds_back, enqueued, started_all, offered_of, wrote_of, cancelled, piece_dealt, pushes_came, closed_all, faulted};
+ghost use Rattle.link_core.specs.Row.{lack_of_row};
 ghost use Rattle.link_core.specs.Waiting.{without};
 ghost use Rattle.legal_trace.specs.Ledger.{reach, ledger, LinkLegal};
 ghost use Rattle.link_laws.specs.Alike.{SameLink, SameStarting, SameSettling, others};
@@ -36,7 +36,7 @@ pub fn calls_keep_links_alike()
     ensures wrote { (id : ℕ) (s t : LinkState) (n : ℕ) → SameLink id s t → SameLink id (wrote_of s n) (wrote_of t n) }
     ensures cancel { (id other : ℕ) (s t : LinkState) → SameLink id s t → SameLink id (cancelled s other) (cancelled t other) }
     ensures start { (id : ℕ) (s t : LinkState) (out : List Started) → SameLink id s t → SameStarting id (started_all (record { link = s; out = out })) (started_all (record { link = t; out = out })) }
-    ensures bytes { (id : ℕ) (s t : LinkState) (out out' : List Settled) (piece : List ℕ) → SameLink id s t → others id out ≡ others id out' → SameSettling id (came (record { link = s; out = out }) piece) (came (record { link = t; out = out' }) piece) }
+    ensures bytes { (id : ℕ) (s t : LinkState) (out out' : List Settled) (piece : List ℕ) → SameLink id s t → others id out ≡ others id out' → SameSettling id (piece_dealt (record { link = s; out = out }) piece) (piece_dealt (record { link = t; out = out' }) piece) }
     ensures close { (id : ℕ) (s t : LinkState) (out out' : List Settled) → SameLink id s t → others id out ≡ others id out' → SameSettling id (closed_all (record { link = s; out = out })) (closed_all (record { link = t; out = out' })) }
     ensures fault { (id : ℕ) (f : LinkFault) (s t : LinkState) (out out' : List Settled) → SameLink id s t → others id out ≡ others id out' → SameSettling id (faulted (record { link = s; out = out }) f) (faulted (record { link = t; out = out' }) f) }
 {}
@@ -58,7 +58,7 @@ pub fn every_run_of_a_link_is_legal()
 /// link ends, its started messages lack as many items as the starts take and were not dealt.
 pub fn what_a_link_settles_is_owed()
     ensures settled { (name : ℕ → Owner) (size boundary : ℕ) (ops : List Operation) → AreOwed name (ledger (run name size boundary ops).lines) (run name size boundary ops) }
-    ensures lacks { (name : ℕ → Owner) (size boundary : ℕ) (ops : List Operation) → (run name size boundary ops).over ≡ false → lacks (run name size boundary ops).link.row ≡ reach (ledger (run name size boundary ops).lines).starts (ledger (run name size boundary ops).lines).dealt - length (ledger (run name size boundary ops).lines).dealt }
+    ensures lacks { (name : ℕ → Owner) (size boundary : ℕ) (ops : List Operation) → (run name size boundary ops).over ≡ false → lack_of_row (run name size boundary ops).link.row ≡ reach (ledger (run name size boundary ops).lines).starts (ledger (run name size boundary ops).lines).dealt - length (ledger (run name size boundary ops).lines).dealt }
 {}
 
 /// Does nothing. Its contract: the messages that were settled, and then those whose verdict is wanted, stand in one line.
@@ -84,20 +84,20 @@ pub fn a_cancel_changes_no_other_verdict()
 /// Does nothing. Its contract: bytes that come in two pieces are read as if they had come in one. Where the first breaks
 /// the link, so does the whole, with the same settled messages.
 pub fn a_cut_changes_nothing()
-    ensures sound { (d : Settling) (p q : List ℕ) → (came d p).link.broken ≡ false → came (came d p) q ≡ came d (p ++ q) }
-    ensures broken { (d : Settling) (p q : List ℕ) → (came d p).link.broken ≡ true → (came d (p ++ q)).link.broken ≡ true }
-    ensures row { (d : Settling) (p q : List ℕ) → (came d p).link.broken ≡ true → (came d (p ++ q)).link.row ≡ (came d p).link.row }
-    ensures settled { (d : Settling) (p q : List ℕ) → (came d p).link.broken ≡ true → (came d (p ++ q)).out ≡ (came d p).out }
+    ensures sound { (d : Settling) (p q : List ℕ) → (piece_dealt d p).link.broken ≡ false → piece_dealt (piece_dealt d p) q ≡ piece_dealt d (p ++ q) }
+    ensures broken { (d : Settling) (p q : List ℕ) → (piece_dealt d p).link.broken ≡ true → (piece_dealt d (p ++ q)).link.broken ≡ true }
+    ensures row { (d : Settling) (p q : List ℕ) → (piece_dealt d p).link.broken ≡ true → (piece_dealt d (p ++ q)).link.row ≡ (piece_dealt d p).link.row }
+    ensures settled { (d : Settling) (p q : List ℕ) → (piece_dealt d p).link.broken ≡ true → (piece_dealt d (p ++ q)).out ≡ (piece_dealt d p).out }
 {}
 
 /// Does nothing. Its contract: messages are held back from the boundary on, and not one byte below it; never where
 /// nothing is unwritten, nor at the greatest boundary.
 pub fn a_link_is_held_back_at_its_boundary()
-    ensures below { (s : LinkState) → length s.outbox.unwritten + 1 ≡ s.boundary → is_held_back s ≡ false }
-    ensures at { (s : LinkState) → s.boundary < no_boundary → 0 < length s.outbox.unwritten → length s.outbox.unwritten ≡ s.boundary → is_held_back s ≡ true }
-    ensures above { (s : LinkState) → s.boundary < no_boundary → length s.outbox.unwritten ≡ s.boundary + 1 → is_held_back s ≡ true }
-    ensures empty { (s : LinkState) → length s.outbox.unwritten ≡ 0 → is_held_back s ≡ false }
-    ensures greatest { (s : LinkState) → s.boundary ≡ no_boundary → is_held_back s ≡ false }
+    ensures below { (s : LinkState) → length s.outbox.unwritten + 1 ≡ s.boundary → holds_back s ≡ false }
+    ensures at { (s : LinkState) → s.boundary < no_boundary → 0 < length s.outbox.unwritten → length s.outbox.unwritten ≡ s.boundary → holds_back s ≡ true }
+    ensures above { (s : LinkState) → s.boundary < no_boundary → length s.outbox.unwritten ≡ s.boundary + 1 → holds_back s ≡ true }
+    ensures empty { (s : LinkState) → length s.outbox.unwritten ≡ 0 → holds_back s ≡ false }
+    ensures greatest { (s : LinkState) → s.boundary ≡ no_boundary → holds_back s ≡ false }
 {}
 
 /// Does nothing. Its contract: a queue is full at its size, and not one message below it.

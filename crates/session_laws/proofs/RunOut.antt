@@ -4,7 +4,7 @@ use Rattle.std.specs.Prelude.{if◌then◌else◌, ◌==◌, ◌^◌, ◌||◌}
 use Rattle.containers.proofs.Places.{get_within}
 use Rattle.containers.proofs.Choices.{by_test, chosen, eq_from, le_from, le_test, ne_from}
 use Rattle.redis_error.specs.declared.redis_error.RedisError.TheVariants as error
-use Rattle.driver_model.specs.Request.{packed}
+use Rattle.driver_model.specs.Request.{packed_bytes}
 use Rattle.driver_model.specs.declared.config.Config.{Config}
 use Rattle.driver_model.specs.declared.event.Event.{Event}
 use Rattle.driver_model.specs.declared.event.EventKind.{EventKind}
@@ -15,8 +15,8 @@ use Rattle.mux_conn.specs.declared.life.Life.{Life}
 use Rattle.mux_conn.specs.declared.life.Life.TheVariants.{Dialing, Ended, Ready}
 use Rattle.mux_conn.specs.declared.request.Pending.{Pending}
 use Rattle.mux_conn.specs.declared.request.Request.{Request}
-use Rattle.shared_session.specs.Replay.{AreGood, AreGoodOn, is_bad_after, is_spent_after, opening, run_on, state_after, trace_of}
-use Rattle.shared_session.specs.Turn.{Turning, asked_for, counted, effect, heard, is_bad, is_spent, left_by, refused, spends, submitted, turn}
+use Rattle.shared_session.specs.Replay.{AreGood, AreGoodOn, is_bad_after, is_spent_after, opening_core, run_on, state_after, trace_of}
+use Rattle.shared_session.specs.Turn.{Turning, asked_for, counted, effect, heard, is_bad, has_run_out, left_by, refused_with, spends, submitted, next_turn}
 use Rattle.shared_session.specs.declared.core_state.Core.{Core}
 use Rattle.legal_trace.specs.Book.{Book, book}
 use Rattle.legal_trace.specs.Events.{HasRunOut}
@@ -28,31 +28,31 @@ use Rattle.session_laws.proofs.Tied.{Inner, Tied, inner, link_in, queue_ids, wai
 
 -- one event more
 --
-run_more : (c : Core) (es : List Event) (e : Event) → run_on c (es ++ e ∷ []) ≡ (turn (run_on c es) e.kind).core
+run_more : (c : Core) (es : List Event) (e : Event) → run_on c (es ++ e ∷ []) ≡ (next_turn (run_on c es) e.kind).core
 run_more c [] e = refl
-run_more c (x ∷ es) e = run_more (turn c x.kind).core es e
+run_more c (x ∷ es) e = run_more (next_turn c x.kind).core es e
 
 -- a good event behind good ones
 good_more : (c : Core) (es : List Event) (e : Event) → AreGoodOn c es → is_bad (run_on c es) e.kind ≡ false → AreGoodOn c (es ++ e ∷ [])
 good_more c [] e h good = (good, tt)
-good_more c (x ∷ es) e h good = (h.0, good_more (turn c x.kind).core es e h.1 good)
+good_more c (x ∷ es) e h good = (h.0, good_more (next_turn c x.kind).core es e h.1 good)
 
 -- the state behind it
-pub state_more : (config : Config) (word : ℕ) (events : List Event) (e : Event) → state_after config word (events ++ e ∷ []) ≡ (turn (state_after config word events) e.kind).core
+pub state_more : (config : Config) (word : ℕ) (events : List Event) (e : Event) → state_after config word (events ++ e ∷ []) ≡ (next_turn (state_after config word events) e.kind).core
 unfolding state_after
-state_more config word events e = run_more (opening config word) events e
+state_more config word events e = run_more (opening_core config word) events e
 
 -- and it is good with them
 pub are_good_more : (config : Config) (word : ℕ) (events : List Event) (e : Event) → AreGood config word events → is_bad_after config word events e ≡ false → AreGood config word (events ++ e ∷ [])
 unfolding state_after AreGood
-are_good_more config word events e h good = good_more (opening config word) events e h good
+are_good_more config word events e h good = good_more (opening_core config word) events e h good
 
 -- a turn is one more
 submitted_turns : (t : Turning) (what : Submission) → (submitted t what).core.turns ≡ t.core.turns
 submitted_turns t what =
-    chosen (λ (x : Turning). x.core.turns ≡ t.core.turns) t.core.shut (refused t error.Closed) (if length (packed what) == 0 then refused t error.EmptyCommand else asked_for t what)
+    chosen (λ (x : Turning). x.core.turns ≡ t.core.turns) t.core.shut (refused_with t error.Closed) (if length (packed_bytes what) == 0 then refused_with t error.EmptyCommand else asked_for t what)
     (λ s. refl)
-    (λ f. chosen (λ (x : Turning). x.core.turns ≡ t.core.turns) (length (packed what) == 0) (refused t error.EmptyCommand) (asked_for t what) (λ s. refl) (λ g. refl))
+    (λ f. chosen (λ (x : Turning). x.core.turns ≡ t.core.turns) (length (packed_bytes what) == 0) (refused_with t error.EmptyCommand) (asked_for t what) (λ s. refl) (λ g. refl))
 
 -- a leave counts none
 left_turns : (t : Turning) (x : Option (Option Pending)) → (left_by t x).core.turns ≡ t.core.turns
@@ -73,8 +73,8 @@ effect_turns c (event.WriteFault l kind) = refl
 effect_turns c event.Shutdown = refl
 
 -- so a whole turn is one
-turn_counted : (c : Core) (kind : EventKind) → (turn c kind).core.turns ≡ c.turns + 1
-unfolding turn
+turn_counted : (c : Core) (kind : EventKind) → (next_turn c kind).core.turns ≡ c.turns + 1
+unfolding next_turn
 turn_counted c kind = effect_turns c kind
 
 -- how many there are of each sort
@@ -225,23 +225,23 @@ spent_of b t turns h count out =
 --
 -- the session behind one more event, and the book of its trace
 next_tied : (config : Config) (word : ℕ) (events : List Event) (e : Event) → AreGood config word events → is_bad_after config word events e ≡ false
-    → (started : List ℕ) × Tied (book (trace_of config word (events ++ e ∷ []))) (inner (turn (state_after config word events) e.kind).core started)
+    → (started : List ℕ) × Tied (book (trace_of config word (events ++ e ∷ []))) (inner (next_turn (state_after config word events) e.kind).core started)
 next_tied config word events e good fine =
     let h = replay_between config word (events ++ e ∷ []) (are_good_more config word events e good fine) in
     (h.started, subst (λ c. Tied (book (trace_of config word (events ++ e ∷ []))) (inner c h.started)) (state_more config word events e) h.between.sound.tied)
 
 -- a spent step gives out the last number
 pub spent_run_out : (config : Config) (word : ℕ) (events : List Event) (e : Event) → AreGood config word events → is_bad_after config word events e ≡ false → is_spent_after config word events e ≡ true → HasRunOut (book (trace_of config word (events ++ e ∷ [])))
-unfolding spends is_spent
+unfolding spends has_run_out
 spent_run_out config word events e good fine spent =
     let c = state_after config word events in
     let h = next_tied config word events e good fine in
-    run_out_of (book (trace_of config word (events ++ e ∷ []))) (inner (turn c e.kind).core h.0) c.turns h.1 (turn_counted c e.kind) spent
+    run_out_of (book (trace_of config word (events ++ e ∷ []))) (inner (next_turn c e.kind).core h.0) c.turns h.1 (turn_counted c e.kind) spent
 
 -- and one that gives it out is spent
 pub run_out_spent : (config : Config) (word : ℕ) (events : List Event) (e : Event) → AreGood config word events → is_bad_after config word events e ≡ false → HasRunOut (book (trace_of config word (events ++ e ∷ []))) → is_spent_after config word events e ≡ true
-unfolding spends is_spent
+unfolding spends has_run_out
 run_out_spent config word events e good fine out =
     let c = state_after config word events in
     let h = next_tied config word events e good fine in
-    spent_of (book (trace_of config word (events ++ e ∷ []))) (inner (turn c e.kind).core h.0) c.turns h.1 (turn_counted c e.kind) out
+    spent_of (book (trace_of config word (events ++ e ∷ []))) (inner (next_turn c e.kind).core h.0) c.turns h.1 (turn_counted c e.kind) out

@@ -20,7 +20,7 @@ ghost use Rattle.driver_model.specs.declared.event.EventKind.TheVariants as even
 ghost use Rattle.driver_model.specs.declared.event.Submission.TheVariants as submission;
 ghost use Rattle.driver_model.specs.declared.outcome.Outcome.{Outcome};
 ghost use Rattle.driver_model.specs.declared.outcome.Outcome.TheVariants as outcome;
-ghost use Rattle.driver_model.specs.Request.{packed};
+ghost use Rattle.driver_model.specs.Request.{packed_bytes};
 ghost use Rattle.legal_trace.specs.Legal.{Legal};
 ghost use Rattle.trace_examples.specs.Parts.{history, turn, command, unawaited, two_together, one_atomic, one_skipped, one_nameless, nameless_atomic, nameless_skipped, reply, an_error, one_reply, replies, a_reply_and_more, spoiled_behind, okay_line, refusals, multi_refused, exec_refused, executed};
 ghost use Rattle.trace_examples.specs.Traces.{came_up, arrived, started_one, answered_both, answered_alike, left_alone, cut_off_alone, spoiled, both_cut_off, connected_again, pushed, held_back, taken_in_part, started_unoffered, cut_off, ended, refused, refused_at_once, committed, half_filled, left_untold, told_first, left_out, both_left_out, shut_down, shut_in_wait, up_in_wait, both_in_wait, first_of_both, too_late, heard_early, said_nothing};
@@ -61,8 +61,8 @@ pub fn so_are_these_around_a_link()
     ensures shut_down_in_wait { (config : Config) (word : ℕ) → Legal config word (history (event.Submit (command 71) ∷ event.Shutdown ∷ [])) (shut_in_wait config word ++ action.Close 0 ∷ action.Outcome 0 (outcome.Fault error.Closed) ∷ []) }
     ensures shut_down_before { (config : Config) (word : ℕ) → Legal config word (history (event.Shutdown ∷ event.Submit (command 71) ∷ [])) (too_late config word ++ action.Outcome 0 (outcome.Fault error.Closed) ∷ []) }
     ensures empty_command { (config : Config) (word : ℕ) → Legal config word (history (event.Submit (submission.Cmd []) ∷ [])) (said_nothing config word ++ action.Outcome 0 (outcome.Fault error.EmptyCommand) ∷ []) }
-    ensures told_in_its_turn { (config : Config) (word : ℕ) → Legal config word (history (event.Submit (command 71) ∷ event.Submit (unawaited 72) ∷ event.Connected 0 ∷ [])) (both_in_wait config word (unawaited 72) ++ action.Start 0 0 (owner.Try 0 0) 1 11 ∷ action.Outcome 1 (outcome.One Nil) ∷ action.Start 0 1 (owner.Try 1 0) 1 11 ∷ action.Write 0 (packed (command 71) ++ packed (unawaited 72)) ∷ []) }
-    ensures offered_again { (config : Config) (word : ℕ) → Legal config word (history (event.Connected 0 ∷ event.Submit (command 71) ∷ event.Wrote 0 5 ∷ [])) (taken_in_part config word ++ action.Write 0 (drop 5 (packed (command 71))) ∷ []) }
+    ensures told_in_its_turn { (config : Config) (word : ℕ) → Legal config word (history (event.Submit (command 71) ∷ event.Submit (unawaited 72) ∷ event.Connected 0 ∷ [])) (both_in_wait config word (unawaited 72) ++ action.Start 0 0 (owner.Try 0 0) 1 11 ∷ action.Outcome 1 (outcome.One Nil) ∷ action.Start 0 1 (owner.Try 1 0) 1 11 ∷ action.Write 0 (packed_bytes (command 71) ++ packed_bytes (unawaited 72)) ∷ []) }
+    ensures offered_again { (config : Config) (word : ℕ) → Legal config word (history (event.Connected 0 ∷ event.Submit (command 71) ∷ event.Wrote 0 5 ∷ [])) (taken_in_part config word ++ action.Write 0 (drop 5 (packed_bytes (command 71))) ∷ []) }
 {}
 
 /// Does nothing. Its contract: no trace that begins so is legal, whatever its events were and whatever comes after.
@@ -72,7 +72,7 @@ pub fn these_are_not_legal()
     ensures answered_twice { (config : Config) (word : ℕ) (events : List Event) (after : List Action) → Legal config word events ((answered_both config word ++ action.Outcome 0 (reply 120) ∷ []) ++ action.Outcome 0 (reply 120) ∷ after) → ⊥ }
     ensures push_as_answer { (config : Config) (word : ℕ) (events : List Event) (after : List Action) (value : Value) → Legal config word events (pushed config word ++ action.Outcome 0 (outcome.One value) ∷ after) → ⊥ }
     ensures causeless { (config : Config) (word : ℕ) (events : List Event) (after : List Action) → Legal config word events (started_one config word ++ action.Outcome 0 (outcome.Fault error.Closed) ∷ after) → ⊥ }
-    ensures offered_twice { (config : Config) (word : ℕ) (events : List Event) (after : List Action) → Legal config word events (started_one config word ++ action.Write 0 (packed (command 71)) ∷ after) → ⊥ }
+    ensures offered_twice { (config : Config) (word : ℕ) (events : List Event) (after : List Action) → Legal config word events (started_one config word ++ action.Write 0 (packed_bytes (command 71)) ∷ after) → ⊥ }
 {}
 
 /// Does nothing. Its contract: the same of pipelines, transactions and commands whose reply nobody awaits.
@@ -104,7 +104,7 @@ pub fn nor_are_these_steps()
     ensures closed_twice { (config : Config) (word : ℕ) (events : List Event) (after : List Action) → Legal config word events (cut_off config word (command 71) 1 11 ++ action.Close 0 ∷ after) → ⊥ }
     ensures held_back_behind { (config : Config) (word : ℕ) (events : List Event) (after : List Action) (number : ℕ) (c : Cause) → Legal config word events (held_back config word ++ action.Turn number c ∷ after) → ⊥ }
     ensures offered_before_a_start { (config : Config) (word : ℕ) (events : List Event) (after : List Action) (bytes : List ℕ) → Legal config word events (first_of_both config word ++ action.Write 0 bytes ∷ after) → ⊥ }
-    ensures offered_what_was_taken { (config : Config) (word : ℕ) (events : List Event) (after : List Action) → Legal config word events (taken_in_part config word ++ action.Write 0 (packed (command 71)) ∷ after) → ⊥ }
+    ensures offered_what_was_taken { (config : Config) (word : ℕ) (events : List Event) (after : List Action) → Legal config word events (taken_in_part config word ++ action.Write 0 (packed_bytes (command 71)) ∷ after) → ⊥ }
     ensures waits_before_an_offer { (config : Config) (word : ℕ) (events : List Event) (after : List Action) (n round : ℕ) (kind : WaitKind) → Legal config word events (started_unoffered config word ++ action.Wait (owner.Try n round) kind ∷ after) → ⊥ }
     ensures waits_out_of_order { (config : Config) (word : ℕ) (events : List Event) (after : List Action) → Legal config word events (both_left_out config word ++ action.Wait (owner.Try 1 0) wait.Connect ∷ after) → ⊥ }
     ensures created_twice { (config : Config) (word : ℕ) (events : List Event) (after : List Action) → Legal config word events (came_up config word ++ action.Created ∷ after) → ⊥ }
