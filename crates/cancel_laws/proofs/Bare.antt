@@ -10,11 +10,11 @@ use Rattle.driver_model.specs.declared.outcome.Outcome.{Outcome}
 use Rattle.driver_model.specs.declared.outcome.Outcome.TheVariants as outcome
 use Rattle.driver_model.specs.declared.outcome.Shape.{Shape}
 use Rattle.driver_model.specs.News.{News, silence, connected, took, failed, shut}
-use Rattle.driver_model.specs.News.{came as came_news}
+use Rattle.driver_model.specs.News.{came}
 use Rattle.driver_model.specs.Shape.{outcome_of}
 use Rattle.link_core.specs.declared.message.Settled.{Settled}
 use Rattle.link_core.specs.declared.message.Started.{Started}
-use Rattle.link_core.specs.Link.{LinkState, Settling, enqueued, started_all, offered_of, came}
+use Rattle.link_core.specs.Link.{LinkState, Settling, enqueued, started_all, offered_of, piece_dealt}
 use Rattle.link_core.specs.Outbox.{can_offer}
 use Rattle.link_laws.specs.Alike.{others}
 use Rattle.link_laws.proofs.Cancels.{start_alike, bytes_alike, close_alike, fault_alike}
@@ -26,7 +26,7 @@ use Rattle.mux_conn.specs.declared.life.Life.TheVariants.{Dialing, Ready, Ended}
 use Rattle.mux_conn.specs.declared.request.Progress.TheVariants as progress
 use Rattle.mux_conn.specs.declared.request.Request.{Request}
 use Rattle.mux_conn.specs.declared.request.Waiting.{Waiting}
-use Rattle.mux_conn.specs.Connection.{Work, acted, at_life, with_link, is_dialing, is_stuck}
+use Rattle.mux_conn.specs.Connection.{Work, acted, at_life, with_link, awaits_connect, moves_none}
 use Rattle.mux_conn.specs.Requests.{is_open_at, is_waiting_at, name_at, at_progress, progressed, answered, waiting_of, asked}
 use Rattle.mux_conn.specs.Effects.{new_link, settled_each, closed, closed_each, waiting_closed, ended, connected_at, taken_at, failed_at, broken_at, read_to, read_at, shut_at, applied, cancelled_in, left}
 use Rattle.mux_conn.specs.Passes.{shown_each, starts_with, started_at, started, message_of, placed_at, told_at_place, moved_at, moved, still_waiting, moved_each, moved_all, passed}
@@ -211,7 +211,7 @@ bare_read n p w s t h link out =
 -- bytes come
 bare_came : (n p : ℕ) (w : Work) (piece : List ℕ) (life : Life) → IsGone n p w.conn.requests life → bare n p (read_at w piece life) ≡ read_at (bare n p w) piece (hushed_life p life)
 bare_came n p w piece (Ready l) h =
-    bare_read n p w (came (record { link = l; out = [] }) piece) (came (record { link = hushed_link p l; out = [] }) piece) ((gone_kept n p).come w.conn.requests l w.acts piece h)
+    bare_read n p w (piece_dealt (record { link = l; out = [] }) piece) (piece_dealt (record { link = hushed_link p l; out = [] }) piece) ((gone_kept n p).come w.conn.requests l w.acts piece h)
     (hushed_came p l piece) (bytes_alike p l (hushed_link p l) [] [] piece (alike_hushed p l) refl).out
 bare_came n p w piece Dialing h = refl
 bare_came n p w piece Ended h = refl
@@ -227,7 +227,7 @@ pub bare_applied : (n p : ℕ) (w : Work) (what : News) → At (There (IsGone n 
 bare_applied n p w silence h = refl
 bare_applied n p w connected h = bare_connected n p w w.conn.life
 bare_applied n p w (took count) h = bare_taken n p w count w.conn.life
-bare_applied n p w (came_news piece) h = bare_came n p w piece w.conn.life h
+bare_applied n p w (came piece) h = bare_came n p w piece w.conn.life h
 bare_applied n p w (failed f) h = bare_failed n p w f w.conn.life h
 bare_applied n p w shut h = bare_shut n p w w.conn.life h
 
@@ -343,7 +343,7 @@ bare_moved n p w q h =
     (λ f. refl)
 
 -- whether requests can be moved doesn't depend on the row
-stuck_same : (p : ℕ) (life : Life) → is_stuck life ≡ is_stuck (hushed_life p life)
+stuck_same : (p : ℕ) (life : Life) → moves_none life ≡ moves_none (hushed_life p life)
 stuck_same p Dialing = refl
 stuck_same p (Ready l) = refl
 stuck_same p Ended = refl
@@ -352,7 +352,7 @@ stuck_same p Ended = refl
 bare_moved_each : (n p : ℕ) (w : Work) (qs : List Waiting) → At (There (IsGone n p)) w → bare n p (moved_each w qs) ≡ moved_each (bare n p w) qs
 bare_moved_each n p w [] h = refl
 bare_moved_each n p w (q ∷ qs) h =
-    either_by (bare n p) (is_stuck w.conn.life) (is_stuck (hushed_life p w.conn.life)) _ _ _ _ (stuck_same p w.conn.life) (λ t. refl)
+    either_by (bare n p) (moves_none w.conn.life) (moves_none (hushed_life p w.conn.life)) _ _ _ _ (stuck_same p w.conn.life) (λ t. refl)
     (λ f. bare_moved_each n p (moved w q) qs (moved_kept (gone_kept n p) w q h) ∙ ap (λ (x : Work). moved_each x qs) (bare_moved n p w q h))
 
 -- what a turn moves
@@ -371,7 +371,7 @@ bare_written_at n p w Dialing = refl
 bare_written_at n p w Ended = refl
 
 -- nor does it whether the connect is answered
-dialing_same : (p : ℕ) (life : Life) → is_dialing life ≡ is_dialing (hushed_life p life)
+dialing_same : (p : ℕ) (life : Life) → awaits_connect life ≡ awaits_connect (hushed_life p life)
 dialing_same p Dialing = refl
 dialing_same p (Ready l) = refl
 dialing_same p Ended = refl
@@ -381,7 +381,7 @@ bare_wait : (n p : ℕ) (w : Work) (q : ℕ) → At (There (IsGone n p)) w → b
 bare_wait n p w q h =
     either_by (bare n p) (is_waiting_at w.conn.requests q) (is_waiting_at (at_progress w.conn.requests p progress.Closed) q) _ w _ (bare n p w) (waiting_same w.conn.requests p q h.past)
     (λ t.
-    either_by (bare n p) (is_dialing w.conn.life) (is_dialing (hushed_life p w.conn.life)) _ w _ (bare n p w) (dialing_same p w.conn.life)
+    either_by (bare n p) (awaits_connect w.conn.life) (awaits_connect (hushed_life p w.conn.life)) _ w _ (bare n p w) (dialing_same p w.conn.life)
     (λ u.
     bare_acted n p w (act.Wait (name_at w.conn.requests q) wait.Connect) (λ m. refl)
     ∙ ap (λ (m : ℕ). acted (bare n p w) (act.Wait m wait.Connect)) (sym (name_stays w.conn.requests p q progress.Closed)))

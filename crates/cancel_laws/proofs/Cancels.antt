@@ -18,8 +18,8 @@ use Rattle.mux_conn.specs.declared.request.Pending.{Pending}
 use Rattle.mux_conn.specs.Requests.{if_there, is_open, is_waiting, is_open_at}
 use Rattle.mux_conn.specs.Effects.{cancelled_in, left}
 use Rattle.shared_session.specs.declared.core_state.Core.{Core}
-use Rattle.shared_session.specs.Turn.{Turning, work_of, with_work, heard, left_by, counted, moved_on, takes_too_much, is_bad, shown_each, actions_of, turn}
-use Rattle.shared_session.specs.Replay.{opening, opening_actions, run_on, state_after, turns_on, trace_of, told_each, outcomes_in, outcome_at, is_bad_after}
+use Rattle.shared_session.specs.Turn.{Turning, work_of, with_work, heard, left_by, counted, moved_on, exceeds_offer, is_bad, shown_each, actions_of, next_turn}
+use Rattle.shared_session.specs.Replay.{opening_core, opening_actions, run_on, state_after, turns_on, trace_of, told_each, outcomes_in, outcome_at, is_bad_after}
 use Rattle.shared_session.proofs.Replays.{turns_after}
 use Rattle.cancel_laws.specs.ButFor.{all_unnumbered, but_for, hushed_life}
 use Rattle.cancel_laws.specs.Cancels.{cancel_of, HasStarted, GoesOn}
@@ -41,8 +41,8 @@ use Rattle.cancel_laws.proofs.Outcomes.{told-append, all_told_unnumbered, erased
 --
 -- where submission n is request p, the turn of its cancel is the request's cancel
 cancel_turn : (c : Core) (n : ℕ) (p : Pending) → IsReady c → slice_get c.table n ≡ Some (Some p)
-    → turn c (event.Cancel n) ≡ record { core = record c { turns = c.turns + 1; single = record c.single { connection = left c.single.connection p.number } }; acts = [] }
-unfolding turn
+    → next_turn c (event.Cancel n) ≡ record { core = record c { turns = c.turns + 1; single = record c.single { connection = left c.single.connection p.number } }; acts = [] }
+unfolding next_turn
 cancel_turn c n p r there =
     let t = heard (counted c) (event.Cancel n) in
     let d = left_by t (Some (Some p)) in
@@ -68,7 +68,7 @@ started_open : (n : ℕ) (c : Core) (h : HasStarted n c) → is_open_at c.single
 started_open n c h = ap (if_there is_open) h.known ∙ ap is_open h.placed
 
 -- its cancel leads to a session that is alike
-cancel_alike : (n : ℕ) (c : Core) (h : HasStarted n c) → IsReady c → AreAlike n h.pending.number c (turn c (event.Cancel n)).core
+cancel_alike : (n : ℕ) (c : Core) (h : HasStarted n c) → IsReady c → AreAlike n h.pending.number c (next_turn c (event.Cancel n)).core
 cancel_alike n c h r =
     let p = h.pending.number in
     let gone = started_gone n c h r in
@@ -89,7 +89,7 @@ left_closed : (c : MultiplexedConnection) (p : ℕ) → is_open_at (left c p).re
 left_closed c p = chosen (λ (x : MultiplexedConnection). is_open_at x.requests p ≡ false) (is_open_at c.requests p) _ c (λ t. own_closed c.requests p) (λ f. f)
 
 -- and it is silent from then on
-cancel_silent : (n : ℕ) (c : Core) (h : HasStarted n c) → IsReady c → AtCore (IsSilent n h.pending.number) (turn c (event.Cancel n)).core
+cancel_silent : (n : ℕ) (c : Core) (h : HasStarted n c) → IsReady c → AtCore (IsSilent n h.pending.number) (next_turn c (event.Cancel n)).core
 cancel_silent n c h r =
     let p = h.pending.number in
     let g = (cancel_alike n c h r).gone_too in
@@ -105,7 +105,7 @@ left_quiet : (c : MultiplexedConnection) (p : ℕ) → is_open_at c.requests p �
 left_quiet c p t h = chosen (λ (x : MultiplexedConnection). NoneInRow p x.life) (is_open_at c.requests p) _ c (λ u. h) (λ f. absurd (not_both (is_open_at c.requests p) f t))
 
 -- so from the cancel on its verdict is not wanted
-cancel_hushed : (n : ℕ) (c : Core) (h : HasStarted n c) → IsReady c → AtCore (There (IsHushed n h.pending.number)) (turn c (event.Cancel n)).core
+cancel_hushed : (n : ℕ) (c : Core) (h : HasStarted n c) → IsReady c → AtCore (There (IsHushed n h.pending.number)) (next_turn c (event.Cancel n)).core
 cancel_hushed n c h r =
     let p = h.pending.number in
     let x = c.single.connection in
@@ -121,7 +121,7 @@ cancel_hushed n c h r =
 hushed_on : (n p : ℕ) (c : Core) (es : List Event) → n < length c.table → AtCore (There (IsHushed n p)) c → AtCore (There (IsHushed n p)) (run_on c es)
 hushed_on n p c [] l h = h
 hushed_on n p c (e ∷ es) l h =
-    hushed_on n p (turn c e.kind).core es (more_after n c e.kind l) (turn_kept (hushed_kept n p) c (hushed_asks n p (length c.table) (above n c.table l)) e.kind h)
+    hushed_on n p (next_turn c e.kind).core es (more_after n c e.kind l) (turn_kept (hushed_kept n p) c (hushed_asks n p (length c.table) (above n c.table l)) e.kind h)
 
 -- the turn of the cancel shows nothing
 cancel_shows : (c : Core) (draw n : ℕ) (p : Pending) → IsReady c → slice_get c.table n ≡ Some (Some p) → actions_of c (cancel_of draw n) ≡ action.Turn c.turns (cause.Event (cancel_of draw n)) ∷ []
@@ -132,29 +132,29 @@ cancel_shows c draw n p r there = ap (λ (x : Turning). action.Turn c.turns (cau
 -- where events lead
 run_on-append : (c : Core) (xs ys : List Event) → run_on c (xs ++ ys) ≡ run_on (run_on c xs) ys
 run_on-append c [] ys = refl
-run_on-append c (x ∷ xs) ys = run_on-append (turn c x.kind).core xs ys
+run_on-append c (x ∷ xs) ys = run_on-append (next_turn c x.kind).core xs ys
 
 -- and what their turns show
 turns_on-append : (c : Core) (xs ys : List Event) → turns_on c (xs ++ ys) ≡ turns_on c xs ++ turns_on (run_on c xs) ys
 turns_on-append c [] ys = refl
-turns_on-append c (x ∷ xs) ys = ap (λ (zs : List Action). actions_of c x ++ zs) (turns_on-append (turn c x.kind).core xs ys) ∙ sym (append_assoc (actions_of c x) _ _)
+turns_on-append c (x ∷ xs) ys = ap (λ (zs : List Action). actions_of c x ++ zs) (turns_on-append (next_turn c x.kind).core xs ys) ∙ sym (append_assoc (actions_of c x) _ _)
 
 -- where a history leads that goes on
 state_split : (config : Config) (word : ℕ) (before after : List Event) → state_after config word (before ++ after) ≡ run_on (state_after config word before) after
 unfolding state_after
-state_split config word before after = run_on-append (opening config word) before after
+state_split config word before after = run_on-append (opening_core config word) before after
 
 -- and its trace
 trace_split : (config : Config) (word : ℕ) (before after : List Event) → trace_of config word (before ++ after) ≡ trace_of config word before ++ turns_on (state_after config word before) after
 unfolding state_after trace_of
 trace_split config word before after =
-    ap (λ (xs : List Action). opening_actions config word ++ xs) (turns_on-append (opening config word) before after)
-    ∙ sym (append_assoc (opening_actions config word) (turns_on (opening config word) before) _)
+    ap (λ (xs : List Action). opening_actions config word ++ xs) (turns_on-append (opening_core config word) before after)
+    ∙ sym (append_assoc (opening_actions config word) (turns_on (opening_core config word) before) _)
 
 -- what is true after each history
 ready_after : (config : Config) (word : ℕ) (before : List Event) → IsReady (state_after config word before)
 unfolding state_after
-ready_after config word before = ready_on (opening config word) before (opening_ready config word)
+ready_after config word before = ready_on (opening_core config word) before (opening_ready config word)
 
 -- the number of the next turn
 number_after : (config : Config) (word : ℕ) (before : List Event) → (state_after config word before).turns ≡ length before + 1
@@ -166,7 +166,7 @@ alike_after : (config : Config) (word draw n : ℕ) (before after : List Event) 
 alike_after config word draw n before after h =
     let c = state_after config word before in
     let p = h.pending.number in
-    let d = (turn c (event.Cancel n)).core in
+    let d = (next_turn c (event.Cancel n)).core in
     subst (λ (x : Core). AreAlike n p x (state_after config word (before ++ cancel_of draw n ∷ after))) (sym (state_split config word before after))
     (subst (AreAlike n p (run_on c after)) (sym (state_split config word before (cancel_of draw n ∷ after))) (alike_on n p c d after (cancel_alike n c h (ready_after config word before))))
 
@@ -174,17 +174,17 @@ alike_after config word draw n before after h =
 --
 -- later turns show no outcome of the cancelled submission
 silent_after : (config : Config) (word n : ℕ) (before after : List Event) (h : HasStarted n (state_after config word before))
-    → but_for n (turns_on (turn (state_after config word before) (event.Cancel n)).core after) ≡ all_unnumbered (turns_on (turn (state_after config word before) (event.Cancel n)).core after)
+    → but_for n (turns_on (next_turn (state_after config word before) (event.Cancel n)).core after) ≡ all_unnumbered (turns_on (next_turn (state_after config word before) (event.Cancel n)).core after)
 silent_after config word n before after h =
     let c = state_after config word before in
     let r = ready_after config word before in
-    silent_shown n h.pending.number (turn c (event.Cancel n)).core after (cancel_alike n c h r).within_too (cancel_silent n c h r)
+    silent_shown n h.pending.number (next_turn c (event.Cancel n)).core after (cancel_alike n c h r).within_too (cancel_silent n c h r)
 
 -- the trace with the cancel goes on as the one without it
 pub goes_on : (config : Config) (word draw n : ℕ) (before after : List Event) → HasStarted n (state_after config word before) → GoesOn config word n before (cancel_of draw n) after
 goes_on config word draw n before after h =
     let c = state_after config word before in
-    let d = (turn c (event.Cancel n)).core in
+    let d = (next_turn c (event.Cancel n)).core in
     let r = ready_after config word before in
     let number = ap (λ (k : ℕ). action.Turn k (cause.Event (cancel_of draw n)) ∷ []) (number_after config word before) in
     record {
@@ -239,14 +239,14 @@ same_items config word draw n before after h =
     let c = state_after config word before in
     let p = h.pending.number in
     let r = ready_after config word before in
-    let d = (turn c (event.Cancel n)).core in
+    let d = (next_turn c (event.Cancel n)).core in
     let s = hushed_on n p d after (cancel_alike n c h r).within_too (cancel_hushed n c h r) in
     ap (λ (x : Core). x.single.connection.life) (alike_after config word draw n before after h).same
     ∙ subst (λ (x : Core). hushed_life p x.single.connection.life ≡ x.single.connection.life) (sym (state_split config word before (cancel_of draw n ∷ after)))
     (quiet_life p (run_on d after).single.connection.life s.quiet)
 
 -- how many bytes are offered doesn't depend on the row
-too_much_same : (p count : ℕ) (life : Life) → takes_too_much life count ≡ takes_too_much (hushed_life p life) count
+too_much_same : (p count : ℕ) (life : Life) → exceeds_offer life count ≡ exceeds_offer (hushed_life p life) count
 too_much_same p count Dialing = refl
 too_much_same p count (Ready l) = refl
 too_much_same p count Ended = refl

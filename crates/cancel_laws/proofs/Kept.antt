@@ -11,13 +11,13 @@ use Rattle.driver_model.specs.declared.news.LinkFault.{LinkFault}
 use Rattle.driver_model.specs.declared.news.LinkFault.TheVariants as fault
 use Rattle.driver_model.specs.declared.outcome.Outcome.{Outcome}
 use Rattle.driver_model.specs.declared.outcome.Outcome.TheVariants as outcome
-use Rattle.driver_model.specs.News.{News, news, silence, connected, took, failed, shut}
-use Rattle.driver_model.specs.News.{came as came_news}
-use Rattle.driver_model.specs.Request.{packed}
+use Rattle.driver_model.specs.News.{News, news_of, silence, connected, took, failed, shut}
+use Rattle.driver_model.specs.News.{came}
+use Rattle.driver_model.specs.Request.{packed_bytes}
 use Rattle.driver_model.specs.Shape.{outcome_of}
 use Rattle.link_core.specs.declared.message.Settled.{Settled}
 use Rattle.link_core.specs.declared.message.Started.{Started}
-use Rattle.link_core.specs.Link.{LinkState, Settling, enqueued, started_all, offered_of, wrote_of, came, faulted, closed_all}
+use Rattle.link_core.specs.Link.{LinkState, Settling, enqueued, started_all, offered_of, wrote_of, piece_dealt, faulted, closed_all}
 use Rattle.link_core.specs.Outbox.{can_offer}
 use Rattle.mux_conn.specs.declared.act.LinkAct.{LinkAct}
 use Rattle.mux_conn.specs.declared.act.LinkAct.TheVariants as act
@@ -28,13 +28,13 @@ use Rattle.mux_conn.specs.declared.request.Pending.{Pending}
 use Rattle.mux_conn.specs.declared.request.Progress.TheVariants as progress
 use Rattle.mux_conn.specs.declared.request.Request.{Request}
 use Rattle.mux_conn.specs.declared.request.Waiting.{Waiting}
-use Rattle.mux_conn.specs.Connection.{Work, acted, at_life, with_link, is_dialing, is_stuck}
+use Rattle.mux_conn.specs.Connection.{Work, acted, at_life, with_link, awaits_connect, moves_none}
 use Rattle.mux_conn.specs.Requests.{is_open_at, is_waiting_at, name_at, at_progress, answered}
 use Rattle.mux_conn.specs.Effects.{new_link, settled_each, closed, closed_each, ended, connected_at, taken_at, failed_at, read_to, read_at, shut_at, applied, cancelled_in, left}
 use Rattle.mux_conn.specs.Passes.{shown_each, started_at, started, message_of, placed_at, told_at_place, moved_at, moved, still_waiting, moved_each, passed}
 use Rattle.mux_conn.specs.Turn.{written_at, written, wait_shown, waits_each, flushed}
 use Rattle.shared_session.specs.declared.core_state.Core.{Core}
-use Rattle.shared_session.specs.Turn.{Turning, work_of, heard, counted, submitted, left_by, requested, effect, turn}
+use Rattle.shared_session.specs.Turn.{Turning, work_of, heard, counted, submitted, left_by, requested, effect, next_turn}
 
 -- what an act shows, if it is not the outcome of submission n
 abbrev pub other_act : ℕ → LinkAct → List LinkAct
@@ -58,7 +58,7 @@ pub record IsKept (P : List Request → Life → List LinkAct → Type 0) : Type
   pub start : (r : List Request) (l : LinkState) (xs : List LinkAct) → P r (Ready l) xs → P r (Ready (started_all (record { link = l; out = [] })).link) xs
   pub offer : (r : List Request) (l : LinkState) (xs : List LinkAct) → P r (Ready l) xs → P r (Ready (offered_of l)) xs
   pub write : (r : List Request) (l : LinkState) (xs : List LinkAct) (k : ℕ) → P r (Ready l) xs → P r (Ready (wrote_of l k)) xs
-  pub come : (r : List Request) (l : LinkState) (xs : List LinkAct) (piece : List ℕ) → P r (Ready l) xs → P r (Ready (came (record { link = l; out = [] }) piece).link) xs
+  pub come : (r : List Request) (l : LinkState) (xs : List LinkAct) (piece : List ℕ) → P r (Ready l) xs → P r (Ready (piece_dealt (record { link = l; out = [] }) piece).link) xs
   pub end : (r : List Request) (life : Life) (xs : List LinkAct) → P r life xs → P r Ended xs
   pub show : (r : List Request) (life : Life) (xs : List LinkAct) (a : LinkAct) → IsPlain a → P r life xs → P r life (xs ++ a ∷ [])
 
@@ -71,7 +71,7 @@ pub record IsKeptThere (P : List Request → Life → Type 0) : Type 0 where
   pub start : (r : List Request) (l : LinkState) → P r (Ready l) → P r (Ready (started_all (record { link = l; out = [] })).link)
   pub offer : (r : List Request) (l : LinkState) → P r (Ready l) → P r (Ready (offered_of l))
   pub write : (r : List Request) (l : LinkState) (k : ℕ) → P r (Ready l) → P r (Ready (wrote_of l k))
-  pub come : (r : List Request) (l : LinkState) (piece : List ℕ) → P r (Ready l) → P r (Ready (came (record { link = l; out = [] }) piece).link)
+  pub come : (r : List Request) (l : LinkState) (piece : List ℕ) → P r (Ready l) → P r (Ready (piece_dealt (record { link = l; out = [] }) piece).link)
   pub end : (r : List Request) (life : Life) → P r life → P r Ended
 
 -- a fact of the requests and the life, whatever a turn has shown
@@ -153,7 +153,7 @@ read_kept {P = P} k w s h =
 
 -- bytes come
 came_kept : {P : List Request → Life → List LinkAct → Type 0} → IsKept P → (w : Work) (piece : List ℕ) (life : Life) → P w.conn.requests life w.acts → At P w → At P (read_at w piece life)
-came_kept k w piece (Ready l) g h = read_kept k w (came (record { link = l; out = [] }) piece) (k.come w.conn.requests l w.acts piece g)
+came_kept k w piece (Ready l) g h = read_kept k w (piece_dealt (record { link = l; out = [] }) piece) (k.come w.conn.requests l w.acts piece g)
 came_kept k w piece Dialing g h = h
 came_kept k w piece Ended g h = h
 
@@ -168,7 +168,7 @@ applied_kept : {P : List Request → Life → List LinkAct → Type 0} → IsKep
 applied_kept k w silence h = h
 applied_kept k w connected h = connected_kept k w w.conn.life h h
 applied_kept k w (took count) h = taken_kept k w count w.conn.life h h
-applied_kept k w (came_news piece) h = came_kept k w piece w.conn.life h h
+applied_kept k w (came piece) h = came_kept k w piece w.conn.life h h
 applied_kept k w (failed f) h = failed_kept k w f w.conn.life h
 applied_kept k w shut h = shut_kept k w w.conn.life h
 
@@ -212,7 +212,7 @@ moved_kept {P = P} k w q h = chosen (At P) (is_waiting_at w.conn.requests q.numb
 -- all that wait
 moved_each_kept : {P : List Request → Life → List LinkAct → Type 0} → IsKept P → (w : Work) (qs : List Waiting) → At P w → At P (moved_each w qs)
 moved_each_kept k w [] h = h
-moved_each_kept {P = P} k w (q ∷ qs) h = chosen (At P) (is_stuck w.conn.life) _ _ (λ t. h) (λ f. moved_each_kept k (moved w q) qs (moved_kept k w q h))
+moved_each_kept {P = P} k w (q ∷ qs) h = chosen (At P) (moves_none w.conn.life) _ _ (λ t. h) (λ f. moved_each_kept k (moved w q) qs (moved_kept k w q h))
 
 -- what a turn moves
 pub passed_kept : {P : List Request → Life → List LinkAct → Type 0} → IsKept P → (w : Work) → At P w → At P (passed w)
@@ -237,7 +237,7 @@ written_kept k w h = written_at_kept k w w.conn.life h h
 pub wait_kept : {P : List Request → Life → List LinkAct → Type 0} → IsKept P → (w : Work) (q : ℕ) → At P w → At P (wait_shown w q)
 wait_kept {P = P} k w q h =
     chosen (At P) (is_waiting_at w.conn.requests q) _ w
-    (λ t. chosen (At P) (is_dialing w.conn.life) _ w (λ u. k.show w.conn.requests w.conn.life w.acts (act.Wait (name_at w.conn.requests q) wait.Connect) (λ n. refl) h) (λ f. h))
+    (λ t. chosen (At P) (awaits_connect w.conn.life) _ w (λ u. k.show w.conn.requests w.conn.life w.acts (act.Wait (name_at w.conn.requests q) wait.Connect) (λ n. refl) h) (λ f. h))
     (λ f. h)
 
 -- all waits of a turn
@@ -258,7 +258,7 @@ pub record CanAsk (P : List Request → Life → List LinkAct → Type 0) (m : �
 
 -- the connection hears its link's news
 pub heard_kept : {P : List Request → Life → List LinkAct → Type 0} → IsKept P → (t : Turning) (kind : EventKind) → At P (work_of t) → At P (work_of (heard t kind))
-heard_kept k t kind h = applied_kept k (work_of t) (news t.core.single.link kind) h
+heard_kept k t kind h = applied_kept k (work_of t) (news_of t.core.single.link kind) h
 
 -- a request is left
 left_kept : {P : List Request → Life → List LinkAct → Type 0} → IsKept P → (c : MultiplexedConnection) (xs : List LinkAct) (q : ℕ) → P c.requests c.life xs → P (left c q).requests (left c q).life xs
@@ -275,7 +275,7 @@ submitted_kept : {P : List Request → Life → List LinkAct → Type 0} → (t 
 submitted_kept {P = P} t k s h =
     let c = t.core.single.connection in
     chosen (λ (x : Turning). At P (work_of x)) t.core.shut _ _ (λ u. k.refuse c.requests c.life t.acts closed h)
-    (λ f. chosen (λ (x : Turning). At P (work_of x)) (length (packed s) == 0) _ _ (λ u. k.refuse c.requests c.life t.acts (outcome.Fault error.EmptyCommand) h) (λ g. k.ask c.requests c.life t.acts h))
+    (λ f. chosen (λ (x : Turning). At P (work_of x)) (length (packed_bytes s) == 0) _ _ (λ u. k.refuse c.requests c.life t.acts (outcome.Fault error.EmptyCommand) h) (λ g. k.ask c.requests c.life t.acts h))
 
 -- what an event is to the submissions
 requested_kept : {P : List Request → Life → List LinkAct → Type 0} → IsKept P → (t : Turning) → CanAsk P (length t.core.table) → (kind : EventKind) → At P (work_of t) → At P (work_of (requested t kind))
@@ -298,8 +298,8 @@ abbrev pub AtCore : (List Request → Life → List LinkAct → Type 0) → Core
 AtCore P c = P c.single.connection.requests c.single.connection.life []
 
 -- a whole turn
-pub turn_kept : {P : List Request → Life → List LinkAct → Type 0} → IsKept P → (c : Core) → CanAsk P (length c.table) → (kind : EventKind) → AtCore P c → At P (work_of (turn c kind))
-unfolding turn
+pub turn_kept : {P : List Request → Life → List LinkAct → Type 0} → IsKept P → (c : Core) → CanAsk P (length c.table) → (kind : EventKind) → AtCore P c → At P (work_of (next_turn c kind))
+unfolding next_turn
 turn_kept k c a kind h =
     let w = work_of (effect (counted c) kind) in
     flushed_kept k (passed w) (passed_kept k w (effect_kept k (counted c) a kind h))

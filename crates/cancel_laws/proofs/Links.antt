@@ -4,13 +4,13 @@ use Rattle.std.proofs.Math.Bool.{and-false}
 use Rattle.containers.proofs.Choices.{by_test, chosen, left_if, eq_from, eq_test}
 use Rattle.resp_value.specs.Data.{Data}
 use Rattle.resp_read.specs.Items.{items}
-use Rattle.driver_model.specs.Shape.{need}
+use Rattle.driver_model.specs.Shape.{need_of}
 use Rattle.link_core.specs.declared.message.Entry.{Entry}
 use Rattle.link_core.specs.declared.message.Queued.{Queued}
 use Rattle.link_core.specs.Dealing.{Dealing, with_item, dealt_to, dealt, dealt_each}
-use Rattle.link_core.specs.Link.{LinkState, Starting, Settling, entry_of, is_held_back, started_one, started_each, started_all, cancelled, came}
+use Rattle.link_core.specs.Link.{LinkState, Starting, Settling, entry_of, holds_back, started_one, started_each, started_all, cancelled, piece_dealt}
 use Rattle.link_core.specs.Row.{silent, silenced}
-use Rattle.link_core.specs.Waiting.{awaits, without}
+use Rattle.link_core.specs.Waiting.{is_wanted, without}
 use Rattle.link_laws.specs.Alike.{SameEntry, SameRow, SameLink}
 use Rattle.link_laws.proofs.Cancels.{cancel_stays, cancel_alike, start_alike, bytes_alike}
 use Rattle.cancel_laws.specs.ButFor.{hushed, hushed_each, hushed_link}
@@ -20,7 +20,7 @@ use Rattle.cancel_laws.specs.ButFor.{hushed, hushed_each, hushed_link}
 -- in the queue
 abbrev pub NoneOf : ℕ → List Queued → Type 0
 NoneOf p [] = Unit {0}
-NoneOf p (q ∷ qs) = (awaits p q ≡ false) × NoneOf p qs
+NoneOf p (q ∷ qs) = (is_wanted p q ≡ false) × NoneOf p qs
 
 -- and in the row
 abbrev pub NoneWanted : ℕ → List Entry → Type 0
@@ -30,22 +30,22 @@ NoneWanted p (e ∷ es) = (((e.id == p) && e.awaited) ≡ false) × NoneWanted p
 -- the queue
 --
 -- one more message, which is not that one
-pub none_push : (p : ℕ) (queue : List Queued) (q : Queued) → NoneOf p queue → awaits p q ≡ false → NoneOf p (queue ++ q ∷ [])
+pub none_push : (p : ℕ) (queue : List Queued) (q : Queued) → NoneOf p queue → is_wanted p q ≡ false → NoneOf p (queue ++ q ∷ [])
 none_push p [] q h e = (e, tt)
 none_push p (x ∷ xs) q h e = (h.0, none_push p xs q h.1 e)
 
 -- one message less
 pub none_without : (p m : ℕ) (queue : List Queued) → NoneOf p queue → NoneOf p (without queue m)
 none_without p m [] h = tt
-none_without p m (q ∷ qs) h = chosen (NoneOf p) (awaits m q) _ _ (λ t. h.1) (λ f. (h.0, none_without p m qs h.1))
+none_without p m (q ∷ qs) h = chosen (NoneOf p) (is_wanted m q) _ _ (λ t. h.1) (λ f. (h.0, none_without p m qs h.1))
 
 -- some messages start
 pub none_started : (p : ℕ) (s : Starting) (queue : List Queued) → NoneOf p queue → NoneOf p (started_each s queue).link.queue
 none_started p s [] h = tt
-none_started p s (q ∷ qs) h = chosen (λ (x : Starting). NoneOf p x.link.queue) (is_held_back s.link) _ _ (λ t. h) (λ f. none_started p (started_one s q) qs h.1)
+none_started p s (q ∷ qs) h = chosen (λ (x : Starting). NoneOf p x.link.queue) (holds_back s.link) _ _ (λ t. h) (λ f. none_started p (started_one s q) qs h.1)
 
 -- bytes come
-pub none_came : (p : ℕ) (l : LinkState) (piece : List ℕ) → NoneOf p l.queue → NoneOf p (came (record { link = l; out = [] }) piece).link.queue
+pub none_came : (p : ℕ) (l : LinkState) (piece : List ℕ) → NoneOf p l.queue → NoneOf p (piece_dealt (record { link = l; out = [] }) piece).link.queue
 none_came p l piece h = chosen (λ (x : Settling). NoneOf p x.link.queue) l.broken _ _ (λ t. h) (λ f. h)
 
 -- a list with one item less is not the same
@@ -56,17 +56,17 @@ one_less p q qs false e = (refl, cc)
 -- what a cancel would leave as it is has no such message
 pub none_from : (p : ℕ) (queue : List Queued) → without queue p ≡ queue → NoneOf p queue
 none_from p [] e = tt
-none_from p (q ∷ qs) e = let h = one_less p q qs (awaits p q) e in (h.0, none_from p qs h.1)
+none_from p (q ∷ qs) e = let h = one_less p q qs (is_wanted p q) e in (h.0, none_from p qs h.1)
 
 -- and what has no such message a cancel leaves as it is
 pub none_leaves : (p : ℕ) (queue : List Queued) → NoneOf p queue → without queue p ≡ queue
 none_leaves p [] h = refl
-none_leaves p (q ∷ qs) h = left_if (awaits p q) qs (q ∷ without qs p) h.0 ∙ ap (λ (xs : List Queued). q ∷ xs) (none_leaves p qs h.1)
+none_leaves p (q ∷ qs) h = left_if (is_wanted p q) qs (q ∷ without qs p) h.0 ∙ ap (λ (xs : List Queued). q ∷ xs) (none_leaves p qs h.1)
 
 -- the row
 --
 -- one more entry, of another message
-quiet_behind : (p : ℕ) (row : List Entry) (q : Queued) → awaits p q ≡ false → NoneWanted p row → NoneWanted p (row ++ entry_of q ∷ [])
+quiet_behind : (p : ℕ) (row : List Entry) (q : Queued) → is_wanted p q ≡ false → NoneWanted p row → NoneWanted p (row ++ entry_of q ∷ [])
 quiet_behind p [] q e h = (e, tt)
 quiet_behind p (x ∷ row) q e h = (h.0, quiet_behind p row q e h.1)
 
@@ -74,12 +74,12 @@ quiet_behind p (x ∷ row) q e h = (h.0, quiet_behind p row q e h.1)
 pub quiet_starts : (p : ℕ) (s : Starting) (queue : List Queued) → NoneOf p queue → NoneWanted p s.link.row → NoneWanted p (started_each s queue).link.row
 quiet_starts p s [] n h = h
 quiet_starts p s (q ∷ qs) n h =
-    chosen (λ (x : Starting). NoneWanted p x.link.row) (is_held_back s.link) _ _ (λ t. h) (λ f. quiet_starts p (started_one s q) qs n.1 (quiet_behind p s.link.row q n.0 h))
+    chosen (λ (x : Starting). NoneWanted p x.link.row) (holds_back s.link) _ _ (λ t. h) (λ f. quiet_starts p (started_one s q) qs n.1 (quiet_behind p s.link.row q n.0 h))
 
 -- an item is dealt
 quiet_dealt_to : (p : ℕ) (d : Dealing) (item : Data) (row : List Entry) → NoneWanted p d.row → NoneWanted p row → NoneWanted p (dealt_to d item row).row
 quiet_dealt_to p d item [] h r = h
-quiet_dealt_to p d item (e ∷ es) h r = chosen (λ (x : Dealing). NoneWanted p x.row) (nat_lt (length (with_item e item).got) (need e.shape)) _ _ (λ t. (r.0, r.1)) (λ f. r.1)
+quiet_dealt_to p d item (e ∷ es) h r = chosen (λ (x : Dealing). NoneWanted p x.row) (nat_lt (length (with_item e item).got) (need_of e.shape)) _ _ (λ t. (r.0, r.1)) (λ f. r.1)
 
 -- and more
 quiet_dealt : (p : ℕ) (d : Dealing) (items : List Data) → NoneWanted p d.row → NoneWanted p (dealt_each d items).row
@@ -87,7 +87,7 @@ quiet_dealt p d [] h = h
 quiet_dealt p d (v ∷ vs) h = quiet_dealt p (dealt d v) vs (quiet_dealt_to p d v d.row h h)
 
 -- bytes come
-pub quiet_came : (p : ℕ) (l : LinkState) (piece : List ℕ) → NoneWanted p l.row → NoneWanted p (came (record { link = l; out = [] }) piece).link.row
+pub quiet_came : (p : ℕ) (l : LinkState) (piece : List ℕ) → NoneWanted p l.row → NoneWanted p (piece_dealt (record { link = l; out = [] }) piece).link.row
 quiet_came p l piece h =
     chosen (λ (x : Settling). NoneWanted p x.link.row) l.broken _ _ (λ t. h) (λ f. quiet_dealt p (record { row = l.row; out = [] }) (items (l.rest ++ piece)) h)
 
@@ -171,7 +171,7 @@ hushed_started p l none =
     hushed_is p _ _ (start_alike p l (hushed_link p l) [] (alike_hushed p l)).link (quiet_starts p (record { link = hushed_link p l; out = [] }) l.queue none (hushed_quiet p l.row))
 
 -- bytes come
-pub hushed_came : (p : ℕ) (l : LinkState) (piece : List ℕ) → hushed_link p (came (record { link = l; out = [] }) piece).link ≡ (came (record { link = hushed_link p l; out = [] }) piece).link
+pub hushed_came : (p : ℕ) (l : LinkState) (piece : List ℕ) → hushed_link p (piece_dealt (record { link = l; out = [] }) piece).link ≡ (piece_dealt (record { link = hushed_link p l; out = [] }) piece).link
 hushed_came p l piece = hushed_is p _ _ (bytes_alike p l (hushed_link p l) [] [] piece (alike_hushed p l) refl).link (quiet_came p (hushed_link p l) piece (hushed_quiet p l.row))
 
 -- the caller of another message goes

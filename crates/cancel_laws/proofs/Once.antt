@@ -4,13 +4,13 @@ use Rattle.std.proofs.Math.Bool.{and-false}
 use Rattle.containers.proofs.Choices.{by_test, chosen, taken_if, left_if, eq_from}
 use Rattle.resp_value.specs.Data.{Data}
 use Rattle.resp_read.specs.Items.{items}
-use Rattle.driver_model.specs.Shape.{need}
+use Rattle.driver_model.specs.Shape.{need_of}
 use Rattle.link_core.specs.declared.message.Entry.{Entry}
 use Rattle.link_core.specs.declared.message.Queued.{Queued}
 use Rattle.link_core.specs.Dealing.{Dealing, with_item, dealt_to, dealt, dealt_each}
-use Rattle.link_core.specs.Link.{LinkState, Starting, Settling, entry_of, is_held_back, started_one, started_each}
+use Rattle.link_core.specs.Link.{LinkState, Starting, Settling, entry_of, holds_back, started_one, started_each}
 use Rattle.link_core.specs.Row.{silenced}
-use Rattle.link_core.specs.Waiting.{awaits, without}
+use Rattle.link_core.specs.Waiting.{is_wanted, without}
 use Rattle.mux_conn.specs.declared.life.Life.{Life}
 use Rattle.mux_conn.specs.declared.life.Life.TheVariants.{Dialing, Ready, Ended}
 use Rattle.mux_conn.specs.declared.request.Progress.{Progress}
@@ -125,13 +125,13 @@ times_silenced p m (e ∷ es) = chosen (λ (xs : List Entry). times p xs ≡ tim
 -- no message comes where one leaves
 places_without : (p m : ℕ) (queue : List Queued) → places p (without queue m) ≤ places p queue
 places_without p m [] = omega arith
-places_without p m (q ∷ qs) = chosen (λ (xs : List Queued). places p xs ≤ places p (q ∷ qs)) (awaits m q) _ _ (λ t. omega arith) (λ f. omega (arith, places_without p m qs))
+places_without p m (q ∷ qs) = chosen (λ (xs : List Queued). places p xs ≤ places p (q ∷ qs)) (is_wanted m q) _ _ (λ t. omega arith) (λ f. omega (arith, places_without p m qs))
 
 -- nor where an item is dealt
 times_dealt_to : (p : ℕ) (d : Dealing) (item : Data) (row : List Entry) → times p d.row ≤ times p row → times p (dealt_to d item row).row ≤ times p row
 times_dealt_to p d item [] l = l
 times_dealt_to p d item (e ∷ es) l =
-    chosen (λ (x : Dealing). times p x.row ≤ times p (e ∷ es)) (nat_lt (length (with_item e item).got) (need e.shape)) _ _ (λ t. omega arith) (λ f. omega arith)
+    chosen (λ (x : Dealing). times p x.row ≤ times p (e ∷ es)) (nat_lt (length (with_item e item).got) (need_of e.shape)) _ _ (λ t. omega arith) (λ f. omega arith)
 
 -- nor where more are
 times_dealt : (p : ℕ) (d : Dealing) (items : List Data) → times p (dealt_each d items).row ≤ times p d.row
@@ -142,7 +142,7 @@ times_dealt p d (v ∷ vs) = omega (arith, times_dealt p (dealt d v) vs, times_d
 starts_same : (p : ℕ) (s : Starting) (queue : List Queued) → all_of p (Ready (started_each s queue).link) ≡ times p s.link.row + places p queue
 starts_same p s [] = omega arith
 starts_same p s (q ∷ qs) =
-    chosen (λ (x : Starting). all_of p (Ready x.link) ≡ times p s.link.row + places p (q ∷ qs)) (is_held_back s.link) _ _ (λ t. refl)
+    chosen (λ (x : Starting). all_of p (Ready x.link) ≡ times p s.link.row + places p (q ∷ qs)) (holds_back s.link) _ _ (λ t. refl)
     (λ f. omega (arith, starts_same p (started_one s q) qs, times_push p s.link.row (entry_of q)))
 
 -- a cancel brings no message

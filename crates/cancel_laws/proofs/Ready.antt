@@ -5,15 +5,15 @@ use Rattle.driver_model.specs.declared.config.Config.{Config}
 use Rattle.driver_model.specs.declared.event.Event.{Event}
 use Rattle.driver_model.specs.declared.event.EventKind.{EventKind}
 use Rattle.driver_model.specs.declared.event.EventKind.TheVariants as event
-use Rattle.driver_model.specs.Request.{packed}
+use Rattle.driver_model.specs.Request.{packed_bytes}
 use Rattle.mux_conn.specs.declared.life.Life.{Life}
 use Rattle.mux_conn.specs.declared.request.Pending.{Pending}
 use Rattle.mux_conn.specs.declared.request.Progress.TheVariants as progress
 use Rattle.mux_conn.specs.declared.request.Request.{Request}
 use Rattle.mux_conn.specs.Passes.{passed}
 use Rattle.shared_session.specs.declared.core_state.Core.{Core}
-use Rattle.shared_session.specs.Turn.{Turning, work_of, heard, left_by, requested, effect, counted, moved_on, turn}
-use Rattle.shared_session.specs.Replay.{opening, run_on}
+use Rattle.shared_session.specs.Turn.{Turning, work_of, heard, left_by, requested, effect, counted, moved_on, next_turn}
+use Rattle.shared_session.specs.Replay.{opening_core, run_on}
 use Rattle.cancel_laws.proofs.Requests.{names, names_stay, names_push, names_count}
 use Rattle.cancel_laws.proofs.Names.{AreNamed, named_refused, named_asked}
 use Rattle.cancel_laws.proofs.Kept.{IsKept, IsKeptThere, There, kept_there, heard_kept, left_by_kept, effect_kept, passed_kept, flushed_kept, turn_kept}
@@ -68,7 +68,7 @@ named_requested t (event.Submit s) h =
     let r = t.core.single.connection.requests in
     let x : Request = record { name = length t.core.table; progress = progress.Waiting } in
     chosen NamedIn t.core.shut _ _ (λ u. named_refused t.core.table (names r) h)
-    (λ f. chosen NamedIn (length (packed s) == 0) _ _ (λ u. named_refused t.core.table (names r) h)
+    (λ f. chosen NamedIn (length (packed_bytes s) == 0) _ _ (λ u. named_refused t.core.table (names r) h)
     (λ g. subst (AreNamed (t.core.table ++ Some (record { number = length r }) ∷ [])) (sym (names_push r x)) (named_asked t.core.table (names r) (length r) (names_count r) h)))
 named_requested t (event.Cancel n) h = named_left_by t (slice_get t.core.table n) h
 named_requested t (event.Connected l) h = h
@@ -95,8 +95,8 @@ pub record IsReady (c : Core) : Type 0 where
   pub named : AreNamed c.table (names c.single.connection.requests)
 
 -- a turn
-ready_turn : (c : Core) (kind : EventKind) → IsReady c → IsReady (turn c kind).core
-unfolding turn
+ready_turn : (c : Core) (kind : EventKind) → IsReady c → IsReady (next_turn c kind).core
+unfolding next_turn
 ready_turn c kind h =
     let t = effect (counted c) kind in
     record {
@@ -109,10 +109,10 @@ ready_turn c kind h =
 -- and more of them
 pub ready_on : (c : Core) (es : List Event) → IsReady c → IsReady (run_on c es)
 ready_on c [] h = h
-ready_on c (e ∷ es) h = ready_on (turn c e.kind).core es (ready_turn c e.kind h)
+ready_on c (e ∷ es) h = ready_on (next_turn c e.kind).core es (ready_turn c e.kind h)
 
 -- the opening
-pub opening_ready : (config : Config) (word : ℕ) → IsReady (opening config word)
+pub opening_ready : (config : Config) (word : ℕ) → IsReady (opening_core config word)
 opening_ready config word = record {
   wide = tt;
   idle = record { fresh = refl; queue = tt; waiting = λ f. refl; offered = tt };

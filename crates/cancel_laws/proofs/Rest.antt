@@ -3,7 +3,7 @@ use Rattle.std.proofs.Common.{◌≡◌, ℕ, ◌<◌, ◌==◌, nat_lt, nat_le,
 use Rattle.containers.proofs.Choices.{chosen, taken_if, left_if, not_le_test, not_both}
 use Rattle.link_core.specs.declared.message.Queued.{Queued}
 use Rattle.link_core.specs.declared.message.Started.{Started}
-use Rattle.link_core.specs.Link.{LinkState, Starting, Settling, no_boundary, is_full, is_held_back, started_one, started_each, started_all}
+use Rattle.link_core.specs.Link.{LinkState, Starting, Settling, no_boundary, is_full, holds_back, started_one, started_each, started_all}
 use Rattle.link_core.specs.Outbox.{can_offer}
 use Rattle.link_core.specs.Waiting.{without}
 use Rattle.mux_conn.specs.declared.act.LinkAct.TheVariants as act
@@ -12,7 +12,7 @@ use Rattle.mux_conn.specs.declared.life.Life.{Life}
 use Rattle.mux_conn.specs.declared.life.Life.TheVariants.{Dialing, Ready, Ended}
 use Rattle.mux_conn.specs.declared.request.Request.{Request}
 use Rattle.mux_conn.specs.declared.request.Waiting.{Waiting}
-use Rattle.mux_conn.specs.Connection.{Work, acted, at_life, with_link, is_dialing, is_stuck}
+use Rattle.mux_conn.specs.Connection.{Work, acted, at_life, with_link, awaits_connect, moves_none}
 use Rattle.mux_conn.specs.Requests.{is_open_at, is_waiting_at, name_at}
 use Rattle.mux_conn.specs.Effects.{cancelled_in, left}
 use Rattle.mux_conn.specs.Passes.{shown_each, starts_with, started_at, started, placed_at, told_at_place, moved_at, moved, still_waiting, moved_each, moved_all, passed}
@@ -38,7 +38,7 @@ Wide r life = IsWide life
 wide_starts : (s : Starting) (queue : List Queued) → IsWideLink s.link → IsWideLink (started_each s queue).link
 wide_starts s [] h = record { size = h.size; free = h.free }
 wide_starts s (q ∷ qs) h =
-    chosen (λ (x : Starting). IsWideLink x.link) (is_held_back s.link) _ _ (λ t. record { size = h.size; free = h.free })
+    chosen (λ (x : Starting). IsWideLink x.link) (holds_back s.link) _ _ (λ t. record { size = h.size; free = h.free })
     (λ f. wide_starts (started_one s q) qs (record { size = h.size; free = h.free }))
 
 -- that stays where one is cancelled
@@ -87,20 +87,20 @@ HasOffered Ended = Unit {0}
 pub record IsIdle (c : MultiplexedConnection) : Type 0 where
   pub fresh : c.fresh ≡ []
   pub queue : HasStartedAll c.life
-  pub waiting : is_dialing c.life ≡ false → c.waiting ≡ []
+  pub waiting : awaits_connect c.life ≡ false → c.waiting ≡ []
   pub offered : HasOffered c.life
 
 -- how a turn comes to that
 --
 -- such a link holds nothing back
-not_held : (l : LinkState) → nat_lt l.boundary no_boundary ≡ false → is_held_back l ≡ false
+not_held : (l : LinkState) → nat_lt l.boundary no_boundary ≡ false → holds_back l ≡ false
 not_held l f = ap (λ (b : Bool). b && (nat_lt 0 (length l.outbox.unwritten) && nat_le l.boundary (length l.outbox.unwritten))) f
 
 -- so all messages of its queue start
 queue_starts : (s : Starting) (queue : List Queued) → nat_lt s.link.boundary no_boundary ≡ false → (started_each s queue).link.queue ≡ []
 queue_starts s [] f = refl
 queue_starts s (q ∷ qs) f =
-    chosen (λ (x : Starting). x.link.queue ≡ []) (is_held_back s.link) _ _ (λ t. absurd (not_both (is_held_back s.link) (not_held s.link f) t)) (λ g. queue_starts (started_one s q) qs f)
+    chosen (λ (x : Starting). x.link.queue ≡ []) (holds_back s.link) _ _ (λ t. absurd (not_both (holds_back s.link) (not_held s.link f) t)) (λ g. queue_starts (started_one s q) qs f)
 
 -- what is shown changes no life
 life_shown : (P : Life → Type 0) (w : Work) (ss : List Started) → P w.conn.life → P (shown_each w ss).conn.life
@@ -136,7 +136,7 @@ not_full : (l : LinkState) → 0 < l.size → l.queue ≡ [] → is_full l ≡ f
 not_full l s e = ap (λ (q : List Queued). nat_le l.size (length q)) e ∙ not_le_test l.size 0 s
 
 -- so requests can't be moved only where the connect isn't answered
-stuck_dials : (life : Life) → IsWide life → HasStartedAll life → is_stuck life ≡ true → is_dialing life ≡ true
+stuck_dials : (life : Life) → IsWide life → HasStartedAll life → moves_none life ≡ true → awaits_connect life ≡ true
 stuck_dials Dialing h e t = refl
 stuck_dials (Ready l) h e t = absurd (not_both (is_full l) (not_full l h.size e) t)
 stuck_dials Ended h e t = t
@@ -144,14 +144,14 @@ stuck_dials Ended h e t = t
 -- all has moved that can
 record IsMoved (w : Work) : Type 0 where
   pub queue : HasStartedAll w.conn.life
-  pub waiting : is_dialing w.conn.life ≡ false → w.conn.waiting ≡ []
+  pub waiting : awaits_connect w.conn.life ≡ false → w.conn.waiting ≡ []
 
 -- all that wait
 each_moved : (w : Work) (qs : List Waiting) → At (There Wide) w → HasStartedAll w.conn.life → IsMoved (moved_each w qs)
 each_moved w [] h e = record { queue = e; waiting = λ f. refl }
 each_moved w (q ∷ qs) h e =
-    chosen IsMoved (is_stuck w.conn.life) _ _
-    (λ t. record { queue = e; waiting = λ f. absurd (not_both (is_dialing w.conn.life) f (stuck_dials w.conn.life h e t)) })
+    chosen IsMoved (moves_none w.conn.life) _ _
+    (λ t. record { queue = e; waiting = λ f. absurd (not_both (awaits_connect w.conn.life) f (stuck_dials w.conn.life h e t)) })
     (λ f. each_moved (moved w q) qs (moved_kept wide_kept w q h) (one_moved w q h e))
 
 -- what a turn moves
@@ -173,7 +173,7 @@ written_from : (w : Work) (life : Life) → w.conn.life ≡ life → IsMoved w �
 written_from w (Ready l) e h =
     chosen IsWritten (can_offer l.outbox) _ w
     (λ t. record {
-      moved = record { queue = subst HasStartedAll e h.queue; waiting = λ f. h.waiting (ap is_dialing e) };
+      moved = record { queue = subst HasStartedAll e h.queue; waiting = λ f. h.waiting (ap awaits_connect e) };
       offered = offered_none (length l.outbox.unwritten == 0);
     })
     (λ f. record { moved = h; offered = subst HasOffered (sym e) f })
@@ -183,7 +183,7 @@ written_from w Ended e h = record { moved = h; offered = subst HasOffered (sym e
 -- a wait that is shown changes no connection
 wait_conn : (w : Work) (q : ℕ) → (wait_shown w q).conn ≡ w.conn
 wait_conn w q =
-    chosen (λ (x : Work). x.conn ≡ w.conn) (is_waiting_at w.conn.requests q) _ w (λ t. chosen (λ (x : Work). x.conn ≡ w.conn) (is_dialing w.conn.life) _ w (λ u. refl) (λ f. refl)) (λ f. refl)
+    chosen (λ (x : Work). x.conn ≡ w.conn) (is_waiting_at w.conn.requests q) _ w (λ t. chosen (λ (x : Work). x.conn ≡ w.conn) (awaits_connect w.conn.life) _ w (λ u. refl) (λ f. refl)) (λ f. refl)
 
 -- and more of them don't
 pub waits_conn : (w : Work) (qs : List ℕ) → (waits_each w qs).conn ≡ w.conn
@@ -213,11 +213,11 @@ started_stays w Dialing e h = refl
 started_stays w Ended e h = refl
 
 -- no request is moved
-none_moved : (w : Work) (qs : List Waiting) → (is_dialing w.conn.life ≡ false → qs ≡ []) → moved_each w qs ≡ still_waiting w qs
+none_moved : (w : Work) (qs : List Waiting) → (awaits_connect w.conn.life ≡ false → qs ≡ []) → moved_each w qs ≡ still_waiting w qs
 none_moved w [] h = refl
-none_moved w (q ∷ qs) h = taken_if (is_stuck w.conn.life) _ _ (dials_stuck w.conn.life (λ f. cc (h f)))
+none_moved w (q ∷ qs) h = taken_if (moves_none w.conn.life) _ _ (dials_stuck w.conn.life (λ f. cc (h f)))
   where
-    dials_stuck : (life : Life) → (is_dialing life ≡ false → ⊥) → is_stuck life ≡ true
+    dials_stuck : (life : Life) → (awaits_connect life ≡ false → ⊥) → moves_none life ≡ true
     dials_stuck Dialing f = refl
     dials_stuck (Ready l) f = absurd (f refl)
     dials_stuck Ended f = absurd (f refl)
@@ -248,7 +248,7 @@ left_idle c p h = chosen IsIdle (is_open_at c.requests p) _ c (λ t. record { fr
     queue_left (Ready l) e = ap (λ (q : List Queued). without q p) e
     queue_left Ended e = e
 
-    dials_left : (life : Life) → is_dialing (cancelled_in life p) ≡ false → is_dialing life ≡ false
+    dials_left : (life : Life) → awaits_connect (cancelled_in life p) ≡ false → awaits_connect life ≡ false
     dials_left Dialing f = f
     dials_left (Ready l) f = f
     dials_left Ended f = f

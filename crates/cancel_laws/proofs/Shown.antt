@@ -9,7 +9,7 @@ use Rattle.driver_model.specs.declared.event.EventKind.{EventKind}
 use Rattle.mux_conn.specs.declared.act.LinkAct.{LinkAct}
 use Rattle.mux_conn.specs.declared.act.LinkAct.TheVariants as act
 use Rattle.shared_session.specs.declared.core_state.Core.{Core}
-use Rattle.shared_session.specs.Turn.{Turning, work_of, shown, shown_each, actions_of, turn}
+use Rattle.shared_session.specs.Turn.{Turning, work_of, shown, shown_each, actions_of, next_turn}
 use Rattle.shared_session.specs.Replay.{run_on, turns_on}
 use Rattle.cancel_laws.specs.ButFor.{unnumbered, all_unnumbered, shown_of, but_for}
 use Rattle.cancel_laws.proofs.Kept.{other_act, At, AtCore, turn_kept}
@@ -73,45 +73,45 @@ acts_alike n p c d e h =
     let xs = ap (λ (t : Turning). t.acts) (turns_same n p c d e.kind h) in
     let l = ap (λ (x : Core). x.single.link) h.same in
     ap (λ (ys : List Action). action.Turn 0 (cause.Event e) ∷ ys)
-    (but_for_shown n c.single.link (turn c e.kind).acts ∙ (λ i. shown_each (l i) (xs i)) ∙ sym (but_for_shown n d.single.link (turn d e.kind).acts))
+    (but_for_shown n c.single.link (next_turn c e.kind).acts ∙ (λ i. shown_each (l i) (xs i)) ∙ sym (but_for_shown n d.single.link (next_turn d e.kind).acts))
 
 -- and more of them
 pub shown_alike : (n p : ℕ) (c d : Core) (es : List Event) → AreAlike n p c d → but_for n (turns_on c es) ≡ but_for n (turns_on d es)
 shown_alike n p c d [] h = refl
 shown_alike n p c d (e ∷ es) h =
-    let after = turns_on (turn c e.kind).core es in
-    let after_too = turns_on (turn d e.kind).core es in
+    let after = turns_on (next_turn c e.kind).core es in
+    let after_too = turns_on (next_turn d e.kind).core es in
     but_for-append n (actions_of c e) after ∙ ap (λ (xs : List Action). xs ++ but_for n after) (acts_alike n p c d e h)
-    ∙ ap (λ (ys : List Action). but_for n (actions_of d e) ++ ys) (shown_alike n p (turn c e.kind).core (turn d e.kind).core es (alike_turn n p c d e.kind h))
+    ∙ ap (λ (ys : List Action). but_for n (actions_of d e) ++ ys) (shown_alike n p (next_turn c e.kind).core (next_turn d e.kind).core es (alike_turn n p c d e.kind h))
     ∙ sym (but_for-append n (actions_of d e) after_too)
 
 -- and they stay alike
 pub alike_on : (n p : ℕ) (c d : Core) (es : List Event) → AreAlike n p c d → AreAlike n p (run_on c es) (run_on d es)
 alike_on n p c d [] h = h
-alike_on n p c d (e ∷ es) h = alike_on n p (turn c e.kind).core (turn d e.kind).core es (alike_turn n p c d e.kind h)
+alike_on n p c d (e ∷ es) h = alike_on n p (next_turn c e.kind).core (next_turn d e.kind).core es (alike_turn n p c d e.kind h)
 
 -- and one in which the request is cancelled shows no outcome of its submission
 --
 -- it is silent after one more turn
-silent_turn : (n p : ℕ) (c : Core) (kind : EventKind) → n < length c.table → AtCore (IsSilent n p) c → At (IsSilent n p) (work_of (turn c kind))
+silent_turn : (n p : ℕ) (c : Core) (kind : EventKind) → n < length c.table → AtCore (IsSilent n p) c → At (IsSilent n p) (work_of (next_turn c kind))
 silent_turn n p c kind l h = turn_kept (silent_kept n p) c (silent_asks n p (length c.table) (above n c.table l)) kind h
 
 -- which shows no outcome of its own
 silent_acts : (n p : ℕ) (c : Core) (e : Event) → n < length c.table → AtCore (IsSilent n p) c → but_for n (actions_of c e) ≡ all_unnumbered (actions_of c e)
 silent_acts n p c e l h =
-    let xs = (turn c e.kind).acts in
+    let xs = (next_turn c e.kind).acts in
     ap (λ (ys : List Action). action.Turn 0 (cause.Event e) ∷ ys)
     (but_for_shown n c.single.link xs ∙ ap (shown_each c.single.link) (silent_turn n p c e.kind l h).unshown ∙ sym (numberless c.single.link xs))
 
 -- so it is silent when the next one begins
-silent_then : (n p : ℕ) (c : Core) (kind : EventKind) → n < length c.table → AtCore (IsSilent n p) c → AtCore (IsSilent n p) (turn c kind).core
+silent_then : (n p : ℕ) (c : Core) (kind : EventKind) → n < length c.table → AtCore (IsSilent n p) c → AtCore (IsSilent n p) (next_turn c kind).core
 silent_then n p c kind l h = let s = silent_turn n p c kind l h in record { there = s.there; own = s.own; closed = s.closed; unshown = refl }
 
 -- and more turns show none
 pub silent_shown : (n p : ℕ) (c : Core) (es : List Event) → n < length c.table → AtCore (IsSilent n p) c → but_for n (turns_on c es) ≡ all_unnumbered (turns_on c es)
 silent_shown n p c [] l h = refl
 silent_shown n p c (e ∷ es) l h =
-    let more = turns_on (turn c e.kind).core es in
+    let more = turns_on (next_turn c e.kind).core es in
     but_for-append n (actions_of c e) more ∙ ap (λ (xs : List Action). xs ++ but_for n more) (silent_acts n p c e l h)
-    ∙ ap (λ (xs : List Action). all_unnumbered (actions_of c e) ++ xs) (silent_shown n p (turn c e.kind).core es (more_after n c e.kind l) (silent_then n p c e.kind l h))
+    ∙ ap (λ (xs : List Action). all_unnumbered (actions_of c e) ++ xs) (silent_shown n p (next_turn c e.kind).core es (more_after n c e.kind l) (silent_then n p c e.kind l h))
     ∙ sym (unnumbered-append (actions_of c e) more)

@@ -5,7 +5,7 @@ use Rattle.driver_model.specs.declared.config.Config.{Config}
 use Rattle.driver_model.specs.declared.event.EventKind.TheVariants as event
 use Rattle.driver_model.specs.declared.event.Submission.{Submission}
 use Rattle.driver_model.specs.declared.event.Submission.TheVariants.{Cmd, Pipe, Multi}
-use Rattle.driver_model.specs.Request.{packed, shape_of, awaits_reply}
+use Rattle.driver_model.specs.Request.{packed_bytes, shape_of, is_reply_awaited}
 use Rattle.link_core.specs.Link.{LinkState, offered_of}
 use Rattle.link_core.specs.Outbox.{can_offer}
 use Rattle.link_core.specs.Waiting.{without}
@@ -20,8 +20,8 @@ use Rattle.mux_conn.specs.Requests.{asked}
 use Rattle.mux_conn.specs.Passes.{passed}
 use Rattle.mux_conn.specs.Turn.{written_at, written, flushed}
 use Rattle.shared_session.specs.declared.core_state.Core.{Core}
-use Rattle.shared_session.specs.Turn.{Turning, pending, work_of, heard, counted, moved_on, turn}
-use Rattle.shared_session.specs.Replay.{opening, state_after}
+use Rattle.shared_session.specs.Turn.{Turning, pending, work_of, heard, counted, moved_on, next_turn}
+use Rattle.shared_session.specs.Replay.{opening_core, state_after}
 use Rattle.cancel_laws.specs.Cancels.{connected_at, handed_in_after_connect, HasStarted}
 use Rattle.cancel_laws.proofs.Rest.{waits_conn}
 
@@ -74,21 +74,21 @@ no_bytes [] some = absurd (some refl)
 no_bytes (x ∷ xs) some = ne_test (length (x ∷ xs)) 0 (λ e. omega arith)
 
 -- any submission that has bytes, and whose reply is awaited
-pub any_started : (config : Config) (word draw later : ℕ) (s : Submission) → packed s ≢ [] → awaits_reply s ≡ true → HasStarted 0 (handed_in_after_connect config word draw later s)
-unfolding state_after turn
+pub any_started : (config : Config) (word draw later : ℕ) (s : Submission) → packed_bytes s ≢ [] → is_reply_awaited s ≡ true → HasStarted 0 (handed_in_after_connect config word draw later s)
+unfolding state_after next_turn
 any_started config word draw later s some awaited =
-    let c = (turn (opening config word) (connected_at draw).kind).core in
+    let c = (next_turn (opening_core config word) (connected_at draw).kind).core in
     let t = heard (counted c) (event.Submit s) in
     let asks : Bool → Turning = λ b. record t {
-      core = record t.core { table = Some (pending 0) ∷ []; single = record t.core.single { connection = asked t.core.single.connection 0 (packed s) (shape_of s) b } };
+      core = record t.core { table = Some (pending 0) ∷ []; single = record t.core.single { connection = asked t.core.single.connection 0 (packed_bytes s) (shape_of s) b } };
     } in
     let w = passed (work_of (asks true)) in
     let f : HasStarted 0 (moved_on (asks true)).core =
     has_started 0 (moved_on (asks true)).core (pending 0) refl
     (all_flushed 0 w (record { request = record { name = 0; progress = progress.Placed }; known = refl; placed = refl; link = _; up = refl; gone = refl })) in
-    let g : HasStarted 0 (moved_on (asks (awaits_reply s))).core = subst (λ (b : Bool). HasStarted 0 (moved_on (asks b)).core) (sym awaited) f in
-    chosen (λ (x : Turning). HasStarted 0 (moved_on x).core) (length (packed s) == 0) _ (asks (awaits_reply s))
-    (λ e. absurd (not_both (length (packed s) == 0) (no_bytes (packed s) some) e))
+    let g : HasStarted 0 (moved_on (asks (is_reply_awaited s))).core = subst (λ (b : Bool). HasStarted 0 (moved_on (asks b)).core) (sym awaited) f in
+    chosen (λ (x : Turning). HasStarted 0 (moved_on x).core) (length (packed_bytes s) == 0) _ (asks (is_reply_awaited s))
+    (λ e. absurd (not_both (length (packed_bytes s) == 0) (no_bytes (packed_bytes s) some) e))
     (λ n. g)
 
 -- a command

@@ -7,15 +7,15 @@ use Rattle.driver_model.specs.declared.event.EventKind.{EventKind}
 use Rattle.driver_model.specs.declared.event.EventKind.TheVariants as event
 use Rattle.driver_model.specs.declared.event.Submission.{Submission}
 use Rattle.driver_model.specs.declared.outcome.Outcome.TheVariants as outcome
-use Rattle.driver_model.specs.News.{news}
-use Rattle.driver_model.specs.Request.{packed, shape_of, awaits_reply}
+use Rattle.driver_model.specs.News.{news_of}
+use Rattle.driver_model.specs.Request.{packed_bytes, shape_of, is_reply_awaited}
 use Rattle.mux_conn.specs.declared.act.LinkAct.{LinkAct}
 use Rattle.mux_conn.specs.declared.connection.MultiplexedConnection.{MultiplexedConnection}
 use Rattle.mux_conn.specs.declared.request.Pending.{Pending}
 use Rattle.mux_conn.specs.Passes.{passed}
 use Rattle.mux_conn.specs.Turn.{flushed}
 use Rattle.shared_session.specs.declared.core_state.Core.{Core}
-use Rattle.shared_session.specs.Turn.{Turning, work_of, with_work, shut_by, heard, refused, pending, asked_for, submitted, left_by, requested, effect, counted, moved_on, run, turn}
+use Rattle.shared_session.specs.Turn.{Turning, work_of, with_work, shut_by, heard, refused_with, pending, asked_for, submitted, left_by, requested, effect, counted, moved_on, whole_effect, next_turn}
 use Rattle.mux_conn.specs.declared.request.Progress.TheVariants as progress
 use Rattle.cancel_laws.proofs.Requests.{progress_count}
 use Rattle.cancel_laws.proofs.Kept.{At, There, AtCore, heard_kept, effect_kept, passed_kept, turn_kept}
@@ -35,23 +35,23 @@ bare_turning n p t = record { core = bare_core p t.core; acts = other_acts n t.a
 -- the connection hears its link's news
 bare_heard : (n p : ℕ) (t : Turning) (kind : EventKind) → At (There (IsGone n p)) (work_of t) → bare_turning n p (heard t kind) ≡ heard (bare_turning n p t) kind
 bare_heard n p t kind h =
-    ap (with_work (bare_turning n p (record t { core = shut_by t.core kind }))) (bare_applied n p (work_of t) (news t.core.single.link kind) h)
+    ap (with_work (bare_turning n p (record t { core = shut_by t.core kind }))) (bare_applied n p (work_of t) (news_of t.core.single.link kind) h)
 
 -- the next submission is another one
 pub above : (n : ℕ) (table : List (Option Pending)) → n < length table → length table ≢ n
 above n table l = λ e. omega arith
 
 -- a submission that is answered at once
-bare_refused : (n p : ℕ) (t : Turning) (e : RedisError) → n < length t.core.table → bare_turning n p (refused t e) ≡ refused (bare_turning n p t) e
+bare_refused : (n p : ℕ) (t : Turning) (e : RedisError) → n < length t.core.table → bare_turning n p (refused_with t e) ≡ refused_with (bare_turning n p t) e
 bare_refused n p t e l =
-    ap (λ (xs : List LinkAct). record (bare_turning n p (refused t e)) { acts = xs }) (acts_other n (length t.core.table) t.acts (outcome.Fault e) (above n t.core.table l))
+    ap (λ (xs : List LinkAct). record (bare_turning n p (refused_with t e)) { acts = xs }) (acts_other n (length t.core.table) t.acts (outcome.Fault e) (above n t.core.table l))
 
 -- one that is a request
 bare_asked_for : (n p : ℕ) (t : Turning) (s : Submission) → p < length t.core.single.connection.requests → bare_turning n p (asked_for t s) ≡ asked_for (bare_turning n p t) s
 bare_asked_for n p t s l =
     let c = t.core.single.connection in
     let count = sym (progress_count c.requests p progress.Closed) in
-    let conn = bare_asked p c (length t.core.table) (packed s) (shape_of s) (awaits_reply s) l in
+    let conn = bare_asked p c (length t.core.table) (packed_bytes s) (shape_of s) (is_reply_awaited s) l in
     λ i. record (bare_turning n p t) {
       core = record (bare_core p t.core) { table = t.core.table ++ Some (pending (count i)) ∷ []; single = record t.core.single { connection = conn i } };
     }
@@ -61,7 +61,7 @@ bare_submitted : (n p : ℕ) (t : Turning) (s : Submission) → n < length t.cor
     → bare_turning n p (submitted t s) ≡ submitted (bare_turning n p t) s
 bare_submitted n p t s l k =
     either (bare_turning n p) t.core.shut _ _ _ _ (λ u. bare_refused n p t error.Closed l)
-    (λ f. either (bare_turning n p) (length (packed s) == 0) _ _ _ _ (λ u. bare_refused n p t error.EmptyCommand l) (λ g. bare_asked_for n p t s k))
+    (λ f. either (bare_turning n p) (length (packed_bytes s) == 0) _ _ _ _ (λ u. bare_refused n p t error.EmptyCommand l) (λ g. bare_asked_for n p t s k))
 
 -- one that is left
 bare_left_by : (n p : ℕ) (t : Turning) (who : Option (Option Pending)) → At (There (IsGone n p)) (work_of t) → bare_turning n p (left_by t who) ≡ left_by (bare_turning n p t) who
@@ -95,8 +95,8 @@ bare_moved_on n p t h =
     ap (with_work (bare_turning n p t)) (bare_flushed n p (passed w) (passed_kept (gone_kept n p) w h) ∙ ap flushed (bare_passed n p w h))
 
 -- a whole turn
-bare_turn : (n p : ℕ) (c : Core) (kind : EventKind) → n < length c.table → AtCore (There (IsGone n p)) c → bare_turning n p (turn c kind) ≡ run (record { core = bare_core p c; acts = [] }) kind
-unfolding turn
+bare_turn : (n p : ℕ) (c : Core) (kind : EventKind) → n < length c.table → AtCore (There (IsGone n p)) c → bare_turning n p (next_turn c kind) ≡ whole_effect (record { core = bare_core p c; acts = [] }) kind
+unfolding next_turn
 bare_turn n p c kind l h =
     let t = counted c in
     bare_moved_on n p (effect t kind) (effect_kept (gone_kept n p) t (gone_asks n p (length c.table) (above n c.table l)) kind h) ∙ ap moved_on (bare_effect n p t kind l h)
@@ -107,7 +107,7 @@ bare_turn n p c kind l h =
 more_requested : (n : ℕ) (t : Turning) (kind : EventKind) → n < length t.core.table → n < length (requested t kind).core.table
 more_requested n t (event.Submit s) l =
     chosen (λ (x : Turning). n < length x.core.table) t.core.shut _ _ (λ u. omega (arith, length-append t.core.table (None ∷ [])))
-    (λ f. chosen (λ (x : Turning). n < length x.core.table) (length (packed s) == 0) _ _ (λ u. omega (arith, length-append t.core.table (None ∷ [])))
+    (λ f. chosen (λ (x : Turning). n < length x.core.table) (length (packed_bytes s) == 0) _ _ (λ u. omega (arith, length-append t.core.table (None ∷ [])))
     (λ g. omega (arith, length-append t.core.table (Some (pending (length t.core.single.connection.requests)) ∷ []))))
 more_requested n t (event.Cancel m) l = more_left (slice_get t.core.table m)
   where
@@ -124,8 +124,8 @@ more_requested n t (event.WriteFault m kind) l = l
 more_requested n t event.Shutdown l = l
 
 -- nor does a turn
-pub more_after : (n : ℕ) (c : Core) (kind : EventKind) → n < length c.table → n < length (turn c kind).core.table
-unfolding turn
+pub more_after : (n : ℕ) (c : Core) (kind : EventKind) → n < length c.table → n < length (next_turn c kind).core.table
+unfolding next_turn
 more_after n c kind l = more_requested n (heard (counted c) kind) kind l
 
 -- two sessions that are alike but for submission n, whose message has left the queue of both
@@ -137,16 +137,16 @@ pub record AreAlike (n p : ℕ) (c d : Core) : Type 0 where
   pub gone_too : AtCore (There (IsGone n p)) d
 
 -- a turn of each does the same
-pub turns_same : (n p : ℕ) (c d : Core) (kind : EventKind) → AreAlike n p c d → bare_turning n p (turn c kind) ≡ bare_turning n p (turn d kind)
+pub turns_same : (n p : ℕ) (c d : Core) (kind : EventKind) → AreAlike n p c d → bare_turning n p (next_turn c kind) ≡ bare_turning n p (next_turn d kind)
 turns_same n p c d kind h =
-    bare_turn n p c kind h.within h.gone ∙ ap (λ (x : Core). run (record { core = x; acts = [] }) kind) h.same ∙ sym (bare_turn n p d kind h.within_too h.gone_too)
+    bare_turn n p c kind h.within h.gone ∙ ap (λ (x : Core). whole_effect (record { core = x; acts = [] }) kind) h.same ∙ sym (bare_turn n p d kind h.within_too h.gone_too)
 
 -- the message stays gone
-pub turn_gone : (n p : ℕ) (c : Core) (kind : EventKind) → n < length c.table → AtCore (There (IsGone n p)) c → AtCore (There (IsGone n p)) (turn c kind).core
+pub turn_gone : (n p : ℕ) (c : Core) (kind : EventKind) → n < length c.table → AtCore (There (IsGone n p)) c → AtCore (There (IsGone n p)) (next_turn c kind).core
 turn_gone n p c kind l h = turn_kept (gone_kept n p) c (gone_asks n p (length c.table) (above n c.table l)) kind h
 
 -- so they stay alike
-pub alike_turn : (n p : ℕ) (c d : Core) (kind : EventKind) → AreAlike n p c d → AreAlike n p (turn c kind).core (turn d kind).core
+pub alike_turn : (n p : ℕ) (c d : Core) (kind : EventKind) → AreAlike n p c d → AreAlike n p (next_turn c kind).core (next_turn d kind).core
 alike_turn n p c d kind h = record {
   same = ap (λ (t : Turning). t.core) (turns_same n p c d kind h);
   within = more_after n c kind h.within;

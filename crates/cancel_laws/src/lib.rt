@@ -5,7 +5,7 @@
 ghost use Rattle.std.specs.Prelude.{◌≡◌, ◌≢◌, ℕ, true, List, [], ◌∷◌};
 ghost use Rattle.driver_model.specs.declared.event.Submission.{Submission};
 ghost use Rattle.driver_model.specs.declared.event.Submission.TheVariants.{Cmd, Pipe, Multi};
-ghost use Rattle.driver_model.specs.Request.{packed, awaits_reply};
+ghost use Rattle.driver_model.specs.Request.{packed_bytes, is_reply_awaited};
 ghost use Rattle.cancel_laws.specs.Laws.{CancelIsGood, OthersKeepOutcomes, CancelledGetsNone};
 ghost use Rattle.cancel_laws.specs.Laws.{TurnsGoOn, ItemsGoTheSameWay, SameAreBad};
 ghost use Rattle.cancel_laws.specs.Laws.{StartsWhereHandedIn};
@@ -28,7 +28,7 @@ pub fn a_cancel_changes_one_outcome()
 /// awaited, has started where it is handed in after the link's connect: so a command, a pipeline
 /// whose first command has a name, and a transaction.
 pub fn a_submission_on_a_link_that_is_up_has_started()
-    ensures any { (s : Submission) → packed s ≢ [] → awaits_reply s ≡ true
+    ensures any { (s : Submission) → packed_bytes s ≢ [] → is_reply_awaited s ≡ true
         → StartsWhereHandedIn s }
     ensures command { (name : List ℕ) (args : List (List ℕ))
         → StartsWhereHandedIn (Cmd (name ∷ args)) }

@@ -22,16 +22,16 @@ abbrev pub for_link : Bool → News → News
 for_link mine news = if mine then news else silence
 
 -- what the link of number n sees of an event
-abbrev pub news : ℕ → EventKind → News
-news n (event.Connected l) = for_link (l == n) connected
-news n (event.Wrote l count) = for_link (l == n) (took count)
-news n (event.Bytes l piece) = for_link (l == n) (came piece)
-news n (event.Ended l) = for_link (l == n) (failed fault.Ended)
-news n (event.ReadFault l kind) = for_link (l == n) (failed (fault.Io kind))
-news n (event.WriteFault l kind) = for_link (l == n) (failed (fault.Io kind))
-news n event.Shutdown = shut
-news n (event.Submit s) = silence
-news n (event.Cancel s) = silence
+abbrev pub news_of : ℕ → EventKind → News
+news_of n (event.Connected l) = for_link (l == n) connected
+news_of n (event.Wrote l count) = for_link (l == n) (took count)
+news_of n (event.Bytes l piece) = for_link (l == n) (came piece)
+news_of n (event.Ended l) = for_link (l == n) (failed fault.Ended)
+news_of n (event.ReadFault l kind) = for_link (l == n) (failed (fault.Io kind))
+news_of n (event.WriteFault l kind) = for_link (l == n) (failed (fault.Io kind))
+news_of n event.Shutdown = shut
+news_of n (event.Submit s) = silence
+news_of n (event.Cancel s) = silence
 
 -- the news that a link is handed
 abbrev pub told : LinkNews → News

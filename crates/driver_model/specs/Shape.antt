@@ -1,8 +1,8 @@
 -- How many items a message takes, and what its items become.
 use Rattle.std.specs.Prelude.{ℕ, ◌+◌, ◌==◌, Bool, true, false, List, [], ◌∷◌, ◌++◌, take, drop, if◌then◌else◌}
-use Rattle.redis_error.specs.declared.redis_error.RedisError.TheVariants as error
+use Rattle.redis_error.specs.declared.redis_error.RedisError.TheVariants as reason
 use Rattle.resp_value.specs.declared.server_error.ServerError.{ServerError}
-use Rattle.resp_value.specs.Data.{Data, nil, error as failed}
+use Rattle.resp_value.specs.Data.{Data, nil, error}
 use Rattle.resp_value.specs.View.{value_of}
 use Rattle.driver_model.specs.declared.outcome.Shape.{Shape}
 use Rattle.driver_model.specs.declared.outcome.Shape.TheVariants.{Single, Pipeline}
@@ -16,9 +16,9 @@ abbrev pub one_at_least : ℕ → ℕ
 one_at_least count = if count == 0 then 1 else count
 
 -- the items that a message of this shape takes
-abbrev pub need : Shape → ℕ
-need Single = 1
-need (Pipeline offset count transaction) = offset + one_at_least count
+abbrev pub need_of : Shape → ℕ
+need_of Single = 1
+need_of (Pipeline offset count transaction) = offset + one_at_least count
 
 -- whether it is one command
 abbrev pub is_single : Shape → Bool
@@ -31,7 +31,7 @@ first_of (d ∷ ds) = d
 
 -- a server error at this position, if it is one
 abbrev pub error_at : ℕ → Data → List (ℕ × ServerError)
-error_at n (failed e) = (n, e) ∷ []
+error_at n (error e) = (n, e) ∷ []
 error_at n _ = []
 
 -- the server errors among these, each with its position, counted from n
@@ -40,25 +40,25 @@ errors_from n [] = []
 errors_from n (d ∷ ds) = error_at n d ++ errors_from (n + 1) ds
 
 -- commands that weren't queued abort a transaction, also where EXEC was answered
-abbrev pub unless_aborted : List (ℕ × ServerError) → List Data → Verdict
-unless_aborted [] kept = Many kept
-unless_aborted (e ∷ es) kept = Fault (error.Aborted (e ∷ es))
+abbrev pub kept_unless_aborted : List (ℕ × ServerError) → List Data → Verdict
+kept_unless_aborted [] kept = Many kept
+kept_unless_aborted (e ∷ es) kept = Fault (reason.Aborted (e ∷ es))
 
 -- a server error as the reply to MULTI is the verdict; else that of the replies to the commands as they were queued
-abbrev pub transaction : List Data → List Data → Verdict
-transaction [] kept = Many kept
-transaction (failed e ∷ queued) kept = Fault (error.Server e)
-transaction (_ ∷ queued) kept = unless_aborted (errors_from 0 queued) kept
+abbrev pub verdict_of_transaction : List Data → List Data → Verdict
+verdict_of_transaction [] kept = Many kept
+verdict_of_transaction (error e ∷ queued) kept = Fault (reason.Server e)
+verdict_of_transaction (_ ∷ queued) kept = kept_unless_aborted (errors_from 0 queued) kept
 
 -- what is kept of a pipeline, behind what is skipped
 abbrev pub pipeline : Bool → List Data → List Data → Verdict
-pipeline true skipped kept = transaction skipped kept
+pipeline true skipped kept = verdict_of_transaction skipped kept
 pipeline false skipped kept = Many kept
 
 -- what a full cut of this shape is: a single command's one value, or what is kept of a pipeline
-abbrev pub verdict : Shape → List Data → Verdict
-verdict Single cut = One (value_of (first_of cut))
-verdict (Pipeline offset count atomic) cut = pipeline atomic (take offset cut) (drop offset cut)
+abbrev pub verdict_of : Shape → List Data → Verdict
+verdict_of Single cut = One (value_of (first_of cut))
+verdict_of (Pipeline offset count atomic) cut = pipeline atomic (take offset cut) (drop offset cut)
 
 -- the outcome that a verdict gives
 abbrev pub outcome_of : Verdict → Outcome

@@ -39,7 +39,7 @@ pub struct LinkEvent<'a> {
 }
 
 impl EventKind {
-    ghost use Rattle.driver_model.specs.News.{news as news_of, told};
+    ghost use Rattle.driver_model.specs.News.{news_of, told};
 
     /// What the link of this number sees of the event.
     pub fn news(&self, link: u32) -> LinkNews<'_>

@@ -1,5 +1,6 @@
 ghost use Rattle.std.specs.Prelude.{◌≡◌, true, false, IfOk};
-ghost use Rattle.driver_model.specs.Request.{packed as packed_of, shape_of, awaits_reply as awaits_reply_of, is_formless as is_formless_in, is_one_nameless as is_one_nameless_in};
+ghost use Rattle.driver_model.specs.Request.{packed_bytes, shape_of, is_reply_awaited, has_no_form};
+ghost use Rattle.driver_model.specs.Request.{is_single_nameless};
 
 use crate::event::Submission;
 use crate::outcome::Shape;
@@ -10,7 +11,7 @@ use std::alloc::{AllocError, Global};
 impl Submission {
     /// The bytes that a server gets of it. Without a name and arguments there are none.
     pub fn packed(&self, alloc: Global) -> Result<Bytes, AllocError>
-        ensures { IfOk result (λ bytes. bytes ≡ packed_of self.now) }
+        ensures { IfOk result (λ bytes. bytes ≡ packed_bytes self.now) }
     {
         match self {
             Submission::Cmd { args } => pack_names(alloc, args),
@@ -56,7 +57,7 @@ impl Submission {
 
     /// Whether somebody awaits its reply.
     pub fn awaits_reply(&self) -> bool
-        ensures { result ≡ awaits_reply_of self.now }
+        ensures { result ≡ is_reply_awaited self.now }
     {
         match self {
             Submission::NoReply { args: _ } => false,
@@ -73,7 +74,7 @@ impl Submission {
 
     /// Whether it is a list of exactly one command without a name, which has no form of its own in a script.
     pub fn is_formless(&self) -> bool
-        ensures { result ≡ is_formless_in self.now }
+        ensures { result ≡ has_no_form self.now }
     {
         match self {
             Submission::Cmd { args: _ } => false,
@@ -91,7 +92,7 @@ impl Submission {
 
 /// Whether these are one command without a name.
 fn is_one_nameless(commands: &[Names]) -> bool
-    ensures { result ≡ is_one_nameless_in commands.now }
+    ensures { result ≡ is_single_nameless commands.now }
 {
     match commands {
         [command] => command.is_empty(),

@@ -1,6 +1,7 @@
 ghost use Rattle.std.specs.Prelude.{◌≡◌, ◌<◌, ◌≤◌, ◌^◌, ◌∷◌, ◌++◌, length, take, drop, OnOk, IfOk};
 ghost use Rattle.resp_value.specs.View.{data_of, value_of, list_view};
-ghost use Rattle.driver_model.specs.Shape.{need as need_of, verdict as verdict_of, pipeline, transaction as transaction_of, first_of, error_at, errors_from, unless_aborted as unless_aborted_of};
+ghost use Rattle.driver_model.specs.Shape.{need_of, verdict_of, pipeline, verdict_of_transaction};
+ghost use Rattle.driver_model.specs.Shape.{first_of, error_at, errors_from, kept_unless_aborted};
 
 use crate::outcome::{Shape, Verdict};
 use redis_error::RedisError;
@@ -71,7 +72,7 @@ fn pipeline_verdict(
 /// were queued.
 fn transaction_verdict(alloc: Global, skipped: Values, kept: Values) -> Result<Verdict, AllocError>
     requires { length skipped < 2 ^ 32 }
-    ensures { IfOk result (λ v. v ≡ transaction_of skipped kept) }
+    ensures { IfOk result (λ v. v ≡ verdict_of_transaction skipped kept) }
 {
     let mut queued = skipped;
     match queued.pop_front() {
@@ -88,7 +89,9 @@ fn verdict_behind(
     kept: Values,
 ) -> Result<Verdict, AllocError>
     requires { length queued.now < 2 ^ 32 }
-    ensures { IfOk result (λ v. v ≡ transaction_of (data_of reply ∷ list_view queued.now) kept) }
+    ensures { IfOk result (λ v.
+        v ≡ verdict_of_transaction (data_of reply ∷ list_view queued.now) kept
+        ) }
 {
     match reply {
         Value::ServerError(error) => Ok(Verdict::Fault(RedisError::Server(error))),
@@ -133,7 +136,7 @@ fn note_error(
 
 /// What is kept of a transaction, unless commands of it were refused.
 fn unless_aborted(errors: Aborts, kept: Values) -> Verdict
-    ensures { result ≡ unless_aborted_of errors kept }
+    ensures { result ≡ kept_unless_aborted errors kept }
 {
     if errors.len() == 0 {
         Verdict::Many(kept)

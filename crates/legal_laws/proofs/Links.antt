@@ -10,7 +10,7 @@ use Rattle.driver_model.specs.declared.event.Event.{Event}
 use Rattle.driver_model.specs.declared.event.EventKind.{EventKind}
 use Rattle.driver_model.specs.declared.event.EventKind.TheVariants as event
 use Rattle.driver_model.specs.declared.news.LinkFault.TheVariants as fault
-use Rattle.driver_model.specs.News.{silence, connected, took, came, failed, news}
+use Rattle.driver_model.specs.News.{silence, connected, took, came, failed, news_of}
 use Rattle.legal_trace.specs.Ledger.{Ledger, Line, asks, begins, offers, ends, is_over, IsWithin, MayNote, AllNoted}
 use Rattle.legal_trace.specs.Story.{bytes_of}
 use Rattle.legal_trace.specs.Book.{Book, blank_book, entered, lines_of, lines_of_each, if_mine, message_of}
@@ -39,7 +39,7 @@ wrote_within b l count good h up =
     not_lt_from (length (b.link l).offer) count (not_the_second (is_over (b.link l)) (nat_lt (length (b.link l).offer) count) (or_right (is_no_link b l) (not (is_over (b.link l)) && nat_lt (length (b.link l).offer) count) good) over)
 
 -- an event that isn't bad is within what was offered
-within : (b : Book) (l : ℕ) (kind : EventKind) → is_bad_event b kind ≡ false → Sound b → IsWithin (b.link l) (news l kind)
+within : (b : Book) (l : ℕ) (kind : EventKind) → is_bad_event b kind ≡ false → Sound b → IsWithin (b.link l) (news_of l kind)
 unfolding is_bad_event
 within b l (event.Connected m) good h = chosen (IsWithin (b.link l)) (m == l) connected silence (λ t. tt) (λ f. tt)
 within b l (event.Wrote m count) good h =

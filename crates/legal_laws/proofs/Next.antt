@@ -7,7 +7,7 @@ use Rattle.driver_model.specs.declared.action.Cause.TheVariants as cause
 use Rattle.driver_model.specs.declared.action.Owner.TheVariants as owner
 use Rattle.driver_model.specs.declared.action.WaitKind.{WaitKind}
 use Rattle.driver_model.specs.declared.action.WaitKind.TheVariants as wait
-use Rattle.driver_model.specs.Shape.{need}
+use Rattle.driver_model.specs.Shape.{need_of}
 use Rattle.resp_value.specs.declared.value.Value.TheVariants.{Nil}
 use Rattle.driver_model.specs.declared.config.Config.{Config}
 use Rattle.driver_model.specs.declared.event.Event.{Event}
@@ -94,7 +94,7 @@ one_start b l m k j n i count len items long h s =
     let e : n ≡ i = one_move b n i h.moves s.moves h.in_order s.in_order in
     let on : l ≡ m = h.on_its_link ∙ (ap (λ x. (b.story x).link) e ∙ sym s.on_its_link) in
     let next : k ≡ j = h.next ∙ (ap (λ x. length (b.link x).starts) on ∙ sym s.next) in
-    let counts : count ≡ items = h.needs_its_items ∙ (ap (λ x. need (shape (b.story x))) e ∙ sym s.needs_its_items) in
+    let counts : count ≡ items = h.needs_its_items ∙ (ap (λ x. need_of (shape (b.story x))) e ∙ sym s.needs_its_items) in
     let bytes : len ≡ long = h.long_as_its_bytes ∙ (ap (λ x. length (bytes_of (b.story x))) e ∙ sym s.long_as_its_bytes) in
     cc (e, on, next, counts, bytes)
 

@@ -8,7 +8,7 @@ use Rattle.driver_model.specs.declared.action.Owner.TheVariants as owner
 use Rattle.driver_model.specs.declared.event.EventKind.{EventKind}
 use Rattle.driver_model.specs.declared.event.EventKind.TheVariants as event
 use Rattle.driver_model.specs.declared.news.LinkFault.TheVariants as fault
-use Rattle.driver_model.specs.News.{News, silence, connected, took, came, failed, news, for_link}
+use Rattle.driver_model.specs.News.{News, silence, connected, took, came, failed, news_of, for_link}
 use Rattle.driver_model.specs.declared.outcome.Outcome.{Outcome}
 use Rattle.legal_trace.specs.Ledger.{Ledger, asks, begins, offers, ends, noted_each}
 use Rattle.legal_trace.specs.Story.{Story, blank_story, is_open, is_awaited, handed_in, left, tried, waits, answered}
@@ -32,7 +32,7 @@ not_for_link true x other e = other e
 not_for_link false x other e = cc e
 
 -- the connect of a link that was not asked for can't succeed
-not_connected : (b : Book) (l : ℕ) (kind : EventKind) → b.links ≤ l → is_bad_event b kind ≡ false → news l kind ≡ connected → ⊥
+not_connected : (b : Book) (l : ℕ) (kind : EventKind) → b.links ≤ l → is_bad_event b kind ≡ false → news_of l kind ≡ connected → ⊥
 unfolding is_bad_event
 not_connected b l (event.Connected m) i good e =
     let known : m < b.links = not_le_from b.links m good in
@@ -50,7 +50,7 @@ not_connected b l (event.Cancel s) i good e = cc e
 -- a link that was not asked for is told nothing of its own
 unasked_kept : (b : Book) (l : ℕ) (a : Action) → MayStand b a → (entered b a).links ≤ l → IsUnasked (b.link l) → IsUnasked (noted_each (b.link l) (lines_of b l a))
 unasked_kept b l (action.Turn k (cause.Opening config word)) may i h = h
-unasked_kept b l (action.Turn k (cause.Event e)) may i h = unasked_hears (b.link l) (news l e.kind) (not_connected b l e.kind i may.is_for.2) h
+unasked_kept b l (action.Turn k (cause.Event e)) may i h = unasked_hears (b.link l) (news_of l e.kind) (not_connected b l e.kind i may.is_for.2) h
 unasked_kept b l (action.Connect m host port) may i h =
     let e : m ≡ b.links = may.next in
     let other : (m == l) ≡ false = ne_test m l (omega arith) in

@@ -6,7 +6,7 @@ use Rattle.redis_error.specs.declared.redis_error.RedisError.TheVariants as erro
 use Rattle.driver_model.specs.declared.outcome.Outcome.{Outcome}
 use Rattle.driver_model.specs.declared.outcome.Outcome.TheVariants as outcome
 use Rattle.driver_model.specs.declared.outcome.Shape.{Shape}
-use Rattle.driver_model.specs.Shape.{need, outcome_of, verdict}
+use Rattle.driver_model.specs.Shape.{need_of, outcome_of, verdict_of}
 use Rattle.legal_trace.specs.Ledger.{Ledger, Start, End, begins, noted, reach}
 use Rattle.legal_trace.specs.Story.{Story, Try, bytes_of, shape, last_of}
 use Rattle.legal_trace.specs.Owed.{owed_to_try, owed_to_message, owed_unstarted, cut_off_if, is_full, cut}
@@ -86,20 +86,20 @@ full_stays l s k i = ap (λ ss. nat_le (reach ss l.dealt) (length l.dealt)) (tak
 -- so they are owed nothing still
 pub begins_keeps : (l : Ledger) (s : Start) (k : ℕ) (of_shape : Shape) → k < length l.starts → owed_to_message l k of_shape ≡ None → owed_to_message (noted l (begins s)) k of_shape ≡ None
 begins_keeps l s k of_shape i e =
-    full_alike (is_full l k) (is_full (noted l (begins s)) k) (outcome_of (verdict of_shape (cut l k of_shape))) (outcome_of (verdict of_shape (cut (noted l (begins s)) k of_shape))) (cut_off_if l.end k of_shape) (full_stays l s k i) e
+    full_alike (is_full l k) (is_full (noted l (begins s)) k) (outcome_of (verdict_of of_shape (cut l k of_shape))) (outcome_of (verdict_of of_shape (cut (noted l (begins s)) k of_shape))) (cut_off_if l.end k of_shape) (full_stays l s k i) e
 
 -- and a new one isn't full
 pub new_is_not_full : (l : Ledger) (s : Start) → FewAreDealt l → is_full (noted l (begins s)) (length l.starts) ≡ false
 new_is_not_full l s few =
     let long : length (l.starts ++ s ∷ []) ≡ length l.starts + 1 = length-append l.starts (s ∷ []) in
     let whole : take (length l.starts + 1) (l.starts ++ s ∷ []) ≡ l.starts ++ s ∷ [] = take_all (length l.starts + 1) (l.starts ++ s ∷ []) (omega arith) in
-    let all : reach (take (length l.starts + 1) (l.starts ++ s ∷ [])) l.dealt ≡ reach l.starts l.dealt + need s.shape = ap (λ ss. reach ss l.dealt) whole ∙ reach_more l.starts s l.dealt in
-    let one : 1 ≤ need s.shape = takes_one s.shape in
+    let all : reach (take (length l.starts + 1) (l.starts ++ s ∷ [])) l.dealt ≡ reach l.starts l.dealt + need_of s.shape = ap (λ ss. reach ss l.dealt) whole ∙ reach_more l.starts s l.dealt in
+    let one : 1 ≤ need_of s.shape = takes_one s.shape in
     not_le_test (reach (take (length l.starts + 1) (l.starts ++ s ∷ [])) l.dealt) (length l.dealt) (omega arith)
 
 -- so it is owed nothing where its link has not ended
 pub new_is_owed_nothing : (l : Ledger) (s : Start) (k : ℕ) (of_shape : Shape) → FewAreDealt l → l.end ≡ None → k ≡ length l.starts → owed_to_message (noted l (begins s)) k of_shape ≡ None
 new_is_owed_nothing l s k of_shape few end e =
-    left_if (is_full (noted l (begins s)) k) (Some (outcome_of (verdict of_shape (cut (noted l (begins s)) k of_shape)))) (cut_off_if l.end k of_shape)
+    left_if (is_full (noted l (begins s)) k) (Some (outcome_of (verdict_of of_shape (cut (noted l (begins s)) k of_shape)))) (cut_off_if l.end k of_shape)
     (ap (is_full (noted l (begins s))) e ∙ new_is_not_full l s few)
     ∙ ap (λ x. cut_off_if x k of_shape) end

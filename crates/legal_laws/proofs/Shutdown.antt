@@ -7,7 +7,7 @@ use Rattle.driver_model.specs.declared.action.Cause.TheVariants as cause
 use Rattle.driver_model.specs.declared.action.Owner.TheVariants as owner
 use Rattle.driver_model.specs.declared.event.EventKind.{EventKind}
 use Rattle.driver_model.specs.declared.event.EventKind.TheVariants as event
-use Rattle.driver_model.specs.News.{News, shut, news}
+use Rattle.driver_model.specs.News.{News, shut, news_of}
 use Rattle.legal_trace.specs.Ledger.{Ledger, End, by_shutdown, hears, begins, offers, ends, noted, ending, ending_up, ending_asked}
 use Rattle.legal_trace.specs.Book.{Book, entered, message_of, shuts}
 use Rattle.legal_trace.specs.Legal.{MayStand, NoneEnds}
@@ -48,16 +48,16 @@ still_none : (b : Book) (x : News) (l : ℕ) → NoneEnds b → ShutIsHeard b.sh
 still_none b x l none h s a e = absurd (none_left b none h (was_shut b.shut s) l (sym (hears_past (b.link l) x).asked ∙ a) (sym (hears_past (b.link l) x).end ∙ e))
 
 -- each event leaves it so
-turn_heard : (b : Book) (kind : EventKind) → NoneEnds b → ShutIsHeard b.shut b.link → ShutIsHeard (b.shut || shuts kind) (λ l. noted (b.link l) (hears (news l kind)))
+turn_heard : (b : Book) (kind : EventKind) → NoneEnds b → ShutIsHeard b.shut b.link → ShutIsHeard (b.shut || shuts kind) (λ l. noted (b.link l) (hears (news_of l kind)))
 turn_heard b event.Shutdown none h = λ s l a e. refl
-turn_heard b (event.Submit what) none h = λ s l. still_none b (news l (event.Submit what)) l none h s
-turn_heard b (event.Cancel n) none h = λ s l. still_none b (news l (event.Cancel n)) l none h s
-turn_heard b (event.Connected m) none h = λ s l. still_none b (news l (event.Connected m)) l none h s
-turn_heard b (event.Wrote m count) none h = λ s l. still_none b (news l (event.Wrote m count)) l none h s
-turn_heard b (event.Bytes m piece) none h = λ s l. still_none b (news l (event.Bytes m piece)) l none h s
-turn_heard b (event.Ended m) none h = λ s l. still_none b (news l (event.Ended m)) l none h s
-turn_heard b (event.ReadFault m kind) none h = λ s l. still_none b (news l (event.ReadFault m kind)) l none h s
-turn_heard b (event.WriteFault m kind) none h = λ s l. still_none b (news l (event.WriteFault m kind)) l none h s
+turn_heard b (event.Submit what) none h = λ s l. still_none b (news_of l (event.Submit what)) l none h s
+turn_heard b (event.Cancel n) none h = λ s l. still_none b (news_of l (event.Cancel n)) l none h s
+turn_heard b (event.Connected m) none h = λ s l. still_none b (news_of l (event.Connected m)) l none h s
+turn_heard b (event.Wrote m count) none h = λ s l. still_none b (news_of l (event.Wrote m count)) l none h s
+turn_heard b (event.Bytes m piece) none h = λ s l. still_none b (news_of l (event.Bytes m piece)) l none h s
+turn_heard b (event.Ended m) none h = λ s l. still_none b (news_of l (event.Ended m)) l none h s
+turn_heard b (event.ReadFault m kind) none h = λ s l. still_none b (news_of l (event.ReadFault m kind)) l none h s
+turn_heard b (event.WriteFault m kind) none h = λ s l. still_none b (news_of l (event.WriteFault m kind)) l none h s
 
 -- it stays so
 pub shut_kept : (b : Book) (a : Action) → MayStand b a → IsOpening b → ShutIsHeard b.shut b.link → ShutIsHeard (entered b a).shut (entered b a).link

@@ -5,7 +5,7 @@ use Rattle.std.proofs.lemmas.Bool.Decides.{nat_tests}
 use Rattle.containers.proofs.Choices.{chosen, eq_from, eq_test, if_true}
 use Rattle.resp_value.specs.declared.value.Value.TheVariants.{Nil}
 use Rattle.redis_error.specs.declared.redis_error.RedisError.{RedisError}
-use Rattle.driver_model.specs.Request.{packed}
+use Rattle.driver_model.specs.Request.{packed_bytes}
 use Rattle.redis_error.specs.declared.redis_error.RedisError.TheVariants as error
 use Rattle.driver_model.specs.declared.action.Action.{Action}
 use Rattle.driver_model.specs.declared.action.Action.TheVariants as action
@@ -75,7 +75,7 @@ outcome_once b n o (inr told) = first_outcome b n o told.asked (λ t e. has_byte
 event_once : (b : Book) (n : ℕ) (kind : EventKind) → HasStories b → AnsweredOnce (b.story n) → AnsweredOnce (after_event b n kind)
 event_once b n (event.Submit what) blank h =
     chosen AnsweredOnce (b.submissions == n) (handed_in (b.story n) what b.shut (current b)) (b.story n)
-    (λ t. let e : b.submissions ≡ n = eq_from b.submissions n t in unanswered (b.story n).outcomes (b.story n).tries (packed what) (ap (λ (s : Story). s.outcomes) (blank n (omega arith))))
+    (λ t. let e : b.submissions ≡ n = eq_from b.submissions n t in unanswered (b.story n).outcomes (b.story n).tries (packed_bytes what) (ap (λ (s : Story). s.outcomes) (blank n (omega arith))))
     (λ f. h)
 event_once b n (event.Cancel m) blank h = chosen AnsweredOnce (m == n) (left (b.story n)) (b.story n) (λ t. chosen AnsweredOnce (is_open (b.story n)) (record (b.story n) { cancelled = true; waiting = None }) (b.story n) (λ o. h) (λ o. h)) (λ f. h)
 event_once b n (event.Connected l) blank h = h

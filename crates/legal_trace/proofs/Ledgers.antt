@@ -8,7 +8,7 @@ use Rattle.resp_value.specs.Data.{Data}
 use Rattle.driver_model.specs.News.{News, silence, connected, took, came, failed, shut}
 use Rattle.driver_model.specs.declared.outcome.Shape.{Shape}
 use Rattle.driver_model.specs.declared.outcome.Shape.TheVariants.{Single, Pipeline}
-use Rattle.driver_model.specs.Shape.{need}
+use Rattle.driver_model.specs.Shape.{need_of}
 use Rattle.legal_trace.specs.Ledger.{Ledger, Line, Start, asks, hears, begins, offers, ends, noted, noted_each, with_news, bytes_came, items_came, is_over, reach, joined, AllNoted}
 use Rattle.legal_trace.specs.Book.{if_mine}
 use Rattle.legal_trace.proofs.Plain.{none_from}
@@ -122,15 +122,15 @@ joined_more (t ∷ ss) s = ap (λ x. t.bytes ++ x) (joined_more ss s) ∙ sym (a
 -- how much a message takes doesn't hang on what is dealt
 pub reach_alike : (ss : List Start) (d e : List Data) → reach ss d ≡ reach ss e
 reach_alike [] d e = refl
-reach_alike (s ∷ ss) d e = ap (λ k. need s.shape + k) (reach_alike ss (drop (need s.shape) d) (drop (need s.shape) e))
+reach_alike (s ∷ ss) d e = ap (λ k. need_of s.shape + k) (reach_alike ss (drop (need_of s.shape) d) (drop (need_of s.shape) e))
 
 -- a message more takes its own
-pub reach_more : (ss : List Start) (s : Start) (d : List Data) → reach (ss ++ s ∷ []) d ≡ reach ss d + need s.shape
+pub reach_more : (ss : List Start) (s : Start) (d : List Data) → reach (ss ++ s ∷ []) d ≡ reach ss d + need_of s.shape
 reach_more [] s d = omega arith
-reach_more (t ∷ ss) s d = let e : reach (ss ++ s ∷ []) (drop (need t.shape) d) ≡ reach ss (drop (need t.shape) d) + need s.shape = reach_more ss s (drop (need t.shape) d) in omega arith
+reach_more (t ∷ ss) s d = let e : reach (ss ++ s ∷ []) (drop (need_of t.shape) d) ≡ reach ss (drop (need_of t.shape) d) + need_of s.shape = reach_more ss s (drop (need_of t.shape) d) in omega arith
 
 -- a message takes an item at least
-pub takes_one : (s : Shape) → 1 ≤ need s
+pub takes_one : (s : Shape) → 1 ≤ need_of s
 takes_one Single = omega arith
 takes_one (Pipeline offset count transaction) = chosen (λ k. 1 ≤ offset + k) (count == 0) 1 count (λ t. omega arith) (λ f. let n : count ≢ 0 = ne_from count 0 f in omega arith)
 
@@ -161,6 +161,6 @@ few_hears l shut h = h
 pub few_keeps : (l : Ledger) (x : Line) → FewAreDealt l → FewAreDealt (noted l x)
 few_keeps l asks h = h
 few_keeps l (hears news) h = few_hears l news h
-few_keeps l (begins s) h = let e : reach (l.starts ++ s ∷ []) l.dealt ≡ reach l.starts l.dealt + need s.shape = reach_more l.starts s l.dealt in omega arith
+few_keeps l (begins s) h = let e : reach (l.starts ++ s ∷ []) l.dealt ≡ reach l.starts l.dealt + need_of s.shape = reach_more l.starts s l.dealt in omega arith
 few_keeps l (offers bytes) h = h
 few_keeps l (ends turn) h = h

@@ -8,7 +8,7 @@ use Rattle.driver_model.specs.declared.action.Owner.{Owner}
 use Rattle.driver_model.specs.declared.action.Owner.TheVariants as owner
 use Rattle.driver_model.specs.declared.event.EventKind.{EventKind}
 use Rattle.driver_model.specs.declared.event.EventKind.TheVariants as event
-use Rattle.driver_model.specs.News.{news}
+use Rattle.driver_model.specs.News.{news_of}
 use Rattle.legal_trace.specs.Ledger.{Ledger, Start, Line, asks, hears, begins, offers, ends, blank_ledger, noted_each}
 use Rattle.legal_trace.specs.Story.{Story, blank_story, bytes_of, shape, handed_in, left, tried, waits, answered}
 
@@ -39,7 +39,7 @@ if_mine mine line = if mine then line ∷ [] else []
 -- what an action tells of link n
 abbrev pub lines_of : Book → ℕ → Action → List Line
 lines_of b n (action.Turn number (cause.Opening config word)) = []
-lines_of b n (action.Turn number (cause.Event e)) = hears (news n e.kind) ∷ []
+lines_of b n (action.Turn number (cause.Event e)) = hears (news_of n e.kind) ∷ []
 lines_of b n (action.Connect l host port) = if_mine (l == n) asks
 lines_of b n (action.Close l) = if_mine (l == n) (ends (b.turns - 1))
 lines_of b n (action.Write l bytes) = if_mine (l == n) (offers bytes)

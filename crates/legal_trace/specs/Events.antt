@@ -2,7 +2,7 @@
 use Rattle.std.specs.Prelude.{◌⊎◌, ◌<◌, ◌≤◌, ℕ, ◌^◌, nat_lt, nat_le, Bool, false, ◌&&◌, ◌||◌, not, length}
 use Rattle.driver_model.specs.declared.event.EventKind.{EventKind}
 use Rattle.driver_model.specs.declared.event.EventKind.TheVariants as event
-use Rattle.driver_model.specs.Request.{is_formless}
+use Rattle.driver_model.specs.Request.{has_no_form}
 use Rattle.legal_trace.specs.Ledger.{is_over}
 use Rattle.legal_trace.specs.Book.{Book}
 
@@ -13,7 +13,7 @@ is_no_link b l = nat_le b.links l
 -- the event hands in a submission without a form, or names a link or a submission that was never given out, or more written bytes than were offered to a link that
 -- has not ended
 unfoldable pub is_bad_event : Book → EventKind → Bool
-is_bad_event b (event.Submit what) = is_formless what
+is_bad_event b (event.Submit what) = has_no_form what
 is_bad_event b (event.Cancel n) = nat_le b.submissions n
 is_bad_event b (event.Connected l) = is_no_link b l
 is_bad_event b (event.Wrote l count) = is_no_link b l || (not (is_over (b.link l)) && nat_lt (length (b.link l).offer) count)

@@ -9,7 +9,7 @@ use Rattle.driver_model.specs.declared.news.LinkFault.{LinkFault}
 use Rattle.driver_model.specs.declared.news.LinkFault.TheVariants as fault
 use Rattle.driver_model.specs.declared.outcome.Shape.{Shape}
 use Rattle.driver_model.specs.News.{News, silence, connected, took, came, failed, shut}
-use Rattle.driver_model.specs.Shape.{need}
+use Rattle.driver_model.specs.Shape.{need_of}
 
 -- a message that started: who owns it, how many items it takes and what they become, and its bytes
 pub record Start : Type 0 where
@@ -51,7 +51,7 @@ is_over l = is_some l.end
 
 -- how many items a message of this shape takes, of those that are dealt from its first on
 abbrev pub need_in : Shape → List Data → ℕ
-need_in shape dealt = need shape
+need_in shape dealt = need_of shape
 
 -- how many of these items messages take that start one after another
 abbrev pub reach : List Start → List Data → ℕ

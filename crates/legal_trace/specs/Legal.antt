@@ -14,7 +14,7 @@ use Rattle.driver_model.specs.declared.config.Config.{Config}
 use Rattle.driver_model.specs.declared.event.Event.{Event}
 use Rattle.driver_model.specs.declared.outcome.Outcome.{Outcome}
 use Rattle.driver_model.specs.declared.outcome.Outcome.TheVariants as outcome
-use Rattle.driver_model.specs.Shape.{need}
+use Rattle.driver_model.specs.Shape.{need_of}
 use Rattle.legal_trace.specs.Ledger.{Ledger, Ending, IsOffered, is_over, ending, unwritten}
 use Rattle.legal_trace.specs.Story.{Story, Try, last_of, is_open, is_awaited, bytes_of, shape}
 use Rattle.legal_trace.specs.Book.{Book, blank_book, book, entered}
@@ -161,7 +161,7 @@ pub record MayStart (b : Book) (l message n count len : ℕ) : Type 0 where
   pub in_order : IsFirstToMove b n
   pub on_its_link : l ≡ (b.story n).link
   pub next : message ≡ length (b.link l).starts
-  pub needs_its_items : count ≡ need (shape (b.story n))
+  pub needs_its_items : count ≡ need_of (shape (b.story n))
   pub long_as_its_bytes : len ≡ length (bytes_of (b.story n))
 
 -- all unwritten bytes of a link that is up are offered, and no offer was unanswered, in the order of the links

@@ -9,7 +9,7 @@ use Rattle.driver_model.specs.declared.outcome.Outcome.{Outcome}
 use Rattle.driver_model.specs.declared.outcome.Outcome.TheVariants as outcome
 use Rattle.driver_model.specs.declared.outcome.Shape.{Shape}
 use Rattle.driver_model.specs.declared.outcome.Shape.TheVariants.{Single, Pipeline}
-use Rattle.driver_model.specs.Shape.{verdict, outcome_of}
+use Rattle.driver_model.specs.Shape.{verdict_of, outcome_of}
 use Rattle.legal_trace.specs.Ledger.{Ledger, End, Ending, by_shutdown, by_fault, need_in, reached}
 use Rattle.legal_trace.specs.Story.{Story, Try, bytes_of, shape, last_of}
 use Rattle.legal_trace.specs.Book.{Book}
@@ -46,7 +46,7 @@ cut_off_if None k of_shape = None
 cut_off_if (Some end) k of_shape = Some (outcome.Fault (cut_off end k of_shape))
 
 abbrev pub owed_to_message : Ledger → ℕ → Shape → Option Outcome
-owed_to_message l k of_shape = if is_full l k then Some (outcome_of (verdict of_shape (cut l k of_shape))) else cut_off_if l.end k of_shape
+owed_to_message l k of_shape = if is_full l k then Some (outcome_of (verdict_of of_shape (cut l k of_shape))) else cut_off_if l.end k of_shape
 
 -- what a submission without a message comes to: the closed connection where its link has ended
 abbrev pub owed_unstarted : Option End → Option Outcome

@@ -5,7 +5,7 @@ use Rattle.driver_model.specs.declared.event.Submission.{Submission}
 use Rattle.driver_model.specs.declared.outcome.Outcome.{Outcome}
 use Rattle.driver_model.specs.declared.outcome.Shape.{Shape}
 use Rattle.driver_model.specs.declared.outcome.Shape.TheVariants.{Single}
-use Rattle.driver_model.specs.Request.{packed, shape_of, awaits_reply}
+use Rattle.driver_model.specs.Request.{packed_bytes, shape_of, is_reply_awaited}
 
 -- a message of the submission that started: on which link, and which of that link's messages it is
 pub record Try : Type 0 where
@@ -32,7 +32,7 @@ is_open s = is_some s.submission && (length s.outcomes == 0) && not s.cancelled
 
 abbrev pub packed_in : Option Submission → List ℕ
 packed_in None = []
-packed_in (Some what) = packed what
+packed_in (Some what) = packed_bytes what
 
 abbrev pub shape_in : Option Submission → Shape
 shape_in None = Single
@@ -40,7 +40,7 @@ shape_in (Some what) = shape_of what
 
 abbrev pub awaited_in : Option Submission → Bool
 awaited_in None = true
-awaited_in (Some what) = awaits_reply what
+awaited_in (Some what) = is_reply_awaited what
 
 -- the bytes of its message, how many items that takes and what they become, and whether its reply is awaited
 abbrev pub bytes_of : Story → List ℕ

@@ -2,7 +2,7 @@
 use Rattle.std.specs.Prelude.{ℕ, nat_lt, Bool, List, [], ◌∷◌, ◌++◌, length, if◌then◌else◌}
 use Rattle.resp_value.specs.Data.{Data, push, list_of}
 use Rattle.resp_read.specs.Items.{is_item}
-use Rattle.driver_model.specs.Shape.{need, verdict}
+use Rattle.driver_model.specs.Shape.{need_of, verdict_of}
 use Rattle.link_core.specs.declared.message.Entry.{Entry}
 use Rattle.link_core.specs.declared.message.Settled.{Settled}
 use Rattle.link_core.specs.declared.message.PushAt.{PushAt}
@@ -12,17 +12,20 @@ pub record Dealing : Type 0 where
   pub row : List Entry
   pub out : List Settled
 
+abbrev pub dealing_with : List Entry → List Settled → Dealing
+dealing_with row out = record { row = row; out = out }
+
 abbrev pub with_item : Entry → Data → Entry
 with_item e item = record e { got = e.got ++ item ∷ [] }
 
 -- the verdict of a full entry, if it is awaited
 abbrev pub settled_by : Entry → List Settled
-settled_by e = if e.awaited then record { id = e.id; verdict = verdict e.shape e.got } ∷ [] else []
+settled_by e = if e.awaited then record { id = e.id; verdict = verdict_of e.shape e.got } ∷ [] else []
 
 -- the oldest message has one item more: it takes further ones, or it is full
 abbrev pub given : Dealing → Entry → List Entry → Dealing
 given d e es =
-    if nat_lt (length e.got) (need e.shape) then record d { row = e ∷ es } else record { row = es; out = d.out ++ settled_by e }
+    if nat_lt (length e.got) (need_of e.shape) then record d { row = e ∷ es } else record { row = es; out = d.out ++ settled_by e }
 
 abbrev pub dealt_to : Dealing → Data → List Entry → Dealing
 dealt_to d item [] = d

@@ -2,7 +2,7 @@
 use Rattle.std.specs.Prelude.{ℕ, ◌+◌, ◌^◌, nat_lt, nat_le, Bool, false, ◌&&◌, List, [], ◌∷◌, ◌++◌, length, if◌then◌else◌}
 use Rattle.resp_read.specs.Values.{values, left_over, is_spoiled}
 use Rattle.resp_read.specs.Items.{items}
-use Rattle.driver_model.specs.Shape.{need}
+use Rattle.driver_model.specs.Shape.{need_of}
 use Rattle.driver_model.specs.declared.news.LinkFault.{LinkFault}
 use Rattle.link_core.specs.declared.message.Queued.{Queued}
 use Rattle.link_core.specs.declared.message.Entry.{Entry}
@@ -56,19 +56,22 @@ abbrev pub no_boundary : ℕ
 no_boundary = 18_446_744_073_709_551_615
 
 -- no message starts while bytes are unwritten, and as many as the boundary
-abbrev pub is_held_back : LinkState → Bool
-is_held_back s = nat_lt s.boundary no_boundary && (nat_lt 0 (length s.outbox.unwritten) && nat_le s.boundary (length s.outbox.unwritten))
+abbrev pub holds_back : LinkState → Bool
+holds_back s = nat_lt s.boundary no_boundary && (nat_lt 0 (length s.outbox.unwritten) && nat_le s.boundary (length s.outbox.unwritten))
 
 -- a link, and the starts of one call
 pub record Starting : Type 0 where
   pub link : LinkState
   pub out : List Started
 
+abbrev pub starting_with : LinkState → List Started → Starting
+starting_with link out = record { link = link; out = out }
+
 abbrev pub entry_of : Queued → Entry
 entry_of q = record { id = q.id; shape = q.shape; awaited = q.awaited; got = [] }
 
 abbrev pub start_of : ℕ → Queued → Started
-start_of number q = record { msg = number; id = q.id; need = need q.shape; len = length q.packed }
+start_of number q = record { msg = number; id = q.id; need = need_of q.shape; len = length q.packed }
 
 -- a message starts: it takes the next number, its bytes are to be written, and it takes items behind the others
 abbrev pub started_one : Starting → Queued → Starting
@@ -85,7 +88,7 @@ started_one s q = record {
 abbrev pub started_each : Starting → List Queued → Starting
 started_each s [] = record s { link = record s.link { queue = [] } }
 started_each s (q ∷ qs) =
-    if is_held_back s.link then record s { link = record s.link { queue = q ∷ qs } } else started_each (started_one s q) qs
+    if holds_back s.link then record s { link = record s.link { queue = q ∷ qs } } else started_each (started_one s q) qs
 
 abbrev pub started_all : Starting → Starting
 started_all s = started_each s s.link.queue
@@ -110,6 +113,9 @@ pub record Settling : Type 0 where
   pub link : LinkState
   pub out : List Settled
 
+abbrev pub settling_with : LinkState → List Settled → Settling
+settling_with link out = record { link = link; out = out }
+
 -- what was read of the next value, with more bytes
 abbrev pub read_on : LinkState → List ℕ → LinkState
 read_on s bytes = record s { rest = left_over bytes; broken = is_spoiled bytes }
@@ -121,8 +127,8 @@ abbrev pub came_all : Settling → List ℕ → Settling
 came_all d bytes = with_dealt (record d { link = read_on d.link bytes }) (dealt_each (record { row = d.link.row; out = [] }) (items bytes))
 
 -- bytes come: each item in them is dealt. A broken link reads no more
-abbrev pub came : Settling → List ℕ → Settling
-came d piece = if d.link.broken then d else came_all d (d.link.rest ++ piece)
+abbrev pub piece_dealt : Settling → List ℕ → Settling
+piece_dealt d piece = if d.link.broken then d else came_all d (d.link.rest ++ piece)
 
 -- the pushes in these bytes, each with how many messages they settle before it
 abbrev pub pushes_of : LinkState → List ℕ → List PushAt

@@ -1,6 +1,6 @@
 -- The started messages that take more items.
 use Rattle.std.specs.Prelude.{ℕ, ◌+◌, ◌-◌, ◌==◌, Bool, false, List, [], ◌∷◌, length}
-use Rattle.driver_model.specs.Shape.{need}
+use Rattle.driver_model.specs.Shape.{need_of}
 use Rattle.link_core.specs.declared.message.Entry.{Entry}
 use Rattle.link_core.specs.First.{first_replaced}
 
@@ -15,10 +15,10 @@ abbrev pub silenced : List Entry → ℕ → List Entry
 silenced row id = first_replaced (is_entry_of id) (λ e. silent e ∷ []) row
 
 -- how many more items a message takes
-abbrev pub lack : Entry → ℕ
-lack e = need e.shape - length e.got
+abbrev pub lack_of : Entry → ℕ
+lack_of e = need_of e.shape - length e.got
 
 -- how many more items the messages of a row take together
-abbrev pub lacks : List Entry → ℕ
-lacks [] = 0
-lacks (e ∷ es) = lack e + lacks es
+abbrev pub lack_of_row : List Entry → ℕ
+lack_of_row [] = 0
+lack_of_row (e ∷ es) = lack_of e + lack_of_row es

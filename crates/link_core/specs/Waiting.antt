@@ -3,9 +3,9 @@ use Rattle.std.specs.Prelude.{ℕ, ◌==◌, Bool, ◌&&◌, List, []}
 use Rattle.link_core.specs.declared.message.Queued.{Queued}
 use Rattle.link_core.specs.First.{first_replaced}
 
-abbrev pub awaits : ℕ → Queued → Bool
-awaits id q = (q.id == id) && q.awaited
+abbrev pub is_wanted : ℕ → Queued → Bool
+is_wanted id q = (q.id == id) && q.awaited
 
 -- that message, if its verdict is wanted, leaves the queue
 abbrev pub without : List Queued → ℕ → List Queued
-without queue id = first_replaced (awaits id) (λ _. []) queue
+without queue id = first_replaced (is_wanted id) (λ _. []) queue

@@ -1,11 +1,13 @@
-ghost use Rattle.std.specs.Prelude.{◌≡◌, ◌≢◌, ◌<◌, ◌≤◌, true, false, [], ◌++◌, length, take, if◌then◌else◌, OnOk, OnErr, IfOk, IsErr, IsErrOf, ◌↔◌, not};
-ghost use Rattle.link_core.specs.Link.{is_held_back as is_held_back_in};
-ghost use Rattle.link_core.specs.Waiting.{without, awaits as awaits_id};
+ghost use Rattle.std.specs.Prelude.{◌≡◌, ◌≢◌, ◌<◌, ◌≤◌, true, false, [], ◌++◌, length, take};
+ghost use Rattle.std.specs.Prelude.{if◌then◌else◌, OnOk, OnErr, IfOk, IsErr, IsErrOf, ◌↔◌, not};
+ghost use Rattle.link_core.specs.Link.{holds_back};
+ghost use Rattle.link_core.specs.Waiting.{without, is_wanted};
 ghost use Rattle.link_core.specs.Ends.{queue_closed};
-ghost use Rattle.link_core.specs.Dealing.{Dealing, dealt_each, value_dealt, push_behind, pushes_each, heard_of};
+ghost use Rattle.link_core.specs.Dealing.{dealing_with, dealt_each, value_dealt, push_behind};
+ghost use Rattle.link_core.specs.Dealing.{pushes_each, heard_of};
 ghost use Rattle.resp_value.specs.View.{data_of};
 ghost use Rattle.resp_read.specs.Values.{values, left_over, is_spoiled};
-ghost use Rattle.resp_read.specs.Items.{items, is_item as is_item_data};
+ghost use Rattle.resp_read.specs.Items.{items, is_item};
 
 use crate::errors::{EnqueueError, StartError};
 use crate::message::{Entry, PushAt, PushInfo, Queued, Settled, Started};
@@ -43,7 +45,17 @@ impl Model for LinkCore {
 
     ghost coded = { Prim.hlevel (codes, data_code) };
 
-    ghost view = { λ s. record { size = s.size; boundary = s.boundary; queue = s.queue; row = s.row; started = s.started; outbox = s.outbox; rest = s.reader.rest; broken = s.broken; failed = s.failed } };
+    ghost view = { λ s. record {
+      size = s.size;
+      boundary = s.boundary;
+      queue = s.queue;
+      row = s.row;
+      started = s.started;
+      outbox = s.outbox;
+      rest = s.reader.rest;
+      broken = s.broken;
+      failed = s.failed;
+    } };
 
     ghost use Rattle.link_core.specs.Inside.{IsSound};
 
@@ -51,9 +63,12 @@ impl Model for LinkCore {
 }
 
 impl LinkCore {
-    ghost use Rattle.link_core.specs.Link.{fresh, is_full, enqueued, Starting, started_all, started_one, is_spent, offered_of, wrote_of, cancelled, Settling, came, came_all, pushes_of, pushes_came, closed_all, faulted};
+    ghost use Rattle.link_core.specs.Link.{fresh, is_full, enqueued, starting_with, started_all};
+    ghost use Rattle.link_core.specs.Link.{started_one, is_spent, offered_of, wrote_of, cancelled};
+    ghost use Rattle.link_core.specs.Link.{settling_with, piece_dealt, came_all, pushes_of};
+    ghost use Rattle.link_core.specs.Link.{pushes_came, closed_all, faulted};
     ghost use Rattle.link_core.specs.Outbox.{can_offer};
-    ghost use Rattle.link_core.specs.Row.{lacks};
+    ghost use Rattle.link_core.specs.Row.{lack_of_row};
 
     /// A link whose queue holds `size` messages, at least one, and on which no message starts while `boundary` bytes or
     /// more, and at least one, are unwritten. The greatest boundary holds nothing back. Takes no memory.
@@ -86,8 +101,13 @@ impl LinkCore {
         shape: Shape,
         answered: bool,
     ) -> Result<(), EnqueueError>
-        ensures ok { OnOk result (self.new ≡ enqueued self.old (record { id = id; packed = packed.now; shape = shape; awaited = not answered })) }
-        ensures full { IsErrOf result EnqueueError.Full ↔ ((self.old.failed ≡ false) × (is_full self.old ≡ true)) }
+        ensures ok { OnOk result (
+            self.new
+            ≡ enqueued self.old
+            (record { id = id; packed = packed.now; shape = shape; awaited = not answered })
+            ) }
+        ensures full { IsErrOf result EnqueueError.Full
+            ↔ ((self.old.failed ≡ false) × (is_full self.old ≡ true)) }
         ensures full_same { IsErrOf result EnqueueError.Full → self.new ≡ self.old }
         ensures no_memory { IsErrOf result EnqueueError.NoMemory → self.new.failed ≡ true }
         ensures failed { self.old.failed ≡ true → IsErrOf result EnqueueError.NoMemory }
@@ -122,7 +142,11 @@ impl LinkCore {
         shape: Shape,
         answered: bool,
     ) -> Result<(), AllocError>
-        ensures ok { OnOk result (self.new ≡ enqueued self.old (record { id = id; packed = packed.now; shape = shape; awaited = not answered })) }
+        ensures ok { OnOk result (
+            self.new
+            ≡ enqueued self.old
+            (record { id = id; packed = packed.now; shape = shape; awaited = not answered })
+            ) }
         ensures err { OnErr result (self.new ≡ self.old) }
     {
         let packed = Bytes::from_slice(alloc, packed)?;
@@ -137,9 +161,13 @@ impl LinkCore {
     /// Starts messages in the order of the queue, as long as nothing holds them back, and appends the starts to `out`.
     /// After an error `out` is as it was, and the link has failed.
     pub fn start_ready(&mut self, alloc: Global, out: &mut Vec<Started>) -> Result<(), StartError>
-        ensures ok { OnOk result (record { link = self.new; out = out.new.items } ≡ started_all (record { link = self.old; out = out.old.items })) }
+        ensures ok { OnOk result (
+            starting_with self.new out.new.items
+            ≡ started_all (starting_with self.old out.old.items)
+            ) }
         ensures err { OnErr result (out.new.items ≡ out.old.items) }
-        ensures spent { IsErrOf result StartError.Spent → is_spent (started_all (record { link = self.old; out = out.old.items })).link ≡ true }
+        ensures spent { IsErrOf result StartError.Spent
+            → is_spent (started_all (starting_with self.old out.old.items)).link ≡ true }
         ensures unspent { OnOk result (is_spent self.new ≡ false) }
         ensures no_memory { OnErr result (self.new.failed ≡ true) }
         ensures failed { self.old.failed ≡ true → IsErrOf result StartError.NoMemory }
@@ -159,16 +187,20 @@ impl LinkCore {
     }
 
     fn is_held_back(&self) -> bool
-        ensures { result ≡ is_held_back_in self.now }
+        ensures { result ≡ holds_back self.now }
     {
         let unwritten = self.outbox.unwritten.len() as u64;
         self.boundary < u64::MAX && (unwritten > 0 && unwritten >= self.boundary)
     }
 
     fn start_each(&mut self, alloc: Global, out: &mut Vec<Started>) -> Result<(), StartError>
-        ensures ok { OnOk result (record { link = self.new; out = out.new.items } ≡ started_all (record { link = self.old; out = out.old.items })) }
+        ensures ok { OnOk result (
+            starting_with self.new out.new.items
+            ≡ started_all (starting_with self.old out.old.items)
+            ) }
         ensures err { OnErr result (take (length out.old.items) out.new.items ≡ out.old.items) }
-        ensures spent { IsErrOf result StartError.Spent → is_spent (started_all (record { link = self.old; out = out.old.items })).link ≡ true }
+        ensures spent { IsErrOf result StartError.Spent
+            → is_spent (started_all (starting_with self.old out.old.items)).link ≡ true }
     {
         'starts: while !self.is_held_back() {
             match self.queue.pop_front() {
@@ -188,9 +220,14 @@ impl LinkCore {
         message: Queued,
         out: &mut Vec<Started>,
     ) -> Result<(), StartError>
-        ensures ok { OnOk result (record { link = self.new; out = out.new.items } ≡ started_one (record { link = self.old; out = out.old.items }) message) }
+        ensures ok { OnOk result (
+            starting_with self.new out.new.items
+            ≡ started_one (starting_with self.old out.old.items) message
+            ) }
         ensures err { OnErr result (out.new.items ≡ out.old.items) }
-        ensures spent { IsErrOf result StartError.Spent → is_spent (started_one (record { link = self.old; out = out.old.items }) message).link ≡ true }
+        ensures spent { IsErrOf result StartError.Spent
+            → is_spent (started_one (starting_with self.old out.old.items) message).link
+            ≡ true }
     {
         if self.started == u32::MAX {
             return Err(StartError::Spent);
@@ -217,8 +254,13 @@ impl LinkCore {
     /// Whether there were unwritten bytes and no unanswered offer. Then all of them are appended to `out`, and offered.
     pub fn offer(&mut self, out: &mut Vec<u8>) -> Result<bool, AllocError>
         ensures answer { IfOk result (λ offers. offers ≡ can_offer self.old.outbox) }
-        ensures link { IfOk result (λ offers. self.new ≡ (if offers then offered_of self.old else self.old)) }
-        ensures bytes { IfOk result (λ offers. out.new.items ≡ (if offers then out.old.items ++ self.old.outbox.unwritten else out.old.items)) }
+        ensures link { IfOk result (λ offers.
+            self.new ≡ (if offers then offered_of self.old else self.old)
+            ) }
+        ensures bytes { IfOk result (λ offers.
+            out.new.items
+            ≡ (if offers then out.old.items ++ self.old.outbox.unwritten else out.old.items)
+            ) }
         ensures err { OnErr result (out.new.items ≡ out.old.items) }
         ensures no_memory { OnErr result (self.new.failed ≡ true) }
         ensures failed { self.old.failed ≡ true → IsErr result }
@@ -259,7 +301,7 @@ impl LinkCore {
 
     /// How many more items the started messages take. Takes no memory.
     pub fn open_needs(&self) -> u128
-        ensures { result ≡ lacks self.now.row }
+        ensures { result ≡ lack_of_row self.now.row }
     {
         self.row.lacks()
     }
@@ -289,7 +331,10 @@ impl LinkCore {
         fault: LinkFault,
         out: &mut Vec<Settled>,
     ) -> Result<(), AllocError>
-        ensures ok { OnOk result (record { link = self.new; out = out.new.items } ≡ faulted (record { link = self.old; out = out.old.items }) fault) }
+        ensures ok { OnOk result (
+            settling_with self.new out.new.items
+            ≡ faulted (settling_with self.old out.old.items) fault
+            ) }
         ensures err { OnErr result (out.new.items ≡ out.old.items) }
         ensures no_memory { OnErr result (self.new.failed ≡ true) }
         ensures failed { self.old.failed ≡ true → IsErr result }
@@ -312,7 +357,10 @@ impl LinkCore {
         fault: LinkFault,
         out: &mut Vec<Settled>,
     ) -> Result<(), AllocError>
-        ensures ok { OnOk result (record { link = self.new; out = out.new.items } ≡ faulted (record { link = self.old; out = out.old.items }) fault) }
+        ensures ok { OnOk result (
+            settling_with self.new out.new.items
+            ≡ faulted (settling_with self.old out.old.items) fault
+            ) }
         ensures err { OnErr result (out.new.items ≡ out.old.items) }
     {
         let mut settled = Vec::new(alloc);
@@ -324,7 +372,10 @@ impl LinkCore {
     /// The link is closed: every message that it has gets the closed connection, and `out` gains those that are awaited.
     /// After an error `out` is as it was, and the link has failed.
     pub fn close(&mut self, alloc: Global, out: &mut Vec<Settled>) -> Result<(), AllocError>
-        ensures ok { OnOk result (record { link = self.new; out = out.new.items } ≡ closed_all (record { link = self.old; out = out.old.items })) }
+        ensures ok { OnOk result (
+            settling_with self.new out.new.items
+            ≡ closed_all (settling_with self.old out.old.items)
+            ) }
         ensures err { OnErr result (out.new.items ≡ out.old.items) }
         ensures no_memory { OnErr result (self.new.failed ≡ true) }
         ensures failed { self.old.failed ≡ true → IsErr result }
@@ -342,7 +393,10 @@ impl LinkCore {
     }
 
     fn try_close(&mut self, alloc: Global, out: &mut Vec<Settled>) -> Result<(), AllocError>
-        ensures ok { OnOk result (record { link = self.new; out = out.new.items } ≡ closed_all (record { link = self.old; out = out.old.items })) }
+        ensures ok { OnOk result (
+            settling_with self.new out.new.items
+            ≡ closed_all (settling_with self.old out.old.items)
+            ) }
         ensures err { OnErr result (out.new.items ≡ out.old.items) }
     {
         let mut settled = Vec::new(alloc);
@@ -362,14 +416,23 @@ impl LinkCore {
         out: &mut Vec<Settled>,
         pushes: &mut Vec<PushAt>,
     ) -> Result<(), ReadError>
-        ensures ok { OnOk result (record { link = self.new; out = out.new.items } ≡ came (record { link = self.old; out = out.old.items }) piece.now) }
-        ensures parse { IsErrOf result ReadError.Parse → ◌≡◌ {A = Settling} (record { link = self.new; out = out.new.items }) (came (record { link = self.old; out = out.old.items }) piece.now) }
-        ensures pushes_ok { OnOk result (pushes.new.items ≡ pushes.old.items ++ pushes_came self.old piece.now) }
-        ensures pushes_parse { IsErrOf result ReadError.Parse → pushes.new.items ≡ pushes.old.items ++ pushes_came self.old piece.now }
+        ensures ok { OnOk result (
+            settling_with self.new out.new.items
+            ≡ piece_dealt (settling_with self.old out.old.items) piece.now
+            ) }
+        ensures parse { IsErrOf result ReadError.Parse
+            → settling_with self.new out.new.items
+            ≡ piece_dealt (settling_with self.old out.old.items) piece.now }
+        ensures pushes_ok { OnOk result (
+            pushes.new.items ≡ pushes.old.items ++ pushes_came self.old piece.now
+            ) }
+        ensures pushes_parse { IsErrOf result ReadError.Parse
+            → pushes.new.items ≡ pushes.old.items ++ pushes_came self.old piece.now }
         ensures sound { OnOk result (self.new.broken ≡ false) }
         ensures broken { IsErrOf result ReadError.Parse → self.new.broken ≡ true }
         ensures err { IsErrOf result ReadError.NoMemory → out.new.items ≡ out.old.items }
-        ensures pushes_err { IsErrOf result ReadError.NoMemory → pushes.new.items ≡ pushes.old.items }
+        ensures pushes_err { IsErrOf result ReadError.NoMemory
+            → pushes.new.items ≡ pushes.old.items }
         ensures no_memory { IsErrOf result ReadError.NoMemory → self.new.failed ≡ true }
         ensures failed { self.old.failed ≡ true → IsErrOf result ReadError.NoMemory }
     {
@@ -383,8 +446,13 @@ impl LinkCore {
         piece: &[u8],
         out: &mut Vec<Settled>,
     ) -> Result<(), ReadError>
-        ensures ok { OnOk result (record { link = self.new; out = out.new.items } ≡ came (record { link = self.old; out = out.old.items }) piece.now) }
-        ensures parse { IsErrOf result ReadError.Parse → ◌≡◌ {A = Settling} (record { link = self.new; out = out.new.items }) (came (record { link = self.old; out = out.old.items }) piece.now) }
+        ensures ok { OnOk result (
+            settling_with self.new out.new.items
+            ≡ piece_dealt (settling_with self.old out.old.items) piece.now
+            ) }
+        ensures parse { IsErrOf result ReadError.Parse
+            → settling_with self.new out.new.items
+            ≡ piece_dealt (settling_with self.old out.old.items) piece.now }
         ensures sound { OnOk result (self.new.broken ≡ false) }
         ensures broken { IsErrOf result ReadError.Parse → self.new.broken ≡ true }
         ensures err { IsErrOf result ReadError.NoMemory → out.new.items ≡ out.old.items }
@@ -404,14 +472,24 @@ impl LinkCore {
         out: &mut Vec<Settled>,
         pushes: &mut Vec<PushAt>,
     ) -> Result<(), ReadError>
-        ensures ok { OnOk result (record { link = self.new; out = out.new.items } ≡ came (record { link = self.old; out = out.old.items }) piece.now) }
-        ensures parse { IsErrOf result ReadError.Parse → ◌≡◌ {A = Settling} (record { link = self.new; out = out.new.items }) (came (record { link = self.old; out = out.old.items }) piece.now) }
-        ensures pushes_ok { OnOk result (pushes.new.items ≡ pushes.old.items ++ heard_of heard (pushes_came self.old piece.now)) }
-        ensures pushes_parse { IsErrOf result ReadError.Parse → pushes.new.items ≡ pushes.old.items ++ heard_of heard (pushes_came self.old piece.now) }
+        ensures ok { OnOk result (
+            settling_with self.new out.new.items
+            ≡ piece_dealt (settling_with self.old out.old.items) piece.now
+            ) }
+        ensures parse { IsErrOf result ReadError.Parse
+            → settling_with self.new out.new.items
+            ≡ piece_dealt (settling_with self.old out.old.items) piece.now }
+        ensures pushes_ok { OnOk result (
+            pushes.new.items ≡ pushes.old.items ++ heard_of heard (pushes_came self.old piece.now)
+            ) }
+        ensures pushes_parse { IsErrOf result ReadError.Parse
+            → pushes.new.items
+            ≡ pushes.old.items ++ heard_of heard (pushes_came self.old piece.now) }
         ensures sound { OnOk result (self.new.broken ≡ false) }
         ensures broken { IsErrOf result ReadError.Parse → self.new.broken ≡ true }
         ensures err { IsErrOf result ReadError.NoMemory → out.new.items ≡ out.old.items }
-        ensures pushes_err { IsErrOf result ReadError.NoMemory → pushes.new.items ≡ pushes.old.items }
+        ensures pushes_err { IsErrOf result ReadError.NoMemory
+            → pushes.new.items ≡ pushes.old.items }
         ensures no_memory { IsErrOf result ReadError.NoMemory → self.new.failed ≡ true }
         ensures failed { self.old.failed ≡ true → IsErrOf result ReadError.NoMemory }
     {
@@ -442,8 +520,14 @@ impl LinkCore {
     ) -> Result<(), AllocError>
         requires sound { self.old.failed ≡ false }
         requires whole { self.old.broken ≡ false }
-        ensures ok { OnOk result (record { link = self.new; out = out.new.items } ≡ came_all (record { link = self.old; out = out.old.items }) (self.old.rest ++ piece.now)) }
-        ensures pushes { OnOk result (pushes.new.items ≡ pushes.old.items ++ heard_of heard (pushes_of self.old (self.old.rest ++ piece.now))) }
+        ensures ok { OnOk result (
+            settling_with self.new out.new.items
+            ≡ came_all (settling_with self.old out.old.items) (self.old.rest ++ piece.now)
+            ) }
+        ensures pushes { OnOk result (
+            pushes.new.items
+            ≡ pushes.old.items ++ heard_of heard (pushes_of self.old (self.old.rest ++ piece.now))
+            ) }
         ensures err { OnErr result (out.new.items ≡ out.old.items) }
         ensures pushes_err { OnErr result (pushes.new.items ≡ pushes.old.items) }
         ensures no_memory { OnErr result (self.new.failed ≡ true) }
@@ -499,11 +583,21 @@ fn deal_all(
     pushes: &mut Vec<PushAt>,
 ) -> Result<bool, AllocError>
     requires { reader.old.health ≡ Health.Sound }
-    ensures dealt { OnOk result (record { row = row.new; out = out.new.items } ≡ dealt_each (record { row = row.old; out = out.old.items }) (items reader.old.rest)) }
-    ensures pushed { OnOk result (pushes.new.items ≡ pushes.old.items ++ heard_of heard (pushes_each (record { row = row.old; out = out.old.items }) (values reader.old.rest))) }
+    ensures dealt { OnOk result (
+        dealing_with row.new out.new.items
+        ≡ dealt_each (dealing_with row.old out.old.items) (items reader.old.rest)
+        ) }
+    ensures pushed { OnOk result (
+        pushes.new.items
+        ≡ pushes.old.items
+        ++ heard_of heard
+        (pushes_each (dealing_with row.old out.old.items) (values reader.old.rest))
+        ) }
     ensures rest { OnOk result (reader.new.rest ≡ left_over reader.old.rest) }
     ensures spoiled { IfOk result (λ broken. broken ≡ is_spoiled reader.old.rest) }
-    ensures sound { IfOk result (λ broken. broken ≡ false → reader.new.health ≡ Health.Sound) }
+    ensures sound { IfOk result (λ broken.
+        broken ≡ false → reader.new.health ≡ Health.Sound
+        ) }
 {
     'values: loop {
         match reader.next_value(alloc) {
@@ -527,11 +621,17 @@ fn deal_value(
     out: &mut Vec<Settled>,
     pushes: &mut Vec<PushAt>,
 ) -> Result<(), AllocError>
-    ensures dealt { OnOk result (record { row = row.new; out = out.new.items } ≡ value_dealt (record { row = row.old; out = out.old.items }) (data_of value)) }
-    ensures pushed { OnOk result (pushes.new.items ≡ pushes.old.items ++ heard_of heard (push_behind (length out.old.items) (data_of value))) }
+    ensures dealt { OnOk result (
+        dealing_with row.new out.new.items
+        ≡ value_dealt (dealing_with row.old out.old.items) (data_of value)
+        ) }
+    ensures pushed { OnOk result (
+        pushes.new.items
+        ≡ pushes.old.items ++ heard_of heard (push_behind (length out.old.items) (data_of value))
+        ) }
 {
     note_heard(alloc, &value, heard, out.len() as u64, pushes)?;
-    if is_item(&value) {
+    if is_dealt(&value) {
         return row.deal(alloc, value, out);
     }
     Ok(())
@@ -545,7 +645,10 @@ fn note_heard(
     settled: u64,
     pushes: &mut Vec<PushAt>,
 ) -> Result<(), AllocError>
-    ensures { OnOk result (pushes.new.items ≡ pushes.old.items ++ heard_of heard (push_behind settled (data_of value.now))) }
+    ensures { OnOk result (
+        pushes.new.items
+        ≡ pushes.old.items ++ heard_of heard (push_behind settled (data_of value.now))
+        ) }
 {
     if !heard {
         return Ok(());
@@ -560,7 +663,9 @@ fn note_push(
     settled: u64,
     pushes: &mut Vec<PushAt>,
 ) -> Result<(), AllocError>
-    ensures { OnOk result (pushes.new.items ≡ pushes.old.items ++ push_behind settled (data_of value.now)) }
+    ensures { OnOk result (
+        pushes.new.items ≡ pushes.old.items ++ push_behind settled (data_of value.now)
+        ) }
 {
     match value {
         Value::Push { kind, parts } => {
@@ -575,8 +680,8 @@ fn note_push(
 }
 
 /// Whether a value is dealt: all but a push without reply.
-fn is_item(value: &Value) -> bool
-    ensures { result ≡ is_item_data (data_of value.now) }
+fn is_dealt(value: &Value) -> bool
+    ensures { result ≡ is_item (data_of value.now) }
 {
     match value {
         Value::Push { kind, parts: _ } => kind.has_reply(),
@@ -609,7 +714,7 @@ fn withdraw(queue: &mut Queue<Queued>, id: u64)
 }
 
 fn awaits(message: &Queued, id: u64) -> bool
-    ensures { result ≡ awaits_id id message.now }
+    ensures { result ≡ is_wanted id message.now }
 {
     message.id == id && message.awaited
 }

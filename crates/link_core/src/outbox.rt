@@ -27,8 +27,13 @@ impl Outbox {
     /// unanswered, nothing changes.
     pub fn offer(&mut self, out: &mut Vec<u8>) -> Result<bool, AllocError>
         ensures answer { IfOk result (λ offers. offers ≡ can_offer self.old) }
-        ensures outbox { IfOk result (λ offers. self.new ≡ (if offers then all_offered self.old else self.old)) }
-        ensures bytes { IfOk result (λ offers. out.new.items ≡ (if offers then out.old.items ++ self.old.unwritten else out.old.items)) }
+        ensures outbox { IfOk result (λ offers.
+            self.new ≡ (if offers then all_offered self.old else self.old)
+            ) }
+        ensures bytes { IfOk result (λ offers.
+            out.new.items
+            ≡ (if offers then out.old.items ++ self.old.unwritten else out.old.items)
+            ) }
         ensures err { OnErr result (self.new ≡ self.old) }
         ensures err_out { OnErr result (out.new.items ≡ out.old.items) }
     {

@@ -1,7 +1,7 @@
 ghost use Rattle.std.specs.Prelude.{◌≡◌, [], ◌∷◌, ◌++◌, length, MatchOption, OnOk, OnErr};
 ghost use Rattle.link_core.specs.Dealing.{settled_by};
 ghost use Rattle.link_core.specs.Ends.{failed_by, hit_by};
-ghost use Rattle.link_core.specs.Row.{lack as lack_of};
+ghost use Rattle.link_core.specs.Row.{lack_of};
 
 use crate::message::{Entry, Settled};
 use driver_model::{LinkFault, Shape, Verdict};
@@ -32,8 +32,8 @@ impl Model for Row {
 
 impl Row {
     ghost use Rattle.resp_value.specs.View.{data_of};
-    ghost use Rattle.link_core.specs.Row.{silenced, lacks as lacks_of};
-    ghost use Rattle.link_core.specs.Dealing.{Dealing, dealt, given};
+    ghost use Rattle.link_core.specs.Row.{silenced, lack_of_row};
+    ghost use Rattle.link_core.specs.Dealing.{dealing_with, dealt, given};
 
     /// No entries. Takes no memory.
     pub fn new(alloc: Global) -> Row
@@ -70,14 +70,15 @@ impl Row {
 
     /// The oldest entry, taken out.
     pub fn pop_front(&mut self) -> Option<Entry>
-        ensures { MatchOption result ((self.old ≡ []) × (self.new ≡ [])) (λ e. self.old ≡ e ∷ self.new) }
+        ensures { MatchOption result ((self.old ≡ []) × (self.new ≡ []))
+            (λ e. self.old ≡ e ∷ self.new) }
     {
         self.entries.pop_front()
     }
 
     /// How many more items these messages take.
     pub fn lacks(&self) -> u128
-        ensures { result ≡ lacks_of self.now }
+        ensures { result ≡ lack_of_row self.now }
     {
         let mut sum: u128 = 0;
         let len = self.entries.len();
@@ -107,7 +108,10 @@ impl Row {
         entry: Entry,
         out: &mut Vec<Settled>,
     ) -> Result<(), AllocError>
-        ensures { OnOk result (record { row = self.new; out = out.new.items } ≡ given (record { row = self.old; out = out.old.items }) entry self.old) }
+        ensures { OnOk result (
+            dealing_with self.new out.new.items
+            ≡ given (dealing_with self.old out.old.items) entry self.old
+            ) }
     {
         if (entry.got.len() as u64) < entry.shape.need() {
             self.push_front(entry)
@@ -123,7 +127,10 @@ impl Row {
         item: Value,
         out: &mut Vec<Settled>,
     ) -> Result<(), AllocError>
-        ensures { OnOk result (record { row = self.new; out = out.new.items } ≡ dealt (record { row = self.old; out = out.old.items }) (data_of item)) }
+        ensures { OnOk result (
+            dealing_with self.new out.new.items
+            ≡ dealt (dealing_with self.old out.old.items) (data_of item)
+            ) }
     {
         match self.pop_front() {
             Some(mut entry) => {

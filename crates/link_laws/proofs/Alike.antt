@@ -3,7 +3,7 @@ use Rattle.std.proofs.Common.{◌≡◌, ℕ, ◌==◌, nat_lt, Bool, true, fals
 use Rattle.containers.proofs.Choices.{taken_if, eq_test}
 use Rattle.resp_value.specs.Data.{Data}
 use Rattle.redis_error.specs.declared.redis_error.RedisError.{RedisError}
-use Rattle.driver_model.specs.Shape.{need, verdict}
+use Rattle.driver_model.specs.Shape.{need_of, verdict_of}
 use Rattle.driver_model.specs.declared.outcome.Verdict.TheVariants.{Fault}
 use Rattle.link_core.specs.declared.message.Entry.{Entry}
 use Rattle.link_core.specs.declared.message.Settled.{Settled}
@@ -36,7 +36,7 @@ own_if id false s e = refl
 
 pub same_settled : (id : ℕ) (e f : Entry) → SameEntry id e f → others id (settled_by e) ≡ others id (settled_by f)
 same_settled id e f (inl p) = ap (λ x. others id (settled_by x)) p
-same_settled id e f (inr p) = own_if id e.awaited (record { id = e.id; verdict = verdict e.shape e.got }) p.0 ∙ sym (ap (λ x. others id (settled_by x)) p.1)
+same_settled id e f (inr p) = own_if id e.awaited (record { id = e.id; verdict = verdict_of e.shape e.got }) p.0 ∙ sym (ap (λ x. others id (settled_by x)) p.1)
 
 pub same_failed : (id : ℕ) (e f : Entry) (error error' : RedisError) → SameEntry id e f → error ≡ error' → others id (failed_by e.awaited e.id error) ≡ others id (failed_by f.awaited f.id error')
 same_failed id e f error error' (inl p) q = ap (λ (x : Entry). others id (failed_by x.awaited x.id error)) p ∙ ap (λ (r : RedisError). others id (failed_by f.awaited f.id r)) q
@@ -53,11 +53,11 @@ branch id false x y x' y' p q = q
 given_same_test : (id : ℕ) (d d' : Dealing) (e f : Entry) (es fs : List Entry) → f.got ≡ e.got → f.shape ≡ e.shape → SameEntry id e f → SameRow id es fs → others id d.out ≡ others id d'.out
     → SameDealing id (given d e es) (given d' f fs)
 given_same_test id d d' e f es fs got shape s rest out =
-    let test : nat_lt (length f.got) (need f.shape) ≡ nat_lt (length e.got) (need e.shape) = cc (got, shape) in
+    let test : nat_lt (length f.got) (need_of f.shape) ≡ nat_lt (length e.got) (need_of e.shape) = cc (got, shape) in
     let x' : Dealing = record d' { row = f ∷ fs } in
     let y' : Dealing = record { row = fs; out = d'.out ++ settled_by f } in
     subst (λ b. SameDealing id (given d e es) (if b then x' else y')) (sym test)
-    (branch id (nat_lt (length e.got) (need e.shape)) (record d { row = e ∷ es }) (record { row = es; out = d.out ++ settled_by e }) x' y'
+    (branch id (nat_lt (length e.got) (need_of e.shape)) (record d { row = e ∷ es }) (record { row = es; out = d.out ++ settled_by e }) x' y'
     (record { row = (s, rest); out = out })
     (record { row = rest; out = others_joined id d.out (settled_by e) d'.out (settled_by f) out (same_settled id e f s) }))
 

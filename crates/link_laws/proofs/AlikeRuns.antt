@@ -4,11 +4,11 @@ use Rattle.containers.proofs.Choices.{chosen}
 use Rattle.driver_model.specs.declared.action.Owner.{Owner}
 use Rattle.driver_model.specs.declared.news.LinkFault.{LinkFault}
 use Rattle.driver_model.specs.declared.news.LinkFault.TheVariants as fault
-use Rattle.driver_model.specs.News.{silence, took, came as came_news, failed, shut}
+use Rattle.driver_model.specs.News.{silence, took, came, failed, shut}
 use Rattle.link_core.specs.declared.message.Entry.{Entry}
 use Rattle.link_core.specs.declared.message.Queued.{Queued}
 use Rattle.link_core.specs.declared.message.Settled.{Settled}
-use Rattle.link_core.specs.Link.{LinkState, Settling, is_full, enqueued, entry_of, is_held_back, started_all, offered_of, wrote_of, came, closed_all, faulted}
+use Rattle.link_core.specs.Link.{LinkState, Settling, is_full, enqueued, entry_of, holds_back, started_all, offered_of, wrote_of, piece_dealt, closed_all, faulted}
 use Rattle.link_core.specs.Outbox.{can_offer}
 use Rattle.link_core.specs.Waiting.{without}
 use Rattle.legal_trace.specs.Ledger.{offers}
@@ -42,7 +42,7 @@ re_rowed s row = record s { row = row }
 starting_unread : (s : LinkState) (row : List Entry) (qs : List Queued) → starting (re_rowed s row) qs ≡ starting s qs
 starting_unread s row [] = refl
 starting_unread s row (q ∷ qs) =
-    chosen_both (λ (x y : List Queued). x ≡ y) (is_held_back s) [] (q ∷ starting (begun (re_rowed s row) q) qs) [] (q ∷ starting (begun s q) qs)
+    chosen_both (λ (x y : List Queued). x ≡ y) (holds_back s) [] (q ∷ starting (begun (re_rowed s row) q) qs) [] (q ∷ starting (begun s q) qs)
     (λ t. refl)
     (λ f. ap (λ (x : List Queued). q ∷ x) (starting_unread (begun s q) (row ++ entry_of q ∷ []) qs))
 
@@ -87,9 +87,9 @@ parse_alike id a row out h o =
 -- the same bytes come
 read_alike : (id : ℕ) (a : Run) (row : List Entry) (out : List Settled) (piece : List ℕ) → SameRow id a.link.row row → others id a.settled ≡ others id out → SameRun id (has_read a piece) (has_read (with_row a row out) piece)
 read_alike id a row out piece h o =
-    let d = came (settling a) piece in
-    let e = came (settling (with_row a row out)) piece in
-    let x = has_come (heard a (came_news piece)) d in
+    let d = piece_dealt (settling a) piece in
+    let e = piece_dealt (settling (with_row a row out)) piece in
+    let x = has_come (heard a (came piece)) d in
     let same : SameSettling id d e = bytes_alike id a.link (re_rowed a.link row) a.settled out piece (alike id a.link row h) o in
     subst (λ (s : LinkState). SameRun id (or_parse x) (or_parse (record x { link = s; settled = e.out }))) (sym same.link.rest)
     (parse_alike id x e.link.row e.out same.link.row same.out)

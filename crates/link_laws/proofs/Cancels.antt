@@ -10,7 +10,7 @@ use Rattle.link_core.specs.declared.message.Settled.{Settled}
 use Rattle.link_core.specs.declared.message.Started.{Started}
 use Rattle.link_core.specs.Dealing.{Dealing, dealt_each}
 use Rattle.link_core.specs.Ends.{row_closed, row_hit, queue_closed, hit_by, failed_by}
-use Rattle.link_core.specs.Link.{LinkState, Starting, Settling, entry_of, enqueued, is_held_back, started_one, started_each, started_all, offered_of, wrote_of, cancelled, came_all, came, emptied, closed_all, faulted}
+use Rattle.link_core.specs.Link.{LinkState, Starting, Settling, entry_of, enqueued, holds_back, started_one, started_each, started_all, offered_of, wrote_of, cancelled, came_all, piece_dealt, emptied, closed_all, faulted}
 use Rattle.link_core.specs.Row.{silent, silenced}
 use Rattle.link_core.specs.Waiting.{without}
 use Rattle.link_laws.specs.Alike.{SameEntry, SameRow, SameDealing, SameLink, SameStarting, SameSettling, others}
@@ -59,7 +59,7 @@ starts_alike id s row out [] h = record { link = record { row = h; rest = refl }
 starts_alike id s row out (q ∷ qs) h =
     let one = started_one (record { link = s; out = out }) q in
     let other = started_one (record { link = record s { row = row }; out = out }) q in
-    start_branch id (is_held_back s)
+    start_branch id (holds_back s)
     (record { link = record s { queue = q ∷ qs }; out = out }) (started_each one qs)
     (record { link = record s { row = row; queue = q ∷ qs }; out = out }) (started_each other qs)
     (record { link = record { row = h; rest = refl }; out = refl })
@@ -82,7 +82,7 @@ all_alike id s row out out' bytes h o =
     record { link = record { row = same.row; rest = refl }; out = others_joined id out one.out out' other.out o same.out }
 
 came_alike : (id : ℕ) (s : LinkState) (row : List Entry) (out out' : List Settled) (piece : List ℕ) → SameRow id s.row row → others id out ≡ others id out'
-    → SameSettling id (came (record { link = s; out = out }) piece) (came (record { link = record s { row = row }; out = out' }) piece)
+    → SameSettling id (piece_dealt (record { link = s; out = out }) piece) (piece_dealt (record { link = record s { row = row }; out = out' }) piece)
 came_alike id s row out out' piece h o =
     settle_branch id s.broken (record { link = s; out = out }) (came_all (record { link = s; out = out }) (s.rest ++ piece))
     (record { link = record s { row = row }; out = out' }) (came_all (record { link = record s { row = row }; out = out' }) (s.rest ++ piece))
@@ -90,8 +90,8 @@ came_alike id s row out out' piece h o =
     (all_alike id s row out out' (s.rest ++ piece) h o)
 
 -- each item goes to the same message, and every other verdict is the same
-pub bytes_alike : (id : ℕ) (s t : LinkState) (out out' : List Settled) (piece : List ℕ) → SameLink id s t → others id out ≡ others id out' → SameSettling id (came (record { link = s; out = out }) piece) (came (record { link = t; out = out' }) piece)
-bytes_alike id s t out out' piece h o = subst (λ x. SameSettling id (came (record { link = s; out = out }) piece) (came (record { link = x; out = out' }) piece)) (sym h.rest) (came_alike id s t.row out out' piece h.row o)
+pub bytes_alike : (id : ℕ) (s t : LinkState) (out out' : List Settled) (piece : List ℕ) → SameLink id s t → others id out ≡ others id out' → SameSettling id (piece_dealt (record { link = s; out = out }) piece) (piece_dealt (record { link = t; out = out' }) piece)
+bytes_alike id s t out out' piece h o = subst (λ x. SameSettling id (piece_dealt (record { link = s; out = out }) piece) (piece_dealt (record { link = x; out = out' }) piece)) (sym h.rest) (came_alike id s t.row out out' piece h.row o)
 
 row_ends_alike : (id : ℕ) (row row' : List Entry) → SameRow id row row' → others id (row_closed row) ≡ others id (row_closed row')
 row_ends_alike id [] [] h = refl

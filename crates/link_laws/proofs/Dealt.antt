@@ -7,7 +7,7 @@ use Rattle.containers.proofs.Choices.{by_test, chosen, if_true, if_false, le_fro
 use Rattle.resp_value.specs.Data.{Data}
 use Rattle.driver_model.specs.declared.action.Owner.{Owner}
 use Rattle.driver_model.specs.declared.outcome.Shape.{Shape}
-use Rattle.driver_model.specs.Shape.{need, verdict}
+use Rattle.driver_model.specs.Shape.{need_of, verdict_of}
 use Rattle.link_core.specs.declared.message.Entry.{Entry}
 use Rattle.link_core.specs.declared.message.Settled.{Settled}
 use Rattle.link_core.specs.Dealing.{Dealing, with_item, settled_by, given, dealt_to, dealt, dealt_each}
@@ -30,11 +30,11 @@ pub record HasCut (ss : List Start) (items : List Data) (who : Owner) (of_shape 
   pub cut_is : got ≡ cut_at ss items number of_shape
 
 -- a message whose last item comes has its cut
-full_cut : (ss : List Start) (items : List Data) (item : Data) (o : Open) (rows : List Open) → open_rows ss items ≡ o ∷ rows → nat_le (need o.shape) (length o.got + 1) ≡ true
+full_cut : (ss : List Start) (items : List Data) (item : Data) (o : Open) (rows : List Open) → open_rows ss items ≡ o ∷ rows → nat_le (need_of o.shape) (length o.got + 1) ≡ true
     → HasCut ss (items ++ item ∷ []) o.owner o.shape (o.got ++ item ∷ [])
 full_cut [] items item o rows e t = cc
 full_cut (s ∷ ss) items item o rows e t =
-    let n = need s.shape in
+    let n = need_of s.shape in
     let more : length (items ++ item ∷ []) ≡ length items + 1 = length_push items item in
     by_test (nat_le n (length items)) _
     (λ u.
@@ -51,21 +51,21 @@ full_cut (s ∷ ss) items item o rows e t =
     let l : length items < n = not_le_from _ _ f in
     let h = heads_same _ _ _ _ (rw f at e) in
     let got : items ≡ o.got = ap (λ (x : Open). x.got) h.0 in
-    let same : n ≡ need o.shape = ap (λ (x : Open). need x.shape) h.0 in
-    let k : need o.shape ≤ length o.got + 1 = le_from _ _ t in
+    let same : n ≡ need_of o.shape = ap (λ (x : Open). need_of x.shape) h.0 in
+    let k : need_of o.shape ≤ length o.got + 1 = le_from _ _ t in
     let m : length items ≡ length o.got = ap length got in
     record {
       number = 0;
       place = record { start = s; stands = refl; owned = ap (λ (x : Open). x.owner) h.0; shaped = ap (λ (x : Open). x.shape) h.0 };
       full = omega arith;
-      cut_is = rw (← got) (sym (take_all (need o.shape) (items ++ item ∷ []) (omega arith)));
+      cut_is = rw (← got) (sym (take_all (need_of o.shape) (items ++ item ∷ []) (omega arith)));
     })
 
 -- how far the starts up to a full one reach
-cut_within : (ss : List Start) (items : List Data) (who : Owner) (of_shape : Shape) (k : ℕ) → StandsAs ss who of_shape k → reach (take (suc k) ss) items ≤ length items → reach (take k ss) items + need of_shape ≤ length items
+cut_within : (ss : List Start) (items : List Data) (who : Owner) (of_shape : Shape) (k : ℕ) → StandsAs ss who of_shape k → reach (take (suc k) ss) items ≤ length items → reach (take k ss) items + need_of of_shape ≤ length items
 cut_within ss items who of_shape k h full =
     let next = reach_next ss k items h.start h.stands in
-    let same : need h.start.shape ≡ need of_shape = ap need h.shaped in
+    let same : need_of h.start.shape ≡ need_of of_shape = ap need_of h.shaped in
     omega arith
 
 -- more items leave a full cut as it is
@@ -79,7 +79,7 @@ cut_stays ss items more who of_shape got h =
       number = k;
       place = h.place;
       full = omega (arith, next, h.full, length-append items more);
-      cut_is = rw (reach_alike (take k ss) (items ++ more) items, drop-append-le m items more (omega arith), take-append-le (need of_shape) (drop m items) more (omega (arith, length-drop m items))) h.cut_is;
+      cut_is = rw (reach_alike (take k ss) (items ++ more) items, drop-append-le m items more (omega arith), take-append-le (need_of of_shape) (drop m items) more (omega (arith, length-drop m items))) h.cut_is;
     }
 
 -- and so do more starts
@@ -99,7 +99,7 @@ pub record IsCutOf (name : ℕ → Owner) (ss : List Start) (items : List Data) 
   pub of_shape : Shape
   pub got : List Data
   pub cut : HasCut ss items (name s.id) of_shape got
-  pub verdict_is : s.verdict ≡ verdict of_shape got
+  pub verdict_is : s.verdict ≡ verdict_of of_shape got
 
 -- the verdicts of settled messages are those of their cuts
 abbrev pub AreCuts : (ℕ → Owner) → List Start → List Data → List Settled → Type 0
@@ -140,11 +140,11 @@ settled_cuts name ss items e h =
     (λ f. tt)
 
 -- an entry that an item fills
-full_from : (e : Entry) (item : Data) → nat_lt (length (with_item e item).got) (need e.shape) ≡ false → nat_le (need e.shape) (length e.got + 1) ≡ true
+full_from : (e : Entry) (item : Data) → nat_lt (length (with_item e item).got) (need_of e.shape) ≡ false → nat_le (need_of e.shape) (length e.got + 1) ≡ true
 full_from e item f = le_test _ _ (omega (arith, not_lt_from _ _ f, length_push e.got item))
 
 -- an entry that takes more behind an item
-open_from : (e : Entry) (item : Data) → nat_lt (length (with_item e item).got) (need e.shape) ≡ true → nat_le (need e.shape) (length e.got + 1) ≡ false
+open_from : (e : Entry) (item : Data) → nat_lt (length (with_item e item).got) (need_of e.shape) ≡ true → nat_le (need_of e.shape) (length e.got + 1) ≡ false
 open_from e item t = not_le_test _ _ (omega (arith, lt_from _ _ t, length_push e.got item))
 
 -- the first row gets an item
@@ -156,7 +156,7 @@ given_dealt name ss items d item e es is h =
     let w : length (items ++ item ∷ []) ≤ reach ss (items ++ item ∷ []) = omega (arith, k.0, reach_alike ss items (items ++ item ∷ []), length_push items item) in
     let cuts = cuts_stay name ss items (item ∷ []) d.out h.cuts in (
       k.0,
-      chosen (IsDealt name ss (items ++ item ∷ [])) (nat_lt (length (with_item e item).got) (need e.shape)) _ _
+      chosen (IsDealt name ss (items ++ item ∷ [])) (nat_lt (length (with_item e item).got) (need_of e.shape)) _ _
           (λ t. record {
             row = sym (k.1 ∙ if_false (λ os. os ≡ open_of name (with_item e item) ∷ open_list name es) _ (open_list name es) _ (open_from e item t) refl);
             within = w;

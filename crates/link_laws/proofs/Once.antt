@@ -4,7 +4,7 @@ use Rattle.containers.proofs.Choices.{chosen}
 use Rattle.resp_value.specs.Data.{Data}
 use Rattle.redis_error.specs.declared.redis_error.RedisError.{RedisError}
 use Rattle.redis_error.specs.declared.redis_error.RedisError.TheVariants as error
-use Rattle.driver_model.specs.Shape.{need, verdict}
+use Rattle.driver_model.specs.Shape.{need_of, verdict_of}
 use Rattle.driver_model.specs.declared.news.LinkFault.{LinkFault}
 use Rattle.link_core.specs.declared.message.Entry.{Entry}
 use Rattle.link_core.specs.declared.message.Queued.{Queued}
@@ -30,7 +30,7 @@ awaited_ids-append (x ∷ xs) ys = ap (λ ns. (if x.awaited then x.id ∷ [] els
 
 -- items
 --
-settled_by_id : (b : Bool) (e : Entry) → settled_ids (if b then record { id = e.id; verdict = verdict e.shape e.got } ∷ [] else []) ≡ (if b then e.id ∷ [] else [])
+settled_by_id : (b : Bool) (e : Entry) → settled_ids (if b then record { id = e.id; verdict = verdict_of e.shape e.got } ∷ [] else []) ≡ (if b then e.id ∷ [] else [])
 settled_by_id true e = refl
 settled_by_id false e = refl
 
@@ -45,7 +45,7 @@ item_keeps : (d : Dealing) (item : Data) (row : List Entry) → d.row ≡ row �
 item_keeps d item [] is = ap (λ row. settled_ids d.out ++ wanted row) is
 item_keeps d item (e ∷ es) is =
     let f = with_item e item in
-    chosen (λ (x : Dealing). settled_ids x.out ++ wanted x.row ≡ settled_ids d.out ++ wanted (e ∷ es)) (nat_lt (length f.got) (need e.shape)) _ _
+    chosen (λ (x : Dealing). settled_ids x.out ++ wanted x.row ≡ settled_ids d.out ++ wanted (e ∷ es)) (nat_lt (length f.got) (need_of e.shape)) _ _
     (λ t. refl)
     (λ n. full_keeps d.out f es)
 

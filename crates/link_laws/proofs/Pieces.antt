@@ -7,12 +7,12 @@ use Rattle.resp_value.specs.declared.push_kind.PushKind.{PushKind}
 use Rattle.resp_read.specs.Values.{values, left_over, is_spoiled}
 use Rattle.resp_read.specs.Items.{is_item, items_among, items}
 use Rattle.resp_read.proofs.ValueLaws.{values-append, left_over-append, is_spoiled-append, values-spoiled}
-use Rattle.driver_model.specs.Shape.{need}
+use Rattle.driver_model.specs.Shape.{need_of}
 use Rattle.link_core.specs.declared.message.Entry.{Entry}
 use Rattle.link_core.specs.declared.message.PushAt.{PushAt}
 use Rattle.link_core.specs.declared.message.Settled.{Settled}
 use Rattle.link_core.specs.Dealing.{Dealing, with_item, settled_by, dealt_to, dealt, dealt_each, value_dealt, push_behind, pushes_each}
-use Rattle.link_core.specs.Link.{LinkState, Settling, came_all, came, pushes_of, pushes_came}
+use Rattle.link_core.specs.Link.{LinkState, Settling, came_all, piece_dealt, pushes_of, pushes_came}
 use Rattle.link_laws.specs.Pieces.{dealt_by}
 
 -- items one after another
@@ -40,7 +40,7 @@ dealt_behind_to : (out : List Settled) (d : Dealing) (item : Data) (row : List E
 dealt_behind_to out d item [] = refl
 dealt_behind_to out d item (e ∷ es) =
     let f = with_item e item in
-    full_behind (nat_lt (length f.got) (need f.shape)) out d.out (settled_by f) f es
+    full_behind (nat_lt (length f.got) (need_of f.shape)) out d.out (settled_by f) f es
   where
     full_behind : (b : Bool) (out before more : List Settled) (f : Entry) (es : List Entry)
         → (if b then record { row = f ∷ es; out = out ++ before } else record { row = es; out = out ++ before ++ more }) ≡ behind out (if b then record { row = f ∷ es; out = before } else record { row = es; out = before ++ more })
@@ -85,14 +85,14 @@ two_read d bs m sound =
     ∙ (λ i. record { link = record d.link { row = (sym z i).row; rest = sym (left_over-append bs m sound) i; broken = sym (is_spoiled-append bs m sound) i }; out = d.out ++ (sym z i).out })
 
 -- read on, where the first piece didn't break the link
-pub same_sound : (d : Settling) (p q : List ℕ) → (came d p).link.broken ≡ false → came (came d p) q ≡ came d (p ++ q)
-same_sound d p q = chosen (λ (x : Settling). x.link.broken ≡ false → came x q ≡ came d (p ++ q)) d.link.broken d (came_all d (d.link.rest ++ p))
+pub same_sound : (d : Settling) (p q : List ℕ) → (piece_dealt d p).link.broken ≡ false → piece_dealt (piece_dealt d p) q ≡ piece_dealt d (p ++ q)
+same_sound d p q = chosen (λ (x : Settling). x.link.broken ≡ false → piece_dealt x q ≡ piece_dealt d (p ++ q)) d.link.broken d (came_all d (d.link.rest ++ p))
     (λ t f. absurd (not_both d.link.broken f t))
     (λ g f.
     let bs = d.link.rest ++ p in
     let a = came_all d bs in
-    let here : came a q ≡ came_all a (left_over bs ++ q) = if_false (λ (x : Settling). x ≡ came_all a (left_over bs ++ q)) a.link.broken a (came_all a (left_over bs ++ q)) f refl in
-    let there : came d (p ++ q) ≡ came_all d (d.link.rest ++ (p ++ q)) = if_false (λ (x : Settling). x ≡ came_all d (d.link.rest ++ (p ++ q))) d.link.broken d _ g refl in
+    let here : piece_dealt a q ≡ came_all a (left_over bs ++ q) = if_false (λ (x : Settling). x ≡ came_all a (left_over bs ++ q)) a.link.broken a (came_all a (left_over bs ++ q)) f refl in
+    let there : piece_dealt d (p ++ q) ≡ came_all d (d.link.rest ++ (p ++ q)) = if_false (λ (x : Settling). x ≡ came_all d (d.link.rest ++ (p ++ q))) d.link.broken d _ g refl in
     here ∙ two_read d bs q f ∙ ap (came_all d) (append_assoc d.link.rest p q) ∙ sym there)
 
 -- the same but for what was read of the value that can't begin
@@ -100,8 +100,8 @@ abbrev SameBroken : Settling → Settling → Type 0
 SameBroken x y = (y.link.broken ≡ true) × (y.link.row ≡ x.link.row) × (y.out ≡ x.out)
 
 -- and where it broke it, so does the whole, with the same settled messages
-pub same_broken : (d : Settling) (p q : List ℕ) → (came d p).link.broken ≡ true → SameBroken (came d p) (came d (p ++ q))
-same_broken d p q = chosen (λ (x : Settling). x.link.broken ≡ true → SameBroken x (came d (p ++ q))) d.link.broken d (came_all d (d.link.rest ++ p))
+pub same_broken : (d : Settling) (p q : List ℕ) → (piece_dealt d p).link.broken ≡ true → SameBroken (piece_dealt d p) (piece_dealt d (p ++ q))
+same_broken d p q = chosen (λ (x : Settling). x.link.broken ≡ true → SameBroken x (piece_dealt d (p ++ q))) d.link.broken d (came_all d (d.link.rest ++ p))
     (λ t f. if_true (SameBroken d) d.link.broken d (came_all d (d.link.rest ++ (p ++ q))) t (t, refl, refl))
     (λ g f. if_false (SameBroken (came_all d (d.link.rest ++ p))) d.link.broken d (came_all d (d.link.rest ++ (p ++ q))) g
     (subst (λ (bytes : List ℕ). SameBroken (came_all d (d.link.rest ++ p)) (came_all d bytes)) (append_assoc d.link.rest p q) (spoiled d (d.link.rest ++ p) q f)))

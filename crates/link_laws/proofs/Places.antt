@@ -2,7 +2,7 @@
 use Rattle.std.proofs.Common.{◌≡◌, ℕ, Bool, true, false, List, [], ◌∷◌, ◌++◌, if◌then◌else◌, refl, ap, ◌∙◌, append_assoc}
 use Rattle.link_core.specs.declared.message.Queued.{Queued}
 use Rattle.link_core.specs.declared.message.Started.{Started}
-use Rattle.link_core.specs.Link.{LinkState, Starting, enqueued, is_held_back, started_one, started_each, started_all}
+use Rattle.link_core.specs.Link.{LinkState, Starting, enqueued, holds_back, started_one, started_each, started_all}
 use Rattle.link_laws.specs.Places.{places, starts, line_up}
 
 places_append : (xs ys : List Queued) → places (xs ++ ys) ≡ places xs ++ places ys
@@ -27,7 +27,7 @@ one_more s q qs = ap (λ ns. ns ++ places qs) (starts_append s.out _) ∙ append
 each_in_place : (s : Starting) (queue : List Queued) → line_up (started_each s queue) ≡ starts s.out ++ places queue
 each_in_place s [] = refl
 each_in_place s (q ∷ qs) =
-    line_branch (is_held_back s.link) (record s { link = record s.link { queue = q ∷ qs } }) (started_each (started_one s q) qs) (starts s.out ++ places (q ∷ qs)) refl
+    line_branch (holds_back s.link) (record s { link = record s.link { queue = q ∷ qs } }) (started_each (started_one s q) qs) (starts s.out ++ places (q ∷ qs)) refl
     (each_in_place (started_one s q) qs ∙ one_more s q qs)
 
 -- the front of the queue starts, in order, and the others keep their places

@@ -5,7 +5,7 @@ use Rattle.containers.proofs.Choices.{by_test, le_from, not_le_from, le_test, no
 use Rattle.resp_value.specs.Data.{Data}
 use Rattle.driver_model.specs.declared.action.Owner.{Owner}
 use Rattle.driver_model.specs.declared.outcome.Shape.{Shape}
-use Rattle.driver_model.specs.Shape.{need}
+use Rattle.driver_model.specs.Shape.{need_of}
 use Rattle.link_core.specs.declared.message.Entry.{Entry}
 use Rattle.legal_trace.specs.Ledger.{Start, need_in, reach, full_count}
 use Rattle.link_laws.specs.Settles.{StandsAs}
@@ -17,13 +17,13 @@ pub reach_next : (ss : List Start) (k : ℕ) (items : List Data) (s : Start) →
 reach_next [] k items s e = cc
 reach_next (x ∷ ss) zero items s e =
     let same : x ≡ s = cc in
-    subst (λ (y : Start). need x.shape + 0 ≡ 0 + need y.shape) same (omega arith)
-reach_next (x ∷ ss) (suc k) items s e = omega (arith, reach_next ss k (drop (need x.shape) items) s e)
+    subst (λ (y : Start). need_of x.shape + 0 ≡ 0 + need_of y.shape) same (omega arith)
+reach_next (x ∷ ss) (suc k) items s e = omega (arith, reach_next ss k (drop (need_of x.shape) items) s e)
 
 -- more starts reach further
 pub reach-push : (ss : List Start) (items : List Data) (s : Start) → reach ss items ≤ reach (ss ++ s ∷ []) items
 reach-push [] items s = omega arith
-reach-push (x ∷ ss) items s = omega (arith, reach-push ss (drop (need x.shape) items) s)
+reach-push (x ∷ ss) items s = omega (arith, reach-push ss (drop (need_of x.shape) items) s)
 
 -- a message that takes more items, and what it has got
 pub record Open : Type 0 where
@@ -68,36 +68,36 @@ untouched-append (x ∷ ss) s = ap (λ os. untouched x ∷ os) (untouched-append
 
 -- one more start is one more row
 pub open_rows-start : (ss : List Start) (items : List Data) (s : Start) → length items ≤ reach ss items → open_rows (ss ++ s ∷ []) items ≡ open_rows ss items ++ untouched s ∷ []
-open_rows-start [] [] s within = rw (not_le_test (need s.shape) 0 (takes_one s.shape)) refl
+open_rows-start [] [] s within = rw (not_le_test (need_of s.shape) 0 (takes_one s.shape)) refl
 open_rows-start [] (d ∷ items) s within = absurd (omega arith)
 open_rows-start (x ∷ ss) items s within =
-    by_test (nat_le (need x.shape) (length items)) _
-    (λ t. let l : length (drop (need x.shape) items) ≤ reach ss (drop (need x.shape) items) = omega (arith, length-drop (need x.shape) items) in rw t (open_rows-start ss (drop (need x.shape) items) s l))
+    by_test (nat_le (need_of x.shape) (length items)) _
+    (λ t. let l : length (drop (need_of x.shape) items) ≤ reach ss (drop (need_of x.shape) items) = omega (arith, length-drop (need_of x.shape) items) in rw t (open_rows-start ss (drop (need_of x.shape) items) s l))
     (λ f. rw f (ap (λ os. record { owner = x.owner; shape = x.shape; got = items } ∷ os) (untouched-append ss s)))
 
 -- where no row is open, no more items are wanted
 pub none_open : (ss : List Start) (items : List Data) → open_rows ss items ≡ [] → reach ss items ≤ length items
 none_open [] items e = omega arith
 none_open (s ∷ ss) items e =
-    by_test (nat_le (need s.shape) (length items)) _
-    (λ t. let h : reach ss (drop (need s.shape) items) ≤ length (drop (need s.shape) items) = none_open ss (drop (need s.shape) items) (rw t at e) in omega (arith, le_from _ _ t, length-drop (need s.shape) items))
+    by_test (nat_le (need_of s.shape) (length items)) _
+    (λ t. let h : reach ss (drop (need_of s.shape) items) ≤ length (drop (need_of s.shape) items) = none_open ss (drop (need_of s.shape) items) (rw t at e) in omega (arith, le_from _ _ t, length-drop (need_of s.shape) items))
     (λ f. let g : record { owner = s.owner; shape = s.shape; got = items } ∷ untouched_each ss ≡ [] = rw f at e in cc)
 
 -- without items all are untouched
 pub open_rows-none : (ss : List Start) → open_rows ss [] ≡ untouched_each ss
 open_rows-none [] = refl
-open_rows-none (s ∷ ss) = rw (not_le_test (need s.shape) 0 (takes_one s.shape)) refl
+open_rows-none (s ∷ ss) = rw (not_le_test (need_of s.shape) 0 (takes_one s.shape)) refl
 
 -- rows whose first got an item more, which may fill it
 abbrev pub after_item : Open → Data → List Open → List Open
-after_item o item rows = if nat_le (need o.shape) (length o.got + 1) then rows else record o { got = o.got ++ item ∷ [] } ∷ rows
+after_item o item rows = if nat_le (need_of o.shape) (length o.got + 1) then rows else record o { got = o.got ++ item ∷ [] } ∷ rows
 
 -- an item goes to the first row
 pub open_rows-item : (ss : List Start) (items : List Data) (item : Data) (o : Open) (rows : List Open) → open_rows ss items ≡ o ∷ rows
     → (length items < reach ss items) × (open_rows ss (items ++ item ∷ []) ≡ after_item o item rows)
 open_rows-item [] items item o rows e = cc
 open_rows-item (s ∷ ss) items item o rows e =
-    let n = need s.shape in
+    let n = need_of s.shape in
     by_test (nat_le n (length items)) _
     (λ t.
     let l : n ≤ length items = le_from _ _ t in
@@ -138,7 +138,7 @@ untouched_stand (s ∷ ss) = (record { start = s; stands = refl; owned = refl; s
 pub rows_stand : (ss : List Start) (items : List Data) → StandFrom ss (full_count ss items) (open_rows ss items)
 rows_stand [] items = tt
 rows_stand (s ∷ ss) items =
-    let n = need s.shape in
+    let n = need_of s.shape in
     by_test (nat_le n (length items)) _
     (λ t. rw t (stand_past s ss (full_count ss (drop n items)) (open_rows ss (drop n items)) (rows_stand ss (drop n items))))
     (λ f. rw f (record { start = s; stands = refl; owned = refl; shaped = refl }, stand_past s ss 0 (untouched_each ss) (untouched_stand ss)))
@@ -147,12 +147,12 @@ rows_stand (s ∷ ss) items =
 pub unfilled : (ss : List Start) (items : List Data) (k : ℕ) (s : Start) → slice_get ss k ≡ Some s → full_count ss items ≤ k → length items < reach (take (suc k) ss) items
 unfilled [] items k s e l = cc
 unfilled (x ∷ ss) items zero s e l =
-    let n = need x.shape in
+    let n = need_of x.shape in
     by_test (nat_le n (length items)) _
     (λ t. absurd (let no : suc (full_count ss (drop n items)) ≤ 0 = rw t at l in omega arith))
     (λ f. omega (arith, not_le_from _ _ f))
 unfilled (x ∷ ss) items (suc k) s e l =
-    let n = need x.shape in
+    let n = need_of x.shape in
     by_test (nat_le n (length items)) _
     (λ t.
     let more : suc (full_count ss (drop n items)) ≤ suc k = rw t at l in
@@ -163,12 +163,12 @@ unfilled (x ∷ ss) items (suc k) s e l =
 pub filled : (ss : List Start) (items : List Data) (k : ℕ) → k < full_count ss items → reach (take (suc k) ss) items ≤ length items
 filled [] items k l = absurd (omega arith)
 filled (x ∷ ss) items zero l =
-    let n = need x.shape in
+    let n = need_of x.shape in
     by_test (nat_le n (length items)) _
     (λ t. omega (arith, le_from _ _ t))
     (λ f. absurd (let no : 0 < 0 = rw f at l in omega arith))
 filled (x ∷ ss) items (suc k) l =
-    let n = need x.shape in
+    let n = need_of x.shape in
     by_test (nat_le n (length items)) _
     (λ t.
     let fewer : suc k < suc (full_count ss (drop n items)) = rw t at l in
@@ -184,7 +184,7 @@ untouched_length (s ∷ ss) = ap suc (untouched_length ss)
 pub rows_length : (ss : List Start) (items : List Data) → full_count ss items + length (open_rows ss items) ≡ length ss
 rows_length [] items = refl
 rows_length (s ∷ ss) items =
-    let n = need s.shape in
+    let n = need_of s.shape in
     by_test (nat_le n (length items)) _
     (λ t. rw t (omega (arith, rows_length ss (drop n items))))
     (λ f. rw f (omega (arith, untouched_length ss)))

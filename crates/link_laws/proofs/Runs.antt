@@ -8,13 +8,13 @@ use Rattle.resp_read.proofs.ValueLaws.{values-empty}
 use Rattle.driver_model.specs.declared.action.Owner.{Owner}
 use Rattle.driver_model.specs.declared.news.LinkFault.{LinkFault}
 use Rattle.driver_model.specs.declared.news.LinkFault.TheVariants as fault
-use Rattle.driver_model.specs.News.{News, silence, connected, took, came as came_news, failed, shut}
+use Rattle.driver_model.specs.News.{News, silence, connected, took, came, failed, shut}
 use Rattle.link_core.specs.declared.message.Queued.{Queued}
 use Rattle.link_core.specs.declared.message.Settled.{Settled}
 use Rattle.link_core.specs.Ends.{row_closed, row_hit, queue_closed}
 use Rattle.link_core.specs.Link.{Settling, fresh, is_full, enqueued, started_all, offered_of, wrote_of, cancelled, emptied, closed_all, faulted}
 use Rattle.link_core.specs.Outbox.{can_offer}
-use Rattle.link_core.specs.Waiting.{awaits, without}
+use Rattle.link_core.specs.Waiting.{is_wanted, without}
 use Rattle.legal_trace.specs.Ledger.{Ledger, reach, Ending, by_shutdown, by_fault, Line, asks, hears, begins, offers, ends, blank_ledger, ending, ending_up, ended, noted, noted_each, ledger, AllNoted, LinkLegal}
 use Rattle.legal_trace.proofs.Ledgers.{noted_append, may_append}
 use Rattle.link_laws.specs.Settles.{IsOwed, IsOwedUnstarted}
@@ -22,7 +22,7 @@ use Rattle.link_laws.specs.Starts.{start_from, starting, begins_each}
 use Rattle.link_laws.specs.Runs.{Operation, place, begin, offer, take_up, read, withdraw, fail, shut_down, pass, Run, fresh_run, heard, settling, over_with, placed, begun_all, offered, taken_up, has_come, or_parse, has_read, acted, performed, performed_each, run, AreOwed}
 use Rattle.link_laws.proofs.Dealt.{AreCuts, cuts_stay, cuts_kept, all_append}
 use Rattle.link_laws.proofs.TiedLink.{TiedLink, IsPacked, all_push, fresh_tied, asked_tied, connected_tied, told_tied, enqueued_tied, cancelled_tied, started_tied, starting_front, starts_stand, offered_tied, offer_stands, taken_within, wrote_tied, deals, has_read as link_read, has_heard, reads_on, heard_is, dealt_alike, read_tied}
-use Rattle.link_core.specs.Row.{lacks}
+use Rattle.link_core.specs.Row.{lack_of_row}
 use Rattle.link_laws.proofs.Settles.{lacks_are, cuts_owed, row_hit_owed, row_closed_owed, queue_owed}
 
 -- what was told so far
@@ -124,7 +124,7 @@ placed_live name l r q goes_on h =
 -- what holds of a whole queue holds without one of its messages
 all_without : (P : Queued → Type 0) (queue : List Queued) (id : ℕ) → AllByRecursion P queue → AllByRecursion P (without queue id)
 all_without P [] id all = tt
-all_without P (q ∷ qs) id all = chosen (AllByRecursion P) (awaits id q) qs (q ∷ without qs id) (λ t. all.1) (λ f. (all.0, all_without P qs id all.1))
+all_without P (q ∷ qs) id all = chosen (AllByRecursion P) (is_wanted id q) qs (q ∷ without qs id) (λ t. all.1) (λ f. (all.0, all_without P qs id all.1))
 
 -- the caller of a message goes
 withdrawn_live : (name : ℕ → Owner) (l : Ledger) (r : Run) (id : ℕ) → IsLive name l r → IsLive name l (record r { link = cancelled r.link id })
@@ -272,14 +272,14 @@ shut_sound name l r h =
 --
 -- a run that has read
 abbrev after_read : Run → List ℕ → Run
-after_read r piece = record (heard r (came_news piece)) { link = link_read r.link piece; settled = r.settled ++ (deals r.link piece).out }
+after_read r piece = record (heard r (came piece)) { link = link_read r.link piece; settled = r.settled ++ (deals r.link piece).out }
 
 -- what a run has read and settled
 read_ending : (name : ℕ → Owner) (l : Ledger) (r : Run) (piece : List ℕ) → IsLive name l r → IsEnding name (has_heard l piece) (after_read r piece)
 read_ending name l r piece h =
     let d = dealt_alike name l r.link piece h.lives.lives h.tied in
     record {
-      told = subst (λ (x : Ledger). IsTold x (r.lines ++ hears (came_news piece) ∷ [])) (heard_is l piece h.lives.up) (told_more l r.lines (hears (came_news piece) ∷ []) h.told (tt, tt));
+      told = subst (λ (x : Ledger). IsTold x (r.lines ++ hears (came piece) ∷ [])) (heard_is l piece h.lives.up) (told_more l r.lines (hears (came piece) ∷ []) h.told (tt, tt));
       lives = h.lives.lives;
       tied = read_tied name l r.link piece h.lives.lives h.tied;
       cuts = all_append _ r.settled (deals r.link piece).out (cuts_stay name l.starts l.dealt _ r.settled h.cuts) d.cuts;
@@ -315,7 +315,7 @@ parse_sound name l r piece goes_on h =
 read_sound : (name : ℕ → Owner) (l : Ledger) (r : Run) (piece : List ℕ) → r.over ≡ false → IsLive name l r → Sound name (has_read r piece)
 read_sound name l r piece goes_on h =
     let sound : r.link.broken ≡ false = h.tied.broken ∙ ap is_spoiled (sym h.tied.rest) ∙ h.lives.unspoiled in
-    subst (λ (x : Settling). Sound name (or_parse (has_come (heard r (came_news piece)) x))) (sym (reads_on r.link r.settled piece sound)) (parse_sound name l r piece goes_on h)
+    subst (λ (x : Settling). Sound name (or_parse (has_come (heard r (came piece)) x))) (sym (reads_on r.link r.settled piece sound)) (parse_sound name l r piece goes_on h)
 
 -- all operations
 --
@@ -373,11 +373,11 @@ pub run_owed : (name : ℕ → Owner) (size boundary : ℕ) (os : List Operation
 run_owed name size boundary os = sound_owed name (run name size boundary os) (run_sound name size boundary os)
 
 -- what the started messages of a run lack
-sound_lacks : (name : ℕ → Owner) (r : Run) → Sound name r → r.over ≡ false → lacks r.link.row ≡ reach (ledger r.lines).starts (ledger r.lines).dealt - length (ledger r.lines).dealt
-sound_lacks name r (inl h) g = subst (λ (l : Ledger). lacks r.link.row ≡ reach l.starts l.dealt - length l.dealt) (sym h.1.1.told.told) (lacks_are name h.1.0 r.link h.1.1.lives.lives h.1.1.tied)
+sound_lacks : (name : ℕ → Owner) (r : Run) → Sound name r → r.over ≡ false → lack_of_row r.link.row ≡ reach (ledger r.lines).starts (ledger r.lines).dealt - length (ledger r.lines).dealt
+sound_lacks name r (inl h) g = subst (λ (l : Ledger). lack_of_row r.link.row ≡ reach l.starts l.dealt - length l.dealt) (sym h.1.1.told.told) (lacks_are name h.1.0 r.link h.1.1.lives.lives h.1.1.tied)
 sound_lacks name r (inr h) g = absurd (not_both r.over g h.0)
 
 -- its started messages lack what the starts take and were not dealt
 pub run_lacks : (name : ℕ → Owner) (size boundary : ℕ) (os : List Operation) → (run name size boundary os).over ≡ false
-    → lacks (run name size boundary os).link.row ≡ reach (ledger (run name size boundary os).lines).starts (ledger (run name size boundary os).lines).dealt - length (ledger (run name size boundary os).lines).dealt
+    → lack_of_row (run name size boundary os).link.row ≡ reach (ledger (run name size boundary os).lines).starts (ledger (run name size boundary os).lines).dealt - length (ledger (run name size boundary os).lines).dealt
 run_lacks name size boundary os = sound_lacks name (run name size boundary os) (run_sound name size boundary os)

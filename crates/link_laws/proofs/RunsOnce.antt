@@ -6,13 +6,13 @@ use Rattle.resp_read.specs.Items.{items}
 use Rattle.driver_model.specs.declared.action.Owner.{Owner}
 use Rattle.driver_model.specs.declared.news.LinkFault.{LinkFault}
 use Rattle.driver_model.specs.declared.news.LinkFault.TheVariants as fault
-use Rattle.driver_model.specs.News.{came as came_news, failed, shut, took}
+use Rattle.driver_model.specs.News.{came, failed, shut, took}
 use Rattle.link_core.specs.declared.message.Entry.{Entry}
 use Rattle.link_core.specs.declared.message.Queued.{Queued}
 use Rattle.link_core.specs.declared.message.Settled.{Settled}
 use Rattle.link_core.specs.Dealing.{Dealing, dealt_each}
 use Rattle.link_core.specs.Ends.{row_closed, row_hit, queue_closed}
-use Rattle.link_core.specs.Link.{Starting, Settling, is_full, enqueued, entry_of, is_held_back, started_one, started_each, offered_of, wrote_of, came, came_all, emptied, closed_all, faulted}
+use Rattle.link_core.specs.Link.{Starting, Settling, is_full, enqueued, entry_of, holds_back, started_one, started_each, offered_of, wrote_of, piece_dealt, came_all, emptied, closed_all, faulted}
 use Rattle.link_core.specs.Outbox.{can_offer}
 use Rattle.legal_trace.specs.Ledger.{offers}
 use Rattle.link_laws.specs.Settles.{settled_ids, wanted, awaited_ids, awaited_of}
@@ -31,7 +31,7 @@ one_keeps row q qs =
 pub starts_keep : (s : Starting) (qs : List Queued) → awaited_of (started_each s qs).link ≡ wanted s.link.row ++ awaited_ids qs
 starts_keep s [] = refl
 starts_keep s (q ∷ qs) =
-    chosen (λ (x : Starting). awaited_of x.link ≡ wanted s.link.row ++ awaited_ids (q ∷ qs)) (is_held_back s.link) _ _
+    chosen (λ (x : Starting). awaited_of x.link ≡ wanted s.link.row ++ awaited_ids (q ∷ qs)) (holds_back s.link) _ _
     (λ t. refl)
     (λ f. starts_keep (started_one s q) qs ∙ one_keeps s.link.row q qs)
 
@@ -45,7 +45,7 @@ dealt_keeps d x rest e =
     ∙ ap (λ ns. settled_ids d.out ++ ns) (sym (append_assoc (settled_ids x.out) (wanted x.row) rest) ∙ ap (λ ns. ns ++ rest) e)
 
 -- those that bytes settle leave it at its front, in order
-pub bytes_keep : (d : Settling) (piece : List ℕ) → settled_ids (came d piece).out ++ awaited_of (came d piece).link ≡ settled_ids d.out ++ awaited_of d.link
+pub bytes_keep : (d : Settling) (piece : List ℕ) → settled_ids (piece_dealt d piece).out ++ awaited_of (piece_dealt d piece).link ≡ settled_ids d.out ++ awaited_of d.link
 bytes_keep d piece =
     chosen (λ (x : Settling). settled_ids x.out ++ awaited_of x.link ≡ settled_ids d.out ++ awaited_of d.link) d.link.broken d (came_all d (d.link.rest ++ piece))
     (λ t. refl)
@@ -89,7 +89,7 @@ acted_keeps name r (place q) g n = if_false (λ ns. answered_or_wanted (placed r
 acted_keeps name r begin g n = ap (λ ns. settled_ids r.settled ++ ns) (starts_keep (record { link = r.link; out = [] }) r.link.queue) ∙ sym (append-nil (answered_or_wanted r))
 acted_keeps name r offer g n = chosen (λ (x : Run). answered_or_wanted x ≡ answered_or_wanted r ++ []) (can_offer r.link.outbox) _ _ (λ t. sym (append-nil _)) (λ f. sym (append-nil _))
 acted_keeps name r (take_up k) g n = chosen (λ (x : Run). answered_or_wanted x ≡ answered_or_wanted r ++ []) (nat_le k r.link.outbox.offered) _ _ (λ t. sym (append-nil _)) (λ f. sym (append-nil _))
-acted_keeps name r (read piece) g n = parse_keeps (has_come (heard r (came_news piece)) (came (settling r) piece)) ∙ bytes_keep (settling r) piece ∙ sym (append-nil (answered_or_wanted r))
+acted_keeps name r (read piece) g n = parse_keeps (has_come (heard r (came piece)) (piece_dealt (settling r) piece)) ∙ bytes_keep (settling r) piece ∙ sym (append-nil (answered_or_wanted r))
 acted_keeps name r (withdraw id) g n = cc
 acted_keeps name r (fail f) g n = append-nil _ ∙ faulted_once (heard r (failed f)) f ∙ sym (append-nil (answered_or_wanted r))
 acted_keeps name r shut_down g n = append-nil _ ∙ closed_once (heard r shut) ∙ sym (append-nil (answered_or_wanted r))
@@ -122,7 +122,7 @@ acted_once name r (place q) g = chosen (SettlesAll r) (is_full r.link || (length
 acted_once name r begin g = λ o. absurd (not_both r.over g o)
 acted_once name r offer g = chosen (SettlesAll r) (can_offer r.link.outbox) (record r { link = offered_of r.link; lines = r.lines ++ offers r.link.outbox.unwritten ∷ [] }) r (λ t o. absurd (not_both r.over g o)) (λ f o. absurd (not_both r.over g o))
 acted_once name r (take_up k) g = chosen (SettlesAll r) (nat_le k r.link.outbox.offered) (record (heard r (took k)) { link = wrote_of r.link k }) r (λ t o. absurd (not_both r.over g o)) (λ f o. absurd (not_both r.over g o))
-acted_once name r (read piece) g = parse_once r (has_come (heard r (came_news piece)) (came (settling r) piece)) g g (bytes_keep (settling r) piece)
+acted_once name r (read piece) g = parse_once r (has_come (heard r (came piece)) (piece_dealt (settling r) piece)) g g (bytes_keep (settling r) piece)
 acted_once name r (withdraw id) g = λ o. absurd (not_both r.over g o)
 acted_once name r (fail f) g = λ o. faulted_once (heard r (failed f)) f
 acted_once name r shut_down g = λ o. closed_once (heard r shut)

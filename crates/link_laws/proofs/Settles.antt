@@ -11,14 +11,14 @@ use Rattle.driver_model.specs.declared.news.LinkFault.TheVariants as fault
 use Rattle.driver_model.specs.declared.outcome.Outcome.TheVariants as outcome
 use Rattle.driver_model.specs.declared.outcome.Shape.{Shape}
 use Rattle.driver_model.specs.declared.outcome.Shape.TheVariants.{Single, Pipeline}
-use Rattle.driver_model.specs.Shape.{need, verdict, outcome_of}
-use Rattle.driver_model.specs.News.{came as came_news}
+use Rattle.driver_model.specs.Shape.{need_of, verdict_of, outcome_of}
+use Rattle.driver_model.specs.News.{came}
 use Rattle.link_core.specs.declared.message.Entry.{Entry}
 use Rattle.link_core.specs.declared.message.Queued.{Queued}
 use Rattle.link_core.specs.declared.message.Settled.{Settled}
 use Rattle.link_core.specs.Ends.{failed_by, error_of, hit_by, row_closed, row_hit, queue_closed}
-use Rattle.link_core.specs.Link.{LinkState, Settling, came}
-use Rattle.link_core.specs.Row.{lack, lacks}
+use Rattle.link_core.specs.Link.{LinkState, Settling, piece_dealt}
+use Rattle.link_core.specs.Row.{lack_of, lack_of_row}
 use Rattle.legal_trace.specs.Ledger.{Start, hears, noted, End, Ending, by_shutdown, by_fault, Ledger, reach, ending, ending_or_shutdown, full_count, ended}
 use Rattle.legal_trace.specs.Owed.{cut, is_full, fault_error, oldest_error, cut_off, owed_to_message}
 use Rattle.link_laws.specs.Settles.{StandsAs, IsOwed, IsOwedUnstarted}
@@ -36,12 +36,12 @@ is_full_from l k far = le_test _ _ (subst (λ (n : ℕ). reach (take n l.starts)
 pub cut_owed : (name : ℕ → Owner) (l : Ledger) (s : Settled) → IsCutOf name l.starts l.dealt s → IsOwed name l s
 cut_owed name l s h =
     let k = h.cut.number in
-    let owes : owed_to_message l k h.of_shape ≡ Some (outcome_of (verdict h.of_shape (cut l k h.of_shape))) = taken_if (is_full l k) _ _ (is_full_from l k h.cut.full) in
+    let owes : owed_to_message l k h.of_shape ≡ Some (outcome_of (verdict_of h.of_shape (cut l k h.of_shape))) = taken_if (is_full l k) _ _ (is_full_from l k h.cut.full) in
     record {
       number = k;
       of_shape = h.of_shape;
       place = h.cut.place;
-      owes = owes ∙ ap (λ (items : List Data). Some (outcome_of (verdict h.of_shape items))) (sym h.cut.cut_is) ∙ ap (λ v. Some (outcome_of v)) (sym h.verdict_is);
+      owes = owes ∙ ap (λ (items : List Data). Some (outcome_of (verdict_of h.of_shape items))) (sym h.cut.cut_is) ∙ ap (λ v. Some (outcome_of v)) (sym h.verdict_is);
     }
 
 -- and so is each of them
@@ -55,9 +55,9 @@ read_owed name l s piece lives h = cuts_owed name (has_heard l piece) (deals s p
 
 -- what a call with bytes settles is owed, where the link is up, has not ended, and is not broken
 pub came_owed : (name : ℕ → Owner) (l : Ledger) (s : LinkState) (piece : List ℕ) → l.up ≡ true → l.end ≡ None → s.broken ≡ false → TiedLink name l s
-    → AllByRecursion (IsOwed name (noted l (hears (came_news piece)))) (came (record { link = s; out = [] }) piece).out
+    → AllByRecursion (IsOwed name (noted l (hears (came piece)))) (piece_dealt (record { link = s; out = [] }) piece).out
 came_owed name l s piece up lives sound h =
-    subst (λ (x : Settling). AllByRecursion (IsOwed name (noted l (hears (came_news piece)))) x.out) (sym (reads_on s [] piece sound))
+    subst (λ (x : Settling). AllByRecursion (IsOwed name (noted l (hears (came piece)))) x.out) (sym (reads_on s [] piece sound))
     (subst (λ (x : Ledger). AllByRecursion (IsOwed name x) (deals s piece).out) (sym (heard_is l piece up)) (read_owed name l s piece lives h))
 
 -- the end
@@ -152,27 +152,27 @@ queue_owed l turn (q ∷ qs) =
 --
 abbrev open_lacks : List Open → ℕ
 open_lacks [] = 0
-open_lacks (o ∷ os) = (need o.shape - length o.got) + open_lacks os
+open_lacks (o ∷ os) = (need_of o.shape - length o.got) + open_lacks os
 
 -- what a row lacks, by what each has got
-lacks_open : (name : ℕ → Owner) (row : List Entry) → lacks row ≡ open_lacks (open_list name row)
+lacks_open : (name : ℕ → Owner) (row : List Entry) → lack_of_row row ≡ open_lacks (open_list name row)
 lacks_open name [] = refl
-lacks_open name (e ∷ es) = ap (λ n. lack e + n) (lacks_open name es)
+lacks_open name (e ∷ es) = ap (λ n. lack_of e + n) (lacks_open name es)
 
 -- what is untouched lacks all that it takes
 untouched_lack : (ss : List Start) (items : List Data) → open_lacks (untouched_each ss) ≡ reach ss items
 untouched_lack [] items = refl
-untouched_lack (s ∷ ss) items = omega (arith, untouched_lack ss (drop (need s.shape) items))
+untouched_lack (s ∷ ss) items = omega (arith, untouched_lack ss (drop (need_of s.shape) items))
 
 -- what the rows of starts lack
 rows_lack : (ss : List Start) (items : List Data) → open_lacks (open_rows ss items) ≡ reach ss items - length items
 rows_lack [] items = omega arith
 rows_lack (s ∷ ss) items =
-    let n = need s.shape in
+    let n = need_of s.shape in
     chosen (λ (os : List Open). open_lacks os ≡ (n + reach ss (drop n items)) - length items) (nat_le n (length items)) _ _
     (λ t. omega (arith, le_from _ _ t, rows_lack ss (drop n items), length-drop n items))
     (λ f. omega (arith, not_le_from _ _ f, untouched_lack ss (drop n items)))
 
 -- as many as the starts take and were not dealt
-pub lacks_are : (name : ℕ → Owner) (l : Ledger) (s : LinkState) → l.end ≡ None → TiedLink name l s → lacks s.row ≡ reach l.starts l.dealt - length l.dealt
+pub lacks_are : (name : ℕ → Owner) (l : Ledger) (s : LinkState) → l.end ≡ None → TiedLink name l s → lack_of_row s.row ≡ reach l.starts l.dealt - length l.dealt
 lacks_are name l s lives h = lacks_open name s.row ∙ ap open_lacks (h.row lives) ∙ rows_lack l.starts l.dealt

@@ -6,7 +6,7 @@ use Rattle.driver_model.specs.declared.action.Owner.{Owner}
 use Rattle.link_core.specs.declared.message.Entry.{Entry}
 use Rattle.link_core.specs.declared.message.Queued.{Queued}
 use Rattle.link_core.specs.declared.message.Started.{Started}
-use Rattle.link_core.specs.Link.{LinkState, Starting, start_of, is_held_back, started_one, started_each}
+use Rattle.link_core.specs.Link.{LinkState, Starting, start_of, holds_back, started_one, started_each}
 use Rattle.legal_trace.specs.Ledger.{Start, Ledger, full_count}
 use Rattle.legal_trace.specs.Owed.{is_full, cut_off_if, owed_to_message}
 use Rattle.link_laws.specs.Settles.{StandsAs}
@@ -94,6 +94,6 @@ pub started_out : (s : LinkState) (out : List Started) (qs : List Queued) → (s
 started_out s out [] = sym (append-nil out)
 started_out s out (q ∷ qs) =
     let next = started_one (record { link = s; out = out }) q in
-    chosen_both (λ (x : Starting) (y : List Queued). x.out ≡ out ++ starts_from s.started y) (is_held_back s) (record { link = record s { queue = q ∷ qs }; out = out }) (started_each next qs) [] (q ∷ starting (begun s q) qs)
+    chosen_both (λ (x : Starting) (y : List Queued). x.out ≡ out ++ starts_from s.started y) (holds_back s) (record { link = record s { queue = q ∷ qs }; out = out }) (started_each next qs) [] (q ∷ starting (begun s q) qs)
     (λ t. sym (append-nil out))
     (λ f. started_out next.link next.out qs ∙ append_assoc out (start_of s.started q ∷ []) (starts_from (s.started + 1) (starting (begun s q) qs)))

@@ -9,13 +9,13 @@ use Rattle.resp_read.specs.Values.{left_over, is_spoiled}
 use Rattle.resp_read.specs.Items.{items}
 use Rattle.resp_read.proofs.ValueLaws.{values-empty, left_over-settled}
 use Rattle.driver_model.specs.declared.action.Owner.{Owner}
-use Rattle.driver_model.specs.News.{News, silence, connected, took, came as came_news, failed, shut}
+use Rattle.driver_model.specs.News.{News, silence, connected, took, came, failed, shut}
 use Rattle.link_core.specs.declared.message.Entry.{Entry}
 use Rattle.link_core.specs.declared.message.Queued.{Queued}
 use Rattle.link_core.specs.declared.message.Settled.{Settled}
 use Rattle.link_core.specs.declared.message.Started.{Started}
 use Rattle.link_core.specs.Dealing.{Dealing, dealt_each}
-use Rattle.link_core.specs.Link.{LinkState, Starting, Settling, fresh, entry_of, enqueued, is_held_back, started_one, started_each, offered_of, wrote_of, cancelled, read_on, came, emptied}
+use Rattle.link_core.specs.Link.{LinkState, Starting, Settling, fresh, entry_of, enqueued, holds_back, started_one, started_each, offered_of, wrote_of, cancelled, read_on, piece_dealt, emptied}
 use Rattle.link_core.specs.Outbox.{can_offer}
 use Rattle.link_core.specs.Row.{silent, silenced}
 use Rattle.link_core.specs.Waiting.{without}
@@ -103,7 +103,7 @@ pub unheard_tied : (name : ℕ → Owner) (l : Ledger) (s : LinkState) (news : N
 unheard_tied name l s silence f h = silent_tied name l s h
 unheard_tied name l s connected f h = connected_tied name l s h
 unheard_tied name l s (took count) f h = if_false (λ (x : Ledger). TiedLink name (record x { heard = took count }) s) l.up _ l f (told_tied name l s l.asked l.up (took count) h)
-unheard_tied name l s (came_news piece) f h = if_false (λ (x : Ledger). TiedLink name (record x { heard = came_news piece }) s) l.up _ l f (told_tied name l s l.asked l.up (came_news piece) h)
+unheard_tied name l s (came piece) f h = if_false (λ (x : Ledger). TiedLink name (record x { heard = came piece }) s) l.up _ l f (told_tied name l s l.asked l.up (came piece) h)
 unheard_tied name l s (failed why) f h = told_tied name l s l.asked l.up (failed why) h
 unheard_tied name l s shut f h = told_tied name l s l.asked l.up shut h
 
@@ -177,7 +177,7 @@ pub started_tied : (name : ℕ → Owner) (l : Ledger) (s : LinkState) (out : Li
 started_tied name l s out [] all h = queue_tied name l s [] h
 started_tied name l s out (q ∷ qs) all h =
     let next = started_one (record { link = s; out = out }) q in
-    chosen_both (λ (x : List Queued) (y : Starting). TiedLink name (noted_each l (begins_each name x)) y.link) (is_held_back s) [] (q ∷ starting (begun s q) qs)
+    chosen_both (λ (x : List Queued) (y : Starting). TiedLink name (noted_each l (begins_each name x)) y.link) (holds_back s) [] (q ∷ starting (begun s q) qs)
     (record { link = record s { queue = q ∷ qs }; out = out }) (started_each next qs)
     (λ t. queue_tied name l s (q ∷ qs) h)
     (λ f. started_tied name (noted l (begins (start_from name q))) next.link next.out qs all.1 (begun_tied name l s q all.0 h))
@@ -187,7 +187,7 @@ pub starting_front : (s : LinkState) (out : List Started) (qs : List Queued) →
 starting_front s out [] = refl
 starting_front s out (q ∷ qs) =
     let next = started_one (record { link = s; out = out }) q in
-    chosen_both (λ (x : List Queued) (y : Starting). x ++ y.link.queue ≡ q ∷ qs) (is_held_back s) [] (q ∷ starting (begun s q) qs)
+    chosen_both (λ (x : List Queued) (y : Starting). x ++ y.link.queue ≡ q ∷ qs) (holds_back s) [] (q ∷ starting (begun s q) qs)
     (record { link = record s { queue = q ∷ qs }; out = out }) (started_each next qs)
     (λ t. refl)
     (λ f. ap (λ (x : List Queued). q ∷ x) (starting_front next.link next.out qs))
@@ -196,7 +196,7 @@ starting_front s out (q ∷ qs) =
 pub starts_stand : (name : ℕ → Owner) (l : Ledger) (s : LinkState) (qs : List Queued) → l.up ≡ true → AllByRecursion IsPacked qs → AllNoted l (begins_each name (starting s qs))
 starts_stand name l s [] up all = tt
 starts_stand name l s (q ∷ qs) up all =
-    chosen (λ (x : List Queued). AllNoted l (begins_each name x)) (is_held_back s) [] (q ∷ starting (begun s q) qs)
+    chosen (λ (x : List Queued). AllNoted l (begins_each name x)) (holds_back s) [] (q ∷ starting (begun s q) qs)
     (λ t. tt)
     (λ f. ((up, all.0), starts_stand name (noted l (begins (start_from name q))) (begun s q) qs up all.1))
 
@@ -293,15 +293,15 @@ has_read s piece = record (read_on s (s.rest ++ piece)) { row = (deals s piece).
 
 -- the ledger of a link that is up
 abbrev pub has_heard : Ledger → List ℕ → Ledger
-has_heard l piece = record (bytes_came l piece) { heard = came_news piece }
+has_heard l piece = record (bytes_came l piece) { heard = came piece }
 
 -- a link that isn't broken reads
-pub reads_on : (s : LinkState) (out : List Settled) (piece : List ℕ) → s.broken ≡ false → came (record { link = s; out = out }) piece ≡ record { link = has_read s piece; out = out ++ (deals s piece).out }
+pub reads_on : (s : LinkState) (out : List Settled) (piece : List ℕ) → s.broken ≡ false → piece_dealt (record { link = s; out = out }) piece ≡ record { link = has_read s piece; out = out ++ (deals s piece).out }
 reads_on s out piece f = if_false (λ (x : Settling). x ≡ record { link = has_read s piece; out = out ++ (deals s piece).out }) s.broken _ _ f refl
 
 -- and its ledger takes note where it is up
-pub heard_is : (l : Ledger) (piece : List ℕ) → l.up ≡ true → noted l (hears (came_news piece)) ≡ has_heard l piece
-heard_is l piece up = if_true (λ (x : Ledger). record x { heard = came_news piece } ≡ has_heard l piece) l.up _ l up refl
+pub heard_is : (l : Ledger) (piece : List ℕ) → l.up ≡ true → noted l (hears (came piece)) ≡ has_heard l piece
+heard_is l piece up = if_true (λ (x : Ledger). record x { heard = came piece } ≡ has_heard l piece) l.up _ l up refl
 
 -- each item is dealt alike
 pub dealt_alike : (name : ℕ → Owner) (l : Ledger) (s : LinkState) (piece : List ℕ) → l.end ≡ None → TiedLink name l s → IsDealt name l.starts (bytes_came l piece).dealt (deals s piece)
@@ -327,9 +327,9 @@ read_tied name l s piece lives h =
 
 -- where the link is up, has not ended, and is not broken
 pub came_tied : (name : ℕ → Owner) (l : Ledger) (s : LinkState) (out : List Settled) (piece : List ℕ) → l.up ≡ true → l.end ≡ None → s.broken ≡ false → TiedLink name l s
-    → TiedLink name (noted l (hears (came_news piece))) (came (record { link = s; out = out }) piece).link
+    → TiedLink name (noted l (hears (came piece))) (piece_dealt (record { link = s; out = out }) piece).link
 came_tied name l s out piece up lives sound h =
-    subst (λ (x : Settling). TiedLink name (noted l (hears (came_news piece))) x.link) (sym (reads_on s out piece sound))
+    subst (λ (x : Settling). TiedLink name (noted l (hears (came piece))) x.link) (sym (reads_on s out piece sound))
     (subst (λ (x : Ledger). TiedLink name x (has_read s piece)) (sym (heard_is l piece up)) (read_tied name l s piece lives h))
 
 -- the link ends

@@ -3,12 +3,12 @@ use Rattle.std.specs.Prelude.{ℕ, ◌≡◌, ◌+◌, ◌==◌, nat_le, Bool, t
 use Rattle.driver_model.specs.declared.action.Owner.{Owner}
 use Rattle.driver_model.specs.declared.news.LinkFault.{LinkFault}
 use Rattle.driver_model.specs.declared.news.LinkFault.TheVariants as fault
-use Rattle.driver_model.specs.News.{News, silence, connected, took, came as came_news, failed, shut}
+use Rattle.driver_model.specs.News.{News, silence, connected, took, came, failed, shut}
 use Rattle.link_core.specs.declared.message.Queued.{Queued}
 use Rattle.link_core.specs.declared.message.Settled.{Settled}
 use Rattle.std.specs.List.{AllByRecursion}
 use Rattle.link_core.specs.Ends.{queue_closed}
-use Rattle.link_core.specs.Link.{LinkState, Settling, fresh, is_full, enqueued, started_all, offered_of, wrote_of, cancelled, came, closed_all, faulted}
+use Rattle.link_core.specs.Link.{LinkState, Settling, fresh, is_full, enqueued, started_all, offered_of, wrote_of, cancelled, piece_dealt, closed_all, faulted}
 use Rattle.link_core.specs.Outbox.{can_offer}
 use Rattle.legal_trace.specs.Ledger.{Ledger, Line, asks, hears, offers, ends}
 use Rattle.link_laws.specs.Settles.{settled_ids, awaited_of, IsOwed, IsOwedUnstarted}
@@ -79,7 +79,7 @@ or_parse r = if r.link.broken then over_with r (faulted (settling r) fault.Parse
 
 -- bytes come
 abbrev pub has_read : Run → List ℕ → Run
-has_read r piece = or_parse (has_come (heard r (came_news piece)) (came (settling r) piece))
+has_read r piece = or_parse (has_come (heard r (came piece)) (piece_dealt (settling r) piece))
 
 -- what an operation makes of a link that has not ended
 abbrev pub acted : (ℕ → Owner) → Run → Operation → Run

@@ -7,8 +7,8 @@ ghost use Rattle.driver_model.specs.declared.action.Owner.{Owner};
 ghost use Rattle.driver_model.specs.declared.news.LinkFault.{LinkFault};
 ghost use Rattle.link_core.specs.declared.message.Queued.{Queued};
 ghost use Rattle.link_core.specs.Link.{LinkState, Starting, Settling, no_boundary, is_full};
-ghost use Rattle.link_core.specs.Link.{is_held_back, enqueued, started_all, offered_of, wrote_of};
-ghost use Rattle.link_core.specs.Link.{cancelled, came, closed_all, faulted};
+ghost use Rattle.link_core.specs.Link.{holds_back, enqueued, started_all, offered_of, wrote_of};
+ghost use Rattle.link_core.specs.Link.{cancelled, piece_dealt, closed_all, faulted};
 ghost use Rattle.link_core.specs.Waiting.{without};
 ghost use Rattle.legal_trace.specs.Ledger.{ledger, LinkLegal};
 ghost use Rattle.link_laws.specs.Alike.{SameLink};
@@ -35,7 +35,7 @@ pub fn calls_keep_links_alike()
     ensures wrote { (n : ℕ) → KeepsAlike (λ s. wrote_of s n) }
     ensures cancel { (other : ℕ) → KeepsAlike (λ s. cancelled s other) }
     ensures start { StartsAlike started_all }
-    ensures bytes { (piece : List ℕ) → SettlesAlike (λ d. came d piece) }
+    ensures bytes { (piece : List ℕ) → SettlesAlike (λ d. piece_dealt d piece) }
     ensures close { SettlesAlike closed_all }
     ensures fault { (f : LinkFault) → SettlesAlike (λ d. faulted d f) }
 {}
@@ -91,28 +91,28 @@ pub fn a_cancel_changes_no_other_verdict()
 /// Does nothing. Its contract: bytes that come in two pieces are read as if they had come in one.
 /// Where the first breaks the link, so does the whole, with the same settled messages.
 pub fn a_cut_changes_nothing()
-    ensures sound { (d : Settling) (p q : List ℕ) → (came d p).link.broken ≡ false
-        → came (came d p) q ≡ came d (p ++ q) }
-    ensures broken { (d : Settling) (p q : List ℕ) → (came d p).link.broken ≡ true
-        → (came d (p ++ q)).link.broken ≡ true }
-    ensures row { (d : Settling) (p q : List ℕ) → (came d p).link.broken ≡ true
-        → (came d (p ++ q)).link.row ≡ (came d p).link.row }
-    ensures settled { (d : Settling) (p q : List ℕ) → (came d p).link.broken ≡ true
-        → (came d (p ++ q)).out ≡ (came d p).out }
+    ensures sound { (d : Settling) (p q : List ℕ) → (piece_dealt d p).link.broken ≡ false
+        → piece_dealt (piece_dealt d p) q ≡ piece_dealt d (p ++ q) }
+    ensures broken { (d : Settling) (p q : List ℕ) → (piece_dealt d p).link.broken ≡ true
+        → (piece_dealt d (p ++ q)).link.broken ≡ true }
+    ensures row { (d : Settling) (p q : List ℕ) → (piece_dealt d p).link.broken ≡ true
+        → (piece_dealt d (p ++ q)).link.row ≡ (piece_dealt d p).link.row }
+    ensures settled { (d : Settling) (p q : List ℕ) → (piece_dealt d p).link.broken ≡ true
+        → (piece_dealt d (p ++ q)).out ≡ (piece_dealt d p).out }
 {}
 
 /// Does nothing. Its contract: messages are held back from the boundary on, and not one byte below
 /// it; never where nothing is unwritten, nor at the greatest boundary.
 pub fn a_link_is_held_back_at_its_boundary()
     ensures below { (s : LinkState) → length s.outbox.unwritten + 1 ≡ s.boundary
-        → is_held_back s ≡ false }
+        → holds_back s ≡ false }
     ensures at { (s : LinkState) → s.boundary < no_boundary → 0 < length s.outbox.unwritten
-        → length s.outbox.unwritten ≡ s.boundary → is_held_back s ≡ true }
+        → length s.outbox.unwritten ≡ s.boundary → holds_back s ≡ true }
     ensures above { (s : LinkState) → s.boundary < no_boundary
-        → length s.outbox.unwritten ≡ s.boundary + 1 → is_held_back s ≡ true }
+        → length s.outbox.unwritten ≡ s.boundary + 1 → holds_back s ≡ true }
     ensures empty { (s : LinkState) → length s.outbox.unwritten ≡ 0
-        → is_held_back s ≡ false }
-    ensures greatest { (s : LinkState) → s.boundary ≡ no_boundary → is_held_back s ≡ false }
+        → holds_back s ≡ false }
+    ensures greatest { (s : LinkState) → s.boundary ≡ no_boundary → holds_back s ≡ false }
 {}
 
 /// Does nothing. Its contract: a queue is full at its size, and not one message below it.

@@ -14,7 +14,7 @@ use Rattle.mux_conn.specs.declared.connection.MultiplexedConnection.{Multiplexed
 use Rattle.mux_conn.specs.declared.life.Life.{Life}
 use Rattle.mux_conn.specs.declared.life.Life.TheVariants.{Dialing, Ready, Ended}
 use Rattle.mux_conn.specs.declared.request.Waiting.{Waiting}
-use Rattle.mux_conn.specs.Connection.{Work, with_link, is_dialing, is_stuck, started_in, is_spent_in}
+use Rattle.mux_conn.specs.Connection.{Work, with_link, awaits_connect, moves_none, started_in, is_spent_in}
 use Rattle.mux_conn.specs.Requests.{is_open_at, is_waiting_at, answered}
 use Rattle.driver_model.specs.News.{News}
 use Rattle.mux_conn.specs.Effects.{closed, applied}
@@ -80,7 +80,7 @@ moved_rises w q = rises_either (is_waiting_at w.conn.requests q.number) (count w
 pub moved_each_rises : (w : Work) (qs : List Waiting) → count w ≤ count (moved_each w qs)
 moved_each_rises w [] = le_refl (count w)
 moved_each_rises w (q ∷ qs) =
-    rises_either (is_stuck w.conn.life) (count w) (still_waiting w (q ∷ qs)) (moved_each (moved w q) qs) (le_refl (count w))
+    rises_either (moves_none w.conn.life) (count w) (still_waiting w (q ∷ qs)) (moved_each (moved w q) qs) (le_refl (count w))
     (omega (arith, moved_rises w q, moved_each_rises (moved w q) qs))
 
 -- a count that has risen past the last number stays there
@@ -88,9 +88,9 @@ past : (n m : ℕ) → n ≤ m → nat_le (2 ^ 32) n ≡ true → nat_le (2 ^ 32
 past n m l h = grind (arith, nat_tests, l, h)
 
 -- one of those that wait runs out, and so do all
-pub spent_among : (w v : Work) (q : Waiting) (qs : List Waiting) → is_stuck w.conn.life ≡ false → moved_each w (q ∷ qs) ≡ v → is_spent_in (moved w q).conn.life ≡ true → is_spent_in v.conn.life ≡ true
+pub spent_among : (w v : Work) (q : Waiting) (qs : List Waiting) → moves_none w.conn.life ≡ false → moved_each w (q ∷ qs) ≡ v → is_spent_in (moved w q).conn.life ≡ true → is_spent_in v.conn.life ≡ true
 spent_among w v q qs free is h =
-    subst (λ (x : Work). is_spent_in x.conn.life ≡ true) (sym (left_if (is_stuck w.conn.life) (still_waiting w (q ∷ qs)) (moved_each (moved w q) qs) free) ∙ is)
+    subst (λ (x : Work). is_spent_in x.conn.life ≡ true) (sym (left_if (moves_none w.conn.life) (still_waiting w (q ∷ qs)) (moved_each (moved w q) qs) free) ∙ is)
     (past (count (moved w q)) (count (moved_each (moved w q) qs)) (moved_each_rises (moved w q) qs) h)
 
 -- starts run out before the others are moved
@@ -98,7 +98,7 @@ pub spent_first : (w : Work) → is_spent_in (started w).conn.life ≡ true → 
 spent_first w h = past (count (started w)) (count (moved_all (started w))) (moved_each_rises (still_waiting (started w) []) (started w).conn.waiting) h
 
 wait_count : (w : Work) (p : ℕ) → count (wait_shown w p) ≡ count w
-wait_count w p = count_either (is_waiting_at w.conn.requests p) (count w) _ w (count_either (is_dialing w.conn.life) (count w) _ w refl refl) refl
+wait_count w p = count_either (is_waiting_at w.conn.requests p) (count w) _ w (count_either (awaits_connect w.conn.life) (count w) _ w refl refl) refl
 
 waits_count : (w : Work) (ps : List ℕ) → count (waits_each w ps) ≡ count w
 waits_count w [] = refl

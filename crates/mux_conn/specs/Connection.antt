@@ -11,6 +11,9 @@ pub record Work : Type 0 where
   pub conn : MultiplexedConnection
   pub acts : List LinkAct
 
+abbrev pub work_with : MultiplexedConnection → List LinkAct → Work
+work_with conn acts = record { conn = conn; acts = acts }
+
 -- one more act of this turn
 abbrev pub acted : Work → LinkAct → Work
 acted w a = record w { acts = w.acts ++ a ∷ [] }
@@ -22,26 +25,26 @@ at_life w life = record w { conn = record w.conn { life = life } }
 abbrev pub with_link : Work → LinkState → Work
 with_link w link = at_life w (Ready link)
 
-abbrev pub is_dialing : Life → Bool
-is_dialing Dialing = true
-is_dialing (Ready link) = false
-is_dialing Ended = false
+abbrev pub awaits_connect : Life → Bool
+awaits_connect Dialing = true
+awaits_connect (Ready link) = false
+awaits_connect Ended = false
 
 abbrev pub is_ready : Life → Bool
 is_ready Dialing = false
 is_ready (Ready link) = true
 is_ready Ended = false
 
-abbrev pub is_ended : Life → Bool
-is_ended Dialing = false
-is_ended (Ready link) = false
-is_ended Ended = true
+abbrev pub has_ended : Life → Bool
+has_ended Dialing = false
+has_ended (Ready link) = false
+has_ended Ended = true
 
 -- no request can be moved
-abbrev pub is_stuck : Life → Bool
-is_stuck Dialing = true
-is_stuck (Ready link) = is_full link
-is_stuck Ended = false
+abbrev pub moves_none : Life → Bool
+moves_none Dialing = true
+moves_none (Ready link) = is_full link
+moves_none Ended = false
 
 -- how many messages of a link that is up have started
 abbrev pub started_in : Life → ℕ
@@ -52,3 +55,6 @@ started_in Ended = 0
 -- the number 2^32 - 1 was given to a message of the link
 abbrev pub is_spent_in : Life → Bool
 is_spent_in life = nat_le (2 ^ 32) (started_in life)
+
+abbrev pub runs_out : Work → Bool
+runs_out w = is_spent_in w.conn.life

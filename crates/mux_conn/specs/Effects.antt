@@ -9,7 +9,7 @@ use Rattle.driver_model.specs.News.{News, silence, connected, took, came, failed
 use Rattle.driver_model.specs.Shape.{outcome_of}
 use Rattle.link_core.specs.declared.message.Settled.{Settled}
 use Rattle.link_core.specs.Link.{LinkState, Settling, fresh, no_boundary, wrote_of, cancelled, faulted, closed_all}
-use Rattle.link_core.specs.Link.{came as dealt}
+use Rattle.link_core.specs.Link.{piece_dealt}
 use Rattle.mux_conn.specs.declared.act.LinkAct.TheVariants as act
 use Rattle.mux_conn.specs.declared.connection.MultiplexedConnection.{MultiplexedConnection}
 use Rattle.mux_conn.specs.declared.life.Life.{Life}
@@ -82,7 +82,7 @@ abbrev pub read_to : Work → Settling → Work
 read_to w s = broken_at s.link.broken (settled_each (with_link w s.link) s.out)
 
 abbrev pub read_at : Work → List ℕ → Life → Work
-read_at w piece (Ready link) = read_to w (dealt (record { link = link; out = [] }) piece)
+read_at w piece (Ready link) = read_to w (piece_dealt (record { link = link; out = [] }) piece)
 read_at w piece Dialing = w
 read_at w piece Ended = w
 

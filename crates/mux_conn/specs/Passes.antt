@@ -1,5 +1,5 @@
 -- Requests are moved as far as they can go.
-use Rattle.std.specs.Prelude.{ℕ, ◌==◌, Bool, true, false, ◌&&◌, not, List, [], ◌∷◌, Option, Some, None, if◌then◌else◌}
+use Rattle.std.specs.Prelude.{ℕ, ◌==◌, Bool, true, false, ◌&&◌, not, List, [], ◌∷◌, Option, Some, None, remove, if◌then◌else◌}
 use Rattle.resp_value.specs.declared.value.Value.TheVariants.{Nil}
 use Rattle.driver_model.specs.declared.outcome.Outcome.TheVariants as outcome
 use Rattle.link_core.specs.declared.message.Queued.{Queued}
@@ -12,7 +12,7 @@ use Rattle.mux_conn.specs.declared.life.Life.{Life}
 use Rattle.mux_conn.specs.declared.life.Life.TheVariants.{Dialing, Ready, Ended}
 use Rattle.mux_conn.specs.declared.request.Progress.TheVariants as progress
 use Rattle.mux_conn.specs.declared.request.Waiting.{Waiting}
-use Rattle.mux_conn.specs.Connection.{Work, acted, with_link, is_stuck}
+use Rattle.mux_conn.specs.Connection.{Work, acted, with_link, moves_none}
 use Rattle.mux_conn.specs.Requests.{name_at, is_waiting_at, progressed, answered}
 use Rattle.mux_conn.specs.Effects.{closed}
 
@@ -61,7 +61,11 @@ still_waiting w qs = record w { conn = record w.conn { waiting = qs } }
 -- the requests that wait are moved in order, as long as they can be
 abbrev pub moved_each : Work → List Waiting → Work
 moved_each w [] = still_waiting w []
-moved_each w (q ∷ qs) = if is_stuck w.conn.life then still_waiting w (q ∷ qs) else moved_each (moved w q) qs
+moved_each w (q ∷ qs) = if moves_none w.conn.life then still_waiting w (q ∷ qs) else moved_each (moved w q) qs
+
+-- the entry at index i of those that wait leaves them, and is moved
+abbrev pub moved_from : Work → ℕ → Waiting → Work
+moved_from w i q = moved (still_waiting w (remove w.conn.waiting i)) q
 
 abbrev pub moved_all : Work → Work
 moved_all w = moved_each (still_waiting w []) w.conn.waiting
@@ -70,20 +74,20 @@ moved_all w = moved_each (still_waiting w []) w.conn.waiting
 abbrev pub passed : Work → Work
 passed w = moved_all (started w)
 
-abbrev pub is_of : ℕ → Waiting → Bool
-is_of p q = q.number == p
+abbrev pub has_number : ℕ → Waiting → Bool
+has_number p q = q.number == p
 
 -- the entry of request p, if it waits for its place
 abbrev pub entry_of : ℕ → List Waiting → Option Waiting
 entry_of p [] = None
-entry_of p (q ∷ qs) = if is_of p q then Some q else entry_of p qs
+entry_of p (q ∷ qs) = if has_number p q then Some q else entry_of p qs
 
 abbrev pub without : ℕ → List Waiting → List Waiting
-without p qs = first_replaced (is_of p) (λ _. []) qs
+without p qs = first_replaced (has_number p) (λ _. []) qs
 
 abbrev pub advanced_with : Work → ℕ → Option Waiting → Work
 advanced_with w p None = w
-advanced_with w p (Some q) = if is_stuck w.conn.life then w else moved (still_waiting w (without p w.conn.waiting)) q
+advanced_with w p (Some q) = if moves_none w.conn.life then w else moved (still_waiting w (without p w.conn.waiting)) q
 
 -- request p alone is moved as far as it can go
 abbrev pub advanced : Work → ℕ → Work
@@ -95,4 +99,4 @@ is_there (Some q) = true
 
 -- whether it moves
 abbrev pub can_advance : MultiplexedConnection → ℕ → Bool
-can_advance c p = is_there (entry_of p c.waiting) && (not (is_stuck c.life) && is_waiting_at c.requests p)
+can_advance c p = is_there (entry_of p c.waiting) && (not (moves_none c.life) && is_waiting_at c.requests p)

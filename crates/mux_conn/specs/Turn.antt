@@ -8,7 +8,7 @@ use Rattle.mux_conn.specs.declared.act.LinkAct.TheVariants as act
 use Rattle.mux_conn.specs.declared.connection.MultiplexedConnection.{MultiplexedConnection}
 use Rattle.mux_conn.specs.declared.life.Life.{Life}
 use Rattle.mux_conn.specs.declared.life.Life.TheVariants.{Dialing, Ready, Ended}
-use Rattle.mux_conn.specs.Connection.{Work, acted, with_link, is_dialing}
+use Rattle.mux_conn.specs.Connection.{Work, acted, with_link, awaits_connect}
 use Rattle.mux_conn.specs.Requests.{name_at, is_waiting_at}
 use Rattle.mux_conn.specs.Effects.{applied}
 use Rattle.mux_conn.specs.Passes.{passed}
@@ -31,7 +31,7 @@ written w = written_at w w.conn.life
 
 -- a request of this turn that waits for the connect shows it
 abbrev pub wait_shown : Work → ℕ → Work
-wait_shown w p = if is_waiting_at w.conn.requests p then (if is_dialing w.conn.life then acted w (act.Wait (name_at w.conn.requests p) wait.Connect) else w) else w
+wait_shown w p = if is_waiting_at w.conn.requests p then (if awaits_connect w.conn.life then acted w (act.Wait (name_at w.conn.requests p) wait.Connect) else w) else w
 
 abbrev pub waits_each : Work → List ℕ → Work
 waits_each w [] = w

@@ -1,7 +1,8 @@
-ghost use Rattle.std.specs.Prelude.{◌≡◌, ◌<◌, [], length, true, false, None, Some, slice_get, remove, OnOk, IfOk, IsErrOf, MatchOption};
-ghost use Rattle.mux_conn.specs.Passes.{entry_of, is_of as is_number_of};
+ghost use Rattle.std.specs.Prelude.{◌≡◌, ◌<◌, [], length, true, false, None, Some, slice_get};
+ghost use Rattle.std.specs.Prelude.{OnOk, IfOk, IsErrOf, MatchOption};
+ghost use Rattle.mux_conn.specs.Passes.{entry_of, has_number};
 ghost use Rattle.mux_conn.specs.Places.{IsPlaceOf};
-ghost use Rattle.link_core.specs.Link.{is_spent, started_all};
+ghost use Rattle.link_core.specs.Link.{is_spent, starting_with, started_all};
 
 use crate::act::LinkAct;
 use crate::connection::MultiplexedConnection;
@@ -16,7 +17,7 @@ use resp_value::Value;
 use std::alloc::{AllocError, Global};
 
 impl MultiplexedConnection {
-    ghost use Rattle.mux_conn.specs.Connection.{is_spent_in};
+    ghost use Rattle.mux_conn.specs.Connection.{work_with, runs_out};
     ghost use Rattle.mux_conn.specs.Passes.{shown_each, started};
 
     /// Each start is shown.
@@ -26,7 +27,10 @@ impl MultiplexedConnection {
         out: &mut Vec<LinkAct>,
     ) -> Result<(), AllocError>
         ensures same { self.new ≡ self.old }
-        ensures work { OnOk result (record { conn = self.old; acts = out.new.items } ≡ shown_each (record { conn = self.old; acts = out.old.items }) starts.items) }
+        ensures work { OnOk result (
+            work_with self.old out.new.items
+            ≡ shown_each (work_with self.old out.old.items) starts.items
+            ) }
     {
         let mut rest = Queue::from_vec(starts);
         while let Some(start) = rest.pop_front() {
@@ -43,8 +47,11 @@ impl MultiplexedConnection {
 
     /// Messages start as far as they can.
     fn start(&mut self, alloc: Global, out: &mut Vec<LinkAct>) -> Result<(), ConnectionError>
-        ensures work { OnOk result (record { conn = self.new; acts = out.new.items } ≡ started (record { conn = self.old; acts = out.old.items })) }
-        ensures spent { IsErrOf result ConnectionError.Spent → is_spent_in (started (record { conn = self.old; acts = out.old.items })).conn.life ≡ true }
+        ensures work { OnOk result (
+            work_with self.new out.new.items ≡ started (work_with self.old out.old.items)
+            ) }
+        ensures spent { IsErrOf result ConnectionError.Spent
+            → runs_out (started (work_with self.old out.old.items)) ≡ true }
         ensures count { length self.new.requests ≡ length self.old.requests }
         ensures failure { self.new.failure ≡ self.old.failure }
     {
@@ -64,14 +71,17 @@ impl MultiplexedConnection {
 }
 
 impl MultiplexedConnection {
-    ghost use Rattle.mux_conn.specs.Passes.{placed_at, told_at_place, moved, moved_all, passed, advanced, can_advance, still_waiting};
-    ghost use Rattle.mux_conn.specs.Connection.{is_stuck, is_spent_in};
+    ghost use Rattle.mux_conn.specs.Passes.{placed_at, told_at_place, moved, moved_all, passed};
+    ghost use Rattle.mux_conn.specs.Passes.{moved_from, advanced, can_advance};
+    ghost use Rattle.mux_conn.specs.Connection.{work_with, moves_none, runs_out};
 
     /// A request takes its place in the queue.
     fn place(&mut self, alloc: Global, request: &Waiting) -> Result<(), AllocError>
-        requires free { is_stuck self.old.life ≡ false }
+        requires free { moves_none self.old.life ≡ false }
         requires there { request.now.number < length self.old.requests }
-        ensures work { OnOk result (record { conn = self.new; acts = [] } ≡ placed_at (record { conn = self.old; acts = [] }) request.now self.old.life) }
+        ensures work { OnOk result (
+            work_with self.new [] ≡ placed_at (work_with self.old []) request.now self.old.life
+            ) }
         ensures count { length self.new.requests ≡ length self.old.requests }
         ensures failure { self.new.failure ≡ self.old.failure }
     {
@@ -96,7 +106,10 @@ impl MultiplexedConnection {
 
     /// A command whose reply nobody awaits is answered at its place.
     fn tell_at_place(&mut self, request: &Waiting, out: &mut Vec<LinkAct>) -> Result<(), AllocError>
-        ensures work { OnOk result (record { conn = self.new; acts = out.new.items } ≡ told_at_place (record { conn = self.old; acts = out.old.items }) request.now) }
+        ensures work { OnOk result (
+            work_with self.new out.new.items
+            ≡ told_at_place (work_with self.old out.old.items) request.now
+            ) }
         ensures count { length self.new.requests ≡ length self.old.requests }
         ensures failure { self.new.failure ≡ self.old.failure }
     {
@@ -114,9 +127,13 @@ impl MultiplexedConnection {
         request: &Waiting,
         out: &mut Vec<LinkAct>,
     ) -> Result<(), ConnectionError>
-        requires { is_stuck self.old.life ≡ false }
-        ensures work { OnOk result (record { conn = self.new; acts = out.new.items } ≡ moved (record { conn = self.old; acts = out.old.items }) request.now) }
-        ensures spent { IsErrOf result ConnectionError.Spent → is_spent_in (moved (record { conn = self.old; acts = out.old.items }) request.now).conn.life ≡ true }
+        requires { moves_none self.old.life ≡ false }
+        ensures work { OnOk result (
+            work_with self.new out.new.items
+            ≡ moved (work_with self.old out.old.items) request.now
+            ) }
+        ensures spent { IsErrOf result ConnectionError.Spent
+            → runs_out (moved (work_with self.old out.old.items) request.now) ≡ true }
         ensures count { length self.new.requests ≡ length self.old.requests }
         ensures failure { self.new.failure ≡ self.old.failure }
     {
@@ -139,8 +156,11 @@ impl MultiplexedConnection {
         alloc: Global,
         out: &mut Vec<LinkAct>,
     ) -> Result<(), ConnectionError>
-        ensures work { OnOk result (record { conn = self.new; acts = out.new.items } ≡ moved_all (record { conn = self.old; acts = out.old.items })) }
-        ensures spent { IsErrOf result ConnectionError.Spent → is_spent_in (moved_all (record { conn = self.old; acts = out.old.items })).conn.life ≡ true }
+        ensures work { OnOk result (
+            work_with self.new out.new.items ≡ moved_all (work_with self.old out.old.items)
+            ) }
+        ensures spent { IsErrOf result ConnectionError.Spent
+            → runs_out (moved_all (work_with self.old out.old.items)) ≡ true }
         ensures count { length self.new.requests ≡ length self.old.requests }
         ensures failure { self.new.failure ≡ self.old.failure }
     {
@@ -167,8 +187,11 @@ impl MultiplexedConnection {
         alloc: Global,
         out: &mut Vec<LinkAct>,
     ) -> Result<(), ConnectionError>
-        ensures work { OnOk result (record { conn = self.new; acts = out.new.items } ≡ passed (record { conn = self.old; acts = out.old.items })) }
-        ensures spent { IsErrOf result ConnectionError.Spent → is_spent_in (passed (record { conn = self.old; acts = out.old.items })).conn.life ≡ true }
+        ensures work { OnOk result (
+            work_with self.new out.new.items ≡ passed (work_with self.old out.old.items)
+            ) }
+        ensures spent { IsErrOf result ConnectionError.Spent
+            → runs_out (passed (work_with self.old out.old.items)) ≡ true }
         ensures count { length self.new.requests ≡ length self.old.requests }
         ensures failure { self.new.failure ≡ self.old.failure }
     {
@@ -186,10 +209,16 @@ impl MultiplexedConnection {
         index: usize,
         out: &mut Vec<LinkAct>,
     ) -> Result<(), ConnectionError>
-        requires free { is_stuck self.old.life ≡ false }
+        requires free { moves_none self.old.life ≡ false }
         requires there { index < length self.old.waiting }
-        ensures work { (q : Waiting) → slice_get self.old.waiting index ≡ Some q → OnOk result (record { conn = self.new; acts = out.new.items } ≡ moved (still_waiting (record { conn = self.old; acts = out.old.items }) (remove self.old.waiting index)) q) }
-        ensures spent { (q : Waiting) → slice_get self.old.waiting index ≡ Some q → IsErrOf result ConnectionError.Spent → is_spent_in (moved (still_waiting (record { conn = self.old; acts = out.old.items }) (remove self.old.waiting index)) q).conn.life ≡ true }
+        ensures work { (q : Waiting) → slice_get self.old.waiting index ≡ Some q
+            → OnOk result (
+            work_with self.new out.new.items
+            ≡ moved_from (work_with self.old out.old.items) index q
+            ) }
+        ensures spent { (q : Waiting) → slice_get self.old.waiting index ≡ Some q
+            → IsErrOf result ConnectionError.Spent
+            → runs_out (moved_from (work_with self.old out.old.items) index q) ≡ true }
         ensures count { length self.new.requests ≡ length self.old.requests }
         ensures failure { self.new.failure ≡ self.old.failure }
     {
@@ -211,8 +240,11 @@ impl MultiplexedConnection {
         out: &mut Vec<LinkAct>,
     ) -> Result<bool, ConnectionError>
         ensures answer { IfOk result (λ moves. moves ≡ can_advance self.old number) }
-        ensures work { OnOk result (record { conn = self.new; acts = out.new.items } ≡ advanced (record { conn = self.old; acts = out.old.items }) number) }
-        ensures spent { IsErrOf result ConnectionError.Spent → is_spent_in (advanced (record { conn = self.old; acts = out.old.items }) number).conn.life ≡ true }
+        ensures work { OnOk result (
+            work_with self.new out.new.items ≡ advanced (work_with self.old out.old.items) number
+            ) }
+        ensures spent { IsErrOf result ConnectionError.Spent
+            → runs_out (advanced (work_with self.old out.old.items) number) ≡ true }
         ensures count { length self.new.requests ≡ length self.old.requests }
         ensures failure { self.new.failure ≡ self.old.failure }
     {
@@ -232,7 +264,8 @@ impl MultiplexedConnection {
 
 /// Where the first of these is that is the request of this number.
 fn place_of(waiting: &Queue<Waiting>, number: u32) -> Option<usize>
-    ensures { MatchOption result (entry_of number waiting.now ≡ None) (λ i. IsPlaceOf number waiting.now i) }
+    ensures { MatchOption result (entry_of number waiting.now ≡ None)
+        (λ i. IsPlaceOf number waiting.now i) }
 {
     let len = waiting.len();
     for index in 0..len {
@@ -244,7 +277,7 @@ fn place_of(waiting: &Queue<Waiting>, number: u32) -> Option<usize>
 }
 
 fn is_of(request: &Waiting, number: u32) -> bool
-    ensures { result ≡ is_number_of number request.now }
+    ensures { result ≡ has_number number request.now }
 {
     request.number == number
 }
@@ -255,8 +288,12 @@ fn start_ready(
     link: &mut LinkCore,
     starts: &mut Vec<Started>,
 ) -> Result<(), ConnectionError>
-    ensures ok { OnOk result (record { link = link.new; out = starts.new.items } ≡ started_all (record { link = link.old; out = starts.old.items })) }
-    ensures spent { IsErrOf result ConnectionError.Spent → is_spent (started_all (record { link = link.old; out = starts.old.items })).link ≡ true }
+    ensures ok { OnOk result (
+        starting_with link.new starts.new.items
+        ≡ started_all (starting_with link.old starts.old.items)
+        ) }
+    ensures spent { IsErrOf result ConnectionError.Spent
+        → is_spent (started_all (starting_with link.old starts.old.items)).link ≡ true }
 {
     match link.start_ready(alloc, starts) {
         Ok(()) => Ok(()),

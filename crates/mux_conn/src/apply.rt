@@ -13,11 +13,17 @@ use std::alloc::{AllocError, Global};
 
 impl MultiplexedConnection {
     ghost use Rattle.driver_model.specs.News.{told};
-    ghost use Rattle.mux_conn.specs.Effects.{settled_each, waiting_closed, ended, ended_by, connected_at, taken_at, read_at, failed_at, shut_at, applied, left, CanTake, IsWithin};
+    ghost use Rattle.mux_conn.specs.Connection.{work_with};
+    ghost use Rattle.mux_conn.specs.Effects.{settled_each, waiting_closed, ended, ended_by};
+    ghost use Rattle.mux_conn.specs.Effects.{connected_at, taken_at, read_at, failed_at, shut_at};
+    ghost use Rattle.mux_conn.specs.Effects.{applied, left, CanTake, IsWithin};
 
     /// What the link has settled is answered, in order.
     fn settle(&mut self, settled: Vec<Settled>, out: &mut Vec<LinkAct>) -> Result<(), AllocError>
-        ensures work { OnOk result (record { conn = self.new; acts = out.new.items } ≡ settled_each (record { conn = self.old; acts = out.old.items }) settled.items) }
+        ensures work { OnOk result (
+            work_with self.new out.new.items
+            ≡ settled_each (work_with self.old out.old.items) settled.items
+            ) }
         ensures count { length self.new.requests ≡ length self.old.requests }
         ensures failure { self.new.failure ≡ self.old.failure }
     {
@@ -30,7 +36,9 @@ impl MultiplexedConnection {
 
     /// Each request that waits for its place is answered with the closed connection.
     fn close_waiting(&mut self, alloc: Global, out: &mut Vec<LinkAct>) -> Result<(), AllocError>
-        ensures work { OnOk result (record { conn = self.new; acts = out.new.items } ≡ waiting_closed (record { conn = self.old; acts = out.old.items })) }
+        ensures work { OnOk result (
+            work_with self.new out.new.items ≡ waiting_closed (work_with self.old out.old.items)
+            ) }
         ensures count { length self.new.requests ≡ length self.old.requests }
         ensures failure { self.new.failure ≡ self.old.failure }
     {
@@ -49,7 +57,10 @@ impl MultiplexedConnection {
         settled: Vec<Settled>,
         out: &mut Vec<LinkAct>,
     ) -> Result<(), AllocError>
-        ensures work { OnOk result (record { conn = self.new; acts = out.new.items } ≡ ended (record { conn = self.old; acts = out.old.items }) settled.items) }
+        ensures work { OnOk result (
+            work_with self.new out.new.items
+            ≡ ended (work_with self.old out.old.items) settled.items
+            ) }
         ensures count { length self.new.requests ≡ length self.old.requests }
         ensures failure { self.new.failure ≡ self.old.failure }
     {
@@ -61,7 +72,10 @@ impl MultiplexedConnection {
 
     /// The connect is answered.
     fn connect(&mut self, alloc: Global, out: &mut Vec<LinkAct>) -> Result<(), AllocError>
-        ensures work { OnOk result (record { conn = self.new; acts = out.new.items } ≡ connected_at (record { conn = self.old; acts = out.old.items }) self.old.life) }
+        ensures work { OnOk result (
+            work_with self.new out.new.items
+            ≡ connected_at (work_with self.old out.old.items) self.old.life
+            ) }
         ensures count { length self.new.requests ≡ length self.old.requests }
         ensures failure { self.new.failure ≡ self.old.failure }
     {
@@ -76,7 +90,7 @@ impl MultiplexedConnection {
     /// Offered bytes were taken.
     fn take(&mut self, count: u64)
         requires { CanTake self.old.life count }
-        ensures { record { conn = self.new; acts = [] } ≡ taken_at (record { conn = self.old; acts = [] }) count self.old.life }
+        ensures { work_with self.new [] ≡ taken_at (work_with self.old []) count self.old.life }
     {
         match &mut self.life {
             Life::Ready { link } => link.wrote(count),
@@ -92,7 +106,10 @@ impl MultiplexedConnection {
         piece: &[u8],
         out: &mut Vec<LinkAct>,
     ) -> Result<(), AllocError>
-        ensures work { OnOk result (record { conn = self.new; acts = out.new.items } ≡ read_at (record { conn = self.old; acts = out.old.items }) piece.now self.old.life) }
+        ensures work { OnOk result (
+            work_with self.new out.new.items
+            ≡ read_at (work_with self.old out.old.items) piece.now self.old.life
+            ) }
         ensures count { length self.new.requests ≡ length self.old.requests }
         ensures failure { self.new.failure ≡ self.old.failure }
     {
@@ -121,7 +138,10 @@ impl MultiplexedConnection {
         fault: LinkFault,
         out: &mut Vec<LinkAct>,
     ) -> Result<(), AllocError>
-        ensures work { OnOk result (record { conn = self.new; acts = out.new.items } ≡ failed_at (record { conn = self.old; acts = out.old.items }) fault self.old.life) }
+        ensures work { OnOk result (
+            work_with self.new out.new.items
+            ≡ failed_at (work_with self.old out.old.items) fault self.old.life
+            ) }
         ensures count { length self.new.requests ≡ length self.old.requests }
         ensures failure { self.new.failure ≡ self.old.failure }
     {
@@ -136,7 +156,10 @@ impl MultiplexedConnection {
 
     /// Everything is closed.
     fn shut(&mut self, alloc: Global, out: &mut Vec<LinkAct>) -> Result<(), AllocError>
-        ensures work { OnOk result (record { conn = self.new; acts = out.new.items } ≡ shut_at (record { conn = self.old; acts = out.old.items }) self.old.life) }
+        ensures work { OnOk result (
+            work_with self.new out.new.items
+            ≡ shut_at (work_with self.old out.old.items) self.old.life
+            ) }
         ensures count { length self.new.requests ≡ length self.old.requests }
         ensures failure { self.new.failure ≡ self.old.failure }
     {
@@ -157,7 +180,10 @@ impl MultiplexedConnection {
         out: &mut Vec<LinkAct>,
     ) -> Result<(), AllocError>
         requires { IsWithin self.old.life (told news) }
-        ensures work { OnOk result (record { conn = self.new; acts = out.new.items } ≡ applied (record { conn = self.old; acts = out.old.items }) (told news.entry)) }
+        ensures work { OnOk result (
+            work_with self.new out.new.items
+            ≡ applied (work_with self.old out.old.items) (told news.entry)
+            ) }
         ensures count { length self.new.requests ≡ length self.old.requests }
         ensures failure { self.new.failure ≡ self.old.failure }
     {

@@ -1,4 +1,5 @@
-ghost use Rattle.std.specs.Prelude.{◌≡◌, ◌<◌, ◌≤◌, ◌^◌, ◌++◌, ◌∷◌, [], length, OnOk, OnErr, IfOk, true};
+ghost use Rattle.std.specs.Prelude.{◌≡◌, ◌<◌, ◌≤◌, ◌^◌, ◌++◌, ◌∷◌, [], length, OnOk, OnErr, IfOk};
+ghost use Rattle.std.specs.Prelude.{true};
 
 use crate::act::LinkAct;
 use crate::errors::ConnectionError;
@@ -37,7 +38,7 @@ impl Drop for MultiplexedConnection {
 
 impl MultiplexedConnection {
     ghost use Rattle.mux_conn.specs.Requests.{is_open_at, is_waiting_at, name_at, answered, asked};
-    ghost use Rattle.mux_conn.specs.Connection.{started_in};
+    ghost use Rattle.mux_conn.specs.Connection.{work_with, started_in};
     ghost use Rattle.mux_conn.specs.Turn.{dialing};
 
     /// A connection whose connect isn't answered. Takes no memory.
@@ -111,7 +112,10 @@ impl MultiplexedConnection {
         outcome: Outcome,
         out: &mut Vec<LinkAct>,
     ) -> Result<(), AllocError>
-        ensures work { OnOk result (record { conn = self.new; acts = out.new.items } ≡ answered (record { conn = self.old; acts = out.old.items }) number outcome) }
+        ensures work { OnOk result (
+            work_with self.new out.new.items
+            ≡ answered (work_with self.old out.old.items) number outcome
+            ) }
         ensures count { length self.new.requests ≡ length self.old.requests }
         ensures failure { self.new.failure ≡ self.old.failure }
     {

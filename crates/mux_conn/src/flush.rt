@@ -8,11 +8,14 @@ use driver_model::WaitKind;
 use std::alloc::{AllocError, Global};
 
 impl MultiplexedConnection {
+    ghost use Rattle.mux_conn.specs.Connection.{work_with};
     ghost use Rattle.mux_conn.specs.Turn.{written, wait_shown, waits_shown, flushed};
 
     /// All unwritten bytes are offered, unless an offer is unanswered.
     fn offer(&mut self, alloc: Global, out: &mut Vec<LinkAct>) -> Result<(), AllocError>
-        ensures work { OnOk result (record { conn = self.new; acts = out.new.items } ≡ written (record { conn = self.old; acts = out.old.items })) }
+        ensures work { OnOk result (
+            work_with self.new out.new.items ≡ written (work_with self.old out.old.items)
+            ) }
         ensures count { length self.new.requests ≡ length self.old.requests }
         ensures failure { self.new.failure ≡ self.old.failure }
     {
@@ -32,7 +35,10 @@ impl MultiplexedConnection {
 
     /// A request of this turn that waits for the connect shows it.
     fn show_wait(&self, number: u32, out: &mut Vec<LinkAct>) -> Result<(), AllocError>
-        ensures { OnOk result (record { conn = self.now; acts = out.new.items } ≡ wait_shown (record { conn = self.now; acts = out.old.items }) number) }
+        ensures { OnOk result (
+            work_with self.now out.new.items
+            ≡ wait_shown (work_with self.now out.old.items) number
+            ) }
     {
         if !self.is_waiting(number) || !self.life.is_dialing() {
             return Ok(());
@@ -46,7 +52,9 @@ impl MultiplexedConnection {
 
     /// The waits that began in this turn are shown.
     fn show_waits(&mut self, alloc: Global, out: &mut Vec<LinkAct>) -> Result<(), AllocError>
-        ensures work { OnOk result (record { conn = self.new; acts = out.new.items } ≡ waits_shown (record { conn = self.old; acts = out.old.items })) }
+        ensures work { OnOk result (
+            work_with self.new out.new.items ≡ waits_shown (work_with self.old out.old.items)
+            ) }
         ensures count { length self.new.requests ≡ length self.old.requests }
         ensures failure { self.new.failure ≡ self.old.failure }
     {
@@ -63,7 +71,9 @@ impl MultiplexedConnection {
         alloc: Global,
         out: &mut Vec<LinkAct>,
     ) -> Result<(), AllocError>
-        ensures work { OnOk result (record { conn = self.new; acts = out.new.items } ≡ flushed (record { conn = self.old; acts = out.old.items })) }
+        ensures work { OnOk result (
+            work_with self.new out.new.items ≡ flushed (work_with self.old out.old.items)
+            ) }
         ensures count { length self.new.requests ≡ length self.old.requests }
         ensures failure { self.new.failure ≡ self.old.failure }
     {

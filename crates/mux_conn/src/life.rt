@@ -12,11 +12,11 @@ pub enum Life {
 
 impl Life {
     ghost use Rattle.std.specs.Prelude.{◌≡◌};
-    ghost use Rattle.mux_conn.specs.Connection.{is_dialing as is_dialing_in, is_ended as is_ended_in, is_stuck as is_stuck_in};
+    ghost use Rattle.mux_conn.specs.Connection.{awaits_connect, has_ended, moves_none};
 
     /// Whether the connect isn't answered.
     pub fn is_dialing(&self) -> bool
-        ensures { result ≡ is_dialing_in self.now }
+        ensures { result ≡ awaits_connect self.now }
     {
         match self {
             Life::Dialing => true,
@@ -27,7 +27,7 @@ impl Life {
 
     /// Whether the link has ended.
     pub fn is_ended(&self) -> bool
-        ensures { result ≡ is_ended_in self.now }
+        ensures { result ≡ has_ended self.now }
     {
         match self {
             Life::Dialing => false,
@@ -38,7 +38,7 @@ impl Life {
 
     /// Whether no request can be moved: the connect isn't answered, or the queue holds its size.
     pub fn is_stuck(&self) -> bool
-        ensures { result ≡ is_stuck_in self.now }
+        ensures { result ≡ moves_none self.now }
     {
         match self {
             Life::Dialing => true,

@@ -1,4 +1,5 @@
-ghost use Rattle.std.specs.Prelude.{◌≡◌, ◌⊎◌, ◌++◌, [], length, true, None, Some, OnOk, OnErr, IfOk, IsErrOf};
+ghost use Rattle.std.specs.Prelude.{◌≡◌, ◌⊎◌, ◌++◌, [], length, true, None, Some, OnOk, OnErr};
+ghost use Rattle.std.specs.Prelude.{IfOk, IsErrOf};
 
 use crate::act::LinkAct;
 use crate::connection::MultiplexedConnection;
@@ -9,7 +10,7 @@ use std::alloc::{AllocError, Global};
 
 impl MultiplexedConnection {
     ghost use Rattle.driver_model.specs.News.{told};
-    ghost use Rattle.mux_conn.specs.Connection.{is_spent_in};
+    ghost use Rattle.mux_conn.specs.Connection.{work_with, runs_out};
     ghost use Rattle.mux_conn.specs.Effects.{applied, IsWithin};
     ghost use Rattle.mux_conn.specs.Passes.{passed, advanced, can_advance};
     ghost use Rattle.mux_conn.specs.Turn.{flushed, stepped};
@@ -23,12 +24,17 @@ impl MultiplexedConnection {
         out: &mut Vec<LinkAct>,
     ) -> Result<(), ConnectionError>
         requires { IsWithin self.old.life (told news) }
-        ensures work { OnOk result (record { conn = self.new; acts = out.new.items } ≡ applied (record { conn = self.old; acts = out.old.items }) (told news.entry)) }
+        ensures work { OnOk result (
+            work_with self.new out.new.items
+            ≡ applied (work_with self.old out.old.items) (told news.entry)
+            ) }
         ensures count { length self.new.requests ≡ length self.old.requests }
         ensures sound { OnOk result (self.new.failure ≡ None) }
-        ensures unspent { IsErrOf result ConnectionError.Spent → self.old.failure ≡ Some ConnectionError.Spent }
+        ensures unspent { IsErrOf result ConnectionError.Spent
+            → self.old.failure ≡ Some ConnectionError.Spent }
         ensures fails { (e : ConnectionError) → IsErrOf result e → self.new.failure ≡ Some e }
-        ensures failed { (e : ConnectionError) → self.old.failure ≡ Some e → IsErrOf result e }
+        ensures failed { (e : ConnectionError) → self.old.failure ≡ Some e
+            → IsErrOf result e }
     {
         if let Some(error) = self.failure {
             return Err(error);
@@ -45,12 +51,17 @@ impl MultiplexedConnection {
         alloc: Global,
         out: &mut Vec<LinkAct>,
     ) -> Result<(), ConnectionError>
-        ensures work { OnOk result (record { conn = self.new; acts = out.new.items } ≡ passed (record { conn = self.old; acts = out.old.items })) }
+        ensures work { OnOk result (
+            work_with self.new out.new.items ≡ passed (work_with self.old out.old.items)
+            ) }
         ensures count { length self.new.requests ≡ length self.old.requests }
         ensures sound { OnOk result (self.new.failure ≡ None) }
-        ensures spent { IsErrOf result ConnectionError.Spent → (self.old.failure ≡ Some ConnectionError.Spent) ⊎ (is_spent_in (passed (record { conn = self.old; acts = out.old.items })).conn.life ≡ true) }
+        ensures spent { IsErrOf result ConnectionError.Spent
+            → (self.old.failure ≡ Some ConnectionError.Spent)
+            ⊎ (runs_out (passed (work_with self.old out.old.items)) ≡ true) }
         ensures fails { (e : ConnectionError) → IsErrOf result e → self.new.failure ≡ Some e }
-        ensures failed { (e : ConnectionError) → self.old.failure ≡ Some e → IsErrOf result e }
+        ensures failed { (e : ConnectionError) → self.old.failure ≡ Some e
+            → IsErrOf result e }
     {
         if let Some(error) = self.failure {
             return Err(error);
@@ -70,12 +81,18 @@ impl MultiplexedConnection {
         out: &mut Vec<LinkAct>,
     ) -> Result<bool, ConnectionError>
         ensures answer { IfOk result (λ moves. moves ≡ can_advance self.old request.number) }
-        ensures work { OnOk result (record { conn = self.new; acts = out.new.items } ≡ advanced (record { conn = self.old; acts = out.old.items }) request.number) }
+        ensures work { OnOk result (
+            work_with self.new out.new.items
+            ≡ advanced (work_with self.old out.old.items) request.number
+            ) }
         ensures count { length self.new.requests ≡ length self.old.requests }
         ensures sound { OnOk result (self.new.failure ≡ None) }
-        ensures spent { IsErrOf result ConnectionError.Spent → (self.old.failure ≡ Some ConnectionError.Spent) ⊎ (is_spent_in (advanced (record { conn = self.old; acts = out.old.items }) request.number).conn.life ≡ true) }
+        ensures spent { IsErrOf result ConnectionError.Spent
+            → (self.old.failure ≡ Some ConnectionError.Spent)
+            ⊎ (runs_out (advanced (work_with self.old out.old.items) request.number) ≡ true) }
         ensures fails { (e : ConnectionError) → IsErrOf result e → self.new.failure ≡ Some e }
-        ensures failed { (e : ConnectionError) → self.old.failure ≡ Some e → IsErrOf result e }
+        ensures failed { (e : ConnectionError) → self.old.failure ≡ Some e
+            → IsErrOf result e }
     {
         if let Some(error) = self.failure {
             return Err(error);
@@ -89,12 +106,16 @@ impl MultiplexedConnection {
     /// What a turn ends with: the link's one write, and the waits that began. After an error nothing is said of what `out`
     /// gained.
     pub fn flush(&mut self, alloc: Global, out: &mut Vec<LinkAct>) -> Result<(), ConnectionError>
-        ensures work { OnOk result (record { conn = self.new; acts = out.new.items } ≡ flushed (record { conn = self.old; acts = out.old.items })) }
+        ensures work { OnOk result (
+            work_with self.new out.new.items ≡ flushed (work_with self.old out.old.items)
+            ) }
         ensures count { length self.new.requests ≡ length self.old.requests }
         ensures sound { OnOk result (self.new.failure ≡ None) }
-        ensures unspent { IsErrOf result ConnectionError.Spent → self.old.failure ≡ Some ConnectionError.Spent }
+        ensures unspent { IsErrOf result ConnectionError.Spent
+            → self.old.failure ≡ Some ConnectionError.Spent }
         ensures fails { (e : ConnectionError) → IsErrOf result e → self.new.failure ≡ Some e }
-        ensures failed { (e : ConnectionError) → self.old.failure ≡ Some e → IsErrOf result e }
+        ensures failed { (e : ConnectionError) → self.old.failure ≡ Some e
+            → IsErrOf result e }
     {
         if let Some(error) = self.failure {
             return Err(error);
@@ -113,14 +134,22 @@ impl MultiplexedConnection {
         out: &mut Vec<LinkAct>,
     ) -> Result<(), ConnectionError>
         requires { IsWithin self.old.life (told event.news) }
-        ensures conn { OnOk result (self.new ≡ (stepped (record { conn = self.old; acts = [] }) (told event.entry.news)).conn) }
-        ensures acts { OnOk result (out.new.items ≡ out.old.items ++ (stepped (record { conn = self.old; acts = [] }) (told event.entry.news)).acts) }
+        ensures conn { OnOk result (
+            self.new ≡ (stepped (work_with self.old []) (told event.entry.news)).conn
+            ) }
+        ensures acts { OnOk result (
+            out.new.items
+            ≡ out.old.items ++ (stepped (work_with self.old []) (told event.entry.news)).acts
+            ) }
         ensures err { OnErr result (out.new.items ≡ out.old.items) }
         ensures count { length self.new.requests ≡ length self.old.requests }
         ensures sound { OnOk result (self.new.failure ≡ None) }
-        ensures spent { IsErrOf result ConnectionError.Spent → (self.old.failure ≡ Some ConnectionError.Spent) ⊎ (is_spent_in (stepped (record { conn = self.old; acts = [] }) (told event.entry.news)).conn.life ≡ true) }
+        ensures spent { IsErrOf result ConnectionError.Spent
+            → (self.old.failure ≡ Some ConnectionError.Spent)
+            ⊎ (runs_out (stepped (work_with self.old []) (told event.entry.news)) ≡ true) }
         ensures fails { (e : ConnectionError) → IsErrOf result e → self.new.failure ≡ Some e }
-        ensures failed { (e : ConnectionError) → self.old.failure ≡ Some e → IsErrOf result e }
+        ensures failed { (e : ConnectionError) → self.old.failure ≡ Some e
+            → IsErrOf result e }
     {
         let mut acts = Vec::new(alloc);
         match self.turn(alloc, event.news, &mut acts) {
@@ -141,12 +170,18 @@ impl MultiplexedConnection {
         out: &mut Vec<LinkAct>,
     ) -> Result<(), ConnectionError>
         requires { IsWithin self.old.life (told news) }
-        ensures work { OnOk result (record { conn = self.new; acts = out.new.items } ≡ stepped (record { conn = self.old; acts = out.old.items }) (told news.entry)) }
+        ensures work { OnOk result (
+            work_with self.new out.new.items
+            ≡ stepped (work_with self.old out.old.items) (told news.entry)
+            ) }
         ensures count { length self.new.requests ≡ length self.old.requests }
         ensures sound { OnOk result (self.new.failure ≡ None) }
-        ensures spent { IsErrOf result ConnectionError.Spent → (self.old.failure ≡ Some ConnectionError.Spent) ⊎ (is_spent_in (stepped (record { conn = self.old; acts = out.old.items }) (told news.entry)).conn.life ≡ true) }
+        ensures spent { IsErrOf result ConnectionError.Spent
+            → (self.old.failure ≡ Some ConnectionError.Spent)
+            ⊎ (runs_out (stepped (work_with self.old out.old.items) (told news.entry)) ≡ true) }
         ensures fails { (e : ConnectionError) → IsErrOf result e → self.new.failure ≡ Some e }
-        ensures failed { (e : ConnectionError) → self.old.failure ≡ Some e → IsErrOf result e }
+        ensures failed { (e : ConnectionError) → self.old.failure ≡ Some e
+            → IsErrOf result e }
     {
         match self.apply(alloc, news, out) {
             Ok(()) => {}

@@ -2,7 +2,7 @@ ghost use Rattle.std.specs.Prelude.{◌≡◌, true};
 ghost use Rattle.driver_model.specs.News.{told};
 ghost use Rattle.mux_conn.specs.Effects.{CanTake, IsWithin};
 
-use crate::{Life, LinkAct, MultiplexedConnection, Pending};
+use crate::{ConnectionError, Life, LinkAct, MultiplexedConnection, Pending};
 use containers::Bytes;
 use driver_model::{LinkEvent, LinkFault, LinkNews, Outcome, Shape};
 use redis_error::{FaultKind, RedisError};
@@ -28,6 +28,12 @@ enum Call {
     Came(&'static str),
     Failed(LinkFault),
     Shut,
+    /// The first part of a turn alone: the connect succeeded.
+    HearConnected,
+    /// The second part alone: every request is moved.
+    AdvanceAll,
+    /// The last part alone.
+    Flush,
 }
 
 fn describe_value(value: &Value, log: &mut Vec<u8>) -> Result<(), AllocError> {
@@ -166,6 +172,50 @@ fn step(
     }
 }
 
+/// The answer of one part of a turn, and what it asks and tells.
+fn note(
+    alloc: Global,
+    answer: Result<(), ConnectionError>,
+    acts: &[LinkAct],
+    log: &mut Vec<u8>,
+) -> Result<(), AllocError> {
+    match answer {
+        Ok(()) => log.extend_from_slice(b"done; ".as_slice())?,
+        Err(_) => return Err(AllocError),
+    }
+    describe(alloc, acts, log)
+}
+
+fn hear_connected(
+    alloc: Global,
+    conn: &mut MultiplexedConnection,
+    log: &mut Vec<u8>,
+) -> Result<(), AllocError> {
+    let mut acts = Vec::new(alloc);
+    let answer = conn.apply(alloc, LinkNews::Connected, &mut acts);
+    note(alloc, answer, acts.as_slice(), log)
+}
+
+fn advance_all(
+    alloc: Global,
+    conn: &mut MultiplexedConnection,
+    log: &mut Vec<u8>,
+) -> Result<(), AllocError> {
+    let mut acts = Vec::new(alloc);
+    let answer = conn.advance_all(alloc, &mut acts);
+    note(alloc, answer, acts.as_slice(), log)
+}
+
+fn flush(
+    alloc: Global,
+    conn: &mut MultiplexedConnection,
+    log: &mut Vec<u8>,
+) -> Result<(), AllocError> {
+    let mut acts = Vec::new(alloc);
+    let answer = conn.flush(alloc, &mut acts);
+    note(alloc, answer, acts.as_slice(), log)
+}
+
 fn make(
     rt: &impl Abort,
     alloc: Global,
@@ -193,6 +243,9 @@ fn make(
         }
         Call::Failed(fault) => step(alloc, conn, LinkNews::Failed { fault: *fault }, log),
         Call::Shut => step(alloc, conn, LinkNews::Shut, log),
+        Call::HearConnected => hear_connected(alloc, conn, log),
+        Call::AdvanceAll => advance_all(alloc, conn, log),
+        Call::Flush => flush(alloc, conn, log),
     }
 }
 
@@ -255,6 +308,24 @@ fn requests_move_alone(rt: HostRuntime) -> Result<(), AllocError> {
     ];
     let wanted =
         "created; moves; 9 nil; start 0 of 9, 2; stays; moves; start 1 of 7, 1; stays; write bca; 7 y; ";
+    run(&rt, rt.alloc(), calls.as_slice(), wanted)
+}
+
+#[test]
+fn parts_of_a_turn_are_called_alone(rt: HostRuntime) -> Result<(), AllocError> {
+    let calls = [
+        Call::Ask(7, "a"),
+        Call::AdvanceAll,
+        Call::Flush,
+        Call::HearConnected,
+        Call::Ask(9, "bc"),
+        Call::AdvanceAll,
+        Call::Flush,
+        Call::Flush,
+        Call::Came("+x\r\n+y\r\n"),
+    ];
+    let wanted = "done; done; 7 waits; done; created; \
+done; start 0 of 7, 1; start 1 of 9, 2; done; write abc; done; 7 x; 9 y; ";
     run(&rt, rt.alloc(), calls.as_slice(), wanted)
 }
 

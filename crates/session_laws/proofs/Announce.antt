@@ -8,7 +8,7 @@ use Rattle.driver_model.specs.declared.action.Cause.TheVariants as cause
 use Rattle.driver_model.specs.declared.event.EventKind.{EventKind}
 use Rattle.driver_model.specs.declared.event.EventKind.TheVariants as event
 use Rattle.driver_model.specs.declared.news.LinkFault.TheVariants as fault
-use Rattle.driver_model.specs.News.{News, silence, connected, took, came, failed, shut, for_link, news}
+use Rattle.driver_model.specs.News.{News, silence, connected, took, came, failed, shut, for_link, news_of}
 use Rattle.link_core.specs.Link.{LinkState}
 use Rattle.link_laws.proofs.TiedLink.{TiedLink}
 use Rattle.mux_conn.specs.declared.connection.MultiplexedConnection.{MultiplexedConnection}
@@ -16,7 +16,7 @@ use Rattle.mux_conn.specs.declared.life.Life.{Life}
 use Rattle.mux_conn.specs.declared.life.Life.TheVariants.{Dialing, Ready, Ended}
 use Rattle.mux_conn.specs.declared.request.Request.{Request}
 use Rattle.shared_session.specs.declared.core_state.Core.{Core}
-use Rattle.shared_session.specs.Turn.{is_shutdown, shut_by, takes_too_much, is_no_link, is_bad}
+use Rattle.shared_session.specs.Turn.{is_shutdown, shut_by, exceeds_offer, is_no_link, is_bad}
 use Rattle.legal_trace.specs.Ledger.{Ledger, hears, noted, is_over, bytes_came}
 use Rattle.legal_trace.specs.Story.{Story}
 use Rattle.legal_trace.specs.Book.{Book, book, entered}
@@ -36,7 +36,7 @@ offered_length : (l : Ledger) (s : LinkState) (requests : List Request) → Tied
 offered_length l s requests h = ap length h.offer ∙ (let e = length-take s.outbox.offered s.outbox.unwritten in let b = h.bound in omega arith)
 
 -- the connection's link can't take so much
-too_much : (l : Ledger) (created : ℕ) (life : Life) (requests : List Request) (count : ℕ) → TiedLife l created life → (life ≢ Ended → TiedLink (owner_of requests) l (link_in life)) → (not (is_over l) && nat_lt (length l.offer) count) ≡ takes_too_much life count
+too_much : (l : Ledger) (created : ℕ) (life : Life) (requests : List Request) (count : ℕ) → TiedLife l created life → (life ≢ Ended → TiedLink (owner_of requests) l (link_in life)) → (not (is_over l) && nat_lt (length l.offer) count) ≡ exceeds_offer life count
 too_much l created Dialing requests count h link = (λ i. not (is_some (h.2 i)) && nat_lt (offered_length l (link_in Dialing) requests (link (λ e. cc)) i) count)
 too_much l created (Ready s) requests count h link = (λ i. not (is_some (h.2 i)) && nat_lt (offered_length l s requests (link (λ e. cc)) i) count)
 too_much l created Ended requests count h link = ap (λ o. not o && nat_lt (length l.offer) count) (some_end l.end h.1)
@@ -55,13 +55,13 @@ same_badness b c started event.Shutdown h = refl
 same_badness b c started (event.Wrote l count) h =
     ap (λ k. nat_le k l || (not (is_over (b.link l)) && nat_lt (length (b.link l).offer) count)) h.numbers.links
     ∙ by_test (nat_le c.links l) _
-    (λ t. (λ i. t i || (not (is_over (b.link l)) && nat_lt (length (b.link l).offer) count)) ∙ sym (λ i. t i || ((l == c.single.link) && takes_too_much c.single.connection.life count)))
+    (λ t. (λ i. t i || (not (is_over (b.link l)) && nat_lt (length (b.link l).offer) count)) ∙ sym (λ i. t i || ((l == c.single.link) && exceeds_offer c.single.connection.life count)))
     (λ f.
     let same : l ≡ c.single.link = h.numbers.only l (not_le_from c.links l f) in
     ap (λ x. nat_le c.links l || x) (
     ap (λ m. not (is_over (b.link m)) && nat_lt (length (b.link m).offer) count) same
     ∙ too_much (b.link c.single.link) b.created c.single.connection.life c.single.connection.requests count h.life h.link
-    ∙ sym (ap (λ x. x && takes_too_much c.single.connection.life count) (eq_test l c.single.link same))
+    ∙ sym (ap (λ x. x && exceeds_offer c.single.connection.life count) (eq_test l c.single.link same))
     ))
 
 -- the turn may stand
@@ -84,7 +84,7 @@ elsewhere_of : (c : Core) (l m : ℕ) (n : News) → ((k : ℕ) → k < c.links 
 elsewhere_of c l m n only here other = left_if (l == m) n silence (ne_test l m (λ e. other (sym e ∙ only l (not_le_from c.links l here))))
 
 -- whatever the event is
-elsewhere : (c : Core) (m : ℕ) (kind : EventKind) → ((k : ℕ) → k < c.links → k ≡ c.single.link) → is_bad c kind ≡ false → m ≢ c.single.link → (news m kind ≡ silence) ⊎ (news m kind ≡ shut)
+elsewhere : (c : Core) (m : ℕ) (kind : EventKind) → ((k : ℕ) → k < c.links → k ≡ c.single.link) → is_bad c kind ≡ false → m ≢ c.single.link → (news_of m kind ≡ silence) ⊎ (news_of m kind ≡ shut)
 unfolding is_bad
 elsewhere c m (event.Submit what) only good other = inl refl
 elsewhere c m (event.Cancel n) only good other = inl refl
@@ -102,8 +102,8 @@ unknown_heard l n (inl e) h = subst (λ (x : News). IsUnknown (noted l (hears x)
 unknown_heard l n (inr e) h = subst (λ (x : News). IsUnknown (noted l (hears x))) (sym e) (record { asked = h.asked; up = h.up; end = h.end; starts = h.starts })
 
 -- so all other links stay unknown
-pub others_heard : (b : Book) (c : Core) (started : List ℕ) (kind : EventKind) → Tied b (inner c started) → is_bad c kind ≡ false → (m : ℕ) → m ≢ c.single.link → IsUnknown (noted (b.link m) (hears (news m kind)))
-others_heard b c started kind h good m other = unknown_heard (b.link m) (news m kind) (elsewhere c m kind h.numbers.only good other) (h.others m other)
+pub others_heard : (b : Book) (c : Core) (started : List ℕ) (kind : EventKind) → Tied b (inner c started) → is_bad c kind ≡ false → (m : ℕ) → m ≢ c.single.link → IsUnknown (noted (b.link m) (hears (news_of m kind)))
+others_heard b c started kind h good m other = unknown_heard (b.link m) (news_of m kind) (elsewhere c m kind h.numbers.only good other) (h.others m other)
 
 -- the event that names a link names the connection's
 pub own_news : (c : Core) (l : ℕ) (n : News) → ((k : ℕ) → k < c.links → k ≡ c.single.link) → is_no_link c l ≡ false → for_link (l == c.single.link) n ≡ n
@@ -138,7 +138,7 @@ heard_book b word kind = record b {
   turns = b.turns + 1;
   running = Some (cause.Event (record { word = word; kind = kind }));
   shut = b.shut || is_shutdown kind;
-  link = λ m. noted (b.link m) (hears (news m kind));
+  link = λ m. noted (b.link m) (hears (news_of m kind));
 }
 
 -- with as many submissions as before
@@ -171,7 +171,7 @@ abbrev pub turned : Core → EventKind → Core
 turned c kind = shut_by (record c { turns = c.turns + 1 }) kind
 
 -- the session tied to that book, by what its link hears and has come to; the creation may be shown with it
-pub heard_tied : (b : Book) (c : Core) (started : List ℕ) (word created : ℕ) (kind : EventKind) (life : Life) (pending : List ℕ) (l : Ledger) → Tied b (inner c started) → is_bad c kind ≡ false → noted (b.link c.single.link) (hears (news c.single.link kind)) ≡ l
+pub heard_tied : (b : Book) (c : Core) (started : List ℕ) (word created : ℕ) (kind : EventKind) (life : Life) (pending : List ℕ) (l : Ledger) → Tied b (inner c started) → is_bad c kind ≡ false → noted (b.link c.single.link) (hears (news_of c.single.link kind)) ≡ l
     → l.starts ≡ (b.link c.single.link).starts → TiedLife l created life → (life ≢ Ended → TiedLink (owner_of c.single.connection.requests) l (link_in life))
     → TiedLines b.story c.single.connection.requests (link_in life) c.single.connection.waiting pending started → TiedWaits b.story c.single.connection.requests life c.single.connection.fresh
     → Tied (record (heard_book b word kind) { created = created }) (seen (turned c kind) (record c.single.connection { life = life }) pending started)

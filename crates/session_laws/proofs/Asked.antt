@@ -10,7 +10,7 @@ use Rattle.driver_model.specs.declared.event.EventKind.TheVariants as event
 use Rattle.driver_model.specs.declared.event.Submission.{Submission}
 use Rattle.driver_model.specs.declared.outcome.Outcome.TheVariants as outcome
 use Rattle.driver_model.specs.News.{silence}
-use Rattle.driver_model.specs.Request.{packed, shape_of, awaits_reply}
+use Rattle.driver_model.specs.Request.{packed_bytes, shape_of, is_reply_awaited}
 use Rattle.link_laws.proofs.Lists.{get_last}
 use Rattle.link_laws.proofs.TiedLink.{told_tied, named_tied, all_push}
 use Rattle.mux_conn.specs.declared.request.Progress.TheVariants as progress
@@ -18,7 +18,7 @@ use Rattle.mux_conn.specs.declared.request.Request.{Request}
 use Rattle.mux_conn.specs.declared.request.Waiting.{Waiting}
 use Rattle.mux_conn.specs.Requests.{is_open as is_open_progress, is_waiting, if_there, name_or_none, is_open_at, is_waiting_at, name_at, waiting_of, asked}
 use Rattle.shared_session.specs.declared.core_state.Core.{Core}
-use Rattle.shared_session.specs.Turn.{Turning, heard, refused, asked_for, pending, effect, counted, is_bad}
+use Rattle.shared_session.specs.Turn.{Turning, heard, refused_with, asked_for, pending, effect, counted, is_bad}
 use Rattle.legal_trace.specs.Story.{Story}
 use Rattle.legal_trace.specs.Book.{Book, blank_book, book, entered}
 use Rattle.legal_trace.specs.Legal.{AllStand, NoneEnds, MayAnswer}
@@ -36,7 +36,7 @@ use Rattle.session_laws.proofs.Submit.{stories_with, new_story, story_is_new, ot
 
 -- it is answered at once
 pub refused_applied : (before : List Action) (c : Core) (started : List ℕ) (word : ℕ) (what : Submission) (e : RedisError) → Between before c started → is_bad c (event.Submit what) ≡ false → IsErrorOf (book before).shut what e
-    → HasApplied (before ++ turn_of c word (event.Submit what) ∷ []) (refused (heard (counted c) (event.Submit what)) e) started
+    → HasApplied (before ++ turn_of c word (event.Submit what) ∷ []) (refused_with (heard (counted c) (event.Submit what)) e) started
 refused_applied before c started word what e h good why =
     let b = book before in
     let front = before ++ turn_of c word (event.Submit what) ∷ [] in
@@ -67,7 +67,7 @@ more_requests c = c.single.connection.requests ++ new_request c ∷ []
 
 -- how it waits
 abbrev new_waiting : Core → Submission → Waiting
-new_waiting c what = waiting_of (length c.single.connection.requests) (packed what) (shape_of what) (awaits_reply what)
+new_waiting c what = waiting_of (length c.single.connection.requests) (packed_bytes what) (shape_of what) (is_reply_awaited what)
 
 -- who waits then
 waiting_more : (waiting : List Waiting) (w : Waiting) → waiting_ids (waiting ++ w ∷ []) ≡ waiting_ids waiting ++ w.number ∷ []
@@ -121,7 +121,7 @@ asked_lines b c started what h =
       entries = entries_longer conn.requests (more_requests c) (link_in conn.life).row longer h.lines.entries;
       packs = all_push (IsPacked after (more_requests c)) conn.waiting (new_waiting c what)
           (packs_longer c.table b.story after conn.requests (more_requests c) conn.waiting h.names same longer (λ p i. at p (in_right p started (queue ++ last) (in_right p queue last i))) h.lines.packs)
-          (subst (λ (s : Story). IsOf s (packed what) (shape_of what) (awaits_reply what)) (sym own) (record { packs = refl; shape_is = refl; awaited_is = refl }));
+          (subst (λ (s : Story). IsOf s (packed_bytes what) (shape_of what) (is_reply_awaited what)) (sym own) (record { packs = refl; shape_is = refl; awaited_is = refl }));
       there = λ p e. before_or_new conn.requests (more_requests c) p _
           (λ old. elim (h.lines.there p (sym (there_longer is_open_progress conn.requests (more_requests c) p longer old) ∙ e)) [
             | inl i ↦ inl i
@@ -156,8 +156,8 @@ abbrev core_asked : Core → Submission → Core
 core_asked c what = record (turned c (event.Submit what)) { table = c.table ++ Some (pending (length c.single.connection.requests)) ∷ [] }
 
 -- the session is tied with it
-asked_tied : (b : Book) (c : Core) (started : List ℕ) (word : ℕ) (what : Submission) → Tied b (inner c started) → c.single.connection.fresh ≡ [] → b.shut ≡ false → packed what ≢ []
-    → Tied (entered b (turn_of c word (event.Submit what))) (seen (core_asked c what) (asked c.single.connection (length c.table) (packed what) (shape_of what) (awaits_reply what)) [] started)
+asked_tied : (b : Book) (c : Core) (started : List ℕ) (word : ℕ) (what : Submission) → Tied b (inner c started) → c.single.connection.fresh ≡ [] → b.shut ≡ false → packed_bytes what ≢ []
+    → Tied (entered b (turn_of c word (event.Submit what))) (seen (core_asked c what) (asked c.single.connection (length c.table) (packed_bytes what) (shape_of what) (is_reply_awaited what)) [] started)
 asked_tied b c started word what h no_fresh up some =
     let conn = c.single.connection in
     let ledger = b.link c.single.link in
@@ -197,11 +197,11 @@ asked_tied b c started word what h no_fresh up some =
     }
 
 -- no act is shown
-pub asked_applied : (before : List Action) (c : Core) (started : List ℕ) (word : ℕ) (what : Submission) → Between before c started → is_bad c (event.Submit what) ≡ false → (book before).shut ≡ false → packed what ≢ []
+pub asked_applied : (before : List Action) (c : Core) (started : List ℕ) (word : ℕ) (what : Submission) → Between before c started → is_bad c (event.Submit what) ≡ false → (book before).shut ≡ false → packed_bytes what ≢ []
     → HasApplied (before ++ turn_of c word (event.Submit what) ∷ []) (asked_for (heard (counted c) (event.Submit what)) what) started
 asked_applied before c started word what h good up some =
     let b = book before in
-    silent_applied before c started word (event.Submit what) (core_asked c what) (asked c.single.connection (length c.table) (packed what) (shape_of what) (awaits_reply what)) h good (λ m. silent_no_end (b.link m)) (λ z. absurd (omega arith)) h.whole
+    silent_applied before c started word (event.Submit what) (core_asked c what) (asked c.single.connection (length c.table) (packed_bytes what) (shape_of what) (is_reply_awaited what)) h good (λ m. silent_no_end (b.link m)) (λ z. absurd (omega arith)) h.whole
     (asked_tied b c started word what h.sound.tied h.fresh up some)
 
 -- one or the other
@@ -222,8 +222,8 @@ submit_applied before c started word what h good =
     let t = heard (counted c) (event.Submit what) in
     let front = before ++ turn_of c word (event.Submit what) ∷ [] in
     let shut_is : (c.shut || false) ≡ (book before).shut = or_none c.shut ∙ sym h.sound.tied.numbers.shut in
-    chosen (λ (x : Turning). HasApplied front x started) (c.shut || false) (refused t error.Closed) (if length (packed what) == 0 then refused t error.EmptyCommand else asked_for t what)
+    chosen (λ (x : Turning). HasApplied front x started) (c.shut || false) (refused_with t error.Closed) (if length (packed_bytes what) == 0 then refused_with t error.EmptyCommand else asked_for t what)
     (λ s. refused_applied before c started word what error.Closed h good (inl (sym shut_is ∙ s, refl)))
-    (λ f. chosen (λ (x : Turning). HasApplied front x started) (length (packed what) == 0) (refused t error.EmptyCommand) (asked_for t what)
+    (λ f. chosen (λ (x : Turning). HasApplied front x started) (length (packed_bytes what) == 0) (refused_with t error.EmptyCommand) (asked_for t what)
     (λ e. refused_applied before c started word what error.EmptyCommand h good (inr (sym shut_is ∙ f, e, refl)))
-    (λ n. asked_applied before c started word what h good (sym shut_is ∙ f) (some_bytes (packed what) n)))
+    (λ n. asked_applied before c started word what h good (sym shut_is ∙ f) (some_bytes (packed_bytes what) n)))

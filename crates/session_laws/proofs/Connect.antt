@@ -4,7 +4,7 @@ use Rattle.containers.proofs.Choices.{chosen}
 use Rattle.driver_model.specs.declared.action.Action.{Action}
 use Rattle.driver_model.specs.declared.action.Action.TheVariants as action
 use Rattle.driver_model.specs.declared.event.EventKind.{EventKind}
-use Rattle.driver_model.specs.News.{connected, news}
+use Rattle.driver_model.specs.News.{connected, news_of}
 use Rattle.link_core.specs.Link.{LinkState}
 use Rattle.link_laws.proofs.TiedLink.{TiedLink, connected_tied}
 use Rattle.mux_conn.specs.declared.life.Life.{Life}
@@ -41,7 +41,7 @@ connected_no_end l =
     (λ f. chosen (λ (x : Option Ending). x ≡ None) (after.asked && not (is_over after)) None None (λ t. refl) (λ g. refl))
 
 -- it was up before
-again : (before : List Action) (c : Core) (started : List ℕ) (word : ℕ) (kind : EventKind) (link : LinkState) → Between before c started → is_bad c kind ≡ false → IsNewsKind kind → news c.single.link kind ≡ connected → c.single.connection.life ≡ Ready link
+again : (before : List Action) (c : Core) (started : List ℕ) (word : ℕ) (kind : EventKind) (link : LinkState) → Between before c started → is_bad c kind ≡ false → IsNewsKind kind → news_of c.single.link kind ≡ connected → c.single.connection.life ≡ Ready link
     → HasApplied (before ++ turn_of c word kind ∷ []) (with_work (record { core = turned c kind; acts = [] }) (record { conn = c.single.connection; acts = [] })) started
 again before c started word kind link h good k is e =
     let b = book before in
@@ -61,7 +61,7 @@ new_is_whole : (link : LinkState) → Ready new_link ≡ Ready link → IsWhole 
 new_is_whole link e = let same : new_link ≡ link = cc in subst IsWhole same (record { sound = refl; empty = refl; size = refl; boundary = refl })
 
 -- it is up from now on, which is shown
-created : (before : List Action) (c : Core) (started : List ℕ) (word : ℕ) (kind : EventKind) → Between before c started → is_bad c kind ≡ false → IsNewsKind kind → news c.single.link kind ≡ connected → c.single.connection.life ≡ Dialing
+created : (before : List Action) (c : Core) (started : List ℕ) (word : ℕ) (kind : EventKind) → Between before c started → is_bad c kind ≡ false → IsNewsKind kind → news_of c.single.link kind ≡ connected → c.single.connection.life ≡ Dialing
     → HasApplied (before ++ turn_of c word kind ∷ []) (with_work (record { core = turned c kind; acts = [] }) (connected_at (record { conn = c.single.connection; acts = [] }) Dialing)) started
 created before c started word kind h good k is e =
     let b = book before in
@@ -74,7 +74,7 @@ created before c started word kind h good k is e =
     let t = seen (turned c kind) (lives_as c (Ready new_link)) [] started in
     let lived = subst (λ (x : Life). TiedLife l0 b.created x) e h0.life in
     let up_is : l ≡ record l0 { up = true; heard = connected } = connects l0 (ap is_some lived.2) in
-    let heard_is_connected : noted l0 (hears (news c.single.link kind)) ≡ l = ap (heard_by b c) is in
+    let heard_is_connected : noted l0 (hears (news_of c.single.link kind)) ≡ l = ap (heard_by b c) is in
     let alive : conn.life ≢ Ended = λ over. (let no : Dialing ≡ Ended = sym e ∙ over in cc) in
     let tied : Tied (entered now action.Created) t = heard_tied b c started word (b.created + 1) kind (Ready new_link) [] l h0 good heard_is_connected (heard_starts l0 connected)
     (subst (λ (x : Ledger). TiedLife x (b.created + 1) (Ready new_link)) (sym up_is) (lived.0, refl, lived.2, λ z. absurd (omega arith)))
@@ -100,7 +100,7 @@ created before c started word kind h good k is e =
     }
 
 -- the connect is answered, once or again
-pub connected_applied : (before : List Action) (c : Core) (started : List ℕ) (word : ℕ) (kind : EventKind) → Between before c started → is_bad c kind ≡ false → IsNewsKind kind → news c.single.link kind ≡ connected
+pub connected_applied : (before : List Action) (c : Core) (started : List ℕ) (word : ℕ) (kind : EventKind) → Between before c started → is_bad c kind ≡ false → IsNewsKind kind → news_of c.single.link kind ≡ connected
     → HasApplied (before ++ turn_of c word kind ∷ []) (with_work (record { core = turned c kind; acts = [] }) (connected_at (record { conn = c.single.connection; acts = [] }) c.single.connection.life)) started
 connected_applied before c started word kind h good k is = by_life c.single.connection.life refl
   where

@@ -6,7 +6,7 @@ use Rattle.driver_model.specs.declared.action.Action.{Action}
 use Rattle.driver_model.specs.declared.action.Owner.{Owner}
 use Rattle.driver_model.specs.declared.event.EventKind.{EventKind}
 use Rattle.driver_model.specs.declared.news.LinkFault.{LinkFault}
-use Rattle.driver_model.specs.News.{News, silence, connected, took, came, failed, shut, news}
+use Rattle.driver_model.specs.News.{News, silence, connected, took, came, failed, shut, news_of}
 use Rattle.link_core.specs.declared.message.Queued.{Queued}
 use Rattle.link_core.specs.declared.message.Settled.{Settled}
 use Rattle.link_core.specs.Ends.{row_closed, row_hit, queue_closed}
@@ -118,12 +118,12 @@ plain_leads before c started n k h = by_news n k
     by_news shut j = leads_on before c started shut h (told_life l (book before).created c.single.connection.life shut h.sound.tied.life, λ alive. told_tied (owner_of c.single.connection.requests) l (link_in c.single.connection.life) l.asked l.up shut (h.sound.tied.link alive))
 
 -- the turn of such an event begins with its link as it was
-plain_begins : (before : List Action) (c : Core) (started : List ℕ) (word : ℕ) (kind : EventKind) (n : News) → IsPlain n → Between before c started → is_bad c kind ≡ false → IsNewsKind kind → news c.single.link kind ≡ n
+plain_begins : (before : List Action) (c : Core) (started : List ℕ) (word : ℕ) (kind : EventKind) (n : News) → IsPlain n → Between before c started → is_bad c kind ≡ false → IsNewsKind kind → news_of c.single.link kind ≡ n
     → Begins (before ++ turn_of c word kind ∷ []) (turned c kind) c.single.connection (heard_by (book before) c n) [] started
 plain_begins before c started word kind n p h good k is = heard_begins before c started word kind n c.single.connection.life [] h good k is (plain_leads before c started n p h)
 
 -- a fault, or the peer's end
-pub failed_applied : (before : List Action) (c : Core) (started : List ℕ) (word : ℕ) (kind : EventKind) (f : LinkFault) → Between before c started → is_bad c kind ≡ false → IsNewsKind kind → news c.single.link kind ≡ failed f
+pub failed_applied : (before : List Action) (c : Core) (started : List ℕ) (word : ℕ) (kind : EventKind) (f : LinkFault) → Between before c started → is_bad c kind ≡ false → IsNewsKind kind → news_of c.single.link kind ≡ failed f
     → HasApplied (before ++ turn_of c word kind ∷ []) (with_work (record { core = turned c kind; acts = [] }) (failed_at (record { conn = c.single.connection; acts = [] }) f c.single.connection.life)) started
 failed_applied before c started word kind f h good k is = by_life c.single.connection.life refl
   where
@@ -139,7 +139,7 @@ failed_applied before c started word kind f h good k is = by_life c.single.conne
         (fault_ends (before ++ turn_of c word kind ∷ []) (turned c kind) (record { conn = c.single.connection; acts = [] }) link f started begins.holds e (h.whole link e).empty must)
 
 -- everything is shut down
-pub shut_applied : (before : List Action) (c : Core) (started : List ℕ) (word : ℕ) (kind : EventKind) → Between before c started → is_bad c kind ≡ false → IsNewsKind kind → news c.single.link kind ≡ shut
+pub shut_applied : (before : List Action) (c : Core) (started : List ℕ) (word : ℕ) (kind : EventKind) → Between before c started → is_bad c kind ≡ false → IsNewsKind kind → news_of c.single.link kind ≡ shut
     → HasApplied (before ++ turn_of c word kind ∷ []) (with_work (record { core = turned c kind; acts = [] }) (shut_at (record { conn = c.single.connection; acts = [] }) c.single.connection.life)) started
 shut_applied before c started word kind h good k is = by_life c.single.connection.life refl
   where

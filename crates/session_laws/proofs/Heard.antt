@@ -3,7 +3,7 @@ use Rattle.std.proofs.Common.{◌≡◌, ◌≢◌, ℕ, ◌==◌, false, ◌&&�
 use Rattle.containers.proofs.Choices.{by_test, chosen, if_false, left_if, eq_from, ne_from, not_both}
 use Rattle.driver_model.specs.declared.action.Action.{Action}
 use Rattle.driver_model.specs.declared.event.EventKind.{EventKind}
-use Rattle.driver_model.specs.News.{News, silence, connected, took, came, failed, shut, news}
+use Rattle.driver_model.specs.News.{News, silence, connected, took, came, failed, shut, news_of}
 use Rattle.link_laws.proofs.TiedLink.{TiedLink, unheard_tied}
 use Rattle.mux_conn.specs.declared.connection.MultiplexedConnection.{MultiplexedConnection}
 use Rattle.mux_conn.specs.declared.life.Life.{Life}
@@ -46,13 +46,13 @@ pub record Leads (b : Book) (c : Core) (n : News) (life : Life) (pending started
   pub waits : TiedWaits b.story c.single.connection.requests life c.single.connection.fresh
 
 -- the turn begins so
-pub heard_begins : (before : List Action) (c : Core) (started : List ℕ) (word : ℕ) (kind : EventKind) (n : News) (life : Life) (pending : List ℕ) → Between before c started → is_bad c kind ≡ false → IsNewsKind kind → news c.single.link kind ≡ n
+pub heard_begins : (before : List Action) (c : Core) (started : List ℕ) (word : ℕ) (kind : EventKind) (n : News) (life : Life) (pending : List ℕ) → Between before c started → is_bad c kind ≡ false → IsNewsKind kind → news_of c.single.link kind ≡ n
     → Leads (book before) c n life pending started → Begins (before ++ turn_of c word kind ∷ []) (turned c kind) (lives_as c life) (heard_by (book before) c n) pending started
 heard_begins before c started word kind n life pending h good k is g =
     let b = book before in
     let l = heard_by b c n in
     let t = seen (turned c kind) (lives_as c life) pending started in
-    let same : noted (b.link c.single.link) (hears (news c.single.link kind)) ≡ l = ap (λ (x : News). heard_by b c x) is in
+    let same : noted (b.link c.single.link) (hears (news_of c.single.link kind)) ≡ l = ap (λ (x : News). heard_by b c x) is in
     let tied : Tied (heard_book b word kind) t = heard_tied b c started word b.created kind life pending l h.sound.tied good same (heard_starts (b.link c.single.link) n) g.lived g.linked g.lines g.waits in
     let book_is : entered b (turn_of c word kind) ≡ heard_book b word kind = heard_is b c.turns word kind k in
     record {
@@ -61,7 +61,7 @@ heard_begins before c started word kind n life pending h good k is g =
     }
 
 -- where the link need not end then, and no act follows, the event has had its effect
-pub quiet_applied : (before : List Action) (c : Core) (started : List ℕ) (word : ℕ) (kind : EventKind) (n : News) (life : Life) → Between before c started → is_bad c kind ≡ false → IsNewsKind kind → news c.single.link kind ≡ n
+pub quiet_applied : (before : List Action) (c : Core) (started : List ℕ) (word : ℕ) (kind : EventKind) (n : News) (life : Life) → Between before c started → is_bad c kind ≡ false → IsNewsKind kind → news_of c.single.link kind ≡ n
     → Leads (book before) c n life [] started → ending (heard_by (book before) c n) ≡ None → IsWholeIn life
     → HasApplied (before ++ turn_of c word kind ∷ []) (with_work (record { core = turned c kind; acts = [] }) (record { conn = lives_as c life; acts = [] })) started
 quiet_applied before c started word kind n life h good k is g no_end whole =
@@ -95,7 +95,7 @@ over_no_end : (l : Ledger) (created : ℕ) → TiedLife l created Ended → endi
 over_no_end l created h = not_up_ends l h.0 (over_not_asked l h.1)
 
 -- an event that names a link that has ended has no effect
-pub ended_quiet : (before : List Action) (c : Core) (started : List ℕ) (word : ℕ) (kind : EventKind) (n : News) → Between before c started → is_bad c kind ≡ false → IsNewsKind kind → news c.single.link kind ≡ n → c.single.connection.life ≡ Ended
+pub ended_quiet : (before : List Action) (c : Core) (started : List ℕ) (word : ℕ) (kind : EventKind) (n : News) → Between before c started → is_bad c kind ≡ false → IsNewsKind kind → news_of c.single.link kind ≡ n → c.single.connection.life ≡ Ended
     → HasApplied (before ++ turn_of c word kind ∷ []) (with_work (record { core = turned c kind; acts = [] }) (record { conn = c.single.connection; acts = [] })) started
 ended_quiet before c started word kind n h good k is over =
     let b = book before in
@@ -143,7 +143,7 @@ dialing_no_end l created n k h =
     ∙ chosen (λ (x : Option Ending). x ≡ None) (after.asked && not (is_over after)) (ending_asked n) None (λ t. asked_on n k) (λ f. refl)
 
 -- and the event has no effect
-pub dialing_quiet : (before : List Action) (c : Core) (started : List ℕ) (word : ℕ) (kind : EventKind) (n : News) → IsOfAnother n → Between before c started → is_bad c kind ≡ false → IsNewsKind kind → news c.single.link kind ≡ n → c.single.connection.life ≡ Dialing
+pub dialing_quiet : (before : List Action) (c : Core) (started : List ℕ) (word : ℕ) (kind : EventKind) (n : News) → IsOfAnother n → Between before c started → is_bad c kind ≡ false → IsNewsKind kind → news_of c.single.link kind ≡ n → c.single.connection.life ≡ Dialing
     → HasApplied (before ++ turn_of c word kind ∷ []) (with_work (record { core = turned c kind; acts = [] }) (record { conn = c.single.connection; acts = [] })) started
 dialing_quiet before c started word kind n o h good k is dials =
     let b = book before in

@@ -4,7 +4,7 @@ use Rattle.std.proofs.lemmas.List.{append-nil}
 use Rattle.std.specs.Prelude.{if◌then◌else◌, ◌==◌}
 use Rattle.containers.proofs.Choices.{chosen}
 use Rattle.redis_error.specs.declared.redis_error.RedisError.TheVariants as error
-use Rattle.driver_model.specs.Request.{packed}
+use Rattle.driver_model.specs.Request.{packed_bytes}
 use Rattle.driver_model.specs.declared.action.Action.{Action}
 use Rattle.driver_model.specs.declared.action.Action.TheVariants as action
 use Rattle.driver_model.specs.declared.action.Cause.TheVariants as cause
@@ -16,8 +16,8 @@ use Rattle.driver_model.specs.declared.event.Submission.{Submission}
 use Rattle.mux_conn.specs.declared.act.LinkAct.{LinkAct}
 use Rattle.mux_conn.specs.declared.act.LinkAct.TheVariants as act
 use Rattle.mux_conn.specs.declared.request.Pending.{Pending}
-use Rattle.shared_session.specs.Replay.{AreGood, AreGoodOn, is_bad_after, opening, opening_actions, outcome_at, outcomes_in, run_on, state_after, trace_of, turns_on}
-use Rattle.shared_session.specs.Turn.{Turning, actions_of, asked_for, counted, effect, heard, is_bad, left_by, moved_on, refused, shown_each, submitted, turn}
+use Rattle.shared_session.specs.Replay.{AreGood, AreGoodOn, is_bad_after, opening_core, opening_actions, outcome_at, outcomes_in, run_on, state_after, trace_of, turns_on}
+use Rattle.shared_session.specs.Turn.{Turning, actions_of, asked_for, counted, effect, heard, is_bad, left_by, moved_on, refused_with, shown_each, submitted, next_turn}
 use Rattle.shared_session.specs.declared.core_state.Core.{Core}
 use Rattle.legal_trace.specs.Book.{Book, book, entered_each}
 use Rattle.legal_trace.specs.Events.{is_bad_event}
@@ -37,9 +37,9 @@ use Rattle.session_laws.specs.Outcomes.{last_outcome}
 -- an event leaves the connection's link the same
 refused_link : (t : Turning) (what : Submission) → (submitted t what).core.single.link ≡ t.core.single.link
 refused_link t what =
-    chosen (λ (x : Turning). x.core.single.link ≡ t.core.single.link) t.core.shut (refused t error.Closed) (if length (packed what) == 0 then refused t error.EmptyCommand else asked_for t what)
+    chosen (λ (x : Turning). x.core.single.link ≡ t.core.single.link) t.core.shut (refused_with t error.Closed) (if length (packed_bytes what) == 0 then refused_with t error.EmptyCommand else asked_for t what)
     (λ s. refl)
-    (λ f. chosen (λ (x : Turning). x.core.single.link ≡ t.core.single.link) (length (packed what) == 0) (refused t error.EmptyCommand) (asked_for t what) (λ s. refl) (λ g. refl))
+    (λ f. chosen (λ (x : Turning). x.core.single.link ≡ t.core.single.link) (length (packed_bytes what) == 0) (refused_with t error.EmptyCommand) (asked_for t what) (λ s. refl) (λ g. refl))
 
 -- so does a leave
 left_link : (t : Turning) (x : Option (Option Pending)) → (left_by t x).core.single.link ≡ t.core.single.link
@@ -71,8 +71,8 @@ effect_tells before c e started h applied =
     subst NoneTold (sym (book-append (before ++ a ∷ []) more ∙ ap (λ (b : Book). entered_each b more) (book_more before a))) told
 
 -- one turn leads from between two turns to between the next two
-turn_between : (before : List Action) (c : Core) (e : Event) → IsBetween before c → is_bad c e.kind ≡ false → IsBetween (before ++ actions_of c e) (turn c e.kind).core
-unfolding turn
+turn_between : (before : List Action) (c : Core) (e : Event) → IsBetween before c → is_bad c e.kind ≡ false → IsBetween (before ++ actions_of c e) (next_turn c e.kind).core
+unfolding next_turn
 turn_between before c e h good =
     let a = action.Turn c.turns (cause.Event e) in
     let applied = effect_holds before c h.started e.word e.kind h.between good in
@@ -86,13 +86,13 @@ turn_between before c e h good =
 turns_between : (before : List Action) (c : Core) (es : List Event) → IsBetween before c → AreGoodOn c es → IsBetween (before ++ turns_on c es) (run_on c es)
 turns_between before c [] h good = subst (λ (x : List Action). IsBetween x c) (sym (append-nil before)) h
 turns_between before c (e ∷ es) h good =
-    subst (λ (x : List Action). IsBetween x (run_on (turn c e.kind).core es)) (append_assoc before (actions_of c e) (turns_on (turn c e.kind).core es))
-    (turns_between (before ++ actions_of c e) (turn c e.kind).core es (turn_between before c e h good.0) good.1)
+    subst (λ (x : List Action). IsBetween x (run_on (next_turn c e.kind).core es)) (append_assoc before (actions_of c e) (turns_on (next_turn c e.kind).core es))
+    (turns_between (before ++ actions_of c e) (next_turn c e.kind).core es (turn_between before c e h good.0) good.1)
 
 -- the session after a history, and its trace
 pub replay_between : (config : Config) (word : ℕ) (events : List Event) → AreGood config word events → IsBetween (trace_of config word events) (state_after config word events)
 unfolding trace_of state_after AreGood
-replay_between config word events good = turns_between (opening_actions config word) (opening config word) events (opening_between config word) good
+replay_between config word events good = turns_between (opening_actions config word) (opening_core config word) events (opening_between config word) good
 
 -- the causes of its turns
 --
@@ -116,13 +116,13 @@ turns_causes : (c : Core) (es : List Event) → causes (turns_on c es) ≡ event
 turns_causes c [] = refl
 turns_causes c (e ∷ es) =
     ap (λ cs. cause.Event e ∷ cs)
-    (causes-append (shown_each c.single.link (turn c e.kind).acts) (turns_on (turn c e.kind).core es)
-    ∙ (λ i. no_causes c.single.link (turn c e.kind).acts i ++ turns_causes (turn c e.kind).core es i))
+    (causes-append (shown_each c.single.link (next_turn c e.kind).acts) (turns_on (next_turn c e.kind).core es)
+    ∙ (λ i. no_causes c.single.link (next_turn c e.kind).acts i ++ turns_causes (next_turn c e.kind).core es i))
 
 -- behind the opening
 replay_causes : (config : Config) (word : ℕ) (events : List Event) → causes (trace_of config word events) ≡ cause.Opening config word ∷ event_causes events
 unfolding trace_of
-replay_causes config word events = ap (λ cs. cause.Opening config word ∷ cs) (turns_causes (opening config word) events)
+replay_causes config word events = ap (λ cs. cause.Opening config word ∷ cs) (turns_causes (opening_core config word) events)
 
 -- every replay is legal
 pub replay_legal : (config : Config) (word : ℕ) (events : List Event) → AreGood config word events → Legal config word events (trace_of config word events)

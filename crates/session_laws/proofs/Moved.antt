@@ -7,7 +7,7 @@ use Rattle.driver_model.specs.declared.action.Action.{Action}
 use Rattle.driver_model.specs.declared.outcome.Outcome.{Outcome}
 use Rattle.link_core.specs.Link.{LinkState, started_all}
 use Rattle.link_laws.specs.Settles.{awaited_ids, wanted}
-use Rattle.mux_conn.specs.Connection.{Work, is_stuck, with_link}
+use Rattle.mux_conn.specs.Connection.{Work, moves_none, with_link}
 use Rattle.mux_conn.specs.Effects.{closed, closed_each, waiting_closed}
 use Rattle.mux_conn.specs.Passes.{moved, moved_all, moved_at, moved_each, passed, started_at, still_waiting}
 use Rattle.mux_conn.specs.Requests.{answered, at_progress, is_open as is_open_progress, is_open_at, is_waiting, is_waiting_at, name_at}
@@ -91,14 +91,14 @@ ready_moved before f w started link life h =
 
 -- while the connect isn't answered
 --
-stuck_stays : (w : Work) (qs : List Waiting) → is_stuck w.conn.life ≡ true → moved_each w qs ≡ still_waiting w qs
+stuck_stays : (w : Work) (qs : List Waiting) → moves_none w.conn.life ≡ true → moved_each w qs ≡ still_waiting w qs
 stuck_stays w [] e = refl
-stuck_stays w (q ∷ qs) e = taken_if (is_stuck w.conn.life) (still_waiting w (q ∷ qs)) (moved_each (moved w q) qs) e
+stuck_stays w (q ∷ qs) e = taken_if (moves_none w.conn.life) (still_waiting w (q ∷ qs)) (moved_each (moved w q) qs) e
 
 -- all stays there
 dialing_moved : (before : List Action) (f : Core) (w : Work) (started : List ℕ) → w.conn.life ≡ Dialing → IsReady before f w started → HasMoved before f (passed w)
 dialing_moved before f w started life h =
-    let same : passed w ≡ w = ap (λ (x : Life). moved_all (started_at w x)) life ∙ stuck_stays (still_waiting w []) w.conn.waiting (ap is_stuck life) in
+    let same : passed w ≡ w = ap (λ (x : Life). moved_all (started_at w x)) life ∙ stuck_stays (still_waiting w []) w.conn.waiting (ap moves_none life) in
     subst (HasMoved before f) (sym same) (record {
       started = started;
       holds = h.holds;
@@ -147,7 +147,7 @@ moved_over w q over h =
 each_over : (w : Work) (qs : List Waiting) → w.conn.life ≡ Ended → OpenWaits w.conn.requests → moved_each w qs ≡ still_waiting (closed_each w qs) []
 each_over w [] over h = refl
 each_over w (q ∷ qs) over h =
-    left_if (is_stuck w.conn.life) _ (moved_each (moved w q) qs) (ap is_stuck over)
+    left_if (moves_none w.conn.life) _ (moved_each (moved w q) qs) (ap moves_none over)
     ∙ ap (λ (x : Work). moved_each x qs) (moved_over w q over h)
     ∙ each_over (answered w q.number closed) qs ((answered_leaves w q.number closed).life ∙ over) (answered_waits w q.number closed h)
 

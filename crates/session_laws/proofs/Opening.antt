@@ -11,7 +11,7 @@ use Rattle.link_core.specs.Link.{no_boundary}
 use Rattle.link_laws.proofs.TiedLink.{asked_tied, fresh_tied}
 use Rattle.mux_conn.specs.Effects.{max_size, new_link}
 use Rattle.mux_conn.specs.declared.life.Life.TheVariants.{Dialing}
-use Rattle.shared_session.specs.Replay.{first_link, opening, opening_actions}
+use Rattle.shared_session.specs.Replay.{first_link, opening_core, opening_actions}
 use Rattle.legal_trace.specs.Book.{Book, blank_book, book, entered}
 use Rattle.legal_trace.specs.Ledger.{Ledger, Line, asks, blank_ledger, ending, noted_each}
 use Rattle.legal_trace.specs.Legal.{AllStand, NoneEnds}
@@ -32,7 +32,7 @@ opened_link : (config : Config) (word : ℕ) (m : ℕ) → m ≢ first_link → 
 opened_link config word m other = ap (noted_each blank_ledger) (left_if (first_link == m) (asks ∷ []) [] (ne_test first_link m (λ e. other (sym e))))
 
 -- its numbers
-opening_numbers : (config : Config) (word : ℕ) → TiedNumbers (opened config word) (inner (opening config word) [])
+opening_numbers : (config : Config) (word : ℕ) → TiedNumbers (opened config word) (inner (opening_core config word) [])
 opening_numbers config word = record { turns = refl; links = refl; submissions = refl; shut = refl; one = refl; only = λ m less. omega arith }
 
 -- its lines
@@ -48,7 +48,7 @@ opening_tries : (l : Ledger) → l.starts ≡ [] → TiedTries l (λ n. blank_st
 opening_tries l none = record { owners = ap owners_of none; shapes = λ k p s e i. cc; tried = λ k p e. cc; untried = λ p r e out. cc }
 
 -- the session is tied to it
-pub opening_tied : (config : Config) (word : ℕ) → Tied (opened config word) (inner (opening config word) [])
+pub opening_tied : (config : Config) (word : ℕ) → Tied (opened config word) (inner (opening_core config word) [])
 opening_tied config word = record {
   numbers = opening_numbers config word;
   others = λ m other. subst IsUnknown (sym (opened_link config word m other)) (record { asked = refl; up = refl; end = refl; starts = refl });
@@ -74,11 +74,11 @@ opening_stands : (config : Config) (word : ℕ) → AllStand blank_book (opening
 opening_stands config word = (record { next = refl; is_for = refl }, (record { config = config; word = word; opens = refl; first = refl; next = refl; address = (refl, refl) }, tt))
 
 -- the session after the opening
-pub opening_between : (config : Config) (word : ℕ) → IsBetween (opening_actions config word) (opening config word)
+pub opening_between : (config : Config) (word : ℕ) → IsBetween (opening_actions config word) (opening_core config word)
 unfolding book
 opening_between config word =
     let b = opened config word in
-    let c = opening config word in
+    let c = opening_core config word in
     let t = inner c [] in
     let tied = opening_tied config word in
     let told = not_told b (λ n. refl) in

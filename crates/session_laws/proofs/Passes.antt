@@ -8,10 +8,10 @@ use Rattle.resp_value.specs.declared.value.Value.TheVariants.{Nil}
 use Rattle.driver_model.specs.declared.action.Action.{Action}
 use Rattle.driver_model.specs.declared.action.Action.TheVariants as action
 use Rattle.driver_model.specs.declared.outcome.Outcome.TheVariants as outcome
-use Rattle.link_core.specs.Link.{LinkState, Starting, is_full, is_held_back, no_boundary, started_all, started_each, started_one}
+use Rattle.link_core.specs.Link.{LinkState, Starting, is_full, holds_back, no_boundary, started_all, started_each, started_one}
 use Rattle.link_core.specs.declared.message.Queued.{Queued}
 use Rattle.link_laws.proofs.Bounds.{free_greatest}
-use Rattle.mux_conn.specs.Connection.{Work, acted, is_stuck, with_link}
+use Rattle.mux_conn.specs.Connection.{Work, acted, moves_none, with_link}
 use Rattle.mux_conn.specs.Effects.{max_size}
 use Rattle.mux_conn.specs.Passes.{message_of, moved, moved_at, moved_each, placed_at, started_at}
 use Rattle.mux_conn.specs.Requests.{answered, at_progress, is_open as is_open_progress, is_open_at, is_waiting_at, name_at, progressed}
@@ -57,7 +57,7 @@ pub record IsUp (before : List Action) (f : Core) (w : Work) (waiting : List Wai
 -- all that are in the queue do, where the link has no boundary
 each_whole : (s : Starting) (qs : List Queued) → s.link.broken ≡ false → s.link.size ≡ max_size → s.link.boundary ≡ no_boundary → IsWhole (started_each s qs).link
 each_whole s [] sound size free = record { sound = sound; empty = refl; size = size; boundary = free }
-each_whole s (q ∷ qs) sound size free = if_false (λ (r : Starting). IsWhole r.link) (is_held_back s.link) _ (started_each (started_one s q) qs) (free_greatest s.link free) (each_whole (started_one s q) qs sound size free)
+each_whole s (q ∷ qs) sound size free = if_false (λ (r : Starting). IsWhole r.link) (holds_back s.link) _ (started_each (started_one s q) qs) (free_greatest s.link free) (each_whole (started_one s q) qs sound size free)
 
 -- and the link is whole behind them
 pub started_up : (before : List Action) (f : Core) (w : Work) (link : LinkState) (waiting : List Waiting) (done : List ℕ) → link.broken ≡ false → link.size ≡ max_size → link.boundary ≡ no_boundary
@@ -215,12 +215,12 @@ has_room link h = (λ i. nat_le (h.size i) (length (h.empty i)))
 pub moved_all_up : (before : List Action) (f : Core) (w : Work) (qs : List Waiting) → IsUp before f w qs → IsUp before f (moved_each w qs) []
 moved_all_up before f w [] h = record { link = h.link; life = h.life; whole = h.whole; started = h.started; going = h.going }
 moved_all_up before f w (q ∷ qs) h =
-    if_false (λ (x : Work). IsUp before f x []) (is_stuck w.conn.life) _ (moved_each (moved w q) qs) (ap is_stuck h.life ∙ has_room h.link h.whole)
+    if_false (λ (x : Work). IsUp before f x []) (moves_none w.conn.life) _ (moved_each (moved w q) qs) (ap moves_none h.life ∙ has_room h.link h.whole)
     (moved_all_up before f (moved w q) qs (moved_up before f w q qs h))
 
 -- and none waits
 pub moved_none_waits : (before : List Action) (f : Core) (w : Work) (qs : List Waiting) → IsUp before f w qs → (moved_each w qs).conn.waiting ≡ []
 moved_none_waits before f w [] h = refl
 moved_none_waits before f w (q ∷ qs) h =
-    if_false (λ (x : Work). x.conn.waiting ≡ []) (is_stuck w.conn.life) _ (moved_each (moved w q) qs) (ap is_stuck h.life ∙ has_room h.link h.whole)
+    if_false (λ (x : Work). x.conn.waiting ≡ []) (moves_none w.conn.life) _ (moved_each (moved w q) qs) (ap moves_none h.life ∙ has_room h.link h.whole)
     (moved_none_waits before f (moved w q) qs (moved_up before f w q qs h))

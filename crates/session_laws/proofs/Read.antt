@@ -10,8 +10,8 @@ use Rattle.driver_model.specs.declared.action.Action.{Action}
 use Rattle.driver_model.specs.declared.action.Owner.{Owner}
 use Rattle.driver_model.specs.declared.event.EventKind.{EventKind}
 use Rattle.driver_model.specs.declared.news.LinkFault.TheVariants as fault
-use Rattle.driver_model.specs.News.{came as came_news, news}
-use Rattle.driver_model.specs.Shape.{need}
+use Rattle.driver_model.specs.News.{came, news_of}
+use Rattle.driver_model.specs.Shape.{need_of}
 use Rattle.link_core.specs.declared.message.Entry.{Entry}
 use Rattle.link_core.specs.Dealing.{Dealing, with_item, dealt_to, dealt, dealt_each}
 use Rattle.link_core.specs.Link.{LinkState, Settling}
@@ -48,7 +48,7 @@ item_entries : (requests : List Request) (d : Dealing) (item : Data) (row : List
 item_entries requests d item [] all whole = whole
 item_entries requests d item (e ∷ es) all whole =
     let f = with_item e item in
-    chosen (λ (x : Dealing). AllByRecursion (IsEntry requests) x.row) (nat_lt (length f.got) (need e.shape)) _ _
+    chosen (λ (x : Dealing). AllByRecursion (IsEntry requests) x.row) (nat_lt (length f.got) (need_of e.shape)) _ _
     (λ t. (record { below = all.0.below; open_at = all.0.open_at }, all.1))
     (λ n. all.1)
 
@@ -101,7 +101,7 @@ read_whole link piece h sound x e = let same : has_read link piece ≡ x = cc in
 -- the link that is up
 --
 -- the turn begins, with those to be answered that the bytes settle
-read_begins : (before : List Action) (c : Core) (started : List ℕ) (word : ℕ) (kind : EventKind) (piece : List ℕ) (link : LinkState) → Between before c started → is_bad c kind ≡ false → IsNewsKind kind → news c.single.link kind ≡ came_news piece
+read_begins : (before : List Action) (c : Core) (started : List ℕ) (word : ℕ) (kind : EventKind) (piece : List ℕ) (link : LinkState) → Between before c started → is_bad c kind ≡ false → IsNewsKind kind → news_of c.single.link kind ≡ came piece
     → c.single.connection.life ≡ Ready link
     → Begins (before ++ turn_of c word kind ∷ []) (turned c kind) (lives_as c (Ready (has_read link piece))) (has_heard ((book before).link c.single.link) piece) (settled_ids (deals link piece).out) started
 read_begins before c started word kind piece link h good k is e =
@@ -110,8 +110,8 @@ read_begins before c started word kind piece link h good k is e =
     let conn = c.single.connection in
     let name = owner_of conn.requests in
     let u = up_tied name l b.created conn.life link e h.sound.tied.life h.sound.tied.link in
-    let same : heard_by b c (came_news piece) ≡ has_heard l piece = heard_is l piece u.up in
-    let begins = heard_begins before c started word kind (came_news piece) (Ready (has_read link piece)) (settled_ids (deals link piece).out) h good k is (record {
+    let same : heard_by b c (came piece) ≡ has_heard l piece = heard_is l piece u.up in
+    let begins = heard_begins before c started word kind (came piece) (Ready (has_read link piece)) (settled_ids (deals link piece).out) h good k is (record {
       lived = subst (λ (x : Ledger). TiedLife x b.created (Ready (has_read link piece))) (sym same) (u.asked, u.up, u.alive, u.shown);
       linked = λ n. subst (λ (x : Ledger). TiedLink name x (has_read link piece)) (sym same) (read_tied name l link piece u.alive u.tied);
       lines = read_lines b.story conn.requests link piece conn.waiting started (subst (λ (x : Life). TiedLines b.story conn.requests (link_in x) conn.waiting [] started) e h.sound.tied.lines);
@@ -124,7 +124,7 @@ abbrev reads : Core → LinkState → List ℕ → Work
 reads c link piece = record { conn = lives_as c (Ready (has_read link piece)); acts = [] }
 
 -- what the bytes settle is answered
-read_answered : (before : List Action) (c : Core) (started : List ℕ) (word : ℕ) (kind : EventKind) (piece : List ℕ) (link : LinkState) → Between before c started → is_bad c kind ≡ false → IsNewsKind kind → news c.single.link kind ≡ came_news piece
+read_answered : (before : List Action) (c : Core) (started : List ℕ) (word : ℕ) (kind : EventKind) (piece : List ℕ) (link : LinkState) → Between before c started → is_bad c kind ≡ false → IsNewsKind kind → news_of c.single.link kind ≡ came piece
     → c.single.connection.life ≡ Ready link
     → (let front = before ++ turn_of c word kind ∷ [] in let f = turned c kind in
     IsAnswering front f ((book (trace_of_acts front f [])).link c.single.link) (owed (book (trace_of_acts front f []))) (name_at c.single.connection.requests) (settled_each (reads c link piece) (deals link piece).out) [] started)
@@ -149,7 +149,7 @@ read_answered before c started word kind piece link h good k is e =
     (answering front f w (ids ++ []) started (subst (λ ns. Holds front f w ns started) (sym (append-nil ids)) begins.holds) (subst (IsInLine conn.requests (has_read link piece) conn.waiting) (sym (append-nil ids)) line))
 
 -- a link that is up reads on, or is broken and ends
-read_on : (before : List Action) (c : Core) (started : List ℕ) (word : ℕ) (kind : EventKind) (piece : List ℕ) (link : LinkState) → Between before c started → is_bad c kind ≡ false → IsNewsKind kind → news c.single.link kind ≡ came_news piece
+read_on : (before : List Action) (c : Core) (started : List ℕ) (word : ℕ) (kind : EventKind) (piece : List ℕ) (link : LinkState) → Between before c started → is_bad c kind ≡ false → IsNewsKind kind → news_of c.single.link kind ≡ came piece
     → c.single.connection.life ≡ Ready link
     → HasApplied (before ++ turn_of c word kind ∷ []) (with_work (record { core = turned c kind; acts = [] }) (read_to (record { conn = c.single.connection; acts = [] }) (record { link = has_read link piece; out = (deals link piece).out }))) started
 read_on before c started word kind piece link h good k is e =
@@ -177,13 +177,13 @@ read_on before c started word kind piece link h good k is e =
     })
 
 -- bytes come
-pub read_applied : (before : List Action) (c : Core) (started : List ℕ) (word : ℕ) (kind : EventKind) (piece : List ℕ) → Between before c started → is_bad c kind ≡ false → IsNewsKind kind → news c.single.link kind ≡ came_news piece
+pub read_applied : (before : List Action) (c : Core) (started : List ℕ) (word : ℕ) (kind : EventKind) (piece : List ℕ) → Between before c started → is_bad c kind ≡ false → IsNewsKind kind → news_of c.single.link kind ≡ came piece
     → HasApplied (before ++ turn_of c word kind ∷ []) (with_work (record { core = turned c kind; acts = [] }) (read_at (record { conn = c.single.connection; acts = [] }) piece c.single.connection.life)) started
 read_applied before c started word kind piece h good k is = by_life c.single.connection.life refl
   where
     by_life : (x : Life) → c.single.connection.life ≡ x → HasApplied (before ++ turn_of c word kind ∷ []) (with_work (record { core = turned c kind; acts = [] }) (read_at (record { conn = c.single.connection; acts = [] }) piece x)) started
-    by_life Dialing e = dialing_quiet before c started word kind (came_news piece) tt h good k is e
-    by_life Ended e = ended_quiet before c started word kind (came_news piece) h good k is e
+    by_life Dialing e = dialing_quiet before c started word kind (came piece) tt h good k is e
+    by_life Ended e = ended_quiet before c started word kind (came piece) h good k is e
     by_life (Ready link) e =
         subst (λ (s : Settling). HasApplied (before ++ turn_of c word kind ∷ []) (with_work (record { core = turned c kind; acts = [] }) (read_to (record { conn = c.single.connection; acts = [] }) s)) started)
         (sym (reads_on link [] piece (h.whole link e).sound)) (read_on before c started word kind piece link h good k is e)

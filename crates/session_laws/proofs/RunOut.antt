@@ -10,8 +10,8 @@ use Rattle.mux_conn.specs.Connection.{is_spent_in, started_in}
 use Rattle.mux_conn.specs.declared.life.Life.{Life}
 use Rattle.mux_conn.specs.declared.life.Life.TheVariants.{Dialing, Ended, Ready}
 use Rattle.mux_conn.specs.declared.request.Request.{Request}
-use Rattle.shared_session.specs.Replay.{AreGood, AreGoodOn, is_bad_after, is_spent_after, opening, run_on, state_after, trace_of}
-use Rattle.shared_session.specs.Turn.{is_bad, is_spent, spends, turn}
+use Rattle.shared_session.specs.Replay.{AreGood, AreGoodOn, is_bad_after, is_spent_after, opening_core, run_on, state_after, trace_of}
+use Rattle.shared_session.specs.Turn.{is_bad, has_run_out, spends, next_turn}
 use Rattle.shared_session.specs.declared.core_state.Core.{Core}
 use Rattle.legal_trace.specs.Book.{Book, book}
 use Rattle.legal_trace.specs.Events.{HasRunOut}
@@ -27,15 +27,15 @@ use Rattle.session_laws.proofs.Tied.{Inner, Tied, inner, link_in, queue_ids, wai
 -- a good event behind good ones
 good_more : (c : Core) (es : List Event) (e : Event) → AreGoodOn c es → is_bad (run_on c es) e.kind ≡ false → AreGoodOn c (es ++ e ∷ [])
 good_more c [] e h good = (good, tt)
-good_more c (x ∷ es) e h good = (h.0, good_more (turn c x.kind).core es e h.1 good)
+good_more c (x ∷ es) e h good = (h.0, good_more (next_turn c x.kind).core es e h.1 good)
 
 -- a history is good with a good event more
 pub are_good_more : (config : Config) (word : ℕ) (events : List Event) (e : Event) → AreGood config word events → is_bad_after config word events e ≡ false → AreGood config word (events ++ e ∷ [])
 unfolding state_after AreGood
-are_good_more config word events e h good = good_more (opening config word) events e h good
+are_good_more config word events e h good = good_more (opening_core config word) events e h good
 
 -- a turn counts one
-turn_counted : (config : Config) (word : ℕ) (events : List Event) (e : Event) → (turn (state_after config word events) e.kind).core.turns ≡ (state_after config word events).turns + 1
+turn_counted : (config : Config) (word : ℕ) (events : List Event) (e : Event) → (next_turn (state_after config word events) e.kind).core.turns ≡ (state_after config word events).turns + 1
 turn_counted config word events e =
     let one_more : (state_after config word (events ++ e ∷ [])).turns ≡ (state_after config word events).turns + 1 = omega (arith, turns_after config word (events ++ e ∷ []), turns_after config word events, length_push events e) in
     ap (λ (c : Core). c.turns) (sym (state_after-more config word events e)) ∙ one_more
@@ -188,23 +188,23 @@ spent_of b t turns h count out =
 --
 -- the session behind one more event, and the book of its trace
 next_tied : (config : Config) (word : ℕ) (events : List Event) (e : Event) → AreGood config word events → is_bad_after config word events e ≡ false
-    → (started : List ℕ) × Tied (book (trace_of config word (events ++ e ∷ []))) (inner (turn (state_after config word events) e.kind).core started)
+    → (started : List ℕ) × Tied (book (trace_of config word (events ++ e ∷ []))) (inner (next_turn (state_after config word events) e.kind).core started)
 next_tied config word events e good fine =
     let h = replay_between config word (events ++ e ∷ []) (are_good_more config word events e good fine) in
     (h.started, subst (λ c. Tied (book (trace_of config word (events ++ e ∷ []))) (inner c h.started)) (state_after-more config word events e) h.between.sound.tied)
 
 -- a spent step gives out the last number
 pub spent_run_out : (config : Config) (word : ℕ) (events : List Event) (e : Event) → AreGood config word events → is_bad_after config word events e ≡ false → is_spent_after config word events e ≡ true → HasRunOut (book (trace_of config word (events ++ e ∷ [])))
-unfolding spends is_spent
+unfolding spends has_run_out
 spent_run_out config word events e good fine spent =
     let c = state_after config word events in
     let h = next_tied config word events e good fine in
-    run_out_of (book (trace_of config word (events ++ e ∷ []))) (inner (turn c e.kind).core h.0) c.turns h.1 (turn_counted config word events e) spent
+    run_out_of (book (trace_of config word (events ++ e ∷ []))) (inner (next_turn c e.kind).core h.0) c.turns h.1 (turn_counted config word events e) spent
 
 -- and one that gives it out is spent
 pub run_out_spent : (config : Config) (word : ℕ) (events : List Event) (e : Event) → AreGood config word events → is_bad_after config word events e ≡ false → HasRunOut (book (trace_of config word (events ++ e ∷ []))) → is_spent_after config word events e ≡ true
-unfolding spends is_spent
+unfolding spends has_run_out
 run_out_spent config word events e good fine out =
     let c = state_after config word events in
     let h = next_tied config word events e good fine in
-    spent_of (book (trace_of config word (events ++ e ∷ []))) (inner (turn c e.kind).core h.0) c.turns h.1 (turn_counted config word events e) out
+    spent_of (book (trace_of config word (events ++ e ∷ []))) (inner (next_turn c e.kind).core h.0) c.turns h.1 (turn_counted config word events e) out

@@ -8,7 +8,7 @@ use Rattle.driver_model.specs.declared.action.WaitKind.TheVariants as wait
 use Rattle.link_core.specs.Link.{LinkState}
 use Rattle.link_laws.proofs.Started.{row_open}
 use Rattle.link_laws.specs.Settles.{StandsAs, wanted}
-use Rattle.mux_conn.specs.Connection.{Work, acted, is_dialing}
+use Rattle.mux_conn.specs.Connection.{Work, acted, awaits_connect}
 use Rattle.mux_conn.specs.Passes.{passed}
 use Rattle.mux_conn.specs.Requests.{is_waiting_at, name_at}
 use Rattle.mux_conn.specs.Turn.{flushed, wait_shown, waits_each, waits_shown}
@@ -60,14 +60,14 @@ same_shown before f w h tied = record {
 }
 
 -- what the test of a life means
-dialing_is : (life : Life) → is_dialing life ≡ true → life ≡ Dialing
+dialing_is : (life : Life) → awaits_connect life ≡ true → life ≡ Dialing
 dialing_is Dialing e = refl
 dialing_is (Ready link) e = cc
 dialing_is Ended e = cc
 
 -- and back
-is_dialing_of : (life : Life) → life ≡ Dialing → is_dialing life ≡ true
-is_dialing_of life e = ap is_dialing e
+is_dialing_of : (life : Life) → life ≡ Dialing → awaits_connect life ≡ true
+is_dialing_of life e = ap awaits_connect e
 
 -- the book once all bytes are offered
 pub written_book : (before : List Action) (f : Core) (w : Work) → HasWritten before f w → IsWritten (book (trace_of_acts before f w.acts))
@@ -106,10 +106,10 @@ one_shown before f w p h fresh =
     let v = fresh_work w [] in
     let shows = acted v (act.Wait (name_at w.conn.requests p) wait.Connect) in
     let tied = subst (λ ps. Tied b (with_fresh t ps)) fresh h.moved.holds.tied in
-    chosen (HasShown before f) (is_waiting_at w.conn.requests p) (if is_dialing w.conn.life then shows else v) v
-    (λ waits. chosen (HasShown before f) (is_dialing w.conn.life) shows v
+    chosen (HasShown before f) (is_waiting_at w.conn.requests p) (if awaits_connect w.conn.life then shows else v) v
+    (λ waits. chosen (HasShown before f) (awaits_connect w.conn.life) shows v
     (λ d. new_shown before f w p h fresh waits (dialing_is w.conn.life d))
-    (λ n. same_shown before f w h (unshown_tied b t p (λ x d. not_both (is_dialing w.conn.life) n (is_dialing_of w.conn.life d)) tied)))
+    (λ n. same_shown before f w h (unshown_tied b t p (λ x d. not_both (awaits_connect w.conn.life) n (is_dialing_of w.conn.life d)) tied)))
     (λ gone. same_shown before f w h (unshown_tied b t p (λ x d. not_both (is_waiting_at w.conn.requests p) gone x) tied))
 
 -- all that are due are

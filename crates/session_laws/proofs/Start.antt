@@ -5,7 +5,7 @@ use Rattle.std.specs.Prelude.{if◌then◌else◌, ◌==◌}
 use Rattle.containers.proofs.Places.{get_within}
 use Rattle.containers.proofs.Choices.{chosen, eq_test, left_if, ne_test, taken_if}
 use Rattle.resp_read.specs.Frames.{within}
-use Rattle.driver_model.specs.Shape.{need}
+use Rattle.driver_model.specs.Shape.{need_of}
 use Rattle.driver_model.specs.declared.action.Action.{Action}
 use Rattle.driver_model.specs.declared.action.Action.TheVariants as action
 use Rattle.driver_model.specs.declared.action.Owner.TheVariants as owner
@@ -30,7 +30,7 @@ use Rattle.session_laws.proofs.Tied.{Inner, IsEntry, IsNew, IsQueued, IsRequest,
 
 -- the action that its start shows
 abbrev pub start_action : Inner → LinkState → Queued → Action
-start_action t link q = action.Start t.link link.started (owner.Try (name_at t.requests q.id) 0) (need q.shape) (length q.packed)
+start_action t link q = action.Start t.link link.started (owner.Try (name_at t.requests q.id) 0) (need_of q.shape) (length q.packed)
 
 -- the session with this link, where nothing is to be answered
 abbrev pub on_link : Inner → LinkState → Inner

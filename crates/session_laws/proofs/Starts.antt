@@ -3,9 +3,9 @@ use Rattle.std.proofs.Common.{List, [], ap, append_assoc, inl, inr, length, refl
 use Rattle.std.proofs.lemmas.List.{append-nil}
 use Rattle.std.specs.Prelude.{◌==◌}
 use Rattle.containers.proofs.Choices.{by_test, chosen, if_false, ne_from}
-use Rattle.driver_model.specs.Shape.{need}
+use Rattle.driver_model.specs.Shape.{need_of}
 use Rattle.driver_model.specs.declared.action.Action.{Action}
-use Rattle.link_core.specs.Link.{LinkState, Starting, is_held_back, no_boundary, start_of, started_each, started_one}
+use Rattle.link_core.specs.Link.{LinkState, Starting, holds_back, no_boundary, start_of, started_each, started_one}
 use Rattle.link_core.specs.declared.message.Queued.{Queued}
 use Rattle.link_core.specs.declared.message.Started.{Started}
 use Rattle.link_laws.proofs.Bounds.{free_greatest}
@@ -32,7 +32,7 @@ use Rattle.session_laws.proofs.Tied.{Inner, Tied, owner_of, queue_ids, waiting_i
 
 -- the first message of the queue may start
 start_may : (b : Book) (t : Inner) (link : LinkState) (q : Queued) (qs : List Queued) → Tied b (on_link t (with_queue link (q ∷ qs))) → NoneEnds b → AreQueued b (on_link t (with_queue link (q ∷ qs)))
-    → MayStart b t.link link.started (name_at t.requests q.id) (need q.shape) (length q.packed)
+    → MayStart b t.link link.started (name_at t.requests q.id) (need_of q.shape) (length q.packed)
 start_may b t link q qs h ended told =
     let was = on_link t (with_queue link (q ∷ qs)) in
     let n = name_at t.requests q.id in
@@ -58,7 +58,7 @@ start_may b t link q qs h ended told =
       in_order = first_to_move b was q.id (queue_ids qs ++ waiting_ids t.waiting) h refl told refl;
       on_its_link = sym r.on;
       next = (h.link (λ e. cc e)).started;
-      needs_its_items = ap need is.is_of.shape_is;
+      needs_its_items = ap need_of is.is_of.shape_is;
       long_as_its_bytes = ap length is.is_of.packs;
     }
 
@@ -116,5 +116,5 @@ each_going before acts t s (q ∷ qs) free h =
     ∙ ap (λ (x : List LinkAct). before ++ shown_each t.link x) (append_assoc acts more (show_start t.requests (start_of s.link.started q) ∷ []) ∙ ap (λ (x : List LinkAct). acts ++ x) (sym (shows-append t.requests s.out (start_of s.link.started q)))) in
     let after = record t { started = t.started ++ q.id ∷ [] } in
     let rest = each_going before acts after next qs free (subst (λ (x : List Action). IsGoing x (after_start t s.link q qs)) same first) in
-    if_false (λ (r : Starting). IsGoing (before ++ shown_each t.link (acts ++ shows t.requests r.out)) (record (on_link t r.link) { started = t.started ++ (q.id ∷ queue_ids qs) })) (is_held_back s.link) _ (started_each next qs) (free_greatest s.link free)
+    if_false (λ (r : Starting). IsGoing (before ++ shown_each t.link (acts ++ shows t.requests r.out)) (record (on_link t r.link) { started = t.started ++ (q.id ∷ queue_ids qs) })) (holds_back s.link) _ (started_each next qs) (free_greatest s.link free)
     (subst (λ ns. IsGoing (before ++ shown_each t.link (acts ++ shows t.requests (started_each next qs).out)) (record (on_link t (started_each next qs).link) { started = ns })) (append_assoc t.started (q.id ∷ []) (queue_ids qs)) rest)

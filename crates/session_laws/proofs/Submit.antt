@@ -9,7 +9,7 @@ use Rattle.driver_model.specs.declared.event.EventKind.TheVariants as event
 use Rattle.driver_model.specs.declared.event.Submission.{Submission}
 use Rattle.driver_model.specs.declared.outcome.Outcome.TheVariants as outcome
 use Rattle.driver_model.specs.News.{silence}
-use Rattle.driver_model.specs.Request.{packed}
+use Rattle.driver_model.specs.Request.{packed_bytes}
 use Rattle.link_laws.proofs.TiedLink.{told_tied}
 use Rattle.mux_conn.specs.declared.request.Request.{Request}
 use Rattle.mux_conn.specs.Requests.{is_waiting}
@@ -77,13 +77,13 @@ others_owed b c word what m other = ap (owed_in (entered b (turn_of c word (even
 
 -- the error that it gets
 abbrev pub IsErrorOf : Bool → Submission → RedisError → Type 0
-IsErrorOf late what e = ((late ≡ true) × (e ≡ error.Closed)) ⊎ ((late ≡ false) × ((length (packed what) == 0) ≡ true) × (e ≡ error.EmptyCommand))
+IsErrorOf late what e = ((late ≡ true) × (e ≡ error.Closed)) ⊎ ((late ≡ false) × ((length (packed_bytes what) == 0) ≡ true) × (e ≡ error.EmptyCommand))
 
 -- what it is owed then
 new_owed : (b now : Book) (what : Submission) (e : RedisError) → IsErrorOf b.shut what e → owed_in now (new_story b what) ≡ Some (outcome.Fault e)
 new_owed b now what e (inl h) = taken_if b.shut (Some (outcome.Fault error.Closed)) _ h.0 ∙ ap (λ x. Some (outcome.Fault x)) (sym h.1)
 new_owed b now what e (inr h) =
-    left_if b.shut (Some (outcome.Fault error.Closed)) _ h.0 ∙ taken_if (length (packed what) == 0) (Some (outcome.Fault error.EmptyCommand)) _ h.1 ∙ ap (λ x. Some (outcome.Fault x)) (sym h.2)
+    left_if b.shut (Some (outcome.Fault error.Closed)) _ h.0 ∙ taken_if (length (packed_bytes what) == 0) (Some (outcome.Fault error.EmptyCommand)) _ h.1 ∙ ap (λ x. Some (outcome.Fault x)) (sym h.2)
 
 -- its outcome may stand
 pub may_refuse : (b : Book) (c : Core) (started : List ℕ) (word : ℕ) (what : Submission) (e : RedisError) → Tied b (inner c started) → NoneIsOwed b → NoneEnds b → IsErrorOf b.shut what e → MayAnswer (entered b (turn_of c word (event.Submit what))) (length c.table) (outcome.Fault e)

@@ -5,8 +5,8 @@ use Rattle.containers.proofs.Choices.{chosen, eq_from}
 use Rattle.resp_value.specs.declared.value.Value.TheVariants.{Nil}
 use Rattle.redis_error.specs.declared.redis_error.RedisError.{RedisError}
 use Rattle.redis_error.specs.declared.redis_error.RedisError.TheVariants as error
-use Rattle.driver_model.specs.News.{News, came, connected, failed, for_link, news, shut, silence, took}
-use Rattle.driver_model.specs.Request.{packed}
+use Rattle.driver_model.specs.News.{News, came, connected, failed, for_link, news_of, shut, silence, took}
+use Rattle.driver_model.specs.Request.{packed_bytes}
 use Rattle.driver_model.specs.declared.action.Action.TheVariants as action
 use Rattle.driver_model.specs.declared.action.Cause.TheVariants as cause
 use Rattle.driver_model.specs.declared.action.Owner.TheVariants as owner
@@ -24,7 +24,7 @@ use Rattle.mux_conn.specs.declared.act.LinkAct.{LinkAct}
 use Rattle.mux_conn.specs.declared.act.LinkAct.TheVariants as act
 use Rattle.mux_conn.specs.declared.life.Life.{Life}
 use Rattle.mux_conn.specs.declared.life.Life.TheVariants.{Dialing, Ended, Ready}
-use Rattle.shared_session.specs.Turn.{Turning, asked_for, counted, effect, heard, refused, shown, shown_each, submitted, work_of}
+use Rattle.shared_session.specs.Turn.{Turning, asked_for, counted, effect, heard, refused_with, shown, shown_each, submitted, work_of}
 use Rattle.shared_session.specs.declared.core_state.Core.{Core}
 use Rattle.legal_trace.specs.Book.{Book, after_event, current, entered, entered_each, if_mine, message_of}
 use Rattle.legal_trace.specs.Ledger.{End, Ledger, Line, begins, ends, hears, noted, noted_each, offers}
@@ -193,7 +193,7 @@ for_other true x other e = other e
 for_other false x other e = cc
 
 -- what is told of it isn't a connect
-plain_news : (n : ℕ) (kind : EventKind) → IsPlain kind → news n kind ≡ connected → ⊥
+plain_news : (n : ℕ) (kind : EventKind) → IsPlain kind → news_of n kind ≡ connected → ⊥
 plain_news n (event.Submit what) p e = p
 plain_news n (event.Cancel m) p e = cc
 plain_news n (event.Connected l) p e = p
@@ -263,7 +263,7 @@ turn_moves : (b : Book) (number : ℕ) (e : Event) → IsPlain e.kind → NoneMo
 turn_moves b number e plain none n c =
     let after = entered b (action.Turn number (cause.Event e)) in
     let m = event_moving b n e.kind after.link plain (moving_of after n c) in
-    none_moving b none n (m.0, m.1, news_up (b.link (b.story n).link) (news (b.story n).link e.kind) (plain_news (b.story n).link e.kind plain) m.2)
+    none_moving b none n (m.0, m.1, news_up (b.link (b.story n).link) (news_of (b.story n).link e.kind) (plain_news (b.story n).link e.kind plain) m.2)
 
 -- the effect of an event
 --
@@ -274,13 +274,13 @@ TellsNone b t = NoneTold (entered_each b (shown_each t.core.single.link t.acts))
 -- a submission
 submitted_told : (b : Book) (t : Turning) (what : Submission) → t.acts ≡ [] → NoneTold b → TellsNone b (submitted t what)
 submitted_told b t what none h =
-    chosen (TellsNone b) t.core.shut (refused t error.Closed) (if length (packed what) == 0 then refused t error.EmptyCommand else asked_for t what)
+    chosen (TellsNone b) t.core.shut (refused_with t error.Closed) (if length (packed_bytes what) == 0 then refused_with t error.EmptyCommand else asked_for t what)
     (λ s. by_refusal error.Closed)
-    (λ f. chosen (TellsNone b) (length (packed what) == 0) (refused t error.EmptyCommand) (asked_for t what)
+    (λ f. chosen (TellsNone b) (length (packed_bytes what) == 0) (refused_with t error.EmptyCommand) (asked_for t what)
     (λ s. by_refusal error.EmptyCommand)
     (λ g. subst (λ (x : List LinkAct). NoneTold (entered_each b (shown_each t.core.single.link x))) (sym none) h))
   where
-    by_refusal : (e : RedisError) → TellsNone b (refused t e)
+    by_refusal : (e : RedisError) → TellsNone b (refused_with t e)
     by_refusal e = subst (λ (x : List LinkAct). NoneTold (entered_each b (shown_each t.core.single.link (x ++ act.Outcome (length t.core.table) (outcome.Fault e) ∷ [])))) (sym none) (fault_told b (length t.core.table) e h)
 
 -- the first answer to the connect

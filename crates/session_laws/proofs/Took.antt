@@ -3,7 +3,7 @@ use Rattle.std.proofs.Common.{◌≡◌, ℕ, ◌≤◌, false, ◌&&◌, not, L
 use Rattle.containers.proofs.Choices.{chosen}
 use Rattle.driver_model.specs.declared.action.Action.{Action}
 use Rattle.driver_model.specs.declared.event.EventKind.{EventKind}
-use Rattle.driver_model.specs.News.{took, news}
+use Rattle.driver_model.specs.News.{took, news_of}
 use Rattle.link_core.specs.Link.{LinkState, wrote_of}
 use Rattle.link_laws.proofs.TiedLink.{wrote_tied}
 use Rattle.mux_conn.specs.declared.life.Life.{Life}
@@ -43,7 +43,7 @@ wrote_whole : (link : LinkState) (count : ℕ) → IsWhole link → (x : LinkSta
 wrote_whole link count h x e = let same : wrote_of link count ≡ x = cc in subst IsWhole same (record { sound = h.sound; empty = h.empty; size = h.size; boundary = h.boundary })
 
 -- so much was taken of what was offered
-pub took_applied : (before : List Action) (c : Core) (started : List ℕ) (word count : ℕ) (kind : EventKind) → Between before c started → is_bad c kind ≡ false → IsNewsKind kind → news c.single.link kind ≡ took count → CanTake c.single.connection.life count
+pub took_applied : (before : List Action) (c : Core) (started : List ℕ) (word count : ℕ) (kind : EventKind) → Between before c started → is_bad c kind ≡ false → IsNewsKind kind → news_of c.single.link kind ≡ took count → CanTake c.single.connection.life count
     → HasApplied (before ++ turn_of c word kind ∷ []) (with_work (record { core = turned c kind; acts = [] }) (taken_at (record { conn = c.single.connection; acts = [] }) count c.single.connection.life)) started
 took_applied before c started word count kind h good k is can = by_life c.single.connection.life refl
   where

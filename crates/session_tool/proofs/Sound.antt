@@ -7,8 +7,8 @@ use Rattle.driver_model.specs.declared.event.Event.{Event}
 use Rattle.script_text.specs.Script.{script_of}
 use Rattle.script_text.specs.declared.script.Script.{Script}
 use Rattle.shared_session.specs.declared.core_state.Core.{Core}
-use Rattle.shared_session.specs.Turn.{turn, is_bad, spends}
-use Rattle.shared_session.specs.Replay.{opening, run_on, state_after, AreGood, AreGoodOn, AreUnspent, AreUnspentOn, is_bad_after, is_spent_after}
+use Rattle.shared_session.specs.Turn.{next_turn, is_bad, spends}
+use Rattle.shared_session.specs.Replay.{opening_core, run_on, state_after, AreGood, AreGoodOn, AreUnspent, AreUnspentOn, is_bad_after, is_spent_after}
 use Rattle.session_tool.specs.Runs.{IsSound}
 use Rattle.session_tool.specs.Stops.{IsFirstBad, IsFirstSpent}
 
@@ -18,20 +18,20 @@ same_event d e is = cc
 good_on-at : (c : Core) (es : List Event) (n : ℕ) (e : Event) → AreGoodOn c es → slice_get es n ≡ Some e → is_bad (run_on c (take n es)) e.kind ≡ false
 good_on-at c [] n e all is = cc
 good_on-at c (d ∷ es) zero e all is = subst (λ (x : Event). is_bad c x.kind ≡ false) (same_event d e is) all.0
-good_on-at c (d ∷ es) (suc n) e all is = good_on-at (turn c d.kind).core es n e all.1 is
+good_on-at c (d ∷ es) (suc n) e all is = good_on-at (next_turn c d.kind).core es n e all.1 is
 
 unspent_on-at : (c : Core) (es : List Event) (n : ℕ) (e : Event) → AreUnspentOn c es → slice_get es n ≡ Some e → spends (run_on c (take n es)) e ≡ false
 unspent_on-at c [] n e all is = cc
 unspent_on-at c (d ∷ es) zero e all is = subst (λ (x : Event). spends c x ≡ false) (same_event d e is) all.0
-unspent_on-at c (d ∷ es) (suc n) e all is = unspent_on-at (turn c d.kind).core es n e all.1 is
+unspent_on-at c (d ∷ es) (suc n) e all is = unspent_on-at (next_turn c d.kind).core es n e all.1 is
 
 good-at : (config : Config) (word : ℕ) (es : List Event) (n : ℕ) (e : Event) → AreGood config word es → slice_get es n ≡ Some e → is_bad_after config word (take n es) e ≡ false
 unfolding AreGood state_after
-good-at config word es n e all is = good_on-at (opening config word) es n e all is
+good-at config word es n e all is = good_on-at (opening_core config word) es n e all is
 
 unspent-at : (config : Config) (word : ℕ) (es : List Event) (n : ℕ) (e : Event) → AreUnspent config word es → slice_get es n ≡ Some e → is_spent_after config word (take n es) e ≡ false
 unfolding AreUnspent state_after
-unspent-at config word es n e all is = unspent_on-at (opening config word) es n e all is
+unspent-at config word es n e all is = unspent_on-at (opening_core config word) es n e all is
 
 abbrev the_script : Result Script ℕ → Script → Script
 the_script (Ok s) d = s

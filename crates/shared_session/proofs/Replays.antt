@@ -12,35 +12,35 @@ use Rattle.containers.proofs.Choices.{chosen}
 use Rattle.driver_model.specs.declared.event.EventKind.{EventKind}
 use Rattle.driver_model.specs.declared.event.EventKind.TheVariants as event
 use Rattle.driver_model.specs.declared.event.Submission.{Submission}
-use Rattle.driver_model.specs.Request.{packed}
+use Rattle.driver_model.specs.Request.{packed_bytes}
 use Rattle.mux_conn.specs.declared.request.Pending.{Pending}
 use Rattle.mux_conn.specs.declared.act.LinkAct.{LinkAct}
 use Rattle.mux_conn.specs.declared.act.LinkAct.TheVariants as act
 use Rattle.driver_model.specs.declared.action.Action.TheVariants as action
 use Rattle.driver_model.specs.declared.action.Cause.TheVariants as cause
-use Rattle.shared_session.specs.Turn.{Turning, counted, heard, submitted, left_by, requested, turn, shown_each, actions_of, is_bad, is_spent, spends, IsFewer}
+use Rattle.shared_session.specs.Turn.{Turning, counted, heard, submitted, left_by, requested, next_turn, shown_each, actions_of, is_bad, has_run_out, spends, IsFewer}
 use Rattle.shared_session.specs.Done.{done_by, done_each, put_each}
-use Rattle.shared_session.specs.Replay.{opening, opening_actions, run_on, state_after, turns_on, trace_of, with_room, told_each, outcomes_in, AreGood, AreGoodOn, AreUnspent, AreUnspentOn, is_bad_after, is_spent_after}
+use Rattle.shared_session.specs.Replay.{opening_core, opening_actions, run_on, state_after, turns_on, trace_of, with_room, told_each, outcomes_in, AreGood, AreGoodOn, AreUnspent, AreUnspentOn, is_bad_after, is_spent_after}
 use Rattle.shared_session.specs.Stops.{Shown, IsBadAt, IsSpentAt, IsSpentBy}
 use Rattle.shared_session.specs.declared.session.Failure.{Failure}
 use Rattle.shared_session.specs.declared.session.Failure.TheVariants.{Sound, Spent, NoMemory}
 use Rattle.shared_session.specs.History.{History}
 
-run_on-more : (c : Core) (es : List Event) (e : Event) → run_on c (es ++ e ∷ []) ≡ (turn (run_on c es) e.kind).core
+run_on-more : (c : Core) (es : List Event) (e : Event) → run_on c (es ++ e ∷ []) ≡ (next_turn (run_on c es) e.kind).core
 run_on-more c [] e = refl
-run_on-more c (d ∷ es) e = run_on-more (turn c d.kind).core es e
+run_on-more c (d ∷ es) e = run_on-more (next_turn c d.kind).core es e
 
-pub state_after-more : (config : Config) (word : ℕ) (es : List Event) (e : Event) → state_after config word (es ++ e ∷ []) ≡ (turn (state_after config word es) e.kind).core
+pub state_after-more : (config : Config) (word : ℕ) (es : List Event) (e : Event) → state_after config word (es ++ e ∷ []) ≡ (next_turn (state_after config word es) e.kind).core
 unfolding state_after
-state_after-more config word es e = run_on-more (opening config word) es e
+state_after-more config word es e = run_on-more (opening_core config word) es e
 
-pub state_after-none : (config : Config) (word : ℕ) → state_after config word [] ≡ opening config word
+pub state_after-none : (config : Config) (word : ℕ) → state_after config word [] ≡ opening_core config word
 unfolding state_after
 state_after-none config word = refl
 
 turns_on-more : (c : Core) (es : List Event) (e : Event) → turns_on c (es ++ e ∷ []) ≡ turns_on c es ++ actions_of (run_on c es) e
 turns_on-more c [] e = append-nil (actions_of c e)
-turns_on-more c (d ∷ es) e = ap (λ (acts : List Action). actions_of c d ++ acts) (turns_on-more (turn c d.kind).core es e) ∙ sym (append_assoc (actions_of c d) _ _)
+turns_on-more c (d ∷ es) e = ap (λ (acts : List Action). actions_of c d ++ acts) (turns_on-more (next_turn c d.kind).core es e) ∙ sym (append_assoc (actions_of c d) _ _)
 
 pub trace_of-none : (config : Config) (word : ℕ) → trace_of config word [] ≡ opening_actions config word
 unfolding trace_of
@@ -49,8 +49,8 @@ trace_of-none config word = refl
 pub trace_of-more : (config : Config) (word : ℕ) (es : List Event) (e : Event) → trace_of config word (es ++ e ∷ []) ≡ trace_of config word es ++ actions_of (state_after config word es) e
 unfolding trace_of state_after
 trace_of-more config word es e =
-    ap (λ (acts : List Action). opening_actions config word ++ acts) (turns_on-more (opening config word) es e)
-    ∙ sym (append_assoc (opening_actions config word) (turns_on (opening config word) es) _)
+    ap (λ (acts : List Action). opening_actions config word ++ acts) (turns_on-more (opening_core config word) es e)
+    ∙ sym (append_assoc (opening_actions config word) (turns_on (opening_core config word) es) _)
 
 told_append : (os : List (Option Outcome)) (s t : List Action) → told_each os (s ++ t) ≡ told_each (told_each os s) t
 told_append os [] t = refl
@@ -72,18 +72,18 @@ outcomes-none config word = refl
 
 -- one more turn tells its outcomes
 pub outcomes-more : (config : Config) (word : ℕ) (es : List Event) (e : Event) →
-    outcomes_in (trace_of config word (es ++ e ∷ [])) ≡ put_each (with_room (outcomes_in (trace_of config word es)) e.kind) (done_each (turn (state_after config word es) e.kind).acts)
+    outcomes_in (trace_of config word (es ++ e ∷ [])) ≡ put_each (with_room (outcomes_in (trace_of config word es)) e.kind) (done_each (next_turn (state_after config word es) e.kind).acts)
 unfolding outcomes_in
 outcomes-more config word es e =
     let c = state_after config word es in
     ap (λ (t : List Action). told_each [] t) (trace_of-more config word es e) ∙ told_append [] (trace_of config word es) (actions_of c e)
-    ∙ told_shown (with_room (told_each [] (trace_of config word es)) e.kind) c.single.link (turn c e.kind).acts
+    ∙ told_shown (with_room (told_each [] (trace_of config word es)) e.kind) c.single.link (next_turn c e.kind).acts
 
 -- what an event is to the submissions leaves the number of turns
 submitted_turns : (t : Turning) (what : Submission) → (submitted t what).core.turns ≡ t.core.turns
 submitted_turns t what =
     chosen (λ (x : Turning). x.core.turns ≡ t.core.turns) t.core.shut _ _ (λ _. refl)
-    (λ _. chosen (λ (x : Turning). x.core.turns ≡ t.core.turns) (length (packed what) == 0) _ _ (λ _. refl) (λ _. refl))
+    (λ _. chosen (λ (x : Turning). x.core.turns ≡ t.core.turns) (length (packed_bytes what) == 0) _ _ (λ _. refl) (λ _. refl))
 
 left_turns : (t : Turning) (slot : Option (Option Pending)) → (left_by t slot).core.turns ≡ t.core.turns
 left_turns t None = refl
@@ -101,40 +101,40 @@ requested_turns t (event.ReadFault l kind) = refl
 requested_turns t (event.WriteFault l kind) = refl
 requested_turns t event.Shutdown = refl
 
-turn_turns : (c : Core) (e : Event) → (turn c e.kind).core.turns ≡ c.turns + 1
-unfolding turn
+turn_turns : (c : Core) (e : Event) → (next_turn c e.kind).core.turns ≡ c.turns + 1
+unfolding next_turn
 turn_turns c e = requested_turns (heard (counted c) e.kind) e.kind
 
 run_on_turns : (c : Core) (es : List Event) → (run_on c es).turns ≡ c.turns + length es
 run_on_turns c [] = omega arith
-run_on_turns c (e ∷ es) = omega (arith, run_on_turns (turn c e.kind).core es, turn_turns c e)
+run_on_turns c (e ∷ es) = omega (arith, run_on_turns (next_turn c e.kind).core es, turn_turns c e)
 
 -- the opening is a turn, and each event is one
 pub turns_after : (config : Config) (word : ℕ) (es : List Event) → (state_after config word es).turns ≡ 1 + length es
 unfolding state_after
-turns_after config word es = run_on_turns (opening config word) es
+turns_after config word es = run_on_turns (opening_core config word) es
 
 -- the state of a session that has made its opening
-pub opened_is : (core : Core) (config : Config) (word : ℕ) (es : List Event) → core ≡ opening config word → es ≡ [] → core ≡ state_after config word es
+pub opened_is : (core : Core) (config : Config) (word : ℕ) (es : List Event) → core ≡ opening_core config word → es ≡ [] → core ≡ state_after config word es
 opened_is core config word es c e = rw (e, state_after-none config word) c
 
 -- a turn leads to where the history with its event leads
 pub state_kept : (before after : Core) (config : Config) (word : ℕ) (es fs : List Event) (e : Event) (acts : List LinkAct) →
-    before ≡ state_after config word es → ◌≡◌ {A = Turning} (record { core = after; acts = acts }) (turn before e.kind) → fs ≡ es ++ e ∷ [] → after ≡ state_after config word fs
+    before ≡ state_after config word es → ◌≡◌ {A = Turning} (record { core = after; acts = acts }) (next_turn before e.kind) → fs ≡ es ++ e ∷ [] → after ≡ state_after config word fs
 state_kept before after config word es fs e acts b a f = rw (f, state_after-more config word es e, ← b) (ap (λ (t : Turning). t.core) a)
 
 -- and so do its outcomes
 pub outcomes_kept : (before after : Core) (config : Config) (word : ℕ) (es fs : List Event) (e : Event) (acts : List LinkAct) (os ps : List (Option Outcome)) (done : List Done) →
-    before ≡ state_after config word es → os ≡ outcomes_in (trace_of config word es) → ◌≡◌ {A = Turning} (record { core = after; acts = acts }) (turn before e.kind) → fs ≡ es ++ e ∷ []
+    before ≡ state_after config word es → os ≡ outcomes_in (trace_of config word es) → ◌≡◌ {A = Turning} (record { core = after; acts = acts }) (next_turn before e.kind) → fs ≡ es ++ e ∷ []
     → done ≡ done_each acts → ps ≡ put_each (with_room os e.kind) done → ps ≡ outcomes_in (trace_of config word fs)
 outcomes_kept before after config word es fs e acts os ps done b o a f d p =
     rw (f, outcomes-more config word es e, ← b, ← o) (p ∙ ap (λ (ds : List Done). put_each (with_room os e.kind) ds) (d ∙ ap (λ (t : Turning). done_each t.acts) a))
 
 -- the connection of an opening hasn't failed, and has no requests
-pub fewer_opening : (core : Core) (config : Config) (word : ℕ) → core ≡ opening config word → IsFewer core
+pub fewer_opening : (core : Core) (config : Config) (word : ℕ) → core ≡ opening_core config word → IsFewer core
 fewer_opening core config word c = rw c (omega arith)
 
-pub sound_opening : (core : Core) (config : Config) (word : ℕ) → core ≡ opening config word → core.single.connection.failure ≡ None
+pub sound_opening : (core : Core) (config : Config) (word : ℕ) → core ≡ opening_core config word → core.single.connection.failure ≡ None
 sound_opening core config word c = rw c refl
 
 pub few_kept : (before : Core) (config : Config) (word : ℕ) (es fs : List Event) (e : Event) → before ≡ state_after config word es → before.turns ≤ 2 ^ 32 - 1 → fs ≡ es ++ e ∷ [] → length fs < 2 ^ 32
@@ -144,7 +144,7 @@ few_kept before config word es fs e b t f =
 
 good_on-more : (c : Core) (es : List Event) (e : Event) → AreGoodOn c es → is_bad (run_on c es) e.kind ≡ false → AreGoodOn c (es ++ e ∷ [])
 good_on-more c [] e all good = (good, tt)
-good_on-more c (d ∷ es) e all good = (all.0, good_on-more (turn c d.kind).core es e all.1 good)
+good_on-more c (d ∷ es) e all good = (all.0, good_on-more (next_turn c d.kind).core es e all.1 good)
 
 good-none : (config : Config) (word : ℕ) → AreGood config word []
 unfolding AreGood
@@ -152,11 +152,11 @@ good-none config word = tt
 
 good-more : (config : Config) (word : ℕ) (es : List Event) (e : Event) → AreGood config word es → is_bad_after config word es e ≡ false → AreGood config word (es ++ e ∷ [])
 unfolding AreGood state_after
-good-more config word es e all good = good_on-more (opening config word) es e all good
+good-more config word es e all good = good_on-more (opening_core config word) es e all good
 
 unspent_on-more : (c : Core) (es : List Event) (e : Event) → AreUnspentOn c es → spends (run_on c es) e ≡ false → AreUnspentOn c (es ++ e ∷ [])
 unspent_on-more c [] e all free = (free, tt)
-unspent_on-more c (d ∷ es) e all free = (all.0, unspent_on-more (turn c d.kind).core es e all.1 free)
+unspent_on-more c (d ∷ es) e all free = (all.0, unspent_on-more (next_turn c d.kind).core es e all.1 free)
 
 unspent-none : (config : Config) (word : ℕ) → AreUnspent config word []
 unfolding AreUnspent
@@ -164,19 +164,19 @@ unspent-none config word = tt
 
 unspent-more : (config : Config) (word : ℕ) (es : List Event) (e : Event) → AreUnspent config word es → is_spent_after config word es e ≡ false → AreUnspent config word (es ++ e ∷ [])
 unfolding AreUnspent state_after
-unspent-more config word es e all free = unspent_on-more (opening config word) es e all free
+unspent-more config word es e all free = unspent_on-more (opening_core config word) es e all free
 
 -- what is shown of a turn is the actions of the history's next turn
 pub shown_kept : (before after : Core) (config : Config) (word : ℕ) (es : List Event) (e : Event) (number link : ℕ) (acts : List LinkAct) (old new : List Action) →
-    before ≡ state_after config word es → ◌≡◌ {A = Turning} (record { core = after; acts = acts }) (turn before e.kind) → number ≡ before.turns → link ≡ before.single.link
+    before ≡ state_after config word es → ◌≡◌ {A = Turning} (record { core = after; acts = acts }) (next_turn before e.kind) → number ≡ before.turns → link ≡ before.single.link
     → new ≡ old ++ (action.Turn number (cause.Event e) ∷ shown_each link acts) → new ≡ old ++ actions_of (state_after config word es) e
 shown_kept before after config word es e number link acts old new b a n l s =
     rw (← b) (s ∙ ap (λ (k : ℕ). old ++ (action.Turn k (cause.Event e) ∷ shown_each link acts)) n ∙ ap (λ (k : ℕ). old ++ (action.Turn before.turns (cause.Event e) ∷ shown_each k acts)) l
     ∙ ap (λ (t : Turning). old ++ (action.Turn before.turns (cause.Event e) ∷ shown_each before.single.link t.acts)) a)
 
 -- no number has run out at the opening
-pub unspent_opening : (core : Core) (config : Config) (word : ℕ) → core ≡ opening config word → is_spent core ≡ false
-unfolding is_spent
+pub unspent_opening : (core : Core) (config : Config) (word : ℕ) → core ≡ opening_core config word → has_run_out core ≡ false
+unfolding has_run_out
 unspent_opening core config word c = rw c refl
 
 -- what a replay keeps from event to event: the session has taken those events, and their turns were shown

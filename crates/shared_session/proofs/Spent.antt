@@ -8,7 +8,7 @@ use Rattle.mux_conn.specs.Connection.{is_spent_in}
 use Rattle.mux_conn.specs.Passes.{passed}
 use Rattle.mux_conn.proofs.Spent.{flushed_count}
 use Rattle.shared_session.specs.declared.core_state.Core.{Core}
-use Rattle.shared_session.specs.Turn.{Turning, work_of, moved_on, effect, heard, requested, run, is_spent}
+use Rattle.shared_session.specs.Turn.{Turning, work_of, moved_on, effect, heard, requested, whole_effect, has_run_out}
 
 or_true : (a b : Bool) → a ≡ true → (a || b) ≡ true
 or_true true b h = refl
@@ -18,12 +18,12 @@ lower : (n : ℕ) → nat_le (2 ^ 32) n ≡ false → n < 2 ^ 32
 lower n h = grind (arith, nat_tests, h)
 
 -- a state in which no number has run out has room for one more submission
-pub room_left : (c : Core) → is_spent c ≡ false → length c.table < 2 ^ 32
-unfolding is_spent
+pub room_left : (c : Core) → has_run_out c ≡ false → length c.table < 2 ^ 32
+unfolding has_run_out
 room_left c h = lower (length c.table) (or_right (is_spent_in c.single.connection.life) (nat_le (2 ^ 32) (length c.table)) h)
 
-spent_moving : (t : Turning) → is_spent_in (passed (work_of t)).conn.life ≡ true → is_spent (moved_on t).core ≡ true
-unfolding is_spent
+spent_moving : (t : Turning) → is_spent_in (passed (work_of t)).conn.life ≡ true → has_run_out (moved_on t).core ≡ true
+unfolding has_run_out
 spent_moving t h = or_true _ _ (ap (λ (n : ℕ). nat_le (2 ^ 32) n) (flushed_count (passed (work_of t))) ∙ h)
 
 none_spent : (failure : Option ConnectionError) (e : ConnectionError) → failure ≡ None → failure ≡ Some e → ⊥
@@ -31,7 +31,7 @@ none_spent failure e none some = let no : ◌≡◌ {A = Option ConnectionError}
 
 -- of a connection that hasn't failed
 pub spent_in_run : (t u v : Turning) (kind : EventKind) (failure : Option ConnectionError) (e : ConnectionError) → u ≡ heard t kind → v ≡ requested u kind → failure ≡ None
-    → (failure ≡ Some e) ⊎ (is_spent_in (passed (work_of v)).conn.life ≡ true) → is_spent (run t kind).core ≡ true
+    → (failure ≡ Some e) ⊎ (is_spent_in (passed (work_of v)).conn.life ≡ true) → has_run_out (whole_effect t kind).core ≡ true
 spent_in_run t u v kind failure e first second none (inl some) = absurd (none_spent failure e none some)
 spent_in_run t u v kind failure e first second none (inr spent) =
-    subst (λ (x : Turning). is_spent (moved_on x).core ≡ true) (second ∙ ap (λ (x : Turning). requested x kind) first) (spent_moving v spent)
+    subst (λ (x : Turning). has_run_out (moved_on x).core ≡ true) (second ∙ ap (λ (x : Turning). requested x kind) first) (spent_moving v spent)

@@ -3,19 +3,19 @@ use Rattle.std.proofs.Common.{◌≡◌, refl, arith, ℕ, ◌<◌, ◌≤◌, �
 use Rattle.containers.proofs.Choices.{not_le_from, not_lt_from, or_right}
 use Rattle.driver_model.specs.declared.event.EventKind.{EventKind}
 use Rattle.driver_model.specs.declared.event.EventKind.TheVariants as event
-use Rattle.driver_model.specs.News.{News, silence, connected, took, came, failed, shut, for_link, news}
+use Rattle.driver_model.specs.News.{News, silence, connected, took, came, failed, shut, for_link, news_of}
 use Rattle.mux_conn.specs.declared.life.Life.{Life}
 use Rattle.mux_conn.specs.declared.life.Life.TheVariants.{Dialing, Ready, Ended}
 use Rattle.mux_conn.specs.Effects.{IsWithin, CanTake}
 use Rattle.shared_session.specs.declared.core_state.Core.{Core}
-use Rattle.shared_session.specs.Turn.{is_bad, is_no_link, takes_too_much, IsKnown}
+use Rattle.shared_session.specs.Turn.{is_bad, is_no_link, exceeds_offer, IsKnown}
 
-can_take : (life : Life) (count : ℕ) → takes_too_much life count ≡ false → CanTake life count
+can_take : (life : Life) (count : ℕ) → exceeds_offer life count ≡ false → CanTake life count
 can_take Dialing count f = tt
 can_take (Ready link) count f = not_lt_from link.outbox.offered count f
 can_take Ended count f = tt
 
-own_take : (mine : Bool) (life : Life) (count : ℕ) → (mine && takes_too_much life count) ≡ false → IsWithin life (for_link mine (took count))
+own_take : (mine : Bool) (life : Life) (count : ℕ) → (mine && exceeds_offer life count) ≡ false → IsWithin life (for_link mine (took count))
 own_take true life count f = can_take life count f
 own_take false life count f = tt
 
@@ -23,7 +23,7 @@ either_news : (mine : Bool) (life : Life) (x : News) → IsWithin life x → IsW
 either_news true life x h = h
 either_news false life x h = tt
 
-pub news_within : (c : Core) (kind : EventKind) → is_bad c kind ≡ false → IsWithin c.single.connection.life (news c.single.link kind)
+pub news_within : (c : Core) (kind : EventKind) → is_bad c kind ≡ false → IsWithin c.single.connection.life (news_of c.single.link kind)
 unfolding is_bad
 news_within c (event.Submit what) good = tt
 news_within c (event.Cancel n) good = tt

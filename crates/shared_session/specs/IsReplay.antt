@@ -2,7 +2,7 @@
 use Rattle.std.specs.Prelude.{◌≡◌, ◌^◌, ◌<◌, length, false, None}
 use Rattle.shared_session.specs.declared.session.Failure.TheVariants.{Sound}
 use Rattle.shared_session.specs.declared.session.Session.TheInside.{Inside}
-use Rattle.shared_session.specs.Turn.{is_spent, IsFewer}
+use Rattle.shared_session.specs.Turn.{has_run_out, IsFewer}
 use Rattle.shared_session.specs.Replay.{state_after, trace_of, outcomes_in}
 
 -- a session that hasn't failed is where its history leads, no number has run out, and its connection hasn't failed; its
@@ -11,6 +11,6 @@ pub record IsReplay (s : Inside) : Type 0 where
   pub core : s.failure ≡ Sound → s.core ≡ state_after s.config s.word s.events
   pub outcomes : s.outcomes ≡ outcomes_in (trace_of s.config s.word s.events)
   pub few : length s.events < 2 ^ 32
-  pub unspent : s.failure ≡ Sound → is_spent s.core ≡ false
+  pub unspent : s.failure ≡ Sound → has_run_out s.core ≡ false
   pub fewer : s.failure ≡ Sound → IsFewer s.core
   pub sound : s.failure ≡ Sound → s.core.single.connection.failure ≡ None

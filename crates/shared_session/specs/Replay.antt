@@ -11,15 +11,15 @@ use Rattle.driver_model.specs.declared.event.EventKind.TheVariants as event
 use Rattle.driver_model.specs.declared.outcome.Outcome.{Outcome}
 use Rattle.mux_conn.specs.Turn.{dialing}
 use Rattle.shared_session.specs.declared.core_state.Core.{Core}
-use Rattle.shared_session.specs.Turn.{turn, actions_of, is_bad, spends}
+use Rattle.shared_session.specs.Turn.{next_turn, actions_of, is_bad, spends}
 
 -- the number of the first link
 abbrev pub first_link : ℕ
 first_link = 0
 
 -- after turn 0: the first link was asked for
-abbrev pub opening : Config → ℕ → Core
-opening config word = record { turns = 1; links = first_link + 1; shut = false; table = []; single = record { link = first_link; connection = dialing } }
+abbrev pub opening_core : Config → ℕ → Core
+opening_core config word = record { turns = 1; links = first_link + 1; shut = false; table = []; single = record { link = first_link; connection = dialing } }
 
 -- what turn 0 shows
 abbrev pub opening_actions : Config → ℕ → List Action
@@ -27,19 +27,19 @@ opening_actions config word = action.Turn 0 (cause.Opening config word) ∷ acti
 
 abbrev pub run_on : Core → List Event → Core
 run_on c [] = c
-run_on c (e ∷ es) = run_on (turn c e.kind).core es
+run_on c (e ∷ es) = run_on (next_turn c e.kind).core es
 
 -- where a history leads
 unfoldable pub state_after : Config → ℕ → List Event → Core
-state_after config word events = run_on (opening config word) events
+state_after config word events = run_on (opening_core config word) events
 
 abbrev pub turns_on : Core → List Event → List Action
 turns_on c [] = []
-turns_on c (e ∷ es) = actions_of c e ++ turns_on (turn c e.kind).core es
+turns_on c (e ∷ es) = actions_of c e ++ turns_on (next_turn c e.kind).core es
 
 -- the trace of a history: its turns one after another, each with its actions
 unfoldable pub trace_of : Config → ℕ → List Event → List Action
-trace_of config word events = opening_actions config word ++ turns_on (opening config word) events
+trace_of config word events = opening_actions config word ++ turns_on (opening_core config word) events
 
 -- a place for the outcome of one more submission
 abbrev pub with_room : List (Option Outcome) → EventKind → List (Option Outcome)
@@ -83,11 +83,11 @@ outcome_at os n = if_placed (slice_get os n)
 
 abbrev pub AreGoodOn : Core → List Event → Type 0
 AreGoodOn c [] = Unit {0}
-AreGoodOn c (e ∷ es) = (is_bad c e.kind ≡ false) × AreGoodOn (turn c e.kind).core es
+AreGoodOn c (e ∷ es) = (is_bad c e.kind ≡ false) × AreGoodOn (next_turn c e.kind).core es
 
 -- no event is bad
 unfoldable pub AreGood : Config → ℕ → List Event → Type 0
-AreGood config word events = AreGoodOn (opening config word) events
+AreGood config word events = AreGoodOn (opening_core config word) events
 
 -- the event is bad after that history
 abbrev pub is_bad_after : Config → ℕ → List Event → Event → Bool
@@ -95,11 +95,11 @@ is_bad_after config word events e = is_bad (state_after config word events) e.ki
 
 abbrev pub AreUnspentOn : Core → List Event → Type 0
 AreUnspentOn c [] = Unit {0}
-AreUnspentOn c (e ∷ es) = (spends c e ≡ false) × AreUnspentOn (turn c e.kind).core es
+AreUnspentOn c (e ∷ es) = (spends c e ≡ false) × AreUnspentOn (next_turn c e.kind).core es
 
 -- no event's step is spent
 unfoldable pub AreUnspent : Config → ℕ → List Event → Type 0
-AreUnspent config word events = AreUnspentOn (opening config word) events
+AreUnspent config word events = AreUnspentOn (opening_core config word) events
 
 -- the event's step is spent after that history
 abbrev pub is_spent_after : Config → ℕ → List Event → Event → Bool

@@ -11,8 +11,8 @@ use Rattle.driver_model.specs.declared.event.EventKind.{EventKind}
 use Rattle.driver_model.specs.declared.event.EventKind.TheVariants as event
 use Rattle.driver_model.specs.declared.event.Submission.{Submission}
 use Rattle.driver_model.specs.declared.outcome.Outcome.TheVariants as outcome
-use Rattle.driver_model.specs.News.{news}
-use Rattle.driver_model.specs.Request.{packed, shape_of, awaits_reply, is_formless}
+use Rattle.driver_model.specs.News.{news_of}
+use Rattle.driver_model.specs.Request.{packed_bytes, shape_of, is_reply_awaited, has_no_form}
 use Rattle.mux_conn.specs.declared.act.LinkAct.{LinkAct}
 use Rattle.mux_conn.specs.declared.act.LinkAct.TheVariants as act
 use Rattle.mux_conn.specs.declared.life.Life.{Life}
@@ -29,6 +29,9 @@ use Rattle.shared_session.specs.declared.core_state.Core.{Core}
 pub record Turning : Type 0 where
   pub core : Core
   pub acts : List LinkAct
+
+abbrev pub turning_with : Core → List LinkAct → Turning
+turning_with core acts = record { core = core; acts = acts }
 
 -- its connection's part
 abbrev pub work_of : Turning → Work
@@ -53,11 +56,11 @@ shut_by c kind = record c { shut = c.shut || is_shutdown kind }
 
 -- the connection hears its link's news
 abbrev pub heard : Turning → EventKind → Turning
-heard t kind = with_work (record t { core = shut_by t.core kind }) (applied (work_of t) (news t.core.single.link kind))
+heard t kind = with_work (record t { core = shut_by t.core kind }) (applied (work_of t) (news_of t.core.single.link kind))
 
 -- the next submission has no request: it is answered at once
-abbrev pub refused : Turning → RedisError → Turning
-refused t e = record { core = record t.core { table = t.core.table ++ None ∷ [] }; acts = t.acts ++ act.Outcome (length t.core.table) (outcome.Fault e) ∷ [] }
+abbrev pub refused_with : Turning → RedisError → Turning
+refused_with t e = record { core = record t.core { table = t.core.table ++ None ∷ [] }; acts = t.acts ++ act.Outcome (length t.core.table) (outcome.Fault e) ∷ [] }
 
 abbrev pub pending : ℕ → Pending
 pending p = record { number = p }
@@ -69,15 +72,15 @@ asked_for t what =
     record t {
       core = record t.core {
         table = t.core.table ++ Some (pending (length conn.requests)) ∷ [];
-        single = record t.core.single { connection = asked conn (length t.core.table) (packed what) (shape_of what) (awaits_reply what) };
+        single = record t.core.single { connection = asked conn (length t.core.table) (packed_bytes what) (shape_of what) (is_reply_awaited what) };
       };
     }
 
 -- a submission is checked, and then waits
 abbrev pub submitted : Turning → Submission → Turning
 submitted t what =
-    if t.core.shut then refused t error.Closed
-    else if length (packed what) == 0 then refused t error.EmptyCommand
+    if t.core.shut then refused_with t error.Closed
+    else if length (packed_bytes what) == 0 then refused_with t error.EmptyCommand
     else asked_for t what
 
 -- the caller of a submission has gone, and with it its request, if it has one
@@ -111,12 +114,12 @@ abbrev pub moved_on : Turning → Turning
 moved_on t = with_work t (flushed (passed (work_of t)))
 
 -- the event has its effect, and then all is moved
-abbrev pub run : Turning → EventKind → Turning
-run t kind = moved_on (effect t kind)
+abbrev pub whole_effect : Turning → EventKind → Turning
+whole_effect t kind = moved_on (effect t kind)
 
 -- a turn
-unfoldable pub turn : Core → EventKind → Turning
-turn c kind = run (counted c) kind
+unfoldable pub next_turn : Core → EventKind → Turning
+next_turn c kind = whole_effect (counted c) kind
 
 -- what an act of the connection of link l shows
 abbrev pub shown : ℕ → LinkAct → Action
@@ -133,7 +136,7 @@ shown_each l (a ∷ more) = shown l a ∷ shown_each l more
 
 -- the actions of one turn
 abbrev pub actions_of : Core → Event → List Action
-actions_of c e = action.Turn c.turns (cause.Event e) ∷ shown_each c.single.link (turn c e.kind).acts
+actions_of c e = action.Turn c.turns (cause.Event e) ∷ shown_each c.single.link (next_turn c e.kind).acts
 
 -- a cancel names one of so many submissions
 abbrev pub IsKnown : ℕ → EventKind → Type 0
@@ -145,10 +148,10 @@ abbrev pub IsFewer : Core → Type 0
 IsFewer c = length c.single.connection.requests ≤ length c.table
 
 -- more bytes were taken than are offered
-abbrev pub takes_too_much : Life → ℕ → Bool
-takes_too_much Dialing count = nat_lt 0 count
-takes_too_much (Ready link) count = nat_lt link.outbox.offered count
-takes_too_much Ended count = false
+abbrev pub exceeds_offer : Life → ℕ → Bool
+exceeds_offer Dialing count = nat_lt 0 count
+exceeds_offer (Ready link) count = nat_lt link.outbox.offered count
+exceeds_offer Ended count = false
 
 -- no link of that number was asked for
 abbrev pub is_no_link : Core → ℕ → Bool
@@ -157,10 +160,10 @@ is_no_link c l = nat_le c.links l
 -- the event hands in a submission without a form, or names a link or a submission that was never given out, or more written
 -- bytes than were offered
 unfoldable pub is_bad : Core → EventKind → Bool
-is_bad c (event.Submit what) = is_formless what
+is_bad c (event.Submit what) = has_no_form what
 is_bad c (event.Cancel n) = nat_le (length c.table) n
 is_bad c (event.Connected l) = is_no_link c l
-is_bad c (event.Wrote l count) = is_no_link c l || ((l == c.single.link) && takes_too_much c.single.connection.life count)
+is_bad c (event.Wrote l count) = is_no_link c l || ((l == c.single.link) && exceeds_offer c.single.connection.life count)
 is_bad c (event.Bytes l piece) = is_no_link c l
 is_bad c (event.Ended l) = is_no_link c l
 is_bad c (event.ReadFault l kind) = is_no_link c l
@@ -168,9 +171,9 @@ is_bad c (event.WriteFault l kind) = is_no_link c l
 is_bad c event.Shutdown = false
 
 -- the number 2^32 - 1 was given to a message or a submission
-unfoldable pub is_spent : Core → Bool
-is_spent c = is_spent_in c.single.connection.life || nat_le (2 ^ 32) (length c.table)
+unfoldable pub has_run_out : Core → Bool
+has_run_out c = is_spent_in c.single.connection.life || nat_le (2 ^ 32) (length c.table)
 
 -- the step of an event is spent: the history holds 2^32 - 1 events, or the turn would give out a number too many
 unfoldable pub spends : Core → Event → Bool
-spends c e = nat_le (2 ^ 32) c.turns || is_spent (turn c e.kind).core
+spends c e = nat_le (2 ^ 32) c.turns || has_run_out (next_turn c e.kind).core

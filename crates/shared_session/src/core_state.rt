@@ -1,4 +1,5 @@
-ghost use Rattle.std.specs.Prelude.{◌≡◌, ◌<◌, ◌≤◌, ◌+◌, ◌++◌, ◌∷◌, ◌^◌, [], length, slice_get, true, false, None, Some, OnOk, OnErr, IfErr, IsErrOf};
+ghost use Rattle.std.specs.Prelude.{◌≡◌, ◌<◌, ◌≤◌, ◌+◌, ◌++◌, ◌∷◌, ◌^◌, [], length, slice_get};
+ghost use Rattle.std.specs.Prelude.{true, false, None, Some, OnOk, OnErr, IfErr, IsErrOf};
 
 use containers::{Bytes, Seq};
 use driver_model::{EventKind, Outcome, Submission};
@@ -50,10 +51,13 @@ impl Drop for Core {
 }
 
 impl Core {
-    ghost use Rattle.driver_model.specs.Request.{packed as packed_of};
-    ghost use Rattle.driver_model.specs.News.{told, news};
+    ghost use Rattle.driver_model.specs.Request.{packed_bytes};
+    ghost use Rattle.driver_model.specs.News.{told, news_of};
     ghost use Rattle.mux_conn.specs.Effects.{IsWithin};
-    ghost use Rattle.shared_session.specs.Turn.{heard, refused as refused_in, asked_for, submitted, left_by, requested, effect, run as run_of, turn as turn_of, is_bad, is_spent as is_spent_in, takes_too_much as takes_too_much_in, IsFewer, IsKnown};
+    ghost use Rattle.shared_session.specs.Turn.{turning_with, heard, refused_with, asked_for};
+    ghost use Rattle.shared_session.specs.Turn.{submitted, left_by, requested, effect};
+    ghost use Rattle.shared_session.specs.Turn.{whole_effect, next_turn, is_bad, has_run_out};
+    ghost use Rattle.shared_session.specs.Turn.{exceeds_offer, IsFewer, IsKnown};
 
     /// The connection hears its link's news.
     fn hear(
@@ -62,11 +66,17 @@ impl Core {
         event: &EventKind,
         acts: &mut Vec<LinkAct>,
     ) -> Result<(), ConnectionError>
-        requires { IsWithin self.old.single.connection.life (news self.old.single.link event.now) }
-        ensures turning { OnOk result (record { core = self.new; acts = acts.new.items } ≡ heard (record { core = self.old; acts = acts.old.items }) event.now) }
+        requires { IsWithin self.old.single.connection.life
+            (news_of self.old.single.link event.now) }
+        ensures turning { OnOk result (
+            turning_with self.new acts.new.items
+            ≡ heard (turning_with self.old acts.old.items) event.now
+            ) }
         ensures count { length self.new.table ≡ length self.old.table }
-        ensures requests { length self.new.single.connection.requests ≡ length self.old.single.connection.requests }
-        ensures spent { IsErrOf result ConnectionError.Spent → self.old.single.connection.failure ≡ Some ConnectionError.Spent }
+        ensures requests { length self.new.single.connection.requests
+            ≡ length self.old.single.connection.requests }
+        ensures spent { IsErrOf result ConnectionError.Spent
+            → self.old.single.connection.failure ≡ Some ConnectionError.Spent }
         ensures sound { OnOk result (self.new.single.connection.failure ≡ None) }
     {
         let shutdown = match event {
@@ -81,7 +91,10 @@ impl Core {
     /// The next submission has no request: it is answered at once.
     fn refuse(&mut self, error: RedisError, acts: &mut Vec<LinkAct>) -> Result<(), AllocError>
         requires { length self.old.table < 2 ^ 32 }
-        ensures turning { OnOk result (record { core = self.new; acts = acts.new.items } ≡ refused_in (record { core = self.old; acts = acts.old.items }) error) }
+        ensures turning { OnOk result (
+            turning_with self.new acts.new.items
+            ≡ refused_with (turning_with self.old acts.old.items) error
+            ) }
         ensures count { OnOk result (length self.new.table ≡ length self.old.table + 1) }
         ensures requests { self.new.single.connection ≡ self.old.single.connection }
     {
@@ -98,11 +111,18 @@ impl Core {
     fn ask(&mut self, submission: &Submission, packed: Bytes) -> Result<(), AllocError>
         requires few { length self.old.table < 2 ^ 32 }
         requires fewer { length self.old.single.connection.requests < 2 ^ 32 }
-        requires packs { packed ≡ packed_of submission.now }
-        ensures turning { OnOk result (record { core = self.new; acts = [] } ≡ asked_for (record { core = self.old; acts = [] }) submission.now) }
+        requires packs { packed ≡ packed_bytes submission.now }
+        ensures turning { OnOk result (
+            turning_with self.new [] ≡ asked_for (turning_with self.old []) submission.now
+            ) }
         ensures count { OnOk result (length self.new.table ≡ length self.old.table + 1) }
-        ensures requests { OnOk result (length self.new.single.connection.requests ≡ length self.old.single.connection.requests + 1) }
-        ensures failure { OnOk result (self.new.single.connection.failure ≡ self.old.single.connection.failure) }
+        ensures requests { OnOk result (
+            length self.new.single.connection.requests
+            ≡ length self.old.single.connection.requests + 1
+            ) }
+        ensures failure { OnOk result (
+            self.new.single.connection.failure ≡ self.old.single.connection.failure
+            ) }
     {
         let name = self.table.len() as u32;
         let shape = submission.shape();
@@ -120,9 +140,14 @@ impl Core {
     ) -> Result<(), AllocError>
         requires few { length self.old.table < 2 ^ 32 }
         requires fewer { IsFewer self.old }
-        ensures turning { OnOk result (record { core = self.new; acts = acts.new.items } ≡ submitted (record { core = self.old; acts = acts.old.items }) submission.now) }
+        ensures turning { OnOk result (
+            turning_with self.new acts.new.items
+            ≡ submitted (turning_with self.old acts.old.items) submission.now
+            ) }
         ensures fewer { OnOk result (IsFewer self.new) }
-        ensures failure { OnOk result (self.new.single.connection.failure ≡ self.old.single.connection.failure) }
+        ensures failure { OnOk result (
+            self.new.single.connection.failure ≡ self.old.single.connection.failure
+            ) }
     {
         if self.shut {
             return self.refuse(RedisError::Closed, acts);
@@ -137,9 +162,11 @@ impl Core {
     /// The caller of a submission has gone.
     fn leave(&mut self, submission: u32)
         requires { submission < length self.old.table }
-        ensures turning { record { core = self.new; acts = [] } ≡ left_by (record { core = self.old; acts = [] }) (slice_get self.old.table submission) }
+        ensures turning { turning_with self.new []
+            ≡ left_by (turning_with self.old []) (slice_get self.old.table submission) }
         ensures fewer { IsFewer self.old → IsFewer self.new }
-        ensures failure { self.new.single.connection.failure ≡ self.old.single.connection.failure }
+        ensures failure { self.new.single.connection.failure
+            ≡ self.old.single.connection.failure }
     {
         let request = *self.table.at(submission as usize);
         match request {
@@ -158,9 +185,14 @@ impl Core {
         requires known { IsKnown (length self.old.table) event.now }
         requires few { length self.old.table < 2 ^ 32 }
         requires fewer { IsFewer self.old }
-        ensures turning { OnOk result (record { core = self.new; acts = acts.new.items } ≡ requested (record { core = self.old; acts = acts.old.items }) event.now) }
+        ensures turning { OnOk result (
+            turning_with self.new acts.new.items
+            ≡ requested (turning_with self.old acts.old.items) event.now
+            ) }
         ensures fewer { OnOk result (IsFewer self.new) }
-        ensures failure { OnOk result (self.new.single.connection.failure ≡ self.old.single.connection.failure) }
+        ensures failure { OnOk result (
+            self.new.single.connection.failure ≡ self.old.single.connection.failure
+            ) }
     {
         match event {
             EventKind::Submit { submission } => self.submit(alloc, submission, acts),
@@ -195,7 +227,7 @@ impl Core {
 
     /// Whether more bytes were taken than are offered.
     fn takes_too_much(&self, count: u64) -> bool
-        ensures { result ≡ takes_too_much_in self.now.single.connection.life count }
+        ensures { result ≡ exceeds_offer self.now.single.connection.life count }
     {
         match &self.single.connection.life {
             Life::Dialing => count > 0,
@@ -205,9 +237,9 @@ impl Core {
     }
 
     /// Whether the number 2^32 - 1 was given to a message or a submission.
-    #[tactic(auto, unfolding(crate::specs::Turn::is_spent))]
+    #[tactic(auto, unfolding(crate::specs::Turn::has_run_out))]
     fn is_spent(&self) -> bool
-        ensures { result ≡ is_spent_in self.now }
+        ensures { result ≡ has_run_out self.now }
     {
         let started = u64::from(self.single.connection.started());
         started >= TOO_MANY || self.table.len() as u64 >= TOO_MANY
@@ -224,8 +256,13 @@ impl Core {
         requires few { length self.old.table < 2 ^ 32 }
         requires fewer { IsFewer self.old }
         requires sound { self.old.single.connection.failure ≡ None }
-        ensures turning { OnOk result (record { core = self.new; acts = acts.new.items } ≡ run_of (record { core = self.old; acts = acts.old.items }) event.now) }
-        ensures spent { IsErrOf result ConnectionError.Spent → is_spent_in (run_of (record { core = self.old; acts = acts.old.items }) event.now).core ≡ true }
+        ensures turning { OnOk result (
+            turning_with self.new acts.new.items
+            ≡ whole_effect (turning_with self.old acts.old.items) event.now
+            ) }
+        ensures spent { IsErrOf result ConnectionError.Spent
+            → has_run_out (whole_effect (turning_with self.old acts.old.items) event.now).core
+            ≡ true }
         ensures fewer { OnOk result (IsFewer self.new) }
         ensures sound { OnOk result (self.new.single.connection.failure ≡ None) }
     {
@@ -242,7 +279,7 @@ impl Core {
     }
 
     /// One turn, whose acts `acts` gains.
-    #[tactic(auto, unfolding(crate::specs::Turn::turn))]
+    #[tactic(auto, unfolding(crate::specs::Turn::next_turn))]
     pub fn turn(
         &mut self,
         alloc: Global,
@@ -250,14 +287,17 @@ impl Core {
         acts: &mut Vec<LinkAct>,
     ) -> Result<(), ConnectionError>
         requires good { is_bad self.old event.now ≡ false }
-        requires room { is_spent_in self.old ≡ false }
+        requires room { has_run_out self.old ≡ false }
         requires turns { self.old.turns < 2 ^ 32 }
         requires fewer { IsFewer self.old }
         requires sound { self.old.single.connection.failure ≡ None }
         requires none { acts.old.items ≡ [] }
-        ensures turning { OnOk result (record { core = self.new; acts = acts.new.items } ≡ turn_of self.old event.now) }
-        ensures unspent { OnOk result (is_spent_in self.new ≡ false) }
-        ensures spent { IsErrOf result ConnectionError.Spent → is_spent_in (turn_of self.old event.now).core ≡ true }
+        ensures turning { OnOk result (
+            turning_with self.new acts.new.items ≡ next_turn self.old event.now
+            ) }
+        ensures unspent { OnOk result (has_run_out self.new ≡ false) }
+        ensures spent { IsErrOf result ConnectionError.Spent
+            → has_run_out (next_turn self.old event.now).core ≡ true }
         ensures fewer { OnOk result (IsFewer self.new) }
         ensures sound { OnOk result (self.new.single.connection.failure ≡ None) }
     {

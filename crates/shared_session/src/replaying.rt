@@ -16,10 +16,14 @@ impl Session {
         events: &[Event],
         actions: &mut Vec<Action>,
     ) -> Result<(), ReplayError>
-        ensures actions { OnOk result (actions.new.items ≡ actions.old.items ++ trace_of config word events.now) }
+        ensures actions { OnOk result (
+            actions.new.items ≡ actions.old.items ++ trace_of config word events.now
+            ) }
         ensures good { OnOk result (AreGood config word events.now) }
         ensures unspent { OnOk result (AreUnspent config word events.now) }
-        ensures stops { IfErr result (λ e. Stops e config word events.now actions.old.items actions.new.items) }
+        ensures stops { IfErr result (λ e.
+            Stops e config word events.now actions.old.items actions.new.items
+            ) }
     {
         let mut session = match Session::new(alloc, config, word, actions) {
             Ok(session) => session,

@@ -1,7 +1,8 @@
-ghost use Rattle.std.specs.Prelude.{◌≡◌, ◌⊎◌, ℕ, ◌<◌, ◌+◌, ◌^◌, ◌↔◌, [], ◌∷◌, ◌++◌, length, true, false, OnOk, OnErr, IfOk, IsErrOf, option_copied};
+ghost use Rattle.std.specs.Prelude.{◌≡◌, ◌⊎◌, ℕ, ◌<◌, ◌+◌, ◌^◌, ◌↔◌, [], ◌∷◌, ◌++◌, length, true};
+ghost use Rattle.std.specs.Prelude.{false, OnOk, OnErr, IfOk, IsErrOf, option_copied};
 ghost use Rattle.shared_session.specs.Turn.{shown_each};
 ghost use Rattle.shared_session.specs.Done.{done_each, put_each};
-ghost use Rattle.shared_session.specs.Replay.{first_link, opening as opening_of, opening_actions, with_room};
+ghost use Rattle.shared_session.specs.Replay.{first_link, opening_core, opening_actions, with_room};
 
 use crate::core_state::{Core, Single};
 use crate::errors::{MakeError, StepError};
@@ -40,7 +41,12 @@ impl Model for Session {
 
     ghost Value = { History };
 
-    ghost view = { λ s. record { config = s.config; word = s.word; events = s.events; failure = s.failure } };
+    ghost view = { λ s. record {
+      config = s.config;
+      word = s.word;
+      events = s.events;
+      failure = s.failure;
+    } };
 
     ghost use Rattle.shared_session.specs.IsReplay.{IsReplay};
 
@@ -66,7 +72,7 @@ impl Drop for Session {
 
 /// The state after the opening.
 fn opened(alloc: Global) -> Core
-    ensures { (config : Config) (word : ℕ) → result ≡ opening_of config word }
+    ensures { (config : Config) (word : ℕ) → result ≡ opening_core config word }
 {
     Core {
         turns: 1,
@@ -87,7 +93,9 @@ fn show_opening(
     word: u64,
     out: &mut Vec<Action>,
 ) -> Result<(), AllocError>
-    ensures actions { OnOk result (out.new.items ≡ out.old.items ++ opening_actions config.now word) }
+    ensures actions { OnOk result (
+        out.new.items ≡ out.old.items ++ opening_actions config.now word
+        ) }
     ensures err { OnErr result (out.new.items ≡ out.old.items) }
 {
     let shown = config.clone(alloc)?;
@@ -109,8 +117,9 @@ fn show_opening(
 }
 
 impl Session {
-    ghost use Rattle.shared_session.specs.Turn.{is_bad, spends, actions_of};
+    ghost use Rattle.shared_session.specs.Turn.{actions_of};
     ghost use Rattle.shared_session.specs.Replay.{state_after, trace_of, outcomes_in, outcome_at};
+    ghost use Rattle.shared_session.specs.Replay.{is_bad_after, is_spent_after};
     ghost use Rattle.shared_session.specs.Stops.{IsSpentBy};
 
     /// A session that has made its opening, whose actions `out` gains. After `NoMemory` `out` is as it was.
@@ -120,8 +129,12 @@ impl Session {
         word: u64,
         out: &mut Vec<Action>,
     ) -> Result<Session, MakeError>
-        ensures made { IfOk result (λ s. s ≡ record { config = config; word = word; events = []; failure = Failure.Sound }) }
-        ensures actions { OnOk result (out.new.items ≡ out.old.items ++ opening_actions config word) }
+        ensures made { IfOk result (λ s.
+            s ≡ record { config = config; word = word; events = []; failure = Failure.Sound }
+            ) }
+        ensures actions { OnOk result (
+            out.new.items ≡ out.old.items ++ opening_actions config word
+            ) }
         ensures err { OnErr result (out.new.items ≡ out.old.items) }
     {
         let events = Seq::new(alloc);
@@ -146,7 +159,9 @@ impl Session {
 
     /// The outcome of a submission, if it has one. Takes no memory. A session that has failed answers as before.
     pub fn outcome_of(&self, submission: u32) -> Option<&Outcome>
-        ensures { option_copied result ≡ outcome_at (outcomes_in (trace_of self.now.config self.now.word self.now.events)) submission }
+        ensures { option_copied result
+            ≡ outcome_at (outcomes_in (trace_of self.now.config self.now.word self.now.events))
+            submission }
     {
         if submission as usize >= self.outcomes.len() {
             return None;
@@ -163,19 +178,37 @@ impl Session {
         event: Event,
         out: &mut Vec<Action>,
     ) -> Result<(), StepError>
-        ensures ok { OnOk result (self.new ≡ record self.old { events = self.old.events ++ event ∷ [] }) }
-        ensures actions { OnOk result (out.new.items ≡ out.old.items ++ actions_of (state_after self.old.config self.old.word self.old.events) event) }
+        ensures ok { OnOk result (
+            self.new ≡ record self.old { events = self.old.events ++ event ∷ [] }
+            ) }
+        ensures actions { OnOk result (
+            out.new.items
+            ≡ out.old.items
+            ++ actions_of (state_after self.old.config self.old.word self.old.events) event
+            ) }
         ensures sound { OnOk result (self.old.failure ≡ Failure.Sound) }
-        ensures good { OnOk result (is_bad (state_after self.old.config self.old.word self.old.events) event.kind ≡ false) }
-        ensures bad { IsErrOf result StepError.BadEvent ↔ ((self.old.failure ≡ Failure.Sound) × (is_bad (state_after self.old.config self.old.word self.old.events) event.kind ≡ true)) }
+        ensures good { OnOk result (
+            is_bad_after self.old.config self.old.word self.old.events event ≡ false
+            ) }
+        ensures bad { IsErrOf result StepError.BadEvent
+            ↔ ((self.old.failure ≡ Failure.Sound)
+            × (is_bad_after self.old.config self.old.word self.old.events event ≡ true)) }
         ensures bad_same { IsErrOf result StepError.BadEvent → self.new ≡ self.old }
-        ensures spent { (n : ℕ) → IsErrOf result (StepError.Spent n) → (self.old.failure ≡ Failure.Spent) ⊎ IsSpentBy self.old event }
-        ensures count { (n : ℕ) → IsErrOf result (StepError.Spent n) → n ≡ length self.old.events }
-        ensures unspent { OnOk result (spends (state_after self.old.config self.old.word self.old.events) event ≡ false) }
-        ensures again { self.old.failure ≡ Failure.Spent → IsErrOf result (StepError.Spent (length self.old.events)) }
-        ensures failed { self.old.failure ≡ Failure.NoMemory → IsErrOf result StepError.NoMemory }
-        ensures fails_spent { (n : ℕ) → IsErrOf result (StepError.Spent n) → self.new.failure ≡ Failure.Spent }
-        ensures fails { IsErrOf result StepError.NoMemory → self.new.failure ≡ Failure.NoMemory }
+        ensures spent { (n : ℕ) → IsErrOf result (StepError.Spent n)
+            → (self.old.failure ≡ Failure.Spent) ⊎ IsSpentBy self.old event }
+        ensures count { (n : ℕ) → IsErrOf result (StepError.Spent n)
+            → n ≡ length self.old.events }
+        ensures unspent { OnOk result (
+            is_spent_after self.old.config self.old.word self.old.events event ≡ false
+            ) }
+        ensures again { self.old.failure ≡ Failure.Spent
+            → IsErrOf result (StepError.Spent (length self.old.events)) }
+        ensures failed { self.old.failure ≡ Failure.NoMemory
+            → IsErrOf result StepError.NoMemory }
+        ensures fails_spent { (n : ℕ) → IsErrOf result (StepError.Spent n)
+            → self.new.failure ≡ Failure.Spent }
+        ensures fails { IsErrOf result StepError.NoMemory
+            → self.new.failure ≡ Failure.NoMemory }
         ensures err { OnErr result (out.new.items ≡ out.old.items) }
         ensures kept { OnErr result (self.new ≡ record self.old { failure = self.new.failure }) }
     {
@@ -233,7 +266,11 @@ fn show_turn(
     done: &mut Queue<Done>,
     out: &mut Vec<Action>,
 ) -> Result<(), AllocError>
-    ensures actions { OnOk result (out.new.items ≡ out.old.items ++ (Action.Turn number (Cause.Event event.now) ∷ shown_each link acts.items)) }
+    ensures actions { OnOk result (
+        out.new.items
+        ≡ out.old.items
+        ++ (Action.Turn number (Cause.Event event.now) ∷ shown_each link acts.items)
+        ) }
     ensures done { OnOk result (done.new ≡ done.old ++ done_each acts.items) }
     ensures err { OnErr result (out.new.items ≡ out.old.items) }
 {
@@ -258,7 +295,10 @@ fn keep(
     events: &mut Seq<Event>,
     event: Event,
 ) -> Result<(), AllocError>
-    ensures ok { OnOk result ((outcomes.new ≡ with_room outcomes.old event.kind) × (events.new ≡ events.old ++ event ∷ [])) }
+    ensures ok { OnOk result (
+        (outcomes.new ≡ with_room outcomes.old event.kind)
+        × (events.new ≡ events.old ++ event ∷ [])
+        ) }
     ensures err { OnErr result ((outcomes.new ≡ outcomes.old) × (events.new ≡ events.old)) }
 {
     let places = outcomes.len();

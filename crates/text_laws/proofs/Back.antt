@@ -8,7 +8,7 @@ use Rattle.driver_model.specs.declared.event.EventKind.{EventKind}
 use Rattle.driver_model.specs.declared.event.EventKind.TheVariants as event
 use Rattle.driver_model.specs.declared.event.Submission.{Submission}
 use Rattle.driver_model.specs.declared.event.Submission.TheVariants as submission
-use Rattle.driver_model.specs.Request.{is_one_nameless, is_formless}
+use Rattle.driver_model.specs.Request.{is_single_nameless, has_no_form}
 use Rattle.redis_error.specs.declared.fault_kind.FaultKind.{FaultKind}
 use Rattle.redis_error.specs.declared.fault_kind.FaultKind.TheVariants as fault
 use Rattle.redis_error.specs.Names.{fault_name}
@@ -33,13 +33,13 @@ undrawn : EventKind → Event
 undrawn kind = record { word = 0; kind = kind }
 
 -- a list of commands that is no single nameless one
-commands_back : (all : List (List (List ℕ))) → is_one_nameless all ≡ false → commands (first_of all) (behind_first all) ≡ all
+commands_back : (all : List (List (List ℕ))) → is_single_nameless all ≡ false → commands (first_of all) (behind_first all) ≡ all
 commands_back [] form = refl
 commands_back ([] ∷ []) form = cc
 commands_back ([] ∷ command ∷ rest) form = refl
 commands_back ((word ∷ words) ∷ rest) form = refl
 
-submission_back : (s : Submission) → FitsSubmission s → is_formless s ≡ false → by_first submissions (submission_words s) (submission_more s) ≡ Some s
+submission_back : (s : Submission) → FitsSubmission s → has_no_form s ≡ false → by_first submissions (submission_words s) (submission_more s) ≡ Some s
 submission_back (submission.Cmd args) fits form = refl
 submission_back (submission.NoReply args) fits form = refl
 submission_back (submission.Pipe all) fits form = ap (λ cs. Some (submission.Pipe cs)) (commands_back all form)

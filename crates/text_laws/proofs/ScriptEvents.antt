@@ -6,7 +6,7 @@ use Rattle.driver_model.specs.declared.event.EventKind.{EventKind}
 use Rattle.driver_model.specs.declared.event.EventKind.TheVariants.{Submit, Cancel, Connected, Wrote, Bytes, Ended, ReadFault, WriteFault, Shutdown}
 use Rattle.driver_model.specs.declared.event.Submission.{Submission}
 use Rattle.driver_model.specs.declared.event.Submission.TheVariants.{Packed}
-use Rattle.driver_model.specs.Request.{is_one_nameless, is_formless}
+use Rattle.driver_model.specs.Request.{is_single_nameless, has_no_form}
 use Rattle.redis_error.specs.declared.fault_kind.FaultKind.{FaultKind}
 use Rattle.script_text.specs.Numbers.{number, max_u32, max_u64}
 use Rattle.script_text.specs.Words.{LineWords}
@@ -49,11 +49,11 @@ small_number word = number_within max_u32 word
 
 -- commands that their type holds, and that are no single nameless one
 abbrev SaidCommands : List (List (List ℕ)) → Type 0
-SaidCommands commands = FitsCommands commands × (is_one_nameless commands ≡ false)
+SaidCommands commands = FitsCommands commands × (is_single_nameless commands ≡ false)
 
 -- a submission that its type holds, and that has a form
 abbrev SaidSubmission : Submission → Type 0
-SaidSubmission s = FitsSubmission s × (is_formless s ≡ false)
+SaidSubmission s = FitsSubmission s × (has_no_form s ≡ false)
 
 abbrev SaidKind : EventKind → Type 0
 SaidKind kind = FitsKind kind × HasForm kind

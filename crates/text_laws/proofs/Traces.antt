@@ -13,8 +13,8 @@ use Rattle.driver_model.specs.declared.event.EventKind.TheVariants as event
 use Rattle.mux_conn.specs.declared.act.LinkAct.{LinkAct}
 use Rattle.mux_conn.specs.declared.act.LinkAct.TheVariants as act
 use Rattle.shared_session.specs.declared.core_state.Core.{Core}
-use Rattle.shared_session.specs.Turn.{turn, is_bad, shown_each, actions_of}
-use Rattle.shared_session.specs.Replay.{opening, turns_on, trace_of, AreGoodOn, AreGood}
+use Rattle.shared_session.specs.Turn.{next_turn, is_bad, shown_each, actions_of}
+use Rattle.shared_session.specs.Replay.{opening_core, turns_on, trace_of, AreGoodOn, AreGood}
 use Rattle.legal_trace.specs.Legal.{causes, event_causes}
 use Rattle.trace_text.specs.Show.{show}
 use Rattle.text_laws.specs.Fits.{FitsEvent, FitsHistory, HasForm, HaveForms}
@@ -46,19 +46,19 @@ causes_append (action.Outcome s outcome ∷ xs) ys = causes_append xs ys
 
 -- a turn has its own cause alone
 one_cause : (c : Core) (e : Event) → causes (actions_of c e) ≡ cause.Event e ∷ []
-one_cause c e = ap (λ (cs : List Cause). cause.Event e ∷ cs) (no_causes c.single.link (turn c e.kind).acts)
+one_cause c e = ap (λ (cs : List Cause). cause.Event e ∷ cs) (no_causes c.single.link (next_turn c e.kind).acts)
 
 causes_on : (c : Core) (es : List Event) → causes (turns_on c es) ≡ event_causes es
 causes_on c [] = refl
 causes_on c (e ∷ es) =
-    let next = (turn c e.kind).core in
+    let next = (next_turn c e.kind).core in
     causes_append (actions_of c e) (turns_on next es) ∙ ap (λ (cs : List Cause). cs ++ causes (turns_on next es)) (one_cause c e)
     ∙ ap (λ (cs : List Cause). cause.Event e ∷ cs) (causes_on next es)
 
 -- also where an event is bad
 pub turns_of_history : (config : Config) (word : ℕ) (events : List Event) → causes (trace_of config word events) ≡ cause.Opening config word ∷ event_causes events
 unfolding trace_of
-turns_of_history config word events = ap (λ (cs : List Cause). cause.Opening config word ∷ cs) (causes_on (opening config word) events)
+turns_of_history config word events = ap (λ (cs : List Cause). cause.Opening config word ∷ cs) (causes_on (opening_core config word) events)
 
 events_fit : (es : List Event) → All FitsEvent es → All FitsCause (event_causes es)
 events_fit [] fits = All-nil FitsCause
@@ -91,12 +91,12 @@ good_form c event.Shutdown good = tt
 
 good_forms_on : (c : Core) (es : List Event) → AreGoodOn c es → HaveForms es
 good_forms_on c [] good = All-nil (λ e. HasForm e.kind)
-good_forms_on c (e ∷ es) good = All-cons (λ x. HasForm x.kind) e es (good_form c e.kind good.0) (good_forms_on (turn c e.kind).core es good.1)
+good_forms_on c (e ∷ es) good = All-cons (λ x. HasForm x.kind) e es (good_form c e.kind good.0) (good_forms_on (next_turn c e.kind).core es good.1)
 
 -- nor does a good history
 pub good_forms : (config : Config) (word : ℕ) (events : List Event) → AreGood config word events → HaveForms events
 unfolding AreGood
-good_forms config word events good = good_forms_on (opening config word) events good
+good_forms config word events good = good_forms_on (opening_core config word) events good
 
 -- without exception where no event is bad
 pub good_history_back : (config : Config) (word : ℕ) (events : List Event) → FitsHistory config word events → AreGood config word events

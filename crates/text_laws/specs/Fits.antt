@@ -7,7 +7,7 @@ use Rattle.driver_model.specs.declared.event.EventKind.{EventKind}
 use Rattle.driver_model.specs.declared.event.EventKind.TheVariants as event
 use Rattle.driver_model.specs.declared.event.Submission.{Submission}
 use Rattle.driver_model.specs.declared.event.Submission.TheVariants as submission
-use Rattle.driver_model.specs.Request.{is_formless}
+use Rattle.driver_model.specs.Request.{has_no_form}
 
 -- a byte
 abbrev pub IsByte : ℕ → Type 0
@@ -59,7 +59,7 @@ pub record FitsHistory (c : Config) (w : ℕ) (es : List Event) : Type 0 where
 
 -- an event that hands in no submission without a form
 abbrev pub HasForm : EventKind → Type 0
-HasForm (event.Submit s) = is_formless s ≡ false
+HasForm (event.Submit s) = has_no_form s ≡ false
 HasForm (event.Cancel s) = Unit {0}
 HasForm (event.Connected link) = Unit {0}
 HasForm (event.Wrote link count) = Unit {0}

@@ -15,7 +15,7 @@ use Rattle.driver_model.specs.declared.config.Config.{Config}
 use Rattle.driver_model.specs.declared.event.EventKind.TheVariants as event
 use Rattle.driver_model.specs.declared.event.Submission.TheVariants as submission
 use Rattle.driver_model.specs.declared.outcome.Outcome.TheVariants as outcome
-use Rattle.driver_model.specs.Request.{packed}
+use Rattle.driver_model.specs.Request.{packed_bytes}
 use Rattle.legal_trace.specs.Events.{is_bad_event}
 use Rattle.legal_trace.specs.Legal.{Legal}
 use Rattle.trace_examples.specs.Parts.{history, command, unawaited, two_together, one_atomic, one_skipped, one_reply, replies, a_reply_and_more, okay_line, refusals, multi_refused, exec_refused, executed, spoiled_behind, reply, an_error}
@@ -120,13 +120,13 @@ answered_then_closed config word = legal config word _ _ refl refl ((refl, refl)
 
 -- a command whose reply nobody awaits is answered once the earlier one started, and then starts; the bytes of both are offered together
 pub told_in_its_turn : (config : Config) (word : ℕ)
-    → Legal config word (history (event.Submit (command 71) ∷ event.Submit (unawaited 72) ∷ event.Connected 0 ∷ [])) (both_in_wait config word (unawaited 72) ++ action.Start 0 0 (owner.Try 0 0) 1 11 ∷ action.Outcome 1 (outcome.One Nil) ∷ action.Start 0 1 (owner.Try 1 0) 1 11 ∷ action.Write 0 (packed (command 71) ++ packed (unawaited 72)) ∷ [])
+    → Legal config word (history (event.Submit (command 71) ∷ event.Submit (unawaited 72) ∷ event.Connected 0 ∷ [])) (both_in_wait config word (unawaited 72) ++ action.Start 0 0 (owner.Try 0 0) 1 11 ∷ action.Outcome 1 (outcome.One Nil) ∷ action.Start 0 1 (owner.Try 1 0) 1 11 ∷ action.Write 0 (packed_bytes (command 71) ++ packed_bytes (unawaited 72)) ∷ [])
 unfolding digits items values left_over is_spoiled max_depth is_bad_event
 told_in_its_turn config word = legal config word _ _ refl refl ((refl, refl), (refl, (refl, tt)))
 
 -- bytes that weren't taken are offered again
 pub offered_again : (config : Config) (word : ℕ)
-    → Legal config word (history (event.Connected 0 ∷ event.Submit (command 71) ∷ event.Wrote 0 5 ∷ [])) (taken_in_part config word ++ action.Write 0 (drop 5 (packed (command 71))) ∷ [])
+    → Legal config word (history (event.Connected 0 ∷ event.Submit (command 71) ∷ event.Wrote 0 5 ∷ [])) (taken_in_part config word ++ action.Write 0 (drop 5 (packed_bytes (command 71))) ∷ [])
 unfolding digits items values left_over is_spoiled max_depth is_bad_event
 offered_again config word = legal config word _ _ refl refl ((refl, refl), (refl, (refl, tt)))
 

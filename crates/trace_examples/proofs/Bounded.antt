@@ -7,7 +7,7 @@ use Rattle.driver_model.specs.declared.action.Cause.TheVariants as cause
 use Rattle.driver_model.specs.declared.action.Owner.TheVariants as owner
 use Rattle.driver_model.specs.declared.event.EventKind.{EventKind}
 use Rattle.driver_model.specs.declared.event.EventKind.TheVariants as event
-use Rattle.driver_model.specs.News.{News, took, came, failed, for_link, news}
+use Rattle.driver_model.specs.News.{News, took, came, failed, for_link, news_of}
 use Rattle.legal_trace.specs.Ledger.{Ledger, Line, asks, hears, with_news, noted, noted_each}
 use Rattle.legal_trace.specs.Story.{Story, is_open}
 use Rattle.legal_trace.specs.Book.{Book, blank_book, if_mine, lines_of, after_event, story_after, submitted_by, entered}
@@ -65,7 +65,7 @@ hears_idle l true x h g = record { down = g.down; unasked = g.unasked }
 hears_idle l false x h g = record { down = h.down; unasked = h.unasked }
 
 -- so do the news of an event that doesn't connect it
-event_idle : (l : Ledger) (n : ℕ) (kind : EventKind) → 0 < n → connects_first kind ≡ true → IsIdle l → IsIdle (noted l (hears (news n kind)))
+event_idle : (l : Ledger) (n : ℕ) (kind : EventKind) → 0 < n → connects_first kind ≡ true → IsIdle l → IsIdle (noted l (hears (news_of n kind)))
 event_idle l n (event.Connected m) some first h = rw (ne_test m n (λ e. absurd (omega (arith, eq_from m 0 first)))) (record { down = h.down; unasked = h.unasked })
 event_idle l n (event.Wrote m count) some first h = hears_idle l (m == n) (took count) h (chosen IsIdle l.up _ l (λ t. record { down = h.down; unasked = h.unasked }) (λ t. h))
 event_idle l n (event.Bytes m piece) some first h = hears_idle l (m == n) (came piece) h (chosen IsIdle l.up _ l (λ t. record { down = h.down; unasked = h.unasked }) (λ t. h))

@@ -14,7 +14,7 @@ use Rattle.driver_model.specs.declared.config.Config.{Config}
 use Rattle.driver_model.specs.declared.event.Event.{Event}
 use Rattle.driver_model.specs.declared.outcome.Outcome.{Outcome}
 use Rattle.driver_model.specs.declared.outcome.Outcome.TheVariants as outcome
-use Rattle.driver_model.specs.Shape.{need}
+use Rattle.driver_model.specs.Shape.{need_of}
 use Rattle.legal_trace.specs.Ledger.{Ending, is_over, ending, unwritten}
 use Rattle.legal_trace.specs.Story.{is_open, is_awaited, bytes_of, shape}
 use Rattle.legal_trace.specs.Book.{Book, blank_book, book, entered, entered_each}
@@ -90,7 +90,7 @@ wait_stands b n kind bounded e = record {
 abbrev pub start_due : Book → ℕ → ℕ → ℕ → ℕ → ℕ → Bool
 start_due b l k n count len =
     (is_applied b && (is_awaited (b.story n) || is_told (b.story n)) && can_move b n && all_stay b n) &&
-    ((l == (b.story n).link) && (k == length (b.link l).starts) && (count == need (shape (b.story n))) && (len == length (bytes_of (b.story n))))
+    ((l == (b.story n).link) && (k == length (b.link l).starts) && (count == need_of (shape (b.story n))) && (len == length (bytes_of (b.story n))))
 
 start_stands : (b : Book) (l k n count len : ℕ) → IsBounded b → start_due b l k n count len ≡ true → MayStart b l k n count len
 start_stands b l k n count len bounded e = record {
@@ -100,7 +100,7 @@ start_stands b l k n count len bounded e = record {
   in_order = none_before b n (search (both_left, both_right));
   on_its_link = eq_from l (b.story n).link (search (both_left, both_right));
   next = eq_from k (length (b.link l).starts) (search (both_left, both_right));
-  needs_its_items = eq_from count (need (shape (b.story n))) (search (both_left, both_right));
+  needs_its_items = eq_from count (need_of (shape (b.story n))) (search (both_left, both_right));
   long_as_its_bytes = eq_from len (length (bytes_of (b.story n))) (search (both_left, both_right));
 }
   where

@@ -16,7 +16,7 @@ use Rattle.driver_model.specs.declared.config.Config.{Config}
 use Rattle.driver_model.specs.declared.event.Event.{Event}
 use Rattle.driver_model.specs.declared.event.EventKind.TheVariants as event
 use Rattle.driver_model.specs.declared.outcome.Outcome.TheVariants as outcome
-use Rattle.driver_model.specs.Request.{packed}
+use Rattle.driver_model.specs.Request.{packed_bytes}
 use Rattle.legal_trace.specs.Events.{is_bad_event}
 use Rattle.legal_trace.specs.Legal.{MayTurn, Legal}
 use Rattle.trace_examples.specs.Parts.{turn, command, unawaited, one_nameless, nameless_atomic, nameless_skipped}
@@ -83,17 +83,17 @@ offered_before_a_start config word events after bytes h =
 
 -- bytes that are offered twice
 pub offered_twice : (config : Config) (word : ℕ) (events : List Event) (after : List Action)
-    → Legal config word events (started_one config word ++ action.Write 0 (packed (command 71)) ∷ after) → ⊥
+    → Legal config word events (started_one config word ++ action.Write 0 (packed_bytes (command 71)) ∷ after) → ⊥
 offered_twice config word events after h =
-    let m = may_stand config word events (started_one config word) after (action.Write 0 (packed (command 71))) h in
+    let m = may_stand config word events (started_one config word) after (action.Write 0 (packed_bytes (command 71))) h in
     cc m.answered
 
 -- bytes that are offered again after they were taken
 pub offered_what_was_taken : (config : Config) (word : ℕ) (events : List Event) (after : List Action)
-    → Legal config word events (taken_in_part config word ++ action.Write 0 (packed (command 71)) ∷ after) → ⊥
+    → Legal config word events (taken_in_part config word ++ action.Write 0 (packed_bytes (command 71)) ∷ after) → ⊥
 unfolding digits
 offered_what_was_taken config word events after h =
-    let m = may_stand config word events (taken_in_part config word) after (action.Write 0 (packed (command 71))) h in
+    let m = may_stand config word events (taken_in_part config word) after (action.Write 0 (packed_bytes (command 71))) h in
     cc (ap length m.all)
 
 -- a wait that is shown before the bytes of a link are offered

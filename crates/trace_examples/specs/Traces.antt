@@ -13,7 +13,7 @@ use Rattle.driver_model.specs.declared.event.EventKind.TheVariants as event
 use Rattle.driver_model.specs.declared.event.Submission.{Submission}
 use Rattle.driver_model.specs.declared.event.Submission.TheVariants as submission
 use Rattle.driver_model.specs.declared.outcome.Outcome.TheVariants as outcome
-use Rattle.driver_model.specs.Request.{packed}
+use Rattle.driver_model.specs.Request.{packed_bytes}
 use Rattle.trace_examples.specs.Parts.{turn, command, unawaited, one_atomic, one_skipped, reply, one_reply, replies, replies_alike, a_reply_and_more, spoiled_behind, okay_line, a_push, refusals, multi_refused, exec_refused, executed}
 
 -- the opening
@@ -30,7 +30,7 @@ arrived config word s = came_up config word ++ turn 2 (event.Submit s) ∷ []
 
 -- a request of that need and length was started and offered
 abbrev pub sent : Config → ℕ → Submission → ℕ → ℕ → List Action
-sent config word s need len = arrived config word s ++ action.Start 0 0 (owner.Try 0 0) need len ∷ action.Write 0 (packed s) ∷ []
+sent config word s need len = arrived config word s ++ action.Start 0 0 (owner.Try 0 0) need len ∷ action.Write 0 (packed_bytes s) ∷ []
 
 -- a command was started, and nothing else happened
 abbrev pub started_one : Config → ℕ → List Action
@@ -42,7 +42,7 @@ started_both config word = started_one config word ++ turn 3 (event.Submit (comm
 
 -- and both were written
 abbrev pub sent_both : Config → ℕ → List Action
-sent_both config word = started_both config word ++ turn 4 (event.Wrote 0 11) ∷ action.Write 0 (packed (command 72)) ∷ turn 5 (event.Wrote 0 11) ∷ []
+sent_both config word = started_both config word ++ turn 4 (event.Wrote 0 11) ∷ action.Write 0 (packed_bytes (command 72)) ∷ turn 5 (event.Wrote 0 11) ∷ []
 
 -- and both replies came
 abbrev pub answered_both : Config → ℕ → List Action
@@ -124,7 +124,7 @@ left_untold config word = arrived config word (unawaited 71)
 abbrev pub told_first : Config → ℕ → List Action
 told_first config word =
     left_untold config word ++
-    action.Outcome 0 (outcome.One Nil) ∷ action.Start 0 0 (owner.Try 0 0) 1 11 ∷ action.Write 0 (packed (unawaited 71)) ∷
+    action.Outcome 0 (outcome.One Nil) ∷ action.Start 0 0 (owner.Try 0 0) 1 11 ∷ action.Write 0 (packed_bytes (unawaited 71)) ∷
     turn 3 (event.Submit (command 72)) ∷ action.Start 0 1 (owner.Try 1 0) 1 11 ∷
     turn 4 (event.Bytes 0 replies) ∷ []
 
@@ -173,7 +173,7 @@ heard_early config word =
     opening config word ++
     turn 1 (event.Bytes 0 a_reply_and_more) ∷
     turn 2 (event.Connected 0) ∷ action.Created ∷
-    turn 3 (event.Submit (command 71)) ∷ action.Start 0 0 (owner.Try 0 0) 1 11 ∷ action.Write 0 (packed (command 71)) ∷
+    turn 3 (event.Submit (command 71)) ∷ action.Start 0 0 (owner.Try 0 0) 1 11 ∷ action.Write 0 (packed_bytes (command 71)) ∷
     turn 4 (event.Bytes 0 okay_line) ∷ []
 
 -- a command without words was handed in before the link is up

@@ -18,7 +18,7 @@ ghost use Rattle.driver_model.specs.declared.event.EventKind.TheVariants as even
 ghost use Rattle.driver_model.specs.declared.event.Submission.TheVariants as submission;
 ghost use Rattle.driver_model.specs.declared.outcome.Outcome.{Outcome};
 ghost use Rattle.driver_model.specs.declared.outcome.Outcome.TheVariants as outcome;
-ghost use Rattle.driver_model.specs.Request.{packed};
+ghost use Rattle.driver_model.specs.Request.{packed_bytes};
 ghost use Rattle.trace_examples.specs.Parts.{turn, command, unawaited, two_together, one_atomic};
 ghost use Rattle.trace_examples.specs.Parts.{one_skipped, one_nameless, nameless_atomic};
 ghost use Rattle.trace_examples.specs.Parts.{nameless_skipped, reply, an_error, one_reply, replies};
@@ -121,10 +121,10 @@ pub fn so_are_these_around_a_link()
         (λ config word. both_in_wait config word (unawaited 72))
         (action.Start 0 0 (owner.Try 0 0) 1 11 ∷ action.Outcome 1 (outcome.One Nil)
         ∷ action.Start 0 1 (owner.Try 1 0) 1 11
-        ∷ action.Write 0 (packed (command 71) ++ packed (unawaited 72)) ∷ []) }
+        ∷ action.Write 0 (packed_bytes (command 71) ++ packed_bytes (unawaited 72)) ∷ []) }
     ensures offered_again { IsTraceOf
         (event.Connected 0 ∷ event.Submit (command 71) ∷ event.Wrote 0 5 ∷ []) taken_in_part
-        (action.Write 0 (drop 5 (packed (command 71))) ∷ []) }
+        (action.Write 0 (drop 5 (packed_bytes (command 71))) ∷ []) }
 {}
 
 /// Does nothing. Its contract: no trace that begins so is legal, whatever its events were and
@@ -136,7 +136,7 @@ pub fn these_are_not_legal()
     ensures push_as_answer { (value : Value)
         → NoneBegins pushed (action.Outcome 0 (outcome.One value)) }
     ensures causeless { NoneBegins started_one (action.Outcome 0 (outcome.Fault error.Closed)) }
-    ensures offered_twice { NoneBegins started_one (action.Write 0 (packed (command 71))) }
+    ensures offered_twice { NoneBegins started_one (action.Write 0 (packed_bytes (command 71))) }
 {}
 
 /// Does nothing. Its contract: the same of pipelines, transactions and commands whose reply nobody
@@ -186,7 +186,7 @@ pub fn nor_are_these_steps()
     ensures offered_before_a_start { (bytes : List ℕ)
         → NoneBegins first_of_both (action.Write 0 bytes) }
     ensures offered_what_was_taken { NoneBegins taken_in_part
-        (action.Write 0 (packed (command 71))) }
+        (action.Write 0 (packed_bytes (command 71))) }
     ensures waits_before_an_offer { (n round : ℕ) (kind : WaitKind)
         → NoneBegins started_unoffered (action.Wait (owner.Try n round) kind) }
     ensures waits_out_of_order { NoneBegins both_left_out

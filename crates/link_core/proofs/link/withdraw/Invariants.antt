@@ -1,5 +1,5 @@
 use Rattle.std.proofs.Common.{◌≡◌, [], length}
-use Rattle.link_core.specs.Waiting.{awaits}
+use Rattle.link_core.specs.Waiting.{is_wanted}
 use Rattle.link_core.proofs.FirstLemmas.{Passed}
 use Rattle.link_core.proofs.link.withdraw.Given as goal
 
@@ -7,5 +7,5 @@ abbrev pub invariant-loop-index : goal.invariant-loop-index
 invariant-loop-index l = record {
   same : l.queue ≡ l.fn.queue;
   len_is : l.len ≡ length l.fn.queue;
-  passed : Passed (awaits l.id) (λ _. []) l.fn.queue l.index;
+  passed : Passed (is_wanted l.id) (λ _. []) l.fn.queue l.index;
 }

@@ -1,7 +1,7 @@
 use Rattle.std.proofs.Common.{arith, ◌<◌, [], length, sym, ◌∙◌}
 use Rattle.std.proofs.lemmas.Option.{get_or_from_slice_get}
 use Rattle.link_core.proofs.FirstLemmas.{one_passed, first_here, remove_is}
-use Rattle.mux_conn.specs.Passes.{is_of}
+use Rattle.mux_conn.specs.Passes.{has_number}
 use Rattle.mux_conn.proofs.Entries.{one_other, entry_here, all_others}
 use Rattle.mux_conn.proofs.advance.place_of.Goals as goal
 
@@ -14,7 +14,7 @@ loop-index-preserved c =
     let other = sym c.is_of.ensures ∙ c.if-is_of.false in
     record {
       len_is = inv.len_is;
-      passed = one_passed (is_of c.args.number) (λ _. []) c.args.waiting.now c.loop-index.index q l read other inv.passed;
+      passed = one_passed (has_number c.args.number) (λ _. []) c.args.waiting.now c.loop-index.index q l read other inv.passed;
       others = one_other c.args.number c.args.waiting.now c.loop-index.index q l read other inv.others;
     }
 
@@ -28,7 +28,7 @@ returns-then-is_of c =
     record {
       within = l;
       entry = entry_here c.args.number c.args.waiting.now c.loop-index.index q l read here inv.others ∙ sym c.at.ensures;
-      others = first_here (is_of c.args.number) (λ _. []) c.args.waiting.now c.loop-index.index q l read here inv.passed ∙ sym (remove_is c.args.waiting.now c.loop-index.index);
+      others = first_here (has_number c.args.number) (λ _. []) c.args.waiting.now c.loop-index.index q l read here inv.passed ∙ sym (remove_is c.args.waiting.now c.loop-index.index);
     }
 
 pub returns : goal.returns

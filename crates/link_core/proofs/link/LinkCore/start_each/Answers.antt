@@ -1,5 +1,5 @@
 use Rattle.std.proofs.Common.{◌≡◌, ◌∷◌, false, sym, ap, ◌∙◌}
-use Rattle.link_core.specs.Link.{Starting, LinkState, started_all, started_one, is_held_back, is_spent}
+use Rattle.link_core.specs.Link.{Starting, LinkState, started_all, started_one, holds_back, is_spent}
 use Rattle.link_core.proofs.StartLemmas.{one_more, none_more, spent_on, front_kept}
 use Rattle.link_core.proofs.link.LinkCore.start_each.Goals as goal
 
@@ -9,7 +9,7 @@ starts-preserved c =
     let q = c.in-Some.message in
     let qs = c.pop_front.new.self in
     let e : s.link.queue ≡ q ∷ qs = ap (λ (x : LinkState). x.queue) (sym c.self.view_is) ∙ c.in-Some.ensures in
-    let free : is_held_back s.link ≡ false = sym c.is_held_back.ensures ∙ c.starts-test.true in
+    let free : holds_back s.link ≡ false = sym c.is_held_back.ensures ∙ c.starts-test.true in
     let seen = ap (λ (x : LinkState). started_all (started_one (record { link = record x { queue = qs }; out = s.out }) q)) c.self.view_is in
     record {
       all = ap started_all c.in-Ok.ensures.ok ∙ seen ∙ sym (one_more s q qs e free) ∙ c.starts.invariant.all;
@@ -22,7 +22,7 @@ returns-in-Err-clause-spent c is =
     let q = c.in-Some.message in
     let qs = c.pop_front.new.self in
     let e : s.link.queue ≡ q ∷ qs = ap (λ (x : LinkState). x.queue) (sym c.self.view_is) ∙ c.in-Some.ensures in
-    let free : is_held_back s.link ≡ false = sym c.is_held_back.ensures ∙ c.starts-test.true in
+    let free : holds_back s.link ≡ false = sym c.is_held_back.ensures ∙ c.starts-test.true in
     let seen = ap (λ (x : LinkState). is_spent (started_one (record { link = record x { queue = qs }; out = s.out }) q).link) c.self.view_is in
     ap (λ (t : Starting). is_spent t.link) (sym c.starts.invariant.all) ∙ spent_on s q qs e free (sym seen ∙ c.in-Err.ensures.spent is)
 

@@ -1,12 +1,12 @@
 use Rattle.std.proofs.Common.{◌≡◌, List, [], ◌∷◌, Bool, true, false, refl, sym, ap, ◌∙◌}
 use Rattle.mux_conn.specs.declared.request.Waiting.{Waiting}
-use Rattle.mux_conn.specs.Connection.{Work, is_stuck}
+use Rattle.mux_conn.specs.Connection.{Work, moves_none}
 use Rattle.mux_conn.specs.Passes.{moved_each, still_waiting}
 use Rattle.mux_conn.proofs.Spent.{spent_among}
 use Rattle.mux_conn.proofs.connection.MultiplexedConnection.advance_waiting.Goals as goal
 
 -- where none can be moved, all still wait
-stays : (w : Work) (qs : List Waiting) (stuck : Bool) → is_stuck w.conn.life ≡ stuck → stuck ≡ true → still_waiting w qs ≡ moved_each w qs
+stays : (w : Work) (qs : List Waiting) (stuck : Bool) → moves_none w.conn.life ≡ stuck → stuck ≡ true → still_waiting w qs ≡ moved_each w qs
 stays w [] stuck is e = refl
 stays w (q ∷ qs) true is e = rw is refl
 stays w (q ∷ qs) false is e = cc
