@@ -46,7 +46,8 @@ fn track(alloc: Global, tracker: &mut SubscriptionTracker, command: &Cmd) -> Res
 
 /// The pipeline that subscribes again exactly what is subscribed.
 fn resubscription(alloc: Global, tracker: &SubscriptionTracker) -> Result<Pipeline, AllocError>
-    ensures { (history : List Request) → tracker.now.held ≡ held_after history → IfOk result (Resubscribes history) }
+    ensures { (history : List Request)
+        → tracker.now.held ≡ held_after history → IfOk result (Resubscribes history) }
 {
     tracker.get_subscription_pipeline(alloc)
 }
