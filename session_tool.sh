@@ -26,11 +26,16 @@ lines_below() {
 lines=$(lines_below "$name")
 mapfile -t crates < <(sed 's/[ :].*//' <<<"$lines")
 
-# Whether the program is missing, or was built of other crates or before a change of one.
+# Whether the program is missing, or was built of other crates or before a change of one. One that the gate built has no
+# note of its crates beside it.
 is_old() {
   local crate folders=()
   [ -x "$program" ] || return 0
-  [ "$(cat "$out/$name.crates" 2>/dev/null)" = "$lines" ] || return 0
+  if [ -e "$out/$name.crates" ]; then
+    [ "$(cat "$out/$name.crates")" = "$lines" ] || return 0
+  elif [ "$top/crates.txt" -nt "$program" ]; then
+    return 0
+  fi
   for crate in "${crates[@]}"; do
     folders+=("$top/crates/$crate/src" "$top/crates/$crate/specs" "$top/crates/$crate/proofs")
   done

@@ -5,9 +5,7 @@ ghost use Rattle.command_table.specs.Splitting.{are_within, can_be_split};
 
 use crate::commands::Form;
 use crate::lookup::form_of;
-use crate::routing::{
-    KeyIndices, MultipleNodeRoutingInfo, ResponsePolicy, RoutingInfo, SlotParts,
-};
+use crate::routing::{KeyIndices, MultipleNodeRoutingInfo, ResponsePolicy, RoutingInfo, SlotParts};
 use crate::selection::{command_for_multi_slot_indices, width};
 use containers::Bytes;
 use resp_write::Cmd;
@@ -83,13 +81,11 @@ impl SlotParts {
     /// part of a command's own route has one.
     pub fn command(&self, alloc: Global, cmd: &Cmd, k: usize) -> Result<Option<Cmd>, AllocError>
         ensures is { IfOk result (λ part. part ≡ command_of_part cmd.now self.now k) }
-        ensures each {
-            (policy : Option ResponsePolicy)
+        ensures each { (policy : Option ResponsePolicy)
             → can_be_split cmd.now.args
-                (RoutingInfo.MultiNode (MultipleNodeRoutingInfo.MultiSlot self.now) policy) ≡ true
+            (RoutingInfo.MultiNode (MultipleNodeRoutingInfo.MultiSlot self.now) policy) ≡ true
             → k < length self.now
-            → IfOk result (λ part. IsSome part)
-        }
+            → IfOk result (λ part. IsSome part) }
     {
         command_of_part(alloc, cmd, self, k)
     }

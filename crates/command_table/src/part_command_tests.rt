@@ -45,6 +45,7 @@ fn gives(
 }
 
 const MGET: &str = "MGET foo baz {foo}bar";
+
 const MSET: &str = "MSET foo 1 baz 2 {foo}bar 3";
 
 #[test]

@@ -51,11 +51,9 @@ impl<T> Queue<T> {
 
     /// The front item, taken out.
     pub fn pop_front(&mut self) -> Option<T>
-        ensures {
-            MatchOption result
-                ((self.old ≡ []) × (self.new ≡ []))
-                (λ x. self.old ≡ x ∷ self.new)
-        }
+        ensures { MatchOption result
+            ((self.old ≡ []) × (self.new ≡ []))
+            (λ x. self.old ≡ x ∷ self.new) }
     {
         self.items.pop_front()
     }

@@ -21,12 +21,10 @@ fn copied_args(alloc: Global, args: &[Bytes]) -> Result<Names, AllocError>
 impl Submission {
     /// A command as it is: one whose reply is left out is one whose reply nobody awaits.
     pub fn from_cmd(alloc: Global, cmd: &Cmd) -> Result<Submission, AllocError>
-        ensures {
-            IfOk result
-                (λ s. s ≡ (if cmd.now.no_response
-                    then Submission.NoReply cmd.now.args
-                    else Submission.Cmd cmd.now.args))
-        }
+        ensures { IfOk result
+            (λ s. s ≡ (if cmd.now.no_response
+            then Submission.NoReply cmd.now.args
+            else Submission.Cmd cmd.now.args)) }
     {
         let args = copied_args(alloc, cmd.args())?;
         if cmd.is_no_response() {
@@ -84,9 +82,8 @@ impl Event {
 
     /// These bytes came from the peer of this link. They are copied.
     pub fn bytes(alloc: Global, link: u32, piece: &[u8]) -> Result<Event, AllocError>
-        ensures {
-            IfOk result (λ e. e ≡ record { word = 0; kind = EventKind.Bytes link piece.now })
-        }
+        ensures { IfOk result
+            (λ e. e ≡ record { word = 0; kind = EventKind.Bytes link piece.now }) }
     {
         let piece = Bytes::from_slice(alloc, piece)?;
         Ok(Event::of(EventKind::Bytes { link, piece }))

@@ -53,8 +53,14 @@ fn events_are_made(rt: HostRuntime) -> Result<(), Fail> {
     assert_eq!(rt; seen(&Event::wrote(2, 20)), ("wrote", 2));
     assert_eq!(rt; seen(&Event::bytes(alloc, 3, b"+x")?), ("bytes", 3));
     assert_eq!(rt; seen(&Event::ended(5)), ("ended", 5));
-    assert_eq!(rt; seen(&Event::read_fault(6, FaultKind::Reset)), ("read-fault", 6));
-    assert_eq!(rt; seen(&Event::write_fault(7, FaultKind::Reset)), ("write-fault", 7));
+    assert_eq!(rt;
+        seen(&Event::read_fault(6, FaultKind::Reset)),
+        ("read-fault", 6)
+    );
+    assert_eq!(rt;
+        seen(&Event::write_fault(7, FaultKind::Reset)),
+        ("write-fault", 7)
+    );
     assert_eq!(rt; seen(&Event::shutdown()), ("shutdown", 0));
     assert_eq!(rt; Event::shutdown().with_word(9).word, 9);
     Ok(())

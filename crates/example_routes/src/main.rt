@@ -41,7 +41,11 @@ fn command(alloc: Global, words: &[&[u8]]) -> Result<Cmd, AllocError> {
 }
 
 fn print_node(rt: &impl Print, slot: u16, node: &NodeAddress) -> io::Result<()> {
-    print!(rt; "{slot} {}:{}", node.host.as_slice().escape_ascii(), node.port)
+    print!(rt;
+        "{slot} {}:{}",
+        node.host.as_slice().escape_ascii(),
+        node.port
+    )
 }
 
 fn print_command(rt: &impl Print, cmd: &Cmd) -> io::Result<()> {

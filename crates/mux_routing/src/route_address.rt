@@ -13,10 +13,9 @@ impl SlotMap {
     /// The address of the node to which a route leads without a read strategy: the primary, or for a required replica the
     /// first one, if there is one. None where no row holds the slot, or where there is no such slot.
     pub fn address_for_route(&self, route: Route) -> Option<&NodeAddress>
-        ensures address {
-            route.slot < 16_384
-            → option_copied result ≡ option_map (address_in route.addr None) (last_row route.slot self.now)
-        }
+        ensures address { route.slot < 16_384
+            → option_copied result
+            ≡ option_map (address_in route.addr None) (last_row route.slot self.now) }
         ensures no_slot { 16_384 ≤ route.slot → IsNone result }
     {
         if route.slot >= SLOT_COUNT {

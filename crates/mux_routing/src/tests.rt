@@ -373,3 +373,23 @@ fn strategies_pick(rt: HostRuntime) {
     assert_eq!(rt; strategy, ReadStrategy::RoundRobin { next: u32::MAX });
     assert_eq!(rt; picked(&mut ReadStrategy::Random, 3), 2);
 }
+
+/// The host of the node to which a route leads.
+fn host_of(map: &SlotMap, slot: u16, addr: SlotAddr) -> Option<&[u8]> {
+    let node = map.address_for_route(Route { slot, addr })?;
+    Some(node.host.as_slice())
+}
+
+#[test]
+fn routes_have_addresses(rt: HostRuntime) -> Result<(), Fail> {
+    let map = map(rt.alloc())?;
+    for row in &PRIMARIES {
+        assert!(rt; host_of(&map, row.0, SlotAddr::Master) == row.1);
+    }
+    let replica = host_of(&map, 1500, SlotAddr::ReplicaRequired);
+    assert!(rt; replica == Some(b"replica2".as_slice()));
+    assert!(rt; host_of(&map, 16_384, SlotAddr::Master).is_none());
+    assert!(rt; map.get(0).is_some());
+    assert!(rt; map.get(5).is_none());
+    Ok(())
+}
