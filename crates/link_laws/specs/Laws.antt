@@ -8,7 +8,7 @@ use Rattle.link_core.specs.declared.message.Settled.{Settled}
 use Rattle.link_core.specs.declared.message.Started.{Started}
 use Rattle.link_core.specs.Dealing.{pushes_each}
 use Rattle.link_core.specs.Link.{LinkState, Starting, Settling, pushes_came}
-use Rattle.link_core.specs.Row.{lacks}
+use Rattle.link_core.specs.Row.{lack_of_row}
 use Rattle.link_core.specs.Waiting.{without}
 use Rattle.legal_trace.specs.Ledger.{reach, ledger}
 use Rattle.link_laws.specs.Alike.{SameLink, SameStarting, SameSettling, others}
@@ -36,7 +36,7 @@ SettlesAlike call =
 abbrev pub LackWhatWasNotDealt : Run → Type 0
 LackWhatWasNotDealt r =
     r.over ≡ false
-    → lacks r.link.row ≡ reach (ledger r.lines).starts (ledger r.lines).dealt - length (ledger r.lines).dealt
+    → lack_of_row r.link.row ≡ reach (ledger r.lines).starts (ledger r.lines).dealt - length (ledger r.lines).dealt
 
 -- the messages that were settled, and then those whose verdict is wanted, stand in one line: a message joins it at its end,
 -- and no operation but a withdrawal moves anyone out of it
