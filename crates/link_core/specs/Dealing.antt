@@ -12,6 +12,7 @@ pub record Dealing : Type 0 where
   pub row : List Entry
   pub out : List Settled
 
+-- this row, and these messages settled so far
 abbrev pub dealing_with : List Entry → List Settled → Dealing
 dealing_with row out = record { row = row; out = out }
 

@@ -64,6 +64,7 @@ pub record Starting : Type 0 where
   pub link : LinkState
   pub out : List Started
 
+-- this link, and these starts so far
 abbrev pub starting_with : LinkState → List Started → Starting
 starting_with link out = record { link = link; out = out }
 
@@ -113,6 +114,7 @@ pub record Settling : Type 0 where
   pub link : LinkState
   pub out : List Settled
 
+-- this link, and these messages settled so far
 abbrev pub settling_with : LinkState → List Settled → Settling
 settling_with link out = record { link = link; out = out }
 

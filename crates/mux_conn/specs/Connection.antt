@@ -11,6 +11,7 @@ pub record Work : Type 0 where
   pub conn : MultiplexedConnection
   pub acts : List LinkAct
 
+-- this connection, and these acts so far
 abbrev pub work_with : MultiplexedConnection → List LinkAct → Work
 work_with conn acts = record { conn = conn; acts = acts }
 
@@ -25,6 +26,7 @@ at_life w life = record w { conn = record w.conn { life = life } }
 abbrev pub with_link : Work → LinkState → Work
 with_link w link = at_life w (Ready link)
 
+-- its connect isn't answered
 abbrev pub awaits_connect : Life → Bool
 awaits_connect Dialing = true
 awaits_connect (Ready link) = false
@@ -35,6 +37,7 @@ is_ready Dialing = false
 is_ready (Ready link) = true
 is_ready Ended = false
 
+-- it takes no more messages
 abbrev pub has_ended : Life → Bool
 has_ended Dialing = false
 has_ended (Ready link) = false
@@ -56,5 +59,6 @@ started_in Ended = 0
 abbrev pub is_spent_in : Life → Bool
 is_spent_in life = nat_le (2 ^ 32) (started_in life)
 
+-- a message of its link was given the number 2^32 - 1
 abbrev pub runs_out : Work → Bool
 runs_out w = is_spent_in w.conn.life

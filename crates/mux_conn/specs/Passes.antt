@@ -74,6 +74,7 @@ moved_all w = moved_each (still_waiting w []) w.conn.waiting
 abbrev pub passed : Work → Work
 passed w = moved_all (started w)
 
+-- it is the entry of request p
 abbrev pub has_number : ℕ → Waiting → Bool
 has_number p q = q.number == p
 

@@ -30,6 +30,7 @@ pub record Turning : Type 0 where
   pub core : Core
   pub acts : List LinkAct
 
+-- this session, and these acts of its connection so far
 abbrev pub turning_with : Core → List LinkAct → Turning
 turning_with core acts = record { core = core; acts = acts }
 
