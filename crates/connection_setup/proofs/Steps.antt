@@ -36,9 +36,9 @@ marks steps = map (λ s. false) steps
 pub more_steps : (p : CommandList) (a b : List Step) → with_steps (with_steps p a) b ≡ with_steps p (a ++ b)
 more_steps p a b =
     let commands : (p.commands ++ commands_of (words a)) ++ commands_of (words b) ≡ p.commands ++ commands_of (words (a ++ b)) =
-        append_assoc p.commands (commands_of (words a)) (commands_of (words b)) ∙ ap (λ l. p.commands ++ l) (sym (ap commands_of (map_append (λ s. s.words) a b) ∙ commands_append (words a) (words b))) in
+    append_assoc p.commands (commands_of (words a)) (commands_of (words b)) ∙ ap (λ l. p.commands ++ l) (sym (ap commands_of (map_append (λ s. s.words) a b) ∙ commands_append (words a) (words b))) in
     let ignored : (p.ignored ++ marks a) ++ marks b ≡ p.ignored ++ marks (a ++ b) =
-        append_assoc p.ignored (marks a) (marks b) ∙ ap (λ l. p.ignored ++ l) (sym (map_append (λ s. false) a b)) in
+    append_assoc p.ignored (marks a) (marks b) ∙ ap (λ l. p.ignored ++ l) (sym (map_append (λ s. false) a b)) in
     λ i. record { commands = commands i; ignored = ignored i; atomic = p.atomic }
 
 -- the same of two parts

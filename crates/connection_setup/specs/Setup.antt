@@ -1,7 +1,7 @@
 -- What is said to a server before the first request.
 use Rattle.std.specs.Prelude.{ℕ, suc, zero, ℤ, pos, negsuc, Bool, true, false, List, [], ◌∷◌, ◌++◌, map, codes, Option, Some, None, if◌then◌else◌}
 use Rattle.std.specs.Fmt.{signed_decimal}
-use Rattle.resp_write.specs.Command.{CommandList}
+use Rattle.resp_write.specs.Command.{Command, CommandList}
 use Rattle.resp_write.specs.Pack.{commands_of}
 use Rattle.connection_info.specs.declared.address.RedisConnectionInfo.{RedisConnectionInfo}
 use Rattle.connection_info.specs.declared.protocol.ProtocolVersion.{ProtocolVersion}
@@ -17,6 +17,10 @@ pub record Step : Type 0 where
 -- the command alone
 abbrev pub step : Meaning → List (List ℕ) → List Step
 step meaning words = record { words = words; meaning = meaning } ∷ []
+
+-- a command whose reply is awaited
+abbrev pub awaited_command : List (List ℕ) → Command
+awaited_command words = record { args = words; no_response = false }
 
 -- HELLO, and what follows it
 abbrev pub hello : List (List ℕ) → List (List ℕ)
@@ -62,10 +66,13 @@ first_meaning (s ∷ steps) = Some s.meaning
 abbrev pub username_in : RedisConnectionInfo → Bool → Option (List ℕ)
 username_in info with_user = if with_user then info.username else None
 
+-- what comes first in a setup, with the user name or without it
+abbrev pub opening_of : RedisConnectionInfo → Bool → List Step
+opening_of info with_user = opening info.protocol (username_in info with_user) info.password
+
 -- the commands of a setup in order, with the user name or without it
 abbrev pub setup : RedisConnectionInfo → Bool → List Step
-setup info with_user =
-    opening info.protocol (username_in info with_user) info.password ++ choices info
+setup info with_user = opening_of info with_user ++ choices info
 
 -- a pipeline with more commands at its end
 abbrev pub with_steps : CommandList → List Step → CommandList

@@ -1,7 +1,6 @@
-ghost use Rattle.std.specs.Prelude.{◌≡◌, ◌++◌, ◌∷◌, [], IfOk, OnOk, length, option_map};
+ghost use Rattle.std.specs.Prelude.{◌≡◌, IfOk};
 ghost use Rattle.resp_value.specs.View.{data_of, list_view};
-ghost use Rattle.resp_write.specs.Canonical.{detail_text};
-ghost use Rattle.connection_setup.specs.Setup.{choices, first_meaning, opening, setup, username_in};
+ghost use Rattle.connection_setup.specs.Setup.{choices, first_meaning, opening_of, setup};
 ghost use Rattle.connection_setup.specs.Judgement.{judged, judged_error, judged_first, judged_reply, text_of, unless_ready, Tells};
 
 use crate::meaning::Meaning;
@@ -88,8 +87,7 @@ fn judged_reply(alloc: Global, meaning: Meaning, reply: &Value) -> SetupResult
 
 /// What an error in the first reply is about, where the setup begins with HELLO or AUTH.
 fn first_meaning(info: &RedisConnectionInfo, with_user: bool) -> Option<Meaning>
-    ensures { result
-        ≡ first_meaning (opening info.now.protocol (username_in info.now with_user) info.now.password) }
+    ensures { result ≡ first_meaning (opening_of info.now with_user) }
 {
     if info.password.is_none() {
         return match info.protocol {

@@ -1,6 +1,5 @@
-ghost use Rattle.std.specs.Prelude.{◌≡◌, ◌++◌, ◌∷◌, [], OnOk, IfOk, Some, None, false, if◌then◌else◌, option_copied, codes};
-ghost use Rattle.resp_write.specs.Command.{with_args};
-ghost use Rattle.connection_setup.specs.Setup.{hello, library, library_fact, library_words, opening, pipeline_of, selection, setup, username_in, with_steps};
+ghost use Rattle.std.specs.Prelude.{◌≡◌, ◌∷◌, [], OnOk, IfOk, option_copied, codes};
+ghost use Rattle.connection_setup.specs.Setup.{awaited_command, hello, library, library_fact, library_words, opening, opening_of, pipeline_of, selection, setup, username_in, with_steps};
 
 use connection_info::{ProtocolVersion, RedisConnectionInfo};
 use itoa::Buffer;
@@ -22,7 +21,7 @@ pub fn username(info: &RedisConnectionInfo, with_user: bool) -> Option<&[u8]>
 
 /// The command HELLO.
 fn hello(alloc: Global) -> Result<Cmd, AllocError>
-    ensures { IfOk result (λ c. c ≡ record { args = hello []; no_response = false }) }
+    ensures { IfOk result (λ c. c ≡ awaited_command (hello [])) }
 {
     let mut command = cmd(alloc, b"HELLO")?;
     command.arg(alloc, b"3")?;
@@ -32,7 +31,7 @@ fn hello(alloc: Global) -> Result<Cmd, AllocError>
 /// The command HELLO with authentication inside.
 fn hello_as(alloc: Global, name: &[u8], password: &[u8]) -> Result<Cmd, AllocError>
     ensures { IfOk result
-        (λ c. c ≡ record { args = hello (codes "AUTH" ∷ name.now ∷ password.now ∷ []); no_response = false }) }
+        (λ c. c ≡ awaited_command (hello (codes "AUTH" ∷ name.now ∷ password.now ∷ []))) }
 {
     let mut command = hello(alloc)?;
     command.arg(alloc, b"AUTH")?;
@@ -44,7 +43,7 @@ fn hello_as(alloc: Global, name: &[u8], password: &[u8]) -> Result<Cmd, AllocErr
 /// The command HELLO with the authentication of the user that a server has by default.
 fn hello_unnamed(alloc: Global, password: &[u8]) -> Result<Cmd, AllocError>
     ensures { IfOk result
-        (λ c. c ≡ record { args = hello (codes "AUTH" ∷ codes "default" ∷ password.now ∷ []); no_response = false }) }
+        (λ c. c ≡ awaited_command (hello (codes "AUTH" ∷ codes "default" ∷ password.now ∷ []))) }
 {
     hello_as(alloc, b"default", password)
 }
@@ -106,8 +105,7 @@ fn add_opening(
     with_user: bool,
 ) -> Result<(), AllocError>
     ensures { OnOk result
-        (pipeline.new ≡ with_steps pipeline.old
-        (opening info.now.protocol (username_in info.now with_user) info.now.password)) }
+        (pipeline.new ≡ with_steps pipeline.old (opening_of info.now with_user)) }
 {
     let name = username(info, with_user);
     let password = match &info.password {
@@ -139,7 +137,7 @@ fn add_selection(
 
 /// The command that tells one fact about the library.
 fn library_fact(alloc: Global, name: &[u8], fact: &[u8]) -> Result<Cmd, AllocError>
-    ensures { IfOk result (λ c. c ≡ record { args = library_words name.now fact.now; no_response = false }) }
+    ensures { IfOk result (λ c. c ≡ awaited_command (library_words name.now fact.now)) }
 {
     let mut command = cmd(alloc, b"CLIENT")?;
     command.arg(alloc, b"SETINFO")?;
