@@ -1,6 +1,7 @@
 pub mod Cutting
 pub mod Decided
 pub mod Digits
+pub mod Faults
 pub mod Forms
 pub mod Glue
 pub mod Glued

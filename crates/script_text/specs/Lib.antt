@@ -1,6 +1,7 @@
 pub mod ConfigLine
 pub mod Cursor
 pub mod EventLine
+pub mod Faults
 pub mod Limits
 pub mod Numbers
 pub mod Pieces

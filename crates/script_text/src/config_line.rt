@@ -1,6 +1,6 @@
 ghost use Rattle.std.specs.Prelude.{◌≡◌, MatchOption, Some, None, IfOk};
 ghost use Rattle.std.specs.List.{list_all};
-ghost use Rattle.script_text.specs.ConfigLine.{keys, is_setting as is_setting_of, value_of, values, only, gives as gives_of, is_host as is_host_of, address as address_of, single as single_of, config_of};
+ghost use Rattle.script_text.specs.ConfigLine.{keys, is_setting, value_of, values, only, gives, is_host, address, single, config_of};
 
 use crate::line::Line;
 use crate::number::number_u16;
@@ -10,8 +10,8 @@ use driver_model::Config;
 use std::alloc::{AllocError, Global};
 
 /// Whether a word is KEY=VALUE with a key that there is.
-fn is_setting(word: &[u8]) -> bool
-    ensures { result ≡ is_setting_of keys word.now }
+pub fn is_known_setting(word: &[u8]) -> bool
+    ensures { result ≡ is_setting keys word.now }
 {
     match cut(word, b'=') {
         None => false,
@@ -23,10 +23,10 @@ fn is_setting(word: &[u8]) -> bool
 }
 
 fn are_settings(words: &[Bytes]) -> bool
-    ensures { result ≡ list_all (is_setting_of keys) words.now }
+    ensures { result ≡ list_all (is_setting keys) words.now }
 {
     for word in words {
-        if !is_setting(word.as_slice()) {
+        if !is_known_setting(word.as_slice()) {
             return false;
         }
     }
@@ -34,8 +34,9 @@ fn are_settings(words: &[Bytes]) -> bool
 }
 
 /// The value that a word gives the key.
-fn value<'a>(word: &'a [u8], key: &[u8]) -> Option<&'a [u8]>
-    ensures { MatchOption result (value_of key.now word.now ≡ None) (λ v. value_of key.now word.now ≡ Some v.now) }
+pub fn value<'a>(word: &'a [u8], key: &[u8]) -> Option<&'a [u8]>
+    ensures { MatchOption result (value_of key.now word.now ≡ None)
+        (λ v. value_of key.now word.now ≡ Some v.now) }
 {
     match cut(word, b'=') {
         Some((name, value)) if name == key => Some(value),
@@ -44,8 +45,9 @@ fn value<'a>(word: &'a [u8], key: &[u8]) -> Option<&'a [u8]>
 }
 
 /// The only value that words give the key.
-fn only_value<'a>(words: &'a [Bytes], key: &[u8]) -> Option<&'a [u8]>
-    ensures { MatchOption result (only (values key.now words.now) ≡ None) (λ v. only (values key.now words.now) ≡ Some v.now) }
+pub fn only_value<'a>(words: &'a [Bytes], key: &[u8]) -> Option<&'a [u8]>
+    ensures { MatchOption result (only (values key.now words.now) ≡ None)
+        (λ v. only (values key.now words.now) ≡ Some v.now) }
 {
     let mut found = None;
     for word in words {
@@ -60,8 +62,8 @@ fn only_value<'a>(words: &'a [Bytes], key: &[u8]) -> Option<&'a [u8]>
 }
 
 /// Whether words give the key just this value.
-fn gives(words: &[Bytes], key: &[u8], value: &[u8]) -> bool
-    ensures { result ≡ gives_of words.now key.now value.now }
+pub fn gives_only(words: &[Bytes], key: &[u8], value: &[u8]) -> bool
+    ensures { result ≡ gives words.now key.now value.now }
 {
     match only_value(words, key) {
         Some(given) => given == value,
@@ -69,8 +71,8 @@ fn gives(words: &[Bytes], key: &[u8], value: &[u8]) -> bool
     }
 }
 
-fn is_host(text: &[u8]) -> bool
-    ensures { result ≡ is_host_of text.now }
+pub fn is_host_name(text: &[u8]) -> bool
+    ensures { result ≡ is_host text.now }
 {
     for b in text {
         if !matches!(*b, b'a'..=b'z' | b'0'..=b'9' | b'.' | b'-') {
@@ -81,8 +83,8 @@ fn is_host(text: &[u8]) -> bool
 }
 
 /// The configuration with the address `redis://HOST:PORT`.
-fn address(alloc: Global, url: &[u8]) -> Result<Option<Config>, AllocError>
-    ensures { IfOk result (λ c. c ≡ address_of url.now) }
+fn read_address(alloc: Global, url: &[u8]) -> Result<Option<Config>, AllocError>
+    ensures { IfOk result (λ c. c ≡ address url.now) }
 {
     let Some(rest) = url.strip_prefix(b"redis://".as_slice()) else {
         return Ok(None);
@@ -90,7 +92,7 @@ fn address(alloc: Global, url: &[u8]) -> Result<Option<Config>, AllocError>
     let Some((host, port)) = cut(rest, b':') else {
         return Ok(None);
     };
-    if !is_host(host) {
+    if !is_host_name(host) {
         return Ok(None);
     }
     let Some(port) = number_u16(port) else {
@@ -101,18 +103,18 @@ fn address(alloc: Global, url: &[u8]) -> Result<Option<Config>, AllocError>
 }
 
 /// One connection.
-fn single(alloc: Global, words: &[Bytes]) -> Result<Option<Config>, AllocError>
-    ensures { IfOk result (λ c. c ≡ single_of words.now) }
+fn read_single(alloc: Global, words: &[Bytes]) -> Result<Option<Config>, AllocError>
+    ensures { IfOk result (λ c. c ≡ single words.now) }
 {
     if !are_settings(words)
-        || !gives(words, b"connect", b"none")
-        || !gives(words, b"response", b"none")
-        || !gives(words, b"lib", b"off")
+        || !gives_only(words, b"connect", b"none")
+        || !gives_only(words, b"response", b"none")
+        || !gives_only(words, b"lib", b"off")
     {
         return Ok(None);
     }
     match only_value(words, b"url") {
-        Some(url) => address(alloc, url),
+        Some(url) => read_address(alloc, url),
         None => Ok(None),
     }
 }
@@ -128,5 +130,5 @@ pub fn config(alloc: Global, line: &Line) -> Result<Option<Config>, AllocError>
     if name.as_slice() != b"config".as_slice() || kind.as_slice() != b"single".as_slice() {
         return Ok(None);
     }
-    single(alloc, settings)
+    read_single(alloc, settings)
 }

@@ -1,7 +1,7 @@
 ghost use Rattle.std.specs.Prelude.{◌≡◌, ◌∷◌, [], ℕ, List, drop, option_map, MatchOption, IfOk, Some, None};
 ghost use Rattle.driver_model.specs.declared.event.EventKind.TheVariants.{Submit, Cancel, Connected, Ended, ReadFault, WriteFault, Shutdown};
 ghost use Rattle.driver_model.specs.declared.event.Submission.TheVariants.{Cmd, NoReply, Packed};
-ghost use Rattle.script_text.specs.EventLine.{by_first, whole, numbered, wrote as wrote_of, came as came_of, alone, faults, fault_among, failed, commands as commands_of, packed as packed_of, submissions, others, events, event_of};
+ghost use Rattle.script_text.specs.EventLine.{by_first, whole, numbered, wrote, came, alone, faults, fault_among, failed, commands, packed, submissions, others, events, event_of};
 
 use crate::line::Line;
 use crate::number::{number_u32, number_u64};
@@ -26,7 +26,8 @@ const FAULTS: [FaultKind; 10] = [
 
 /// The first word, taken out.
 fn first(words: &mut Vec<Bytes>) -> Option<Bytes>
-    ensures { MatchOption result (words.old.items ≡ []) (λ w. words.old.items ≡ w ∷ words.new.items) }
+    ensures { MatchOption result (words.old.items ≡ [])
+        (λ w. words.old.items ≡ w ∷ words.new.items) }
 {
     if words.is_empty() {
         return None;
@@ -44,8 +45,8 @@ fn only_number(words: &[Bytes]) -> Option<u32>
     }
 }
 
-fn wrote(words: &[Bytes]) -> Option<EventKind>
-    ensures { result ≡ wrote_of words.now }
+fn read_wrote(words: &[Bytes]) -> Option<EventKind>
+    ensures { result ≡ wrote words.now }
 {
     let [link, count] = words else {
         return None;
@@ -55,8 +56,8 @@ fn wrote(words: &[Bytes]) -> Option<EventKind>
     Some(EventKind::Wrote { link, count })
 }
 
-fn came(mut words: Vec<Bytes>) -> Option<EventKind>
-    ensures { result ≡ came_of words.items }
+fn read_came(mut words: Vec<Bytes>) -> Option<EventKind>
+    ensures { result ≡ came words.items }
 {
     let [link, _] = words.as_slice() else {
         return None;
@@ -79,7 +80,7 @@ fn fault_among(faults: &[FaultKind], name: &[u8]) -> Option<FaultKind>
 }
 
 /// The fault with that name.
-fn fault(name: &[u8]) -> Option<FaultKind>
+pub fn fault(name: &[u8]) -> Option<FaultKind>
     ensures { result ≡ fault_among faults name.now }
 {
     fault_among(&FAULTS, name)
@@ -108,8 +109,12 @@ fn write_fault(words: &[Bytes]) -> Option<EventKind>
 }
 
 /// The commands between separators.
-fn commands(alloc: Global, first: Vec<Bytes>, more: Vec<Names>) -> Result<Commands, AllocError>
-    ensures { IfOk result (λ cs. cs ≡ commands_of first.items more.items) }
+fn commands_between(
+    alloc: Global,
+    first: Vec<Bytes>,
+    more: Vec<Names>,
+) -> Result<Commands, AllocError>
+    ensures { IfOk result (λ cs. cs ≡ commands first.items more.items) }
 {
     let mut commands = Commands::new(alloc);
     if first.is_empty() && more.is_empty() {
@@ -146,7 +151,10 @@ fn no_reply(args: Vec<Bytes>, more: &[Names]) -> Option<Submission>
 
 /// How many replies are skipped and how many are kept, the first two words, taken out.
 fn numbers(words: &mut Vec<Bytes>) -> Option<(u32, u32)>
-    ensures { MatchOption result ((more : List (List (List ℕ))) → packed_of words.old.items more ≡ None) (λ n. (more : List (List (List ℕ))) → packed_of words.old.items more ≡ Some (Packed n.0 n.1 (commands_of words.new.items more))) }
+    ensures { MatchOption result
+        ((more : List (List (List ℕ))) → packed words.old.items more ≡ None)
+        (λ n. (more : List (List (List ℕ))) → packed words.old.items more
+        ≡ Some (Packed n.0 n.1 (commands words.new.items more))) }
 {
     let [offset, count, ..] = words.as_slice() else {
         return None;
@@ -158,17 +166,17 @@ fn numbers(words: &mut Vec<Bytes>) -> Option<(u32, u32)>
     Some((offset, count))
 }
 
-fn packed(
+fn read_packed(
     alloc: Global,
     mut words: Vec<Bytes>,
     more: Vec<Names>,
 ) -> Result<Option<Submission>, AllocError>
-    ensures { IfOk result (λ s. s ≡ packed_of words.items more.items) }
+    ensures { IfOk result (λ s. s ≡ packed words.items more.items) }
 {
     let Some((offset, count)) = numbers(&mut words) else {
         return Ok(None);
     };
-    let commands = commands(alloc, words, more)?;
+    let commands = commands_between(alloc, words, more)?;
     Ok(Some(Submission::Packed {
         offset,
         count,
@@ -194,15 +202,15 @@ fn submission(
         return Ok(no_reply(words, more.as_slice()));
     }
     if name == b"pipe".as_slice() {
-        let commands = commands(alloc, words, more)?;
+        let commands = commands_between(alloc, words, more)?;
         return Ok(Some(Submission::Pipe { commands }));
     }
     if name == b"multi".as_slice() {
-        let commands = commands(alloc, words, more)?;
+        let commands = commands_between(alloc, words, more)?;
         return Ok(Some(Submission::Multi { commands }));
     }
     if name == b"packed".as_slice() {
-        return packed(alloc, words, more);
+        return read_packed(alloc, words, more);
     }
     Ok(None)
 }
@@ -212,7 +220,8 @@ fn submit(
     words: Vec<Bytes>,
     more: Vec<Names>,
 ) -> Result<Option<EventKind>, AllocError>
-    ensures { IfOk result (λ k. k ≡ option_map Submit (by_first submissions words.items more.items)) }
+    ensures { IfOk result (λ k.
+        k ≡ option_map Submit (by_first submissions words.items more.items)) }
 {
     match submission(alloc, words, more)? {
         Some(submission) => Ok(Some(EventKind::Submit { submission })),
@@ -265,10 +274,10 @@ fn other(name: &[u8], words: Vec<Bytes>) -> Option<EventKind>
         return connected(words.as_slice());
     }
     if name == b"wrote".as_slice() {
-        return wrote(words.as_slice());
+        return read_wrote(words.as_slice());
     }
     if name == b"bytes".as_slice() {
-        return came(words);
+        return read_came(words);
     }
     if name == b"ended".as_slice() {
         return ended(words.as_slice());

@@ -1,6 +1,6 @@
 ghost use Rattle.std.specs.Prelude.{◌≡◌, ◌≤◌, ℕ, List, [], ◌∷◌, ◌++◌, length, take, true, OnOk, OnErr, IfOk};
 ghost use Rattle.std.specs.Bool.{MatchBool};
-ghost use Rattle.script_text.specs.Limits.{keeps_limits, limited, is_within as is_within_of, Counts, IsRefused};
+ghost use Rattle.script_text.specs.Limits.{keeps_limits, limited, is_within, Counts, IsRefused};
 
 use crate::script::{MAX_LINE, MAX_LINES, MAX_TEXT};
 use containers::Bytes;
@@ -16,8 +16,8 @@ struct Tally {
 }
 
 /// Whether no byte that was counted stands beyond a limit.
-fn is_within(tally: Tally) -> bool
-    ensures { result ≡ is_within_of tally }
+fn keeps_within(tally: Tally) -> bool
+    ensures { result ≡ is_within tally }
 {
     if tally.bytes > MAX_TEXT || tally.line > MAX_LINE {
         return false;
@@ -31,7 +31,7 @@ fn is_within(tally: Tally) -> bool
 
 /// Counts one more byte.
 fn with_byte(tally: Tally, byte: u8) -> Tally
-    requires { is_within_of tally ≡ true }
+    requires { is_within tally ≡ true }
     ensures { (text : List ℕ) → Counts tally text → Counts result (text ++ byte ∷ []) }
 {
     if byte == b'\n' {
@@ -52,11 +52,13 @@ fn with_byte(tally: Tally, byte: u8) -> Tally
 /// Counts bytes up to the first that stands beyond a limit, and says how many they are.
 fn count_in(tally: &mut Tally, piece: &[u8]) -> usize
     ensures fits { result ≤ length piece.now }
-    ensures counts { (text : List ℕ) → Counts tally.old text → Counts tally.new (text ++ take result piece.now) }
-    ensures limits { (text : List ℕ) → Counts tally.old text → limited text piece.now ≡ text ++ take result piece.now }
+    ensures counts { (text : List ℕ) → Counts tally.old text
+        → Counts tally.new (text ++ take result piece.now) }
+    ensures limits { (text : List ℕ) → Counts tally.old text
+        → limited text piece.now ≡ text ++ take result piece.now }
 {
     for (count, byte) in piece.iter().enumerate() {
-        if !is_within(*tally) {
+        if !keeps_within(*tally) {
             return count;
         }
         *tally = with_byte(*tally, *byte);
@@ -113,7 +115,7 @@ impl Intake {
         let count = count_in(&mut tally, piece);
         self.kept.extend_from_slice(&piece[..count])?;
         self.tally = tally;
-        Ok(is_within(tally))
+        Ok(keeps_within(tally))
     }
 
     /// What is kept.

@@ -4,14 +4,20 @@
 //! `%-` is the word of no bytes. Words are compared once they are read so. `;` as a word of its own separates commands.
 #![tactic(auto)]
 
+mod config_fault;
 mod config_line;
+mod event_fault;
 mod event_line;
+mod explain;
+mod fault;
 mod intake;
 mod line;
 mod number;
+mod reason;
 mod script;
 mod words;
 
+pub use explain::explain_line;
 pub use intake::Intake;
 pub use script::{Script, ScriptError, read_script};
 

@@ -1,6 +1,6 @@
 ghost use Rattle.std.specs.Prelude.{◌≡◌, ◌≤◌, ◌<◌, ◌+◌, ◌*◌, IfSome};
 ghost use Rattle.std.specs.Option.{SomeIff};
-ghost use Rattle.script_text.specs.Numbers.{number as number_of, max_u16, max_u32, max_u64};
+ghost use Rattle.script_text.specs.Numbers.{number, max_u16, max_u32, max_u64};
 
 /// A number with one more digit, if it is one of at most that.
 fn with_digit(n: u64, digit: u64, most: u64) -> Option<u64>
@@ -15,8 +15,8 @@ fn with_digit(n: u64, digit: u64, most: u64) -> Option<u64>
 }
 
 /// The number that a word is, if it is one of at most that.
-fn number(word: &[u8], most: u64) -> Option<u64>
-    ensures is { result ≡ number_of most word.now }
+fn number_within(word: &[u8], most: u64) -> Option<u64>
+    ensures is { result ≡ number most word.now }
     ensures fits { IfSome result (λ n. n ≤ most) }
 {
     let [first, rest @ ..] = word else {
@@ -37,23 +37,23 @@ fn number(word: &[u8], most: u64) -> Option<u64>
 
 /// The number that a word is, of at most 32 bits.
 pub fn number_u32(word: &[u8]) -> Option<u32>
-    ensures { result ≡ number_of max_u32 word.now }
+    ensures { result ≡ number max_u32 word.now }
 {
-    let n = number(word, u64::from(u32::MAX))?;
+    let n = number_within(word, u64::from(u32::MAX))?;
     Some(n as u32)
 }
 
 /// The number that a word is, of at most 64 bits.
 pub fn number_u64(word: &[u8]) -> Option<u64>
-    ensures { result ≡ number_of max_u64 word.now }
+    ensures { result ≡ number max_u64 word.now }
 {
-    number(word, u64::MAX)
+    number_within(word, u64::MAX)
 }
 
 /// The number that a word is, of at most 16 bits.
 pub fn number_u16(word: &[u8]) -> Option<u16>
-    ensures { result ≡ number_of max_u16 word.now }
+    ensures { result ≡ number max_u16 word.now }
 {
-    let n = number(word, u64::from(u16::MAX))?;
+    let n = number_within(word, u64::from(u16::MAX))?;
     Some(n as u16)
 }

@@ -1,7 +1,7 @@
 ghost use Rattle.std.specs.Prelude.{◌≡◌, ◌<◌, length, MatchOption, Some, None, Ok, IfOk, IfErr, option_and_then};
 ghost use Rattle.script_text.specs.ConfigLine.{config_of};
 ghost use Rattle.script_text.specs.Cursor.{line_left, words_left, events_left, Passes, Goes, Continues, Refuses, Tells};
-ghost use Rattle.script_text.specs.Script.{is_end as is_end_of, script_of};
+ghost use Rattle.script_text.specs.Script.{is_end, script_of};
 
 use crate::config_line::config;
 use crate::event_line::event;
@@ -57,7 +57,9 @@ struct Cursor<'a> {
 
 /// The next line, if an LF ends it and it keeps the limits.
 fn next_line<'a>(cursor: &mut Cursor<'a>) -> Option<&'a [u8]>
-    ensures { MatchOption result (line_left cursor.old ≡ None) (λ line. (line_left cursor.old ≡ Some line.now) × Passes line.now cursor.old cursor.new) }
+    ensures { MatchOption result (line_left cursor.old ≡ None)
+        (λ line. (line_left cursor.old ≡ Some line.now)
+        × Passes line.now cursor.old cursor.new) }
 {
     let (line, rest) = cut(cursor.left, b'\n')?;
     if cursor.number > MAX_LINES || line.len() > MAX_LINE || line.len() >= cursor.room {
@@ -86,8 +88,8 @@ fn line_words(alloc: Global, cursor: &mut Cursor<'_>) -> Result<Line, ScriptErro
 }
 
 /// Whether these are the words of the last line.
-fn is_end(words: &Line) -> bool
-    ensures { result ≡ is_end_of words.now }
+pub fn is_end_line(words: &Line) -> bool
+    ensures { result ≡ is_end words.now }
 {
     match (words.words(), words.more()) {
         ([word], []) => word.as_slice() == b"end".as_slice(),
@@ -98,7 +100,8 @@ fn is_end(words: &Line) -> bool
 /// The event that the next line is, or none where it is the last line.
 #[tactic(auto, using(crate::proofs::Lines::nothing_left))]
 fn next_event(alloc: Global, cursor: &mut Cursor<'_>) -> Result<Option<Event>, ScriptError>
-    ensures event { IfOk result (λ e. Continues e (events_left cursor.old) (events_left cursor.new)) }
+    ensures event { IfOk result (λ e.
+        Continues e (events_left cursor.old) (events_left cursor.new)) }
     ensures less { IfOk result (λ _. length cursor.new.left.now < length cursor.old.left.now) }
     ensures fault { IfErr result (λ e. Tells e (events_left cursor.old)) }
 {
@@ -107,7 +110,7 @@ fn next_event(alloc: Global, cursor: &mut Cursor<'_>) -> Result<Option<Event>, S
         Ok(words) => words,
         Err(error) => return Err(error),
     };
-    if is_end(&words) {
+    if is_end_line(&words) {
         if cursor.left.is_empty() {
             return Ok(None);
         }
@@ -138,7 +141,8 @@ fn all_events(alloc: Global, cursor: &mut Cursor<'_>) -> Result<Seq<Event>, Scri
 fn config_line(alloc: Global, cursor: &mut Cursor<'_>) -> Result<Config, ScriptError>
     ensures config { IfOk result (λ c. option_and_then config_of (words_left cursor.old) ≡ Some c) }
     ensures passed { IfOk result (λ _. Goes cursor.old cursor.new) }
-    ensures fault { IfErr result (λ e. Refuses e cursor.old.number (option_and_then config_of (words_left cursor.old))) }
+    ensures fault { IfErr result (λ e.
+        Refuses e cursor.old.number (option_and_then config_of (words_left cursor.old))) }
 {
     let number = cursor.number;
     let words = match line_words(alloc, cursor) {

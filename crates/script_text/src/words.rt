@@ -8,7 +8,8 @@ use std::alloc::{AllocError, Global};
 
 /// What stands before the first byte `at`, and what stands behind it.
 pub fn cut(text: &[u8], at: u8) -> Option<(&[u8], &[u8])>
-    ensures parts { MatchOption result (cut_at at text.now ≡ None) (λ c. cut_at at text.now ≡ Some (c.0.now, c.1.now)) }
+    ensures parts { MatchOption result (cut_at at text.now ≡ None)
+        (λ c. cut_at at text.now ≡ Some (c.0.now, c.1.now)) }
     ensures lengths { IfSome result (λ c. length c.0.now + length c.1.now + 1 ≡ length text.now) }
 {
     for (i, b) in text.iter().enumerate() {
@@ -30,7 +31,7 @@ fn has_hex_in_front(text: &[u8]) -> bool
 }
 
 /// Whether two hexadecimal digits stand behind each `%`.
-fn is_escaped_well(raw: &[u8]) -> bool
+pub fn is_escaped_well(raw: &[u8]) -> bool
     ensures { result ≡ is_well_escaped raw.now }
 {
     for (i, b) in raw.iter().enumerate() {

@@ -9,7 +9,7 @@ use Rattle.session_tool.specs.declared.status.Status.{Status}
 use Rattle.session_tool.specs.declared.status.Status.TheVariants as status
 use Rattle.session_tool.specs.Does.{Does, EndsWell, Prints}
 use Rattle.session_tool.specs.Headline.{Headline}
-use Rattle.session_tool.specs.Lines.{read_fault_line, usage_line, help_line, version_line}
+use Rattle.session_tool.specs.Lines.{read_fault_line, usage_line, help_text, version_line}
 use Rattle.session_tool.specs.Runs.{IsReplay, IsRefusal, IsBadRun, IsSpentRun, IsWholeRun, IsCutRun, IsSound}
 use Rattle.session_tool.specs.Sides.{Side, Fails, IfTold}
 use Rattle.session_tool.proofs.Sound.{not_bad, not_spent, not_refused}

@@ -1,5 +1,7 @@
 mod Does
 mod Headlines
+mod Notes
+mod Offers
 mod Outcomes
 mod Sound
 mod Texts

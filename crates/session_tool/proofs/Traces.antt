@@ -86,7 +86,7 @@ streams_none {held} config word s before rest made empty shown = record {
 }
 
 -- one event more is kept
-kept_next : (config : Config) (word : ℕ) (taken : List Event) (s t : History) (e : Event) → Kept config word taken [] s (trace_of config word taken) → t ≡ record s { events = s.events ++ e ∷ [] }
+pub kept_next : (config : Config) (word : ℕ) (taken : List Event) (s t : History) (e : Event) → Kept config word taken [] s (trace_of config word taken) → t ≡ record s { events = s.events ++ e ∷ [] }
     → is_bad_after s.config s.word s.events e ≡ false → is_spent_after s.config s.word s.events e ≡ false → Kept config word (taken ++ e ∷ []) [] t (trace_of config word (taken ++ e ∷ []))
 kept_next config word taken s t e h made good unspent =
     let before = trace_of config word taken in

@@ -6,14 +6,14 @@ use Rattle.session_tool.specs.declared.command.Command.TheVariants.{Replay, Help
 use Rattle.session_tool.specs.declared.status.Status.{Status}
 use Rattle.session_tool.specs.declared.status.Status.TheVariants as status
 use Rattle.session_tool.specs.Headline.{Headline}
-use Rattle.session_tool.specs.Lines.{read_fault_line, usage_line, help_line, version_line}
+use Rattle.session_tool.specs.Lines.{read_fault_line, usage_line, help_text, version_line}
 use Rattle.session_tool.specs.Runs.{IsReplay, IsRefusal, IsBadRun, IsSpentRun, IsWholeRun, IsCutRun, IsSound}
 use Rattle.session_tool.specs.Sides.{Side, Fails, IfTold}
 
 -- the sink gained the front of what the command writes; of a replay this is said where the source tells its bytes
 abbrev pub IsCut : Command → Side → Side → Side → Side → Type 0
 IsCut Replay source source' sink sink' = IfTold source (λ bytes. IsCutRun bytes source source' sink sink')
-IsCut Help source source' sink sink' = GainedPart sink.bytes sink'.bytes help_line
+IsCut Help source source' sink sink' = GainedPart sink.bytes sink'.bytes help_text
 IsCut Version source source' sink sink' = GainedPart sink.bytes sink'.bytes version_line
 IsCut Unknown source source' sink sink' = GainedPart sink.bytes sink'.bytes usage_line
 
@@ -36,7 +36,7 @@ pub record Does (command : Command) (s : Status) (source source' sink sink' : Si
   pub headline : s ≡ status.Done → command ≡ Replay → IfTold source Headline
   -- 0, of other commands
   pub version : s ≡ status.Done → command ≡ Version → Gained sink.bytes sink'.bytes version_line
-  pub help : s ≡ status.Done → command ≡ Help → Gained sink.bytes sink'.bytes help_line
+  pub help : s ≡ status.Done → command ≡ Help → Gained sink.bytes sink'.bytes help_text
   -- 1
   pub words : s ≡ status.Usage → command ≡ Unknown
   pub unknown : command ≡ Unknown → (s ≡ status.Usage) ⊎ (s ≡ status.WriteFault)

@@ -1,5 +1,7 @@
 pub mod Headline
 pub mod Lines
+pub mod Notes
+pub mod Offers
 pub mod Reading
 pub mod Runs
 pub mod Stops

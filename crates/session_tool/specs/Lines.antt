@@ -17,6 +17,30 @@ version_line = codes "session_tool 0.1.0" ++ 10 ∷ []
 abbrev pub read_fault_line : List ℕ
 read_fault_line = codes "read fault" ++ 10 ∷ []
 
--- what the program says of itself
-abbrev pub help_line : List ℕ
-help_line = codes "session_tool replay: reads a script, and writes the trace of its session" ++ 10 ∷ []
+-- what the program says of itself: its words, and each line of a script with an example
+unfoldable pub help_text : List ℕ
+help_text =
+    codes "session_tool replay     reads a script from standard input, and writes the trace of its session\n"
+    ++ codes "session_tool --help     this text\n"
+    ++ codes "session_tool --version  the version\n"
+    ++ codes "gen N and live CONFIG are not in this version: they answer 1\n"
+    ++ codes "\n"
+    ++ codes "A script, each line an example:\n"
+    ++ codes "config single url=redis://HOST:PORT connect=none response=none lib=off\n"
+    ++ codes "submit cmd GET a                         a command\n"
+    ++ codes "submit noreply SET k 1                   a command whose reply nobody awaits\n"
+    ++ codes "submit pipe GET a ; GET b                a pipeline\n"
+    ++ codes "submit multi SET k 1 ; GET k             a transaction\n"
+    ++ codes "submit packed 1 2 GET a ; GET b ; GET c  a pipeline, 1 reply skipped and 2 kept\n"
+    ++ codes "cancel 0                                 the caller of submission 0 drops its request\n"
+    ++ codes "connected 0                              the connect of link 0 succeeded\n"
+    ++ codes "wrote 0 20                               20 of the offered bytes were taken\n"
+    ++ codes "bytes 0 +OK%0D%0A                        bytes came, and %0D is the byte 13\n"
+    ++ codes "ended 0                                  the peer closed the link\n"
+    ++ codes "read-fault 0 reset                       a read failed\n"
+    ++ codes "write-fault 0 broken-pipe                a write failed\n"
+    ++ codes "shutdown                                 everything is closed\n"
+    ++ codes "end                                      the last line\n"
+    ++ codes "\n"
+    ++ codes "A fault is refused, reset, aborted, not-connected, broken-pipe, eof, timed-out, interrupted, denied or other.\n"
+    ++ codes "Status: 0 done, 1 no command, 2 no script, 4 bad event, 5 no memory, 6 no input, 7 no output, 8 no more numbers.\n"

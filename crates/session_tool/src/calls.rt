@@ -5,7 +5,7 @@ use super::running::run_alone;
 use super::status::Status;
 use super::tests::{ANSWERED, numbers, strings};
 use containers::Bytes;
-use outside::{Got, MemSink, MemSource, Put, Sink, Source};
+use outside::{Got, MemSink, MemSource, Put, Sink, Source, SureSink};
 use std::alloc::{AllocError, Global};
 use std::process::ExitCode;
 use std::test::Fail;
@@ -84,7 +84,8 @@ fn calls(
         sink: MemSink::new(alloc, 20, numbers(alloc, write)?),
         writes: 0,
     };
-    let status = run_alone(alloc, words.as_slice(), &mut source, &mut sink);
+    let mut notes = SureSink::new();
+    let status = run_alone(alloc, words.as_slice(), &mut source, &mut sink, &mut notes);
     Ok((status, source.reads, sink.writes))
 }
 

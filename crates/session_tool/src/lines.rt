@@ -1,5 +1,6 @@
-ghost use Rattle.std.specs.Prelude.{◌≡◌, ◌++◌, OnOk, OnErr, IfOk};
-ghost use Rattle.session_tool.specs.Lines.{numbered_line};
+ghost use Rattle.std.specs.Prelude.{◌≡◌, ◌++◌, decimal, OnOk, OnErr, IfOk};
+ghost use Rattle.session_tool.specs.Lines.{help_text, numbered_line};
+ghost use Rattle.session_tool.specs.Notes.{line_note};
 
 use containers::Bytes;
 use itoa::Buffer;
@@ -9,14 +10,46 @@ use std::alloc::{AllocError, Global};
 pub const USAGE: &[u8] = b"usage: session_tool replay or gen N or live CONFIG\n";
 
 /// What the program says of itself.
-pub const HELP: &[u8] =
-    b"session_tool replay: reads a script, and writes the trace of its session\n";
+const HELP: &[u8] =
+    b"session_tool replay     reads a script from standard input, and writes the trace of its session
+session_tool --help     this text
+session_tool --version  the version
+gen N and live CONFIG are not in this version: they answer 1
+
+A script, each line an example:
+config single url=redis://HOST:PORT connect=none response=none lib=off
+submit cmd GET a                         a command
+submit noreply SET k 1                   a command whose reply nobody awaits
+submit pipe GET a ; GET b                a pipeline
+submit multi SET k 1 ; GET k             a transaction
+submit packed 1 2 GET a ; GET b ; GET c  a pipeline, 1 reply skipped and 2 kept
+cancel 0                                 the caller of submission 0 drops its request
+connected 0                              the connect of link 0 succeeded
+wrote 0 20                               20 of the offered bytes were taken
+bytes 0 +OK%0D%0A                        bytes came, and %0D is the byte 13
+ended 0                                  the peer closed the link
+read-fault 0 reset                       a read failed
+write-fault 0 broken-pipe                a write failed
+shutdown                                 everything is closed
+end                                      the last line
+
+A fault is refused, reset, aborted, not-connected, broken-pipe, eof, timed-out, interrupted, denied or other.
+Status: 0 done, 1 no command, 2 no script, 4 bad event, 5 no memory, 6 no input, 7 no output, 8 no more numbers.
+";
 
 /// The program's version.
 pub const VERSION: &[u8] = b"session_tool 0.1.0\n";
 
 /// The line where the source failed.
 pub const READ_FAULT: &[u8] = b"read fault\n";
+
+/// What the program says of itself: its words, and each line of a script with an example.
+#[tactic(auto, unfolding(crate::specs::Lines::help_text))]
+pub fn help_text() -> &'static [u8]
+    ensures { result.now ≡ help_text }
+{
+    HELP
+}
 
 /// Words, a space and a number as a line.
 #[tactic(auto, unfolding(crate::specs::Lines::numbered_line))]
@@ -29,6 +62,26 @@ fn numbered_line(alloc: Global, words: &[u8], number: u64) -> Result<Bytes, Allo
     line.extend_from_slice(digits.format(number).as_bytes())?;
     line.push(b'\n')?;
     Ok(line)
+}
+
+/// Appends a number.
+pub fn push_number(text: &mut Bytes, number: u64) -> Result<(), AllocError>
+    ensures { OnOk result (text.new ≡ text.old ++ decimal number) }
+{
+    let mut digits = Buffer::new();
+    text.extend_from_slice(digits.format(number).as_bytes())
+}
+
+/// The note of a line of a script: its number, and why.
+pub fn reason_line(alloc: Global, line: u64, why: &[u8]) -> Result<Bytes, AllocError>
+    ensures { IfOk result (λ note. note ≡ line_note line why.now) }
+{
+    let mut note = Bytes::from_slice(alloc, b"line ")?;
+    push_number(&mut note, line)?;
+    note.extend_from_slice(b": ")?;
+    note.extend_from_slice(why)?;
+    note.extend_from_slice(b"\n")?;
+    Ok(note)
 }
 
 /// Appends a line of a word or two, a space and a number. An error leaves the text as it was.

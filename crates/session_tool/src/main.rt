@@ -1,10 +1,16 @@
 //! Replays a script of events for one multiplexed connection, and writes the trace.
 #![tactic(auto)]
 
+mod bad;
 #[cfg(test)]
 mod calls;
 mod command;
+mod counting;
 mod lines;
+#[cfg(test)]
+mod note_tests;
+mod noting;
+mod offer;
 mod reading;
 mod replaying;
 mod running;
@@ -15,7 +21,7 @@ mod tests;
 
 use crate::running::run;
 use crate::status::Status;
-use outside::{MemWorld, WorldScript, standard_input, standard_output};
+use outside::{MemWorld, StdSink, WorldScript, standard_input, standard_output};
 use std::alloc::{AllocError, Global};
 use std::env::Args;
 use std::io::ErrorKind;
@@ -48,6 +54,7 @@ fn main(rt: HostRuntime) -> ExitCode {
     };
     let mut source = standard_input(&rt);
     let mut sink = standard_output(&rt);
+    let mut notes = StdSink::new(rt.stderr());
     let mut world = MemWorld::new(alloc, WorldScript::new(alloc));
     let status = run(
         &rt,
@@ -55,6 +62,7 @@ fn main(rt: HostRuntime) -> ExitCode {
         words.as_slice(),
         &mut source,
         &mut sink,
+        &mut notes,
         &mut world,
     );
     status.code()

@@ -1,4 +1,4 @@
-ghost use Rattle.std.specs.Prelude.{◌≡◌, ◌⊎◌, ℕ, ◌+◌, ◌≤◌, ◌++◌, [], ◌∷◌, length, true, false, OnOk, OnErr, IfOk, IfErr, IsErrOf};
+ghost use Rattle.std.specs.Prelude.{◌≡◌, ◌⊎◌, ℕ, ◌+◌, ◌≤◌, ◌++◌, [], ◌∷◌, length, true, false, OnOk, OnErr, IfOk, IfErr, IfSome, IsErrOf};
 ghost use Rattle.outside.specs.Ends.{Rose};
 ghost use Rattle.shared_session.specs.Replay.{opening_actions, state_after, trace_of, is_bad_after, is_spent_after, AreGood, AreUnspent};
 ghost use Rattle.shared_session.specs.Turn.{actions_of};
@@ -6,8 +6,10 @@ ghost use Rattle.shared_session.specs.declared.session.Failure.TheVariants.{Soun
 ghost use Rattle.shared_session.specs.Stops.{IsSpentBy};
 ghost use Rattle.trace_text.specs.Show.{show};
 ghost use Rattle.session_tool.specs.Streaming.{Sent};
+ghost use Rattle.session_tool.specs.Notes.{open_count};
 ghost use Rattle.session_tool.specs.Stops.{Ends};
 
+use crate::counting::open_after;
 use crate::streaming::{show_turn, write_large};
 use containers::Bytes;
 use driver_model::{Config, Event};
@@ -87,7 +89,8 @@ fn take_turn(
         ) }
     ensures spent { (n : ℕ) → IsErrOf result (Stop.Spent n) → (session.old.failure ≡ Spent)
         ⊎ IsSpentBy session.old event.now }
-    ensures count { (n : ℕ) → IsErrOf result (Stop.Spent n) → n ≡ length session.old.events + 1 }
+    ensures count { (n : ℕ) → IsErrOf result (Stop.Spent n)
+        → n ≡ length session.old.events + 1 }
     ensures writes { IsErrOf result Stop.WriteFault → ⊥ }
     ensures err { OnErr result (text.new ≡ text.old) }
 {
@@ -104,7 +107,8 @@ fn take_turn(
     Ok(())
 }
 
-/// Replays a history into a sink. What of the trace is not written yet is left in the text.
+/// Replays a history into a sink. What of the trace is not written yet is left in the text. It says how many submissions
+/// are open then, unless memory was refused for that.
 pub fn replay_into<K: Sink>(
     alloc: Global,
     config: &Config,
@@ -112,7 +116,7 @@ pub fn replay_into<K: Sink>(
     events: &[Event],
     sink: &mut K,
     text: &mut Bytes,
-) -> Result<(), Stop>
+) -> Result<Option<u64>, Stop>
     requires { text.old ≡ [] }
     ensures sent { OnOk result (
         Sent (K.held sink.old) (K.held sink.new) text.new
@@ -120,6 +124,8 @@ pub fn replay_into<K: Sink>(
         ) }
     ensures good { OnOk result (AreGood config.now word events.now) }
     ensures unspent { OnOk result (AreUnspent config.now word events.now) }
+    ensures counted { IfOk result (λ count. IfSome count (λ n.
+        n ≡ open_count config.now word events.now)) }
     ensures stops { IfErr result (λ stop.
         Ends stop config.now word events.now (K.held sink.old) (K.held sink.new) text.new
         ) }
@@ -140,5 +146,5 @@ pub fn replay_into<K: Sink>(
             return Err(Stop::WriteFault);
         }
     }
-    Ok(())
+    Ok(open_after(alloc, &session, events))
 }

@@ -1,15 +1,20 @@
-ghost use Rattle.std.specs.Prelude.{◌≡◌, ◌⊎◌, ◌≤◌, ◌++◌, ℕ, List, [], true, false, Some, codes, OnOk, IfErr, IsErrOf};
+ghost use Rattle.std.specs.Prelude.{◌≡◌, ◌⊎◌, ◌≤◌, ◌++◌, ℕ, List, [], true, false, codes};
+ghost use Rattle.std.specs.Prelude.{OnOk, IfOk, IfErr, IfSome, IsErrOf};
 ghost use Rattle.outside.specs.Ends.{Rose, Gained, GainedPart};
 ghost use Rattle.shared_session.specs.Replay.{trace_of, AreGood, AreUnspent};
 ghost use Rattle.trace_text.specs.Show.{show};
 ghost use Rattle.session_tool.specs.Does.{Does, Prints};
 ghost use Rattle.session_tool.specs.Lines.{numbered_line};
+ghost use Rattle.session_tool.specs.Notes.{IsOwn, Notes, open_count};
 ghost use Rattle.session_tool.specs.Sides.{side};
 ghost use Rattle.session_tool.specs.Stops.{Told, stop_line};
 ghost use Rattle.session_tool.specs.Words.{command_of};
 
+use crate::bad::bad_note;
 use crate::command::{Command, command_of};
-use crate::lines::{HELP, READ_FAULT, USAGE, VERSION, push_line};
+use crate::counting::done_note;
+use crate::lines::{READ_FAULT, USAGE, VERSION, help_text, push_line};
+use crate::noting::{note_of, script_note, write_note};
 use crate::reading::{ReadError, read_text};
 use crate::replaying::{Stop, replay_into};
 use crate::status::Status;
@@ -129,13 +134,15 @@ fn end_early<K: Sink>(alloc: Global, stop: Stop, text: &mut Bytes, sink: &mut K)
 
 /// Replays a script, and writes its trace.
 #[tactic(auto, using(crate::proofs::Traces::sent_end))]
-fn replay_script<K: Sink>(alloc: Global, script: &Script, sink: &mut K) -> Result<(), Stop>
+fn replay_script<K: Sink>(alloc: Global, script: &Script, sink: &mut K) -> Result<Option<u64>, Stop>
     ensures trace { OnOk result (
         Gained (K.held sink.old) (K.held sink.new)
         (show (trace_of script.now.config script.now.word script.now.events))
         ) }
     ensures good { OnOk result (AreGood script.now.config script.now.word script.now.events) }
     ensures unspent { OnOk result (AreUnspent script.now.config script.now.word script.now.events) }
+    ensures counted { IfOk result (λ count. IfSome count (λ n.
+        n ≡ open_count script.now.config script.now.word script.now.events)) }
     ensures stops { IfErr result (λ stop.
         Told stop script.now.config script.now.word script.now.events (K.held sink.old)
         (K.held sink.new)
@@ -146,9 +153,9 @@ fn replay_script<K: Sink>(alloc: Global, script: &Script, sink: &mut K) -> Resul
     let mut text = Bytes::new(alloc);
     let events = script.events.as_slice();
     match replay_into(alloc, &script.config, script.word, events, sink, &mut text) {
-        Ok(()) => {
+        Ok(count) => {
             if put(&text, sink) {
-                Ok(())
+                Ok(count)
             } else {
                 Err(Stop::WriteFault)
             }
@@ -157,77 +164,115 @@ fn replay_script<K: Sink>(alloc: Global, script: &Script, sink: &mut K) -> Resul
     }
 }
 
+/// How a command ended, and what is said of its script.
+type Ending = (Status, Bytes);
+
 /// Reads a script to the source's end, and replays it.
-fn replay_source<S: Source, K: Sink>(alloc: Global, source: &mut S, sink: &mut K) -> Status
-    ensures { Does Command.Replay result
+fn replay_source<S: Source, K: Sink>(alloc: Global, source: &mut S, sink: &mut K) -> Ending
+    ensures does { Does Command.Replay result.0
         (side (S.left source.old) (S.fault_count source.old))
         (side (S.left source.new) (S.fault_count source.new))
         (side (K.held sink.old) (K.fault_count sink.old))
         (side (K.held sink.new) (K.fault_count sink.new)) }
+    ensures own { IsOwn result.0
+        (side (S.left source.old) (S.fault_count source.old)) result.1 }
 {
     let intake = match read_text(alloc, source) {
         Ok(intake) => intake,
-        Err(ReadError::Fault) => return print(READ_FAULT, Status::ReadFault, sink),
-        Err(ReadError::NoMemory) => return Status::NoMemory,
+        Err(ReadError::Fault) => {
+            return (
+                print(READ_FAULT, Status::ReadFault, sink),
+                Bytes::new(alloc),
+            );
+        }
+        Err(ReadError::NoMemory) => return (Status::NoMemory, Bytes::new(alloc)),
     };
     let text = intake.text();
     a_slice_has_bytes(text);
     let script = match read_script(alloc, text) {
         Ok(script) => script,
-        Err(ScriptError::Line(line)) => {
-            return match refuse_script(alloc, line, sink) {
-                Ok(()) => Status::Script,
-                Err(PutError::NoMemory) => Status::NoMemory,
-                Err(PutError::WriteFault) => Status::WriteFault,
-            };
-        }
-        Err(ScriptError::NoMemory) => return Status::NoMemory,
+        Err(ScriptError::Line(line)) => match refuse_script(alloc, line, sink) {
+            Ok(()) => return (Status::Script, script_note(alloc, text, line)),
+            Err(PutError::NoMemory) => return (Status::NoMemory, Bytes::new(alloc)),
+            Err(PutError::WriteFault) => return (Status::WriteFault, Bytes::new(alloc)),
+        },
+        Err(ScriptError::NoMemory) => return (Status::NoMemory, Bytes::new(alloc)),
     };
     drop(intake);
     match replay_script(alloc, &script, sink) {
-        Ok(()) => Status::Done,
-        Err(Stop::BadEvent(_)) => Status::BadEvent,
-        Err(Stop::NoMemory) => Status::NoMemory,
-        Err(Stop::WriteFault) => Status::WriteFault,
-        Err(Stop::Spent(_)) => Status::Spent,
+        Ok(count) => (Status::Done, done_note(alloc, count)),
+        Err(Stop::BadEvent(_)) => (Status::BadEvent, bad_note(alloc, &script)),
+        Err(Stop::NoMemory) => (Status::NoMemory, Bytes::new(alloc)),
+        Err(Stop::WriteFault) => (Status::WriteFault, Bytes::new(alloc)),
+        Err(Stop::Spent(_)) => (Status::Spent, Bytes::new(alloc)),
     }
 }
 
-/// Does what the words ask for, and says how it went.
-pub fn run_alone<S: Source, K: Sink>(
+/// Does what the words ask for, but for what is said on its side.
+fn run_command<S: Source, K: Sink>(
     alloc: Global,
     words: &[String],
     source: &mut S,
     sink: &mut K,
-) -> Status
-    ensures { Does (command_of words.now) result
+) -> Ending
+    ensures does { Does (command_of words.now) result.0
         (side (S.left source.old) (S.fault_count source.old))
         (side (S.left source.new) (S.fault_count source.new))
         (side (K.held sink.old) (K.fault_count sink.old))
         (side (K.held sink.new) (K.fault_count sink.new)) }
+    ensures own { IsOwn result.0
+        (side (S.left source.old) (S.fault_count source.old)) result.1 }
 {
     match command_of(words) {
         Command::Replay => replay_source(alloc, source, sink),
-        Command::Help => print(HELP, Status::Done, sink),
-        Command::Version => print(VERSION, Status::Done, sink),
-        Command::Unknown => print(USAGE, Status::Usage, sink),
+        Command::Help => (print(help_text(), Status::Done, sink), Bytes::new(alloc)),
+        Command::Version => (print(VERSION, Status::Done, sink), Bytes::new(alloc)),
+        Command::Unknown => (print(USAGE, Status::Usage, sink), Bytes::new(alloc)),
     }
 }
 
+/// Does what the words ask for, and says how it went; and the notes are told what to mend.
+pub fn run_alone<S: Source, K: Sink, N: Sink>(
+    alloc: Global,
+    words: &[String],
+    source: &mut S,
+    sink: &mut K,
+    notes: &mut N,
+) -> Status
+    ensures does { Does (command_of words.now) result
+        (side (S.left source.old) (S.fault_count source.old))
+        (side (S.left source.new) (S.fault_count source.new))
+        (side (K.held sink.old) (K.fault_count sink.old))
+        (side (K.held sink.new) (K.fault_count sink.new)) }
+    ensures notes { Notes result
+        (side (S.left source.old) (S.fault_count source.old))
+        (side (N.held notes.old) (N.fault_count notes.old))
+        (side (N.held notes.new) (N.fault_count notes.new)) }
+{
+    let ending = run_command(alloc, words, source, sink);
+    write_note(note_of(ending.0, &ending.1), notes);
+    ending.0
+}
+
 /// All that the program does, which is what one alone does. It needs neither threads nor the world yet.
-pub fn run<R: Threads + Wait + Sync, S: Source, K: Sink, W: World>(
+pub fn run<R: Threads + Wait + Sync, S: Source, K: Sink, N: Sink, W: World>(
     _rt: &R,
     alloc: Global,
     words: &[String],
     source: &mut S,
     sink: &mut K,
+    notes: &mut N,
     _world: &mut W,
 ) -> Status
-    ensures { Does (command_of words.now) result
+    ensures does { Does (command_of words.now) result
         (side (S.left source.old) (S.fault_count source.old))
         (side (S.left source.new) (S.fault_count source.new))
         (side (K.held sink.old) (K.fault_count sink.old))
         (side (K.held sink.new) (K.fault_count sink.new)) }
+    ensures notes { Notes result
+        (side (S.left source.old) (S.fault_count source.old))
+        (side (N.held notes.old) (N.fault_count notes.old))
+        (side (N.held notes.new) (N.fault_count notes.new)) }
 {
-    run_alone(alloc, words, source, sink)
+    run_alone(alloc, words, source, sink, notes)
 }

@@ -11,6 +11,34 @@ use outside::{MemSink, MemSource, MemWorld, Source, SureSink, SureSource, WorldS
 use std::alloc::{AllocError, Global};
 use std::test::Fail;
 
+/// What `--help` writes.
+const HELP: &[u8] =
+    b"session_tool replay     reads a script from standard input, and writes the trace of its session
+session_tool --help     this text
+session_tool --version  the version
+gen N and live CONFIG are not in this version: they answer 1
+
+A script, each line an example:
+config single url=redis://HOST:PORT connect=none response=none lib=off
+submit cmd GET a                         a command
+submit noreply SET k 1                   a command whose reply nobody awaits
+submit pipe GET a ; GET b                a pipeline
+submit multi SET k 1 ; GET k             a transaction
+submit packed 1 2 GET a ; GET b ; GET c  a pipeline, 1 reply skipped and 2 kept
+cancel 0                                 the caller of submission 0 drops its request
+connected 0                              the connect of link 0 succeeded
+wrote 0 20                               20 of the offered bytes were taken
+bytes 0 +OK%0D%0A                        bytes came, and %0D is the byte 13
+ended 0                                  the peer closed the link
+read-fault 0 reset                       a read failed
+write-fault 0 broken-pipe                a write failed
+shutdown                                 everything is closed
+end                                      the last line
+
+A fault is refused, reset, aborted, not-connected, broken-pipe, eof, timed-out, interrupted, denied or other.
+Status: 0 done, 1 no command, 2 no script, 4 bad event, 5 no memory, 6 no input, 7 no output, 8 no more numbers.
+";
+
 /// A script, the output of its replay, and the status.
 #[derive(Clone, Copy)]
 pub struct Row {
@@ -456,7 +484,8 @@ fn answer(
     let words = strings(alloc, words)?;
     let mut source = MemSource::new(Bytes::from_slice(alloc, script)?, 10, numbers(alloc, read)?);
     let mut sink = MemSink::new(alloc, 20, numbers(alloc, write)?);
-    let status = run_alone(alloc, words.as_slice(), &mut source, &mut sink);
+    let mut notes = SureSink::new();
+    let status = run_alone(alloc, words.as_slice(), &mut source, &mut sink, &mut notes);
     Ok((status.number(), sink))
 }
 
@@ -472,7 +501,8 @@ fn run_surely(
         → ⟦<SureSource as Source>⟧.left source.old ≡ Some bytes → IsSound bytes
         → (result ≡ Status.Done) ⊎ (result ≡ Status.NoMemory) }
 {
-    run_alone(alloc, words, source, sink)
+    let mut notes = SureSink::new();
+    run_alone(alloc, words, source, sink, &mut notes)
 }
 
 #[test]
@@ -597,7 +627,8 @@ fn replayed(alloc: Global, text: Bytes, size: usize) -> Result<(u8, MemSink), Al
     let words = strings(alloc, &["replay"])?;
     let mut source = MemSource::new(text, size, Seq::new(alloc));
     let mut sink = MemSink::new(alloc, 65_536, Seq::new(alloc));
-    let status = run_alone(alloc, words.as_slice(), &mut source, &mut sink);
+    let mut notes = SureSink::new();
+    let status = run_alone(alloc, words.as_slice(), &mut source, &mut sink, &mut notes);
     Ok((status.number(), sink))
 }
 
@@ -681,15 +712,13 @@ fn a_script_past_a_limit_is_refused_at_its_line(rt: HostRuntime) -> Result<(), F
 #[test]
 fn words_are_commands(rt: HostRuntime) -> Result<(), Fail> {
     let usage = b"usage: session_tool replay or gen N or live CONFIG\n".as_slice();
-    let help =
-        b"session_tool replay: reads a script, and writes the trace of its session\n".as_slice();
     let cases: [(&[&str], u8, &[u8]); 7] = [
         (&[], 1, usage),
         (&["gen", "1"], 1, usage),
         (&["live"], 1, usage),
         (&["replay", "replay"], 1, usage),
         (&["Replay"], 1, usage),
-        (&["--help"], 0, help),
+        (&["--help"], 0, HELP),
         (&["--version"], 0, b"session_tool 0.1.0\n"),
     ];
     for (words, status, output) in cases {
@@ -707,6 +736,7 @@ fn a_run_does_what_one_alone_does(rt: HostRuntime) -> Result<(), Fail> {
     let script = Bytes::from_slice(alloc, ANSWERED.script)?;
     let mut source = MemSource::new(script, 10, Seq::new(alloc));
     let mut sink = MemSink::new(alloc, 20, Seq::new(alloc));
+    let mut notes = SureSink::new();
     let mut world = MemWorld::new(alloc, WorldScript::new(alloc));
     let status = run(
         &rt,
@@ -714,6 +744,7 @@ fn a_run_does_what_one_alone_does(rt: HostRuntime) -> Result<(), Fail> {
         words.as_slice(),
         &mut source,
         &mut sink,
+        &mut notes,
         &mut world,
     );
     assert_eq!(rt; status.number(), 0);

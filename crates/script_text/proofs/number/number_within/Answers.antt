@@ -1,7 +1,7 @@
 use Rattle.std.proofs.Common.{arith, sym, ◌∙◌}
 use Rattle.std.proofs.lemmas.Bool.Decides.{nat_tests}
 use Rattle.script_text.proofs.Digits.{beyond}
-use Rattle.script_text.proofs.number.number.Goals as goal
+use Rattle.script_text.proofs.number.number_within.Goals as goal
 
 pub returns-in_err-n-clause-is : goal.returns-in_err-n-clause-is
 returns-in_err-n-clause-is c =

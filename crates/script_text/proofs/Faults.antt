@@ -1,0 +1,34 @@
+-- Where a reader finds nothing.
+use Rattle.std.proofs.Common.{◌≡◌, ℕ, Bool, true, false, List, [], ◌∷◌, length, ◌≤◌, Option, None, Some, option_map, refl, sym, ap, ◌∙◌, bytes_eq, codes, if◌then◌else◌}
+use Rattle.std.specs.Prelude.{is_some, is_none}
+use Rattle.driver_model.specs.declared.event.EventKind.TheVariants.{Submit}
+use Rattle.script_text.specs.declared.fault.Fault.{Fault}
+use Rattle.script_text.specs.EventLine.{by_first, submissions, others, events, event_of}
+use Rattle.script_text.specs.Faults.{FindsFault}
+use Rattle.script_text.specs.Words.{LineWords}
+use Rattle.script_text.proofs.Forms.{event_refused}
+
+-- what is found is nothing exactly where nothing is found
+none_mapped : {A B : Type 0} (f : A → B) (x : Option A) → is_none (option_map f x) ≡ is_none x
+none_mapped f None = refl
+none_mapped f (Some a) = refl
+
+-- a fault of the words of an event is one of the event
+pub finds_event : (line : LineWords) (found : Option Fault) → FindsFault found (by_first events line.words line.more) → FindsFault found (event_of line)
+unfolding event_of
+finds_event line found finds = finds ∙ sym (none_mapped (λ kind. record { word = 0; kind = kind }) (by_first events line.words line.more))
+
+-- a fault of what is submitted is one of the words behind `submit`
+pub finds_submit : (name : List ℕ) (rest : List (List ℕ)) (more : List (List (List ℕ))) (found : Option Fault) → bytes_eq name (codes "submit") ≡ true → FindsFault found (by_first submissions rest more) → FindsFault found (by_first events (name ∷ rest) more)
+finds_submit name rest more found is finds =
+    finds ∙ sym (none_mapped Submit (by_first submissions rest more))
+    ∙ sym (ap (λ b. is_none (if b then option_map Submit (by_first submissions rest more) else by_first others (name ∷ rest) more)) is)
+
+-- a fault of another event is one of its words
+pub finds_other : (name : List ℕ) (rest : List (List ℕ)) (more : List (List (List ℕ))) (found : Option Fault) → bytes_eq name (codes "submit") ≡ false → FindsFault found (by_first others (name ∷ rest) more) → FindsFault found (by_first events (name ∷ rest) more)
+finds_other name rest more found is finds =
+    finds ∙ sym (ap (λ b. is_none (if b then option_map Submit (by_first submissions rest more) else by_first others (name ∷ rest) more)) is)
+
+-- a separator in another event is a fault
+pub finds_separator : (name : List ℕ) (rest : List (List ℕ)) (more : List (List (List ℕ))) (found : Option Fault) → bytes_eq name (codes "submit") ≡ false → 1 ≤ length more → is_some found ≡ true → FindsFault found (by_first events (name ∷ rest) more)
+finds_separator name rest more found other some is = is ∙ sym (ap is_none (event_refused name rest more other some))

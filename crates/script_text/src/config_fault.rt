@@ -1,0 +1,172 @@
+ghost use Rattle.std.specs.Prelude.{◌≡◌, ◌==◌, not, length, is_some, option_and_then, codes};
+ghost use Rattle.std.specs.List.{list_all};
+ghost use Rattle.script_text.specs.ConfigLine.{keys, is_setting, values, only, gives};
+ghost use Rattle.script_text.specs.ConfigLine.{address, single, config_of};
+ghost use Rattle.script_text.specs.Faults.{FindsFault, values_reason};
+
+use crate::config_line::{gives_only, is_host_name, is_known_setting, only_value, value};
+use crate::fault::Fault;
+use crate::line::Line;
+use crate::number::number_u16;
+use crate::reason::{ConfigReason, LineReason, Reason};
+use crate::words::cut;
+use containers::Bytes;
+
+/// Before the settings stand the words `config single`.
+const BEFORE: usize = 2;
+
+/// What is wrong with the first word that is no KEY=VALUE with a key that there is.
+fn setting_fault(words: &[Bytes]) -> Option<Fault>
+    ensures { is_some result ≡ not (list_all (is_setting keys) words.now) }
+{
+    for (index, word) in words.iter().enumerate() {
+        if !is_known_setting(word.as_slice()) {
+            let reason = match cut(word.as_slice(), b'=') {
+                None => ConfigReason::Setting,
+                Some(_) => ConfigReason::UnknownKey,
+            };
+            return Some(Fault {
+                reason: Reason::Config(reason),
+                part: index + BEFORE,
+            });
+        }
+    }
+    None
+}
+
+/// Whether words give the key some value.
+fn has_value(words: &[Bytes], key: &[u8]) -> bool
+    ensures { result ≡ (not (length (values key.now words.now) == 0)) }
+{
+    for word in words {
+        if value(word.as_slice(), key).is_some() {
+            return true;
+        }
+    }
+    false
+}
+
+/// The last of the words that gives the key a value, or how many words there are.
+fn last_index(words: &[Bytes], key: &[u8]) -> usize {
+    let mut last = words.len();
+    for (index, word) in words.iter().enumerate() {
+        if value(word.as_slice(), key).is_some() {
+            last = index;
+        }
+    }
+    last
+}
+
+/// What is wrong with the values that words give a key, where they don't give it just the right one.
+fn wrong_values(words: &[Bytes], key: &[u8], wrong: Reason) -> Reason
+    ensures { result ≡ values_reason (values key.now words.now) wrong }
+{
+    if only_value(words, key).is_some() {
+        return wrong;
+    }
+    if has_value(words, key) {
+        Reason::Config(ConfigReason::KeyTwice)
+    } else {
+        Reason::Config(ConfigReason::NoKey)
+    }
+}
+
+/// The fault of a key that words don't give just the right value.
+fn values_fault(words: &[Bytes], key: &[u8], wrong: Reason) -> Fault
+    ensures { result.reason ≡ values_reason (values key.now words.now) wrong }
+{
+    Fault {
+        reason: wrong_values(words, key, wrong),
+        part: last_index(words, key).saturating_add(BEFORE),
+    }
+}
+
+/// What is wrong with a key that has one value alone.
+fn only_fault(words: &[Bytes], key: &[u8], value: &[u8], reason: ConfigReason) -> Option<Fault>
+    ensures { is_some result ≡ not (gives words.now key.now value.now) }
+{
+    if gives_only(words, key, value) {
+        return None;
+    }
+    Some(values_fault(words, key, Reason::Config(reason)))
+}
+
+/// Whether a text is an address.
+fn is_address(url: &[u8]) -> bool
+    ensures { result ≡ is_some (address url.now) }
+{
+    let Some(rest) = url.strip_prefix(b"redis://".as_slice()) else {
+        return false;
+    };
+    match cut(rest, b':') {
+        Some((host, port)) => is_host_name(host) && number_u16(port).is_some(),
+        None => false,
+    }
+}
+
+/// What is wrong with the address.
+fn url_fault(words: &[Bytes]) -> Option<Fault>
+    ensures { FindsFault result (option_and_then address (only (values (codes "url") words.now))) }
+{
+    let sound = match only_value(words, b"url") {
+        Some(url) => is_address(url),
+        None => false,
+    };
+    if sound {
+        return None;
+    }
+    Some(values_fault(words, b"url", Reason::Config(ConfigReason::Url)))
+}
+
+/// What is wrong with the settings of one connection.
+fn single_fault(words: &[Bytes]) -> Option<Fault>
+    ensures { FindsFault result (single words.now) }
+{
+    if let Some(fault) = setting_fault(words) {
+        return Some(fault);
+    }
+    if let Some(fault) = only_fault(words, b"connect", b"none", ConfigReason::OnlyNone) {
+        return Some(fault);
+    }
+    if let Some(fault) = only_fault(words, b"response", b"none", ConfigReason::OnlyNone) {
+        return Some(fault);
+    }
+    if let Some(fault) = only_fault(words, b"lib", b"off", ConfigReason::OnlyOff) {
+        return Some(fault);
+    }
+    url_fault(words)
+}
+
+/// What is wrong with the words of a line as a configuration.
+#[tactic(auto, unfolding(crate::specs::ConfigLine::config_of))]
+pub fn config_fault(line: &Line) -> Option<Fault>
+    ensures { FindsFault result (config_of line.now) }
+{
+    let name = Fault {
+        reason: Reason::Config(ConfigReason::Name),
+        part: 0,
+    };
+    let [first, rest @ ..] = line.words() else {
+        return Some(name);
+    };
+    if first.as_slice() != b"config".as_slice() {
+        return Some(name);
+    }
+    let kind = Fault {
+        reason: Reason::Config(ConfigReason::Kind),
+        part: 1,
+    };
+    let [second, settings @ ..] = rest else {
+        return Some(kind);
+    };
+    if second.as_slice() != b"single".as_slice() {
+        return Some(kind);
+    }
+    match line.more() {
+        [] => single_fault(settings),
+        _ => Some(Fault {
+            reason: Reason::Line(LineReason::Separator),
+            part: line.words().len(),
+        }),
+    }
+}

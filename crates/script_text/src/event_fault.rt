@@ -1,0 +1,213 @@
+ghost use Rattle.std.specs.Prelude.{◌≡◌, ◌≤◌, ◌∷◌, [], ℕ, List, length, true, is_some};
+ghost use Rattle.std.specs.Prelude.{MatchOption, MatchResult, Some, None};
+ghost use Rattle.driver_model.specs.declared.event.EventKind.{EventKind};
+ghost use Rattle.redis_error.specs.declared.fault_kind.FaultKind.{FaultKind};
+ghost use Rattle.script_text.specs.EventLine.{by_first, numbered, wrote, came, failed, alone};
+ghost use Rattle.script_text.specs.EventLine.{faults, fault_among, packed, submissions, others};
+ghost use Rattle.script_text.specs.EventLine.{events, event_of};
+ghost use Rattle.script_text.specs.Faults.{FindsFault, at};
+
+use crate::event_line::fault;
+use crate::fault::{Fault, large_number_at, number_at};
+use crate::line::Line;
+use crate::reason::{EventReason, Form, LineReason, Reason};
+use containers::{Bytes, Names};
+use redis_error::FaultKind;
+
+/// The kind of a fault that a part is, or its own fault.
+fn kind_at(word: &[u8], part: usize) -> Result<FaultKind, Fault>
+    ensures { MatchResult result (λ kind. fault_among faults word.now ≡ Some kind)
+        (λ fault. (fault_among faults word.now ≡ None)
+        × (fault ≡ at (Reason.Event EventReason.FaultKind) part)) }
+{
+    match fault(word) {
+        Some(kind) => Ok(kind),
+        None => Err(Fault {
+            reason: Reason::Event(EventReason::FaultKind),
+            part,
+        }),
+    }
+}
+
+/// Too few words or too many: `part` is the first that is too many.
+fn form_fault(form: Form, part: usize) -> Option<Fault>
+    ensures { is_some result ≡ true }
+{
+    Some(Fault {
+        reason: Reason::Form(form),
+        part,
+    })
+}
+
+/// What is wrong with the one number of an event.
+fn numbered_fault(words: &[Bytes], form: Form) -> Option<Fault>
+    ensures { (f : ℕ → EventKind) → FindsFault result (numbered f words.now) }
+{
+    match words {
+        [n] => number_at(n.as_slice(), 1).err(),
+        _ => form_fault(form, 2),
+    }
+}
+
+fn wrote_fault(words: &[Bytes]) -> Option<Fault>
+    ensures { FindsFault result (wrote words.now) }
+{
+    let [link, count] = words else {
+        return form_fault(Form::Wrote, 3);
+    };
+    match number_at(link.as_slice(), 1) {
+        Ok(_) => large_number_at(count.as_slice(), 2).err(),
+        Err(fault) => Some(fault),
+    }
+}
+
+fn came_fault(words: &[Bytes]) -> Option<Fault>
+    ensures { FindsFault result (came words.now) }
+{
+    match words {
+        [link, _] => number_at(link.as_slice(), 1).err(),
+        _ => form_fault(Form::Bytes, 3),
+    }
+}
+
+/// What is wrong with the link and the kind of a fault.
+fn failed_fault(words: &[Bytes], form: Form) -> Option<Fault>
+    ensures { (f : ℕ → FaultKind → EventKind) → FindsFault result (failed f words.now) }
+{
+    let [link, kind] = words else {
+        return form_fault(form, 3);
+    };
+    match number_at(link.as_slice(), 1) {
+        Ok(_) => kind_at(kind.as_slice(), 2).err(),
+        Err(fault) => Some(fault),
+    }
+}
+
+fn shutdown_fault(words: &[Bytes]) -> Option<Fault>
+    ensures { (kind : EventKind) → FindsFault result (alone kind words.now) }
+{
+    match words {
+        [] => None,
+        _ => form_fault(Form::Shutdown, 1),
+    }
+}
+
+fn packed_fault(words: &[Bytes]) -> Option<Fault>
+    ensures { (more : List (List (List ℕ))) → FindsFault result (packed words.now more) }
+{
+    let [offset, count, ..] = words else {
+        return form_fault(Form::Packed, 4);
+    };
+    match number_at(offset.as_slice(), 2) {
+        Ok(_) => number_at(count.as_slice(), 3).err(),
+        Err(fault) => Some(fault),
+    }
+}
+
+/// The first separator, where there is one.
+fn separator_fault(more: &[Names], part: usize) -> Option<Fault>
+    ensures none { more.now ≡ [] → result ≡ None }
+    ensures some { 1 ≤ length more.now
+        → result ≡ Some (at (Reason.Line LineReason.Separator) part) }
+{
+    match more {
+        [] => None,
+        _ => Some(Fault {
+            reason: Reason::Line(LineReason::Separator),
+            part,
+        }),
+    }
+}
+
+fn submission_fault(words: &[Bytes], more: &[Names]) -> Option<Fault>
+    ensures { FindsFault result (by_first submissions words.now more.now) }
+{
+    let unknown = Fault {
+        reason: Reason::Event(EventReason::Submission),
+        part: 1,
+    };
+    let [name, args @ ..] = words else {
+        return Some(unknown);
+    };
+    let name = name.as_slice();
+    if name == b"cmd".as_slice() || name == b"noreply".as_slice() {
+        return separator_fault(more, words.len() + 1);
+    }
+    if name == b"pipe".as_slice() || name == b"multi".as_slice() {
+        return None;
+    }
+    if name == b"packed".as_slice() {
+        return packed_fault(args);
+    }
+    Some(unknown)
+}
+
+/// What is wrong with an event besides submissions, by the name and the words behind it.
+#[tactic(auto, unfolding(crate::specs::EventLine::others))]
+fn other_fault(name: &[u8], words: &[Bytes]) -> Option<Fault>
+    ensures { FindsFault result (by_first others (name.now ∷ words.now) []) }
+{
+    if name == b"cancel".as_slice() {
+        return numbered_fault(words, Form::Cancel);
+    }
+    if name == b"connected".as_slice() {
+        return numbered_fault(words, Form::Connected);
+    }
+    if name == b"wrote".as_slice() {
+        return wrote_fault(words);
+    }
+    if name == b"bytes".as_slice() {
+        return came_fault(words);
+    }
+    if name == b"ended".as_slice() {
+        return numbered_fault(words, Form::Ended);
+    }
+    if name == b"read-fault".as_slice() {
+        return failed_fault(words, Form::ReadFault);
+    }
+    if name == b"write-fault".as_slice() {
+        return failed_fault(words, Form::WriteFault);
+    }
+    if name == b"shutdown".as_slice() {
+        return shutdown_fault(words);
+    }
+    Some(Fault {
+        reason: Reason::Event(EventReason::Name),
+        part: 0,
+    })
+}
+
+/// What is wrong with an event, by its first word, the words behind it and those behind separators.
+#[tactic(auto, using(crate::proofs::Faults::finds_submit, crate::proofs::Faults::finds_other, crate::proofs::Faults::finds_separator))]
+fn named_fault(name: &[u8], words: &[Bytes], more: &[Names]) -> Option<Fault>
+    ensures { FindsFault result (by_first events (name.now ∷ words.now) more.now) }
+{
+    if name == b"submit".as_slice() {
+        return submission_fault(words, more);
+    }
+    match more {
+        [] => other_fault(name, words),
+        _ => separator_fault(more, words.len() + 1),
+    }
+}
+
+/// What is wrong with the words of a line as what happens.
+fn happening_fault(line: &Line) -> Option<Fault>
+    ensures { FindsFault result (by_first events line.now.words line.now.more) }
+{
+    match line.words() {
+        [name, words @ ..] => named_fault(name.as_slice(), words, line.more()),
+        [] => Some(Fault {
+            reason: Reason::Event(EventReason::Name),
+            part: 0,
+        }),
+    }
+}
+
+/// What is wrong with the words of a line as an event.
+#[tactic(auto, using(crate::proofs::Faults::finds_event))]
+pub fn event_fault(line: &Line) -> Option<Fault>
+    ensures { FindsFault result (event_of line.now) }
+{
+    happening_fault(line)
+}

@@ -1,0 +1,187 @@
+/// Why a line is at fault.
+#[derive(Clone, Copy)]
+pub enum Reason {
+    Text(TextReason),
+    Line(LineReason),
+    Config(ConfigReason),
+    Event(EventReason),
+    Form(Form),
+    /// Nothing is at fault.
+    Sound,
+}
+
+/// Why a line is at fault by where it stands, or by its length.
+#[derive(Clone, Copy)]
+pub enum TextReason {
+    ManyLines,
+    LongLine,
+    LongText,
+    /// The script ends before its last line.
+    NoEnd,
+    /// No LF ends the line.
+    NoNewline,
+    /// A byte stands behind the last line.
+    BehindEnd,
+}
+
+/// Why the bytes of a line are no words.
+#[derive(Clone, Copy)]
+pub enum LineReason {
+    /// The line ends in CR.
+    CarriageReturn,
+    Empty,
+    /// Two spaces, or one at an end of the line.
+    Space,
+    /// A `%` without two hexadecimal digits.
+    Escape,
+    /// A `;` where there is no list of commands.
+    Separator,
+}
+
+/// Why the words of a line are no configuration.
+#[derive(Clone, Copy)]
+pub enum ConfigReason {
+    /// The first word.
+    Name,
+    /// The kind of the connection.
+    Kind,
+    /// A word that isn't KEY=VALUE.
+    Setting,
+    UnknownKey,
+    KeyTwice,
+    NoKey,
+    /// A value other than `none`.
+    OnlyNone,
+    /// A value other than `off`.
+    OnlyOff,
+    /// No address.
+    Url,
+}
+
+/// Why the words of a line are no event.
+#[derive(Clone, Copy)]
+pub enum EventReason {
+    /// The first word.
+    Name,
+    /// The second word of `submit`.
+    Submission,
+    /// No number of 32 bits.
+    Number,
+    /// No number of 64 bits.
+    LargeNumber,
+    /// No kind of a fault.
+    FaultKind,
+}
+
+/// The event of whose words there are too few or too many.
+#[derive(Clone, Copy)]
+pub enum Form {
+    Cancel,
+    Connected,
+    Wrote,
+    Bytes,
+    Ended,
+    ReadFault,
+    WriteFault,
+    Shutdown,
+    Packed,
+}
+
+impl Reason {
+    /// The reason in one sentence, which says what is allowed.
+    pub fn sentence(self) -> &'static [u8] {
+        match self {
+            Reason::Text(reason) => reason.sentence(),
+            Reason::Line(reason) => reason.sentence(),
+            Reason::Config(reason) => reason.sentence(),
+            Reason::Event(reason) => reason.sentence(),
+            Reason::Form(form) => form.sentence(),
+            Reason::Sound => b"nothing is at fault",
+        }
+    }
+}
+
+impl TextReason {
+    fn sentence(self) -> &'static [u8] {
+        match self {
+            TextReason::ManyLines => b"a script has at most 1000000 lines",
+            TextReason::LongLine => b"a line has at most 1048576 bytes, its LF not counted",
+            TextReason::LongText => b"a script has at most 67108864 bytes, its LFs counted",
+            TextReason::NoEnd => b"the script has no last line, which is end",
+            TextReason::NoNewline => b"the last line has no newline: LF ends each line",
+            TextReason::BehindEnd => b"nothing may stand behind the line end",
+        }
+    }
+}
+
+impl LineReason {
+    fn sentence(self) -> &'static [u8] {
+        match self {
+            LineReason::CarriageReturn => b"this line ends in CR LF: lines end in LF alone",
+            LineReason::Empty => b"this line is empty: a line has words, one space between two",
+            LineReason::Space => b"one space stands between two words, and none before or behind",
+            LineReason::Escape => {
+                b"two hexadecimal digits stand behind %, and %- alone is the empty word"
+            }
+            LineReason::Separator => {
+                b"; separates commands in pipe, multi and packed alone, and %3B is an argument ;"
+            }
+        }
+    }
+}
+
+impl ConfigReason {
+    fn sentence(self) -> &'static [u8] {
+        match self {
+            ConfigReason::Name => {
+                b"the first line is config single url=redis://HOST:PORT connect=none response=none lib=off"
+            }
+            ConfigReason::Kind => b"only single is supported yet",
+            ConfigReason::Setting => b"a setting is KEY=VALUE, with url, connect, response or lib",
+            ConfigReason::UnknownKey => b"the keys are url, connect, response and lib",
+            ConfigReason::KeyTwice => b"each key stands once",
+            ConfigReason::NoKey => b"each of url, connect, response and lib stands once",
+            ConfigReason::OnlyNone => b"only none is supported yet",
+            ConfigReason::OnlyOff => b"only off is supported yet",
+            ConfigReason::Url => {
+                b"url is redis://HOST:PORT, HOST of a-z, 0-9, . and -, PORT at most 65535"
+            }
+        }
+    }
+}
+
+impl EventReason {
+    fn sentence(self) -> &'static [u8] {
+        match self {
+            EventReason::Name => {
+                b"an event is submit, cancel, connected, wrote, bytes, ended, read-fault, write-fault or shutdown, and the last line is end"
+            }
+            EventReason::Submission => b"submit takes cmd, noreply, pipe, multi or packed",
+            EventReason::Number => {
+                b"a number has digits alone, no leading zero, and is at most 4294967295"
+            }
+            EventReason::LargeNumber => {
+                b"a number has digits alone, no leading zero, and is at most 18446744073709551615"
+            }
+            EventReason::FaultKind => {
+                b"a fault is refused, reset, aborted, not-connected, broken-pipe, eof, timed-out, interrupted, denied or other"
+            }
+        }
+    }
+}
+
+impl Form {
+    fn sentence(self) -> &'static [u8] {
+        match self {
+            Form::Cancel => b"this event is cancel SUBMISSION",
+            Form::Connected => b"this event is connected LINK",
+            Form::Wrote => b"this event is wrote LINK COUNT",
+            Form::Bytes => b"this event is bytes LINK BYTES",
+            Form::Ended => b"this event is ended LINK",
+            Form::ReadFault => b"this event is read-fault LINK KIND",
+            Form::WriteFault => b"this event is write-fault LINK KIND",
+            Form::Shutdown => b"this event is shutdown alone",
+            Form::Packed => b"this event is submit packed OFFSET COUNT ARG..",
+        }
+    }
+}

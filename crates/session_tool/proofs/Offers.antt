@@ -1,0 +1,56 @@
+-- What a second replay keeps, which looks for the bad event.
+use Rattle.std.proofs.Common.{◌≡◌, ◌<◌, ◌+◌, ℕ, true, false, List, [], ◌∷◌, ◌++◌, length, ◌≤◌, Option, Some, None, arith, ◌∙◌, refl, sym, ap, subst}
+use Rattle.std.specs.Prelude.{slice_get, take, IfSome}
+use Rattle.driver_model.specs.declared.action.Action.{Action}
+use Rattle.driver_model.specs.declared.config.Config.{Config}
+use Rattle.driver_model.specs.declared.event.Event.{Event}
+use Rattle.legal_trace.specs.Book.{Book, book, entered_each}
+use Rattle.legal_trace.proofs.Books.{book_append}
+use Rattle.shared_session.specs.declared.session.Failure.TheVariants.{Sound}
+use Rattle.shared_session.specs.History.{History}
+use Rattle.shared_session.specs.Replay.{opening_actions, state_after, trace_of, is_bad_after, is_spent_after}
+use Rattle.shared_session.specs.Turn.{actions_of}
+use Rattle.shared_session.proofs.Replays.{Kept, kept_none, trace_of-none, trace_of-more}
+use Rattle.session_tool.specs.declared.offer.Offer.{Offer}
+use Rattle.session_tool.specs.Notes.{IsBadNoteOf, bad_event_words, line_note}
+use Rattle.session_tool.specs.Offers.{IsOfferOf}
+use Rattle.session_tool.proofs.Traces.{kept_next}
+
+-- the session has taken these events, and the offer is that of their trace
+pub record Follows (config : Config) (word : ℕ) (taken : List Event) (s : History) (o : Offer) : Type 0 where
+  pub kept : Kept config word taken [] s (trace_of config word taken)
+  pub offer : IsOfferOf o (book (trace_of config word taken))
+
+pub follows_none : (config : Config) (word : ℕ) (s : History) (o : Offer) → s ≡ record { config = config; word = word; events = []; failure = Sound }
+    → IsOfferOf o (book (opening_actions config word)) → Follows config word [] s o
+follows_none config word s o made offer = record {
+  kept = kept_none config word [] (trace_of config word []) s made (trace_of-none config word);
+  offer = subst (λ (acts : List Action). IsOfferOf o (book acts)) (sym (trace_of-none config word)) offer;
+}
+
+pub follows_more : (config : Config) (word : ℕ) (taken : List Event) (s t : History) (e : Event) (o next : Offer) → Follows config word taken s o → t ≡ record s { events = s.events ++ e ∷ [] }
+    → is_bad_after s.config s.word s.events e ≡ false → is_spent_after s.config s.word s.events e ≡ false
+    → ((b : Book) → IsOfferOf o b → IsOfferOf next (entered_each b (actions_of (state_after s.config s.word s.events) e))) → Follows config word (taken ++ e ∷ []) t next
+follows_more config word taken s t e o next h made good unspent offers =
+    let before = trace_of config word taken in
+    let same = ap (λ (x : History). actions_of (state_after x.config x.word x.events) e) h.kept.made in
+    let is : entered_each (book before) (actions_of (state_after s.config s.word s.events) e) ≡ book (trace_of config word (taken ++ e ∷ [])) =
+    ap (λ (acts : List Action). entered_each (book before) acts) same ∙ sym (book_append before (actions_of (state_after config word taken) e)) ∙ ap book (sym (trace_of-more config word taken e)) in
+    record {
+      kept = kept_next config word taken s t e h.kept made good unspent;
+      offer = subst (λ (b : Book). IsOfferOf next b) is (offers (book before) h.offer);
+    }
+
+-- a bad event ends it, and a note of that event is the note of the first bad one
+pub found_bad : (config : Config) (word : ℕ) (all : List Event) (index : ℕ) (s : History) (e : Event) (o : Offer) (found : Option (List ℕ)) → index < length all → slice_get all index ≡ Some e
+    → Follows config word (take index all) s o → is_bad_after s.config s.word s.events e ≡ true
+    → IfSome found (λ note. (b : Book) → IsOfferOf o b → note ≡ line_note (index + 2) (bad_event_words b e.kind)) → IfSome found (IsBadNoteOf config word all)
+found_bad config word all index s e o None l stands h bad said = said
+found_bad config word all index s e o (Some note) l stands h bad said = record {
+  index = index;
+  first = record {
+    before = record { within = omega arith; good = h.kept.good; unspent = h.kept.unspent };
+    bad = record { event = e; stands = stands; bad = sym (ap (λ (x : History). is_bad_after x.config x.word x.events e) h.kept.made) ∙ bad };
+  };
+  is = said (book (trace_of config word (take index all))) h.offer;
+}

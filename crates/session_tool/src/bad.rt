@@ -1,0 +1,203 @@
+ghost use Rattle.std.specs.Prelude.{◌≡◌, ◌⊎◌, ◌<◌, ◌+◌, ◌^◌, ℕ, ◌∷◌, [], ◌++◌, true, false, decimal};
+ghost use Rattle.std.specs.Prelude.{OnOk, OnSome, IfOk, IfSome, IsErrOf};
+ghost use Rattle.legal_trace.specs.Book.{Book, book, entered_each};
+ghost use Rattle.shared_session.specs.Replay.{opening_actions, state_after};
+ghost use Rattle.shared_session.specs.Replay.{is_bad_after, is_spent_after};
+ghost use Rattle.shared_session.specs.Turn.{actions_of};
+ghost use Rattle.shared_session.specs.declared.session.Failure.TheVariants.{Sound};
+ghost use Rattle.session_tool.specs.Notes.{IsBadNoteOf, bad_event_words, bad_words, event_words};
+ghost use Rattle.session_tool.specs.Notes.{line_note};
+ghost use Rattle.session_tool.specs.Offers.{IsOfferOf};
+
+use crate::lines::{push_number, reason_line};
+use crate::offer::Offer;
+use containers::Bytes;
+use driver_model::{Config, Event, EventKind};
+use script_text::Script;
+use shared_session::{Session, StepError};
+use std::alloc::{AllocError, Global};
+
+/// Why an event is bad.
+#[derive(Clone, Copy)]
+pub enum BadReason {
+    /// It hands in a list of one command without a name.
+    NoName,
+    /// It names a submission that was never handed in.
+    NoSubmission,
+    /// It names a link that was never asked for.
+    NoLink,
+    /// It says that more bytes were taken than were offered.
+    OnlyOffered { count: u64 },
+}
+
+/// Why one step didn't go on.
+#[derive(Clone, Copy)]
+enum Halt {
+    /// The event is bad.
+    Bad,
+    /// Memory was refused, or a number has run out.
+    Failed,
+}
+
+/// Appends words and a number.
+fn push_words(text: &mut Bytes, words: &[u8], number: u64) -> Result<(), AllocError>
+    ensures { OnOk result (text.new ≡ text.old ++ (words.now ++ decimal number)) }
+{
+    text.extend_from_slice(words)?;
+    push_number(text, number)
+}
+
+/// Appends an event, as far as its numbers.
+fn push_event(text: &mut Bytes, kind: &EventKind) -> Result<(), AllocError>
+    ensures { OnOk result (text.new ≡ text.old ++ event_words kind.now) }
+{
+    match kind {
+        EventKind::Submit { submission: _ } => text.extend_from_slice(b"submit"),
+        EventKind::Cancel { submission } => push_words(text, b"cancel ", u64::from(*submission)),
+        EventKind::Connected { link } => push_words(text, b"connected ", u64::from(*link)),
+        EventKind::Wrote { link, count } => {
+            push_words(text, b"wrote ", u64::from(*link))?;
+            push_words(text, b" ", *count)
+        }
+        EventKind::Bytes { link, piece: _ } => push_words(text, b"bytes ", u64::from(*link)),
+        EventKind::Ended { link } => push_words(text, b"ended ", u64::from(*link)),
+        EventKind::ReadFault { link, fault: _ } => {
+            push_words(text, b"read-fault ", u64::from(*link))
+        }
+        EventKind::WriteFault { link, fault: _ } => {
+            push_words(text, b"write-fault ", u64::from(*link))
+        }
+        EventKind::Shutdown => text.extend_from_slice(b"shutdown"),
+    }
+}
+
+/// Appends why an event is bad.
+fn push_reason(text: &mut Bytes, reason: BadReason) -> Result<(), AllocError>
+    ensures { OnOk result (text.new ≡ text.old ++ bad_words reason) }
+{
+    match reason {
+        BadReason::NoName => text.extend_from_slice(b": the one command of a list needs a name"),
+        BadReason::NoSubmission => {
+            text.extend_from_slice(b": no submission has this number yet")
+        }
+        BadReason::NoLink => text.extend_from_slice(b": no link has this number"),
+        BadReason::OnlyOffered { count } => {
+            push_words(text, b": only ", count)?;
+            text.extend_from_slice(b" bytes were offered")
+        }
+    }
+}
+
+/// The note of a bad event, its place counted from 0.
+fn bad_line(
+    alloc: Global,
+    place: u64,
+    kind: &EventKind,
+    reason: BadReason,
+) -> Result<Bytes, AllocError>
+    requires { place < 2 ^ 63 }
+    ensures { IfOk result (λ note.
+        note ≡ line_note (place + 2) (event_words kind.now ++ bad_words reason)) }
+{
+    let mut why = Bytes::new(alloc);
+    push_event(&mut why, kind)?;
+    push_reason(&mut why, reason)?;
+    reason_line(alloc, place + 2, why.as_slice())
+}
+
+/// Makes a session, and notes what its opening offers.
+fn open_quietly(alloc: Global, config: &Config, word: u64, offer: &mut Offer) -> Option<Session>
+    ensures made { IfSome result (λ s.
+        s ≡ record { config = config.now; word = word; events = []; failure = Sound }) }
+    ensures offer { OnSome result (
+        IsOfferOf offer.new (book (opening_actions config.now word))
+        ) }
+{
+    let Ok(config) = config.clone(alloc) else {
+        return None;
+    };
+    let mut actions = Vec::new(alloc);
+    let Ok(session) = Session::new(alloc, config, word, &mut actions) else {
+        return None;
+    };
+    *offer = Offer::behind(actions.as_slice());
+    Some(session)
+}
+
+/// Steps one event, and says what is offered then.
+fn step_quietly(
+    alloc: Global,
+    session: &mut Session,
+    event: &Event,
+    offer: Offer,
+) -> Result<Offer, Halt>
+    ensures ok { OnOk result (
+        session.new ≡ record session.old { events = session.old.events ++ event.now ∷ [] }
+        ) }
+    ensures offer { IfOk result (λ next. (b : Book) → IsOfferOf offer b
+        → IsOfferOf next (entered_each b (actions_of
+        (state_after session.old.config session.old.word session.old.events) event.now))) }
+    ensures good { OnOk result (
+        is_bad_after session.old.config session.old.word session.old.events event.now ≡ false
+        ) }
+    ensures unspent { OnOk result (
+        is_spent_after session.old.config session.old.word session.old.events event.now ≡ false
+        ) }
+    ensures bad { IsErrOf result Halt.Bad
+        → is_bad_after session.old.config session.old.word session.old.events event.now ≡ true }
+{
+    let Ok(event) = event.clone(alloc) else {
+        return Err(Halt::Failed);
+    };
+    let mut actions = Vec::new(alloc);
+    match session.step(alloc, event, &mut actions) {
+        Ok(()) => Ok(offer.after_each(actions.as_slice())),
+        Err(StepError::BadEvent) => Err(Halt::Bad),
+        Err(_) => Err(Halt::Failed),
+    }
+}
+
+/// The note of an event that is bad where that is offered, its place counted from 0.
+fn offered_line(alloc: Global, place: u64, kind: &EventKind, offer: Offer) -> Option<Bytes>
+    requires { place < 2 ^ 63 }
+    ensures { IfSome result (λ note. (b : Book) → IsOfferOf offer b
+        → note ≡ line_note (place + 2) (bad_event_words b kind.now)) }
+{
+    let Some(reason) = offer.reason(kind) else {
+        return None;
+    };
+    match bad_line(alloc, place, kind, reason) {
+        Ok(note) => Some(note),
+        Err(_) => None,
+    }
+}
+
+/// The note of the first bad event of a history. None: memory was refused for it, or there is none.
+fn find_bad(alloc: Global, config: &Config, word: u64, events: &[Event]) -> Option<Bytes>
+    ensures { IfSome result (IsBadNoteOf config.now word events.now) }
+{
+    let mut offer = Offer::new();
+    let Some(mut session) = open_quietly(alloc, config, word, &mut offer) else {
+        return None;
+    };
+    for (place, event) in events.iter().enumerate() {
+        match step_quietly(alloc, &mut session, event, offer) {
+            Ok(next) => offer = next,
+            Err(Halt::Bad) => return offered_line(alloc, place as u64, &event.kind, offer),
+            Err(Halt::Failed) => return None,
+        }
+    }
+    None
+}
+
+/// The note of a replay that a bad event ended: nothing, where memory was refused for it.
+pub fn bad_note(alloc: Global, script: &Script) -> Bytes
+    ensures { (result ≡ [])
+        ⊎ IsBadNoteOf script.now.config script.now.word script.now.events result }
+{
+    let events = script.events.as_slice();
+    match find_bad(alloc, &script.config, script.word, events) {
+        Some(note) => note,
+        None => Bytes::new(alloc),
+    }
+}

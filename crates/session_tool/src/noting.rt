@@ -1,0 +1,80 @@
+ghost use Rattle.std.specs.Prelude.{◌≡◌, ◌⊎◌, [], IfOk};
+ghost use Rattle.session_tool.specs.Notes.{IsLineNote, IsNote, IsOwn, IsWritten, fixed_note};
+ghost use Rattle.session_tool.specs.Sides.{Side, side};
+
+use crate::lines::reason_line;
+use crate::status::Status;
+use containers::Bytes;
+use outside::{Sink, write_all};
+use script_text::explain_line;
+use std::alloc::{AllocError, Global};
+
+/// Where the words are no command.
+const USAGE_NOTE: &[u8] =
+    b"this version has the words replay, --help and --version: gen and live are not in it\n";
+
+/// Where memory was refused.
+const MEMORY_NOTE: &[u8] = b"memory was refused: standard output has whole turns at most\n";
+
+/// Where the source failed.
+const READ_NOTE: &[u8] = b"standard input could not be read to its end\n";
+
+/// Where the sink failed.
+const WRITE_NOTE: &[u8] = b"standard output took no more: what it has is a front of the output\n";
+
+/// Where a number has run out.
+const SPENT_NOTE: &[u8] = b"a number of 32 bits has run out: split the script\n";
+
+/// The sentence of a status that says all by itself.
+fn fixed_note(status: Status) -> &'static [u8]
+    ensures { result.now ≡ fixed_note status }
+{
+    match status {
+        Status::Done => b"",
+        Status::Usage => USAGE_NOTE,
+        Status::Script => b"",
+        Status::BadEvent => b"",
+        Status::NoMemory => MEMORY_NOTE,
+        Status::ReadFault => READ_NOTE,
+        Status::WriteFault => WRITE_NOTE,
+        Status::Spent => SPENT_NOTE,
+    }
+}
+
+/// What is wrong with a line of a text, with its number.
+fn explained(alloc: Global, text: &[u8], line: u32) -> Result<Bytes, AllocError>
+    ensures { IfOk result (IsLineNote line) }
+{
+    let why = explain_line(alloc, text, line)?;
+    reason_line(alloc, u64::from(line), why.as_slice())
+}
+
+/// The note of a text that is no script: nothing, where memory was refused for it.
+pub fn script_note(alloc: Global, text: &[u8], line: u32) -> Bytes
+    ensures { (result ≡ []) ⊎ IsLineNote line result }
+{
+    match explained(alloc, text, line) {
+        Ok(note) => note,
+        Err(_) => Bytes::new(alloc),
+    }
+}
+
+/// The note of a run: what is said of its script, or of its status alone.
+pub fn note_of(status: Status, own: &Bytes) -> &[u8]
+    ensures { (source : Side) → IsOwn status source own.now → IsNote status source result.now }
+{
+    if own.is_empty() {
+        fixed_note(status)
+    } else {
+        own.as_slice()
+    }
+}
+
+/// Writes what is said on the side of a run. That the notes fail changes nothing else.
+pub fn write_note<N: Sink>(note: &[u8], notes: &mut N)
+    ensures { IsWritten note.now
+        (side (N.held notes.old) (N.fault_count notes.old))
+        (side (N.held notes.new) (N.fault_count notes.new)) }
+{
+    write_all(notes, note);
+}

@@ -1,0 +1,162 @@
+ghost use Rattle.std.specs.Prelude.{◌≡◌, ◌+◌, ℕ, IfSome};
+ghost use Rattle.driver_model.specs.News.{told};
+ghost use Rattle.legal_trace.specs.Book.{Book, blank_book, book, entered, entered_each};
+ghost use Rattle.legal_trace.specs.Ledger.{Ledger, with_news};
+ghost use Rattle.session_tool.specs.Notes.{bad_reason, wrote_reason};
+ghost use Rattle.session_tool.specs.Offers.{IsOfferIn, IsOfferOf};
+
+use crate::bad::BadReason;
+use driver_model::{Action, Cause, EventKind, LinkNews};
+
+/// The number of the first link.
+const FIRST_LINK: u32 = 0;
+
+/// What actions tell of links: how many were asked for, up to two, and of the first whether it is up, whether it has ended,
+/// and how many bytes are offered to it.
+#[derive(Clone, Copy)]
+pub struct Offer {
+    links: u8,
+    up: bool,
+    over: bool,
+    count: u64,
+}
+
+impl Offer {
+    /// Before any action.
+    pub fn new() -> Offer
+        ensures { IsOfferOf result blank_book }
+    {
+        Offer {
+            links: 0,
+            up: false,
+            over: false,
+            count: 0,
+        }
+    }
+
+    /// After news of the first link.
+    fn after_news(self, news: LinkNews<'_>) -> Offer
+        ensures links { result.links ≡ self.links }
+        ensures first { (l : Ledger) → IsOfferIn self l → IsOfferIn result (with_news l (told news.entry)) }
+    {
+        match news {
+            LinkNews::Connected => {
+                if self.over {
+                    self
+                } else {
+                    Offer { up: true, ..self }
+                }
+            }
+            LinkNews::Took { count: _ } => {
+                if self.up {
+                    Offer { count: 0, ..self }
+                } else {
+                    self
+                }
+            }
+            LinkNews::Silence => self,
+            LinkNews::Came { piece: _ } => self,
+            LinkNews::Failed { fault: _ } => self,
+            LinkNews::Shut => self,
+        }
+    }
+
+    /// After one more link was asked for.
+    fn with_link(self) -> Offer
+        ensures { (b : Book) → IsOfferOf self b → IsOfferOf result (record b { links = b.links + 1 }) }
+    {
+        if self.links < 2 {
+            Offer {
+                links: self.links + 1,
+                ..self
+            }
+        } else {
+            self
+        }
+    }
+
+    /// After one more action.
+    fn after(self, action: &Action) -> Offer
+        ensures { (b : Book) → IsOfferOf self b → IsOfferOf result (entered b action.now) }
+    {
+        match action {
+            Action::Turn { number: _, cause } => match cause {
+                Cause::Opening { config: _, word: _ } => self,
+                Cause::Event { event } => self.after_news(event.kind.news(FIRST_LINK)),
+            },
+            Action::Connect {
+                link: _,
+                host: _,
+                port: _,
+            } => self.with_link(),
+            Action::Write { link, bytes } => {
+                if *link == FIRST_LINK {
+                    Offer {
+                        count: bytes.len() as u64,
+                        ..self
+                    }
+                } else {
+                    self
+                }
+            }
+            Action::Close { link } => {
+                if *link == FIRST_LINK {
+                    Offer {
+                        up: false,
+                        over: true,
+                        ..self
+                    }
+                } else {
+                    self
+                }
+            }
+            _ => self,
+        }
+    }
+
+    /// After more actions.
+    pub fn after_each(self, actions: &[Action]) -> Offer
+        ensures { (b : Book) → IsOfferOf self b → IsOfferOf result (entered_each b actions.now) }
+    {
+        let mut offer = self;
+        for action in actions {
+            offer = offer.after(action);
+        }
+        offer
+    }
+
+    /// Behind the actions of a whole trace.
+    pub fn behind(actions: &[Action]) -> Offer
+        ensures { IsOfferOf result (book actions.now) }
+    {
+        Offer::new().after_each(actions)
+    }
+
+    /// Why an event that is bad now is bad. None: it speaks of bytes that a further link took.
+    pub fn reason(self, kind: &EventKind) -> Option<BadReason>
+        ensures { IfSome result (λ reason.
+            (b : Book) → IsOfferOf self b → reason ≡ bad_reason b kind.now) }
+    {
+        match kind {
+            EventKind::Submit { submission: _ } => Some(BadReason::NoName),
+            EventKind::Cancel { submission: _ } => Some(BadReason::NoSubmission),
+            EventKind::Wrote { link, count: _ } => self.reason_of_wrote(*link),
+            _ => Some(BadReason::NoLink),
+        }
+    }
+
+    /// Why bytes that a link took are too many. None: it is a further link.
+    fn reason_of_wrote(self, link: u32) -> Option<BadReason>
+        ensures { IfSome result (λ reason.
+            (b : Book) → IsOfferOf self b → reason ≡ wrote_reason b link) }
+    {
+        if link == FIRST_LINK && self.links > 0 {
+            return Some(BadReason::OnlyOffered { count: self.count });
+        }
+        if self.links < 2 {
+            Some(BadReason::NoLink)
+        } else {
+            None
+        }
+    }
+}
