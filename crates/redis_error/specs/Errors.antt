@@ -1,5 +1,5 @@
 -- What an error of the driver is about, and how its request is tried again.
-use Rattle.std.specs.Prelude.{Bool, true, false}
+use Rattle.std.specs.Prelude.{ℕ, Bool, true, false, List, Option, Some, None}
 use Rattle.redis_error.specs.declared.error_kind.ErrorKind.{ErrorKind}
 use Rattle.redis_error.specs.declared.error_kind.ErrorKind.TheVariants as kind
 use Rattle.resp_value.specs.declared.error_kind.ServerErrorKind.TheVariants as server
@@ -84,3 +84,21 @@ abbrev pub is_dropped : RedisError → Bool
 is_dropped error.Closed = true
 is_dropped (error.Io f) = is_drop f
 is_dropped _ = false
+
+-- the code of a server's error, and what stands behind it
+abbrev pub server_code : RedisError → Option (List ℕ)
+server_code (error.Server e) = Some e.code
+server_code _ = None
+
+abbrev pub server_detail : RedisError → Option (List ℕ)
+server_detail (error.Server e) = e.detail
+server_detail _ = None
+
+abbrev pub is_late_fault : FaultKind → Bool
+is_late_fault fault.TimedOut = true
+is_late_fault _ = false
+
+-- a timer fired before the reply came
+abbrev pub is_late : RedisError → Bool
+is_late (error.Io f) = is_late_fault f
+is_late _ = false

@@ -1,6 +1,6 @@
-ghost use Rattle.std.specs.Prelude.{◌≡◌, IfOk, MatchOption};
-ghost use Rattle.resp_value.specs.ErrorTable.{is_unrecoverable};
-ghost use Rattle.redis_error.specs.Errors.{error_kind, error_method, is_dropped, is_io};
+ghost use Rattle.std.specs.Prelude.{◌≡◌, IfOk, MatchOption, None, Some};
+ghost use Rattle.resp_value.specs.ErrorTable.{needs_new_link};
+ghost use Rattle.redis_error.specs.Errors.{error_kind, error_method, is_dropped, is_io, is_late, server_code, server_detail};
 ghost use Rattle.redis_error.specs.Redirected.{IsRedirected, IsNotRedirected};
 
 use crate::config_name::ConfigName;
@@ -32,7 +32,7 @@ pub enum RedisError {
     #[error("the connection is closed")]
     Closed,
     /// The link failed while this request rested on it, or a timer fired first.
-    #[error("the link failed: {}", .fault.name())]
+    #[error("{}", Fault(*.fault))]
     Io { fault: FaultKind },
     /// No initial node could be reached; `last` is the error of the last try.
     #[error("no initial node could be reached: {}", .last.as_slice().escape_ascii())]
@@ -42,7 +42,7 @@ pub enum RedisError {
     #[error("the reply can not be read")]
     Parse,
     /// This value isn't of the type that is wanted.
-    #[error("the value is of another type")]
+    #[error("the value is of another type: {value:?}")]
     Convert { value: Value },
     /// No link serves the request.
     #[error("no link serves the request")]
@@ -51,7 +51,7 @@ pub enum RedisError {
     #[error(transparent)]
     Server(ServerError),
     /// The server refused commands of a transaction, and so all of it.
-    #[error("the transaction is aborted, {} of its commands are refused", .errors.len())]
+    #[error("the transaction is aborted{}", FirstRefusal(.errors))]
     Aborted { errors: Aborts },
     /// The server refused the credentials, or their source ended before there were any.
     #[error("authentication failed: {}", .text.as_slice().escape_ascii())]
@@ -70,9 +70,59 @@ pub enum RedisError {
     TurnsSpent { turns: u32 },
 }
 
+/// The variant's name, and what the error says.
 impl fmt::Debug for RedisError {
     fn fmt<W: fmt::Write>(&self, f: &mut fmt::Formatter<W>) -> fmt::Result {
-        fmt::Display::fmt(self, f)
+        write!(f, "{}({self})", variant_name(self))
+    }
+}
+
+/// The name of the error's variant.
+fn variant_name(error: &RedisError) -> &'static str {
+    match error {
+        RedisError::Config { .. } => "Config",
+        RedisError::Client => "Client",
+        RedisError::Resp3Required => "Resp3Required",
+        RedisError::EmptyCommand => "EmptyCommand",
+        RedisError::Closed => "Closed",
+        RedisError::Io { .. } => "Io",
+        RedisError::CreateFailed { .. } => "CreateFailed",
+        RedisError::Parse => "Parse",
+        RedisError::Convert { .. } => "Convert",
+        RedisError::NotFound => "NotFound",
+        RedisError::Server(_) => "Server",
+        RedisError::Aborted { .. } => "Aborted",
+        RedisError::AuthFailed { .. } => "AuthFailed",
+        RedisError::Credentials { .. } => "Credentials",
+        RedisError::CrossSlot { .. } => "CrossSlot",
+        RedisError::RouteWithoutLink { .. } => "RouteWithoutLink",
+        RedisError::TurnsSpent { .. } => "TurnsSpent",
+    }
+}
+
+/// A fault as people see it. A reply that is late is no fault of the link.
+#[derive(Clone, Copy)]
+struct Fault(FaultKind);
+
+impl fmt::Display for Fault {
+    fn fmt<W: fmt::Write>(&self, f: &mut fmt::Formatter<W>) -> fmt::Result {
+        match self.0 {
+            FaultKind::TimedOut => write!(f, "the reply did not come in time"),
+            fault => write!(f, "the link failed: {}", fault.name()),
+        }
+    }
+}
+
+/// The first command that was refused, as people see it, with its place.
+#[derive(Clone, Copy)]
+struct FirstRefusal<'a>(&'a Aborts);
+
+impl fmt::Display for FirstRefusal<'_> {
+    fn fmt<W: fmt::Write>(&self, f: &mut fmt::Formatter<W>) -> fmt::Result {
+        match self.0.as_slice().first() {
+            Some((position, error)) => write!(f, ": command {position} was refused: {error}"),
+            None => Ok(()),
+        }
     }
 }
 
@@ -165,7 +215,9 @@ impl RedisError {
 
     /// Where it leads, if it is a redirect of a server.
     pub fn redirect_node(&self) -> Option<Redirection<'_>>
-        ensures { MatchOption result (IsNotRedirected self.now) (λ r. IsRedirected self.now r.slot r.address.now r.ask) }
+        ensures { MatchOption result
+            (IsNotRedirected self.now)
+            (λ r. IsRedirected self.now r.slot r.address.now r.ask) }
     {
         match self {
             RedisError::Server(error) => error.redirect_node(),
@@ -193,8 +245,47 @@ impl RedisError {
 
     /// Whether a link has to be made anew before the request can be tried again.
     pub fn is_unrecoverable_error(&self) -> bool
-        ensures { result ≡ is_unrecoverable (error_method self.now) }
+        ensures { result ≡ needs_new_link (error_method self.now) }
     {
         self.retry_method().is_unrecoverable()
+    }
+
+    /// The code of the server's error, where it is one.
+    pub fn code(&self) -> Option<&[u8]>
+        ensures { MatchOption result
+            (server_code self.now ≡ None)
+            (λ code. server_code self.now ≡ Some code.now) }
+    {
+        match self {
+            RedisError::Server(error) => Some(error.code.as_slice()),
+            _ => None,
+        }
+    }
+
+    /// What the server's error says behind its code, where it is one and says more.
+    pub fn detail(&self) -> Option<&[u8]>
+        ensures { MatchOption result
+            (server_detail self.now ≡ None)
+            (λ detail. server_detail self.now ≡ Some detail.now) }
+    {
+        match self {
+            RedisError::Server(error) => match &error.detail {
+                Some(detail) => Some(detail.as_slice()),
+                None => None,
+            },
+            _ => None,
+        }
+    }
+
+    /// Whether a timer fired before the reply came.
+    pub fn is_timeout(&self) -> bool
+        ensures { result ≡ is_late self.now }
+    {
+        matches!(
+            self,
+            RedisError::Io {
+                fault: FaultKind::TimedOut
+            }
+        )
     }
 }

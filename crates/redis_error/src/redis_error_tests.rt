@@ -57,7 +57,7 @@ const FAULTS: [(FaultKind, RetryMethod, bool, &'static str); 10] = [
         FaultKind::TimedOut,
         RetryMethod::RetryImmediately,
         false,
-        "the link failed: timed-out",
+        "the reply did not come in time",
     ),
     (
         FaultKind::Interrupted,
@@ -320,7 +320,7 @@ fn errors_with_texts_are_told_apart(rt: HostRuntime) -> Result<(), Fail> {
     );
     assert!(rt; holds(alloc, RedisError::Credentials { text }, row)?);
     let value = Value::Boolean(true);
-    let of_another_type = "the value is of another type";
+    let of_another_type = "the value is of another type: boolean(true)";
     let row = plain(
         ErrorKind::UnexpectedReturnType,
         RetryMethod::NoRetry,
@@ -330,7 +330,7 @@ fn errors_with_texts_are_told_apart(rt: HostRuntime) -> Result<(), Fail> {
     let mut errors = Aborts::new(alloc);
     errors.push(1, server_error(alloc, b"ERR")?)?;
     let kind = ErrorKind::Server(ServerErrorKind::ExecAbort);
-    let aborted = "the transaction is aborted, 1 of its commands are refused";
+    let aborted = "the transaction is aborted: command 1 was refused: ERR 7 h:1";
     let row = plain(kind, RetryMethod::NoRetry, aborted);
     assert!(rt; holds(alloc, RedisError::Aborted { errors }, row)?);
     Ok(())
@@ -347,5 +347,21 @@ fn only_server_errors_are_redirects(rt: HostRuntime) -> Result<(), Fail> {
     let other = RedisError::Server(server_error(alloc, b"ERR")?);
     assert!(rt; other.redirect_node().is_none());
     assert!(rt; RedisError::Closed.redirect_node().is_none());
+    Ok(())
+}
+
+#[test]
+fn errors_tell_their_parts(rt: HostRuntime) -> Result<(), Fail> {
+    let alloc = rt.alloc();
+    let server = RedisError::Server(server_error(alloc, b"ERR")?);
+    assert!(rt; matches!(server.code(), Some(code) if code == b"ERR".as_slice()));
+    assert!(rt; matches!(server.detail(), Some(detail) if detail == b"7 h:1".as_slice()));
+    assert!(rt; RedisError::Closed.code().is_none() && RedisError::Closed.detail().is_none());
+    let late = RedisError::Io {
+        fault: FaultKind::TimedOut,
+    };
+    assert!(rt; late.is_timeout() && !RedisError::Closed.is_timeout());
+    let shown = format!(in alloc; "{late:?}")?;
+    assert_eq!(rt; shown.as_str(), "Io(the reply did not come in time)");
     Ok(())
 }

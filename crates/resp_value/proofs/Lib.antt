@@ -1,1 +1,2 @@
+mod Children
 mod Places

@@ -52,12 +52,12 @@ unfoldable pub method_of : List ℕ → RetryMethod
 method_of code = by_code methods NoRetry code
 
 -- no link serves any more: the request itself can't be tried again on it
-abbrev pub is_unrecoverable : RetryMethod → Bool
-is_unrecoverable Reconnect = true
-is_unrecoverable ReconnectFromInitialConnections = true
-is_unrecoverable NoRetry = false
-is_unrecoverable RetryImmediately = false
-is_unrecoverable WaitAndRetry = false
-is_unrecoverable AskRedirect = false
-is_unrecoverable MovedRedirect = false
-is_unrecoverable RefreshSlotsAndRetry = false
+abbrev pub needs_new_link : RetryMethod → Bool
+needs_new_link Reconnect = true
+needs_new_link ReconnectFromInitialConnections = true
+needs_new_link NoRetry = false
+needs_new_link RetryImmediately = false
+needs_new_link WaitAndRetry = false
+needs_new_link AskRedirect = false
+needs_new_link MovedRedirect = false
+needs_new_link RefreshSlotsAndRetry = false

@@ -40,3 +40,18 @@ has_reply PMessage = false
 has_reply SMessage = false
 has_reply Disconnection = false
 has_reply (Other text) = false
+
+-- the name of a kind; that of a disconnection is read from no text
+abbrev pub kind_text : PushKind → List ℕ
+kind_text (Other text) = text
+kind_text Invalidate = codes "invalidate"
+kind_text Message = codes "message"
+kind_text PMessage = codes "pmessage"
+kind_text SMessage = codes "smessage"
+kind_text Unsubscribe = codes "unsubscribe"
+kind_text PUnsubscribe = codes "punsubscribe"
+kind_text SUnsubscribe = codes "sunsubscribe"
+kind_text Subscribe = codes "subscribe"
+kind_text PSubscribe = codes "psubscribe"
+kind_text SSubscribe = codes "ssubscribe"
+kind_text Disconnection = codes "disconnection"

@@ -5,11 +5,15 @@ mod aborts;
 mod error_kind;
 #[cfg(test)]
 mod error_tests;
+mod first_error;
 mod push_kind;
 mod redirect;
 mod retry_method;
+mod same;
 mod server_code;
 mod server_error;
+mod shown;
+mod shown_value;
 #[cfg(test)]
 mod tests;
 mod value;

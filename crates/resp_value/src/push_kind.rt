@@ -1,5 +1,5 @@
 ghost use Rattle.std.specs.Prelude.{◌≡◌, IfOk};
-ghost use Rattle.resp_value.specs.Kinds.{named_kind, kind_of, has_reply};
+ghost use Rattle.resp_value.specs.Kinds.{named_kind, kind_of, kind_text, has_reply};
 
 use containers::Bytes;
 use std::alloc::{AllocError, Global};
@@ -29,6 +29,26 @@ impl PushKind {
         match named(text.as_slice()) {
             Some(kind) => kind,
             None => PushKind::Other(text),
+        }
+    }
+
+    /// The text of the kind.
+    pub fn name(&self) -> &[u8]
+        ensures { result.now ≡ kind_text self.now }
+    {
+        match self {
+            PushKind::Disconnection => b"disconnection",
+            PushKind::Other(text) => text.as_slice(),
+            PushKind::Invalidate => b"invalidate",
+            PushKind::Message => b"message",
+            PushKind::PMessage => b"pmessage",
+            PushKind::SMessage => b"smessage",
+            PushKind::Unsubscribe => b"unsubscribe",
+            PushKind::PUnsubscribe => b"punsubscribe",
+            PushKind::SUnsubscribe => b"sunsubscribe",
+            PushKind::Subscribe => b"subscribe",
+            PushKind::PSubscribe => b"psubscribe",
+            PushKind::SSubscribe => b"ssubscribe",
         }
     }
 

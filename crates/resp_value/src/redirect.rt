@@ -30,7 +30,9 @@ fn is_for_one_command(code: &[u8]) -> Option<bool>
 
 /// The slot and the address of a detail, if it is of this form.
 fn slot_and_address(detail: &[u8]) -> Option<(u16, &[u8])>
-    ensures { MatchOption result (slot_and_address detail.now ≡ None) (λ p. slot_and_address detail.now ≡ Some (p.0, p.1.now)) }
+    ensures { MatchOption result
+        (slot_and_address detail.now ≡ None)
+        (λ p. slot_and_address detail.now ≡ Some (p.0, p.1.now)) }
 {
     if detail.is_empty() || detail[0] == b' ' {
         return None;
@@ -61,7 +63,9 @@ fn place(detail: &[u8]) -> Option<(u16, &[u8])>
 
 /// Where an error leads, if it is a redirect.
 pub fn read_redirection(error: &ServerError) -> Option<Redirection<'_>>
-    ensures { MatchOption result (LeadsNowhere error.now) (λ r. IsRedirect error.now r.slot r.address.now r.ask) }
+    ensures { MatchOption result
+        (LeadsNowhere error.now)
+        (λ r. IsRedirect error.now r.slot r.address.now r.ask) }
 {
     let ask = is_for_one_command(error.code.as_slice())?;
     let Some(detail) = &error.detail else {

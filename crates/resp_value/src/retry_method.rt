@@ -1,5 +1,5 @@
 ghost use Rattle.std.specs.Prelude.{◌≡◌};
-ghost use Rattle.resp_value.specs.ErrorTable.{is_unrecoverable as is_unrecoverable_method};
+ghost use Rattle.resp_value.specs.ErrorTable.{needs_new_link};
 
 /// What is done after an error before the request is tried again, if it is.
 #[derive(Clone, Copy, PartialEq, Eq)]
@@ -17,7 +17,7 @@ pub enum RetryMethod {
 impl RetryMethod {
     /// Whether a link has to be made anew.
     pub fn is_unrecoverable(&self) -> bool
-        ensures { result ≡ is_unrecoverable_method self.now }
+        ensures { result ≡ needs_new_link self.now }
     {
         match self {
             RetryMethod::Reconnect => true,

@@ -32,12 +32,6 @@ impl fmt::Display for Detail<'_> {
     }
 }
 
-impl fmt::Debug for ServerError {
-    fn fmt<W: fmt::Write>(&self, f: &mut fmt::Formatter<W>) -> fmt::Result {
-        fmt::Display::fmt(self, f)
-    }
-}
-
 impl ServerError {
     /// An equal value of its own.
     pub fn clone(&self, alloc: Global) -> Result<ServerError, AllocError>
@@ -69,7 +63,9 @@ impl ServerError {
 
     /// Where it leads, if it is a redirect.
     pub fn redirect_node(&self) -> Option<Redirection<'_>>
-        ensures { MatchOption result (LeadsNowhere self.now) (λ r. IsRedirect self.now r.slot r.address.now r.ask) }
+        ensures { MatchOption result
+            (LeadsNowhere self.now)
+            (λ r. IsRedirect self.now r.slot r.address.now r.ask) }
     {
         read_redirection(self)
     }

@@ -4,6 +4,7 @@ use containers::Bytes;
 use std::alloc::{AllocError, Global};
 use std::marker::Model;
 
+/// Values in order. Contracts see the list of them.
 #[derive(Drop)]
 #[cycle(value)]
 pub struct Values {
@@ -32,6 +33,7 @@ impl Model for Values {
     ghost size_decreases = { λ a h. omega (arith, list_falls a.items.items) };
 }
 
+/// Keys, each with its value, in order. Contracts see the list of them.
 #[derive(Drop)]
 #[cycle(value)]
 pub struct Pairs {
@@ -60,6 +62,7 @@ impl Model for Pairs {
     ghost size_decreases = { λ a h. Prim.grind (arith, pairs_falls a.items.items) };
 }
 
+/// One value, which another holds. Contracts see that value.
 #[derive(Drop)]
 #[cycle(value)]
 pub struct Inner {
@@ -81,6 +84,7 @@ impl Model for Inner {
     ghost size = { weight };
 }
 
+/// A value of RESP, of either protocol.
 #[derive(Drop)]
 #[cycle(value)]
 pub enum Value {
@@ -102,15 +106,30 @@ pub enum Value {
 }
 
 impl Values {
-    ghost use Rattle.std.specs.Prelude.{◌≡◌, ◌≤◌, ◌∷◌, [], ◌++◌, length, take, drop, IfOk, OnOk, OnErr, MatchOption};
+    ghost use Rattle.std.specs.Prelude.{◌≡◌, ◌==◌, ◌≤◌, ◌∷◌, [], ◌++◌, length, take, drop, IfOk, OnOk, OnErr, MatchOption};
     ghost use Rattle.resp_value.specs.View.{data_of, list_view};
 
+    /// No values. Takes no memory.
     pub fn new(alloc: Global) -> Values
         ensures { result ≡ [] }
     {
         Values {
             items: Vec::new(alloc),
         }
+    }
+
+    /// The values of a vector, not copied.
+    pub fn from_vec(items: Vec<Value>) -> Values
+        ensures { result ≡ list_view items.items }
+    {
+        Values { items }
+    }
+
+    /// The vector of the values, not copied. Takes no memory.
+    pub fn into_vec(self) -> Vec<Value>
+        ensures { list_view result.items ≡ self }
+    {
+        self.items
     }
 
     pub fn as_slice(&self) -> &[Value]
@@ -125,6 +144,13 @@ impl Values {
         self.items.len()
     }
 
+    pub fn is_empty(&self) -> bool
+        ensures { result ≡ (length self.now == 0) }
+    {
+        self.items.is_empty()
+    }
+
+    /// One more value at the end. An error leaves the values as they were.
     pub fn push(&mut self, value: Value) -> Result<(), AllocError>
         ensures ok { OnOk result (self.new ≡ self.old ++ data_of value ∷ []) }
         ensures err { OnErr result (self.new ≡ self.old) }
@@ -133,9 +159,11 @@ impl Values {
         Ok(())
     }
 
-    /// The first value, taken out.
+    /// The first value, taken out. The values behind it are moved up, so that a list is taken apart by `into_vec`.
     pub fn pop_front(&mut self) -> Option<Value>
-        ensures { MatchOption result ((self.old ≡ []) × (self.new ≡ [])) (λ v. self.old ≡ data_of v ∷ self.new) }
+        ensures { MatchOption result
+            ((self.old ≡ []) × (self.new ≡ []))
+            (λ v. self.old ≡ data_of v ∷ self.new) }
     {
         if self.items.is_empty() {
             None
@@ -168,9 +196,10 @@ impl Values {
 }
 
 impl Pairs {
-    ghost use Rattle.std.specs.Prelude.{◌≡◌, ◌∷◌, [], ◌++◌, length, IfOk, OnOk, OnErr};
+    ghost use Rattle.std.specs.Prelude.{◌≡◌, ◌==◌, ◌∷◌, [], ◌++◌, length, IfOk, OnOk, OnErr};
     ghost use Rattle.resp_value.specs.View.{data_of, pairs_view};
 
+    /// No pairs. Takes no memory.
     pub fn new(alloc: Global) -> Pairs
         ensures { result ≡ [] }
     {
@@ -179,12 +208,40 @@ impl Pairs {
         }
     }
 
+    /// The pairs of a vector, not copied.
+    pub fn from_vec(items: Vec<(Value, Value)>) -> Pairs
+        ensures { result ≡ pairs_view items.items }
+    {
+        Pairs { items }
+    }
+
+    /// The vector of the pairs, not copied. Takes no memory.
+    pub fn into_vec(self) -> Vec<(Value, Value)>
+        ensures { pairs_view result.items ≡ self }
+    {
+        self.items
+    }
+
     pub fn as_slice(&self) -> &[(Value, Value)]
         ensures { pairs_view result.now ≡ self.now }
     {
         self.items.as_slice()
     }
 
+    /// How many pairs there are.
+    pub fn len(&self) -> usize
+        ensures { result ≡ length self.now }
+    {
+        self.items.len()
+    }
+
+    pub fn is_empty(&self) -> bool
+        ensures { result ≡ (length self.now == 0) }
+    {
+        self.items.is_empty()
+    }
+
+    /// One more pair at the end. An error leaves the pairs as they were.
     pub fn push(&mut self, key: Value, value: Value) -> Result<(), AllocError>
         ensures ok { OnOk result (self.new ≡ self.old ++ (data_of key, data_of value) ∷ []) }
         ensures err { OnErr result (self.new ≡ self.old) }
@@ -223,6 +280,13 @@ impl Inner {
         ensures { data_of result.now ≡ self.now }
     {
         &self.value
+    }
+
+    /// The value, not copied. Takes no memory.
+    pub fn into_value(self) -> Value
+        ensures { data_of result ≡ self }
+    {
+        Box::into_inner(self.value)
     }
 }
 
