@@ -4,7 +4,7 @@
 ghost use Rattle.std.specs.Prelude.{◌≡◌, ℕ, List};
 ghost use Rattle.std.specs.List.{All};
 ghost use Rattle.resp_value.specs.Kinds.{kind_of, has_reply};
-ghost use Rattle.resp_value.specs.ErrorTable.{is_unrecoverable};
+ghost use Rattle.resp_value.specs.ErrorTable.{needs_new_link};
 ghost use Rattle.resp_value.specs.Redirect.{LeadsNowhere};
 ghost use Rattle.resp_read.specs.Reads.{IsProperPrefix, IsMalformed};
 ghost use Rattle.resp_write.specs.Canonical.{canonical, kind_text};
@@ -88,7 +88,7 @@ pub fn errors_tell_how_to_go_on()
     ensures driver { Gives told_by_error errors_of_the_driver }
     ensures faults { Gives told_by_error faults }
     ensures ends { Gives told_of_links ends_of_links }
-    ensures unrecoverable { Gives is_unrecoverable unrecoverable_methods }
+    ensures unrecoverable { Gives needs_new_link unrecoverable_methods }
 {}
 
 /// Does nothing. Its contract: where these errors lead, and that others lead nowhere.

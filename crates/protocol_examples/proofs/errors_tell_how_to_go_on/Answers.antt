@@ -1,5 +1,5 @@
 use Rattle.std.proofs.Common.{refl}
-use Rattle.resp_value.specs.ErrorTable.{kind_of, method_of, is_unrecoverable}
+use Rattle.resp_value.specs.ErrorTable.{kind_of, method_of, needs_new_link}
 use Rattle.protocol_examples.specs.Errors.{told_by_code, codes_of_errors, other_codes, told_by_error, errors_of_the_driver, faults, told_of_links, ends_of_links, unrecoverable_methods}
 use Rattle.protocol_examples.proofs.Computed.{gives}
 use Rattle.protocol_examples.proofs.Others.{tells_nothing}
@@ -14,5 +14,5 @@ returns c = record {
   driver = gives told_by_error errors_of_the_driver refl;
   faults = gives told_by_error faults refl;
   ends = gives told_of_links ends_of_links refl;
-  unrecoverable = gives is_unrecoverable unrecoverable_methods refl;
+  unrecoverable = gives needs_new_link unrecoverable_methods refl;
 }
