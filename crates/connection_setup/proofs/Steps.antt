@@ -1,18 +1,15 @@
 -- The steps of a setup, one part after another.
 use Rattle.std.proofs.Common.{◌≡◌, ◌≢◌, refl, sym, ap, ◌∙◌, ℕ, Bool, true, false, ℤ, pos, negsuc, zero, suc, List, [], ◌∷◌, ◌++◌, map, Option, Some, None}
-use Rattle.std.specs.Prelude.{⊤}
-use Rattle.resp_value.specs.Data.{Data, nil, int, bulk, array, simple, okay, dict, attribute, set, double, boolean, verbatim, big, push, error}
-use Rattle.resp_write.specs.Command.{Command, CommandList}
+use Rattle.resp_value.specs.Data.{Data, error}
+use Rattle.resp_write.specs.Command.{CommandList}
 use Rattle.resp_write.specs.Pack.{commands_of}
-use Rattle.connection_info.specs.declared.address.RedisConnectionInfo.{RedisConnectionInfo}
 use Rattle.connection_info.specs.declared.protocol.ProtocolVersion.{ProtocolVersion}
 use Rattle.connection_info.specs.declared.protocol.ProtocolVersion.TheVariants.{RESP2, RESP3}
-use Rattle.connection_setup.specs.declared.meaning.Meaning.{Meaning}
 use Rattle.connection_setup.specs.declared.meaning.Meaning.TheVariants.{Choice, Library}
 use Rattle.connection_setup.specs.declared.judgement.SetupResult.{SetupResult}
 use Rattle.connection_setup.specs.declared.judgement.SetupResult.TheVariants.{Ready, RepeatWithoutUser, Failed, NoMemory}
-use Rattle.connection_setup.specs.Setup.{Step, choices, first_meaning, library, opening, selection, with_steps}
-use Rattle.connection_setup.specs.Judgement.{judged, judged_first, judged_reply, unless_ready, IsFailed, Tells}
+use Rattle.connection_setup.specs.Setup.{Step, first_meaning, library, opening, selection, with_steps}
+use Rattle.connection_setup.specs.Judgement.{judged, judged_first, judged_reply, unless_ready, Tells}
 
 append_assoc : {T : Type 0} → (a b c : List T) → (a ++ b) ++ c ≡ a ++ (b ++ c)
 append_assoc [] b c = refl
