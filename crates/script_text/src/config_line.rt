@@ -1,6 +1,7 @@
 ghost use Rattle.std.specs.Prelude.{◌≡◌, MatchOption, Some, None, IfOk};
 ghost use Rattle.std.specs.List.{list_all};
-ghost use Rattle.script_text.specs.ConfigLine.{keys, is_setting, value_of, values, only, gives, is_host, address, single, config_of};
+ghost use Rattle.script_text.specs.ConfigLine.{keys, is_setting, value_of, values, only, gives};
+ghost use Rattle.script_text.specs.ConfigLine.{is_host, address, single, config_of};
 
 use crate::line::Line;
 use crate::number::number_u16;

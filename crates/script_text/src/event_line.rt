@@ -1,7 +1,11 @@
 ghost use Rattle.std.specs.Prelude.{◌≡◌, ◌∷◌, [], ℕ, List, drop, option_map, MatchOption, IfOk, Some, None};
-ghost use Rattle.driver_model.specs.declared.event.EventKind.TheVariants.{Submit, Cancel, Connected, Ended, ReadFault, WriteFault, Shutdown};
+ghost use Rattle.driver_model.specs.declared.event.EventKind.TheVariants.{Submit, Cancel, Connected};
+ghost use Rattle.driver_model.specs.declared.event.EventKind.TheVariants.{Ended, Shutdown};
+ghost use Rattle.driver_model.specs.declared.event.EventKind.TheVariants.{ReadFault, WriteFault};
 ghost use Rattle.driver_model.specs.declared.event.Submission.TheVariants.{Cmd, NoReply, Packed};
-ghost use Rattle.script_text.specs.EventLine.{by_first, whole, numbered, wrote, came, alone, faults, fault_among, failed, commands, packed, submissions, others, events, event_of};
+ghost use Rattle.script_text.specs.EventLine.{by_first, whole, numbered, wrote, came, alone, faults};
+ghost use Rattle.script_text.specs.EventLine.{fault_among, failed, commands, packed, submissions};
+ghost use Rattle.script_text.specs.EventLine.{others, events, event_of};
 
 use crate::line::Line;
 use crate::number::{number_u32, number_u64};

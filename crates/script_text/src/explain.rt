@@ -1,5 +1,5 @@
-ghost use Rattle.std.specs.Prelude.{◌≡◌, ◌++◌, [], flat_map, take, length, is_some, is_none, option_and_then, OnOk, IfOk, IfSome};
-ghost use Rattle.std.specs.Prelude.{bytes_eq, if◌then◌else◌};
+ghost use Rattle.std.specs.Prelude.{◌≡◌, ◌++◌, [], flat_map, take, length, is_some, is_none};
+ghost use Rattle.std.specs.Prelude.{option_and_then, bytes_eq, if◌then◌else◌, OnOk, IfOk, IfSome};
 ghost use Rattle.script_text.specs.ConfigLine.{config_of};
 ghost use Rattle.script_text.specs.EventLine.{event_of};
 ghost use Rattle.script_text.specs.Faults.{FindsFault, IsVisible, ends_in_return, is_visible, visible_byte};
@@ -90,8 +90,8 @@ fn later_line_fault(alloc: Global, line: &[u8]) -> Result<Option<Fault>, AllocEr
 
 /// The fault of a line at fault: where the line ends in CR, that.
 fn or_return(line: &[u8], fault: Fault) -> Fault
-    ensures { result.reason
-        ≡ (if ends_in_return line.now then Reason.Line LineReason.CarriageReturn else fault.reason) }
+    ensures { result.reason ≡ (if ends_in_return line.now
+        then Reason.Line LineReason.CarriageReturn else fault.reason) }
 {
     match line.last() {
         Some(13) => Fault {
@@ -253,8 +253,8 @@ pub fn visible(alloc: Global, said: &[u8]) -> Result<Bytes, AllocError>
     Ok(text)
 }
 
-/// What is wrong with a line of a text, its number counted from 1: the line up to the fault, of a long one its last bytes,
-/// and a sentence that says what is allowed.
+/// What is wrong with a line of a text, its number counted from 1: the line up to the fault, of a long one its last
+/// bytes, and a sentence that says what is allowed. Each byte outside of 0x20 to 0x7E is escaped.
 pub fn explain_line(alloc: Global, text: &[u8], number: u32) -> Result<Bytes, AllocError>
     ensures { IfOk result IsVisible }
 {

@@ -5,8 +5,8 @@ ghost use Rattle.script_text.specs.Numbers.{number, max_u32, max_u64};
 use crate::number::{number_u32, number_u64};
 use crate::reason::{EventReason, Reason};
 
-/// Where a line is at fault, and why. Its parts stand between spaces, and are counted from 0; where it has no such part, the
-/// fault stands behind the last.
+/// Where a line is at fault, and why. Its parts stand between spaces, and are counted from 0; where it has no such
+/// part, the fault stands behind the last.
 #[derive(Clone, Copy)]
 pub struct Fault {
     pub reason: Reason,

@@ -10,55 +10,55 @@ const CONFIG: &[u8] = b"config single url=redis://h:6379 connect=none response=n
 /// First lines of scripts, and the notes on them.
 const FIRST_LINES: [(&[u8], &[u8]); 13] = [
     (
-        b"end",
+        b"end\n",
         b"line 1: end: the first line is config single url=redis://HOST:PORT connect=none response=none lib=off\n",
     ),
     (
-        b"config manager url=redis://h:6379 connect=none response=none lib=off",
+        b"config manager url=redis://h:6379 connect=none response=none lib=off\n",
         b"line 1: config manager: only single is supported yet\n",
     ),
     (
-        b"config single url=redis://h:6379 connect=5s response=none lib=off",
+        b"config single url=redis://h:6379 connect=5s response=none lib=off\n",
         b"line 1: config single url=redis://h:6379 connect=5s: only none is supported yet\n",
     ),
     (
-        b"config single url=redis://h:6379 connect=none response=5s lib=off",
+        b"config single url=redis://h:6379 connect=none response=5s lib=off\n",
         b"line 1: config single url=redis://h:6379 connect=none response=5s: only none is supported yet\n",
     ),
     (
-        b"config single url=redis://h:6379 connect=none response=none lib=on",
+        b"config single url=redis://h:6379 connect=none response=none lib=on\n",
         b"line 1: .. single url=redis://h:6379 connect=none response=none lib=on: only off is supported yet\n",
     ),
     (
-        b"config single url=redis://h:6379 conect=none response=none lib=off",
+        b"config single url=redis://h:6379 conect=none response=none lib=off\n",
         b"line 1: config single url=redis://h:6379 conect=none: the keys are url, connect, response and lib\n",
     ),
     (
-        b"config single url=redis://h:6379 connect response=none lib=off",
+        b"config single url=redis://h:6379 connect response=none lib=off\n",
         b"line 1: config single url=redis://h:6379 connect: a setting is KEY=VALUE, with url, connect, response or lib\n",
     ),
     (
-        b"config single url=redis://h:6379 connect=none connect=none response=none lib=off",
+        b"config single url=redis://h:6379 connect=none connect=none response=none lib=off\n",
         b"line 1: config single url=redis://h:6379 connect=none connect=none: each key stands once\n",
     ),
     (
-        b"config single url=redis://h:6379 response=none lib=off",
+        b"config single url=redis://h:6379 response=none lib=off\n",
         b"line 1: config single url=redis://h:6379 response=none lib=off: each of url, connect, response and lib stands once\n",
     ),
     (
-        b"config single url=redis://H:6379 connect=none response=none lib=off",
+        b"config single url=redis://H:6379 connect=none response=none lib=off\n",
         b"line 1: config single url=redis://H:6379: url is redis://HOST:PORT, HOST of a-z, 0-9, . and -, PORT at most 65535\n",
     ),
     (
-        b"config single url=redis://h:6379 ; connect=none response=none lib=off",
+        b"config single url=redis://h:6379 ; connect=none response=none lib=off\n",
         b"line 1: config single url=redis://h:6379 ;: ; separates commands in pipe, multi and packed alone, and %3B is an argument ;\n",
     ),
     (
-        b"config single url=redis://h:6379 connect=none response=none lib=off\r",
+        b"config single url=redis://h:6379 connect=none response=none lib=off\r\n",
         b"line 1: ..ingle url=redis://h:6379 connect=none response=none lib=off%0D: this line ends in CR LF: lines end in LF alone\n",
     ),
     (
-        b"",
+        b"\n",
         b"line 1: this line is empty: a line has words, one space between two\n",
     ),
 ];
@@ -66,144 +66,144 @@ const FIRST_LINES: [(&[u8], &[u8]); 13] = [
 /// Second lines of scripts, and the notes on them.
 const LATER_LINES: [(&[u8], &[u8]); 36] = [
     (
-        b"",
+        b"\n",
         b"line 2: this line is empty: a line has words, one space between two\n",
     ),
     (
-        b"submit  cmd GET a",
+        b"submit  cmd GET a\n",
         b"line 2: submit : one space stands between two words, and none before or behind\n",
     ),
     (
-        b" cancel 0",
+        b" cancel 0\n",
         b"line 2: one space stands between two words, and none before or behind\n",
     ),
     (
-        b"cancel 0 ",
+        b"cancel 0 \n",
         b"line 2: cancel 0 : one space stands between two words, and none before or behind\n",
     ),
     (
-        b"bytes 0 +x%0",
+        b"bytes 0 +x%0\n",
         b"line 2: bytes 0 +x%0: two hexadecimal digits stand behind %, and %- alone is the empty word\n",
     ),
     (
-        b"bytes 0 %zz",
+        b"bytes 0 %zz\n",
         b"line 2: bytes 0 %zz: two hexadecimal digits stand behind %, and %- alone is the empty word\n",
     ),
     (
-        b"connected 0\r",
+        b"connected 0\r\n",
         b"line 2: connected 0%0D: this line ends in CR LF: lines end in LF alone\n",
     ),
     (
-        b"submit cmd GET ; a",
+        b"submit cmd GET ; a\n",
         b"line 2: submit cmd GET ;: ; separates commands in pipe, multi and packed alone, and %3B is an argument ;\n",
     ),
     (
-        b"submit noreply GET ; a",
+        b"submit noreply GET ; a\n",
         b"line 2: submit noreply GET ;: ; separates commands in pipe, multi and packed alone, and %3B is an argument ;\n",
     ),
     (
-        b"cancel 0 ; 1",
+        b"cancel 0 ; 1\n",
         b"line 2: cancel 0 ;: ; separates commands in pipe, multi and packed alone, and %3B is an argument ;\n",
     ),
     (
-        b"subscribe a",
+        b"subscribe a\n",
         b"line 2: subscribe: an event is submit, cancel, connected, wrote, bytes, ended, read-fault, write-fault or shutdown, and the last line is end\n",
     ),
     (
-        b"; a",
+        b"; a\n",
         b"line 2: ;: an event is submit, cancel, connected, wrote, bytes, ended, read-fault, write-fault or shutdown, and the last line is end\n",
     ),
     (
-        b"submit get a",
+        b"submit get a\n",
         b"line 2: submit get: submit takes cmd, noreply, pipe, multi or packed\n",
     ),
     (
-        b"submit",
+        b"submit\n",
         b"line 2: submit: submit takes cmd, noreply, pipe, multi or packed\n",
     ),
     (
-        b"submit packed 1",
+        b"submit packed 1\n",
         b"line 2: submit packed 1: this event is submit packed OFFSET COUNT ARG..\n",
     ),
     (
-        b"submit packed -1 1 PING",
+        b"submit packed -1 1 PING\n",
         b"line 2: submit packed -1: a number has digits alone, no leading zero, and is at most 4294967295\n",
     ),
     (
-        b"submit packed 0 01 PING",
+        b"submit packed 0 01 PING\n",
         b"line 2: submit packed 0 01: a number has digits alone, no leading zero, and is at most 4294967295\n",
     ),
     (
-        b"cancel",
+        b"cancel\n",
         b"line 2: cancel: this event is cancel SUBMISSION\n",
     ),
     (
-        b"cancel 0 1",
+        b"cancel 0 1\n",
         b"line 2: cancel 0 1: this event is cancel SUBMISSION\n",
     ),
     (
-        b"connected 4294967296",
+        b"connected 4294967296\n",
         b"line 2: connected 4294967296: a number has digits alone, no leading zero, and is at most 4294967295\n",
     ),
     (
-        b"connected",
+        b"connected\n",
         b"line 2: connected: this event is connected LINK\n",
     ),
     (
-        b"wrote 0",
+        b"wrote 0\n",
         b"line 2: wrote 0: this event is wrote LINK COUNT\n",
     ),
     (
-        b"wrote 0 1 2",
+        b"wrote 0 1 2\n",
         b"line 2: wrote 0 1 2: this event is wrote LINK COUNT\n",
     ),
     (
-        b"wrote x 1",
+        b"wrote x 1\n",
         b"line 2: wrote x: a number has digits alone, no leading zero, and is at most 4294967295\n",
     ),
     (
-        b"wrote 0 18446744073709551616",
+        b"wrote 0 18446744073709551616\n",
         b"line 2: wrote 0 18446744073709551616: a number has digits alone, no leading zero, and is at most 18446744073709551615\n",
     ),
     (
-        b"bytes 0",
+        b"bytes 0\n",
         b"line 2: bytes 0: this event is bytes LINK BYTES\n",
     ),
     (
-        b"bytes a b",
+        b"bytes a b\n",
         b"line 2: bytes a: a number has digits alone, no leading zero, and is at most 4294967295\n",
     ),
-    (b"ended", b"line 2: ended: this event is ended LINK\n"),
+    (b"ended\n", b"line 2: ended: this event is ended LINK\n"),
     (
-        b"read-fault 0",
+        b"read-fault 0\n",
         b"line 2: read-fault 0: this event is read-fault LINK KIND\n",
     ),
     (
-        b"read-fault 0 gone",
+        b"read-fault 0 gone\n",
         b"line 2: read-fault 0 gone: a fault is refused, reset, aborted, not-connected, broken-pipe, eof, timed-out, interrupted, denied or other\n",
     ),
     (
-        b"read-fault a reset",
+        b"read-fault a reset\n",
         b"line 2: read-fault a: a number has digits alone, no leading zero, and is at most 4294967295\n",
     ),
     (
-        b"write-fault 0",
+        b"write-fault 0\n",
         b"line 2: write-fault 0: this event is write-fault LINK KIND\n",
     ),
     (
-        b"write-fault 0 gone away",
+        b"write-fault 0 gone away\n",
         b"line 2: write-fault 0 gone away: this event is write-fault LINK KIND\n",
     ),
     (
-        b"shutdown now",
+        b"shutdown now\n",
         b"line 2: shutdown now: this event is shutdown alone\n",
     ),
     (
-        b"connected \x1b[31m0",
+        b"connected \x1b[31m0\n",
         b"line 2: connected %1B[31m0: a number has digits alone, no leading zero, and is at most 4294967295\n",
     ),
     (
-        b"connected \x7f\xc3",
+        b"connected \x7f\xc3\n",
         b"line 2: connected %7F%C3: a number has digits alone, no leading zero, and is at most 4294967295\n",
     ),
 ];
@@ -311,26 +311,18 @@ fn noted(alloc: Global, script: &[u8]) -> Result<(u8, MemSink), AllocError> {
     Ok((status.number(), notes))
 }
 
-/// A front, a line without its LF, and a last line.
-fn script_of(alloc: Global, front: &[u8], lines: &[u8]) -> Result<Bytes, AllocError> {
+/// The same of a front, lines and a last line.
+fn noted_behind(alloc: Global, front: &[u8], lines: &[u8]) -> Result<(u8, MemSink), AllocError> {
     let mut text = Bytes::from_slice(alloc, front)?;
     text.extend_from_slice(lines)?;
     text.extend_from_slice(b"end\n")?;
-    Ok(text)
-}
-
-fn line_of(alloc: Global, line: &[u8]) -> Result<Bytes, AllocError> {
-    let mut text = Bytes::from_slice(alloc, line)?;
-    text.push(b'\n')?;
-    Ok(text)
+    noted(alloc, text.as_slice())
 }
 
 #[test]
 fn a_first_line_at_fault_is_explained(rt: HostRuntime) -> Result<(), Fail> {
     for (line, note) in FIRST_LINES {
-        let line = line_of(rt.alloc(), line)?;
-        let script = script_of(rt.alloc(), line.as_slice(), b"")?;
-        let (status, notes) = noted(rt.alloc(), script.as_slice())?;
+        let (status, notes) = noted_behind(rt.alloc(), b"", line)?;
         assert_eq!(rt; status, 2);
         assert_eq!(rt; notes.as_slice(), note);
     }
@@ -340,9 +332,7 @@ fn a_first_line_at_fault_is_explained(rt: HostRuntime) -> Result<(), Fail> {
 #[test]
 fn a_later_line_at_fault_is_explained(rt: HostRuntime) -> Result<(), Fail> {
     for (line, note) in LATER_LINES {
-        let line = line_of(rt.alloc(), line)?;
-        let script = script_of(rt.alloc(), CONFIG, line.as_slice())?;
-        let (status, notes) = noted(rt.alloc(), script.as_slice())?;
+        let (status, notes) = noted_behind(rt.alloc(), CONFIG, line)?;
         assert_eq!(rt; status, 2);
         assert_eq!(rt; notes.as_slice(), note);
     }
@@ -362,8 +352,7 @@ fn a_text_without_an_end_is_explained(rt: HostRuntime) -> Result<(), Fail> {
 #[test]
 fn a_bad_event_is_explained(rt: HostRuntime) -> Result<(), Fail> {
     for (events, note) in BAD_EVENTS {
-        let script = script_of(rt.alloc(), CONFIG, events)?;
-        let (status, notes) = noted(rt.alloc(), script.as_slice())?;
+        let (status, notes) = noted_behind(rt.alloc(), CONFIG, events)?;
         assert_eq!(rt; status, 4);
         assert_eq!(rt; notes.as_slice(), note);
     }
@@ -373,22 +362,21 @@ fn a_bad_event_is_explained(rt: HostRuntime) -> Result<(), Fail> {
 #[test]
 fn what_is_open_is_counted(rt: HostRuntime) -> Result<(), Fail> {
     for (events, note) in OPEN {
-        let script = script_of(rt.alloc(), CONFIG, events)?;
-        let (status, notes) = noted(rt.alloc(), script.as_slice())?;
+        let (status, notes) = noted_behind(rt.alloc(), CONFIG, events)?;
         assert_eq!(rt; status, 0);
         assert_eq!(rt; notes.as_slice(), note);
     }
     Ok(())
 }
 
-/// A line of so many bytes, its LF not counted.
-fn long_line(alloc: Global, length: u32) -> Result<Bytes, AllocError> {
+/// The status and the notes of a script with a line of so many bytes, its LF not counted.
+fn noted_long(alloc: Global, length: u32) -> Result<(u8, MemSink), AllocError> {
     let mut line = Bytes::new(alloc);
     for _ in 0..length {
         line.push(b'a')?;
     }
     line.push(b'\n')?;
-    Ok(line)
+    noted_behind(alloc, CONFIG, line.as_slice())
 }
 
 /// Lines of `a` alone, by their lengths, and the notes on them.
@@ -410,9 +398,7 @@ const LONG: [(u32, &[u8]); 3] = [
 #[test]
 fn a_long_line_is_cut_in_its_note(rt: HostRuntime) -> Result<(), Fail> {
     for (length, note) in LONG {
-        let line = long_line(rt.alloc(), length)?;
-        let script = script_of(rt.alloc(), CONFIG, line.as_slice())?;
-        let (status, notes) = noted(rt.alloc(), script.as_slice())?;
+        let (status, notes) = noted_long(rt.alloc(), length)?;
         assert_eq!(rt; status, 2);
         assert_eq!(rt; notes.as_slice(), note);
     }

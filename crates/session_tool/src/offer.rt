@@ -11,8 +11,8 @@ use driver_model::{Action, Cause, EventKind, LinkNews};
 /// The number of the first link.
 const FIRST_LINK: u32 = 0;
 
-/// What actions tell of links: how many were asked for, up to two, and of the first whether it is up, whether it has ended,
-/// and how many bytes are offered to it.
+/// What actions tell of links: how many were asked for, up to two, and of the first whether it is up, whether it has
+/// ended, and how many bytes are offered to it.
 #[derive(Clone, Copy)]
 pub struct Offer {
     links: u8,
@@ -37,7 +37,8 @@ impl Offer {
     /// After news of the first link.
     fn after_news(self, news: LinkNews<'_>) -> Offer
         ensures links { result.links ≡ self.links }
-        ensures first { (l : Ledger) → IsOfferIn self l → IsOfferIn result (with_news l (told news.entry)) }
+        ensures first { (l : Ledger) → IsOfferIn self l
+            → IsOfferIn result (with_news l (told news.entry)) }
     {
         match news {
             LinkNews::Connected => {
@@ -63,7 +64,8 @@ impl Offer {
 
     /// After one more link was asked for.
     fn with_link(self) -> Offer
-        ensures { (b : Book) → IsOfferOf self b → IsOfferOf result (record b { links = b.links + 1 }) }
+        ensures { (b : Book) → IsOfferOf self b
+            → IsOfferOf result (record b { links = b.links + 1 }) }
     {
         if self.links < 2 {
             Offer {

@@ -1,6 +1,8 @@
-ghost use Rattle.std.specs.Prelude.{◌≡◌, ◌⊎◌, ℕ, ◌+◌, ◌≤◌, ◌++◌, [], ◌∷◌, length, true, false, OnOk, OnErr, IfOk, IfErr, IfSome, IsErrOf};
+ghost use Rattle.std.specs.Prelude.{◌≡◌, ◌⊎◌, ℕ, ◌+◌, ◌≤◌, ◌++◌, [], ◌∷◌, length, true, false};
+ghost use Rattle.std.specs.Prelude.{OnOk, OnErr, IfOk, IfErr, IfSome, IsErrOf};
 ghost use Rattle.outside.specs.Ends.{Rose};
-ghost use Rattle.shared_session.specs.Replay.{opening_actions, state_after, trace_of, is_bad_after, is_spent_after, AreGood, AreUnspent};
+ghost use Rattle.shared_session.specs.Replay.{opening_actions, state_after, trace_of};
+ghost use Rattle.shared_session.specs.Replay.{is_bad_after, is_spent_after, AreGood, AreUnspent};
 ghost use Rattle.shared_session.specs.Turn.{actions_of};
 ghost use Rattle.shared_session.specs.declared.session.Failure.TheVariants.{Sound, Spent};
 ghost use Rattle.shared_session.specs.Stops.{IsSpentBy};
@@ -107,8 +109,8 @@ fn take_turn(
     Ok(())
 }
 
-/// Replays a history into a sink. What of the trace is not written yet is left in the text. It says how many submissions
-/// are open then, unless memory was refused for that.
+/// Replays a history into a sink. What of the trace is not written yet is left in the text. It says how many
+/// submissions are open then, unless memory was refused for that.
 pub fn replay_into<K: Sink>(
     alloc: Global,
     config: &Config,
