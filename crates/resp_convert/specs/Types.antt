@@ -1,10 +1,15 @@
 -- Which values are what of each type.
-use Rattle.std.specs.Prelude.{◌≡◌, ℕ, ℤ, Vec, pos, Bool, List, [], ◌∷◌, Option, Some, None, codes, if◌then◌else◌}
+use Rattle.std.specs.Prelude.{◌≡◌, ℕ, ◌<◌, ◌^◌, ℤ, pos, Bool, List, [], ◌∷◌, Option, Some, None, codes, if◌then◌else◌}
+use mir.Syntax.{Width}
+use mir.Val.{SFits}
 use Rattle.std.specs.Str.{IsUtf8}
-use Rattle.std.specs.Str.Parse.{IsNumeral, without_leading_sign, signed_digits_value}
-use mir.Syntax.{w64}
-use mir.Val.{SFits as FitsSigned}
-use Rattle.resp_value.specs.Data.{Data, nil, int, bulk, array, simple, okay, set, boolean, verbatim, error, list_of}
+use Rattle.std.specs.Str.Parse.{IsNumeral, without_leading_plus, without_leading_sign, digits_value, signed_digits_value}
+use Rattle.resp_value.specs.Data.{Data, nil, int, bulk, array, simple, okay, attribute, set, boolean, verbatim, error, list_of}
+
+-- a value without the attributes that stand before it
+abbrev pub bare : Data → Data
+bare (attribute d ms) = bare d
+bare d = d
 
 -- the text of a value that is one
 abbrev pub text_of : Data → Option (List ℕ)
@@ -16,23 +21,43 @@ text_of _ = None
 
 -- a text of these bytes
 abbrev pub IsText : Data → List ℕ → Type 0
-IsText d bytes = text_of d ≡ Some bytes
+IsText d bytes = text_of (bare d) ≡ Some bytes
 
 -- a text of these bytes, which are UTF-8
 abbrev pub IsUnicode : Data → List ℕ → Type 0
 IsUnicode d bytes = IsText d bytes × IsUtf8 bytes
 
--- decimal digits, one at least, with a sign or without, of a number of 64 bits
+-- decimal digits, one at least, with a sign or without, of this number
 abbrev pub IsDecimal : List ℕ → ℤ → Type 0
-IsDecimal text n = IsNumeral 10 (without_leading_sign text) × FitsSigned w64 (signed_digits_value 10 text) × (n ≡ signed_digits_value 10 text)
+IsDecimal text n = IsNumeral 10 (without_leading_sign text) × (n ≡ signed_digits_value 10 text)
+
+-- decimal digits, one at least, with a plus or without, of this number
+abbrev pub IsPlainDecimal : List ℕ → ℕ → Type 0
+IsPlainDecimal text n = IsNumeral 10 (without_leading_plus text) × (n ≡ digits_value 10 (without_leading_plus text))
 
 -- a number, or a text that is one in decimal
-abbrev pub IsInteger : Data → ℤ → Type 0
-IsInteger (int m) n = n ≡ m
-IsInteger (bulk text) n = IsDecimal text n
-IsInteger (simple text) n = IsDecimal text n
-IsInteger (verbatim format text) n = IsDecimal text n
-IsInteger _ n = ⊥
+abbrev pub IsNumber : Data → ℤ → Type 0
+IsNumber (int m) n = n ≡ m
+IsNumber (bulk text) n = IsDecimal text n
+IsNumber (simple text) n = IsDecimal text n
+IsNumber (verbatim format text) n = IsDecimal text n
+IsNumber _ n = ⊥
+
+-- the same of a number that is not below 0
+abbrev pub IsCount : Data → ℕ → Type 0
+IsCount (int m) n = m ≡ pos n
+IsCount (bulk text) n = IsPlainDecimal text n
+IsCount (simple text) n = IsPlainDecimal text n
+IsCount (verbatim format text) n = IsPlainDecimal text n
+IsCount _ n = ⊥
+
+-- a number that fits a type of this width, with a sign
+abbrev pub IsInteger : Width → Data → ℤ → Type 0
+IsInteger width d n = SFits width n × IsNumber (bare d) n
+
+-- a number that fits a type of so many bits, without a sign
+abbrev pub IsNatural : ℕ → Data → ℕ → Type 0
+IsNatural bits d n = (n < 2 ^ bits) × IsCount (bare d) n
 
 -- a truth value, or the number 0 or 1
 abbrev pub IsTruth : Data → Bool → Type 0
@@ -46,25 +71,34 @@ IsOptional reads nil o = o ≡ None
 IsOptional reads d None = ⊥
 IsOptional reads d (Some x) = reads d x
 
--- each value is what stands at its place
-abbrev pub IsEach : {S : Type 0} → (Data → S → Type 0) → List Data → List S → Type 0
+-- each is what stands at its place
+abbrev pub IsEach : {A S : Type 0} → (A → S → Type 0) → List A → List S → Type 0
 IsEach reads [] [] = Unit {0}
 IsEach reads [] (x ∷ xs) = ⊥
 IsEach reads (d ∷ ds) [] = ⊥
 IsEach reads (d ∷ ds) (x ∷ xs) = reads d x × IsEach reads ds xs
 
+-- the items of an array or a set
+abbrev pub items_in : Data → Option (List Data)
+items_in (array ds) = Some (list_of ds)
+items_in (set ds) = Some (list_of ds)
+items_in _ = None
+
+-- the same of items that are there
+abbrev pub IsEachOf : {A S : Type 0} → (A → S → Type 0) → Option (List A) → List S → Type 0
+IsEachOf reads None xs = ⊥
+IsEachOf reads (Some ds) xs = IsEach reads ds xs
+
 -- an array or a set of such values
 abbrev pub IsList : {S : Type 0} → (Data → S → Type 0) → Data → List S → Type 0
-IsList reads (array ds) xs = IsEach reads (list_of ds) xs
-IsList reads (set ds) xs = IsEach reads (list_of ds) xs
-IsList reads _ xs = ⊥
+IsList reads d xs = IsEachOf reads (items_in (bare d)) xs
 
 -- anything but a server error
 abbrev pub IsDone : Data → Type 0
 IsDone (error e) = ⊥
 IsDone _ = Unit {0}
 
--- what each of the values is, or that some value is nothing of the type
-abbrev pub IsReadEach : {S Z : Type 0} → (Data → S → Type 0) → List Data → Option (Vec S Z) → Type 0
-IsReadEach reads ds (Some xs) = IsEach reads ds xs.items
-IsReadEach {S} reads ds None = (xs : List S) → IsEach reads ds xs → ⊥
+-- an array or a set of just so many items, each of its own type
+abbrev pub IsTwo : {A B : Type 0} → (Data → A → Type 0) → (Data → B → Type 0) → Option (List Data) → A × B → Type 0
+IsTwo a b (Some (d ∷ e ∷ [])) x = a d x.0 × b e x.1
+IsTwo a b _ x = ⊥

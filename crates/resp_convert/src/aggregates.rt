@@ -1,15 +1,16 @@
-ghost use Rattle.std.specs.Prelude.{◌≡◌, IfOk};
+ghost use Rattle.std.specs.Prelude.{IfOk, Some};
 ghost use Rattle.resp_value.specs.View.{data_of, list_view};
-ghost use Rattle.resp_convert.specs.Convert.{IsRead};
-ghost use Rattle.resp_convert.specs.Types.{IsEach, IsList, IsOptional, IsReadEach};
+ghost use Rattle.resp_convert.specs.Convert.{IsReadEach};
+ghost use Rattle.resp_convert.specs.Types.{IsList, IsOptional};
 
 use crate::convert::{ConvertError, FromRedisValue};
+use crate::parts;
 use resp_value::Value;
 use std::alloc::{AllocError, Global};
 
-/// Nil is none.
+/// Nil is none. Any other value is moved, not copied.
 impl<T: FromRedisValue> FromRedisValue for Option<T> {
-    ghost reads = { IsOptional T.reads };
+    ghost reads = { λ d o. IsOptional T.reads d o };
 
     fn read_value(alloc: Global, value: &Value) -> Result<Option<Option<T>>, AllocError> {
         match value {
@@ -20,6 +21,16 @@ impl<T: FromRedisValue> FromRedisValue for Option<T> {
             },
         }
     }
+
+    fn from_redis_value(alloc: Global, value: Value) -> Result<Option<T>, ConvertError> {
+        match value {
+            Value::Nil => Ok(None),
+            other => match T::from_redis_value(alloc, other) {
+                Ok(read) => Ok(Some(read)),
+                Err(error) => Err(error),
+            },
+        }
+    }
 }
 
 /// What each of some values is, if each is of the type.
@@ -27,7 +38,7 @@ fn read_each<T: FromRedisValue + Drop>(
     alloc: Global,
     values: &[Value],
 ) -> Result<Option<Vec<T>>, AllocError>
-    ensures { IfOk result (λ read. IsReadEach T.reads (list_view values.now) read) }
+    ensures { IfOk result (λ read. IsReadEach T.reads (Some (list_view values.now)) read) }
 {
     let mut read = Vec::new(alloc);
     for value in values {
@@ -44,10 +55,9 @@ impl<T: FromRedisValue + Drop> FromRedisValue for Vec<T> {
     ghost reads = { λ d xs. IsList T.reads d xs.items };
 
     fn read_value(alloc: Global, value: &Value) -> Result<Option<Vec<T>>, AllocError> {
-        match value {
-            Value::Array(items) => read_each(alloc, items.as_slice()),
-            Value::Set(items) => read_each(alloc, items.as_slice()),
-            _ => Ok(None),
+        match parts::items(parts::bare(value)) {
+            Some(items) => read_each(alloc, items),
+            None => Ok(None),
         }
     }
 }

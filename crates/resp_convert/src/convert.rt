@@ -1,17 +1,61 @@
-ghost use Rattle.std.specs.Prelude.{◌≡◌, IfOk};
+ghost use Rattle.std.specs.Prelude.{◌≡◌, IfOk, None, Some, MatchOption};
 ghost use Rattle.resp_value.specs.Data.{Data};
 ghost use Rattle.resp_value.specs.View.{data_of};
-ghost use Rattle.resp_convert.specs.Convert.{IsConverted, IsRead};
+ghost use Rattle.resp_convert.specs.Convert.{IsConverted, IsRead, told_by};
+ghost use Rattle.resp_convert.specs.declared.convert.ConvertError.TheVariants.{NoMemory};
 
-use resp_value::Value;
+use crate::parts::bare;
+use resp_value::{ServerError, Value};
 use std::alloc::{AllocError, Global};
+use std::fmt;
+use thiserror::Error;
 
 /// Why a value didn't become one of a type.
-#[derive(Drop)]
+#[derive(Debug, Drop, Error)]
 pub enum ConvertError {
-    /// It isn't of the type.
+    /// It isn't of the type, and is given back whole.
+    #[error("{}", Refused(.value))]
     Convert { value: Value },
+    #[error("out of memory")]
     NoMemory,
+}
+
+/// A value that isn't of a type, as people see it: the server's error, or the kind of value with what is in it.
+#[derive(Clone, Copy)]
+struct Refused<'a>(&'a Value);
+
+impl fmt::Display for Refused<'_> {
+    fn fmt<W: fmt::Write>(&self, f: &mut fmt::Formatter<W>) -> fmt::Result {
+        match self.0 {
+            Value::ServerError(error) => write!(f, "the server answered an error: {error}"),
+            value => write!(f, "the value is of another type: {value:?}"),
+        }
+    }
+}
+
+impl ConvertError {
+    /// The server's error, where the value that isn't of the type is one, or has attributes before one.
+    pub fn server_error(&self) -> Option<&ServerError>
+        ensures { MatchOption result
+            (told_by self.now ≡ None)
+            (λ e. told_by self.now ≡ Some e.now) }
+    {
+        match self {
+            ConvertError::Convert { value } => match bare(value) {
+                Value::ServerError(error) => Some(error),
+                _ => None,
+            },
+            ConvertError::NoMemory => None,
+        }
+    }
+}
+
+impl From<AllocError> for ConvertError {
+    ghost from_gives = { λ _ e. e ≡ NoMemory };
+
+    fn from(_refused: AllocError) -> ConvertError {
+        ConvertError::NoMemory
+    }
 }
 
 /// A type that values are read as.

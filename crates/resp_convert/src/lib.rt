@@ -3,10 +3,17 @@
 
 mod aggregates;
 mod convert;
+mod integers;
+mod parts;
 mod scalars;
 mod texts;
+mod tuples;
 
 pub use convert::{ConvertError, FromRedisValue};
 
+#[cfg(test)]
+mod aggregate_tests;
+#[cfg(test)]
+mod integer_tests;
 #[cfg(test)]
 mod tests;

@@ -2,26 +2,10 @@
 use Rattle.std.specs.Prelude.{ℕ, suc, Bool, true, false, ◌||◌, ◌==◌, List, [], ◌∷◌, ◌++◌, length, Option, Some, None, codes, if◌then◌else◌}
 use Rattle.std.specs.Str.{byte}
 use Rattle.std.specs.Fmt.{signed_decimal}
-use Rattle.resp_value.specs.declared.push_kind.PushKind.{PushKind}
-use Rattle.resp_value.specs.declared.push_kind.PushKind.TheVariants.{Disconnection, Other, Invalidate, Message, PMessage, SMessage, Unsubscribe, PUnsubscribe, SUnsubscribe, Subscribe, PSubscribe, SSubscribe}
+pub use Rattle.resp_value.specs.Kinds.{kind_text}
 use Rattle.resp_value.specs.declared.server_error.ServerError.{ServerError}
 use Rattle.resp_value.specs.Data.{Data, nil, int, bulk, array, simple, okay, dict, attribute, set, double, boolean, verbatim, big, push, error, Items, no_items, item, list_of, Members, no_members, member, pairs_of}
 use Rattle.resp_write.specs.Pack.{text_line, number_line, sized_text, bulk_string}
-
--- the kind of a push; the last of these is read from no text
-abbrev pub kind_text : PushKind → List ℕ
-kind_text (Other text) = text
-kind_text Invalidate = codes "invalidate"
-kind_text Message = codes "message"
-kind_text PMessage = codes "pmessage"
-kind_text SMessage = codes "smessage"
-kind_text Unsubscribe = codes "unsubscribe"
-kind_text PUnsubscribe = codes "punsubscribe"
-kind_text SUnsubscribe = codes "sunsubscribe"
-kind_text Subscribe = codes "subscribe"
-kind_text PSubscribe = codes "psubscribe"
-kind_text SSubscribe = codes "ssubscribe"
-kind_text Disconnection = codes "disconnection"
 
 -- what follows the code of a server error: a space and the detail, if there is one
 abbrev pub detail_text : Option (List ℕ) → List ℕ

@@ -1,5 +1,5 @@
 -- What a command and a pipeline are.
-use Rattle.std.specs.Prelude.{ℕ, ◌-◌, Bool, true, List, ◌++◌, length, slice_set}
+use Rattle.std.specs.Prelude.{ℕ, ◌-◌, Bool, true, false, List, [], ◌∷◌, ◌++◌, length, slice_set}
 
 -- its name and its arguments in order, and whether its reply is left out
 pub record Command : Type 0 where
@@ -19,3 +19,7 @@ pub record CommandList : Type 0 where
 -- the last mark set, if there is one
 abbrev pub mark_last : List Bool → List Bool
 mark_last marks = slice_set marks (length marks - 1) true
+
+-- a pipeline with one command more, which isn't marked
+abbrev pub with_command : CommandList → Command → CommandList
+with_command p c = record { commands = p.commands ++ c ∷ []; ignored = p.ignored ++ false ∷ []; atomic = p.atomic }

@@ -1,7 +1,7 @@
 -- What a pipeline ends as when the command that it lent comes back.
-use Rattle.std.specs.Prelude.{◌≡◌, ◌∷◌, [], ◌++◌, false, Result}
+use Rattle.std.specs.Prelude.{◌≡◌, Result}
 use Rattle.std.specs.Borrow.{LendsSoOk, MutBor, Fml}
-use Rattle.resp_write.specs.Command.{Command, CommandList}
+use Rattle.resp_write.specs.Command.{Command, CommandList, with_command}
 use Rattle.resp_write.specs.contracts.pipeline.Pipeline.{the_row}
 use Rattle.resp_write.specs.contracts.command.Cmd.{the_row as command_row}
 
@@ -9,5 +9,5 @@ use Rattle.resp_write.specs.contracts.command.Cmd.{the_row as command_row}
 abbrev pub lends_last : {E : Type 0} → MutBor CommandList → Result (MutBor Command) E → Fml
 lends_last p r =
     LendsSoOk the_row command_row p r
-    (λ n c. n ≡ record { commands = p.now.commands ++ c ∷ []; ignored = p.now.ignored ++ false ∷ []; atomic = p.now.atomic })
+    (λ n c. n ≡ with_command p.now c)
     (λ n. n ≡ p.now)

@@ -2,33 +2,13 @@ ghost use Rattle.std.specs.Prelude.{◌≡◌, ◌++◌, ◌∷◌, OnOk, IfOk};
 ghost use Rattle.std.specs.Str.{byte};
 ghost use Rattle.std.specs.Fmt.{signed_decimal};
 ghost use Rattle.resp_write.specs.Pack.{sized_text, text_line};
-ghost use Rattle.resp_write.specs.Canonical.{boolean_text, breaks_line, detail_text, error_line, error_text, kind_text};
+ghost use Rattle.resp_write.specs.Canonical.{boolean_text, breaks_line, detail_text, error_line, error_text};
 
 use crate::lines::{push_crlf, push_number_line, push_sized_text, push_text_line};
 use containers::Bytes;
 use itoa::Buffer;
-use resp_value::{PushKind, ServerError};
+use resp_value::ServerError;
 use std::alloc::{AllocError, Global};
-
-/// The text of a kind of push.
-pub fn kind_text(kind: &PushKind) -> &[u8]
-    ensures { result.now ≡ kind_text kind.now }
-{
-    match kind {
-        PushKind::Disconnection => b"disconnection",
-        PushKind::Other(text) => text.as_slice(),
-        PushKind::Invalidate => b"invalidate",
-        PushKind::Message => b"message",
-        PushKind::PMessage => b"pmessage",
-        PushKind::SMessage => b"smessage",
-        PushKind::Unsubscribe => b"unsubscribe",
-        PushKind::PUnsubscribe => b"punsubscribe",
-        PushKind::SUnsubscribe => b"sunsubscribe",
-        PushKind::Subscribe => b"subscribe",
-        PushKind::PSubscribe => b"psubscribe",
-        PushKind::SSubscribe => b"ssubscribe",
-    }
-}
 
 /// Whether some byte is CR or LF.
 fn breaks_line(text: &[u8]) -> bool
@@ -90,7 +70,8 @@ pub fn push_boolean(out: &mut Bytes, on: bool) -> Result<(), AllocError>
 
 /// Appends a text with its format before it.
 pub fn push_verbatim(out: &mut Bytes, format: &[u8], text: &[u8]) -> Result<(), AllocError>
-    ensures { OnOk result (out.new ≡ out.old ++ sized_text (byte "=") (format.now ++ byte ":" ∷ text.now)) }
+    ensures { OnOk result
+        (out.new ≡ out.old ++ sized_text (byte "=") (format.now ++ byte ":" ∷ text.now)) }
 {
     push_number_line(out, b'=', format.len() + 1 + text.len())?;
     out.extend_from_slice(format)?;

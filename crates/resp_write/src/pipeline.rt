@@ -1,7 +1,7 @@
 ghost use Rattle.std.specs.Prelude.{◌≡◌, ◌++◌, ◌∷◌, [], ◌==◌, length, OnOk, OnErr, IfOk, true, false};
 ghost use Rattle.std.specs.Borrow.{sem};
 ghost use Rattle.std.specs.Slice.Iter.{iter_rest};
-ghost use Rattle.resp_write.specs.Command.{mark_last};
+ghost use Rattle.resp_write.specs.Command.{mark_last, with_command};
 ghost use Rattle.resp_write.specs.Pack.{pack_pipeline};
 ghost use Rattle.resp_write.specs.Lent.{lends_last};
 
@@ -53,7 +53,7 @@ impl Pipeline {
 
     /// One more command. An error leaves the pipeline as it was.
     pub fn add_command(&mut self, command: Cmd) -> Result<(), AllocError>
-        ensures ok { OnOk result (self.new ≡ record { commands = self.old.commands ++ command ∷ []; ignored = self.old.ignored ++ false ∷ []; atomic = self.old.atomic }) }
+        ensures ok { OnOk result (self.new ≡ with_command self.old command) }
         ensures err { OnErr result (self.new ≡ self.old) }
     {
         self.ignored.reserve(1)?;
@@ -65,7 +65,8 @@ impl Pipeline {
     /// One more command of this name, which is lent. An error leaves the pipeline as it was.
     pub fn cmd(&mut self, alloc: Global, name: &[u8]) -> Result<&mut Cmd, AllocError>
         ensures* writes_back { sem 𝓛 (lends_last self.entry result) }
-        ensures value { IfOk result (λ c. c.now ≡ record { args = name.now ∷ []; no_response = false }) }
+        ensures value { IfOk result
+            (λ c. c.now ≡ record { args = name.now ∷ []; no_response = false }) }
     {
         let command = cmd(alloc, name)?;
         self.ignored.reserve(1)?;
@@ -77,14 +78,14 @@ impl Pipeline {
 
     /// Makes it a transaction.
     pub fn atomic(&mut self)
-        ensures { self.new ≡ record { commands = self.old.commands; ignored = self.old.ignored; atomic = true } }
+        ensures { self.new ≡ record self.old { atomic = true } }
     {
         self.atomic = true;
     }
 
     /// Marks the last command, if there is one. No call reads the mark.
     pub fn ignore(&mut self)
-        ensures { self.new ≡ record { commands = self.old.commands; ignored = mark_last self.old.ignored; atomic = self.old.atomic } }
+        ensures { self.new ≡ record self.old { ignored = mark_last self.old.ignored } }
     {
         if let Some(last) = self.ignored.last_mut() {
             *last = true;

@@ -4,7 +4,7 @@ ghost use Rattle.resp_value.specs.View.{data_of};
 ghost use Rattle.resp_write.specs.Canonical.{canonical, each_item, each_member};
 
 use crate::lines::{push_bulk_string, push_number_line, push_text_line};
-use crate::parts::{kind_text, push_boolean, push_error, push_int, push_verbatim};
+use crate::parts::{push_boolean, push_error, push_int, push_verbatim};
 use containers::Bytes;
 use resp_value::{Pairs, Value, Values};
 use std::alloc::{AllocError, Global};
@@ -87,7 +87,7 @@ fn push_value(alloc: Global, out: &mut Bytes, value: &Value) -> Result<(), Alloc
         Value::BigNumber(text) => push_text_line(out, b'(', text.as_slice()),
         Value::Push { kind, parts } => {
             push_number_line(out, b'>', count_of(parts) + 1)?;
-            push_bulk_string(out, kind_text(kind))?;
+            push_bulk_string(out, kind.name())?;
             push_values(alloc, out, parts)
         }
         Value::ServerError(error) => push_error(alloc, out, error),

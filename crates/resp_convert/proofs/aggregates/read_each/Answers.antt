@@ -7,10 +7,10 @@ use Rattle.resp_convert.proofs.aggregates.read_each.Goals as goal
 pub returns-in-None : goal.returns-in-None
 returns-in-None g c =
     let reads = g.T.FromRedisValue.reads in
-    none_at reads _ c.loop-value.value-index _ c.loop-value-test.true c.value-item.is (subst (λ o. IsRead reads (data_of c.value-item.result) o) c.in-None.is c.in_ok-item.ensures)
+    none_at data_of reads _ c.loop-value.value-index _ c.loop-value-test.true c.value-item.is (subst (λ o. IsRead reads (data_of c.value-item.result) o) c.in-None.is c.in_ok-item.ensures)
 
 pub loop-value-preserved : goal.loop-value-preserved
 loop-value-preserved g c =
     let reads = g.T.FromRedisValue.reads in
     rw c.in_ok-push-in-Some.ensures.items (
-    each_more reads _ c.loop-value.value-index _ _ _ c.loop-value-test.true c.value-item.is c.loop-value.invariant (subst (λ o. IsRead reads (data_of c.value-item.result) o) c.in-Some.is c.in_ok-item.ensures))
+    each_more data_of reads _ c.loop-value.value-index _ _ _ c.loop-value-test.true c.value-item.is c.loop-value.invariant (subst (λ o. IsRead reads (data_of c.value-item.result) o) c.in-Some.is c.in_ok-item.ensures))
