@@ -261,6 +261,14 @@ fn run(rt: &impl Abort, alloc: Global, calls: &[Call], wanted: &str) -> Result<(
 }
 
 #[test]
+fn a_refused_allocation_is_want_of_memory(rt: HostRuntime) {
+    assert_eq!(rt;
+        ConnectionError::from(AllocError),
+        ConnectionError::NoMemory
+    );
+}
+
+#[test]
 fn requests_wait_for_the_connect(rt: HostRuntime) -> Result<(), AllocError> {
     let calls = [
         Call::Ask(7, "a"),
