@@ -1,6 +1,6 @@
 -- A value that is read on within aggregates that were begun is the value that is read from its front.
-use Rattle.std.proofs.Common.{◌≡◌, ℕ, suc, ◌+◌, ◌-◌, ◌≤◌, ◌<◌, IfOk, List, [], ◌∷◌, ◌++◌, length, get_or, take, drop, Result, Ok, Err, refl, sym, ap, ◌∙◌, subst, append_assoc, arith, length-append, length-take-le}
-use Rattle.std.proofs.lemmas.List.{append-nil, take-append-drop, drop_at}
+use Rattle.std.proofs.Common.{◌≡◌, ℕ, suc, ◌+◌, ◌-◌, ◌≤◌, ◌<◌, IfOk, List, [], ◌∷◌, ◌++◌, length, get_or, take, drop, Result, Ok, Err, refl, sym, ap, ◌∙◌, subst, append_assoc, arith, length-append, length-drop, length-take-le}
+use Rattle.std.proofs.lemmas.List.{append-nil, drop-drop, take-append-drop, drop_at}
 use Rattle.resp_value.specs.Data.{Data}
 use Rattle.resp_value.specs.View.{data_of}
 use Rattle.resp_value.specs.declared.value.Value.{Value}
@@ -13,10 +13,12 @@ use Rattle.resp_read.specs.declared.frames.Frame.{Frame}
 use Rattle.resp_read.specs.declared.frames.Frame.TheVariants.{Item, Key}
 use Rattle.resp_read.specs.declared.frames.Begun.{Begun}
 use Rattle.resp_read.specs.declared.frames.Begun.TheVariants.{Within}
+use Rattle.resp_read.specs.declared.waiting.Looked.{Looked}
 use Rattle.resp_read.specs.declared.reader.Health.{Health}
 use Rattle.resp_read.specs.declared.reader.Health.TheVariants.{Sound}
 use Rattle.resp_read.specs.Frames.{made, paired, with_values, with_pairs, with_value, begun, whole_of, within, resumed, IsEnd, Begins, ReadsOn, IsUnderway}
 use Rattle.resp_read.specs.Parts.{IsFound}
+use Rattle.resp_read.specs.Waiting.{IsLooked}
 use Rattle.resp_read.proofs.Laws.{Lawful}
 use Rattle.resp_read.proofs.ParseLaws.{same_first, takes_a_byte}
 
@@ -165,7 +167,7 @@ end_at place bytes left h end =
     (omega arith, ap (drop (length bytes - length left)) whole ∙ drop_at front left (length bytes - length left) (omega arith))
 
 -- what a reader finds that reads on
-module _ (bytes : List ℕ) (at next : ℕ) (frames : List Frame) (health : Health) (underway : IsUnderway bytes at next frames health) (sound : health ≡ Sound) (text : List ℕ) (is : text ≡ drop next bytes) (new : List Frame) (left : List ℕ) where
+module _ (bytes : List ℕ) (at next : ℕ) (frames : List Frame) (looked : Looked) (health : Health) (underway : IsUnderway bytes at next frames looked health) (sound : health ≡ Sound) (text : List ℕ) (is : text ≡ drop next bytes) (new : List Frame) (left : List ℕ) where
   there : (m : List ℕ) → parse max_depth (drop at bytes ++ m) ≡ resumed frames (text ++ m)
   there m = underway.resumes sound m ∙ ap (λ x. resumed frames (x ++ m)) (sym is)
 
@@ -184,12 +186,44 @@ module _ (bytes : List ℕ) (at next : ℕ) (frames : List Frame) (health : Heal
   pub spoiled : ReadsOn frames text (Err Bad) new left → parse max_depth (drop at bytes) ≡ bad
   spoiled h = found_there bad (ap (resumed frames) (append-nil text) ∙ h)
 
-  pub underway_still : ReadsOn frames text (Err Short) new left → IsUnderway bytes at (length bytes - length left) new health
-  underway_still h =
+  pub underway_still : (known : Looked) → ((l : List ℕ) → IsLooked known l) → ReadsOn frames text (Err Short) new left → IsUnderway bytes at (length bytes - length left) new known health
+  underway_still known anywhere h =
       let l = left_behind h.0 in
       let first = underway.in_order in
       record {
         in_order = omega arith;
         fits = omega arith;
         resumes = λ s m. there m ∙ h.2 m ∙ ap (λ x. resumed new (x ++ m)) (sym l.1);
+        known = anywhere (drop 1 (drop (length bytes - length left) bytes));
+      }
+
+-- where a line that hasn't ended stands next
+module _ (bytes : List ℕ) (at next : ℕ) (frames : List Frame) (looked : Looked) (health : Health) (underway : IsUnderway bytes at next frames looked health) where
+  pub waits_there : (first : ℕ) (left text : List ℕ) → left ≡ drop next bytes → 0 < length left → get_or left 0 0 ≡ first → text ≡ drop 1 left → ((depth : ℕ) → parse depth (first ∷ text) ≡ short) → health ≡ Sound → parse max_depth (drop at bytes) ≡ short
+  waits_there first left text there some is behind waits sound =
+      let whole : left ≡ first ∷ text = same_first left first some is ∙ ap (λ x. first ∷ x) (sym behind) in
+      ap (parse max_depth) (sym (append-nil (drop at bytes))) ∙ underway.resumes sound [] ∙ ap (resumed frames) (append-nil (drop next bytes) ∙ sym there ∙ whole)
+      ∙ ap (within max_depth frames) (waits (max_depth - length frames)) ∙ within_short max_depth frames
+
+  pub waiting_still : (known : Looked) (left text : List ℕ) → left ≡ drop next bytes → text ≡ drop 1 left → IsLooked known text → IsUnderway bytes at next frames known health
+  waiting_still known left text there behind is = record {
+    in_order = underway.in_order;
+    fits = underway.fits;
+    resumes = underway.resumes;
+    known = subst (IsLooked known) (behind ∙ ap (drop 1) there) is;
+  }
+
+  -- the bytes of the values given are forgotten
+  pub moved_up : (new : List ℕ) → new ≡ drop at bytes → IsUnderway new 0 (next - at) frames looked health
+  moved_up new is =
+      let order = underway.in_order in
+      let fit = underway.fits in
+      let n : length new ≡ length bytes - at = ap length is ∙ length-drop at bytes in
+      let total : at + (next - at) ≡ next = omega arith in
+      let there : drop (next - at) new ≡ drop next bytes = ap (drop (next - at)) is ∙ drop-drop (next - at) at bytes ∙ ap (λ k. drop k bytes) total in
+      record {
+        in_order = omega arith;
+        fits = omega arith;
+        resumes = λ s m. ap (λ x. parse max_depth (x ++ m)) is ∙ underway.resumes s m ∙ ap (λ x. resumed frames (x ++ m)) (sym there);
+        known = subst (λ x. IsLooked looked (drop 1 x)) (sym there) underway.known;
       }

@@ -13,8 +13,10 @@ use Rattle.resp_read.specs.declared.frames.Frame.{Frame}
 use Rattle.resp_read.specs.declared.frames.Frame.TheVariants.{Item, Key, Entry, Attributed}
 use Rattle.resp_read.specs.declared.frames.Begun.{Begun}
 use Rattle.resp_read.specs.declared.frames.Begun.TheVariants.{Whole, Within}
+use Rattle.resp_read.specs.declared.waiting.Looked.{Looked}
 use Rattle.resp_read.specs.declared.reader.Health.{Health}
 use Rattle.resp_read.specs.declared.reader.Health.TheVariants.{Sound}
+use Rattle.resp_read.specs.Waiting.{IsLooked}
 use Rattle.resp_read.specs.Grammar.{Found, read, short, bad, found_and_then, found_map, repeated, pair, attributed, parse, max_depth}
 
 -- what these values make
@@ -86,8 +88,9 @@ ReadsOn old bs (Err Short) new left = IsEnd left bs × (resumed old bs ≡ short
 ReadsOn old bs (Err Bad) new left = resumed old bs ≡ bad
 ReadsOn old bs (Err NoMemory) new left = Unit {0}
 
--- where a reader is in its bytes: the value that begins at the one place is what the aggregates are with the bytes from the other place on, whatever bytes follow
-pub record IsUnderway (bytes : List ℕ) (at next : ℕ) (frames : List Frame) (health : Health) : Type 0 where
+-- where a reader is in its bytes: the value that begins at the one place is what the aggregates are with the bytes from the other place on, whatever bytes follow; and what is known of the line behind the first byte there
+pub record IsUnderway (bytes : List ℕ) (at next : ℕ) (frames : List Frame) (looked : Looked) (health : Health) : Type 0 where
   pub in_order : at ≤ next
   pub fits : next ≤ length bytes
   pub resumes : health ≡ Sound → (m : List ℕ) → parse max_depth (drop at bytes ++ m) ≡ resumed frames (drop next bytes ++ m)
+  pub known : IsLooked looked (drop 1 (drop next bytes))

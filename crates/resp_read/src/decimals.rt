@@ -1,4 +1,4 @@
-ghost use Rattle.std.specs.Prelude.{◌≡◌};
+ghost use Rattle.std.specs.Prelude.{◌≡◌, ℕ, List, length};
 ghost use Rattle.resp_read.specs.Grammar.{is_digit as is_digit_of, is_end, after_digits, unsigned as unsigned_of, is_big as is_big_of, big_begun, is_double as is_double_of, made_by, double_tails, reader_limits};
 ghost use Rattle.resp_read.specs.Doubles.{digit_to as digit_to_of, byte_to as byte_to_of, exponent_to as exponent_to_of, step as step_of, run, missing as missing_of};
 ghost use Rattle.resp_read.specs.declared.decimals.Seen.TheVariants.{Nothing, Whole, Fraction, Exponent};
@@ -166,14 +166,21 @@ fn step(seen: Seen, b: u8) -> Seen
     }
 }
 
-fn read_all(line: &[u8]) -> Seen
-    ensures { result ≡ run Nothing line.now }
+/// What was read of a double, with these bytes more.
+pub fn read_through(before: Seen, bytes: &[u8]) -> Seen
+    ensures { result ≡ run before bytes.now }
 {
-    let mut seen = Seen::Nothing;
-    for b in line {
+    let mut seen = before;
+    for b in bytes {
         seen = step(seen, *b);
     }
     seen
+}
+
+fn read_all(line: &[u8]) -> Seen
+    ensures { result ≡ run Nothing line.now }
+{
+    read_through(Seen::Nothing, line)
 }
 
 /// How many bytes are missing until the double is whole, if any can make it so.
@@ -209,17 +216,24 @@ pub fn is_double(line: &[u8]) -> bool
     }
 }
 
+/// Whether a line of that length, of which this was read, can become a double within the limit of a line.
+pub fn can_be_double(seen: Seen, size: usize) -> bool
+    ensures { (front : List ℕ) → run Nothing front ≡ seen → length front ≡ size → result ≡ made_by reader_limits is_double_of double_tails front }
+{
+    match missing(seen) {
+        Some(n) => {
+            if size > MAX_LINE {
+                return false;
+            }
+            n <= MAX_LINE - size
+        }
+        None => false,
+    }
+}
+
 /// Whether a line that starts so can become a double within the limit of a line.
 pub fn is_double_begun(front: &[u8]) -> bool
     ensures { result ≡ made_by reader_limits is_double_of double_tails front.now }
 {
-    match missing(read_all(front)) {
-        Some(n) => {
-            if front.len() > MAX_LINE {
-                return false;
-            }
-            n <= MAX_LINE - front.len()
-        }
-        None => false,
-    }
+    can_be_double(read_all(front), front.len())
 }
