@@ -1,6 +1,7 @@
 -- A value that is read on within aggregates that were begun is the value that is read from its front.
-use Rattle.std.proofs.Common.{◌≡◌, ℕ, suc, ◌+◌, ◌-◌, ◌≤◌, ◌<◌, IfOk, List, [], ◌∷◌, ◌++◌, length, get_or, take, drop, Result, Ok, Err, refl, sym, ap, ◌∙◌, subst, append_assoc, arith, length-append, length-drop, length-take-le}
-use Rattle.std.proofs.lemmas.List.{append-nil, drop-drop, take-append-drop, drop_at}
+use Rattle.std.proofs.Common.{◌≡◌, ℕ, suc, ◌+◌, ◌-◌, ◌≤◌, ◌<◌, IfOk, List, [], ◌∷◌, ◌++◌, length, get_or, take, drop, Result, Ok, Err, Option, Some, None, refl, sym, ap, ◌∙◌, subst, append_assoc, arith, length-append, length-drop, length-take-le}
+use Rattle.std.specs.Prelude.{slice_set}
+use Rattle.std.proofs.lemmas.List.{take_more, take_more_set, take_all, length-set, set-get_or, append-nil, drop-drop, take-append-drop, drop_at}
 use Rattle.resp_value.specs.Data.{Data}
 use Rattle.resp_value.specs.View.{data_of}
 use Rattle.resp_value.specs.declared.value.Value.{Value}
@@ -16,7 +17,7 @@ use Rattle.resp_read.specs.declared.frames.Begun.TheVariants.{Within}
 use Rattle.resp_read.specs.declared.waiting.Looked.{Looked}
 use Rattle.resp_read.specs.declared.reader.Health.{Health}
 use Rattle.resp_read.specs.declared.reader.Health.TheVariants.{Sound}
-use Rattle.resp_read.specs.Frames.{made, paired, with_values, with_pairs, with_value, begun, whole_of, within, resumed, IsEnd, Begins, ReadsOn, IsUnderway}
+use Rattle.resp_read.specs.Frames.{made, paired, with_values, with_pairs, with_value, begun, whole_of, within, resumed, IsEnd, Begins, IsAdded, IsPutInPlace, ReadsOn, IsUnderway}
 use Rattle.resp_read.specs.Parts.{IsFound}
 use Rattle.resp_read.specs.Waiting.{IsLooked}
 use Rattle.resp_read.proofs.Laws.{Lawful}
@@ -130,11 +131,49 @@ pub within_put : (frames : List Frame) (frame : Frame) (v : Data) (bs : List ℕ
     → within max_depth (frames ++ frame ∷ []) (read v bs) ≡ within max_depth frames (begun (parse (max_depth - suc (length frames))) b bs)
 within_put frames frame v bs b is = within_more max_depth frames frame (read v bs) ∙ ap (within max_depth frames) is
 
+-- a list by its last item, and with another in its place
+last_is : {X : Type 0} (xs : List X) (x : X) → 0 < length xs → get_or xs (length xs - 1) x ≡ x → xs ≡ take (length xs - 1) xs ++ x ∷ []
+last_is xs x some is =
+    let less : length xs - 1 < length xs = omega (arith, some) in
+    let all : length xs ≤ length xs - 1 + 1 = omega arith in
+    sym (take_all (length xs - 1 + 1) xs all) ∙ take_more xs (length xs - 1) x less ∙ ap (λ y. take (length xs - 1) xs ++ y ∷ []) is
+
+last_set : {X : Type 0} (xs : List X) (y : X) → 0 < length xs → slice_set xs (length xs - 1) y ≡ take (length xs - 1) xs ++ y ∷ []
+last_set xs y some =
+    let less : length xs - 1 < length xs = omega (arith, some) in
+    let all : length (slice_set xs (length xs - 1) y) ≤ length xs - 1 + 1 = omega (arith, length-set xs (length xs - 1) y) in
+    sym (take_all (length xs - 1 + 1) (slice_set xs (length xs - 1) y) all) ∙ take_more_set xs (length xs - 1) y less
+
 -- one more aggregate is begun
 pub within_held : (frames : List Frame) (frame : Frame) (bs : List ℕ) → within max_depth frames (begun (parse (max_depth - suc (length frames))) (Within frame) bs) ≡ resumed (frames ++ frame ∷ []) bs
 within_held frames frame bs =
     let n : length (frames ++ frame ∷ []) ≡ suc (length frames) = omega (arith, length-append frames (frame ∷ [])) in
     sym (within_more max_depth frames frame (parse (max_depth - suc (length frames)) bs)) ∙ ap (λ k. within max_depth (frames ++ frame ∷ []) (parse (max_depth - k) bs)) (sym n)
+
+-- the innermost takes a value in place
+pub within_added : (frames new : List Frame) (frame after : Frame) (v : Data) → 0 < length frames → get_or frames (length frames - 1) frame ≡ frame → new ≡ slice_set frames (length frames - 1) after
+    → ((inside : List ℕ → Found Data) (bs : List ℕ) → with_value inside frame v bs ≡ begun inside (Within after) bs) → (bs : List ℕ) → within max_depth frames (read v bs) ≡ resumed new bs
+within_added frames new frame after v some is set added bs =
+    let front = take (length frames - 1) frames in
+    let old : frames ≡ front ++ frame ∷ [] = last_is frames frame some is in
+    let then : new ≡ front ++ after ∷ [] = set ∙ last_set frames after some in
+    ap (λ fs. within max_depth fs (read v bs)) old
+    ∙ within_put front frame v bs (Within after) (added (parse (max_depth - suc (length front))) bs)
+    ∙ within_held front after bs ∙ ap (λ fs. resumed fs bs) (sym then)
+
+-- nothing was taken off an empty list
+pub none_left : {X : Type 0} (old new : List X) → new ++ [] ≡ old → new ≡ [] → (new ≡ []) × (old ≡ [])
+none_left old new same none = (none, sym same ∙ append-nil new ∙ none)
+
+-- a value that was offered to the innermost
+module _ {E : Type 0} (v : Value) (frames : List Frame) (frame after : Frame) where
+  put_by : 0 < length frames → get_or frames (length frames - 1) frame ≡ frame → (r : Result (Option Value) E) → IsAdded frame v r after → IsPutInPlace frames v r (slice_set frames (length frames - 1) after)
+  put_by some is (Ok (Some w)) h = (h.0, ap (slice_set frames (length frames - 1)) (h.1 ∙ sym is) ∙ set-get_or frames (length frames - 1) frame)
+  put_by some is (Ok None) h = within_added frames (slice_set frames (length frames - 1) after) frame after (data_of v) some is refl h
+  put_by some is (Err e) h = tt
+
+  pub put_at : (n : ℕ) → n ≡ length frames → 0 < n → get_or frames (n - 1) frame ≡ frame → (r : Result (Option Value) E) → IsAdded frame v r after → IsPutInPlace frames v r (slice_set frames (n - 1) after)
+  put_at n e some is r h = subst (λ k. IsPutInPlace frames v r (slice_set frames (k - 1) after)) (sym e) (put_by (subst (λ k. 0 < k) e some) (subst (λ k. get_or frames (k - 1) frame ≡ frame) e is) r h)
 
 -- what begins there
 pub resumed_begun : (frames : List Frame) (b : Begun) (left ahead : List ℕ) → ((m : List ℕ) → parse (max_depth - length frames) (left ++ m) ≡ begun (parse (max_depth - length frames - 1)) b (ahead ++ m))

@@ -75,6 +75,18 @@ Begins form inside bs (Err Short) left = form bs ≡ short
 Begins form inside bs (Err Bad) left = form bs ≡ bad
 Begins form inside bs (Err NoMemory) left = Unit {0}
 
+-- what an aggregate does with a value that is offered: it takes it and waits for the next one, or hands it back and stays as it was
+abbrev pub IsAdded : {E : Type 0} → Frame → Value → Result (Option Value) E → Frame → Type 0
+IsAdded old v (Ok None) new = (inside : List ℕ → Found Data) (bs : List ℕ) → with_value inside old (data_of v) bs ≡ begun inside (Within new) bs
+IsAdded old v (Ok (Some w)) new = (w ≡ v) × (new ≡ old)
+IsAdded old v (Err e) new = Unit {0}
+
+-- the same of the innermost of these aggregates
+abbrev pub IsPutInPlace : {E : Type 0} → List Frame → Value → Result (Option Value) E → List Frame → Type 0
+IsPutInPlace old v (Ok None) new = (bs : List ℕ) → within max_depth old (read (data_of v) bs) ≡ resumed new bs
+IsPutInPlace old v (Ok (Some w)) new = (w ≡ v) × (new ≡ old)
+IsPutInPlace old v (Err e) new = Unit {0}
+
 -- what becomes of a value in these aggregates: the outermost is whole by it, or it waits on
 abbrev pub IsPut : {E : Type 0} → List Frame → Value → Result (Option Value) E → List Frame → Type 0
 IsPut old v (Ok (Some w)) new = (new ≡ []) × ((bs : List ℕ) → within max_depth old (read (data_of v) bs) ≡ read (data_of w) bs)

@@ -218,7 +218,8 @@ pub fn is_double(line: &[u8]) -> bool
 
 /// Whether a line of that length, of which this was read, can become a double within the limit of a line.
 pub fn can_be_double(seen: Seen, size: usize) -> bool
-    ensures { (front : List ℕ) → run Nothing front ≡ seen → length front ≡ size → result ≡ made_by reader_limits is_double_of double_tails front }
+    ensures { (front : List ℕ) → run Nothing front ≡ seen → length front ≡ size
+        → result ≡ made_by reader_limits is_double_of double_tails front }
 {
     match missing(seen) {
         Some(n) => {

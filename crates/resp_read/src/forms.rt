@@ -152,7 +152,8 @@ fn is_begun(form: OneLine, front: &[u8]) -> bool
 }
 
 fn line_value(alloc: Global, form: OneLine, input: &mut Input<'_>) -> Result<Value, Refusal>
-    ensures { IsFound data_of (line_as reader_limits (line_form form) input.old.left.now) result input.new.left.now }
+    ensures { IsFound data_of (line_as reader_limits (line_form form) input.old.left.now) result
+        input.new.left.now }
 {
     let left = input.left;
     match lines::find_line(left) {
@@ -189,7 +190,9 @@ fn line_value(alloc: Global, form: OneLine, input: &mut Input<'_>) -> Result<Val
 /// The line that announces a length, or none for `-1`.
 pub fn announced(most: u64, input: &mut Input<'_>) -> Result<Option<u64>, Refusal>
     requires { most ≤ 9_223_372_036_854_775_808 }
-    ensures found { IsFound (λ s. s) (line_as reader_limits (size_line (Some most)) input.old.left.now) result input.new.left.now }
+    ensures found { IsFound (λ s. s)
+        (line_as reader_limits (size_line (Some most)) input.old.left.now) result
+        input.new.left.now }
     ensures fits { IfOk result (λ s. IfSome s (λ n. n ≤ most)) }
 {
     let left = input.left;
@@ -229,7 +232,9 @@ pub fn counted(least: u64, most: u64, input: &mut Input<'_>) -> Result<u64, Refu
     requires most { most ≤ 9_223_372_036_854_775_808 }
     requires digit { least ≤ 9 }
     requires room { 11 * least ≤ most }
-    ensures found { IsFound (λ n. n) (line_as reader_limits (count_line reader_limits least (Some most)) input.old.left.now) result input.new.left.now }
+    ensures found { IsFound (λ n. n)
+        (line_as reader_limits (count_line reader_limits least (Some most)) input.old.left.now)
+        result input.new.left.now }
     ensures fits { IfOk result (λ n. n ≤ most) }
     ensures enough { IfOk result (λ n. least ≤ n) }
 {
@@ -289,7 +294,8 @@ fn body(alloc: Global, input: &mut Input<'_>, n: usize) -> Result<Bytes, Refusal
 }
 
 fn bulk_string(alloc: Global, input: &mut Input<'_>) -> Result<Value, Refusal>
-    ensures { IsFound data_of (bulk_string_of reader_limits input.old.left.now) result input.new.left.now }
+    ensures { IsFound data_of (bulk_string_of reader_limits input.old.left.now) result
+        input.new.left.now }
 {
     match announced(MAX_BULK, input)? {
         None => Ok(Value::Nil),
@@ -298,7 +304,8 @@ fn bulk_string(alloc: Global, input: &mut Input<'_>) -> Result<Value, Refusal>
 }
 
 fn bulk_error(alloc: Global, input: &mut Input<'_>) -> Result<Value, Refusal>
-    ensures { IsFound data_of (bulk_error_of reader_limits input.old.left.now) result input.new.left.now }
+    ensures { IsFound data_of (bulk_error_of reader_limits input.old.left.now) result
+        input.new.left.now }
 {
     let n = counted(0, MAX_BULK, input)?;
     let text = body(alloc, input, n as usize)?;
@@ -307,7 +314,8 @@ fn bulk_error(alloc: Global, input: &mut Input<'_>) -> Result<Value, Refusal>
 
 /// A line that is a text.
 fn text(alloc: Global, input: &mut Input<'_>) -> Result<Bytes, Refusal>
-    ensures { IsFound (λ t. t) (line_as reader_limits text_line input.old.left.now) result input.new.left.now }
+    ensures { IsFound (λ t. t) (line_as reader_limits text_line input.old.left.now) result
+        input.new.left.now }
 {
     let left = input.left;
     match lines::find_line(left) {
@@ -339,7 +347,8 @@ fn text(alloc: Global, input: &mut Input<'_>) -> Result<Bytes, Refusal>
 
 /// A length, and a text of so many bytes.
 fn bulk_text(alloc: Global, input: &mut Input<'_>) -> Result<Bytes, Refusal>
-    ensures { IsFound (λ t. t) (bulk_text_of reader_limits input.old.left.now) result input.new.left.now }
+    ensures { IsFound (λ t. t) (bulk_text_of reader_limits input.old.left.now) result
+        input.new.left.now }
 {
     let n = counted(0, MAX_BULK, input)?;
     body(alloc, input, n as usize)
@@ -347,7 +356,8 @@ fn bulk_text(alloc: Global, input: &mut Input<'_>) -> Result<Bytes, Refusal>
 
 /// The kind of a push: a simple or a bulk string.
 pub fn kind(alloc: Global, input: &mut Input<'_>) -> Result<Bytes, Refusal>
-    ensures { IsFound (λ k. k) (kind_of reader_limits input.old.left.now) result input.new.left.now }
+    ensures { IsFound (λ k. k) (kind_of reader_limits input.old.left.now)
+        result input.new.left.now }
 {
     let left = input.left;
     if left.is_empty() {
@@ -379,7 +389,8 @@ fn format(alloc: Global, input: &mut Input<'_>) -> Result<Bytes, Refusal>
 }
 
 fn verbatim_string(alloc: Global, input: &mut Input<'_>) -> Result<Value, Refusal>
-    ensures { IsFound data_of (verbatim_string_of reader_limits input.old.left.now) result input.new.left.now }
+    ensures { IsFound data_of (verbatim_string_of reader_limits input.old.left.now) result
+        input.new.left.now }
 {
     let n = counted(4, MAX_BULK, input)?;
     let format = format(alloc, input)?;
@@ -399,7 +410,8 @@ pub fn is_plain(first: u8) -> bool
 
 /// A form that holds no values, by its first byte.
 pub fn plain(alloc: Global, first: u8, input: &mut Input<'_>) -> Result<Value, Refusal>
-    ensures { IsFound data_of (chosen (plain_forms reader_limits) first input.old.left.now) result input.new.left.now }
+    ensures { IsFound data_of (chosen (plain_forms reader_limits) first input.old.left.now) result
+        input.new.left.now }
 {
     match first {
         b'+' => line_value(alloc, OneLine::Simple, input),
@@ -418,7 +430,8 @@ pub fn plain(alloc: Global, first: u8, input: &mut Input<'_>) -> Result<Value, R
 
 /// What stands where no more may be nested, by its first byte.
 pub fn innermost(alloc: Global, first: u8, input: &mut Input<'_>) -> Result<Value, Refusal>
-    ensures { IsFound data_of (chosen (innermost_forms reader_limits) first input.old.left.now) result input.new.left.now }
+    ensures { IsFound data_of (chosen (innermost_forms reader_limits) first input.old.left.now)
+        result input.new.left.now }
 {
     match first {
         b'*' => line_value(alloc, OneLine::NoArray, input),

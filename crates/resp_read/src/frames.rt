@@ -2,7 +2,7 @@ ghost use Rattle.std.specs.Prelude.{◌≡◌, ℕ, List, IfOk};
 ghost use Rattle.resp_value.specs.Data.{Data};
 ghost use Rattle.resp_value.specs.View.{data_of};
 ghost use Rattle.resp_read.specs.Grammar.{Found};
-ghost use Rattle.resp_read.specs.Frames.{made as made_of, with_values as values_make, with_pairs as pairs_make, with_value as value_makes, begun as begun_is};
+ghost use Rattle.resp_read.specs.Frames.{made as made_of, with_values as values_make, with_pairs as pairs_make, with_value as value_makes, begun as begun_is, IsAdded};
 
 use resp_value::{Inner, Pairs, PushKind, Value, Values};
 use std::alloc::{AllocError, Global};
@@ -73,7 +73,8 @@ fn made(of: Sequence, values: Values) -> Value
 
 /// Where these values were found, and so many are to come.
 pub fn with_values(of: Sequence, found: Values, count: u64) -> Begun
-    ensures { (inside : List ℕ → Found Data) (bs : List ℕ) → values_make inside of found count bs ≡ begun_is inside result bs }
+    ensures { (inside : List ℕ → Found Data) (bs : List ℕ)
+        → values_make inside of found count bs ≡ begun_is inside result bs }
 {
     if count == 0 {
         return Begun::Whole(made(of, found));
@@ -87,7 +88,8 @@ pub fn with_values(of: Sequence, found: Values, count: u64) -> Begun
 
 /// Where these pairs were found, and so many are to come.
 pub fn with_pairs(of: Pairing, found: Pairs, count: u64) -> Begun
-    ensures { (inside : List ℕ → Found Data) (bs : List ℕ) → pairs_make inside of found count bs ≡ begun_is inside result bs }
+    ensures { (inside : List ℕ → Found Data) (bs : List ℕ)
+        → pairs_make inside of found count bs ≡ begun_is inside result bs }
 {
     if count > 0 {
         return Begun::Within(Frame::Key {
@@ -103,9 +105,28 @@ pub fn with_pairs(of: Pairing, found: Pairs, count: u64) -> Begun
 }
 
 impl Frame {
+    /// Takes the value that it waits for, where it is a sequence that waits for more behind it. Otherwise hands the value
+    /// back, and stays as it was.
+    pub fn add(&mut self, value: Value) -> Result<Option<Value>, AllocError>
+        ensures { IsAdded self.old value result self.new }
+    {
+        match self {
+            Frame::Item { found, more, .. } => {
+                if *more == 0 {
+                    return Ok(Some(value));
+                }
+                found.push(value)?;
+                *more -= 1;
+                Ok(None)
+            }
+            Frame::Key { .. } | Frame::Entry { .. } | Frame::Attributed { .. } => Ok(Some(value)),
+        }
+    }
+
     /// With the value that it waits for.
     pub fn put(self, alloc: Global, value: Value) -> Result<Begun, AllocError>
-        ensures { IfOk result (λ b. (inside : List ℕ → Found Data) (bs : List ℕ) → value_makes inside self (data_of value) bs ≡ begun_is inside b bs) }
+        ensures { IfOk result (λ b. (inside : List ℕ → Found Data) (bs : List ℕ)
+            → value_makes inside self (data_of value) bs ≡ begun_is inside b bs) }
     {
         match self {
             Frame::Item {

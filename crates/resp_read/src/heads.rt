@@ -33,7 +33,8 @@ fn whole(found: Result<Value, Refusal>) -> Result<Begun, Refusal>
 
 /// What begins at the front, in so many aggregates.
 pub fn begin(alloc: Global, around: usize, input: &mut Input<'_>) -> Result<Begun, Refusal>
-    ensures begins { Begins (parse (depth_limit - around)) (parse (depth_limit - around - 1)) input.old.left.now result input.new.left.now }
+    ensures begins { Begins (parse (depth_limit - around)) (parse (depth_limit - around - 1))
+        input.old.left.now result input.new.left.now }
     ensures shorter { IfOk result (λ b. length input.new.left.now < length input.old.left.now) }
 {
     let left = input.left;
@@ -53,7 +54,9 @@ pub fn begin(alloc: Global, around: usize, input: &mut Input<'_>) -> Result<Begu
 
 /// The head of a form that holds values, by its first byte.
 fn nested(alloc: Global, first: u8, input: &mut Input<'_>) -> Result<Begun, Refusal>
-    ensures { (inside : List ℕ → Found Data) → Begins (chosen (nested_forms reader_limits inside) first) inside input.old.left.now result input.new.left.now }
+    ensures { (inside : List ℕ → Found Data)
+        → Begins (chosen (nested_forms reader_limits inside) first) inside input.old.left.now result
+        input.new.left.now }
 {
     match first {
         b'*' => array(alloc, input),
@@ -66,7 +69,9 @@ fn nested(alloc: Global, first: u8, input: &mut Input<'_>) -> Result<Begun, Refu
 }
 
 fn array(alloc: Global, input: &mut Input<'_>) -> Result<Begun, Refusal>
-    ensures { (inside : List ℕ → Found Data) → Begins (array_form reader_limits inside) inside input.old.left.now result input.new.left.now }
+    ensures { (inside : List ℕ → Found Data)
+        → Begins (array_form reader_limits inside) inside input.old.left.now result
+        input.new.left.now }
 {
     match forms::announced(MAX_COUNT, input)? {
         None => Ok(Begun::Whole(Value::Nil)),
@@ -75,21 +80,27 @@ fn array(alloc: Global, input: &mut Input<'_>) -> Result<Begun, Refusal>
 }
 
 fn set(alloc: Global, input: &mut Input<'_>) -> Result<Begun, Refusal>
-    ensures { (inside : List ℕ → Found Data) → Begins (set_form reader_limits inside) inside input.old.left.now result input.new.left.now }
+    ensures { (inside : List ℕ → Found Data)
+        → Begins (set_form reader_limits inside) inside
+        input.old.left.now result input.new.left.now }
 {
     let n = forms::counted(0, MAX_COUNT, input)?;
     Ok(frames::with_values(Sequence::Set, Values::new(alloc), n))
 }
 
 fn map(alloc: Global, input: &mut Input<'_>) -> Result<Begun, Refusal>
-    ensures { (inside : List ℕ → Found Data) → Begins (map_form reader_limits inside) inside input.old.left.now result input.new.left.now }
+    ensures { (inside : List ℕ → Found Data)
+        → Begins (map_form reader_limits inside) inside
+        input.old.left.now result input.new.left.now }
 {
     let n = forms::counted(0, MAX_COUNT, input)?;
     Ok(frames::with_pairs(Pairing::Map, Pairs::new(alloc), n))
 }
 
 fn push(alloc: Global, input: &mut Input<'_>) -> Result<Begun, Refusal>
-    ensures { (inside : List ℕ → Found Data) → Begins (push_form reader_limits inside) inside input.old.left.now result input.new.left.now }
+    ensures { (inside : List ℕ → Found Data)
+        → Begins (push_form reader_limits inside) inside input.old.left.now result
+        input.new.left.now }
 {
     let n = forms::counted(1, MAX_COUNT, input)?;
     let text = forms::kind(alloc, input)?;
@@ -98,7 +109,9 @@ fn push(alloc: Global, input: &mut Input<'_>) -> Result<Begun, Refusal>
 }
 
 fn attribute(alloc: Global, input: &mut Input<'_>) -> Result<Begun, Refusal>
-    ensures { (inside : List ℕ → Found Data) → Begins (attribute_form reader_limits inside) inside input.old.left.now result input.new.left.now }
+    ensures { (inside : List ℕ → Found Data)
+        → Begins (attribute_form reader_limits inside) inside input.old.left.now result
+        input.new.left.now }
 {
     let n = forms::counted(0, MAX_COUNT, input)?;
     Ok(frames::with_pairs(Pairing::Attributes, Pairs::new(alloc), n))

@@ -146,7 +146,8 @@ impl Reader {
     /// # Errors
     /// `AllocError`: memory was refused, now or before, and the reader reads no further.
     pub fn feed(&mut self, piece: &[u8]) -> Result<(), AllocError>
-        ensures ok { OnOk result (self.new ≡ record self.old { rest = kept_of self.old.health self.old.rest piece.now }) }
+        ensures ok { OnOk result (self.new
+            ≡ record self.old { rest = kept_of self.old.health self.old.rest piece.now }) }
         ensures err { OnErr result (self.new ≡ record self.old { health = NoMemory }) }
         ensures failed { self.old.health ≡ NoMemory → IsErr result }
         ensures malformed { self.old.health ≡ Malformed → IsOk result }

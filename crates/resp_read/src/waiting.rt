@@ -83,7 +83,8 @@ fn front_of(first: u8, looked: Looked, text: &[u8]) -> Option<Front>
     requires looked { IsLooked looked text.now }
     requires fits { length text.now ≤ max_line }
     requires unended { line text.now ≡ unended text.now }
-    ensures { IfSome result (λ front. IsFrontOf front text.now × ((depth : ℕ) → parse depth (first ∷ text.now) ≡ short)) }
+    ensures { IfSome result (λ front. IsFrontOf front text.now
+        × ((depth : ℕ) → parse depth (first ∷ text.now) ≡ short)) }
 {
     match first {
         b'+' => Some(Front::Text),
@@ -120,7 +121,8 @@ fn front_of(first: u8, looked: Looked, text: &[u8]) -> Option<Front>
 /// value of the form that begins with `first`.
 pub fn look_on(first: u8, looked: Looked, text: &[u8]) -> Option<Looked>
     requires { IsLooked looked text.now }
-    ensures { IfSome result (λ known. IsLooked known text.now × ((depth : ℕ) → parse depth (first ∷ text.now) ≡ short)) }
+    ensures { IfSome result (λ known. IsLooked known text.now
+        × ((depth : ℕ) → parse depth (first ∷ text.now) ≡ short)) }
 {
     if text.len() > MAX_LINE || !is_unended(looked, text) {
         return None;
