@@ -17,7 +17,7 @@ use Rattle.resp_read.specs.declared.frames.Begun.TheVariants.{Within}
 use Rattle.resp_read.specs.declared.waiting.Looked.{Looked}
 use Rattle.resp_read.specs.declared.reader.Health.{Health}
 use Rattle.resp_read.specs.declared.reader.Health.TheVariants.{Sound}
-use Rattle.resp_read.specs.Frames.{made, paired, with_values, with_pairs, with_value, begun, whole_of, within, resumed, IsEnd, Begins, IsAdded, IsPutInPlace, ReadsOn, IsUnderway}
+use Rattle.resp_read.specs.Frames.{made, paired, with_values, with_pairs, with_value, begun_as, whole_of, within, resumed, IsEnd, Begins, IsAdded, IsPutInPlace, ReadsOn, IsUnderway}
 use Rattle.resp_read.specs.Parts.{IsFound}
 use Rattle.resp_read.specs.Waiting.{IsLooked}
 use Rattle.resp_read.proofs.Laws.{Lawful}
@@ -52,14 +52,14 @@ module _ (inside : List ℕ → Found Data) where
   pub values_none : (of : Sequence) (found : List Data) (bs : List ℕ) → with_values inside of found 0 bs ≡ read (made of found) bs
   values_none of found bs = ap (λ ds. read (made of ds) bs) (append-nil found)
 
-  pub values_more : (of : Sequence) (found : List Data) (n : ℕ) (bs : List ℕ) → with_values inside of found (suc n) bs ≡ begun inside (Within (Item of found n)) bs
+  pub values_more : (of : Sequence) (found : List Data) (n : ℕ) (bs : List ℕ) → with_values inside of found (suc n) bs ≡ begun_as inside (Within (Item of found n)) bs
   values_more of found n bs = repeated_more inside (λ ds rest. read (made of ds) rest) found n bs
 
   -- no pairs are to come, or some are
   pub pairs_none : (of : Pairing) (found : List (Data × Data)) (bs : List ℕ) → with_pairs inside of found 0 bs ≡ paired inside of found bs
   pairs_none of found bs = ap (λ ps. paired inside of ps bs) (append-nil found)
 
-  pub pairs_more : (of : Pairing) (found : List (Data × Data)) (n : ℕ) (bs : List ℕ) → with_pairs inside of found (suc n) bs ≡ begun inside (Within (Key of found n)) bs
+  pub pairs_more : (of : Pairing) (found : List (Data × Data)) (n : ℕ) (bs : List ℕ) → with_pairs inside of found (suc n) bs ≡ begun_as inside (Within (Key of found n)) bs
   pairs_more of found n bs =
       let rest_of : Data × Data → List ℕ → Found Data = λ p rest. with_pairs inside of (found ++ p ∷ []) n rest in
       repeated_more (pair inside) (paired inside of) found n bs
@@ -73,7 +73,7 @@ module _ {A : Type 0} (head : List ℕ → Found A) (law : Lawful head) (follows
       let front = (law bs).ends a rest is in
       ((front.0 ++ h.0.0, front.1 ∙ ap (λ x. front.0 ++ x) h.0.1 ∙ sym (append_assoc front.0 h.0.0 left)), λ m. ap (found_and_then follows) ((law bs).grows m a rest is) ∙ h.1 m)
 
-  pub begins_there : (bs left : List ℕ) (a : A) → head bs ≡ read a left → ((m : List ℕ) → follows a m ≡ begun inside b m) → Begins (λ m. found_and_then follows (head m)) inside bs (Ok b) left
+  pub begins_there : (bs left : List ℕ) (a : A) → head bs ≡ read a left → ((m : List ℕ) → follows a m ≡ begun_as inside b m) → Begins (λ m. found_and_then follows (head m)) inside bs (Ok b) left
   begins_there bs left a is same = begins_after bs left left a is (([], refl), λ m. same (left ++ m))
 
 module _ (form : List ℕ → Found Data) (inside : List ℕ → Found Data) where
@@ -127,8 +127,8 @@ within_bad n [] = refl
 within_bad n (frame ∷ frames) = ap (found_and_then (with_value (parse (n - 1)) frame)) (within_bad (n - 1) frames)
 
 -- a value put into the innermost aggregate
-pub within_put : (frames : List Frame) (frame : Frame) (v : Data) (bs : List ℕ) (b : Begun) → with_value (parse (max_depth - suc (length frames))) frame v bs ≡ begun (parse (max_depth - suc (length frames))) b bs
-    → within max_depth (frames ++ frame ∷ []) (read v bs) ≡ within max_depth frames (begun (parse (max_depth - suc (length frames))) b bs)
+pub within_put : (frames : List Frame) (frame : Frame) (v : Data) (bs : List ℕ) (b : Begun) → with_value (parse (max_depth - suc (length frames))) frame v bs ≡ begun_as (parse (max_depth - suc (length frames))) b bs
+    → within max_depth (frames ++ frame ∷ []) (read v bs) ≡ within max_depth frames (begun_as (parse (max_depth - suc (length frames))) b bs)
 within_put frames frame v bs b is = within_more max_depth frames frame (read v bs) ∙ ap (within max_depth frames) is
 
 -- a list by its last item, and with another in its place
@@ -145,14 +145,14 @@ last_set xs y some =
     sym (take_all (length xs - 1 + 1) (slice_set xs (length xs - 1) y) all) ∙ take_more_set xs (length xs - 1) y less
 
 -- one more aggregate is begun
-pub within_held : (frames : List Frame) (frame : Frame) (bs : List ℕ) → within max_depth frames (begun (parse (max_depth - suc (length frames))) (Within frame) bs) ≡ resumed (frames ++ frame ∷ []) bs
+pub within_held : (frames : List Frame) (frame : Frame) (bs : List ℕ) → within max_depth frames (begun_as (parse (max_depth - suc (length frames))) (Within frame) bs) ≡ resumed (frames ++ frame ∷ []) bs
 within_held frames frame bs =
     let n : length (frames ++ frame ∷ []) ≡ suc (length frames) = omega (arith, length-append frames (frame ∷ [])) in
     sym (within_more max_depth frames frame (parse (max_depth - suc (length frames)) bs)) ∙ ap (λ k. within max_depth (frames ++ frame ∷ []) (parse (max_depth - k) bs)) (sym n)
 
 -- the innermost takes a value in place
 pub within_added : (frames new : List Frame) (frame after : Frame) (v : Data) → 0 < length frames → get_or frames (length frames - 1) frame ≡ frame → new ≡ slice_set frames (length frames - 1) after
-    → ((inside : List ℕ → Found Data) (bs : List ℕ) → with_value inside frame v bs ≡ begun inside (Within after) bs) → (bs : List ℕ) → within max_depth frames (read v bs) ≡ resumed new bs
+    → ((inside : List ℕ → Found Data) (bs : List ℕ) → with_value inside frame v bs ≡ begun_as inside (Within after) bs) → (bs : List ℕ) → within max_depth frames (read v bs) ≡ resumed new bs
 within_added frames new frame after v some is set added bs =
     let front = take (length frames - 1) frames in
     let old : frames ≡ front ++ frame ∷ [] = last_is frames frame some is in
@@ -176,11 +176,11 @@ module _ {E : Type 0} (v : Value) (frames : List Frame) (frame after : Frame) wh
   put_at n e some is r h = subst (λ k. IsPutInPlace frames v r (slice_set frames (k - 1) after)) (sym e) (put_by (subst (λ k. 0 < k) e some) (subst (λ k. get_or frames (k - 1) frame ≡ frame) e is) r h)
 
 -- what begins there
-pub resumed_begun : (frames : List Frame) (b : Begun) (left ahead : List ℕ) → ((m : List ℕ) → parse (max_depth - length frames) (left ++ m) ≡ begun (parse (max_depth - length frames - 1)) b (ahead ++ m))
-    → (m : List ℕ) → resumed frames (left ++ m) ≡ within max_depth frames (begun (parse (max_depth - suc (length frames))) b (ahead ++ m))
+pub resumed_begun : (frames : List Frame) (b : Begun) (left ahead : List ℕ) → ((m : List ℕ) → parse (max_depth - length frames) (left ++ m) ≡ begun_as (parse (max_depth - length frames - 1)) b (ahead ++ m))
+    → (m : List ℕ) → resumed frames (left ++ m) ≡ within max_depth frames (begun_as (parse (max_depth - suc (length frames))) b (ahead ++ m))
 resumed_begun frames b left ahead is m =
     let e : (max_depth - length frames) - 1 ≡ max_depth - suc (length frames) = omega arith in
-    ap (within max_depth frames) (is m ∙ ap (λ d. begun (parse d) b (ahead ++ m)) e)
+    ap (within max_depth frames) (is m ∙ ap (λ d. begun_as (parse d) b (ahead ++ m)) e)
 
 -- the end of an end
 pub end-end : (a b c : List ℕ) → IsEnd a b → IsEnd b c → IsEnd a c

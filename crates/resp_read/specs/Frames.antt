@@ -46,9 +46,9 @@ with_value inside (Entry of found k more) v bs = with_pairs inside of (found ++ 
 with_value inside (Attributed ps) v bs = read (attribute v (members_of ps)) bs
 
 -- what was begun is, where these bytes follow
-abbrev pub begun : (List ℕ → Found Data) → Begun → List ℕ → Found Data
-begun inside (Whole v) bs = read (data_of v) bs
-begun inside (Within frame) bs = found_and_then (with_value inside frame) (inside bs)
+abbrev pub begun_as : (List ℕ → Found Data) → Begun → List ℕ → Found Data
+begun_as inside (Whole v) bs = read (data_of v) bs
+begun_as inside (Within frame) bs = found_and_then (with_value inside frame) (inside bs)
 
 -- a value that was read is whole
 abbrev pub whole_of : Result Value Refusal → Result Begun Refusal
@@ -70,14 +70,14 @@ IsEnd end bs = (p : List ℕ) × (bs ≡ p ++ end)
 
 -- what began is what the form is, whatever bytes follow; or the form is short or bad
 abbrev pub Begins : (List ℕ → Found Data) → (List ℕ → Found Data) → List ℕ → Result Begun Refusal → List ℕ → Type 0
-Begins form inside bs (Ok b) left = IsEnd left bs × ((m : List ℕ) → form (bs ++ m) ≡ begun inside b (left ++ m))
+Begins form inside bs (Ok b) left = IsEnd left bs × ((m : List ℕ) → form (bs ++ m) ≡ begun_as inside b (left ++ m))
 Begins form inside bs (Err Short) left = form bs ≡ short
 Begins form inside bs (Err Bad) left = form bs ≡ bad
 Begins form inside bs (Err NoMemory) left = Unit {0}
 
 -- what an aggregate does with a value that is offered: it takes it and waits for the next one, or hands it back and stays as it was
 abbrev pub IsAdded : {E : Type 0} → Frame → Value → Result (Option Value) E → Frame → Type 0
-IsAdded old v (Ok None) new = (inside : List ℕ → Found Data) (bs : List ℕ) → with_value inside old (data_of v) bs ≡ begun inside (Within new) bs
+IsAdded old v (Ok None) new = (inside : List ℕ → Found Data) (bs : List ℕ) → with_value inside old (data_of v) bs ≡ begun_as inside (Within new) bs
 IsAdded old v (Ok (Some w)) new = (w ≡ v) × (new ≡ old)
 IsAdded old v (Err e) new = Unit {0}
 

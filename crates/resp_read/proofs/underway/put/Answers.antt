@@ -5,7 +5,7 @@ use Rattle.resp_value.specs.declared.value.Value.{Value}
 use Rattle.resp_read.specs.Grammar.{read, parse, max_depth}
 use Rattle.resp_read.specs.declared.frames.Frame.{Frame}
 use Rattle.resp_read.specs.declared.frames.Begun.TheVariants.{Whole, Within}
-use Rattle.resp_read.specs.Frames.{begun, within, resumed, IsPutInPlace}
+use Rattle.resp_read.specs.Frames.{begun_as, within, resumed, IsPutInPlace}
 use Rattle.resp_read.proofs.FrameLaws.{within_put, within_held, none_left}
 use Rattle.resp_read.proofs.underway.put.Goals as goal
 
@@ -32,7 +32,7 @@ loop-back-preserved c = λ bs.
     let inside = parse (max_depth - suc (length frames)) in
     c.loop-back.invariant bs ∙ handed c.loop-back.frames.items c.put_in_place.new.frames.items c.loop-back.value c.in-Some.back c.in_ok-put_in_place.field-0 c.in-Some.is c.in_ok-put_in_place.ensures bs
     ∙ ap (λ fs. within max_depth fs (read v bs)) c.in-Some-pop.ensures.items
-    ∙ within_put frames c.in-Some-pop.frame v bs (Whole c.in-Whole.whole) (c.in_ok-whole.ensures inside bs ∙ ap (λ b. begun inside b bs) c.in-Whole.is)
+    ∙ within_put frames c.in-Some-pop.frame v bs (Whole c.in-Whole.whole) (c.in_ok-whole.ensures inside bs ∙ ap (λ b. begun_as inside b bs) c.in-Whole.is)
 
 pub returns-in-Within : goal.returns-in-Within
 returns-in-Within c = λ bs.
@@ -41,5 +41,5 @@ returns-in-Within c = λ bs.
     let inside = parse (max_depth - suc (length frames)) in
     c.loop-back.invariant bs ∙ handed c.loop-back.frames.items c.put_in_place.new.frames.items c.loop-back.value c.in-Some.back c.in_ok-put_in_place.field-0 c.in-Some.is c.in_ok-put_in_place.ensures bs
     ∙ ap (λ fs. within max_depth fs (read v bs)) c.in-Some-pop.ensures.items
-    ∙ within_put frames c.in-Some-pop.frame v bs (Within c.in-Within.frame) (c.in_ok-whole.ensures inside bs ∙ ap (λ b. begun inside b bs) c.in-Within.is)
+    ∙ within_put frames c.in-Some-pop.frame v bs (Within c.in-Within.frame) (c.in_ok-whole.ensures inside bs ∙ ap (λ b. begun_as inside b bs) c.in-Within.is)
     ∙ within_held frames c.in-Within.frame bs ∙ ap (λ fs. resumed fs bs) (sym c.in_ok-hold-in-Within.ensures)
