@@ -12,35 +12,52 @@ ghost use Rattle.canonical_laws.specs.Readable.{IsValue, HasShortErrors, IsReada
 /// Does nothing. Its contract: whatever follows the canonical text of a readable value, a reader finds that value at the
 /// front, and what follows is left; and no other value is read back within its limits.
 pub fn a_canonical_text_is_read_back()
-    ensures at_depth { (depth : ℕ) (v : Data) (rest : List ℕ) → IsReadable reader_limits depth v → parse depth (canonical v ++ rest) ≡ read v rest }
-    ensures reads { (v : Data) (rest : List ℕ) → IsReadable reader_limits max_depth v → Reads (canonical v ++ rest) v rest }
-    ensures no_other { (v : Data) (rest left : List ℕ) → Reads (canonical v ++ rest) v left → IsReadable reader_limits max_depth v }
+    ensures at_depth { (depth : ℕ) (v : Data) (rest : List ℕ) → IsReadable reader_limits depth v
+        → parse depth (canonical v ++ rest) ≡ read v rest }
+    ensures reads { (v : Data) (rest : List ℕ) → IsReadable reader_limits max_depth v
+        → Reads (canonical v ++ rest) v rest }
+    ensures no_other { (v : Data) (rest left : List ℕ) → Reads (canonical v ++ rest) v left
+        → IsReadable reader_limits max_depth v }
 {}
 
 /// Does nothing. Its contract: the grammar without limits on lengths, lines and counts reads each value back from its
 /// canonical text, whatever follows. The values that a reader gives are among these, whatever their errors, and so are
 /// lists of them, shown as arrays. Lengths are numbers of 64 bits, as those in memory are.
 pub fn a_canonical_text_is_read_back_without_limits()
-    ensures at_depth { (depth : ℕ) (v : Data) (rest : List ℕ) → IsValue no_limits depth v → parse_within no_limits depth (canonical v ++ rest) ≡ read v rest }
-    ensures read_again { (bytes : List ℕ) (v : Data) (rest more : List ℕ) → Reads bytes v rest → parse_within no_limits shown_depth (canonical v ++ more) ≡ read v more }
-    ensures listed { (vs : List Data) (more : List ℕ) → length vs < 2 ^ 64 → All WasRead vs → parse_within no_limits shown_depth (canonical (array (items_of vs)) ++ more) ≡ read (array (items_of vs)) more }
+    ensures at_depth { (depth : ℕ) (v : Data) (rest : List ℕ) → IsValue no_limits depth v
+        → parse_within no_limits depth (canonical v ++ rest) ≡ read v rest }
+    ensures read_again { (bytes : List ℕ) (v : Data) (rest more : List ℕ) → Reads bytes v rest
+        → parse_within no_limits shown_depth (canonical v ++ more) ≡ read v more }
+    ensures listed { (vs : List Data) (more : List ℕ) → length vs < 2 ^ 64 → All WasRead vs
+        → parse_within no_limits shown_depth (canonical (array (items_of vs)) ++ more)
+        ≡ read (array (items_of vs)) more }
 {}
 
 /// Does nothing. Its contract: values that are not the same have not the same canonical text, not even where other bytes
 /// follow each; neither those within a reader's limits nor those without.
 pub fn different_values_have_different_texts()
-    ensures same { (v w : Data) → IsValue reader_limits max_depth v → IsValue reader_limits max_depth w → canonical v ≡ canonical w → v ≡ w }
-    ensures followed { (v w : Data) (rest others : List ℕ) → IsValue reader_limits max_depth v → IsValue reader_limits max_depth w → canonical v ++ rest ≡ canonical w ++ others → (v ≡ w) × (rest ≡ others) }
-    ensures without_limits { (depth : ℕ) (v w : Data) (rest others : List ℕ) → IsValue no_limits depth v → IsValue no_limits depth w → canonical v ++ rest ≡ canonical w ++ others → (v ≡ w) × (rest ≡ others) }
+    ensures same { (v w : Data) → IsValue reader_limits max_depth v
+        → IsValue reader_limits max_depth w → canonical v ≡ canonical w → v ≡ w }
+    ensures followed { (v w : Data) (rest others : List ℕ) → IsValue reader_limits max_depth v
+        → IsValue reader_limits max_depth w → canonical v ++ rest ≡ canonical w ++ others
+        → (v ≡ w) × (rest ≡ others) }
+    ensures without_limits { (depth : ℕ) (v w : Data) (rest others : List ℕ)
+        → IsValue no_limits depth v → IsValue no_limits depth w
+        → canonical v ++ rest ≡ canonical w ++ others → (v ≡ w) × (rest ≡ others) }
 {}
 
 /// Does nothing. Its contract: what is read from some text is exactly a value within the limits, and it is readable where
 /// none of its errors outgrows a line; so what was read, shown and read again is the same value. A text that is
 /// no longer than a line has no such error.
 pub fn a_value_that_was_read_is_readable()
-    ensures value { (bytes : List ℕ) (v : Data) (rest : List ℕ) → Reads bytes v rest → IsValue reader_limits max_depth v }
-    ensures from_some_text { (v : Data) → IsValue reader_limits max_depth v → (bytes : List ℕ) × Reads bytes v [] }
-    ensures readable { (bytes : List ℕ) (v : Data) (rest : List ℕ) → Reads bytes v rest → HasShortErrors reader_limits v → IsReadable reader_limits max_depth v }
-    ensures read_again { (bytes : List ℕ) (v : Data) (rest more : List ℕ) → Reads bytes v rest → HasShortErrors reader_limits v → Reads (canonical v ++ more) v more }
-    ensures short_text { (bytes : List ℕ) (v : Data) (rest more : List ℕ) → length bytes ≤ max_line → Reads bytes v rest → Reads (canonical v ++ more) v more }
+    ensures value { (bytes : List ℕ) (v : Data) (rest : List ℕ) → Reads bytes v rest
+        → IsValue reader_limits max_depth v }
+    ensures from_some_text { (v : Data) → IsValue reader_limits max_depth v
+        → (bytes : List ℕ) × Reads bytes v [] }
+    ensures readable { (bytes : List ℕ) (v : Data) (rest : List ℕ) → Reads bytes v rest
+        → HasShortErrors reader_limits v → IsReadable reader_limits max_depth v }
+    ensures read_again { (bytes : List ℕ) (v : Data) (rest more : List ℕ) → Reads bytes v rest
+        → HasShortErrors reader_limits v → Reads (canonical v ++ more) v more }
+    ensures short_text { (bytes : List ℕ) (v : Data) (rest more : List ℕ) → length bytes ≤ max_line
+        → Reads bytes v rest → Reads (canonical v ++ more) v more }
 {}

@@ -15,42 +15,58 @@ ghost use Rattle.resp_laws.specs.Pieces.{joined, piecewise};
 /// Does nothing. Its contract: whatever follows a packed command, the array of its name and arguments stands at the
 /// front, and what follows is left.
 pub fn a_packed_command_is_read_back()
-    ensures { (name rest : List ℕ) (args : List (List ℕ)) → IsWithinLimits (name ∷ args) → Reads (pack (name ∷ args) ++ rest) (request (name ∷ args)) rest }
+    ensures { (name rest : List ℕ) (args : List (List ℕ)) → IsWithinLimits (name ∷ args)
+        → Reads (pack (name ∷ args) ++ rest) (request (name ∷ args)) rest }
 {}
 
 /// Does nothing. Its contract: of commands packed one after another exactly their requests are read, in order, with
 /// nothing left over; and whatever follows is read as if it stood alone.
 pub fn packed_commands_are_read_back_in_order()
-    ensures exactly { (commands : List (List (List ℕ))) → All IsWithinLimits commands → values (packed commands) ≡ requests commands }
-    ensures nothing_left { (commands : List (List (List ℕ))) → All IsWithinLimits commands → left_over (packed commands) ≡ [] }
-    ensures in_front { (commands : List (List (List ℕ))) (rest : List ℕ) → All IsWithinLimits commands → values (packed commands ++ rest) ≡ requests commands ++ values rest }
-    ensures left { (commands : List (List (List ℕ))) (rest : List ℕ) → All IsWithinLimits commands → left_over (packed commands ++ rest) ≡ left_over rest }
-    ensures spoiled { (commands : List (List (List ℕ))) (rest : List ℕ) → All IsWithinLimits commands → is_spoiled (packed commands ++ rest) ≡ is_spoiled rest }
+    ensures exactly { (commands : List (List (List ℕ))) → All IsWithinLimits commands
+        → values (packed commands) ≡ requests commands }
+    ensures nothing_left { (commands : List (List (List ℕ))) → All IsWithinLimits commands
+        → left_over (packed commands) ≡ [] }
+    ensures in_front { (commands : List (List (List ℕ))) (rest : List ℕ)
+        → All IsWithinLimits commands
+        → values (packed commands ++ rest) ≡ requests commands ++ values rest }
+    ensures left { (commands : List (List (List ℕ))) (rest : List ℕ) → All IsWithinLimits commands
+        → left_over (packed commands ++ rest) ≡ left_over rest }
+    ensures spoiled { (commands : List (List (List ℕ))) (rest : List ℕ)
+        → All IsWithinLimits commands → is_spoiled (packed commands ++ rest) ≡ is_spoiled rest }
 {}
 
 /// Does nothing. Its contract: of a packed pipeline exactly the requests of its commands are read, in order, with nothing
 /// left over: of a transaction MULTI before them and EXEC after, and of no commands none.
 pub fn a_packed_pipeline_is_read_back()
-    ensures exactly { (p : CommandList) → All IsWithinLimits (words_of p.commands) → values (pack_pipeline p) ≡ requests (sent p.atomic p.commands) }
-    ensures nothing_left { (p : CommandList) → All IsWithinLimits (words_of p.commands) → left_over (pack_pipeline p) ≡ [] }
+    ensures exactly { (p : CommandList) → All IsWithinLimits (words_of p.commands)
+        → values (pack_pipeline p) ≡ requests (sent p.atomic p.commands) }
+    ensures nothing_left { (p : CommandList) → All IsWithinLimits (words_of p.commands)
+        → left_over (pack_pipeline p) ≡ [] }
 {}
 
 /// Does nothing. Its contract: commands that are not the same have not the same bytes.
 pub fn different_commands_have_different_bytes()
-    ensures { (name other : List ℕ) (args others : List (List ℕ)) → IsWithinLimits (name ∷ args) → IsWithinLimits (other ∷ others) → pack (name ∷ args) ≡ pack (other ∷ others) → (name ≡ other) × (args ≡ others) }
+    ensures { (name other : List ℕ) (args others : List (List ℕ)) → IsWithinLimits (name ∷ args)
+        → IsWithinLimits (other ∷ others) → pack (name ∷ args) ≡ pack (other ∷ others)
+        → (name ≡ other) × (args ≡ others) }
 {}
 
 /// Does nothing. Its contract: a text begins with one value at most, and only one text is left after it.
 pub fn a_text_begins_with_one_value()
-    ensures one { (bytes : List ℕ) (v w : Data) (rest others : List ℕ) → Reads bytes v rest → Reads bytes w others → (v ≡ w) × (rest ≡ others) }
-    ensures end { (bytes : List ℕ) (v : Data) (rest : List ℕ) → Reads bytes v rest → (front : List ℕ) × (bytes ≡ front ++ rest) × (0 < length front) }
-    ensures or_none { (bytes : List ℕ) → ((v : Data) × (rest : List ℕ) × Reads bytes v rest) ⊎ (IsProperPrefix bytes ⊎ IsMalformed bytes) }
+    ensures one { (bytes : List ℕ) (v w : Data) (rest others : List ℕ) → Reads bytes v rest
+        → Reads bytes w others → (v ≡ w) × (rest ≡ others) }
+    ensures end { (bytes : List ℕ) (v : Data) (rest : List ℕ) → Reads bytes v rest
+        → (front : List ℕ) × (bytes ≡ front ++ rest) × (0 < length front) }
+    ensures or_none { (bytes : List ℕ)
+        → ((v : Data) × (rest : List ℕ) × Reads bytes v rest)
+        ⊎ (IsProperPrefix bytes ⊎ IsMalformed bytes) }
 {}
 
 /// Does nothing. Its contract: a value that was read stays read whatever follows, and a text that can begin none still
 /// can't.
 pub fn more_bytes_change_no_value()
-    ensures value { (bytes more : List ℕ) (v : Data) (rest : List ℕ) → Reads bytes v rest → Reads (bytes ++ more) v (rest ++ more) }
+    ensures value { (bytes more : List ℕ) (v : Data) (rest : List ℕ) → Reads bytes v rest
+        → Reads (bytes ++ more) v (rest ++ more) }
     ensures malformed { (bytes more : List ℕ) → IsMalformed bytes → IsMalformed (bytes ++ more) }
 {}
 

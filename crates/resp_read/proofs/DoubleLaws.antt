@@ -141,12 +141,12 @@ run_takes s (b ∷ l) = step_takes s b l ∙ run_takes (step s b) l
 pub double_is : (l : List ℕ) → is_double l ≡ is_whole (missing (run Nothing l))
 double_is l = run_takes Nothing l
 
-run-append : (s : Seen) (l q : List ℕ) → run s (l ++ q) ≡ run (run s l) q
-run-append s [] q = refl
-run-append s (b ∷ l) q = run-append (step s b) l q
+pub double-append : (s : Seen) (l q : List ℕ) → run s (l ++ q) ≡ run (run s l) q
+double-append s [] q = refl
+double-append s (b ∷ l) q = double-append (step s b) l q
 
 double_on : (l q : List ℕ) → is_double (l ++ q) ≡ takes (run Nothing l) q
-double_on l q = double_is (l ++ q) ∙ ap (λ s. is_whole (missing s)) (run-append Nothing l q) ∙ sym (run_takes (run Nothing l) q)
+double_on l q = double_is (l ++ q) ∙ ap (λ s. is_whole (missing s)) (double-append Nothing l q) ∙ sym (run_takes (run Nothing l) q)
 
 -- k bytes are fewer than are missing
 abbrev TooFew : Option ℕ → ℕ → Type 0

@@ -1,6 +1,7 @@
 -- A value that is read on within aggregates that were begun is the value that is read from its front.
-use Rattle.std.proofs.Common.{◌≡◌, ℕ, suc, ◌+◌, ◌-◌, ◌≤◌, ◌<◌, IfOk, List, [], ◌∷◌, ◌++◌, length, get_or, take, drop, Result, Ok, Err, refl, sym, ap, ◌∙◌, subst, append_assoc, arith, length-append, length-take-le}
-use Rattle.std.proofs.lemmas.List.{append-nil, take-append-drop, drop_at}
+use Rattle.std.proofs.Common.{◌≡◌, ℕ, suc, ◌+◌, ◌-◌, ◌≤◌, ◌<◌, IfOk, List, [], ◌∷◌, ◌++◌, length, get_or, take, drop, Result, Ok, Err, Option, Some, None, refl, sym, ap, ◌∙◌, subst, append_assoc, arith, length-append, length-drop, length-take-le}
+use Rattle.std.specs.Prelude.{slice_set}
+use Rattle.std.proofs.lemmas.List.{take_more, take_more_set, take_all, length-set, set-get_or, append-nil, drop-drop, take-append-drop, drop_at}
 use Rattle.resp_value.specs.Data.{Data}
 use Rattle.resp_value.specs.View.{data_of}
 use Rattle.resp_value.specs.declared.value.Value.{Value}
@@ -13,10 +14,12 @@ use Rattle.resp_read.specs.declared.frames.Frame.{Frame}
 use Rattle.resp_read.specs.declared.frames.Frame.TheVariants.{Item, Key}
 use Rattle.resp_read.specs.declared.frames.Begun.{Begun}
 use Rattle.resp_read.specs.declared.frames.Begun.TheVariants.{Within}
+use Rattle.resp_read.specs.declared.waiting.Looked.{Looked}
 use Rattle.resp_read.specs.declared.reader.Health.{Health}
 use Rattle.resp_read.specs.declared.reader.Health.TheVariants.{Sound}
-use Rattle.resp_read.specs.Frames.{made, paired, with_values, with_pairs, with_value, begun, whole_of, within, resumed, IsEnd, Begins, ReadsOn, IsUnderway}
+use Rattle.resp_read.specs.Frames.{made, paired, with_values, with_pairs, with_value, begun_as, whole_of, within, resumed, IsEnd, Begins, IsAdded, IsPutInPlace, ReadsOn, IsUnderway}
 use Rattle.resp_read.specs.Parts.{IsFound}
+use Rattle.resp_read.specs.Waiting.{IsLooked}
 use Rattle.resp_read.proofs.Laws.{Lawful}
 use Rattle.resp_read.proofs.ParseLaws.{same_first, takes_a_byte}
 
@@ -49,14 +52,14 @@ module _ (inside : List ℕ → Found Data) where
   pub values_none : (of : Sequence) (found : List Data) (bs : List ℕ) → with_values inside of found 0 bs ≡ read (made of found) bs
   values_none of found bs = ap (λ ds. read (made of ds) bs) (append-nil found)
 
-  pub values_more : (of : Sequence) (found : List Data) (n : ℕ) (bs : List ℕ) → with_values inside of found (suc n) bs ≡ begun inside (Within (Item of found n)) bs
+  pub values_more : (of : Sequence) (found : List Data) (n : ℕ) (bs : List ℕ) → with_values inside of found (suc n) bs ≡ begun_as inside (Within (Item of found n)) bs
   values_more of found n bs = repeated_more inside (λ ds rest. read (made of ds) rest) found n bs
 
   -- no pairs are to come, or some are
   pub pairs_none : (of : Pairing) (found : List (Data × Data)) (bs : List ℕ) → with_pairs inside of found 0 bs ≡ paired inside of found bs
   pairs_none of found bs = ap (λ ps. paired inside of ps bs) (append-nil found)
 
-  pub pairs_more : (of : Pairing) (found : List (Data × Data)) (n : ℕ) (bs : List ℕ) → with_pairs inside of found (suc n) bs ≡ begun inside (Within (Key of found n)) bs
+  pub pairs_more : (of : Pairing) (found : List (Data × Data)) (n : ℕ) (bs : List ℕ) → with_pairs inside of found (suc n) bs ≡ begun_as inside (Within (Key of found n)) bs
   pairs_more of found n bs =
       let rest_of : Data × Data → List ℕ → Found Data = λ p rest. with_pairs inside of (found ++ p ∷ []) n rest in
       repeated_more (pair inside) (paired inside of) found n bs
@@ -70,7 +73,7 @@ module _ {A : Type 0} (head : List ℕ → Found A) (law : Lawful head) (follows
       let front = (law bs).ends a rest is in
       ((front.0 ++ h.0.0, front.1 ∙ ap (λ x. front.0 ++ x) h.0.1 ∙ sym (append_assoc front.0 h.0.0 left)), λ m. ap (found_and_then follows) ((law bs).grows m a rest is) ∙ h.1 m)
 
-  pub begins_there : (bs left : List ℕ) (a : A) → head bs ≡ read a left → ((m : List ℕ) → follows a m ≡ begun inside b m) → Begins (λ m. found_and_then follows (head m)) inside bs (Ok b) left
+  pub begins_there : (bs left : List ℕ) (a : A) → head bs ≡ read a left → ((m : List ℕ) → follows a m ≡ begun_as inside b m) → Begins (λ m. found_and_then follows (head m)) inside bs (Ok b) left
   begins_there bs left a is same = begins_after bs left left a is (([], refl), λ m. same (left ++ m))
 
 module _ (form : List ℕ → Found Data) (inside : List ℕ → Found Data) where
@@ -124,22 +127,60 @@ within_bad n [] = refl
 within_bad n (frame ∷ frames) = ap (found_and_then (with_value (parse (n - 1)) frame)) (within_bad (n - 1) frames)
 
 -- a value put into the innermost aggregate
-pub within_put : (frames : List Frame) (frame : Frame) (v : Data) (bs : List ℕ) (b : Begun) → with_value (parse (max_depth - suc (length frames))) frame v bs ≡ begun (parse (max_depth - suc (length frames))) b bs
-    → within max_depth (frames ++ frame ∷ []) (read v bs) ≡ within max_depth frames (begun (parse (max_depth - suc (length frames))) b bs)
+pub within_put : (frames : List Frame) (frame : Frame) (v : Data) (bs : List ℕ) (b : Begun) → with_value (parse (max_depth - suc (length frames))) frame v bs ≡ begun_as (parse (max_depth - suc (length frames))) b bs
+    → within max_depth (frames ++ frame ∷ []) (read v bs) ≡ within max_depth frames (begun_as (parse (max_depth - suc (length frames))) b bs)
 within_put frames frame v bs b is = within_more max_depth frames frame (read v bs) ∙ ap (within max_depth frames) is
 
+-- a list by its last item, and with another in its place
+last_is : {X : Type 0} (xs : List X) (x : X) → 0 < length xs → get_or xs (length xs - 1) x ≡ x → xs ≡ take (length xs - 1) xs ++ x ∷ []
+last_is xs x some is =
+    let less : length xs - 1 < length xs = omega (arith, some) in
+    let all : length xs ≤ length xs - 1 + 1 = omega arith in
+    sym (take_all (length xs - 1 + 1) xs all) ∙ take_more xs (length xs - 1) x less ∙ ap (λ y. take (length xs - 1) xs ++ y ∷ []) is
+
+last_set : {X : Type 0} (xs : List X) (y : X) → 0 < length xs → slice_set xs (length xs - 1) y ≡ take (length xs - 1) xs ++ y ∷ []
+last_set xs y some =
+    let less : length xs - 1 < length xs = omega (arith, some) in
+    let all : length (slice_set xs (length xs - 1) y) ≤ length xs - 1 + 1 = omega (arith, length-set xs (length xs - 1) y) in
+    sym (take_all (length xs - 1 + 1) (slice_set xs (length xs - 1) y) all) ∙ take_more_set xs (length xs - 1) y less
+
 -- one more aggregate is begun
-pub within_held : (frames : List Frame) (frame : Frame) (bs : List ℕ) → within max_depth frames (begun (parse (max_depth - suc (length frames))) (Within frame) bs) ≡ resumed (frames ++ frame ∷ []) bs
+pub within_held : (frames : List Frame) (frame : Frame) (bs : List ℕ) → within max_depth frames (begun_as (parse (max_depth - suc (length frames))) (Within frame) bs) ≡ resumed (frames ++ frame ∷ []) bs
 within_held frames frame bs =
     let n : length (frames ++ frame ∷ []) ≡ suc (length frames) = omega (arith, length-append frames (frame ∷ [])) in
     sym (within_more max_depth frames frame (parse (max_depth - suc (length frames)) bs)) ∙ ap (λ k. within max_depth (frames ++ frame ∷ []) (parse (max_depth - k) bs)) (sym n)
 
+-- the innermost takes a value in place
+pub within_added : (frames new : List Frame) (frame after : Frame) (v : Data) → 0 < length frames → get_or frames (length frames - 1) frame ≡ frame → new ≡ slice_set frames (length frames - 1) after
+    → ((inside : List ℕ → Found Data) (bs : List ℕ) → with_value inside frame v bs ≡ begun_as inside (Within after) bs) → (bs : List ℕ) → within max_depth frames (read v bs) ≡ resumed new bs
+within_added frames new frame after v some is set added bs =
+    let front = take (length frames - 1) frames in
+    let old : frames ≡ front ++ frame ∷ [] = last_is frames frame some is in
+    let then : new ≡ front ++ after ∷ [] = set ∙ last_set frames after some in
+    ap (λ fs. within max_depth fs (read v bs)) old
+    ∙ within_put front frame v bs (Within after) (added (parse (max_depth - suc (length front))) bs)
+    ∙ within_held front after bs ∙ ap (λ fs. resumed fs bs) (sym then)
+
+-- nothing was taken off an empty list
+pub none_left : {X : Type 0} (old new : List X) → new ++ [] ≡ old → new ≡ [] → (new ≡ []) × (old ≡ [])
+none_left old new same none = (none, sym same ∙ append-nil new ∙ none)
+
+-- a value that was offered to the innermost
+module _ {E : Type 0} (v : Value) (frames : List Frame) (frame after : Frame) where
+  put_by : 0 < length frames → get_or frames (length frames - 1) frame ≡ frame → (r : Result (Option Value) E) → IsAdded frame v r after → IsPutInPlace frames v r (slice_set frames (length frames - 1) after)
+  put_by some is (Ok (Some w)) h = (h.0, ap (slice_set frames (length frames - 1)) (h.1 ∙ sym is) ∙ set-get_or frames (length frames - 1) frame)
+  put_by some is (Ok None) h = within_added frames (slice_set frames (length frames - 1) after) frame after (data_of v) some is refl h
+  put_by some is (Err e) h = tt
+
+  pub put_at : (n : ℕ) → n ≡ length frames → 0 < n → get_or frames (n - 1) frame ≡ frame → (r : Result (Option Value) E) → IsAdded frame v r after → IsPutInPlace frames v r (slice_set frames (n - 1) after)
+  put_at n e some is r h = subst (λ k. IsPutInPlace frames v r (slice_set frames (k - 1) after)) (sym e) (put_by (subst (λ k. 0 < k) e some) (subst (λ k. get_or frames (k - 1) frame ≡ frame) e is) r h)
+
 -- what begins there
-pub resumed_begun : (frames : List Frame) (b : Begun) (left ahead : List ℕ) → ((m : List ℕ) → parse (max_depth - length frames) (left ++ m) ≡ begun (parse (max_depth - length frames - 1)) b (ahead ++ m))
-    → (m : List ℕ) → resumed frames (left ++ m) ≡ within max_depth frames (begun (parse (max_depth - suc (length frames))) b (ahead ++ m))
+pub resumed_begun : (frames : List Frame) (b : Begun) (left ahead : List ℕ) → ((m : List ℕ) → parse (max_depth - length frames) (left ++ m) ≡ begun_as (parse (max_depth - length frames - 1)) b (ahead ++ m))
+    → (m : List ℕ) → resumed frames (left ++ m) ≡ within max_depth frames (begun_as (parse (max_depth - suc (length frames))) b (ahead ++ m))
 resumed_begun frames b left ahead is m =
     let e : (max_depth - length frames) - 1 ≡ max_depth - suc (length frames) = omega arith in
-    ap (within max_depth frames) (is m ∙ ap (λ d. begun (parse d) b (ahead ++ m)) e)
+    ap (within max_depth frames) (is m ∙ ap (λ d. begun_as (parse d) b (ahead ++ m)) e)
 
 -- the end of an end
 pub end-end : (a b c : List ℕ) → IsEnd a b → IsEnd b c → IsEnd a c
@@ -165,7 +206,7 @@ end_at place bytes left h end =
     (omega arith, ap (drop (length bytes - length left)) whole ∙ drop_at front left (length bytes - length left) (omega arith))
 
 -- what a reader finds that reads on
-module _ (bytes : List ℕ) (at next : ℕ) (frames : List Frame) (health : Health) (underway : IsUnderway bytes at next frames health) (sound : health ≡ Sound) (text : List ℕ) (is : text ≡ drop next bytes) (new : List Frame) (left : List ℕ) where
+module _ (bytes : List ℕ) (at next : ℕ) (frames : List Frame) (looked : Looked) (health : Health) (underway : IsUnderway bytes at next frames looked health) (sound : health ≡ Sound) (text : List ℕ) (is : text ≡ drop next bytes) (new : List Frame) (left : List ℕ) where
   there : (m : List ℕ) → parse max_depth (drop at bytes ++ m) ≡ resumed frames (text ++ m)
   there m = underway.resumes sound m ∙ ap (λ x. resumed frames (x ++ m)) (sym is)
 
@@ -184,12 +225,44 @@ module _ (bytes : List ℕ) (at next : ℕ) (frames : List Frame) (health : Heal
   pub spoiled : ReadsOn frames text (Err Bad) new left → parse max_depth (drop at bytes) ≡ bad
   spoiled h = found_there bad (ap (resumed frames) (append-nil text) ∙ h)
 
-  pub underway_still : ReadsOn frames text (Err Short) new left → IsUnderway bytes at (length bytes - length left) new health
-  underway_still h =
+  pub underway_still : (known : Looked) → ((l : List ℕ) → IsLooked known l) → ReadsOn frames text (Err Short) new left → IsUnderway bytes at (length bytes - length left) new known health
+  underway_still known anywhere h =
       let l = left_behind h.0 in
       let first = underway.in_order in
       record {
         in_order = omega arith;
         fits = omega arith;
         resumes = λ s m. there m ∙ h.2 m ∙ ap (λ x. resumed new (x ++ m)) (sym l.1);
+        known = anywhere (drop 1 (drop (length bytes - length left) bytes));
+      }
+
+-- where a line that hasn't ended stands next
+module _ (bytes : List ℕ) (at next : ℕ) (frames : List Frame) (looked : Looked) (health : Health) (underway : IsUnderway bytes at next frames looked health) where
+  pub waits_there : (first : ℕ) (left text : List ℕ) → left ≡ drop next bytes → 0 < length left → get_or left 0 0 ≡ first → text ≡ drop 1 left → ((depth : ℕ) → parse depth (first ∷ text) ≡ short) → health ≡ Sound → parse max_depth (drop at bytes) ≡ short
+  waits_there first left text there some is behind waits sound =
+      let whole : left ≡ first ∷ text = same_first left first some is ∙ ap (λ x. first ∷ x) (sym behind) in
+      ap (parse max_depth) (sym (append-nil (drop at bytes))) ∙ underway.resumes sound [] ∙ ap (resumed frames) (append-nil (drop next bytes) ∙ sym there ∙ whole)
+      ∙ ap (within max_depth frames) (waits (max_depth - length frames)) ∙ within_short max_depth frames
+
+  pub waiting_still : (known : Looked) (left text : List ℕ) → left ≡ drop next bytes → text ≡ drop 1 left → IsLooked known text → IsUnderway bytes at next frames known health
+  waiting_still known left text there behind is = record {
+    in_order = underway.in_order;
+    fits = underway.fits;
+    resumes = underway.resumes;
+    known = subst (IsLooked known) (behind ∙ ap (drop 1) there) is;
+  }
+
+  -- the bytes of the values given are forgotten
+  pub moved_up : (new : List ℕ) → new ≡ drop at bytes → IsUnderway new 0 (next - at) frames looked health
+  moved_up new is =
+      let order = underway.in_order in
+      let fit = underway.fits in
+      let n : length new ≡ length bytes - at = ap length is ∙ length-drop at bytes in
+      let total : at + (next - at) ≡ next = omega arith in
+      let there : drop (next - at) new ≡ drop next bytes = ap (drop (next - at)) is ∙ drop-drop (next - at) at bytes ∙ ap (λ k. drop k bytes) total in
+      record {
+        in_order = omega arith;
+        fits = omega arith;
+        resumes = λ s m. ap (λ x. parse max_depth (x ++ m)) is ∙ underway.resumes s m ∙ ap (λ x. resumed frames (x ++ m)) (sym there);
+        known = subst (λ x. IsLooked looked (drop 1 x)) (sym there) underway.known;
       }

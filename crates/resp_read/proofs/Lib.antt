@@ -13,3 +13,5 @@ pub mod ReadLaws
 pub mod ValueLaws
 pub mod ItemLaws
 pub mod FrameLaws
+pub mod DigitLaws
+pub mod WaitLaws

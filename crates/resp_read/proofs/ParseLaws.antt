@@ -103,7 +103,7 @@ form_plain more b bs h = chosen_more (plain reader_limits) more b bs ∙ ap (λ 
 pub form_more : (more : Table) (b : ℕ) (bs : List ℕ) → has (plain reader_limits) b ≡ false → form reader_limits more (b ∷ bs) ≡ chosen more b bs
 form_more more b bs h = chosen_more (plain reader_limits) more b bs ∙ ap (λ c. cond c (chosen (plain reader_limits) b bs) (chosen more b bs)) h
 
-parse_plain : (depth b : ℕ) (bs : List ℕ) → has (plain reader_limits) b ≡ true → parse depth (b ∷ bs) ≡ chosen (plain reader_limits) b bs
+pub parse_plain : (depth b : ℕ) (bs : List ℕ) → has (plain reader_limits) b ≡ true → parse depth (b ∷ bs) ≡ chosen (plain reader_limits) b bs
 parse_plain zero b bs h = form_plain (innermost reader_limits) b bs h
 parse_plain (suc n) b bs h = form_plain (nested reader_limits (parse n)) b bs h
 

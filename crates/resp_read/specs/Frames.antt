@@ -13,8 +13,10 @@ use Rattle.resp_read.specs.declared.frames.Frame.{Frame}
 use Rattle.resp_read.specs.declared.frames.Frame.TheVariants.{Item, Key, Entry, Attributed}
 use Rattle.resp_read.specs.declared.frames.Begun.{Begun}
 use Rattle.resp_read.specs.declared.frames.Begun.TheVariants.{Whole, Within}
+use Rattle.resp_read.specs.declared.waiting.Looked.{Looked}
 use Rattle.resp_read.specs.declared.reader.Health.{Health}
 use Rattle.resp_read.specs.declared.reader.Health.TheVariants.{Sound}
+use Rattle.resp_read.specs.Waiting.{IsLooked}
 use Rattle.resp_read.specs.Grammar.{Found, read, short, bad, found_and_then, found_map, repeated, pair, attributed, parse, max_depth}
 
 -- what these values make
@@ -44,9 +46,9 @@ with_value inside (Entry of found k more) v bs = with_pairs inside of (found ++ 
 with_value inside (Attributed ps) v bs = read (attribute v (members_of ps)) bs
 
 -- what was begun is, where these bytes follow
-abbrev pub begun : (List ℕ → Found Data) → Begun → List ℕ → Found Data
-begun inside (Whole v) bs = read (data_of v) bs
-begun inside (Within frame) bs = found_and_then (with_value inside frame) (inside bs)
+abbrev pub begun_as : (List ℕ → Found Data) → Begun → List ℕ → Found Data
+begun_as inside (Whole v) bs = read (data_of v) bs
+begun_as inside (Within frame) bs = found_and_then (with_value inside frame) (inside bs)
 
 -- a value that was read is whole
 abbrev pub whole_of : Result Value Refusal → Result Begun Refusal
@@ -68,10 +70,22 @@ IsEnd end bs = (p : List ℕ) × (bs ≡ p ++ end)
 
 -- what began is what the form is, whatever bytes follow; or the form is short or bad
 abbrev pub Begins : (List ℕ → Found Data) → (List ℕ → Found Data) → List ℕ → Result Begun Refusal → List ℕ → Type 0
-Begins form inside bs (Ok b) left = IsEnd left bs × ((m : List ℕ) → form (bs ++ m) ≡ begun inside b (left ++ m))
+Begins form inside bs (Ok b) left = IsEnd left bs × ((m : List ℕ) → form (bs ++ m) ≡ begun_as inside b (left ++ m))
 Begins form inside bs (Err Short) left = form bs ≡ short
 Begins form inside bs (Err Bad) left = form bs ≡ bad
 Begins form inside bs (Err NoMemory) left = Unit {0}
+
+-- what an aggregate does with a value that is offered: it takes it and waits for the next one, or hands it back and stays as it was
+abbrev pub IsAdded : {E : Type 0} → Frame → Value → Result (Option Value) E → Frame → Type 0
+IsAdded old v (Ok None) new = (inside : List ℕ → Found Data) (bs : List ℕ) → with_value inside old (data_of v) bs ≡ begun_as inside (Within new) bs
+IsAdded old v (Ok (Some w)) new = (w ≡ v) × (new ≡ old)
+IsAdded old v (Err e) new = Unit {0}
+
+-- the same of the innermost of these aggregates
+abbrev pub IsPutInPlace : {E : Type 0} → List Frame → Value → Result (Option Value) E → List Frame → Type 0
+IsPutInPlace old v (Ok None) new = (bs : List ℕ) → within max_depth old (read (data_of v) bs) ≡ resumed new bs
+IsPutInPlace old v (Ok (Some w)) new = (w ≡ v) × (new ≡ old)
+IsPutInPlace old v (Err e) new = Unit {0}
 
 -- what becomes of a value in these aggregates: the outermost is whole by it, or it waits on
 abbrev pub IsPut : {E : Type 0} → List Frame → Value → Result (Option Value) E → List Frame → Type 0
@@ -86,8 +100,9 @@ ReadsOn old bs (Err Short) new left = IsEnd left bs × (resumed old bs ≡ short
 ReadsOn old bs (Err Bad) new left = resumed old bs ≡ bad
 ReadsOn old bs (Err NoMemory) new left = Unit {0}
 
--- where a reader is in its bytes: the value that begins at the one place is what the aggregates are with the bytes from the other place on, whatever bytes follow
-pub record IsUnderway (bytes : List ℕ) (at next : ℕ) (frames : List Frame) (health : Health) : Type 0 where
+-- where a reader is in its bytes: the value that begins at the one place is what the aggregates are with the bytes from the other place on, whatever bytes follow; and what is known of the line behind the first byte there
+pub record IsUnderway (bytes : List ℕ) (at next : ℕ) (frames : List Frame) (looked : Looked) (health : Health) : Type 0 where
   pub in_order : at ≤ next
   pub fits : next ≤ length bytes
   pub resumes : health ≡ Sound → (m : List ℕ) → parse max_depth (drop at bytes ++ m) ≡ resumed frames (drop next bytes ++ m)
+  pub known : IsLooked looked (drop 1 (drop next bytes))

@@ -4,6 +4,8 @@ pub mod Values
 pub mod State
 pub mod Reading
 pub mod Parts
+pub mod Digits
 pub mod Doubles
+pub mod Waiting
 pub mod Items
 pub mod Frames

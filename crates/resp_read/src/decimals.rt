@@ -1,19 +1,14 @@
-ghost use Rattle.std.specs.Prelude.{◌≡◌};
-ghost use Rattle.resp_read.specs.Grammar.{is_digit as is_digit_of, is_end, after_digits, unsigned as unsigned_of, is_big as is_big_of, big_begun, is_double as is_double_of, made_by, double_tails, reader_limits};
-ghost use Rattle.resp_read.specs.Doubles.{digit_to as digit_to_of, byte_to as byte_to_of, exponent_to as exponent_to_of, step as step_of, run, missing as missing_of};
+ghost use Rattle.std.specs.Prelude.{◌≡◌, ℕ, List, length};
+ghost use Rattle.resp_read.specs.Grammar.{is_end, after_digits, unsigned, is_big, big_begun, is_double, made_by, double_tails, reader_limits};
+ghost use Rattle.resp_read.specs.Doubles.{digit_to, byte_to, exponent_to, step, run, missing};
 ghost use Rattle.resp_read.specs.declared.decimals.Seen.TheVariants.{Nothing, Whole, Fraction, Exponent};
 
+use crate::digits::is_decimal;
 use crate::lines::MAX_LINE;
 
-fn is_digit(b: u8) -> bool
-    ensures { result ≡ is_digit_of b }
-{
-    b >= b'0' && b <= b'9'
-}
-
 /// The bytes behind a sign, if there is one.
-fn unsigned(line: &[u8]) -> &[u8]
-    ensures { result.now ≡ unsigned_of line.now }
+fn behind_sign(line: &[u8]) -> &[u8]
+    ensures { result.now ≡ unsigned line.now }
 {
     match line {
         [b'+', rest @ ..] => rest,
@@ -26,7 +21,7 @@ fn all_digits(line: &[u8]) -> bool
     ensures { result ≡ is_end (after_digits line.now) }
 {
     for b in line {
-        if !is_digit(*b) {
+        if !is_decimal(*b) {
             return false;
         }
     }
@@ -34,10 +29,10 @@ fn all_digits(line: &[u8]) -> bool
 }
 
 /// Digits, with a sign or without.
-pub fn is_big(line: &[u8]) -> bool
-    ensures { result ≡ is_big_of line.now }
+pub fn is_big_number(line: &[u8]) -> bool
+    ensures { result ≡ is_big line.now }
 {
-    let digits = unsigned(line);
+    let digits = behind_sign(line);
     if digits.is_empty() {
         return false;
     }
@@ -48,7 +43,7 @@ pub fn is_big(line: &[u8]) -> bool
 pub fn is_big_begun(front: &[u8]) -> bool
     ensures { result ≡ big_begun front.now }
 {
-    all_digits(unsigned(front))
+    all_digits(behind_sign(front))
 }
 
 /// What has been read of a double.
@@ -73,14 +68,14 @@ pub enum Seen {
     Never,
 }
 
-fn digit_to(seen: Seen, b: u8) -> Seen
-    ensures { result ≡ digit_to_of seen b }
+fn on_digit(seen: Seen, b: u8) -> Seen
+    ensures { result ≡ digit_to seen b }
 {
-    if is_digit(b) { seen } else { Seen::Never }
+    if is_decimal(b) { seen } else { Seen::Never }
 }
 
-fn exponent_to(b: u8) -> Seen
-    ensures { result ≡ exponent_to_of b }
+fn on_exponent(b: u8) -> Seen
+    ensures { result ≡ exponent_to b }
 {
     match b {
         b'e' => Seen::Exponent,
@@ -90,95 +85,102 @@ fn exponent_to(b: u8) -> Seen
 }
 
 fn after_nothing(b: u8) -> Seen
-    ensures { result ≡ step_of Nothing b }
+    ensures { result ≡ step Nothing b }
 {
     match b {
         b'-' => Seen::Minus,
         b'+' => Seen::Plus,
         b'i' => Seen::I,
         b'n' => Seen::N,
-        _ => digit_to(Seen::Whole, b),
+        _ => on_digit(Seen::Whole, b),
     }
 }
 
 fn after_exponent(b: u8) -> Seen
-    ensures { result ≡ step_of Exponent b }
+    ensures { result ≡ step Exponent b }
 {
     match b {
         b'+' => Seen::Sign,
         b'-' => Seen::Sign,
-        _ => digit_to(Seen::Power, b),
+        _ => on_digit(Seen::Power, b),
     }
 }
 
 fn after_whole(b: u8) -> Seen
-    ensures { result ≡ step_of Whole b }
+    ensures { result ≡ step Whole b }
 {
-    if is_digit(b) {
+    if is_decimal(b) {
         return Seen::Whole;
     }
     if b == b'.' {
         return Seen::Point;
     }
-    exponent_to(b)
+    on_exponent(b)
 }
 
 fn after_fraction(b: u8) -> Seen
-    ensures { result ≡ step_of Fraction b }
+    ensures { result ≡ step Fraction b }
 {
-    if is_digit(b) {
+    if is_decimal(b) {
         return Seen::Fraction;
     }
-    exponent_to(b)
+    on_exponent(b)
 }
 
 /// This byte, or none.
-fn byte_to(seen: Seen, want: u8, b: u8) -> Seen
-    ensures { result ≡ byte_to_of seen want b }
+fn on_byte(seen: Seen, want: u8, b: u8) -> Seen
+    ensures { result ≡ byte_to seen want b }
 {
     if b == want { seen } else { Seen::Never }
 }
 
-fn step(seen: Seen, b: u8) -> Seen
-    ensures { result ≡ step_of seen b }
+fn then_byte(seen: Seen, b: u8) -> Seen
+    ensures { result ≡ step seen b }
 {
     match seen {
         Seen::Nothing => after_nothing(b),
         Seen::Minus => if b == b'i' {
             Seen::I
         } else {
-            digit_to(Seen::Whole, b)
+            on_digit(Seen::Whole, b)
         },
-        Seen::Plus => digit_to(Seen::Whole, b),
-        Seen::I => byte_to(Seen::In, b'n', b),
-        Seen::In => byte_to(Seen::Inf, b'f', b),
+        Seen::Plus => on_digit(Seen::Whole, b),
+        Seen::I => on_byte(Seen::In, b'n', b),
+        Seen::In => on_byte(Seen::Inf, b'f', b),
         Seen::Inf => Seen::Never,
-        Seen::N => byte_to(Seen::Na, b'a', b),
-        Seen::Na => byte_to(Seen::Nan, b'n', b),
+        Seen::N => on_byte(Seen::Na, b'a', b),
+        Seen::Na => on_byte(Seen::Nan, b'n', b),
         Seen::Nan => Seen::Never,
         Seen::Whole => after_whole(b),
-        Seen::Point => digit_to(Seen::Fraction, b),
+        Seen::Point => on_digit(Seen::Fraction, b),
         Seen::Fraction => after_fraction(b),
         Seen::Exponent => after_exponent(b),
-        Seen::Sign => digit_to(Seen::Power, b),
-        Seen::Power => digit_to(Seen::Power, b),
+        Seen::Sign => on_digit(Seen::Power, b),
+        Seen::Power => on_digit(Seen::Power, b),
         Seen::Never => Seen::Never,
     }
+}
+
+/// What was read of a double, with these bytes more.
+pub fn read_through(before: Seen, bytes: &[u8]) -> Seen
+    ensures { result ≡ run before bytes.now }
+{
+    let mut seen = before;
+    for b in bytes {
+        seen = then_byte(seen, *b);
+    }
+    seen
 }
 
 fn read_all(line: &[u8]) -> Seen
     ensures { result ≡ run Nothing line.now }
 {
-    let mut seen = Seen::Nothing;
-    for b in line {
-        seen = step(seen, *b);
-    }
-    seen
+    read_through(Seen::Nothing, line)
 }
 
 /// How many bytes are missing until the double is whole, if any can make it so.
-fn missing(seen: Seen) -> Option<usize>
-    ensures { result ≡ missing_of seen }
+fn bytes_missing(seen: Seen) -> Option<usize>
+    ensures { result ≡ missing seen }
 {
     match seen {
         Seen::Nothing => Some(1),
@@ -200,26 +202,34 @@ fn missing(seen: Seen) -> Option<usize>
     }
 }
 
-pub fn is_double(line: &[u8]) -> bool
-    ensures { result ≡ is_double_of line.now }
+pub fn is_whole_double(line: &[u8]) -> bool
+    ensures { result ≡ is_double line.now }
 {
-    match missing(read_all(line)) {
+    match bytes_missing(read_all(line)) {
         Some(n) => n == 0,
+        None => false,
+    }
+}
+
+/// Whether a line of that length, of which this was read, can become a double within the limit of a line.
+pub fn can_be_double(seen: Seen, size: usize) -> bool
+    ensures { (front : List ℕ) → run Nothing front ≡ seen → length front ≡ size
+        → result ≡ made_by reader_limits is_double double_tails front }
+{
+    match bytes_missing(seen) {
+        Some(n) => {
+            if size > MAX_LINE {
+                return false;
+            }
+            n <= MAX_LINE - size
+        }
         None => false,
     }
 }
 
 /// Whether a line that starts so can become a double within the limit of a line.
 pub fn is_double_begun(front: &[u8]) -> bool
-    ensures { result ≡ made_by reader_limits is_double_of double_tails front.now }
+    ensures { result ≡ made_by reader_limits is_double double_tails front.now }
 {
-    match missing(read_all(front)) {
-        Some(n) => {
-            if front.len() > MAX_LINE {
-                return false;
-            }
-            n <= MAX_LINE - front.len()
-        }
-        None => false,
-    }
+    can_be_double(read_all(front), front.len())
 }

@@ -1,7 +1,7 @@
 ghost use Rattle.std.specs.Prelude.{◌≡◌, ◌≤◌, ◌*◌, length, IfOk, IfSome, option_map, is_some, Some, None, if◌then◌else◌};
 ghost use Rattle.resp_value.specs.Data.{nil};
 ghost use Rattle.resp_value.specs.View.{data_of};
-ghost use Rattle.resp_read.specs.Grammar.{simple_of, error_of, double_line, big_line, line_as, size_line, count_line, body as body_of, bulk_string as bulk_string_of, bulk_error as bulk_error_of, format as format_of, verbatim_string as verbatim_string_of, text_line, bulk_text as bulk_text_of, kind as kind_of, chosen, plain as plain_forms, innermost as innermost_forms, max_bulk, reader_limits};
+ghost use Rattle.resp_read.specs.Grammar.{simple_of, error_of, double_line, big_line, line_as, size_line, count_line, body, bulk_string, bulk_error, format, verbatim_string, text_line, bulk_text, kind, chosen, plain, innermost, max_bulk, reader_limits};
 ghost use Rattle.resp_read.specs.Parts.{line_form, has, IsFound};
 
 use crate::lines::LineEnd;
@@ -84,7 +84,7 @@ fn nil_if(is_so: bool) -> Option<Value>
 fn double(alloc: Global, line: &[u8]) -> Result<Option<Value>, AllocError>
     ensures { IfOk result (λ v. option_map data_of v ≡ (double_line reader_limits).whole line.now) }
 {
-    if decimals::is_double(line) {
+    if decimals::is_whole_double(line) {
         return Ok(Some(Value::Double(Bytes::from_slice(alloc, line)?)));
     }
     Ok(None)
@@ -93,7 +93,7 @@ fn double(alloc: Global, line: &[u8]) -> Result<Option<Value>, AllocError>
 fn big(alloc: Global, line: &[u8]) -> Result<Option<Value>, AllocError>
     ensures { IfOk result (λ v. option_map data_of v ≡ big_line.whole line.now) }
 {
-    if decimals::is_big(line) {
+    if decimals::is_big_number(line) {
         return Ok(Some(Value::BigNumber(Bytes::from_slice(alloc, line)?)));
     }
     Ok(None)
@@ -106,12 +106,12 @@ fn value_of_line(alloc: Global, form: OneLine, line: &[u8]) -> Result<Option<Val
     match form {
         OneLine::Simple => Ok(Some(simple(alloc, line)?)),
         OneLine::Error => Ok(Some(error(alloc, line)?)),
-        OneLine::Number => match lines::number(line) {
+        OneLine::Number => match lines::read_number(line) {
             Some(n) => Ok(Some(Value::Int(n))),
             None => Ok(None),
         },
         OneLine::Null => Ok(nil_if(line.is_empty())),
-        OneLine::Boolean => match lines::truth(line) {
+        OneLine::Boolean => match lines::read_truth(line) {
             Some(on) => Ok(Some(Value::Boolean(on))),
             None => Ok(None),
         },
@@ -127,11 +127,11 @@ fn is_whole(form: OneLine, line: &[u8]) -> bool
     match form {
         OneLine::Simple => true,
         OneLine::Error => true,
-        OneLine::Number => lines::number(line).is_some(),
+        OneLine::Number => lines::read_number(line).is_some(),
         OneLine::Null => line.is_empty(),
-        OneLine::Boolean => lines::truth(line).is_some(),
-        OneLine::Double => decimals::is_double(line),
-        OneLine::Big => decimals::is_big(line),
+        OneLine::Boolean => lines::read_truth(line).is_some(),
+        OneLine::Double => decimals::is_whole_double(line),
+        OneLine::Big => decimals::is_big_number(line),
         OneLine::NoArray => lines::is_no_array(line),
     }
 }
@@ -152,12 +152,13 @@ fn is_begun(form: OneLine, front: &[u8]) -> bool
 }
 
 fn line_value(alloc: Global, form: OneLine, input: &mut Input<'_>) -> Result<Value, Refusal>
-    ensures { IsFound data_of (line_as reader_limits (line_form form) input.old.left.now) result input.new.left.now }
+    ensures { IsFound data_of (line_as reader_limits (line_form form) input.old.left.now) result
+        input.new.left.now }
 {
     let left = input.left;
     match lines::find_line(left) {
         LineEnd::Ended(n) => {
-            if !lines::fits(&left[..n]) {
+            if !lines::is_within(&left[..n]) {
                 return Err(Refusal::Bad);
             }
             match value_of_line(alloc, form, &left[..n])? {
@@ -169,14 +170,14 @@ fn line_value(alloc: Global, form: OneLine, input: &mut Input<'_>) -> Result<Val
             }
         }
         LineEnd::Held(n) => {
-            if lines::fits(&left[..n]) && is_whole(form, &left[..n]) {
+            if lines::is_within(&left[..n]) && is_whole(form, &left[..n]) {
                 Err(Refusal::Short)
             } else {
                 Err(Refusal::Bad)
             }
         }
         LineEnd::Unended => {
-            if lines::fits(left) && is_begun(form, left) {
+            if lines::is_within(left) && is_begun(form, left) {
                 Err(Refusal::Short)
             } else {
                 Err(Refusal::Bad)
@@ -189,16 +190,18 @@ fn line_value(alloc: Global, form: OneLine, input: &mut Input<'_>) -> Result<Val
 /// The line that announces a length, or none for `-1`.
 pub fn announced(most: u64, input: &mut Input<'_>) -> Result<Option<u64>, Refusal>
     requires { most ≤ 9_223_372_036_854_775_808 }
-    ensures found { IsFound (λ s. s) (line_as reader_limits (size_line (Some most)) input.old.left.now) result input.new.left.now }
+    ensures found { IsFound (λ s. s)
+        (line_as reader_limits (size_line (Some most)) input.old.left.now) result
+        input.new.left.now }
     ensures fits { IfOk result (λ s. IfSome s (λ n. n ≤ most)) }
 {
     let left = input.left;
     match lines::find_line(left) {
         LineEnd::Ended(n) => {
-            if !lines::fits(&left[..n]) {
+            if !lines::is_within(&left[..n]) {
                 return Err(Refusal::Bad);
             }
-            match lines::size(most, &left[..n]) {
+            match lines::read_size(most, &left[..n]) {
                 Some(size) => {
                     input.left = &left[n + 2..];
                     Ok(size)
@@ -207,14 +210,14 @@ pub fn announced(most: u64, input: &mut Input<'_>) -> Result<Option<u64>, Refusa
             }
         }
         LineEnd::Held(n) => {
-            if lines::fits(&left[..n]) && lines::size(most, &left[..n]).is_some() {
+            if lines::is_within(&left[..n]) && lines::read_size(most, &left[..n]).is_some() {
                 Err(Refusal::Short)
             } else {
                 Err(Refusal::Bad)
             }
         }
         LineEnd::Unended => {
-            if lines::fits(left) && lines::is_size_begun(most, left) {
+            if lines::is_within(left) && lines::is_size_begun(most, left) {
                 Err(Refusal::Short)
             } else {
                 Err(Refusal::Bad)
@@ -229,17 +232,19 @@ pub fn counted(least: u64, most: u64, input: &mut Input<'_>) -> Result<u64, Refu
     requires most { most ≤ 9_223_372_036_854_775_808 }
     requires digit { least ≤ 9 }
     requires room { 11 * least ≤ most }
-    ensures found { IsFound (λ n. n) (line_as reader_limits (count_line reader_limits least (Some most)) input.old.left.now) result input.new.left.now }
+    ensures found { IsFound (λ n. n)
+        (line_as reader_limits (count_line reader_limits least (Some most)) input.old.left.now)
+        result input.new.left.now }
     ensures fits { IfOk result (λ n. n ≤ most) }
     ensures enough { IfOk result (λ n. least ≤ n) }
 {
     let left = input.left;
     match lines::find_line(left) {
         LineEnd::Ended(n) => {
-            if !lines::fits(&left[..n]) {
+            if !lines::is_within(&left[..n]) {
                 return Err(Refusal::Bad);
             }
-            match lines::count(least, most, &left[..n]) {
+            match lines::read_count(least, most, &left[..n]) {
                 Some(count) => {
                     input.left = &left[n + 2..];
                     Ok(count)
@@ -248,14 +253,16 @@ pub fn counted(least: u64, most: u64, input: &mut Input<'_>) -> Result<u64, Refu
             }
         }
         LineEnd::Held(n) => {
-            if lines::fits(&left[..n]) && lines::count(least, most, &left[..n]).is_some() {
+            if lines::is_within(&left[..n])
+                && lines::read_count(least, most, &left[..n]).is_some()
+            {
                 Err(Refusal::Short)
             } else {
                 Err(Refusal::Bad)
             }
         }
         LineEnd::Unended => {
-            if lines::fits(left) && lines::is_count_begun(least, most, left) {
+            if lines::is_within(left) && lines::is_count_begun(least, most, left) {
                 Err(Refusal::Short)
             } else {
                 Err(Refusal::Bad)
@@ -266,9 +273,9 @@ pub fn counted(least: u64, most: u64, input: &mut Input<'_>) -> Result<u64, Refu
 }
 
 /// So many bytes, and CR LF.
-fn body(alloc: Global, input: &mut Input<'_>, n: usize) -> Result<Bytes, Refusal>
+fn read_body(alloc: Global, input: &mut Input<'_>, n: usize) -> Result<Bytes, Refusal>
     requires { n ≤ max_bulk }
-    ensures { IsFound (λ b. b) (body_of n input.old.left.now) result input.new.left.now }
+    ensures { IsFound (λ b. b) (body n input.old.left.now) result input.new.left.now }
 {
     let left = input.left;
     if left.len() <= n {
@@ -288,31 +295,34 @@ fn body(alloc: Global, input: &mut Input<'_>, n: usize) -> Result<Bytes, Refusal
     Ok(bytes)
 }
 
-fn bulk_string(alloc: Global, input: &mut Input<'_>) -> Result<Value, Refusal>
-    ensures { IsFound data_of (bulk_string_of reader_limits input.old.left.now) result input.new.left.now }
+fn read_bulk_string(alloc: Global, input: &mut Input<'_>) -> Result<Value, Refusal>
+    ensures { IsFound data_of (bulk_string reader_limits input.old.left.now) result
+        input.new.left.now }
 {
     match announced(MAX_BULK, input)? {
         None => Ok(Value::Nil),
-        Some(n) => Ok(Value::BulkString(body(alloc, input, n as usize)?)),
+        Some(n) => Ok(Value::BulkString(read_body(alloc, input, n as usize)?)),
     }
 }
 
-fn bulk_error(alloc: Global, input: &mut Input<'_>) -> Result<Value, Refusal>
-    ensures { IsFound data_of (bulk_error_of reader_limits input.old.left.now) result input.new.left.now }
+fn read_bulk_error(alloc: Global, input: &mut Input<'_>) -> Result<Value, Refusal>
+    ensures { IsFound data_of (bulk_error reader_limits input.old.left.now) result
+        input.new.left.now }
 {
     let n = counted(0, MAX_BULK, input)?;
-    let text = body(alloc, input, n as usize)?;
+    let text = read_body(alloc, input, n as usize)?;
     Ok(error(alloc, text.as_slice())?)
 }
 
 /// A line that is a text.
 fn text(alloc: Global, input: &mut Input<'_>) -> Result<Bytes, Refusal>
-    ensures { IsFound (λ t. t) (line_as reader_limits text_line input.old.left.now) result input.new.left.now }
+    ensures { IsFound (λ t. t) (line_as reader_limits text_line input.old.left.now) result
+        input.new.left.now }
 {
     let left = input.left;
     match lines::find_line(left) {
         LineEnd::Ended(n) => {
-            if !lines::fits(&left[..n]) {
+            if !lines::is_within(&left[..n]) {
                 return Err(Refusal::Bad);
             }
             let text = Bytes::from_slice(alloc, &left[..n])?;
@@ -320,14 +330,14 @@ fn text(alloc: Global, input: &mut Input<'_>) -> Result<Bytes, Refusal>
             Ok(text)
         }
         LineEnd::Held(n) => {
-            if lines::fits(&left[..n]) {
+            if lines::is_within(&left[..n]) {
                 Err(Refusal::Short)
             } else {
                 Err(Refusal::Bad)
             }
         }
         LineEnd::Unended => {
-            if lines::fits(left) {
+            if lines::is_within(left) {
                 Err(Refusal::Short)
             } else {
                 Err(Refusal::Bad)
@@ -338,16 +348,18 @@ fn text(alloc: Global, input: &mut Input<'_>) -> Result<Bytes, Refusal>
 }
 
 /// A length, and a text of so many bytes.
-fn bulk_text(alloc: Global, input: &mut Input<'_>) -> Result<Bytes, Refusal>
-    ensures { IsFound (λ t. t) (bulk_text_of reader_limits input.old.left.now) result input.new.left.now }
+fn read_bulk_text(alloc: Global, input: &mut Input<'_>) -> Result<Bytes, Refusal>
+    ensures { IsFound (λ t. t) (bulk_text reader_limits input.old.left.now) result
+        input.new.left.now }
 {
     let n = counted(0, MAX_BULK, input)?;
-    body(alloc, input, n as usize)
+    read_body(alloc, input, n as usize)
 }
 
 /// The kind of a push: a simple or a bulk string.
-pub fn kind(alloc: Global, input: &mut Input<'_>) -> Result<Bytes, Refusal>
-    ensures { IsFound (λ k. k) (kind_of reader_limits input.old.left.now) result input.new.left.now }
+pub fn read_kind(alloc: Global, input: &mut Input<'_>) -> Result<Bytes, Refusal>
+    ensures { IsFound (λ k. k) (kind reader_limits input.old.left.now)
+        result input.new.left.now }
 {
     let left = input.left;
     if left.is_empty() {
@@ -357,14 +369,14 @@ pub fn kind(alloc: Global, input: &mut Input<'_>) -> Result<Bytes, Refusal>
     input.left = &left[1..];
     match first {
         b'+' => text(alloc, input),
-        b'$' => bulk_text(alloc, input),
+        b'$' => read_bulk_text(alloc, input),
         _ => Err(Refusal::Bad),
     }
 }
 
 /// Three bytes, and `:`.
-fn format(alloc: Global, input: &mut Input<'_>) -> Result<Bytes, Refusal>
-    ensures { IsFound (λ f. f) (format_of input.old.left.now) result input.new.left.now }
+fn read_format(alloc: Global, input: &mut Input<'_>) -> Result<Bytes, Refusal>
+    ensures { IsFound (λ f. f) (format input.old.left.now) result input.new.left.now }
 {
     let left = input.left;
     if left.len() <= 3 {
@@ -378,18 +390,19 @@ fn format(alloc: Global, input: &mut Input<'_>) -> Result<Bytes, Refusal>
     Ok(format)
 }
 
-fn verbatim_string(alloc: Global, input: &mut Input<'_>) -> Result<Value, Refusal>
-    ensures { IsFound data_of (verbatim_string_of reader_limits input.old.left.now) result input.new.left.now }
+fn read_verbatim_string(alloc: Global, input: &mut Input<'_>) -> Result<Value, Refusal>
+    ensures { IsFound data_of (verbatim_string reader_limits input.old.left.now) result
+        input.new.left.now }
 {
     let n = counted(4, MAX_BULK, input)?;
-    let format = format(alloc, input)?;
-    let text = body(alloc, input, n as usize - 4)?;
+    let format = read_format(alloc, input)?;
+    let text = read_body(alloc, input, n as usize - 4)?;
     Ok(Value::VerbatimString { format, text })
 }
 
 /// Whether a form that holds no values begins so.
 pub fn is_plain(first: u8) -> bool
-    ensures { result ≡ has (plain_forms reader_limits) first }
+    ensures { result ≡ has (plain reader_limits) first }
 {
     matches!(
         first,
@@ -398,27 +411,29 @@ pub fn is_plain(first: u8) -> bool
 }
 
 /// A form that holds no values, by its first byte.
-pub fn plain(alloc: Global, first: u8, input: &mut Input<'_>) -> Result<Value, Refusal>
-    ensures { IsFound data_of (chosen (plain_forms reader_limits) first input.old.left.now) result input.new.left.now }
+pub fn read_plain(alloc: Global, first: u8, input: &mut Input<'_>) -> Result<Value, Refusal>
+    ensures { IsFound data_of (chosen (plain reader_limits) first input.old.left.now) result
+        input.new.left.now }
 {
     match first {
         b'+' => line_value(alloc, OneLine::Simple, input),
         b'-' => line_value(alloc, OneLine::Error, input),
         b':' => line_value(alloc, OneLine::Number, input),
-        b'$' => bulk_string(alloc, input),
+        b'$' => read_bulk_string(alloc, input),
         b'_' => line_value(alloc, OneLine::Null, input),
         b'#' => line_value(alloc, OneLine::Boolean, input),
         b',' => line_value(alloc, OneLine::Double, input),
         b'(' => line_value(alloc, OneLine::Big, input),
-        b'!' => bulk_error(alloc, input),
-        b'=' => verbatim_string(alloc, input),
+        b'!' => read_bulk_error(alloc, input),
+        b'=' => read_verbatim_string(alloc, input),
         _ => Err(Refusal::Bad),
     }
 }
 
 /// What stands where no more may be nested, by its first byte.
-pub fn innermost(alloc: Global, first: u8, input: &mut Input<'_>) -> Result<Value, Refusal>
-    ensures { IsFound data_of (chosen (innermost_forms reader_limits) first input.old.left.now) result input.new.left.now }
+pub fn read_innermost(alloc: Global, first: u8, input: &mut Input<'_>) -> Result<Value, Refusal>
+    ensures { IsFound data_of (chosen (innermost reader_limits) first input.old.left.now)
+        result input.new.left.now }
 {
     match first {
         b'*' => line_value(alloc, OneLine::NoArray, input),

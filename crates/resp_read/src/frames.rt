@@ -2,7 +2,7 @@ ghost use Rattle.std.specs.Prelude.{◌≡◌, ℕ, List, IfOk};
 ghost use Rattle.resp_value.specs.Data.{Data};
 ghost use Rattle.resp_value.specs.View.{data_of};
 ghost use Rattle.resp_read.specs.Grammar.{Found};
-ghost use Rattle.resp_read.specs.Frames.{made as made_of, with_values as values_make, with_pairs as pairs_make, with_value as value_makes, begun as begun_is};
+ghost use Rattle.resp_read.specs.Frames.{made, with_values, with_pairs, with_value, begun_as, IsAdded};
 
 use resp_value::{Inner, Pairs, PushKind, Value, Values};
 use std::alloc::{AllocError, Global};
@@ -58,8 +58,8 @@ pub enum Begun {
     Within(Frame),
 }
 
-fn made(of: Sequence, values: Values) -> Value
-    ensures { data_of result ≡ made_of of values }
+fn make(of: Sequence, values: Values) -> Value
+    ensures { data_of result ≡ made of values }
 {
     match of {
         Sequence::Array => Value::Array(values),
@@ -72,11 +72,12 @@ fn made(of: Sequence, values: Values) -> Value
 }
 
 /// Where these values were found, and so many are to come.
-pub fn with_values(of: Sequence, found: Values, count: u64) -> Begun
-    ensures { (inside : List ℕ → Found Data) (bs : List ℕ) → values_make inside of found count bs ≡ begun_is inside result bs }
+pub fn sequence_of(of: Sequence, found: Values, count: u64) -> Begun
+    ensures { (inside : List ℕ → Found Data) (bs : List ℕ)
+        → with_values inside of found count bs ≡ begun_as inside result bs }
 {
     if count == 0 {
-        return Begun::Whole(made(of, found));
+        return Begun::Whole(make(of, found));
     }
     Begun::Within(Frame::Item {
         of,
@@ -86,8 +87,9 @@ pub fn with_values(of: Sequence, found: Values, count: u64) -> Begun
 }
 
 /// Where these pairs were found, and so many are to come.
-pub fn with_pairs(of: Pairing, found: Pairs, count: u64) -> Begun
-    ensures { (inside : List ℕ → Found Data) (bs : List ℕ) → pairs_make inside of found count bs ≡ begun_is inside result bs }
+pub fn pairing_of(of: Pairing, found: Pairs, count: u64) -> Begun
+    ensures { (inside : List ℕ → Found Data) (bs : List ℕ)
+        → with_pairs inside of found count bs ≡ begun_as inside result bs }
 {
     if count > 0 {
         return Begun::Within(Frame::Key {
@@ -103,9 +105,28 @@ pub fn with_pairs(of: Pairing, found: Pairs, count: u64) -> Begun
 }
 
 impl Frame {
+    /// Takes the value that it waits for, where it is a sequence that waits for more behind it. Otherwise hands the value
+    /// back, and stays as it was.
+    pub fn add(&mut self, value: Value) -> Result<Option<Value>, AllocError>
+        ensures { IsAdded self.old value result self.new }
+    {
+        match self {
+            Frame::Item { found, more, .. } => {
+                if *more == 0 {
+                    return Ok(Some(value));
+                }
+                found.push(value)?;
+                *more -= 1;
+                Ok(None)
+            }
+            Frame::Key { .. } | Frame::Entry { .. } | Frame::Attributed { .. } => Ok(Some(value)),
+        }
+    }
+
     /// With the value that it waits for.
     pub fn put(self, alloc: Global, value: Value) -> Result<Begun, AllocError>
-        ensures { IfOk result (λ b. (inside : List ℕ → Found Data) (bs : List ℕ) → value_makes inside self (data_of value) bs ≡ begun_is inside b bs) }
+        ensures { IfOk result (λ b. (inside : List ℕ → Found Data) (bs : List ℕ)
+            → with_value inside self (data_of value) bs ≡ begun_as inside b bs) }
     {
         match self {
             Frame::Item {
@@ -114,7 +135,7 @@ impl Frame {
                 more,
             } => {
                 found.push(value)?;
-                Ok(with_values(of, found, more))
+                Ok(sequence_of(of, found, more))
             }
             Frame::Key { of, found, more } => Ok(Begun::Within(Frame::Entry {
                 of,
@@ -129,7 +150,7 @@ impl Frame {
                 more,
             } => {
                 found.push(key, value)?;
-                Ok(with_pairs(of, found, more))
+                Ok(pairing_of(of, found, more))
             }
             Frame::Attributed { attributes } => Ok(Begun::Whole(Value::Attribute {
                 inner: Inner::new(alloc, value)?,

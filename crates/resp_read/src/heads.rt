@@ -1,6 +1,6 @@
 ghost use Rattle.std.specs.Prelude.{◌≡◌, ◌<◌, ◌-◌, ℕ, List, length, IfOk};
 ghost use Rattle.resp_value.specs.Data.{Data};
-ghost use Rattle.resp_read.specs.Grammar.{Found, chosen, parse, nested as nested_forms, array_form, set_form, map_form, push_form, attribute_form, max_depth as depth_limit, reader_limits};
+ghost use Rattle.resp_read.specs.Grammar.{Found, chosen, parse, nested, array_form, set_form, map_form, push_form, attribute_form, max_depth, reader_limits};
 ghost use Rattle.resp_read.specs.Frames.{Begins, whole_of};
 
 use crate::forms::{Input, Refusal};
@@ -15,8 +15,8 @@ const MAX_COUNT: u64 = 2_147_483_647;
 /// How many aggregates and attributes stand in one another at most.
 const MAX_DEPTH: usize = 100;
 
-fn max_depth() -> usize
-    ensures { result ≡ depth_limit }
+fn most_depth() -> usize
+    ensures { result ≡ max_depth }
 {
     MAX_DEPTH
 }
@@ -33,7 +33,8 @@ fn whole(found: Result<Value, Refusal>) -> Result<Begun, Refusal>
 
 /// What begins at the front, in so many aggregates.
 pub fn begin(alloc: Global, around: usize, input: &mut Input<'_>) -> Result<Begun, Refusal>
-    ensures begins { Begins (parse (depth_limit - around)) (parse (depth_limit - around - 1)) input.old.left.now result input.new.left.now }
+    ensures begins { Begins (parse (max_depth - around)) (parse (max_depth - around - 1))
+        input.old.left.now result input.new.left.now }
     ensures shorter { IfOk result (λ b. length input.new.left.now < length input.old.left.now) }
 {
     let left = input.left;
@@ -43,17 +44,19 @@ pub fn begin(alloc: Global, around: usize, input: &mut Input<'_>) -> Result<Begu
     let first = left[0];
     input.left = &left[1..];
     if forms::is_plain(first) {
-        return whole(forms::plain(alloc, first, input));
+        return whole(forms::read_plain(alloc, first, input));
     }
-    if around >= max_depth() {
-        return whole(forms::innermost(alloc, first, input));
+    if around >= most_depth() {
+        return whole(forms::read_innermost(alloc, first, input));
     }
-    nested(alloc, first, input)
+    begin_nested(alloc, first, input)
 }
 
 /// The head of a form that holds values, by its first byte.
-fn nested(alloc: Global, first: u8, input: &mut Input<'_>) -> Result<Begun, Refusal>
-    ensures { (inside : List ℕ → Found Data) → Begins (chosen (nested_forms reader_limits inside) first) inside input.old.left.now result input.new.left.now }
+fn begin_nested(alloc: Global, first: u8, input: &mut Input<'_>) -> Result<Begun, Refusal>
+    ensures { (inside : List ℕ → Found Data)
+        → Begins (chosen (nested reader_limits inside) first) inside input.old.left.now result
+        input.new.left.now }
 {
     match first {
         b'*' => array(alloc, input),
@@ -66,40 +69,50 @@ fn nested(alloc: Global, first: u8, input: &mut Input<'_>) -> Result<Begun, Refu
 }
 
 fn array(alloc: Global, input: &mut Input<'_>) -> Result<Begun, Refusal>
-    ensures { (inside : List ℕ → Found Data) → Begins (array_form reader_limits inside) inside input.old.left.now result input.new.left.now }
+    ensures { (inside : List ℕ → Found Data)
+        → Begins (array_form reader_limits inside) inside input.old.left.now result
+        input.new.left.now }
 {
     match forms::announced(MAX_COUNT, input)? {
         None => Ok(Begun::Whole(Value::Nil)),
-        Some(n) => Ok(frames::with_values(Sequence::Array, Values::new(alloc), n)),
+        Some(n) => Ok(frames::sequence_of(Sequence::Array, Values::new(alloc), n)),
     }
 }
 
 fn set(alloc: Global, input: &mut Input<'_>) -> Result<Begun, Refusal>
-    ensures { (inside : List ℕ → Found Data) → Begins (set_form reader_limits inside) inside input.old.left.now result input.new.left.now }
+    ensures { (inside : List ℕ → Found Data)
+        → Begins (set_form reader_limits inside) inside
+        input.old.left.now result input.new.left.now }
 {
     let n = forms::counted(0, MAX_COUNT, input)?;
-    Ok(frames::with_values(Sequence::Set, Values::new(alloc), n))
+    Ok(frames::sequence_of(Sequence::Set, Values::new(alloc), n))
 }
 
 fn map(alloc: Global, input: &mut Input<'_>) -> Result<Begun, Refusal>
-    ensures { (inside : List ℕ → Found Data) → Begins (map_form reader_limits inside) inside input.old.left.now result input.new.left.now }
+    ensures { (inside : List ℕ → Found Data)
+        → Begins (map_form reader_limits inside) inside
+        input.old.left.now result input.new.left.now }
 {
     let n = forms::counted(0, MAX_COUNT, input)?;
-    Ok(frames::with_pairs(Pairing::Map, Pairs::new(alloc), n))
+    Ok(frames::pairing_of(Pairing::Map, Pairs::new(alloc), n))
 }
 
 fn push(alloc: Global, input: &mut Input<'_>) -> Result<Begun, Refusal>
-    ensures { (inside : List ℕ → Found Data) → Begins (push_form reader_limits inside) inside input.old.left.now result input.new.left.now }
+    ensures { (inside : List ℕ → Found Data)
+        → Begins (push_form reader_limits inside) inside input.old.left.now result
+        input.new.left.now }
 {
     let n = forms::counted(1, MAX_COUNT, input)?;
-    let text = forms::kind(alloc, input)?;
+    let text = forms::read_kind(alloc, input)?;
     let of = Sequence::Push(PushKind::of_text(text));
-    Ok(frames::with_values(of, Values::new(alloc), n - 1))
+    Ok(frames::sequence_of(of, Values::new(alloc), n - 1))
 }
 
 fn attribute(alloc: Global, input: &mut Input<'_>) -> Result<Begun, Refusal>
-    ensures { (inside : List ℕ → Found Data) → Begins (attribute_form reader_limits inside) inside input.old.left.now result input.new.left.now }
+    ensures { (inside : List ℕ → Found Data)
+        → Begins (attribute_form reader_limits inside) inside input.old.left.now result
+        input.new.left.now }
 {
     let n = forms::counted(0, MAX_COUNT, input)?;
-    Ok(frames::with_pairs(Pairing::Attributes, Pairs::new(alloc), n))
+    Ok(frames::pairing_of(Pairing::Attributes, Pairs::new(alloc), n))
 }

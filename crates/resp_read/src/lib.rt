@@ -2,11 +2,13 @@
 #![tactic(auto)]
 
 mod decimals;
+mod digits;
 mod forms;
 mod frames;
 mod heads;
 mod lines;
 mod reader;
 mod underway;
+mod waiting;
 
 pub use reader::{Health, ReadError, Reader};

@@ -1,8 +1,9 @@
 ghost use Rattle.std.specs.Prelude.{◌≡◌, ◌≤◌, ◌+◌, ◌*◌, ◌||◌, [], ◌∷◌, length, neg_ℤ, pos, is_some, Some, IfSome, bytes_eq};
-ghost use Rattle.resp_read.specs.Grammar.{line, fits as fits_of, digits_after, at_most, natural as natural_of, number as number_of, number_begun, size as size_of, size_begun, count as count_of, count_begun, truth as truth_of, is_end, no_array_begun, reader_limits};
+ghost use Rattle.resp_read.specs.Grammar.{line, fits, digits_after, at_most, natural, number, number_begun, size, size_begun, count, count_begun, truth, is_end, no_array_begun, reader_limits};
 ghost use Rattle.resp_read.specs.Parts.{line_at, IsWithin};
 
-/// Where the first line of some bytes ends: at a CR LF, at a CR that is the last byte, not yet, or never, because a CR stands before another byte.
+/// Where the first line of some bytes ends: at a CR LF, at a CR that is the last byte, not yet, or never, because a CR
+/// stands before another byte.
 pub enum LineEnd {
     Ended(usize),
     Held(usize),
@@ -32,16 +33,16 @@ pub fn find_line(bytes: &[u8]) -> LineEnd
     LineEnd::Unended
 }
 
-pub fn fits(line: &[u8]) -> bool
-    ensures { result ≡ fits_of reader_limits line.now }
+pub fn is_within(line: &[u8]) -> bool
+    ensures { result ≡ fits reader_limits line.now }
 {
     line.len() <= MAX_LINE
 }
 
 /// The number of these decimal digits, one at least, if it is at most `most`.
-fn natural(most: u64, digits: &[u8]) -> Option<u64>
+fn read_natural(most: u64, digits: &[u8]) -> Option<u64>
     requires { most ≤ 9_223_372_036_854_775_808 }
-    ensures is { result ≡ natural_of (Some most) digits.now }
+    ensures is { result ≡ natural (Some most) digits.now }
     ensures fits { IfSome result (λ n. n ≤ most) }
 {
     if digits.is_empty() {
@@ -77,20 +78,20 @@ fn negated(n: u64) -> i64
 }
 
 /// A number of 64 bits, with a sign or without.
-pub fn number(line: &[u8]) -> Option<i64>
-    ensures { result ≡ number_of line.now }
+pub fn read_number(line: &[u8]) -> Option<i64>
+    ensures { result ≡ number line.now }
 {
     match line {
         [] => None,
-        [b'-', rest @ ..] => match natural(9_223_372_036_854_775_808, rest) {
+        [b'-', rest @ ..] => match read_natural(9_223_372_036_854_775_808, rest) {
             Some(n) => Some(negated(n)),
             None => None,
         },
-        [b'+', rest @ ..] => match natural(9_223_372_036_854_775_807, rest) {
+        [b'+', rest @ ..] => match read_natural(9_223_372_036_854_775_807, rest) {
             Some(n) => Some(n as i64),
             None => None,
         },
-        [_, ..] => match natural(9_223_372_036_854_775_807, line) {
+        [_, ..] => match read_natural(9_223_372_036_854_775_807, line) {
             Some(n) => Some(n as i64),
             None => None,
         },
@@ -105,20 +106,20 @@ pub fn is_number_begun(front: &[u8]) -> bool
         [] => true,
         [b'-'] => true,
         [b'+'] => true,
-        _ => number(front).is_some(),
+        _ => read_number(front).is_some(),
     }
 }
 
 /// A length that is at most `most`, or none for `-1`.
-pub fn size(most: u64, line: &[u8]) -> Option<Option<u64>>
+pub fn read_size(most: u64, line: &[u8]) -> Option<Option<u64>>
     requires { most ≤ 9_223_372_036_854_775_808 }
-    ensures is { result ≡ size_of (Some most) line.now }
+    ensures is { result ≡ size (Some most) line.now }
     ensures fits { IfSome result (λ s. IfSome s (λ n. n ≤ most)) }
 {
     if line == b"-1".as_slice() {
         return Some(None);
     }
-    match natural(most, line) {
+    match read_natural(most, line) {
         Some(n) => Some(Some(n)),
         None => None,
     }
@@ -132,18 +133,18 @@ pub fn is_size_begun(most: u64, front: &[u8]) -> bool
     match front {
         [] => true,
         [b'-'] => true,
-        _ => size(most, front).is_some(),
+        _ => read_size(most, front).is_some(),
     }
 }
 
 /// A length between these two.
-pub fn count(least: u64, most: u64, line: &[u8]) -> Option<u64>
+pub fn read_count(least: u64, most: u64, line: &[u8]) -> Option<u64>
     requires { most ≤ 9_223_372_036_854_775_808 }
-    ensures is { result ≡ count_of least (Some most) line.now }
+    ensures is { result ≡ count least (Some most) line.now }
     ensures fits { IfSome result (λ n. n ≤ most) }
     ensures enough { IfSome result (λ n. least ≤ n) }
 {
-    match natural(most, line) {
+    match read_natural(most, line) {
         Some(n) => {
             if n < least {
                 return None;
@@ -164,20 +165,20 @@ pub fn is_count_begun(least: u64, most: u64, front: &[u8]) -> bool
     if front.is_empty() {
         return true;
     }
-    match natural(most, front) {
+    match read_natural(most, front) {
         Some(n) => {
             if n < least {
                 return front.len() < MAX_LINE;
             }
-            fits(front)
+            is_within(front)
         }
         None => false,
     }
 }
 
 /// `t` or `f`.
-pub fn truth(line: &[u8]) -> Option<bool>
-    ensures { result ≡ truth_of line.now }
+pub fn read_truth(line: &[u8]) -> Option<bool>
+    ensures { result ≡ truth line.now }
 {
     if line == b"t".as_slice() {
         return Some(true);
@@ -190,12 +191,12 @@ pub fn truth(line: &[u8]) -> Option<bool>
 
 /// Nothing, or `t` or `f`.
 pub fn is_truth_begun(front: &[u8]) -> bool
-    ensures { result ≡ (is_end front.now || is_some (truth_of front.now)) }
+    ensures { result ≡ (is_end front.now || is_some (truth front.now)) }
 {
     if front.is_empty() {
         return true;
     }
-    truth(front).is_some()
+    read_truth(front).is_some()
 }
 
 /// Whether a line that starts so can become `-1`.

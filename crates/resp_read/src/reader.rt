@@ -1,14 +1,17 @@
-ghost use Rattle.std.specs.Prelude.{◌≡◌, ◌++◌, [], OnOk, OnErr, IsErr, IsTrue, ◌↔◌};
+ghost use Rattle.std.specs.Prelude.{◌≡◌, [], length, OnOk, OnErr, IsOk, IsErr, IsTrue, ◌↔◌};
 ghost use Rattle.resp_read.specs.declared.reader.Health.TheVariants.{Sound, Malformed, NoMemory};
-ghost use Rattle.resp_read.specs.Reading.{NextValue, NextFound};
+ghost use Rattle.resp_read.specs.Reads.{IsProperPrefix};
+ghost use Rattle.resp_read.specs.Reading.{kept_of, NextValue, NextFound};
 
 use crate::forms::{Input, Refusal};
 use crate::frames::Frame;
-use crate::underway;
+use crate::waiting::Looked;
+use crate::{underway, waiting};
 use containers::Bytes;
 use resp_value::Value;
 use std::alloc::{AllocError, Global};
 use std::marker::Model;
+use thiserror::Error;
 
 /// Whether a reader still reads.
 #[derive(Clone, Copy)]
@@ -21,11 +24,13 @@ pub enum Health {
 }
 
 /// Why a reader gives no value.
-#[derive(Clone, Copy)]
+#[derive(Clone, Copy, Debug, PartialEq, Eq, Error)]
 pub enum ReadError {
-    /// The bytes begin no value.
+    /// The bytes begin no value, whatever follows them. The reader reads no further.
+    #[error("the bytes begin no value of RESP")]
     Parse,
-    /// Memory was refused, now or before.
+    /// Memory was refused, now or before. The reader reads no further.
+    #[error("memory was refused while a value was read")]
     NoMemory,
 }
 
@@ -40,16 +45,31 @@ impl From<AllocError> for ReadError {
     }
 }
 
-/// Reads values from bytes that come in pieces.
+/// How many bytes of room a reader keeps for those to come.
+const KEPT_ROOM: usize = 65_536;
+
+/// Reads values from bytes that come in pieces. However they are cut, an aggregate goes on where it was,
+/// and a line that has not ended where it was looked at.
+///
+/// What it holds of a reply under way: the bytes fed that no value given was made of, and the values that were made of
+/// them and stand in aggregates that are not whole. The bytes go once they are no fewer than half of all that it holds,
+/// so these are at most twice those of the reply, in room that grows by doubling. Where a value was given and no more than
+/// a quarter of that room is in use, what is more than 65,536 bytes of it is given back.
 #[derive(Drop)]
 pub struct Reader {
     bytes: Bytes,
+    /// The bytes that were there at once at most, since room was last given back.
+    room: usize,
     /// Where the value that is being read begins.
     at: usize,
     /// Where the next value within it begins.
     next: usize,
     /// The aggregates that it stands in, the outermost first.
     frames: Vec<Frame>,
+    /// Whether more bytes were wanted when it last looked.
+    waits: bool,
+    /// What is known of the line behind the first byte of that value.
+    looked: Looked,
     health: Health,
 }
 
@@ -63,7 +83,7 @@ impl Model for Reader {
 
     ghost use Rattle.resp_read.specs.Frames.{IsUnderway};
 
-    ghost invariant = { λ r. IsUnderway r.bytes r.at r.next r.frames.items r.health };
+    ghost invariant = { λ r. IsUnderway r.bytes r.at r.next r.frames.items r.looked r.health };
 }
 
 impl Reader {
@@ -73,11 +93,21 @@ impl Reader {
     {
         Reader {
             bytes: Bytes::new(alloc),
+            room: 0,
             at: 0,
             next: 0,
             frames: Vec::new(alloc),
+            waits: false,
+            looked: Looked::at_nothing(),
             health: Health::Sound,
         }
+    }
+
+    /// How many bytes it was fed that no value given was made of.
+    pub fn buffered_len(&self) -> usize
+        ensures { result ≡ length self.now.rest }
+    {
+        self.bytes.len() - self.at
     }
 
     /// Forgets the bytes of the values given, where they are no fewer than the others: so no more bytes are ever moved than
@@ -92,18 +122,46 @@ impl Reader {
         }
     }
 
-    /// Adds bytes to those not yet read.
+    /// Gives room back where it is much, and no more than a quarter of it is in use: so less is moved than was read.
+    fn give_room_back(&mut self, alloc: Global)
+        ensures { self.new ≡ self.old }
+    {
+        let left = self.bytes.len() - self.at;
+        if self.room <= KEPT_ROOM || left > self.room / 4 {
+            return;
+        }
+        match Bytes::from_slice(alloc, &self.bytes.as_slice()[self.at..]) {
+            Ok(bytes) => {
+                self.bytes = bytes;
+                self.room = left;
+                self.next -= self.at;
+                self.at = 0;
+            }
+            Err(_) => {}
+        }
+    }
+
+    /// Adds bytes to those not yet read. After `Parse` it keeps none of them.
+    ///
+    /// # Errors
+    /// `AllocError`: memory was refused, now or before, and the reader reads no further.
     pub fn feed(&mut self, piece: &[u8]) -> Result<(), AllocError>
-        ensures ok { OnOk result (self.new ≡ record self.old { rest = self.old.rest ++ piece.now }) }
+        ensures ok { OnOk result (self.new
+            ≡ record self.old { rest = kept_of self.old.health self.old.rest piece.now }) }
         ensures err { OnErr result (self.new ≡ record self.old { health = NoMemory }) }
         ensures failed { self.old.health ≡ NoMemory → IsErr result }
+        ensures malformed { self.old.health ≡ Malformed → IsOk result }
     {
         match self.health {
             Health::NoMemory => Err(AllocError),
-            Health::Sound | Health::Malformed => {
+            Health::Malformed => Ok(()),
+            Health::Sound => {
                 self.forget_given();
                 match self.bytes.extend_from_slice(piece) {
-                    Ok(()) => Ok(()),
+                    Ok(()) => {
+                        self.room = self.room.max(self.bytes.len());
+                        Ok(())
+                    }
                     Err(error) => {
                         self.health = Health::NoMemory;
                         Err(error)
@@ -113,7 +171,29 @@ impl Reader {
         }
     }
 
+    /// Whether a line that had not ended still has not, and can become a value. Looks at none of its bytes again.
+    fn waits_on(&mut self) -> bool
+        ensures same { self.new ≡ self.old }
+        ensures short { IsTrue result → self.old.health ≡ Sound → IsProperPrefix self.old.rest }
+    {
+        let left = &self.bytes.as_slice()[self.next..];
+        if !self.waits || left.is_empty() {
+            return false;
+        }
+        match waiting::look_on(left[0], self.looked, &left[1..]) {
+            Some(looked) => {
+                self.looked = looked;
+                true
+            }
+            None => false,
+        }
+    }
+
     /// The next value, or none where more bytes are wanted.
+    ///
+    /// # Errors
+    /// `Parse`: what is left begins no value, whatever follows. `NoMemory`: memory was refused, now or before. After
+    /// either the reader reads no further.
     pub fn next_value(&mut self, alloc: Global) -> Result<Option<Value>, ReadError>
         ensures value { NextValue result self.old self.new }
         ensures found { NextFound result self.old self.new }
@@ -122,28 +202,45 @@ impl Reader {
             Health::NoMemory => Err(ReadError::NoMemory),
             Health::Malformed => Err(ReadError::Parse),
             Health::Sound => {
-                let mut input = Input {
-                    left: &self.bytes.as_slice()[self.next..],
-                };
-                match underway::read_on(alloc, &mut self.frames, &mut input) {
-                    Ok(value) => {
-                        self.at = self.bytes.len() - input.left.len();
-                        self.next = self.at;
-                        Ok(Some(value))
-                    }
-                    Err(Refusal::Short) => {
-                        self.next = self.bytes.len() - input.left.len();
-                        Ok(None)
-                    }
-                    Err(Refusal::Bad) => {
-                        self.health = Health::Malformed;
-                        Err(ReadError::Parse)
-                    }
-                    Err(Refusal::NoMemory) => {
-                        self.health = Health::NoMemory;
-                        Err(ReadError::NoMemory)
-                    }
+                if self.waits_on() {
+                    return Ok(None);
                 }
+                self.read_on(alloc)
+            }
+        }
+    }
+
+    /// The same of a sound reader, from where what it reads next begins.
+    fn read_on(&mut self, alloc: Global) -> Result<Option<Value>, ReadError>
+        requires { self.old.health ≡ Sound }
+        ensures value { NextValue result self.old self.new }
+        ensures found { NextFound result self.old self.new }
+    {
+        let mut input = Input {
+            left: &self.bytes.as_slice()[self.next..],
+        };
+        match underway::read_on(alloc, &mut self.frames, &mut input) {
+            Ok(value) => {
+                self.at = self.bytes.len() - input.left.len();
+                self.next = self.at;
+                self.waits = false;
+                self.looked = Looked::at_nothing();
+                self.give_room_back(alloc);
+                Ok(Some(value))
+            }
+            Err(Refusal::Short) => {
+                self.waits = true;
+                self.looked = Looked::at_nothing();
+                self.next = self.bytes.len() - input.left.len();
+                Ok(None)
+            }
+            Err(Refusal::Bad) => {
+                self.health = Health::Malformed;
+                Err(ReadError::Parse)
+            }
+            Err(Refusal::NoMemory) => {
+                self.health = Health::NoMemory;
+                Err(ReadError::NoMemory)
             }
         }
     }

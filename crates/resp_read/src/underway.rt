@@ -1,5 +1,5 @@
 ghost use Rattle.std.specs.Prelude.{◌≡◌, ◌∷◌, [], ◌++◌, OnOk};
-ghost use Rattle.resp_read.specs.Frames.{IsPut, ReadsOn};
+ghost use Rattle.resp_read.specs.Frames.{IsPutInPlace, IsPut, ReadsOn};
 
 use crate::forms::{Input, Refusal};
 use crate::frames::{Begun, Frame};
@@ -15,13 +15,31 @@ fn hold(frames: &mut Vec<Frame>, frame: Frame) -> Result<(), AllocError>
     Ok(())
 }
 
+/// Puts a value into the innermost aggregate where that stays the innermost. Otherwise hands the value back.
+fn put_in_place(frames: &mut Vec<Frame>, value: Value) -> Result<Option<Value>, AllocError>
+    ensures { IsPutInPlace frames.old.items value result frames.new.items }
+{
+    match frames.last_mut() {
+        Some(frame) => frame.add(value),
+        None => Ok(Some(value)),
+    }
+}
+
 /// Puts a value into the innermost aggregate, and each that is whole by it into the next one. The outermost value, if it
 /// is whole.
 fn put(alloc: Global, frames: &mut Vec<Frame>, value: Value) -> Result<Option<Value>, AllocError>
     ensures { IsPut frames.old.items value result frames.new.items }
 {
     let mut value = value;
-    while let Some(frame) = frames.pop() {
+    loop {
+        match put_in_place(frames, value)? {
+            None => return Ok(None),
+            Some(back) => value = back,
+        }
+        let frame = match frames.pop() {
+            Some(frame) => frame,
+            None => return Ok(Some(value)),
+        };
         match frame.put(alloc, value)? {
             Begun::Whole(whole) => value = whole,
             Begun::Within(frame) => {
@@ -30,7 +48,6 @@ fn put(alloc: Global, frames: &mut Vec<Frame>, value: Value) -> Result<Option<Va
             }
         }
     }
-    Ok(Some(value))
 }
 
 /// Reads on within these aggregates, the outermost first. `Short`: `input` is where the next value begins.
@@ -39,7 +56,8 @@ pub fn read_on(
     frames: &mut Vec<Frame>,
     input: &mut Input<'_>,
 ) -> Result<Value, Refusal>
-    ensures { ReadsOn frames.old.items input.old.left.now result frames.new.items input.new.left.now }
+    ensures { ReadsOn frames.old.items input.old.left.now
+        result frames.new.items input.new.left.now }
 {
     loop {
         let mut ahead = Input { left: input.left };

@@ -4,7 +4,7 @@ use Rattle.resp_value.specs.View.{data_of}
 use Rattle.resp_read.specs.State.{ReaderState}
 use Rattle.resp_read.specs.Values.{values}
 use Rattle.resp_read.specs.Items.{items}
-use Rattle.resp_read.proofs.ReadLaws.{reads-shorter}
+use Rattle.resp_read.proofs.ReadLaws.{reads-shorter, short_from_prefix, bad_from_malformed}
 use Rattle.resp_read.proofs.ValueLaws.{values-read, values-short, values-bad}
 use Rattle.resp_read.proofs.ItemLaws.{items-read, items-none}
 use Rattle.link_core.specs.Dealing.{Dealing, dealt_each}
@@ -37,7 +37,7 @@ pub returns-in-Ok-None : goal.returns-in-Ok-None
 returns-in-Ok-None c =
     let h = rw c.in-Ok-None.field-0-is at c.in-Ok-None.ensures in
     let before = c.values.reader.rest in
-    let law = values-short before h.found in
+    let law = values-short before (short_from_prefix before h.found) in
     let s : Dealing = record { row = c.values.row; out = c.values.out.items } in
     record {
       dealt = sym (ap (λ (vs : List Data). dealt_each s vs) (items-none before law.0)) ∙ c.values.invariant.dealt;
@@ -51,7 +51,7 @@ pub returns-in-Err-Parse : goal.returns-in-Err-Parse
 returns-in-Err-Parse c =
     let h = rw c.in-Err-Parse.field-0-is at c.in-Err-Parse.ensures in
     let before = c.values.reader.rest in
-    let law = values-bad before (h.found c.values.invariant.sound) in
+    let law = values-bad before (bad_from_malformed before (h.found c.values.invariant.sound)) in
     let s : Dealing = record { row = c.values.row; out = c.values.out.items } in
     record {
       dealt = sym (ap (λ (vs : List Data). dealt_each s vs) (items-none before law.0)) ∙ c.values.invariant.dealt;

@@ -19,5 +19,5 @@ pub returns-in-Some : goal.returns-in-Some
 returns-in-Some c = λ inside.
     let n = c.in-Some.n in
     let left = c.announced.new.input.left.now in
-    begins_there (line_as reader_limits (size_line (Some max_count))) (lawful_line (size_line (Some max_count)) (lawful_size max_count)) (array_of inside) inside c.with_values.result c.args.input.now.left.now left (Some n) (c.in_ok-announced.ensures.found ∙ ap (λ s. read s left) c.in-Some.is)
-    (λ m. ap (λ found. with_values inside Array found n m) (sym c.new.ensures) ∙ c.with_values.ensures inside m)
+    begins_there (line_as reader_limits (size_line (Some max_count))) (lawful_line (size_line (Some max_count)) (lawful_size max_count)) (array_of inside) inside c.sequence_of.result c.args.input.now.left.now left (Some n) (c.in_ok-announced.ensures.found ∙ ap (λ s. read s left) c.in-Some.is)
+    (λ m. ap (λ found. with_values inside Array found n m) (sym c.new.ensures) ∙ c.sequence_of.ensures inside m)

@@ -10,29 +10,29 @@ use Rattle.resp_read.proofs.heads.begin.Goals as goal
 pub returns-then-is_plain-clause-begins : goal.returns-then-is_plain-clause-begins
 returns-then-is_plain-clause-begins c =
     let left = c.args.input.now.left.now in
-    let new = c.plain.new.input.left.now in
+    let new = c.read_plain.new.input.left.now in
     let depth = max_depth - c.args.around in
     subst (λ r. Begins (parse depth) (parse (depth - 1)) left r new) (sym c.whole.ensures)
-    (begins_whole (parse depth) (parse (depth - 1)) (lawful_parse depth) left c.plain.result new
-    (at_plain data_of left _ _ c.plain.result new (grind arith) refl (take_rest left 1) depth (sym c.is_plain.ensures ∙ c.if-is_plain.true) c.plain.ensures))
+    (begins_whole (parse depth) (parse (depth - 1)) (lawful_parse depth) left c.read_plain.result new
+    (at_plain data_of left _ _ c.read_plain.result new (grind arith) refl (take_rest left 1) depth (sym c.is_plain.ensures ∙ c.if-is_plain.true) c.read_plain.ensures))
 
 pub returns-then-is_plain-clause-shorter : goal.returns-then-is_plain-clause-shorter
 returns-then-is_plain-clause-shorter c =
     let left = c.args.input.now.left.now in
-    let new = c.plain.new.input.left.now in
+    let new = c.read_plain.new.input.left.now in
     let depth = max_depth - c.args.around in
     subst (λ r. IfOk r (λ b. length new < length left)) (sym c.whole.ensures)
-    (value_shorter depth left c.plain.result new (at_plain data_of left _ _ c.plain.result new (grind arith) refl (take_rest left 1) depth (sym c.is_plain.ensures ∙ c.if-is_plain.true) c.plain.ensures))
+    (value_shorter depth left c.read_plain.result new (at_plain data_of left _ _ c.read_plain.result new (grind arith) refl (take_rest left 1) depth (sym c.is_plain.ensures ∙ c.if-is_plain.true) c.read_plain.ensures))
 
 pub returns-then-around-max_depth-clause-begins : goal.returns-then-around-max_depth-clause-begins
 returns-then-around-max_depth-clause-begins c =
     let left = c.args.input.now.left.now in
-    let new = c.innermost.new.input.left.now in
+    let new = c.read_innermost.new.input.left.now in
     let depth = max_depth - c.args.around in
-    let none : depth ≡ 0 = omega (arith, c.max_depth.ensures) in
+    let none : depth ≡ 0 = omega (arith, c.most_depth.ensures) in
     subst (λ r. Begins (parse depth) (parse (depth - 1)) left r new) (sym c.whole-then-around-max_depth.ensures)
-    (begins_whole (parse depth) (parse (depth - 1)) (lawful_parse depth) left c.innermost.result new
-    (at_innermost data_of left _ _ c.innermost.result new (grind arith) refl (take_rest left 1) depth none (sym c.is_plain.ensures ∙ c.if-is_plain.false) c.innermost.ensures))
+    (begins_whole (parse depth) (parse (depth - 1)) (lawful_parse depth) left c.read_innermost.result new
+    (at_innermost data_of left _ _ c.read_innermost.result new (grind arith) refl (take_rest left 1) depth none (sym c.is_plain.ensures ∙ c.if-is_plain.false) c.read_innermost.ensures))
 
 pub returns-clause-begins : goal.returns-clause-begins
 returns-clause-begins c =
@@ -40,8 +40,8 @@ returns-clause-begins c =
     let first = get_or left 0 0 in
     let depth = max_depth - c.args.around in
     let inside = parse (depth - 1) in
-    let more : depth ≡ suc (depth - 1) = omega (arith, c.max_depth.ensures) in
-    begins_first (parse depth) inside (chosen (nested reader_limits inside) first) first _ (λ m. ap (λ d. parse d (first ∷ m)) more ∙ form_more (nested reader_limits inside) first m (sym c.is_plain.ensures ∙ c.if-is_plain.false)) left (grind arith) refl (take_rest left 1) c.nested.result c.nested.new.input.left.now (c.nested.ensures inside)
+    let more : depth ≡ suc (depth - 1) = omega (arith, c.most_depth.ensures) in
+    begins_first (parse depth) inside (chosen (nested reader_limits inside) first) first _ (λ m. ap (λ d. parse d (first ∷ m)) more ∙ form_more (nested reader_limits inside) first m (sym c.is_plain.ensures ∙ c.if-is_plain.false)) left (grind arith) refl (take_rest left 1) c.begin_nested.result c.begin_nested.new.input.left.now (c.begin_nested.ensures inside)
 
 pub returns-clause-shorter : goal.returns-clause-shorter
 returns-clause-shorter c =
@@ -52,4 +52,4 @@ returns-clause-shorter c =
     let cut : length rest ≡ length left - 1 = ap length (take_rest left 1) ∙ length-drop 1 left in
     let some : 0 < length left = grind arith in
     let less : length rest < length left = omega arith in
-    begun_shorter (chosen (nested reader_limits inside) first) inside rest c.nested.result c.nested.new.input.left.now (length left) less (c.nested.ensures inside)
+    begun_shorter (chosen (nested reader_limits inside) first) inside rest c.begin_nested.result c.begin_nested.new.input.left.now (length left) less (c.begin_nested.ensures inside)

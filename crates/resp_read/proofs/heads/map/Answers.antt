@@ -9,5 +9,5 @@ use Rattle.resp_read.proofs.heads.map.Goals as goal
 pub returns : goal.returns
 returns c = λ inside.
     let n = c.in_ok-n.n in
-    begins_there (line_as reader_limits (count_line reader_limits 0 (Some max_count))) (lawful_counted 0 max_count (lit≤ tt) (lit≤ tt)) (map_of inside) inside c.with_pairs.result c.args.input.now.left.now c.counted.new.input.left.now n c.in_ok-n.ensures.found
-    (λ m. ap (λ found. with_pairs inside Map found n m) (sym c.new.ensures) ∙ c.with_pairs.ensures inside m)
+    begins_there (line_as reader_limits (count_line reader_limits 0 (Some max_count))) (lawful_counted 0 max_count (lit≤ tt) (lit≤ tt)) (map_of inside) inside c.pairing_of.result c.args.input.now.left.now c.counted.new.input.left.now n c.in_ok-n.ensures.found
+    (λ m. ap (λ found. with_pairs inside Map found n m) (sym c.new.ensures) ∙ c.pairing_of.ensures inside m)

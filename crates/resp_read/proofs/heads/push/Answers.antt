@@ -9,8 +9,8 @@ use Rattle.resp_read.proofs.heads.push.Goals as goal
 pub returns : goal.returns
 returns c = λ inside.
     let n = c.in_ok-n.n in
-    let b = c.with_values.result in
+    let b = c.sequence_of.result in
     let rest = c.counted.new.input.left.now in
-    let left = c.kind.new.input.left.now in
+    let left = c.read_kind.new.input.left.now in
     begins_after (line_as reader_limits (count_line reader_limits 1 (Some max_count))) (lawful_counted 1 max_count (lit≤ tt) (lit≤ tt)) (push_of reader_limits inside) inside b c.args.input.now.left.now rest left n c.in_ok-n.ensures.found
-    (begins_there (kind reader_limits) lawful_kind (push_with inside n) inside b rest left c.in_ok-text.text c.in_ok-text.ensures (λ m. (λ i. with_values inside (Push (sym c.of_text.ensures i)) (sym c.new.ensures i) (n - 1) m) ∙ c.with_values.ensures inside m))
+    (begins_there (kind reader_limits) lawful_kind (push_with inside n) inside b rest left c.in_ok-text.text c.in_ok-text.ensures (λ m. (λ i. with_values inside (Push (sym c.of_text.ensures i)) (sym c.new.ensures i) (n - 1) m) ∙ c.sequence_of.ensures inside m))

@@ -9,7 +9,7 @@ pub returns-then-n-least : goal.returns-then-n-least
 returns-then-n-least c = sym (front_few c.args.least c.args.most c.requires.digit c.requires.room c.in-Some.n c.args.front.now (grind arith) (sym c.in-Some.ensures.is) (grind arith))
 
 pub returns-else-n-least : goal.returns-else-n-least
-returns-else-n-least c = c.fits.ensures ∙ sym (front_many c.args.least c.args.most c.requires.digit c.requires.room c.in-Some.n c.args.front.now (grind arith) (sym c.in-Some.ensures.is) (grind arith))
+returns-else-n-least c = c.is_within.ensures ∙ sym (front_many c.args.least c.args.most c.requires.digit c.requires.room c.in-Some.n c.args.front.now (grind arith) (sym c.in-Some.ensures.is) (grind arith))
 
 pub returns-in-None : goal.returns-in-None
 returns-in-None c = sym (front_none c.args.least c.args.most c.requires.digit c.requires.room c.args.front.now (grind arith) (sym c.in-None.ensures.is))

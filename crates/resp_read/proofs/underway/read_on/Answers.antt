@@ -4,7 +4,7 @@ use Rattle.std.specs.declared.alloc.AllocError.{AllocError}
 use Rattle.resp_read.specs.declared.frames.Frame.{Frame}
 use Rattle.resp_read.specs.declared.frames.Begun.{Begun}
 use Rattle.resp_read.specs.declared.frames.Begun.TheVariants.{Whole, Within}
-use Rattle.resp_read.specs.Frames.{begun, within, resumed, Begins, IsPut}
+use Rattle.resp_read.specs.Frames.{begun_as, within, resumed, Begins, IsPut}
 use Rattle.resp_read.proofs.FrameLaws.{resumed_begun, within_held, end-end, reads_no_further}
 use Rattle.resp_read.proofs.underway.read_on.Goals as goal
 
@@ -17,10 +17,10 @@ returns-in-Err c =
 
 -- what begins there, whatever bytes follow
 there : (n : ℕ) (frames : List Frame) (left ahead : List ℕ) (b d : Begun) → n ≡ length frames → b ≡ d → Begins (parse (max_depth - n)) (parse (max_depth - n - 1)) left (Ok b) ahead
-    → (m : List ℕ) → resumed frames (left ++ m) ≡ within max_depth frames (begun (parse (max_depth - suc (length frames))) d (ahead ++ m))
+    → (m : List ℕ) → resumed frames (left ++ m) ≡ within max_depth frames (begun_as (parse (max_depth - suc (length frames))) d (ahead ++ m))
 there n frames left ahead b d e is h m =
     let begins = subst (λ k. Begins (parse (max_depth - k)) (parse (max_depth - k - 1)) left (Ok b) ahead) e h in
-    resumed_begun frames b left ahead begins.1 m ∙ ap (λ x. within max_depth frames (begun (parse (max_depth - suc (length frames))) x (ahead ++ m))) is
+    resumed_begun frames b left ahead begins.1 m ∙ ap (λ x. within max_depth frames (begun_as (parse (max_depth - suc (length frames))) x (ahead ++ m))) is
 
 pub returns-in-Some : goal.returns-in-Some
 returns-in-Some c =

@@ -1,7 +1,7 @@
 use Rattle.std.proofs.Common.{◌≡◌, ◌-◌, suc, ap, ◌∙◌, arith}
 use Rattle.resp_read.specs.Frames.{with_values}
 use Rattle.resp_read.proofs.FrameLaws.{values_more}
-use Rattle.resp_read.proofs.frames.with_values.Goals as goal
+use Rattle.resp_read.proofs.frames.sequence_of.Goals as goal
 
 pub returns : goal.returns
 returns c = λ inside bs.

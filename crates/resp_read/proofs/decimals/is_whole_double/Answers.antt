@@ -1,7 +1,7 @@
 use Rattle.std.proofs.Common.{sym, ap, ◌∙◌}
 use Rattle.resp_read.specs.Doubles.{missing}
 use Rattle.resp_read.proofs.DoubleLaws.{double_whole, double_never}
-use Rattle.resp_read.proofs.decimals.is_double.Goals as goal
+use Rattle.resp_read.proofs.decimals.is_whole_double.Goals as goal
 
 pub returns-in-Some : goal.returns-in-Some
 returns-in-Some c = sym (double_whole c.args.line.now c.in-Some.n (ap missing (sym c.read_all.ensures) ∙ sym c.in-Some.ensures))

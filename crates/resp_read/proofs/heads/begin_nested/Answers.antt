@@ -1,7 +1,7 @@
 use Rattle.std.proofs.Common.{ℕ, sym, subst}
 use Rattle.resp_read.specs.Grammar.{chosen, nested, reader_limits}
 use Rattle.resp_read.specs.Frames.{Begins}
-use Rattle.resp_read.proofs.heads.nested.Goals as goal
+use Rattle.resp_read.proofs.heads.begin_nested.Goals as goal
 
 pub returns-in-42 : goal.returns-in-42
 returns-in-42 c = λ inside. subst (λ (b : ℕ). Begins (chosen (nested reader_limits inside) b) inside c.args.input.now.left.now c.array.result c.array.new.input.left.now) (sym c.in-42.is) (c.array.ensures inside)

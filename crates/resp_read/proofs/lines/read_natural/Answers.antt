@@ -1,6 +1,6 @@
 use Rattle.std.proofs.Common.{sym, refl, arith}
 use Rattle.resp_read.proofs.Scans.{so_far_above}
-use Rattle.resp_read.proofs.lines.natural.Goals as goal
+use Rattle.resp_read.proofs.lines.read_natural.Goals as goal
 
 pub returns-then-n-most-clause-is : goal.returns-then-n-most-clause-is
 returns-then-n-most-clause-is c =

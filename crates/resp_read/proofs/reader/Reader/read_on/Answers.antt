@@ -6,8 +6,9 @@ use Rattle.resp_read.specs.State.{ReaderState}
 use Rattle.resp_read.specs.Frames.{IsUnderway}
 use Rattle.resp_read.specs.declared.reader.Health.TheVariants.{Sound, Malformed}
 use Rattle.resp_read.proofs.ReadLaws.{prefix_from_short, malformed_from_bad}
+use Rattle.resp_read.proofs.WaitLaws.{known_at_nothing}
 use Rattle.resp_read.proofs.FrameLaws.{given, waits, spoiled, underway_still}
-use Rattle.resp_read.proofs.reader.Reader.next_value.Goals as goal
+use Rattle.resp_read.proofs.reader.Reader.read_on.Goals as goal
 
 -- the text that was read on is what the bytes have left
 text_is : (slice bytes : List ℕ) (place : ℕ) → slice ≡ bytes → take (length slice - place) (drop place slice) ≡ drop place bytes
@@ -19,40 +20,46 @@ returns-in-Ok-clause-found c =
     let left = c.read_on.new.input.left.now in
     let v = data_of c.in-Ok.value in
     ap (λ (p : ReaderState). parse max_depth p.rest) (sym c.self.view_is)
-    ∙ given r.bytes r.at r.next r.frames.items r.health c.self.invariant c.in-Sound.is _ (text_is c.as_slice.result.now r.bytes r.next c.as_slice.ensures) c.read_on.new.frames.items left c.in-Ok.value c.in-Ok.ensures
+    ∙ given r.bytes r.at r.next r.frames.items r.looked r.health c.self.invariant (ap (λ (p : ReaderState). p.health) c.self.view_is ∙ c.requires) _ (text_is c.as_slice.result.now r.bytes r.next c.as_slice.ensures) c.read_on.new.frames.items left c.in-Ok.value c.in-Ok.ensures
     ∙ ap (λ n. read v (drop (n - length left) r.bytes)) (sym c.len.ensures)
+    ∙ ap (λ (p : ReaderState). read v p.rest) (sym c.give_room_back.ensures)
 
 pub returns-in-Ok-clause-value : goal.returns-in-Ok-clause-value
 returns-in-Ok-clause-value c =
     let h : c.self.inside.health ≡ c.args.self.now.health = ap (λ (p : ReaderState). p.health) c.self.view_is in
-    (sym h ∙ c.in-Sound.is, returns-in-Ok-clause-found c, c.in-Sound.is)
+    (c.requires, returns-in-Ok-clause-found c, ap (λ (p : ReaderState). p.health) c.give_room_back.ensures ∙ (ap (λ (p : ReaderState). p.health) c.self.view_is ∙ c.requires))
 
 pub invariant_of-self-in-Err-Short : goal.invariant_of-self-in-Err-Short
 invariant_of-self-in-Err-Short c =
     let r = c.self.inside in
     let left = c.read_on.new.input.left.now in
     let h = rw c.in-Err-Short.field-0-is at c.in-Err-Short.ensures in
-    subst (λ n. IsUnderway r.bytes r.at (n - length left) c.read_on.new.frames.items r.health) (sym c.len-in-Err-Short.ensures)
-    (underway_still r.bytes r.at r.next r.frames.items r.health c.self.invariant c.in-Sound.is _ (text_is c.as_slice.result.now r.bytes r.next c.as_slice.ensures) c.read_on.new.frames.items left h)
+    let nothing = c.at_nothing-self-inside-in-Err-Short.result in
+    subst (λ n. IsUnderway r.bytes r.at (n - length left) c.read_on.new.frames.items nothing r.health) (sym c.len-in-Err-Short.ensures)
+    (underway_still r.bytes r.at r.next r.frames.items r.looked r.health c.self.invariant (ap (λ (p : ReaderState). p.health) c.self.view_is ∙ c.requires) _ (text_is c.as_slice.result.now r.bytes r.next c.as_slice.ensures) c.read_on.new.frames.items left nothing (known_at_nothing nothing c.at_nothing-self-inside-in-Err-Short.ensures.count c.at_nothing-self-inside-in-Err-Short.ensures.front) h)
 
 pub returns-in-Err-Short-clause-found : goal.returns-in-Err-Short-clause-found
 returns-in-Err-Short-clause-found c =
     let r = c.self.inside in
     let h = rw c.in-Err-Short.field-0-is at c.in-Err-Short.ensures in
+    prefix_from_short c.args.self.now.rest (
     ap (λ (p : ReaderState). parse max_depth p.rest) (sym c.self.view_is)
-    ∙ waits r.bytes r.at r.next r.frames.items r.health c.self.invariant c.in-Sound.is _ (text_is c.as_slice.result.now r.bytes r.next c.as_slice.ensures) c.read_on.new.frames.items c.read_on.new.input.left.now h
+    ∙ waits r.bytes r.at r.next r.frames.items r.looked r.health c.self.invariant (ap (λ (p : ReaderState). p.health) c.self.view_is ∙ c.requires) _ (text_is c.as_slice.result.now r.bytes r.next c.as_slice.ensures) c.read_on.new.frames.items c.read_on.new.input.left.now h
+    )
 
 pub returns-in-Err-Short-clause-value : goal.returns-in-Err-Short-clause-value
 returns-in-Err-Short-clause-value c =
     let h : c.self.inside.health ≡ c.args.self.now.health = ap (λ (p : ReaderState). p.health) c.self.view_is in
-    (sym h ∙ c.in-Sound.is, prefix_from_short c.args.self.now.rest (returns-in-Err-Short-clause-found c), c.self.view_is)
+    (c.requires, returns-in-Err-Short-clause-found c, c.self.view_is)
 
 found_bad : goal.returns-in-Err-Bad-clause-found
 found_bad c = λ sound.
     let r = c.self.inside in
     let h = rw c.in-Err-Bad.field-0-is at c.in-Err-Bad.ensures in
+    malformed_from_bad c.args.self.now.rest (
     ap (λ (p : ReaderState). parse max_depth p.rest) (sym c.self.view_is)
-    ∙ spoiled r.bytes r.at r.next r.frames.items r.health c.self.invariant c.in-Sound.is _ (text_is c.as_slice.result.now r.bytes r.next c.as_slice.ensures) c.read_on.new.frames.items c.read_on.new.input.left.now h
+    ∙ spoiled r.bytes r.at r.next r.frames.items r.looked r.health c.self.invariant (ap (λ (p : ReaderState). p.health) c.self.view_is ∙ c.requires) _ (text_is c.as_slice.result.now r.bytes r.next c.as_slice.ensures) c.read_on.new.frames.items c.read_on.new.input.left.now h
+    )
 
 pub returns-in-Err-Bad-clause-found : goal.returns-in-Err-Bad-clause-found
 returns-in-Err-Bad-clause-found c = found_bad c
@@ -60,5 +67,5 @@ returns-in-Err-Bad-clause-found c = found_bad c
 pub returns-in-Err-Bad-clause-value : goal.returns-in-Err-Bad-clause-value
 returns-in-Err-Bad-clause-value c =
     let h : c.self.inside.health ≡ c.args.self.now.health = ap (λ (p : ReaderState). p.health) c.self.view_is in
-    let sound : c.args.self.now.health ≡ Sound = sym h ∙ c.in-Sound.is in
-    (inr (sound, malformed_from_bad c.args.self.now.rest (found_bad c sound)), ap (λ (p : ReaderState). record { health = Malformed; rest = p.rest }) c.self.view_is)
+    let sound : c.args.self.now.health ≡ Sound = c.requires in
+    (inr (sound, found_bad c sound), ap (λ (p : ReaderState). record { health = Malformed; rest = p.rest }) c.self.view_is)
