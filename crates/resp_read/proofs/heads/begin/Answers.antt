@@ -24,13 +24,13 @@ returns-then-is_plain-clause-shorter c =
     subst (λ r. IfOk r (λ b. length new < length left)) (sym c.whole.ensures)
     (value_shorter depth left c.read_plain.result new (at_plain data_of left _ _ c.read_plain.result new (grind arith) refl (take_rest left 1) depth (sym c.is_plain.ensures ∙ c.if-is_plain.true) c.read_plain.ensures))
 
-pub returns-then-around-max_depth-clause-begins : goal.returns-then-around-max_depth-clause-begins
-returns-then-around-max_depth-clause-begins c =
+pub returns-then-around-most_depth-clause-begins : goal.returns-then-around-most_depth-clause-begins
+returns-then-around-most_depth-clause-begins c =
     let left = c.args.input.now.left.now in
     let new = c.read_innermost.new.input.left.now in
     let depth = max_depth - c.args.around in
     let none : depth ≡ 0 = omega (arith, c.most_depth.ensures) in
-    subst (λ r. Begins (parse depth) (parse (depth - 1)) left r new) (sym c.whole-then-around-max_depth.ensures)
+    subst (λ r. Begins (parse depth) (parse (depth - 1)) left r new) (sym c.whole-then-around-most_depth.ensures)
     (begins_whole (parse depth) (parse (depth - 1)) (lawful_parse depth) left c.read_innermost.result new
     (at_innermost data_of left _ _ c.read_innermost.result new (grind arith) refl (take_rest left 1) depth none (sym c.is_plain.ensures ∙ c.if-is_plain.false) c.read_innermost.ensures))
 
