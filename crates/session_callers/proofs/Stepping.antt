@@ -90,9 +90,6 @@ module _ {T : Type 0} (r : Result T StepError) (h k : Home) (e : Event) (c : IsC
       → (e : Event) × (is_bad_after k.session.config k.session.word k.session.events e ≡ false) × (is_spent_after k.session.config k.session.word k.session.events e ≡ true)
   still f good spent = (f, ap (λ (s : History). is_bad_after s.config s.word s.events f) kept ∙ good, ap (λ (s : History). is_spent_after s.config s.word s.events f) kept ∙ spent)
 
-  never : (x y : StepError) → (x ≡ y → ⊥) → r ≡ Err x → r ≡ Err y → ⊥
-  never x y apart is was = cc
-
   stays : (x : StepError) → r ≡ Err x → (f : Failure) → h.session.failure ≡ f → h.session.failure ≢ failure.Sound → k.session.failure ≡ h.session.failure
   stays x is failure.Sound f n = absurd (n f)
   stays BadEvent is failure.Spent f n = ap (λ (s : History). s.failure) (bad_same is)
@@ -120,7 +117,7 @@ module _ {T : Type 0} (r : Result T StepError) (h k : Home) (e : Event) (c : IsC
     counted = record { submissions = count ∙ c.submissions ∙ ap submissions_in (sym events_same); spent = may_spend x is };
   }
 
-  refused : (x : StepError) → r ≡ Err x → IsRefused x k e
+  refused : (x : StepError) → r ≡ Err x → IsRefused x k.session e
   refused BadEvent is =
       let b = bad.0 is in
       (ap (λ (s : History). s.failure) (bad_same is) ∙ b.0, ap (λ (s : History). is_bad_after s.config s.word s.events e) (bad_same is) ∙ b.1)

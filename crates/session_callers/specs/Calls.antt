@@ -1,7 +1,9 @@
 -- What the calls say of a seat.
-use Rattle.std.specs.Prelude.{◌≡◌, ℕ, ◌+◌, ◌^◌, ◌<◌, ◌≤◌, List, [], ◌∷◌, ◌++◌, Option, length}
+use Rattle.std.specs.Prelude.{◌≡◌, ℕ, ◌+◌, ◌-◌, ◌^◌, ◌<◌, ◌≤◌, List, [], ◌∷◌, ◌++◌, Option, length, false}
 use Rattle.driver_model.specs.declared.event.Event.{Event}
-use Rattle.session_callers.specs.Rule.{MaySpend, Each, total, times, owns, callers, history, submissions_in}
+use Rattle.driver_model.specs.declared.event.EventKind.TheVariants.{Submit}
+use Rattle.driver_model.specs.declared.event.Submission.{Submission}
+use Rattle.session_callers.specs.Rule.{newcomer, MaySpend, Each, total, times, owns, callers, history, submissions_in}
 use Rattle.session_callers.specs.declared.board.Ended.{Ended}
 use mathlib.Core.List.{IsPrefix}
 use Rattle.atomic_table.specs.Seated.{TableId}
@@ -9,6 +11,13 @@ use Rattle.atomic_table.specs.declared.shared.Seat.{Seat}
 use Rattle.session_callers.specs.declared.board.Home.{Home}
 use Rattle.session_callers.specs.declared.board.View.{View}
 use Rattle.session_callers.specs.declared.board.Stage.TheVariants.{Idle, Holding}
+use Rattle.driver_model.specs.declared.action.Action.{Action}
+use Rattle.shared_session.specs.History.{History}
+use Rattle.shared_session.specs.Turn.{actions_of}
+use Rattle.shared_session.specs.Replay.{state_after, is_bad_after, is_spent_after}
+use Rattle.shared_session.specs.declared.errors.StepError.{StepError}
+use Rattle.shared_session.specs.declared.session.Failure.TheVariants.{Sound}
+use Rattle.session_callers.specs.Steps.{IsRefused}
 
 abbrev pub Place : Type 0
 Place = Seat (Option Home) View
@@ -61,13 +70,38 @@ pub record Took (v w : View) (h : Home) : Type 0 where
   pub spent : MaySpend w.config w.word w.seen w.failure
   pub few : w.made < 2 ^ 32
 
--- one event more, which is the caller's
-pub record Added (v w : View) (event : Event) (n : ℕ) : Type 0 where
+-- the session as a caller has seen it
+abbrev pub history_of : View → History
+history_of v = history v.config v.word v.seen v.failure
+
+abbrev pub submission_event : Submission → ℕ → Event
+submission_event what word = record { word = word; kind = Submit what }
+
+-- a newcomer that was made by the caller in its last turn
+abbrev pub joined_by : View → View
+joined_by v = newcomer v.config v.word (v.made - 1) v.seen v.dial
+
+abbrev pub with_claim : View → ℕ → View
+with_claim v n = record v { dial = n; claims = v.claims ++ n ∷ [] }
+
+-- one event more, which is the caller's: it stands last in the history then seen, and its turn was shown. n submissions
+-- stand before it
+pub record Added (v w : View) (event : Event) (n : ℕ) (shown after : List Action) : Type 0 where
   pub before : List Event
-  pub seen : w.seen ≡ before ++ event ∷ []
   pub begins : IsPrefix v.seen before
+  pub seen : w.seen ≡ before ++ event ∷ []
   pub mine : w.mine ≡ v.mine ++ length before ∷ []
-  pub number : n ≡ length before
+  pub number : n ≡ submissions_in before
+  pub sound : w.failure ≡ Sound
+  pub good : is_bad_after w.config w.word before event ≡ false
+  pub unspent : is_spent_after w.config w.word before event ≡ false
+  pub actions : after ≡ shown ++ actions_of (state_after w.config w.word before) event
+
+-- no event more, nothing shown, and why
+pub record Refused (error : StepError) (v w : View) (event : Event) (shown after : List Action) : Type 0 where
+  pub mine : w.mine ≡ v.mine
+  pub why : IsRefused error (history_of w) event
+  pub actions : after ≡ shown
 
 -- a caller of the table whose number is below m, and who saw no more callers
 abbrev pub IsOf : TableId → ℕ → Known → Type 0

@@ -1,4 +1,4 @@
 pub mod Rule
+pub mod Steps
 pub mod Calls
 pub mod Claims
-

@@ -3,6 +3,7 @@ use Rattle.std.specs.Prelude.{◌≡◌, ◌≢◌, ◌⊎◌, ℕ, ◌+◌, ◌
 use mathlib.Core.List.{IsPrefix}
 use Rattle.driver_model.specs.declared.action.Action.{Action}
 use Rattle.driver_model.specs.declared.event.Event.{Event}
+use Rattle.shared_session.specs.History.{History}
 use Rattle.shared_session.specs.Turn.{actions_of}
 use Rattle.shared_session.specs.Replay.{state_after, is_bad_after, is_spent_after}
 use Rattle.shared_session.specs.declared.errors.StepError.{StepError}
@@ -34,13 +35,13 @@ pub record HasTaken (h k : Home) (event : Event) (before after : List Action) : 
   pub actions : after ≡ before ++ actions_of (state_after h.session.config h.session.word h.session.events) event
 
 -- the event is bad; or numbers have run out, after so many events; or memory was refused
-abbrev pub IsRefused : StepError → Home → Event → Type 0
-IsRefused BadEvent k event = (k.session.failure ≡ failure.Sound) × (is_bad_after k.session.config k.session.word k.session.events event ≡ true)
-IsRefused (Spent n) k event = (k.session.failure ≡ failure.Spent) × (n ≡ length k.session.events)
-IsRefused NoMemory k event = k.session.failure ≡ failure.NoMemory
+abbrev pub IsRefused : StepError → History → Event → Type 0
+IsRefused BadEvent s event = (s.failure ≡ failure.Sound) × (is_bad_after s.config s.word s.events event ≡ true)
+IsRefused (Spent n) s event = (s.failure ≡ failure.Spent) × (n ≡ length s.events)
+IsRefused NoMemory s event = s.failure ≡ failure.NoMemory
 
 -- nothing was taken, and why
 pub record HasRefused (error : StepError) (h k : Home) (event : Event) (before after : List Action) : Type 0 where
   pub events : k.session.events ≡ h.session.events
-  pub why : IsRefused error k event
+  pub why : IsRefused error k.session event
   pub actions : after ≡ before

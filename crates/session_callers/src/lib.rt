@@ -4,10 +4,13 @@
 mod board;
 mod caller;
 mod dial;
+mod homes;
 mod plays;
+mod session;
 mod steps;
 mod turn;
 
 pub use caller::Caller;
 pub use dial::{Claim, Dial};
+pub use session::{JoinError, SharedSession};
 pub use board::{Board, Ended, Home, Origin, Place, Stage, View};
