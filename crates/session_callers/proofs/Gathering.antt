@@ -16,7 +16,7 @@ use Rattle.atomic_table.specs.Seated.{TableId}
 use Rattle.atomic_table.specs.Table.{Final, Seen}
 use Rattle.session_callers.specs.declared.board.Home.{Home}
 use Rattle.session_callers.specs.Rule.{Ruled, below}
-use Rattle.session_callers.proofs.Closing.{closes}
+use Rattle.session_callers.proofs.Whole.{closes}
 
 each_left : {A : Type 0} (P : A → Type 0) (xs ys : List A) → Each P (xs ++ ys) → Each P xs
 each_left P [] ys h = tt

@@ -1,5 +1,5 @@
 -- What the calls say of a seat.
-use Rattle.std.specs.Prelude.{◌≡◌, ℕ, ◌+◌, ◌-◌, ◌^◌, ◌<◌, ◌≤◌, List, [], ◌∷◌, ◌++◌, Option, length, false}
+use Rattle.std.specs.Prelude.{◌≡◌, ℕ, ◌+◌, ◌-◌, ◌^◌, ◌<◌, ◌≤◌, List, [], ◌∷◌, ◌++◌, Option, Some, length, false}
 use Rattle.driver_model.specs.declared.event.Event.{Event}
 use Rattle.driver_model.specs.declared.event.EventKind.TheVariants.{Submit}
 use Rattle.driver_model.specs.declared.event.Submission.{Submission}
@@ -12,9 +12,10 @@ use Rattle.session_callers.specs.declared.board.Home.{Home}
 use Rattle.session_callers.specs.declared.board.View.{View}
 use Rattle.session_callers.specs.declared.board.Stage.TheVariants.{Idle, Holding}
 use Rattle.driver_model.specs.declared.action.Action.{Action}
+use Rattle.driver_model.specs.declared.outcome.Outcome.{Outcome}
 use Rattle.shared_session.specs.History.{History}
 use Rattle.shared_session.specs.Turn.{actions_of}
-use Rattle.shared_session.specs.Replay.{state_after, is_bad_after, is_spent_after}
+use Rattle.shared_session.specs.Replay.{state_after, is_bad_after, is_spent_after, trace_of, outcomes_in, outcome_at}
 use Rattle.shared_session.specs.declared.errors.StepError.{StepError}
 use Rattle.shared_session.specs.declared.session.Failure.TheVariants.{Sound}
 use Rattle.session_callers.specs.Steps.{IsRefused}
@@ -102,6 +103,12 @@ pub record Refused (error : StepError) (v w : View) (event : Event) (shown after
   pub mine : w.mine ≡ v.mine
   pub why : IsRefused error (history_of w) event
   pub actions : after ≡ shown
+
+-- the outcome of the submission by a history that begins with what was seen
+pub record IsOutcomeLater (v : View) (n : ℕ) (outcome : Outcome) : Type 0 where
+  pub seen : List Event
+  pub begins : IsPrefix v.seen seen
+  pub told : outcome_at (outcomes_in (trace_of v.config v.word seen)) n ≡ Some outcome
 
 -- a caller of the table whose number is below m, and who saw no more callers
 abbrev pub IsOf : TableId → ℕ → Known → Type 0

@@ -3,8 +3,10 @@
 
 mod board;
 mod caller;
+mod closing;
 mod dial;
 mod homes;
+mod pending;
 mod plays;
 mod session;
 mod steps;
@@ -12,5 +14,6 @@ mod turn;
 
 pub use caller::Caller;
 pub use dial::{Claim, Dial};
+pub use pending::PendingSend;
 pub use session::{JoinError, SharedSession};
 pub use board::{Board, Ended, Home, Origin, Place, Stage, View};

@@ -9,6 +9,7 @@ use crate::board::{Home, Origin, Turns, View};
 use crate::caller::Caller;
 use crate::dial::{Claim, Dial};
 use crate::homes::{outcome_in, step_home};
+use crate::pending::PendingSend;
 use crate::steps::{dial, split};
 use crate::turn::{begin, end, end_made};
 use atomic_table::Table;
@@ -270,5 +271,34 @@ impl SharedSession {
         ensures { result ≡ length caller.now.view.seen }
     {
         caller.front
+    }
+
+    /// Submits as `submit_as` does, and answers a future of the outcome.
+    pub fn send_as<'a, R: Wait>(
+        &'a self,
+        rt: &'a R,
+        alloc: Global,
+        caller: &'a mut Caller,
+        what: Submission,
+        word: u64,
+        out: &mut Vec<Action>,
+    ) -> Result<PendingSend<'a, R>, StepError>
+        requires { caller.old.table ≡ self.now.table.shared.table_id }
+        ensures sent { IfOk result (λ p.
+            (p.caller.now.table ≡ caller.old.table)
+            × Turned caller.old.view p.caller.now.view
+            × Added caller.old.view p.caller.now.view (submission_event what word) p.number
+            out.old.items out.new.items
+            ) }
+        ensures err { OnErr result (out.new.items ≡ out.old.items) }
+    {
+        let number = self.submit_as(rt, alloc, caller, what, word, out)?;
+        Ok(PendingSend {
+            shared: self,
+            rt,
+            alloc,
+            caller,
+            number,
+        })
     }
 }
