@@ -17,6 +17,10 @@ use Rattle.atomic_table.specs.Table.{Final, Seen}
 use Rattle.session_callers.specs.declared.board.Home.{Home}
 use Rattle.session_callers.specs.Rule.{Ruled, below}
 use Rattle.session_callers.proofs.Whole.{closes}
+use Rattle.std.proofs.lemmas.Bool.Decides.{nat_tests}
+use Rattle.std.proofs.Common.{Bool, true, false, true≢false}
+use Rattle.std.specs.Prelude.{nat_le, nat_lt, ◌||◌}
+use Rattle.session_callers.specs.Closes.{are_above, knows_more, do_know_more}
 
 each_left : {A : Type 0} (P : A → Type 0) (xs ys : List A) → Each P (xs ++ ys) → Each P xs
 each_left P [] ys h = tt
@@ -78,3 +82,33 @@ closed m cs v g some_caller enough id ws xs h final taken =
     let same_home : end.0 ≡ h = some_home end.0 h (some-injective (Some end.0) (Some h) (sym (final.4 0 (Some end.0) (ap (λ l. get_elem? l 0) end.1)) ∙ taken)) in
     subst (λ (h : Home). Each (λ (c : Known). IsPrefix c.view.seen h.session.events) cs × ((p : ℕ) → total (λ (c : Known). times p c.view.mine) cs ≡ below p (length h.session.events))) same_home
     (g.begins end.0.session.events end.3 end.2, (λ p. sym (g.mine p) ∙ end.4 p))
+
+-- where all callers were taken in, the session is at home
+pub not_away : (m : ℕ) (cs : List Known) (v : View) → Gathered m cs v → 1 ≤ m → m ≤ length cs → (id : ℕ) (ws : List ℕ) (xs : List (Option Home)) → Final (Seen Ruled id v) ws xs → get_elem? xs 0 ≡ some None → ⊥
+not_away m cs v g some_caller enough id ws xs final taken =
+    let s = final.0 in
+    let seen = final.1 in
+    let all : m ≤ callers v = let a = g.count in omega arith in
+    let end = closes s seen.0 id v seen.1 g.idle m all (each_append (λ (n : ℕ). n < m) v.number (map (λ (e : Ended). e.number) v.ended) g.low (each_map m v.ended g.low_ended)) some_caller g.made g.made_ended in
+    let both : Some end.0 ≡ None = some-injective (Some end.0) None (sym (final.4 0 (Some end.0) (ap (λ l. get_elem? l 0) end.1)) ∙ taken) in
+    some_none end.0 both
+  where
+    some_none : (h : Home) → Some h ≡ None → ⊥
+    some_none h e = cc
+
+or_false : (a b : Bool) → (a || b) ≡ false → (a ≡ false) × (b ≡ false)
+or_false true b e = absurd (true≢false e)
+or_false false b e = (refl, e)
+
+none_above : (count : ℕ) (ns : List ℕ) → are_above count ns ≡ false → Each (λ (n : ℕ). n < count) ns
+none_above count [] e = tt
+none_above count (n ∷ ns) e = let o = or_false (nat_le count n) (are_above count ns) e in let le = o.0 in (grind (arith, nat_tests), none_above count ns o.1)
+
+-- callers that know of no more are all
+pub all_known : (z : TableId) (count : ℕ) (cs : List Known) → Each (λ (c : Known). c.table ≡ z) cs → do_know_more count cs ≡ false → Each (IsOf z count) cs
+all_known z count [] of e = tt
+all_known z count (c ∷ cs) of e =
+    let o = or_false (knows_more count c) (do_know_more count cs) e in
+    let k = or_false (are_above count c.view.number) (nat_lt count c.view.made) o.0 in
+    let lt = k.1 in
+    ((of.0, none_above count c.view.number k.0, grind (arith, nat_tests)), all_known z count cs of.1 o.1)

@@ -2,3 +2,4 @@ pub mod Rule
 pub mod Steps
 pub mod Calls
 pub mod Claims
+pub mod Closes

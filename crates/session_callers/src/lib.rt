@@ -13,6 +13,7 @@ mod steps;
 mod turn;
 
 pub use caller::Caller;
+pub use closing::CloseError;
 pub use dial::{Claim, Dial};
 pub use pending::PendingSend;
 pub use session::{JoinError, SharedSession};
