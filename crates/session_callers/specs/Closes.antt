@@ -1,0 +1,27 @@
+-- Whether all callers were handed in.
+use Rattle.std.specs.Prelude.{◌≡◌, ◌⊎◌, ℕ, nat_le, nat_lt, Bool, true, false, ◌||◌, List, [], ◌∷◌, length}
+use Rattle.session_callers.specs.Calls.{Known}
+use Rattle.session_callers.specs.declared.session.SharedSession.{SharedSession}
+use Rattle.session_callers.specs.declared.closing.CloseError.{CloseError}
+use Rattle.session_callers.specs.declared.closing.CloseError.TheVariants.{Missing}
+
+-- one of the numbers is the count, or above it
+abbrev pub are_above : ℕ → List ℕ → Bool
+are_above count [] = false
+are_above count (n ∷ ns) = nat_le count n || are_above count ns
+
+-- the caller shows that more than so many were made: by its own number, which counts from 0, or by how many it saw
+abbrev pub knows_more : ℕ → Known → Bool
+knows_more count c = are_above count c.view.number || nat_lt count c.view.made
+
+abbrev pub do_know_more : ℕ → List Known → Bool
+do_know_more count [] = false
+do_know_more count (c ∷ cs) = knows_more count c || do_know_more count cs
+
+-- fewer callers than were made: none, or so few that one of them knows of more
+abbrev pub AreFewer : List Known → Type 0
+AreFewer cs = (length cs ≡ 0) ⊎ (do_know_more (length cs) cs ≡ true)
+
+-- all are handed back, since some are missing
+abbrev pub IsMissing : CloseError → SharedSession → List Known → Type 0
+IsMissing (Missing shared callers) was cs = (shared ≡ was) × (callers.items ≡ cs) × AreFewer cs

@@ -1,0 +1,5 @@
+pub mod Rule
+pub mod Steps
+pub mod Calls
+pub mod Claims
+pub mod Closes

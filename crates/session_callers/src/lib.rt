@@ -1,0 +1,20 @@
+//! A session that several callers share, one turn each.
+#![tactic(auto)]
+
+mod board;
+mod caller;
+mod closing;
+mod dial;
+mod homes;
+mod pending;
+mod plays;
+mod session;
+mod steps;
+mod turn;
+
+pub use caller::Caller;
+pub use closing::CloseError;
+pub use dial::{Claim, Dial};
+pub use pending::PendingSend;
+pub use session::{JoinError, SharedSession};
+pub use board::{Board, Ended, Home, Origin, Place, Stage, View};

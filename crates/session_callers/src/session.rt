@@ -1,0 +1,304 @@
+ghost use Rattle.std.specs.Prelude.{◌≡◌, ℕ, ◌+◌, ◌-◌, ◌^◌, ◌<◌, ◌≤◌, [], ◌∷◌, ◌++◌, IfOk, IfErr, OnOk, OnErr, length};
+ghost use Rattle.shared_session.specs.Replay.{opening_actions, trace_of, outcomes_in, outcome_at};
+ghost use Rattle.shared_session.specs.declared.session.Failure.TheVariants.{Sound};
+ghost use Rattle.session_callers.specs.Rule.{history, newcomer};
+ghost use Rattle.session_callers.specs.Calls.{Turned, Added, Refused, submission_event, joined_by, with_claim};
+ghost use Rattle.session_callers.specs.Claims.{MatchClaim};
+
+use crate::board::{Home, Origin, Turns, View};
+use crate::caller::Caller;
+use crate::dial::{Claim, Dial};
+use crate::homes::{outcome_in, step_home};
+use crate::pending::PendingSend;
+use crate::steps::{dial, split};
+use crate::turn::{begin, end, end_made};
+use atomic_table::Table;
+use driver_model::{Action, Config, Event, EventKind, Outcome, Submission};
+use shared_session::{MakeError, Session, StepError};
+use std::alloc::{AllocError, Global};
+use std::sync::Wait;
+
+/// Why no caller was made.
+#[derive(Debug, Clone, Copy, PartialEq, Eq, Drop)]
+pub enum JoinError {
+    /// As many were made as can be.
+    Spent,
+}
+
+/// A session with the callers that share it.
+#[derive(Drop)]
+pub struct SharedSession {
+    pub(crate) table: Table<Option<Home>, View, Origin, Turns, Global>,
+    pub ghost sized: { (table.shared.table_id.words ≡ 3) × (table.shared.table_id.slots ≡ 1) },
+}
+
+/// A session in its table, and its first caller.
+fn seated(
+    alloc: Global,
+    origin: &Origin,
+    session: Session,
+) -> Result<(SharedSession, Caller), AllocError>
+    requires { session ≡ history origin.now.config origin.now.word [] Sound }
+    ensures { IfOk result (λ made.
+        (made.1.table ≡ made.0.table.shared.table_id)
+        × (made.1.view ≡ newcomer origin.now.config origin.now.word 0 [] 0)
+        ) }
+{
+    let home = Home {
+        session,
+        made: 1,
+        submissions: 0,
+    };
+    let mut slots = Vec::new(alloc);
+    slots.push(Some(home))?;
+    match Table::new(alloc, &[0, 0, 0], slots, origin) {
+        Ok((table, seat)) => Ok((
+            SharedSession { table },
+            Caller {
+                seat,
+                front: 0,
+                generation: 0,
+                number: 0,
+                made: 0,
+            },
+        )),
+        Err(_) => Err(AllocError),
+    }
+}
+
+impl SharedSession {
+    /// A session that has made its opening, whose actions `out` gains, and its first caller. After `NoMemory` `out` is
+    /// as it was.
+    pub fn new(
+        alloc: Global,
+        config: Config,
+        word: u64,
+        out: &mut Vec<Action>,
+    ) -> Result<(SharedSession, Caller), MakeError>
+        ensures caller { IfOk result (λ made.
+            (made.1.table ≡ made.0.table.shared.table_id)
+            × (made.1.view ≡ newcomer config word 0 [] 0)
+            ) }
+        ensures actions { OnOk result (
+            out.new.items ≡ out.old.items ++ opening_actions config word
+            ) }
+        ensures err { OnErr result (out.new.items ≡ out.old.items) }
+    {
+        let before = out.len();
+        let copy = config.clone(alloc)?;
+        let origin = Origin { config: copy, word };
+        let session = Session::new(alloc, config, word, out)?;
+        match seated(alloc, &origin, session) {
+            Ok(made) => Ok(made),
+            Err(_) => {
+                out.truncate(before);
+                Err(MakeError::NoMemory)
+            }
+        }
+    }
+
+    /// One turn of the caller, in which the session takes the event, and how many submissions stood before it.
+    fn take_turn<R: Wait>(
+        &self,
+        rt: &R,
+        alloc: Global,
+        caller: &mut Caller,
+        event: Event,
+        out: &mut Vec<Action>,
+    ) -> (u32, Result<(), StepError>)
+        requires { caller.old.table ≡ self.now.table.shared.table_id }
+        ensures table { caller.new.table ≡ caller.old.table }
+        ensures turned { Turned caller.old.view caller.new.view }
+        ensures added { OnOk result.1 (
+            Added caller.old.view caller.new.view event result.0 out.old.items out.new.items
+            ) }
+        ensures refused { IfErr result.1 (λ error.
+            Refused error caller.old.view caller.new.view event out.old.items out.new.items
+            ) }
+    {
+        let board = &self.table.shared;
+        let mut home = begin(rt, board, &mut caller.seat);
+        let number = home.submissions;
+        let answer = step_home(alloc, &mut home, event, out);
+        caller.front = home.session.events_taken();
+        caller.made = home.made;
+        end(board, &mut caller.seat, home);
+        (number, answer)
+    }
+
+    /// Submits in the caller's turn, and answers the submission's number. `out` gains the actions of the turn. After an
+    /// error `out` is as it was, and the history has nothing more of this caller's.
+    pub fn submit_as<R: Wait>(
+        &self,
+        rt: &R,
+        alloc: Global,
+        caller: &mut Caller,
+        what: Submission,
+        word: u64,
+        out: &mut Vec<Action>,
+    ) -> Result<u32, StepError>
+        requires { caller.old.table ≡ self.now.table.shared.table_id }
+        ensures table { caller.new.table ≡ caller.old.table }
+        ensures turned { Turned caller.old.view caller.new.view }
+        ensures added { IfOk result (λ n.
+            Added caller.old.view caller.new.view (submission_event what word) n
+            out.old.items out.new.items
+            ) }
+        ensures refused { IfErr result (λ error.
+            Refused error caller.old.view caller.new.view (submission_event what word)
+            out.old.items out.new.items
+            ) }
+    {
+        let event = Event {
+            word,
+            kind: EventKind::Submit { submission: what },
+        };
+        let (number, answer) = self.take_turn(rt, alloc, caller, event, out);
+        match answer {
+            Ok(()) => Ok(number),
+            Err(error) => Err(error),
+        }
+    }
+
+    /// The outcome of a submission by the history then seen, if it has one.
+    pub fn outcome_as<R: Wait>(
+        &self,
+        rt: &R,
+        alloc: Global,
+        caller: &mut Caller,
+        submission: u32,
+    ) -> Result<Option<Outcome>, AllocError>
+        requires { caller.old.table ≡ self.now.table.shared.table_id }
+        ensures table { caller.new.table ≡ caller.old.table }
+        ensures turned { Turned caller.old.view caller.new.view }
+        ensures mine { caller.new.view.mine ≡ caller.old.view.mine }
+        ensures outcome { IfOk result (λ outcome.
+            outcome ≡ outcome_at (outcomes_in (
+            trace_of caller.new.view.config caller.new.view.word caller.new.view.seen
+            )) submission
+            ) }
+    {
+        let board = &self.table.shared;
+        let home = begin(rt, board, &mut caller.seat);
+        let answer = outcome_in(alloc, &home.session, submission);
+        caller.front = home.session.events_taken();
+        caller.made = home.made;
+        end(board, &mut caller.seat, home);
+        answer
+    }
+
+    /// Takes one event in the caller's turn, and answers the actions of the turn. After an error the history has
+    /// nothing more of this caller's.
+    pub fn event_as<R: Wait>(
+        &self,
+        rt: &R,
+        alloc: Global,
+        caller: &mut Caller,
+        event: Event,
+    ) -> Result<Vec<Action>, StepError>
+        requires { caller.old.table ≡ self.now.table.shared.table_id }
+        ensures table { caller.new.table ≡ caller.old.table }
+        ensures turned { Turned caller.old.view caller.new.view }
+        ensures added { IfOk result (λ out.
+            (n : ℕ) × Added caller.old.view caller.new.view event n [] out.items
+            ) }
+        ensures refused { IfErr result (λ error.
+            Refused error caller.old.view caller.new.view event [] []
+            ) }
+    {
+        let mut out = Vec::new(alloc);
+        let (_, answer) = self.take_turn(rt, alloc, caller, event, &mut out);
+        match answer {
+            Ok(()) => Ok(out),
+            Err(error) => Err(error),
+        }
+    }
+
+    /// A new caller, which has seen as much.
+    pub fn join<R: Wait>(&self, rt: &R, caller: &mut Caller) -> Result<Caller, JoinError>
+        requires { caller.old.table ≡ self.now.table.shared.table_id }
+        ensures table { caller.new.table ≡ caller.old.table }
+        ensures turned { Turned caller.old.view caller.new.view }
+        ensures mine { caller.new.view.mine ≡ caller.old.view.mine }
+        ensures joined { IfOk result (λ other.
+            (other.table ≡ caller.old.table) × (other.view ≡ joined_by caller.new.view)
+            ) }
+        ensures spent { OnErr result (caller.new.view.made ≡ 2 ^ 32 - 1) }
+    {
+        let board = &self.table.shared;
+        let mut home = begin(rt, board, &mut caller.seat);
+        caller.front = home.session.events_taken();
+        caller.made = home.made;
+        if home.made >= 0xffff_ffff {
+            end(board, &mut caller.seat, home);
+            return Err(JoinError::Spent);
+        }
+        let seat = split(board, &mut caller.seat);
+        let number = home.made;
+        home.made += 1;
+        caller.made = home.made;
+        end_made(board, &mut caller.seat, home);
+        Ok(Caller {
+            seat,
+            front: caller.front,
+            generation: caller.generation,
+            number,
+            made: 0,
+        })
+    }
+
+    /// Claims the dial after `g`, where no other did. Waits for nobody.
+    pub fn claim_dial(&self, caller: &mut Caller, g: u64) -> Claim
+        requires of { caller.old.table ≡ self.now.table.shared.table_id }
+        requires known { (g ≤ caller.old.view.dial) × (g + 1 < 2 ^ 64) }
+        ensures table { caller.new.table ≡ caller.old.table }
+        ensures claimed { MatchClaim result
+            (λ n. (n ≡ g + 1) × (caller.new.view ≡ with_claim caller.old.view n))
+            (λ n. (g < n) × (caller.new.view ≡ record caller.old.view { dial = n })) }
+    {
+        let found = dial(&self.table.shared, &mut caller.seat, g);
+        if found == g {
+            caller.generation = g + 1;
+            Claim::Claimed(Dial { number: g + 1 })
+        } else {
+            caller.generation = found;
+            Claim::Newer(found)
+        }
+    }
+
+    /// The length of the history that the caller has seen. Waits for nobody.
+    pub fn front(&self, caller: &Caller) -> u32
+        ensures { result ≡ length caller.now.view.seen }
+    {
+        caller.front
+    }
+
+    /// Submits as `submit_as` does, and answers a future of the outcome.
+    pub fn send_as<'a, R: Wait>(
+        &'a self,
+        rt: &'a R,
+        alloc: Global,
+        caller: &'a mut Caller,
+        what: Submission,
+        word: u64,
+        out: &mut Vec<Action>,
+    ) -> Result<PendingSend<'a, R>, StepError>
+        requires { caller.old.table ≡ self.now.table.shared.table_id }
+        ensures sent { IfOk result (λ p.
+            (p.caller.now.table ≡ caller.old.table)
+            × Turned caller.old.view p.caller.now.view
+            × Added caller.old.view p.caller.now.view (submission_event what word) p.number
+            out.old.items out.new.items
+            ) }
+        ensures err { OnErr result (out.new.items ≡ out.old.items) }
+    {
+        let number = self.submit_as(rt, alloc, caller, what, word, out)?;
+        Ok(PendingSend {
+            shared: self,
+            rt,
+            alloc,
+            caller,
+            number,
+        })
+    }
+}
