@@ -18,3 +18,6 @@ pub use dial::{Claim, Dial};
 pub use pending::PendingSend;
 pub use session::{JoinError, SharedSession};
 pub use board::{Board, Ended, Home, Origin, Place, Stage, View};
+
+#[cfg(test)]
+mod tests;
