@@ -48,12 +48,16 @@ pub fn take(board: &Board, seat: &mut Place) -> Home
     requires nothing { seat.old.me.1 ≡ [] }
     ensures same { IsSame seat.old seat.new }
     ensures holding { seat.new.me
-        ≡ (record seat.old.me.0 { stage = Holding (ticket_of seat.old.me.0.stage) }, (0, None) ∷ []) }
+        ≡ (
+          record seat.old.me.0 { stage = Holding (ticket_of seat.old.me.0.stage) },
+          (0, None) ∷ [],
+        ) }
     ensures session { (result.session
         ≡ history seat.old.me.0.config seat.old.me.0.word seat.old.me.0.seen seat.old.me.0.failure)
         × (result.made ≡ seat.old.me.0.made)
         × (result.submissions ≡ submissions_in seat.old.me.0.seen) }
-    ensures spent { MaySpend seat.old.me.0.config seat.old.me.0.word seat.old.me.0.seen seat.old.me.0.failure
+    ensures spent { MaySpend seat.old.me.0.config seat.old.me.0.word
+        seat.old.me.0.seen seat.old.me.0.failure
         × (seat.old.me.0.made < 2 ^ 32) }
 {
     board.load::<Take>(seat, 0);
