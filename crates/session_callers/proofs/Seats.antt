@@ -145,7 +145,8 @@ joins id v other w k v_idle w_idle caller one s r at apart there =
             seen = longer_prefix v.seen w.seen r.now.log mine.seen theirs.seen;
             turn = subst (InTurn r.now x) (sym v_idle) tt;
             mine = ascends_up 0 v.mine (length v.seen) (length x.seen) (longer_left v.seen w.seen) mine.mine;
-            config = mine.config; failure = mine.failure;
+            config = mine.config;
+            failure = mine.failure;
             made = mine.made;
             dial = let a = mine.dial in let b = theirs.dial in omega arith;
             caller = mine.caller;

@@ -20,5 +20,7 @@ impl Model for Caller {
 
     ghost view = { λ c. record { table = c.seat.table_id; view = c.seat.me.0 } };
 
-    ghost invariant = { λ c. IsIdle c.seat × (c.front ≡ length c.seat.me.0.seen) × (c.generation ≡ c.seat.me.0.dial) × (c.seat.me.0.number ≡ c.number ∷ []) × (c.seat.me.0.made ≡ c.made) };
+    ghost invariant = { λ c. IsIdle c.seat × (c.front ≡ length c.seat.me.0.seen)
+        × (c.generation ≡ c.seat.me.0.dial) × (c.seat.me.0.number ≡ c.number ∷ [])
+        × (c.seat.me.0.made ≡ c.made) };
 }

@@ -46,9 +46,7 @@ impl SharedSession {
     fn close_all(self, mut callers: Vec<Caller>, made: u64) -> Session
         requires of { Each (IsOf self.table.shared.table_id made) callers.items }
         requires all { (1 ≤ made) × (made ≤ length callers.items) }
-        ensures begins {
-            Each (λ caller. IsPrefix caller.view.seen result.events) callers.items
-            }
+        ensures begins { Each (λ caller. IsPrefix caller.view.seen result.events) callers.items }
         ensures mine { (p : ℕ) →
             total (λ caller. times p caller.view.mine) callers.items
             ≡ below p (length result.events) }
@@ -72,11 +70,13 @@ impl SharedSession {
         let home = closed.take(0);
         closed.free();
         match home {
-            Some(Home {
-                session,
-                made: _,
-                submissions: _,
-            }) => session,
+            Some(
+                Home {
+                    session,
+                    made: _,
+                    submissions: _,
+                },
+            ) => session,
             None => unreachable!(),
         }
     }
@@ -84,9 +84,7 @@ impl SharedSession {
     /// Ends the sharing, and answers the session. Its history begins with what each of the callers had seen, and each
     /// place of it is one caller's own. `Missing` comes exactly where fewer callers were handed in than were made.
     pub fn close(self, callers: Vec<Caller>) -> Result<Session, CloseError>
-        requires {
-            Each (λ caller. caller.table ≡ self.table.shared.table_id) callers.items
-            }
+        requires { Each (λ caller. caller.table ≡ self.table.shared.table_id) callers.items }
         ensures begins { IfOk result (λ session.
             Each (λ caller. IsPrefix caller.view.seen session.events) callers.items
             ) }

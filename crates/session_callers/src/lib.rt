@@ -12,9 +12,12 @@ mod session;
 mod steps;
 mod turn;
 
+pub use board::{Board, Ended, Home, Origin, Place, Stage, View};
 pub use caller::Caller;
 pub use closing::CloseError;
 pub use dial::{Claim, Dial};
 pub use pending::PendingSend;
 pub use session::{JoinError, SharedSession};
-pub use board::{Board, Ended, Home, Origin, Place, Stage, View};
+
+#[cfg(test)]
+mod tests;

@@ -18,7 +18,8 @@ pub fn draw(board: &Board, seat: &mut Place) -> u64
     requires at { IsAt board.now.table_id seat.old }
     requires idle { (seat.old.me.0.stage ≡ Idle) × (length seat.old.me.0.number ≡ 1) }
     ensures same { IsSame seat.old seat.new }
-    ensures drew { (t : ℕ) × (result ≡ t % 2 ^ 64) × (seat.new.me ≡ (waiting seat.old.me.0 t, seat.old.me.1)) }
+    ensures drew { (t : ℕ) × (result ≡ t % 2 ^ 64)
+        × (seat.new.me ≡ (waiting seat.old.me.0 t, seat.old.me.1)) }
 {
     board.fetch_add::<Draw>(seat, 0, 1)
 }
@@ -28,7 +29,8 @@ pub fn wait<R: Wait>(rt: &R, board: &Board, seat: &mut Place, ticket: u64)
     requires at { IsAt board.now.table_id seat.old }
     requires drew { (t : ℕ) × (ticket ≡ t % 2 ^ 64) × (seat.old.me.0.stage ≡ Waiting t) }
     ensures same { IsSame seat.old seat.new }
-    ensures served { (seen : _) × (failure : _) × (made : ℕ) × IsPrefix seat.old.me.0.seen seen × (seat.new.me ≡ (served seat.old.me.0 seen failure made, seat.old.me.1)) }
+    ensures served { (seen : _) × (failure : _) × (made : ℕ) × IsPrefix seat.old.me.0.seen seen
+        × (seat.new.me ≡ (served seat.old.me.0 seen failure made, seat.old.me.1)) }
 {
     for _ in rt.forever() {
         if board.load::<Look>(seat, 1) == ticket {
@@ -45,9 +47,18 @@ pub fn take(board: &Board, seat: &mut Place) -> Home
     requires served { (t : ℕ) × (seat.old.me.0.stage ≡ Served t) }
     requires nothing { seat.old.me.1 ≡ [] }
     ensures same { IsSame seat.old seat.new }
-    ensures holding { seat.new.me ≡ (record seat.old.me.0 { stage = Holding (ticket_of seat.old.me.0.stage) }, (0, None) ∷ []) }
-    ensures session { (result.session ≡ history seat.old.me.0.config seat.old.me.0.word seat.old.me.0.seen seat.old.me.0.failure) × (result.made ≡ seat.old.me.0.made) × (result.submissions ≡ submissions_in seat.old.me.0.seen) }
-    ensures spent { MaySpend seat.old.me.0.config seat.old.me.0.word seat.old.me.0.seen seat.old.me.0.failure × (seat.old.me.0.made < 2 ^ 32) }
+    ensures holding { seat.new.me
+        ≡ (
+          record seat.old.me.0 { stage = Holding (ticket_of seat.old.me.0.stage) },
+          (0, None) ∷ [],
+        ) }
+    ensures session { (result.session
+        ≡ history seat.old.me.0.config seat.old.me.0.word seat.old.me.0.seen seat.old.me.0.failure)
+        × (result.made ≡ seat.old.me.0.made)
+        × (result.submissions ≡ submissions_in seat.old.me.0.seen) }
+    ensures spent { MaySpend seat.old.me.0.config seat.old.me.0.word
+        seat.old.me.0.seen seat.old.me.0.failure
+        × (seat.old.me.0.made < 2 ^ 32) }
 {
     board.load::<Take>(seat, 0);
     board.exchange(seat, 0, None).unwrap()
@@ -56,7 +67,8 @@ pub fn take(board: &Board, seat: &mut Place) -> Home
 // Gives the session back, with one event more or as many.
 pub fn give(board: &Board, seat: &mut Place, home: Home)
     requires at { IsAt board.now.table_id seat.old }
-    requires holding { (t : ℕ) × (seat.old.me.0.stage ≡ Holding t) × (seat.old.me.1 ≡ (0, None) ∷ []) }
+    requires holding { (t : ℕ) × (seat.old.me.0.stage ≡ Holding t)
+        × (seat.old.me.1 ≡ (0, None) ∷ []) }
     requires grows { MayGive seat.old.me.0 home }
     ensures same { IsSame seat.old seat.new }
     ensures given { seat.new.me ≡ (given seat.old.me.0 home, []) }
@@ -70,7 +82,8 @@ pub fn give(board: &Board, seat: &mut Place, home: Home)
 // The same, after a split.
 pub fn give_made(board: &Board, seat: &mut Place, home: Home)
     requires at { IsAt board.now.table_id seat.old }
-    requires holding { (t : ℕ) × (seat.old.me.0.stage ≡ Split t) × (seat.old.me.1 ≡ (0, None) ∷ []) }
+    requires holding { (t : ℕ) × (seat.old.me.0.stage ≡ Split t)
+        × (seat.old.me.1 ≡ (0, None) ∷ []) }
     requires grows { MayGive seat.old.me.0 home }
     ensures same { IsSame seat.old seat.new }
     ensures given { seat.new.me ≡ (given seat.old.me.0 home, []) }
@@ -98,7 +111,8 @@ pub fn split(board: &Board, seat: &mut Place) -> Place
     requires room { seat.old.me.0.made + 1 < 2 ^ 32 }
     ensures same { IsSame seat.old seat.new }
     ensures left { seat.new.me ≡ (left_of seat.old.me.0, seat.old.me.1) }
-    ensures right { (result.table_id ≡ seat.old.table_id) × (result.me ≡ (right_of seat.old.me.0, [])) }
+    ensures right { (result.table_id ≡ seat.old.table_id)
+        × (result.me ≡ (right_of seat.old.me.0, [])) }
 {
     board.split_seat::<Made>(seat)
 }
@@ -119,7 +133,8 @@ pub fn merge(board: &Board, seat: &mut Place, other: Caller)
     requires idle { (seat.old.me.0.stage ≡ Idle) × (1 ≤ length seat.old.me.0.number) }
     ensures same { IsSame seat.old seat.new }
     ensures joined { seat.new.me ≡ (joined seat.old.me.0 other.view, seat.old.me.1) }
-    ensures other { ((k : ℕ) × (other.view.number ≡ k ∷ [])) × (other.view.ended ≡ []) × (other.view.stage ≡ Idle) }
+    ensures other { ((k : ℕ) × (other.view.number ≡ k ∷ [])) × (other.view.ended ≡ [])
+        × (other.view.stage ≡ Idle) }
 {
     let Caller {
         seat: theirs,

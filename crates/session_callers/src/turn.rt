@@ -23,7 +23,8 @@ pub fn begin<R: Wait>(rt: &R, board: &Board, seat: &mut Place) -> Home
 // Gives the session back, and lets the next one have its turn.
 pub fn end(board: &Board, seat: &mut Place, home: Home)
     requires at { IsAt board.now.table_id seat.old }
-    requires holding { (t : ℕ) × (seat.old.me.0.stage ≡ Holding t) × (seat.old.me.1 ≡ (0, None) ∷ []) }
+    requires holding { (t : ℕ) × (seat.old.me.0.stage ≡ Holding t)
+        × (seat.old.me.1 ≡ (0, None) ∷ []) }
     requires grows { MayGive seat.old.me.0 home }
     ensures same { IsSame seat.old seat.new }
     ensures given { seat.new.me ≡ (record (given seat.old.me.0 home) { stage = Idle }, []) }
@@ -35,7 +36,8 @@ pub fn end(board: &Board, seat: &mut Place, home: Home)
 // The same, after a split.
 pub fn end_made(board: &Board, seat: &mut Place, home: Home)
     requires at { IsAt board.now.table_id seat.old }
-    requires holding { (t : ℕ) × (seat.old.me.0.stage ≡ Split t) × (seat.old.me.1 ≡ (0, None) ∷ []) }
+    requires holding { (t : ℕ) × (seat.old.me.0.stage ≡ Split t)
+        × (seat.old.me.1 ≡ (0, None) ∷ []) }
     requires grows { MayGive seat.old.me.0 home }
     ensures same { IsSame seat.old seat.new }
     ensures given { seat.new.me ≡ (record (given seat.old.me.0 home) { stage = Idle }, []) }
