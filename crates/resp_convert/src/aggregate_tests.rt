@@ -163,7 +163,10 @@ fn refusals_tell_the_error(rt: HostRuntime) -> Result<(), AllocError> {
     let alloc = rt.alloc();
     let error = refusal(alloc)?;
     assert!(rt; error.server_error().is_some());
-    assert_eq!(rt; format!(in alloc; "{error}")?.as_str(), "the server answered an error: ERR");
+    assert_eq!(rt;
+        format!(in alloc; "{error}")?.as_str(),
+        "the server answered an error: ERR"
+    );
     assert!(rt; ConvertError::NoMemory.server_error().is_none());
     Ok(())
 }

@@ -106,7 +106,7 @@ fn read_members<K: FromRedisValue + Drop, V: FromRedisValue + Drop>(
     Ok(Some(read))
 }
 
-/// What the items of an array are by twos, if there is an even number of them and each pair is of the types.
+/// What the items of an array are by twos, if their number is even and each pair is of the types.
 fn read_paired<K: FromRedisValue + Drop, V: FromRedisValue + Drop>(
     alloc: Global,
     mut items: &[Value],
@@ -130,7 +130,7 @@ fn read_paired<K: FromRedisValue + Drop, V: FromRedisValue + Drop>(
 }
 
 /// What the keys and values of a map are, or of an array of even length.
-#[tactic(auto, using(crate::proofs::Each::same_items, crate::proofs::Each::same_pairs))]
+#[tactic(auto, using(crate::proofs::Each::same_items))]
 fn read_pairs<K: FromRedisValue + Drop, V: FromRedisValue + Drop>(
     alloc: Global,
     value: &Value,
