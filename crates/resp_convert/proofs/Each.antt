@@ -1,13 +1,18 @@
 -- Lists whose items are read one by one.
-use Rattle.std.proofs.Common.{◌≡◌, ℕ, zero, suc, ◌+◌, ◌<◌, List, [], ◌∷◌, ◌++◌, length, map, get_or, take, Some, refl, sym, ap, subst, arith}
+use Rattle.std.proofs.Common.{◌≡◌, ℕ, zero, suc, ◌+◌, ◌<◌, List, [], ◌∷◌, ◌++◌, length, map, get_or, take, refl, sym, ap, subst, arith}
 use Rattle.std.proofs.lemmas.List.{take_more}
-use Rattle.resp_value.specs.Data.{Data, items_of, list_of}
+use Rattle.resp_value.specs.Data.{Data, items_of, list_of, members_of, pairs_of}
 use Rattle.resp_convert.specs.Types.{IsEach}
 
 -- the items of an array or a set are those that it is seen as
 pub same_items : (ds : List Data) → list_of (items_of ds) ≡ ds
 same_items [] = refl
 same_items (d ∷ ds) = ap (λ es. d ∷ es) (same_items ds)
+
+-- and so are the pairs of a map
+pub same_pairs : (ps : List (Data × Data)) → pairs_of (members_of ps) ≡ ps
+same_pairs [] = refl
+same_pairs (p ∷ ps) = ap (λ qs. p ∷ qs) (same_pairs ps)
 
 module _ {A V S : Type 0} (view : V → A) (reads : A → S → Type 0) where
   view_push : (vs : List V) (v : V) → map view (vs ++ v ∷ []) ≡ map view vs ++ view v ∷ []

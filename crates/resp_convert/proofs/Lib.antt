@@ -1,1 +1,2 @@
+mod ByTwos
 mod Each

@@ -1,10 +1,12 @@
 -- Which values are what of each type.
-use Rattle.std.specs.Prelude.{◌≡◌, ℕ, ◌<◌, ◌^◌, ℤ, pos, Bool, List, [], ◌∷◌, Option, Some, None, codes, if◌then◌else◌}
+use Rattle.std.specs.Prelude.{◌≡◌, ℕ, ◌<◌, ◌^◌, ℤ, pos, Bool, List, [], ◌∷◌, Option, Some, None, option_map, fold, codes, if◌then◌else◌}
 use mir.Syntax.{Width}
 use mir.Val.{SFits}
 use Rattle.std.specs.Str.{IsUtf8}
 use Rattle.std.specs.Str.Parse.{IsNumeral, without_leading_plus, without_leading_sign, digits_value, signed_digits_value}
-use Rattle.resp_value.specs.Data.{Data, nil, int, bulk, array, simple, okay, attribute, set, boolean, verbatim, error, list_of}
+use Rattle.std.specs.declared.cmp.Ordering.{Ordering}
+use Rattle.std.specs.BTreeMap.{BTreeMap, insert_entry}
+use Rattle.resp_value.specs.Data.{Data, nil, int, bulk, array, simple, okay, dict, attribute, set, boolean, verbatim, error, list_of, pairs_of}
 
 -- a value without the attributes that stand before it
 abbrev pub bare : Data → Data
@@ -98,7 +100,39 @@ abbrev pub IsDone : Data → Type 0
 IsDone (error e) = ⊥
 IsDone _ = Unit {0}
 
+-- values that stand by twos: a key, and its value
+abbrev pub paired : List Data → Option (List (Data × Data))
+paired [] = Some []
+paired (k ∷ []) = None
+paired (k ∷ d ∷ ds) = option_map (λ ps. (k, d) ∷ ps) (paired ds)
+
+-- the keys and values of a map, or of an array of even length
+abbrev pub pairs_in : Data → Option (List (Data × Data))
+pairs_in (dict ms) = Some (pairs_of ms)
+pairs_in (array ds) = paired (list_of ds)
+pairs_in _ = None
+
+-- a key and its value
+abbrev pub IsPair : {K V : Type 0} → (Data → K → Type 0) → (Data → V → Type 0) → Data × Data → K × V → Type 0
+IsPair keys values p x = keys p.0 x.0 × values p.1 x.1
+
+-- a map, or an array of even length, of such keys and values, in order
+abbrev pub IsPairs : {K V : Type 0} → (Data → K → Type 0) → (Data → V → Type 0) → Data → List (K × V) → Type 0
+IsPairs keys values d xs = IsEachOf (IsPair keys values) (pairs_in (bare d)) xs
+
+-- the entries of a map into which pairs were put in order: of equal keys the last has the value
+abbrev pub entries_of : {K V : Type 0} → (K → K → Ordering) → List (K × V) → List (K × V)
+entries_of cmp xs = fold (λ es x. insert_entry cmp es x.0 x.1) [] xs
+
+-- a map of such keys and values
+abbrev pub IsMap : {K V : Type 0} → (K → K → Ordering) → (Data → K → Type 0) → (Data → V → Type 0) → Data → BTreeMap K V → Type 0
+IsMap {K} {V} cmp keys values d m = (xs : List (K × V)) × IsPairs keys values d xs × (m.entries ≡ entries_of cmp xs)
+
 -- an array or a set of just so many items, each of its own type
 abbrev pub IsTwo : {A B : Type 0} → (Data → A → Type 0) → (Data → B → Type 0) → Option (List Data) → A × B → Type 0
 IsTwo a b (Some (d ∷ e ∷ [])) x = a d x.0 × b e x.1
 IsTwo a b _ x = ⊥
+
+abbrev pub IsThree : {A B C : Type 0} → (Data → A → Type 0) → (Data → B → Type 0) → (Data → C → Type 0) → Option (List Data) → A × B × C → Type 0
+IsThree a b c (Some (d ∷ e ∷ f ∷ [])) x = a d x.0 × b e x.1 × c f x.2
+IsThree a b c _ x = ⊥

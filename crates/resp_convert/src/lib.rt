@@ -9,6 +9,7 @@ mod scalars;
 mod texts;
 mod tuples;
 
+pub use aggregates::KeyValues;
 pub use convert::{ConvertError, FromRedisValue};
 
 #[cfg(test)]
