@@ -1,2 +1,3 @@
 mod ByTwos
 mod Each
+mod Numbers

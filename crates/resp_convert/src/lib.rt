@@ -4,6 +4,7 @@
 mod aggregates;
 mod convert;
 mod integers;
+mod laws;
 mod parts;
 mod scalars;
 mod texts;
@@ -11,6 +12,7 @@ mod tuples;
 
 pub use aggregates::KeyValues;
 pub use convert::{ConvertError, FromRedisValue};
+pub use laws::written_numbers_are_read_back;
 
 #[cfg(test)]
 mod aggregate_tests;
