@@ -23,8 +23,7 @@ use Rattle.legal_trace.specs.Book.{Book, entered}
 use Rattle.legal_trace.specs.Owed.{owed, owed_to_try, owed_to_message, owed_unstarted}
 use Rattle.legal_trace.specs.Legal.{NoneEnds, VerdictsAreShown, MayAnswer}
 use Rattle.session_laws.proofs.Numbers.{IsIn, in_right, in_left, Rising, rising_in}
-use Rattle.session_laws.proofs.Tied.{Inner, link_in, queue_ids, waiting_ids, IsUnknown, TiedLife, TiedNames, IsEntry, TiedLines, Tied}
-use Rattle.session_laws.proofs.Relined.{relined}
+use Rattle.session_laws.proofs.Tied.{Inner, link_in, queue_ids, waiting_ids, IsUnknown, TiedLife, TiedNames, IsEntry, TiedLines, Tied, relined}
 use Rattle.session_laws.proofs.Names.{open_within, earlier_name, owners_still, length_still, names_progressed, there_other, there_then}
 use Rattle.session_laws.proofs.InLine.{line_of, IsInLine, first_is_apart}
 use Rattle.session_laws.proofs.Closing.{Closes, with_closed, story_closed, tries_closed, packs_closed, queue_closed, waits_closed}

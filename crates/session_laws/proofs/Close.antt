@@ -24,8 +24,7 @@ use Rattle.legal_trace.specs.Book.{Book, book, entered}
 use Rattle.legal_trace.specs.Owed.{owed, owed_unstarted}
 use Rattle.legal_trace.specs.Legal.{MayClose}
 use Rattle.session_laws.proofs.Numbers.{IsIn, in_left, in_right, Rising, rising_in, rising_within, rising_right, rising_tail}
-use Rattle.session_laws.proofs.Tied.{Inner, link_in, owner_of, queue_ids, waiting_ids, TiedLines, Tied}
-use Rattle.session_laws.proofs.Relined.{relined}
+use Rattle.session_laws.proofs.Tied.{Inner, link_in, owner_of, queue_ids, waiting_ids, TiedLines, Tied, relined}
 use Rattle.session_laws.proofs.States.{HasApplied}
 use Rattle.session_laws.proofs.InLine.{line_of, IsInLine, awaited_rises}
 use Rattle.session_laws.proofs.Owes.{none_owed, in_line, later_unstarted, owed_none_started, settled_owed}

@@ -7,7 +7,6 @@ pub mod InLine
 pub mod Behind
 pub mod Owes
 pub mod Closing
-pub mod Relined
 pub mod Answer
 pub mod Kept
 pub mod Start

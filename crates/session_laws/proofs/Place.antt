@@ -30,8 +30,7 @@ use Rattle.session_laws.proofs.Names.{length_still, name_still, name_was, names_
 use Rattle.session_laws.proofs.Numbers.{IsIn, Rising, in_either, in_left, in_right, rising_apart, rising_right, rising_without}
 use Rattle.session_laws.proofs.Owes.{in_line, request_story}
 use Rattle.session_laws.proofs.Start.{not_dialing, on_link, with_queue}
-use Rattle.session_laws.proofs.Tied.{Inner, IsEntry, IsNew, IsOf, IsPacked, IsQueued, Tied, TiedStory, TiedTries, owner_of, owners_each, waiting_ids}
-use Rattle.session_laws.proofs.Relined.{relined}
+use Rattle.session_laws.proofs.Tied.{Inner, IsEntry, IsNew, IsOf, IsPacked, IsQueued, Tied, TiedStory, TiedTries, owner_of, owners_each, waiting_ids, relined}
 
 -- the session with these that wait
 abbrev pub with_waiting : Inner → LinkState → List Waiting → Inner

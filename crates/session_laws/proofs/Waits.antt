@@ -20,8 +20,7 @@ use Rattle.session_laws.proofs.Names.{get_some, name_of_some, open_within}
 use Rattle.session_laws.proofs.Numbers.{IsIn, in_right}
 use Rattle.session_laws.proofs.Owes.{later_unstarted, open_request, request_story}
 use Rattle.session_laws.proofs.Place.{waiting_open}
-use Rattle.session_laws.proofs.Tied.{Inner, IsRequest, Tied, TiedLife, link_in, queue_ids, waiting_ids}
-use Rattle.session_laws.proofs.Relined.{relined}
+use Rattle.session_laws.proofs.Tied.{Inner, IsRequest, Tied, TiedLife, link_in, queue_ids, waiting_ids, relined}
 
 -- a wait
 --
