@@ -1,6 +1,7 @@
-ghost use Rattle.std.specs.Prelude.{◌≡◌, ◌==◌, ◌≤◌, [], ◌∷◌, ◌++◌, length, take, drop, OnOk, IfOk, OnErr};
+ghost use Rattle.std.specs.Prelude.{◌≡◌, ◌↔◌, ◌==◌, ◌≤◌, [], ◌∷◌, ◌++◌, IsTrue, bytes_eq, length, take, drop, OnOk, IfOk, OnErr};
 
 use std::alloc::{AllocError, Global};
+use std::fmt;
 use std::marker::Model;
 
 /// A byte string. Contracts see the list of its bytes.
@@ -111,5 +112,35 @@ impl Bytes {
         ensures { IfOk result (λ b. b ≡ self.now) }
     {
         Bytes::from_slice(alloc, self.as_slice())
+    }
+}
+
+impl PartialEq for Bytes {
+    ghost use Rattle.std.specs.Cmp.{partial_equiv_from_equiv};
+    ghost use Rattle.std.proofs.lemmas.Cmp.{nat_list_eq_equiv};
+
+    ghost eq = { bytes_eq };
+
+    ghost laws = { partial_equiv_from_equiv nat_list_eq_equiv };
+
+    /// Whether they are the same bytes.
+    fn eq(&self, other: &Bytes) -> bool
+        ensures test { result ≡ bytes_eq self.now other.now }
+        ensures exact { IsTrue result ↔ (self.now ≡ other.now) }
+    {
+        self.as_slice() == other.as_slice()
+    }
+}
+
+impl Eq for Bytes {
+    ghost use Rattle.std.proofs.lemmas.Cmp.{nat_list_eq_equiv};
+
+    ghost laws = { nat_list_eq_equiv };
+}
+
+/// The bytes as a programmer writes them: in quotes, those that aren't printable escaped.
+impl fmt::Debug for Bytes {
+    fn fmt<W: fmt::Write>(&self, f: &mut fmt::Formatter<W>) -> fmt::Result {
+        write!(f, "\"{}\"", self.as_slice().escape_ascii())
     }
 }

@@ -18,6 +18,45 @@ fn bytes_are_added_and_taken_off(rt: HostRuntime) -> Result<(), Fail> {
     Ok(())
 }
 
+/// Two byte strings, and whether they are the same.
+const PAIRS: [(&[u8], &[u8], bool); 6] = [
+    (b"", b"", true),
+    (b"GET", b"GET", true),
+    (b"GET", b"get", false),
+    (b"GET", b"GE", false),
+    (b"", b"G", false),
+    (b"G\0", b"G\x01", false),
+];
+
+#[test]
+fn bytes_are_compared(rt: HostRuntime) -> Result<(), Fail> {
+    let alloc = rt.alloc();
+    for (one, other, same) in PAIRS {
+        let one = Bytes::from_slice(alloc, one)?;
+        let other = Bytes::from_slice(alloc, other)?;
+        assert_eq!(rt; one == other, same);
+    }
+    Ok(())
+}
+
+/// Bytes, and how they are shown.
+const SHOWN: [(&[u8], &str); 4] = [
+    (b"", "\"\""),
+    (b"a b", "\"a b\""),
+    (b"\"\\", "\"\\\"\\\\\""),
+    (b"\r\n\0\xff", "\"\\r\\n\\x00\\xff\""),
+];
+
+#[test]
+fn bytes_are_shown_in_quotes(rt: HostRuntime) -> Result<(), Fail> {
+    let alloc = rt.alloc();
+    for (bytes, shown) in SHOWN {
+        let bytes = Bytes::from_slice(alloc, bytes)?;
+        assert_eq!(rt; format!(in alloc; "{bytes:?}")?.as_str(), shown);
+    }
+    Ok(())
+}
+
 #[test]
 fn sequences_keep_their_order(rt: HostRuntime) -> Result<(), Fail> {
     let alloc = rt.alloc();

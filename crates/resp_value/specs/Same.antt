@@ -1,5 +1,6 @@
 -- Whether two values are the same, as `==` tells. That it answers true exactly where they are the same value is a clause of `==`.
-use Rattle.std.specs.Prelude.{ℕ, Bool, true, false, ◌&&◌, List, Option, Some, None, bytes_eq}
+use Rattle.std.specs.Prelude.{Bool, true, false, ◌&&◌, bytes_eq}
+use Rattle.std.specs.Option.{option_eq}
 use Rattle.std.specs.Ordering.{int_eq}
 use Rattle.resp_value.specs.declared.push_kind.PushKind.{PushKind}
 use Rattle.resp_value.specs.declared.push_kind.PushKind.TheVariants.{Disconnection, Other, Invalidate, Message, PMessage, SMessage, Unsubscribe, PUnsubscribe, SUnsubscribe, Subscribe, PSubscribe, SSubscribe}
@@ -21,13 +22,8 @@ same_kind PSubscribe PSubscribe = true
 same_kind SSubscribe SSubscribe = true
 same_kind _ _ = false
 
-abbrev pub same_detail : Option (List ℕ) → Option (List ℕ) → Bool
-same_detail None None = true
-same_detail (Some a) (Some b) = bytes_eq a b
-same_detail _ _ = false
-
 abbrev pub same_error : ServerError → ServerError → Bool
-same_error a b = bytes_eq a.code b.code && same_detail a.detail b.detail
+same_error a b = bytes_eq a.code b.code && option_eq bytes_eq a.detail b.detail
 
 abbrev pub same_truth : Bool → Bool → Bool
 same_truth true true = true

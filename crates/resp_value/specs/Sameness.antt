@@ -2,16 +2,16 @@
 use Rattle.std.proofs.Common.{◌≡◌, ℕ, Bool, true, false, ◌&&◌, true≢false, List, Option, Some, None, bytes_eq, refl, sym, ap, ◌∙◌, subst}
 use Rattle.std.specs.Bool.{Decides}
 use Rattle.std.specs.Cmp.{IsEquivalence, signed_Decides}
-use Rattle.std.specs.Ordering.{int_eq}
+use Rattle.std.specs.Option.{option_eq}
 use Rattle.std.proofs.lemmas.Bool.Decides.{same_from_decides, Decides-like}
 use Rattle.std.proofs.lemmas.Slice.Eq.{bytes_eq-Decides}
 use Rattle.resp_value.specs.declared.push_kind.PushKind.{PushKind}
 use Rattle.resp_value.specs.declared.push_kind.PushKind.TheVariants.{Disconnection, Other, Invalidate, Message, PMessage, SMessage, Unsubscribe, PUnsubscribe, SUnsubscribe, Subscribe, PSubscribe, SSubscribe}
 use Rattle.resp_value.specs.declared.server_error.ServerError.{ServerError}
-use Rattle.resp_value.specs.Data.{Data, nil, int, bulk, array, simple, okay, dict, attribute, set, double, boolean, verbatim, big, push, error, Items, no_items, item, Members, no_members, member}
-use Rattle.resp_value.specs.View.{data_of, value_of, value_of-data_of}
+use Rattle.resp_value.specs.Data.{Data, nil, int, bulk, array, simple, okay, dict, attribute, set, double, boolean, verbatim, big, push, error, Items, no_items, item, items_of, list_of, Members, no_members, member, members_of, pairs_of}
+use Rattle.resp_value.specs.View.{data_of, value_of, value_of-data_of, list_of-items_of, pairs_of-members_of}
 use Rattle.resp_value.specs.declared.value.Value.{Value}
-use Rattle.resp_value.specs.Same.{same_kind, same_detail, same_error, same_truth, same, same_items, same_members}
+use Rattle.resp_value.specs.Same.{same_kind, same_error, same_truth, same, same_items, same_members}
 
 -- what is the same of both of two tests
 first : (a b : Bool) → (a && b) ≡ true → a ≡ true
@@ -60,23 +60,23 @@ kind_self Subscribe = refl
 kind_self PSubscribe = refl
 kind_self SSubscribe = refl
 
-detail_is : (a b : Option (List ℕ)) → same_detail a b ≡ true → a ≡ b
+detail_is : (a b : Option (List ℕ)) → option_eq bytes_eq a b ≡ true → a ≡ b
 detail_is None None h = refl
 detail_is (Some a) (Some b) h = ap Some (text_is a b h)
 detail_is _ _ h = absurd (true≢false (sym h))
 
-detail_self : (a : Option (List ℕ)) → same_detail a a ≡ true
+detail_self : (a : Option (List ℕ)) → option_eq bytes_eq a a ≡ true
 detail_self None = refl
 detail_self (Some a) = text_self a
 
 error_is : (a b : ServerError) → same_error a b ≡ true → a ≡ b
 error_is a b h =
-    let code = text_is a.code b.code (first (bytes_eq a.code b.code) (same_detail a.detail b.detail) h) in
-    let detail = detail_is a.detail b.detail (second (bytes_eq a.code b.code) (same_detail a.detail b.detail) h) in
+    let code = text_is a.code b.code (first (bytes_eq a.code b.code) (option_eq bytes_eq a.detail b.detail) h) in
+    let detail = detail_is a.detail b.detail (second (bytes_eq a.code b.code) (option_eq bytes_eq a.detail b.detail) h) in
     λ i. record { code = code i; detail = detail i }
 
 error_self : (e : ServerError) → same_error e e ≡ true
-error_self e = both (bytes_eq e.code e.code) (same_detail e.detail e.detail) (text_self e.code) (detail_self e.detail)
+error_self e = both (bytes_eq e.code e.code) (option_eq bytes_eq e.detail e.detail) (text_self e.code) (detail_self e.detail)
 
 truth_is : (a b : Bool) → same_truth a b ≡ true → a ≡ b
 truth_is true true h = refl
@@ -172,11 +172,20 @@ error_Decides = exact same_error error_is error_self
 pub data_Decides : (d e : Data) → Decides (same d e) (d ≡ e)
 data_Decides = exact same data_is data_self
 
--- the same of values, by their trees
+-- the same of what stands for such a tree and is had back from it
+by_tree : {A B : Type 0} (E : B → B → Bool) → ((a b : B) → Decides (E a b) (a ≡ b)) → (to : A → B) (from : B → A) → ((a : A) → from (to a) ≡ a) → (a b : A) → Decides (E (to a) (to b)) (a ≡ b)
+by_tree E decides to from back a b =
+    let d = decides (to a) (to b) in
+    (λ h. sym (back a) ∙ ap from (d.0 h) ∙ back b, λ p. d.1 (ap to p))
+
 pub value_Decides : (a b : Value) → Decides (same (data_of a) (data_of b)) (a ≡ b)
-value_Decides a b =
-    let d = data_Decides (data_of a) (data_of b) in
-    (λ h. sym (value_of-data_of a) ∙ ap value_of (d.0 h) ∙ value_of-data_of b, λ p. d.1 (ap data_of p))
+value_Decides = by_tree same data_Decides data_of value_of value_of-data_of
+
+pub list_Decides : (a b : List Data) → Decides (same_items (items_of a) (items_of b)) (a ≡ b)
+list_Decides = by_tree same_items (exact same_items items_is items_self) items_of list_of list_of-items_of
+
+pub pairs_Decides : (a b : List (Data × Data)) → Decides (same_members (members_of a) (members_of b)) (a ≡ b)
+pairs_Decides = by_tree same_members (exact same_members members_is members_self) members_of pairs_of pairs_of-members_of
 
 -- a test that answers true exactly where two are the same is an equivalence
 equivalence_of : {A : Type 0} (E : A → A → Bool) → ((a b : A) → Decides (E a b) (a ≡ b)) → IsEquivalence E
@@ -194,3 +203,9 @@ error_equivalence = equivalence_of same_error error_Decides
 
 pub value_equivalence : IsEquivalence (λ (a b : Value). same (data_of a) (data_of b))
 value_equivalence = equivalence_of (λ (a b : Value). same (data_of a) (data_of b)) value_Decides
+
+pub list_equivalence : IsEquivalence (λ (a b : List Data). same_items (items_of a) (items_of b))
+list_equivalence = equivalence_of (λ (a b : List Data). same_items (items_of a) (items_of b)) list_Decides
+
+pub pairs_equivalence : IsEquivalence (λ (a b : List (Data × Data)). same_members (members_of a) (members_of b))
+pairs_equivalence = equivalence_of (λ (a b : List (Data × Data)). same_members (members_of a) (members_of b)) pairs_Decides

@@ -56,7 +56,7 @@ items_of-list_of : (ds : Items) → items_of (list_of ds) ≡ ds
 items_of-list_of no_items = refl
 items_of-list_of (item d ds) = ap (item d) (items_of-list_of ds)
 
-pairs_of-members_of : (ps : List (Data × Data)) → pairs_of (members_of ps) ≡ ps
+pub pairs_of-members_of : (ps : List (Data × Data)) → pairs_of (members_of ps) ≡ ps
 pairs_of-members_of [] = refl
 pairs_of-members_of (p ∷ ps) = ap (λ qs. p ∷ qs) (pairs_of-members_of ps)
 

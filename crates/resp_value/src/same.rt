@@ -1,12 +1,11 @@
-ghost use Rattle.std.specs.Prelude.{◌≡◌, ◌↔◌, IsTrue, bytes_eq};
+ghost use Rattle.std.specs.Prelude.{◌≡◌, ◌↔◌, IsTrue};
 ghost use Rattle.resp_value.specs.Data.{items_of, members_of};
 ghost use Rattle.resp_value.specs.View.{data_of, pair_of};
-ghost use Rattle.resp_value.specs.Same.{same, same_detail, same_error, same_items, same_kind, same_members, same_pair};
+ghost use Rattle.resp_value.specs.Same.{same, same_error, same_items, same_kind, same_members, same_pair};
 
 use crate::push_kind::PushKind;
 use crate::server_error::ServerError;
 use crate::value::{Pairs, Value, Values};
-use containers::Bytes;
 
 impl PartialEq for PushKind {
     ghost use Rattle.std.specs.Cmp.{partial_equiv_from_equiv};
@@ -24,6 +23,12 @@ impl PartialEq for PushKind {
     }
 }
 
+impl Eq for PushKind {
+    ghost use Rattle.resp_value.specs.Sameness.{kind_equivalence};
+
+    ghost laws = { kind_equivalence };
+}
+
 impl PartialEq for ServerError {
     ghost use Rattle.std.specs.Cmp.{partial_equiv_from_equiv};
     ghost use Rattle.resp_value.specs.Sameness.{error_equivalence};
@@ -36,8 +41,14 @@ impl PartialEq for ServerError {
         ensures test { result ≡ same_error self.now other.now }
         ensures exact { IsTrue result ↔ (self.now ≡ other.now) }
     {
-        self.code.as_slice() == other.code.as_slice() && same_detail(&self.detail, &other.detail)
+        self.code == other.code && self.detail == other.detail
     }
+}
+
+impl Eq for ServerError {
+    ghost use Rattle.resp_value.specs.Sameness.{error_equivalence};
+
+    ghost laws = { error_equivalence };
 }
 
 impl PartialEq for Value {
@@ -56,6 +67,56 @@ impl PartialEq for Value {
     }
 }
 
+impl Eq for Value {
+    ghost use Rattle.resp_value.specs.Sameness.{value_equivalence};
+
+    ghost laws = { value_equivalence };
+}
+
+impl PartialEq for Values {
+    ghost use Rattle.std.specs.Cmp.{partial_equiv_from_equiv};
+    ghost use Rattle.resp_value.specs.Sameness.{list_equivalence};
+
+    ghost eq = { λ a b. same_items (items_of a) (items_of b) };
+
+    ghost laws = { partial_equiv_from_equiv list_equivalence };
+
+    fn eq(&self, other: &Values) -> bool
+        ensures test { result ≡ same_items (items_of self.now) (items_of other.now) }
+        ensures exact { IsTrue result ↔ (self.now ≡ other.now) }
+    {
+        same_items(self, other)
+    }
+}
+
+impl Eq for Values {
+    ghost use Rattle.resp_value.specs.Sameness.{list_equivalence};
+
+    ghost laws = { list_equivalence };
+}
+
+impl PartialEq for Pairs {
+    ghost use Rattle.std.specs.Cmp.{partial_equiv_from_equiv};
+    ghost use Rattle.resp_value.specs.Sameness.{pairs_equivalence};
+
+    ghost eq = { λ a b. same_members (members_of a) (members_of b) };
+
+    ghost laws = { partial_equiv_from_equiv pairs_equivalence };
+
+    fn eq(&self, other: &Pairs) -> bool
+        ensures test { result ≡ same_members (members_of self.now) (members_of other.now) }
+        ensures exact { IsTrue result ↔ (self.now ≡ other.now) }
+    {
+        same_members(self, other)
+    }
+}
+
+impl Eq for Pairs {
+    ghost use Rattle.resp_value.specs.Sameness.{pairs_equivalence};
+
+    ghost laws = { pairs_equivalence };
+}
+
 /// Whether two kinds of pushes are the same.
 fn same_kind(one: &PushKind, other: &PushKind) -> bool
     ensures { result ≡ same_kind one.now other.now }
@@ -63,7 +124,7 @@ fn same_kind(one: &PushKind, other: &PushKind) -> bool
     match one {
         PushKind::Disconnection => matches!(other, PushKind::Disconnection),
         PushKind::Other(text) => match other {
-            PushKind::Other(other) => text.as_slice() == other.as_slice(),
+            PushKind::Other(other) => text == other,
             _ => false,
         },
         PushKind::Invalidate => matches!(other, PushKind::Invalidate),
@@ -79,23 +140,6 @@ fn same_kind(one: &PushKind, other: &PushKind) -> bool
     }
 }
 
-/// Whether two details of errors are the same.
-fn same_detail(one: &Option<Bytes>, other: &Option<Bytes>) -> bool
-    ensures { result ≡ same_detail one.now other.now }
-{
-    match one {
-        None => matches!(other, None),
-        Some(text) => matches!(other, Some(t) if same_text(text, t)),
-    }
-}
-
-/// Whether two texts are the same.
-fn same_text(one: &Bytes, other: &Bytes) -> bool
-    ensures { result ≡ bytes_eq one.now other.now }
-{
-    one.as_slice() == other.as_slice()
-}
-
 /// Whether two values are the same.
 #[cycle(same)]
 fn same(one: &Value, other: &Value) -> bool
@@ -104,9 +148,9 @@ fn same(one: &Value, other: &Value) -> bool
     match one {
         Value::Nil => matches!(other, Value::Nil),
         Value::Int(number) => matches!(other, Value::Int(n) if number == n),
-        Value::BulkString(text) => matches!(other, Value::BulkString(t) if same_text(text, t)),
+        Value::BulkString(text) => matches!(other, Value::BulkString(t) if text == t),
         Value::Array(items) => matches!(other, Value::Array(i) if same_items(items, i)),
-        Value::SimpleString(text) => matches!(other, Value::SimpleString(t) if same_text(text, t)),
+        Value::SimpleString(text) => matches!(other, Value::SimpleString(t) if text == t),
         Value::Okay => matches!(other, Value::Okay),
         Value::Map(pairs) => matches!(other, Value::Map(p) if same_members(pairs, p)),
         Value::Attribute { inner, attributes } => match other {
@@ -117,15 +161,13 @@ fn same(one: &Value, other: &Value) -> bool
             _ => false,
         },
         Value::Set(items) => matches!(other, Value::Set(i) if same_items(items, i)),
-        Value::Double(text) => matches!(other, Value::Double(t) if same_text(text, t)),
+        Value::Double(text) => matches!(other, Value::Double(t) if text == t),
         Value::Boolean(on) => matches!(other, Value::Boolean(o) if on == o),
         Value::VerbatimString { format, text } => match other {
-            Value::VerbatimString { format: f, text: t } => {
-                same_text(format, f) && same_text(text, t)
-            }
+            Value::VerbatimString { format: f, text: t } => format == f && text == t,
             _ => false,
         },
-        Value::BigNumber(text) => matches!(other, Value::BigNumber(t) if same_text(text, t)),
+        Value::BigNumber(text) => matches!(other, Value::BigNumber(t) if text == t),
         Value::Push { kind, parts } => match other {
             Value::Push { kind: k, parts: p } => same_kind(kind, k) && same_items(parts, p),
             _ => false,

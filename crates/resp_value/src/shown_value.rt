@@ -1,4 +1,3 @@
-use crate::shown::Quoted;
 use crate::value::{Pairs, Value, Values};
 use std::fmt;
 
@@ -30,9 +29,9 @@ fn show<W: fmt::Write>(f: &mut fmt::Formatter<W>, value: &Value) -> fmt::Result 
     match value {
         Value::Nil => write!(f, "nil"),
         Value::Int(number) => write!(f, "int({number})"),
-        Value::BulkString(text) => write!(f, "bulk-string({})", Quoted(text)),
+        Value::BulkString(text) => write!(f, "bulk-string({text:?})"),
         Value::Array(items) => show_list(f, "array", items),
-        Value::SimpleString(text) => write!(f, "simple-string({})", Quoted(text)),
+        Value::SimpleString(text) => write!(f, "simple-string({text:?})"),
         Value::Okay => write!(f, "ok"),
         Value::Map(pairs) => {
             write!(f, "map(")?;
@@ -50,7 +49,7 @@ fn show<W: fmt::Write>(f: &mut fmt::Formatter<W>, value: &Value) -> fmt::Result 
         Value::Double(text) => write!(f, "double({})", text.as_slice().escape_ascii()),
         Value::Boolean(on) => write!(f, "boolean({on})"),
         Value::VerbatimString { format, text } => {
-            write!(f, "verbatim-string({}, {})", Quoted(format), Quoted(text))
+            write!(f, "verbatim-string({format:?}, {text:?})")
         }
         Value::BigNumber(text) => write!(f, "big-number({})", text.as_slice().escape_ascii()),
         Value::Push { kind, parts } => {
