@@ -1,2 +1,3 @@
 mod Children
 mod Places
+pub mod Threads

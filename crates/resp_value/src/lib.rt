@@ -16,6 +16,8 @@ mod shown;
 mod shown_value;
 #[cfg(test)]
 mod tests;
+#[cfg(test)]
+mod threads_tests;
 mod value;
 
 pub use aborts::Aborts;

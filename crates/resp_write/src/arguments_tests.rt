@@ -2,30 +2,165 @@ use crate::{Cmd, ToRedisArgs};
 use containers::{Bytes, Names};
 use std::alloc::{AllocError, Global};
 
-fn add<T: ToRedisArgs>(alloc: Global, command: &mut Cmd, value: &T) -> Result<(), AllocError> {
-    value.write_redis_args(alloc, command)
+/// Whether these are the arguments of the command.
+fn has_args(command: &Cmd, wanted: &[&[u8]]) -> bool {
+    let mut left = command.args_iter();
+    for wanted in wanted {
+        match left.next() {
+            Some(arg) if arg == *wanted => {}
+            _ => return false,
+        }
+    }
+    left.next().is_none()
 }
 
-fn fill(alloc: Global, command: &mut Cmd, names: &mut Names) -> Result<(), AllocError> {
-    names.push(Bytes::from_slice(alloc, b"")?)?;
-    names.push(Bytes::from_slice(alloc, b"n")?)?;
-    add(alloc, command, &b"X\r".as_slice())?;
-    add(alloc, command, &"yz")?;
-    add(alloc, command, &-120)?;
-    add(alloc, command, names)
+/// Whether the value becomes these arguments.
+fn is_written<T: ToRedisArgs>(
+    alloc: Global,
+    value: &T,
+    wanted: &[&[u8]],
+) -> Result<bool, AllocError> {
+    let mut command = Cmd::new(alloc);
+    value.write_redis_args(alloc, &mut command)?;
+    Ok(has_args(&command, wanted))
 }
 
-fn is_filled(alloc: Global, command: &Cmd) -> Result<bool, AllocError> {
-    let wanted: &[u8] = b"*5\r\n$2\r\nX\r\r\n$2\r\nyz\r\n$4\r\n-120\r\n$0\r\n\r\n$1\r\nn\r\n";
-    Ok(command.get_packed_command(alloc)?.as_slice() == wanted)
+/// Whether each value becomes the arguments beside it.
+fn are_written<T: ToRedisArgs>(alloc: Global, rows: &[(T, &[&[u8]])]) -> Result<bool, AllocError> {
+    for row in rows {
+        if !is_written(alloc, &row.0, row.1)? {
+            return Ok(false);
+        }
+    }
+    Ok(true)
+}
+
+const TRUTHS: [(bool, &[&[u8]]); 2] = [(true, &[b"1"]), (false, &[b"0"])];
+
+const I8: [(i8, &[&[u8]]); 3] = [(-128, &[b"-128"]), (0, &[b"0"]), (127, &[b"127"])];
+
+const I16: [(i16, &[&[u8]]); 2] = [(-32_768, &[b"-32768"]), (32_767, &[b"32767"])];
+
+const I32: [(i32, &[&[u8]]); 2] = [
+    (-2_147_483_648, &[b"-2147483648"]),
+    (2_147_483_647, &[b"2147483647"]),
+];
+
+const I64: [(i64, &[&[u8]]); 3] = [
+    (-9_223_372_036_854_775_808, &[b"-9223372036854775808"]),
+    (-1, &[b"-1"]),
+    (9_223_372_036_854_775_807, &[b"9223372036854775807"]),
+];
+
+const ISIZE: [(isize, &[&[u8]]); 2] = [(-10, &[b"-10"]), (10, &[b"10"])];
+
+const U8: [(u8, &[&[u8]]); 2] = [(0, &[b"0"]), (255, &[b"255"])];
+
+const U16: [(u16, &[&[u8]]); 1] = [(65_535, &[b"65535"])];
+
+const U32: [(u32, &[&[u8]]); 1] = [(4_294_967_295, &[b"4294967295"])];
+
+const U64: [(u64, &[&[u8]]); 1] = [(18_446_744_073_709_551_615, &[b"18446744073709551615"])];
+
+const USIZE: [(usize, &[&[u8]]); 2] = [(0, &[b"0"]), (100, &[b"100"])];
+
+#[test]
+fn numbers_become_their_digits(rt: HostRuntime) -> Result<(), AllocError> {
+    let alloc = rt.alloc();
+    let signed = are_written(alloc, &I8)?
+        && are_written(alloc, &I16)?
+        && are_written(alloc, &I32)?
+        && are_written(alloc, &I64)?
+        && are_written(alloc, &ISIZE)?;
+    assert!(rt; signed);
+    let unsigned = are_written(alloc, &U8)?
+        && are_written(alloc, &U16)?
+        && are_written(alloc, &U32)?
+        && are_written(alloc, &U64)?
+        && are_written(alloc, &USIZE)?;
+    assert!(rt; unsigned);
+    let truths = are_written(alloc, &TRUTHS)?;
+    assert!(rt; truths);
+    Ok(())
+}
+
+const TEXTS: [(&str, &[&[u8]]); 2] = [("", &[b""]), ("yz", &[b"yz"])];
+
+const BYTES: [(&[u8], &[&[u8]]); 2] = [(b"", &[b""]), (b"X\r\n", &[b"X\r\n"])];
+
+const OPTIONS: [(Option<u16>, &[&[u8]]); 2] = [(None, &[]), (Some(7), &[b"7"])];
+
+#[test]
+fn texts_are_one_argument(rt: HostRuntime) -> Result<(), AllocError> {
+    let alloc = rt.alloc();
+    let lent = are_written(alloc, &TEXTS)? && are_written(alloc, &BYTES)?;
+    assert!(rt; lent);
+    let options = are_written(alloc, &OPTIONS)?;
+    assert!(rt; options);
+    let bytes = is_written(alloc, &Bytes::from_slice(alloc, b"a\0")?, &[b"a\0"])?;
+    assert!(rt; bytes);
+    let vector = is_written(alloc, &Vec::from_slice(alloc, b"12")?, &[b"12"])?;
+    assert!(rt; vector);
+    let string = is_written(alloc, &String::from_str(alloc, "12")?, &[b"12"])?;
+    assert!(rt; string);
+    Ok(())
+}
+
+const NUMBERS: [(&[i64], &[&[u8]]); 2] = [(&[], &[]), (&[3, -4], &[b"3", b"-4"])];
+
+const KEYS: [(&[&str], &[&[u8]]); 1] = [(&["a", "", "b"], &[b"a", b"", b"b"])];
+
+const FIELDS: [(&[(&str, u8)], &[&[u8]]); 1] = [(&[("a", 1), ("b", 2)], &[b"a", b"1", b"b", b"2"])];
+
+const LEFT_OUT: [(&[Option<bool>], &[&[u8]]); 1] = [(&[None, Some(true), None], &[b"1"])];
+
+#[test]
+fn elements_become_arguments_in_order(rt: HostRuntime) -> Result<(), AllocError> {
+    let alloc = rt.alloc();
+    let slices = are_written(alloc, &NUMBERS)?
+        && are_written(alloc, &KEYS)?
+        && are_written(alloc, &FIELDS)?
+        && are_written(alloc, &LEFT_OUT)?;
+    assert!(rt; slices);
+    let vector = is_written(alloc, &Vec::from_slice(alloc, &[5u16, 6])?, &[b"5", b"6"])?;
+    assert!(rt; vector);
+    let names = Names::from_slices(alloc, &[b"n", b""])?;
+    let names = is_written(alloc, &names, &[b"n", b""])?;
+    assert!(rt; names);
+    Ok(())
 }
 
 #[test]
-fn values_become_arguments(rt: HostRuntime) -> Result<(), AllocError> {
+fn tuples_become_arguments_in_order(rt: HostRuntime) -> Result<(), AllocError> {
+    let alloc = rt.alloc();
+    let two = is_written(alloc, &("EX", 5u32), &[b"EX", b"5"])?;
+    assert!(rt; two);
+    let three = is_written(alloc, &(1u8, "a", -1i8), &[b"1", b"a", b"-1"])?;
+    assert!(rt; three);
+    let four = is_written(alloc, &(true, false, None::<u8>, "x"), &[b"1", b"0", b"x"])?;
+    assert!(rt; four);
+    let five = is_written(
+        alloc,
+        &(1u8, 2u8, 3u8, 4u8, 5u8),
+        &[b"1", b"2", b"3", b"4", b"5"],
+    )?;
+    assert!(rt; five);
+    let six = is_written(
+        alloc,
+        &("a", ("b", 1u8), "c", "d", "e", "f"),
+        &[b"a", b"b", b"1", b"c", b"d", b"e", b"f"],
+    )?;
+    assert!(rt; six);
+    Ok(())
+}
+
+#[test]
+fn arguments_are_added_behind_others(rt: HostRuntime) -> Result<(), AllocError> {
     let alloc = rt.alloc();
     let mut command = Cmd::new(alloc);
-    fill(alloc, &mut command, &mut Names::new(alloc))?;
-    let filled = is_filled(alloc, &command)?;
-    assert!(rt; filled);
+    b"SET".as_slice().write_redis_args(alloc, &mut command)?;
+    ("key", -120i32).write_redis_args(alloc, &mut command)?;
+    [1u16, 2].as_slice().write_redis_args(alloc, &mut command)?;
+    assert!(rt; has_args(&command, &[b"SET", b"key", b"-120", b"1", b"2"]));
     Ok(())
 }

@@ -66,6 +66,14 @@ impl Cmd {
         self.args.append(&mut more)
     }
 
+    /// The arguments of another command, moved behind these. An error leaves the command as it was.
+    pub(crate) fn append(&mut self, mut more: Cmd) -> Result<(), AllocError>
+        ensures ok { OnOk result (self.new ≡ with_args self.old more.args) }
+        ensures err { OnErr result (self.new ≡ self.old) }
+    {
+        self.args.append(&mut more.args)
+    }
+
     /// Whether the reply is left out.
     pub fn set_no_response(&mut self, on: bool)
         ensures { self.new ≡ record { args = self.old.args; no_response = on } }

@@ -1,6 +1,7 @@
 //! Commands as bytes, and the canonical text of values.
 #![tactic(auto)]
 
+mod argument_lists;
 mod arguments;
 mod command;
 mod lines;
@@ -12,6 +13,7 @@ mod pipeline;
 mod subscription;
 mod value_text;
 
+pub use argument_lists::SliceElement;
 pub use arguments::ToRedisArgs;
 pub use command::{ArgsIter, Cmd};
 pub use lists::pack_lists;

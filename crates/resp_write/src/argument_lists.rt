@@ -1,0 +1,166 @@
+ghost use Rattle.std.specs.Prelude.{◌++◌, flat_map};
+
+use crate::arguments::ToRedisArgs;
+use crate::command::Cmd;
+use containers::{Bytes, Names};
+use std::alloc::{AllocError, Global};
+
+/// What becomes arguments by itself where several stand in a slice. All but a byte does: bytes in a slice are one argument.
+pub trait SliceElement: ToRedisArgs {}
+
+/// The arguments of each element, in order.
+impl<'a, T: SliceElement> ToRedisArgs for &'a [T] {
+    ghost args_of = { λ items. flat_map T.args_of items.now };
+
+    fn write_redis_args(&self, alloc: Global, cmd: &mut Cmd) -> Result<(), AllocError> {
+        let mut more = Cmd::new(alloc);
+        for item in *self {
+            item.write_redis_args(alloc, &mut more)?;
+        }
+        cmd.append(more)
+    }
+}
+
+/// The arguments of each element, in order.
+impl<T: SliceElement> ToRedisArgs for Vec<T> {
+    ghost args_of = { λ items. flat_map T.args_of items.items };
+
+    fn write_redis_args(&self, alloc: Global, cmd: &mut Cmd) -> Result<(), AllocError> {
+        self.as_slice().write_redis_args(alloc, cmd)
+    }
+}
+
+/// The arguments of each, in order.
+impl<A: ToRedisArgs, B: ToRedisArgs> ToRedisArgs for (A, B) {
+    ghost args_of = { λ t. A.args_of t.0 ++ B.args_of t.1 };
+
+    fn write_redis_args(&self, alloc: Global, cmd: &mut Cmd) -> Result<(), AllocError> {
+        let mut more = Cmd::new(alloc);
+        self.0.write_redis_args(alloc, &mut more)?;
+        self.1.write_redis_args(alloc, &mut more)?;
+        cmd.append(more)
+    }
+}
+
+impl<A: ToRedisArgs, B: ToRedisArgs> SliceElement for (A, B) {}
+
+/// The arguments of each, in order.
+impl<A: ToRedisArgs, B: ToRedisArgs, C: ToRedisArgs> ToRedisArgs for (A, B, C) {
+    ghost args_of = { λ t. A.args_of t.0 ++ B.args_of t.1 ++ C.args_of t.2 };
+
+    fn write_redis_args(&self, alloc: Global, cmd: &mut Cmd) -> Result<(), AllocError> {
+        let mut more = Cmd::new(alloc);
+        self.0.write_redis_args(alloc, &mut more)?;
+        self.1.write_redis_args(alloc, &mut more)?;
+        self.2.write_redis_args(alloc, &mut more)?;
+        cmd.append(more)
+    }
+}
+
+impl<A: ToRedisArgs, B: ToRedisArgs, C: ToRedisArgs> SliceElement for (A, B, C) {}
+
+/// The arguments of each, in order.
+impl<A: ToRedisArgs, B: ToRedisArgs, C: ToRedisArgs, D: ToRedisArgs> ToRedisArgs for (A, B, C, D) {
+    ghost args_of = { λ t. A.args_of t.0 ++ B.args_of t.1 ++ C.args_of t.2 ++ D.args_of t.3 };
+
+    fn write_redis_args(&self, alloc: Global, cmd: &mut Cmd) -> Result<(), AllocError> {
+        let mut more = Cmd::new(alloc);
+        self.0.write_redis_args(alloc, &mut more)?;
+        self.1.write_redis_args(alloc, &mut more)?;
+        self.2.write_redis_args(alloc, &mut more)?;
+        self.3.write_redis_args(alloc, &mut more)?;
+        cmd.append(more)
+    }
+}
+
+impl<A: ToRedisArgs, B: ToRedisArgs, C: ToRedisArgs, D: ToRedisArgs> SliceElement
+    for (A, B, C, D) {}
+
+/// The arguments of each, in order.
+impl<A: ToRedisArgs, B: ToRedisArgs, C: ToRedisArgs, D: ToRedisArgs, E: ToRedisArgs> ToRedisArgs
+    for (A, B, C, D, E) {
+    ghost args_of = { λ t. A.args_of t.0 ++ B.args_of t.1 ++ C.args_of t.2 ++ D.args_of t.3 ++ E.args_of t.4 };
+
+    fn write_redis_args(&self, alloc: Global, cmd: &mut Cmd) -> Result<(), AllocError> {
+        let mut more = Cmd::new(alloc);
+        self.0.write_redis_args(alloc, &mut more)?;
+        self.1.write_redis_args(alloc, &mut more)?;
+        self.2.write_redis_args(alloc, &mut more)?;
+        self.3.write_redis_args(alloc, &mut more)?;
+        self.4.write_redis_args(alloc, &mut more)?;
+        cmd.append(more)
+    }
+}
+
+impl<A: ToRedisArgs, B: ToRedisArgs, C: ToRedisArgs, D: ToRedisArgs, E: ToRedisArgs> SliceElement
+    for (A, B, C, D, E) {}
+
+/// The arguments of each, in order.
+impl<
+    A: ToRedisArgs,
+    B: ToRedisArgs,
+    C: ToRedisArgs,
+    D: ToRedisArgs,
+    E: ToRedisArgs,
+    F: ToRedisArgs,
+> ToRedisArgs for (A, B, C, D, E, F) {
+    ghost args_of = { λ t. A.args_of t.0 ++ B.args_of t.1 ++ C.args_of t.2 ++ D.args_of t.3 ++ E.args_of t.4 ++ F.args_of t.5 };
+
+    fn write_redis_args(&self, alloc: Global, cmd: &mut Cmd) -> Result<(), AllocError> {
+        let mut more = Cmd::new(alloc);
+        self.0.write_redis_args(alloc, &mut more)?;
+        self.1.write_redis_args(alloc, &mut more)?;
+        self.2.write_redis_args(alloc, &mut more)?;
+        self.3.write_redis_args(alloc, &mut more)?;
+        self.4.write_redis_args(alloc, &mut more)?;
+        self.5.write_redis_args(alloc, &mut more)?;
+        cmd.append(more)
+    }
+}
+
+impl<
+    A: ToRedisArgs,
+    B: ToRedisArgs,
+    C: ToRedisArgs,
+    D: ToRedisArgs,
+    E: ToRedisArgs,
+    F: ToRedisArgs,
+> SliceElement for (A, B, C, D, E, F) {}
+
+impl<'a, T: SliceElement> SliceElement for &'a [T] {}
+
+impl<T: SliceElement> SliceElement for Vec<T> {}
+
+impl<T: ToRedisArgs> SliceElement for Option<T> {}
+
+impl<'a> SliceElement for &'a [u8] {}
+
+impl<'a> SliceElement for &'a str {}
+
+impl SliceElement for Bytes {}
+
+impl SliceElement for Names {}
+
+impl SliceElement for Vec<u8> {}
+
+impl SliceElement for String {}
+
+impl SliceElement for bool {}
+
+impl SliceElement for i8 {}
+
+impl SliceElement for i16 {}
+
+impl SliceElement for i32 {}
+
+impl SliceElement for i64 {}
+
+impl SliceElement for isize {}
+
+impl SliceElement for u16 {}
+
+impl SliceElement for u32 {}
+
+impl SliceElement for u64 {}
+
+impl SliceElement for usize {}
