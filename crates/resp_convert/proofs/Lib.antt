@@ -1,3 +1,4 @@
 mod ByTwos
 mod Each
+mod Fronts
 mod Numbers

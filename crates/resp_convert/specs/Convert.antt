@@ -4,7 +4,7 @@ use Rattle.resp_value.specs.declared.server_error.ServerError.{ServerError}
 use Rattle.resp_value.specs.Data.{Data, error}
 use Rattle.resp_value.specs.View.{data_of}
 use Rattle.resp_value.specs.declared.value.Value.{Value}
-use Rattle.resp_convert.specs.Types.{IsEachOf, bare}
+use Rattle.resp_convert.specs.Types.{IsEach, IsEachOf, bare}
 use Rattle.resp_convert.specs.declared.convert.ConvertError.{ConvertError}
 use Rattle.resp_convert.specs.declared.convert.ConvertError.TheVariants.{Convert, NoMemory}
 
@@ -27,6 +27,16 @@ abbrev pub IsConverted : {S : Type 0} → (Data → S → Type 0) → Value → 
 IsConverted reads value (Ok x) = reads (data_of value) x
 IsConverted reads value (Err (Convert given)) = (given ≡ value) × IsNone reads (data_of value)
 IsConverted reads value (Err NoMemory) = Unit {0}
+
+-- the items that were read
+abbrev pub items_read : {S Z E : Type 0} → Result (Vec S Z) E → Result (List S) E
+items_read (Ok xs) = Ok xs.items
+items_read (Err e) = Err e
+
+-- what each of some values is, or the values themselves, one of which is nothing of the type
+abbrev pub AreConverted : {S Z : Type 0} → (Data → S → Type 0) → List Data → Result (Vec S Z) (List Data) → Type 0
+AreConverted reads ds (Ok xs) = IsEach reads ds xs.items
+AreConverted {S} reads ds (Err given) = (given ≡ ds) × ((xs : List S) → IsEach reads ds xs → ⊥)
 
 -- the server's error that a refusal tells: its value is one, behind any attributes
 abbrev pub error_of : Data → Option ServerError

@@ -6,7 +6,16 @@ use Rattle.std.specs.Str.{IsUtf8}
 use Rattle.std.specs.Str.Parse.{IsNumeral, without_leading_plus, without_leading_sign, digits_value, signed_digits_value}
 use Rattle.std.specs.declared.cmp.Ordering.{Ordering}
 use Rattle.std.specs.BTreeMap.{BTreeMap, insert_entry}
-use Rattle.resp_value.specs.Data.{Data, nil, int, bulk, array, simple, okay, dict, attribute, set, boolean, verbatim, error, list_of, pairs_of}
+use Rattle.std.specs.BTreeSet as ordered
+use Rattle.std.specs.BTreeSet.{BTreeSet}
+use Rattle.std.specs.HashMap as mapped
+use Rattle.std.specs.HashMap.{HashMap}
+use Rattle.std.specs.HashSet as hashed
+use Rattle.std.specs.HashSet.{HashSet}
+use Rattle.std.specs.Float.{Float, binary64}
+use Rattle.std.specs.Float.Ieee.{of_int}
+use Rattle.std.specs.Float.Parse.{parse_float}
+use Rattle.resp_value.specs.Data.{Data, nil, int, bulk, array, simple, okay, dict, attribute, set, double, boolean, verbatim, error, list_of, pairs_of}
 
 -- a value without the attributes that stand before it
 abbrev pub bare : Data → Data
@@ -128,11 +137,66 @@ entries_of cmp xs = fold (λ es x. insert_entry cmp es x.0 x.1) [] xs
 abbrev pub IsMap : {K V : Type 0} → (K → K → Ordering) → (Data → K → Type 0) → (Data → V → Type 0) → Data → BTreeMap K V → Type 0
 IsMap {K} {V} cmp keys values d m = (xs : List (K × V)) × IsPairs keys values d xs × (m.entries ≡ entries_of cmp xs)
 
--- an array or a set of just so many items, each of its own type
-abbrev pub IsTwo : {A B : Type 0} → (Data → A → Type 0) → (Data → B → Type 0) → Option (List Data) → A × B → Type 0
-IsTwo a b (Some (d ∷ e ∷ [])) x = a d x.0 × b e x.1
-IsTwo a b _ x = ⊥
+-- a set of just the items of an array or a set
+abbrev pub IsOrderedSet : {K : Type 0} → (K → K → Ordering) → (Data → K → Type 0) → Data → BTreeSet K → Type 0
+IsOrderedSet {K} cmp reads d s = (xs : List K) × IsList reads d xs × ordered.IsFromIterResult cmp xs s
 
-abbrev pub IsThree : {A B C : Type 0} → (Data → A → Type 0) → (Data → B → Type 0) → (Data → C → Type 0) → Option (List Data) → A × B × C → Type 0
-IsThree a b c (Some (d ∷ e ∷ f ∷ [])) x = a d x.0 × b e x.1 × c f x.2
-IsThree a b c _ x = ⊥
+-- the same of a set without an order
+abbrev pub IsHashSet : {K S : Type 0} → (K → K → Bool) → (Data → K → Type 0) → Data → HashSet K S → Type 0
+IsHashSet {K} eq reads d s = (xs : List K) × IsList reads d xs × hashed.IsFromIterResult eq xs s
+
+-- a map without an order, into which such keys and values were put in order: of equal keys the last has the value
+abbrev pub IsHashMap : {K V S : Type 0} → (K → K → Bool) → (Data → K → Type 0) → (Data → V → Type 0) → Data → HashMap K V S → Type 0
+IsHashMap {K} {V} eq keys values d m = (xs : List (K × V)) × IsPairs keys values d xs × mapped.IsFromIterResult eq xs m
+
+-- the first is x, and the others are as `rest` says
+abbrev pub Begins : {S : Type 0} → (Data → S → Type 0) → S → (List Data → Type 0) → List Data → Type 0
+Begins reads x rest [] = ⊥
+Begins reads x rest (d ∷ ds) = reads d x × rest ds
+
+-- there are no others
+abbrev pub Ends : List Data → Type 0
+Ends [] = Unit {0}
+Ends (d ∷ ds) = ⊥
+
+-- just one value, of its type
+abbrev pub AreOne : {A : Type 0} → (Data → A → Type 0) → List Data → A → Type 0
+AreOne a ds x = Begins a x Ends ds
+
+-- just two, each of its own type
+abbrev pub AreTwo : {A B : Type 0} → (Data → A → Type 0) → (Data → B → Type 0) → List Data → A × B → Type 0
+AreTwo a b ds x = Begins a x.0 (λ es. AreOne b es x.1) ds
+
+-- just three, each of its own type
+abbrev pub AreThree : {A B C : Type 0} → (Data → A → Type 0) → (Data → B → Type 0) → (Data → C → Type 0) → List Data → A × B × C → Type 0
+AreThree a b c ds x = Begins a x.0 (λ es. AreTwo b c es (x.1, x.2)) ds
+
+-- just four, each of its own type
+abbrev pub AreFour : {A B C D : Type 0} → (Data → A → Type 0) → (Data → B → Type 0) → (Data → C → Type 0) → (Data → D → Type 0) → List Data → A × B × C × D → Type 0
+AreFour a b c d ds x = Begins a x.0 (λ es. AreThree b c d es (x.1, x.2, x.3)) ds
+
+-- just five, each of its own type
+abbrev pub AreFive : {A B C D E : Type 0} → (Data → A → Type 0) → (Data → B → Type 0) → (Data → C → Type 0) → (Data → D → Type 0) → (Data → E → Type 0) → List Data → A × B × C × D × E → Type 0
+AreFive a b c d e ds x = Begins a x.0 (λ es. AreFour b c d e es (x.1, x.2, x.3, x.4)) ds
+
+-- just six, each of its own type
+abbrev pub AreSix : {A B C D E F : Type 0} → (Data → A → Type 0) → (Data → B → Type 0) → (Data → C → Type 0) → (Data → D → Type 0) → (Data → E → Type 0) → (Data → F → Type 0) → List Data → A × B × C × D × E × F → Type 0
+AreSix a b c d e f ds x = Begins a x.0 (λ es. AreFive b c d e f es (x.1, x.2, x.3, x.4, x.5)) ds
+
+-- items that are there, and are as `are` says
+abbrev pub AreThere : {S : Type 0} → (List Data → S → Type 0) → Option (List Data) → S → Type 0
+AreThere are None x = ⊥
+AreThere are (Some ds) x = are ds x
+
+-- an array or a set, behind any attributes, whose items are as `are` says
+abbrev pub HasItems : {S : Type 0} → (List Data → S → Type 0) → Data → S → Type 0
+HasItems are d x = AreThere are (items_in (bare d)) x
+
+-- a number, or a text of one: the float that is nearest to it
+abbrev pub IsFloat : Data → Float → Type 0
+IsFloat (int n) x = x ≡ of_int binary64 n
+IsFloat (double text) x = parse_float binary64 text ≡ Some x
+IsFloat (bulk text) x = parse_float binary64 text ≡ Some x
+IsFloat (simple text) x = parse_float binary64 text ≡ Some x
+IsFloat (verbatim format text) x = parse_float binary64 text ≡ Some x
+IsFloat _ x = ⊥

@@ -1,14 +1,16 @@
 ghost use Rattle.std.specs.Prelude.{◌≡◌, IfOk, Some};
+ghost use Rattle.std.specs.HashMap as hashed;
 ghost use Rattle.resp_value.specs.View.{data_of, list_view, pairs_view};
-ghost use Rattle.resp_convert.specs.Convert.{IsRead, IsReadEach};
-ghost use Rattle.resp_convert.specs.Types.{IsList, IsMap, IsOptional, IsPair, IsPairs, bare, entries_of, paired, pairs_in};
+ghost use Rattle.resp_convert.specs.Convert.{IsConverted, IsRead, IsReadEach, items_read};
+ghost use Rattle.resp_convert.specs.Types.{IsHashMap, IsList, IsMap, IsOptional, IsPair, IsPairs, bare, entries_of, items_in, paired, pairs_in};
 
 use crate::convert::{ConvertError, FromRedisValue};
 use crate::parts;
 use containers::Queue;
 use resp_value::Value;
 use std::alloc::{AllocError, Global};
-use std::collections::BTreeMap;
+use std::collections::{BTreeMap, HashMap};
+use std::hash::Hash;
 
 /// Nil is none. Any other value is moved, not copied.
 impl<T: FromRedisValue> FromRedisValue for Option<T> {
@@ -35,32 +37,66 @@ impl<T: FromRedisValue> FromRedisValue for Option<T> {
     }
 }
 
-/// What each of some values is, if each is of the type.
-fn read_each<T: FromRedisValue + Drop>(
+/// What the items of an array or a set are, if each is of the type.
+pub fn read_items<T: FromRedisValue + Drop>(
     alloc: Global,
-    values: &[Value],
+    value: &Value,
 ) -> Result<Option<Vec<T>>, AllocError>
-    ensures { IfOk result (λ read. IsReadEach T.reads (Some (list_view values.now)) read) }
+    ensures { IfOk result (λ read. IsReadEach T.reads (items_in (bare (data_of value.now))) read) }
 {
-    let mut read = Vec::new(alloc);
-    for value in values {
-        match T::read_value(alloc, value)? {
-            Some(item) => read.push(item)?,
-            None => return Ok(None),
-        }
+    match parts::items(parts::bare(value)) {
+        Some(items) => T::read_values(alloc, items),
+        None => Ok(None),
     }
-    Ok(Some(read))
 }
 
-/// An array or a set.
+/// The items of an array or a set, moved where the type moves them.
+#[tactic(auto, using(crate::proofs::Each::same_items))]
+pub fn take_items<T: FromRedisValue + Drop>(
+    alloc: Global,
+    value: Value,
+) -> Result<Vec<T>, ConvertError>
+    ensures { IsConverted (IsList T.reads) value (items_read result) }
+{
+    match value {
+        Value::Array(items) => match T::from_redis_values(alloc, items) {
+            Ok(Ok(taken)) => Ok(taken),
+            Ok(Err(items)) => Err(ConvertError::Convert {
+                value: Value::Array(items),
+            }),
+            Err(_) => Err(ConvertError::NoMemory),
+        },
+        Value::Set(items) => match T::from_redis_values(alloc, items) {
+            Ok(Ok(taken)) => Ok(taken),
+            Ok(Err(items)) => Err(ConvertError::Convert {
+                value: Value::Set(items),
+            }),
+            Err(_) => Err(ConvertError::NoMemory),
+        },
+        other => match read_items(alloc, &other) {
+            Ok(Some(read)) => {
+                drop(other);
+                Ok(read)
+            }
+            Ok(None) => Err(ConvertError::Convert { value: other }),
+            Err(_) => {
+                drop(other);
+                Err(ConvertError::NoMemory)
+            }
+        },
+    }
+}
+
+/// An array or a set. Its items are moved where their type moves them: values, bytes and texts.
 impl<T: FromRedisValue + Drop> FromRedisValue for Vec<T> {
     ghost reads = { λ d xs. IsList T.reads d xs.items };
 
     fn read_value(alloc: Global, value: &Value) -> Result<Option<Vec<T>>, AllocError> {
-        match parts::items(parts::bare(value)) {
-            Some(items) => read_each(alloc, items),
-            None => Ok(None),
-        }
+        read_items(alloc, value)
+    }
+
+    fn from_redis_value(alloc: Global, value: Value) -> Result<Vec<T>, ConvertError> {
+        take_items(alloc, value)
     }
 }
 
@@ -179,6 +215,29 @@ impl<K: FromRedisValue + Ord + Drop, V: FromRedisValue + Drop> FromRedisValue fo
     fn read_value(alloc: Global, value: &Value) -> Result<Option<BTreeMap<K, V>>, AllocError> {
         match read_pairs(alloc, parts::bare(value))? {
             Some(pairs) => Ok(Some(map_of(alloc, pairs)?)),
+            None => Ok(None),
+        }
+    }
+}
+
+/// The map into which pairs are put in order, without an order of its own.
+fn hash_map_of<K: Eq + Hash + Drop, V: Drop>(
+    alloc: Global,
+    pairs: Vec<(K, V)>,
+) -> Result<HashMap<K, V>, AllocError>
+    ensures { IfOk result (hashed.IsFromIterResult K.eq pairs.items) }
+{
+    pairs.into_iter().collect(alloc)
+}
+
+/// A map, or an array of even length: keys and values in turn. Of equal keys the last has the value.
+impl<K: FromRedisValue + Eq + Hash + Drop, V: FromRedisValue + Drop> FromRedisValue
+    for HashMap<K, V> {
+    ghost reads = { IsHashMap K.eq K.reads V.reads };
+
+    fn read_value(alloc: Global, value: &Value) -> Result<Option<HashMap<K, V>>, AllocError> {
+        match read_pairs(alloc, parts::bare(value))? {
+            Some(pairs) => Ok(Some(hash_map_of(alloc, pairs)?)),
             None => Ok(None),
         }
     }

@@ -1,11 +1,11 @@
 ghost use Rattle.std.specs.Prelude.{◌≡◌, IfOk, None, Some, MatchOption};
 ghost use Rattle.resp_value.specs.Data.{Data};
-ghost use Rattle.resp_value.specs.View.{data_of};
-ghost use Rattle.resp_convert.specs.Convert.{IsConverted, IsRead, told_by};
+ghost use Rattle.resp_value.specs.View.{data_of, list_view};
+ghost use Rattle.resp_convert.specs.Convert.{AreConverted, IsConverted, IsRead, IsReadEach, told_by};
 ghost use Rattle.resp_convert.specs.declared.convert.ConvertError.TheVariants.{NoMemory};
 
 use crate::parts::bare;
-use resp_value::{ServerError, Value};
+use resp_value::{ServerError, Value, Values};
 use std::alloc::{AllocError, Global};
 use std::fmt;
 use thiserror::Error;
@@ -66,6 +66,22 @@ pub trait FromRedisValue: Sized {
     fn read_value(alloc: Global, value: &Value) -> Result<Option<Self>, AllocError>
         ensures { IfOk result (λ read. IsRead reads (data_of value.now) read) };
 
+    /// What each of some values is as one of the type, in order, if each is of the type.
+    fn read_values(alloc: Global, values: &[Value]) -> Result<Option<Vec<Self>>, AllocError>
+    where
+        Self: Drop,
+        ensures { IfOk result (λ read. IsReadEach reads (Some (list_view values.now)) read) }
+    {
+        let mut read = Vec::new(alloc);
+        for value in values {
+            match Self::read_value(alloc, value)? {
+                Some(item) => read.push(item)?,
+                None => return Ok(None),
+            }
+        }
+        Ok(Some(read))
+    }
+
     /// The value as one of the type. A value that isn't of the type is given back.
     fn from_redis_value(alloc: Global, value: Value) -> Result<Self, ConvertError>
         ensures { IsConverted reads value result }
@@ -80,6 +96,24 @@ pub trait FromRedisValue: Sized {
                 drop(value);
                 Err(ConvertError::NoMemory)
             }
+        }
+    }
+
+    /// Each of the values as one of the type, in order. Where one of them isn't of the type, all are given back.
+    fn from_redis_values(
+        alloc: Global,
+        values: Values,
+    ) -> Result<Result<Vec<Self>, Values>, AllocError>
+    where
+        Self: Drop,
+        ensures { IfOk result (λ made. AreConverted reads values made) }
+    {
+        match Self::read_values(alloc, values.as_slice())? {
+            Some(read) => {
+                drop(values);
+                Ok(Ok(read))
+            }
+            None => Ok(Err(values)),
         }
     }
 }

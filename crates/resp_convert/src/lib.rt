@@ -3,10 +3,13 @@
 
 mod aggregates;
 mod convert;
+mod floats;
 mod integers;
 mod laws;
 mod parts;
 mod scalars;
+mod sets;
+mod text_values;
 mod texts;
 mod tuples;
 
@@ -17,6 +20,14 @@ pub use laws::written_numbers_are_read_back;
 #[cfg(test)]
 mod aggregate_tests;
 #[cfg(test)]
+mod float_tests;
+#[cfg(test)]
 mod integer_tests;
 #[cfg(test)]
+mod moved_tests;
+#[cfg(test)]
+mod set_tests;
+#[cfg(test)]
 mod tests;
+#[cfg(test)]
+mod tuple_tests;

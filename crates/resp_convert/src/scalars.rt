@@ -4,10 +4,10 @@ ghost use Rattle.resp_convert.specs.Types.{IsDone, IsTruth, bare};
 
 use crate::convert::{ConvertError, FromRedisValue};
 use crate::parts;
-use resp_value::Value;
+use resp_value::{Value, Values};
 use std::alloc::{AllocError, Global};
 
-/// Any value, with its attributes. It is moved, not copied.
+/// Any value, with its attributes. It is moved, not copied, and so is a list of them.
 impl FromRedisValue for Value {
     ghost reads = { λ d value. data_of value ≡ d };
 
@@ -17,6 +17,14 @@ impl FromRedisValue for Value {
 
     fn from_redis_value(_alloc: Global, value: Value) -> Result<Value, ConvertError> {
         Ok(value)
+    }
+
+    #[tactic(auto, using(crate::proofs::Each::each_itself))]
+    fn from_redis_values(
+        _alloc: Global,
+        values: Values,
+    ) -> Result<Result<Vec<Value>, Values>, AllocError> {
+        Ok(Ok(values.into_vec()))
     }
 }
 

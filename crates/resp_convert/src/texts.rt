@@ -5,8 +5,9 @@ ghost use Rattle.resp_convert.specs.Types.{IsText, IsUnicode};
 
 use crate::convert::{ConvertError, FromRedisValue};
 use crate::parts::{bare, text};
+use crate::text_values::{take_text, take_texts};
 use containers::Bytes;
-use resp_value::Value;
+use resp_value::{Value, Values};
 use std::alloc::{AllocError, Global};
 use std::str;
 
@@ -22,29 +23,18 @@ impl FromRedisValue for Bytes {
     }
 
     fn from_redis_value(alloc: Global, value: Value) -> Result<Bytes, ConvertError> {
-        match value {
-            Value::BulkString(text) => Ok(text),
-            Value::SimpleString(text) => Ok(text),
-            Value::VerbatimString { format, text } => {
-                drop(format);
-                Ok(text)
-            }
-            other => match Bytes::read_value(alloc, &other) {
-                Ok(Some(text)) => {
-                    drop(other);
-                    Ok(text)
-                }
-                Ok(None) => Err(ConvertError::Convert { value: other }),
-                Err(_) => {
-                    drop(other);
-                    Err(ConvertError::NoMemory)
-                }
-            },
-        }
+        take_text(alloc, value)
+    }
+
+    fn from_redis_values(
+        alloc: Global,
+        values: Values,
+    ) -> Result<Result<Vec<Bytes>, Values>, AllocError> {
+        take_texts(alloc, values)
     }
 }
 
-/// A text in UTF-8.
+/// A text in UTF-8. That of a byte string, a simple string or a verbatim string is moved, not copied.
 impl FromRedisValue for String {
     ghost reads = { λ d s. IsUnicode d (string_bytes s) };
 
@@ -56,5 +46,16 @@ impl FromRedisValue for String {
             Ok(text) => Ok(Some(String::from_str(alloc, text)?)),
             Err(_) => Ok(None),
         }
+    }
+
+    fn from_redis_value(alloc: Global, value: Value) -> Result<String, ConvertError> {
+        take_text(alloc, value)
+    }
+
+    fn from_redis_values(
+        alloc: Global,
+        values: Values,
+    ) -> Result<Result<Vec<String>, Values>, AllocError> {
+        take_texts(alloc, values)
     }
 }
