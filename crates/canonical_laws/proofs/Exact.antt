@@ -4,6 +4,7 @@ use Rattle.resp_value.specs.Data.{Data, array, dict, attribute, set, push, error
 use Rattle.resp_value.specs.Kinds.{kind_of}
 use Rattle.resp_read.specs.Grammar.{Found, read, short, bad, found_and_then, found_map, Table, form, innermost, nested, parse, max_line, fits, ended, line_found, error_line, error_of, repeated, pair, attributed, max_depth, reader_limits}
 use Rattle.resp_read.specs.Reads.{Reads}
+use Rattle.resp_read.specs.Limits.{default_limits}
 use Rattle.resp_read.proofs.LineLaws.{fits_within}
 use Rattle.resp_write.specs.Canonical.{canonical, each_item, each_member, kind_text, breaks_line}
 use Rattle.resp_write.specs.Pack.{crlf, text_line, sized_text}
@@ -22,7 +23,7 @@ module _ {A B : Type 0} (g : A → List ℕ → Found B) where
   first_read bad b end e = cc
 
 fits_by : (l : List ℕ) (c : Bool) (x w : Data) (rest end : List ℕ) → fits reader_limits l ≡ c → ◌≡◌ {A = Found Data} (cond c (read x rest) bad) (read w end) → length l ≤ max_line
-fits_by l true x w rest end is e = fits_within l is
+fits_by l true x w rest end is e = fits_within default_limits l is
 fits_by l false x w rest end is e = cc
 
 module _ (more : Table) (rest : List ℕ) (w : Data) (end : List ℕ) where

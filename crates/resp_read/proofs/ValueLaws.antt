@@ -3,17 +3,21 @@ use Rattle.std.proofs.Common.{◌≡◌, ℕ, zero, suc, ◌≤◌, ◌<◌, Lis
 use Rattle.resp_value.specs.Data.{Data}
 use Rattle.resp_read.specs.Grammar.{Found, read, short, bad, parse, max_depth}
 use Rattle.resp_read.specs.Values.{first_and, values_within, values, past_first, left_within, left_over, is_bad, is_spoiled}
-use Rattle.resp_read.proofs.ParseLaws.{empty_short}
-use Rattle.resp_read.proofs.ReadLaws.{reads-append, bad-append, reads-ends, reads-shorter}
+use Rattle.resp_read.specs.Limits.{default_limits}
+use Rattle.resp_read.proofs.ParseLaws as parsed
+use Rattle.resp_read.proofs.ReadLaws.{default_allowed, reads-append, bad-append, reads-ends, reads-shorter}
+
+empty_short : parse max_depth [] ≡ short
+empty_short = parsed.empty_short default_limits default_allowed max_depth
 
 none_values : (n : ℕ) (bs : List ℕ) → length bs ≤ 0 → values_within n bs ≡ []
 none_values zero bs h = refl
-none_values (suc n) [] h = ap (first_and (values_within n)) (empty_short max_depth)
+none_values (suc n) [] h = ap (first_and (values_within n)) empty_short
 none_values (suc n) (b ∷ bs) h = absurd (omega arith)
 
 none_left : (n : ℕ) (bs : List ℕ) → length bs ≤ 0 → left_within n bs ≡ bs
 none_left zero bs h = refl
-none_left (suc n) [] h = ap (past_first (left_within n) []) (empty_short max_depth)
+none_left (suc n) [] h = ap (past_first (left_within n) []) empty_short
 none_left (suc n) (b ∷ bs) h = absurd (omega arith)
 
 -- two that are large enough give the same
@@ -80,7 +84,7 @@ values-bad bs e =
 
 -- an empty text
 pub values-empty : (values [] ≡ []) × (left_over [] ≡ []) × (is_spoiled [] ≡ false)
-values-empty = values-short [] (empty_short max_depth)
+values-empty = values-short [] empty_short
 
 -- where more bytes follow a text that is not spoiled
 record Goes (bs m : List ℕ) : Type 0 where

@@ -1,7 +1,7 @@
 -- What the parts of the reader answer.
 use Rattle.std.specs.Prelude.{◌≡◌, ℕ, ◌+◌, ◌≤◌, Bool, false, ◌||◌, ◌==◌, List, [], ◌∷◌, length, take, drop, Result, Ok, Err}
 use Rattle.resp_value.specs.Data.{Data}
-use Rattle.resp_read.specs.Grammar.{Found, read, short, bad, Line, ended, held, unended, broken, LineForm, simple_line, error_line, number_line, null_line, boolean_line, double_line, big_line, no_array_line, reader_limits, Table}
+use Rattle.resp_read.specs.Grammar.{Found, read, short, bad, Line, ended, held, unended, broken, LineForm, simple_line, error_line, number_line, null_line, boolean_line, double_line, big_line, no_array_line, Limits, Table}
 use Rattle.resp_read.specs.declared.lines.LineEnd.{LineEnd}
 use Rattle.resp_read.specs.declared.lines.LineEnd.TheVariants.{Ended, Held, Unended, Broken}
 use Rattle.resp_read.specs.declared.forms.OneLine.{OneLine}
@@ -24,15 +24,15 @@ IsWithin Unended bs = Unit {0}
 IsWithin Broken bs = Unit {0}
 
 -- the form of a value that is one line
-abbrev pub line_form : OneLine → LineForm Data
-line_form Simple = simple_line
-line_form Error = error_line
-line_form Number = number_line
-line_form Null = null_line
-line_form Boolean = boolean_line
-line_form Double = double_line reader_limits
-line_form Big = big_line
-line_form NoArray = no_array_line
+abbrev pub line_form : Limits → OneLine → LineForm Data
+line_form limits Simple = simple_line
+line_form limits Error = error_line
+line_form limits Number = number_line
+line_form limits Null = null_line
+line_form limits Boolean = boolean_line
+line_form limits Double = double_line limits
+line_form limits Big = big_line
+line_form limits NoArray = no_array_line
 
 -- some form of the table begins with that byte
 abbrev pub has : Table → ℕ → Bool

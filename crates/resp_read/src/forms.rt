@@ -1,17 +1,17 @@
 ghost use Rattle.std.specs.Prelude.{◌≡◌, ◌≤◌, ◌*◌, length, IfOk, IfSome, option_map, is_some, Some, None, if◌then◌else◌};
 ghost use Rattle.resp_value.specs.Data.{nil};
 ghost use Rattle.resp_value.specs.View.{data_of};
-ghost use Rattle.resp_read.specs.Grammar.{simple_of, error_of, double_line, big_line, line_as, size_line, count_line, body, bulk_string, bulk_error, format, verbatim_string, text_line, bulk_text, kind, chosen, plain, innermost, max_bulk, reader_limits};
+ghost use Rattle.resp_read.specs.Grammar.{simple_of, error_of, double_line, big_line, line_as, size_line, count_line, body, bulk_string, bulk_error, format, verbatim_string, text_line, bulk_text, kind, chosen, plain, innermost, max_bulk, no_limits};
+ghost use Rattle.resp_read.specs.Grammar.{Limits as GrammarLimits};
+ghost use Rattle.resp_read.specs.Limits.{bounds, AreAllowed};
 ghost use Rattle.resp_read.specs.Parts.{line_form, has, IsFound};
 
+use crate::limits::Limits;
 use crate::lines::LineEnd;
 use crate::{decimals, lines};
 use containers::Bytes;
 use resp_value::{ServerError, Value};
 use std::alloc::{AllocError, Global};
-
-/// The most bytes of a bulk string.
-const MAX_BULK: u64 = 536_870_912;
 
 /// A value that is one line.
 #[derive(Clone, Copy)]
@@ -82,7 +82,7 @@ fn nil_if(is_so: bool) -> Option<Value>
 }
 
 fn double(alloc: Global, line: &[u8]) -> Result<Option<Value>, AllocError>
-    ensures { IfOk result (λ v. option_map data_of v ≡ (double_line reader_limits).whole line.now) }
+    ensures { IfOk result (λ v. option_map data_of v ≡ (double_line no_limits).whole line.now) }
 {
     if decimals::is_whole_double(line) {
         return Ok(Some(Value::Double(Bytes::from_slice(alloc, line)?)));
@@ -101,7 +101,7 @@ fn big(alloc: Global, line: &[u8]) -> Result<Option<Value>, AllocError>
 
 /// What a whole line stands for.
 fn value_of_line(alloc: Global, form: OneLine, line: &[u8]) -> Result<Option<Value>, AllocError>
-    ensures { IfOk result (λ v. option_map data_of v ≡ (line_form form).whole line.now) }
+    ensures { IfOk result (λ v. (most : GrammarLimits) → option_map data_of v ≡ (line_form most form).whole line.now) }
 {
     match form {
         OneLine::Simple => Ok(Some(simple(alloc, line)?)),
@@ -122,7 +122,7 @@ fn value_of_line(alloc: Global, form: OneLine, line: &[u8]) -> Result<Option<Val
 }
 
 fn is_whole(form: OneLine, line: &[u8]) -> bool
-    ensures { result ≡ is_some ((line_form form).whole line.now) }
+    ensures { (most : GrammarLimits) → result ≡ is_some ((line_form most form).whole line.now) }
 {
     match form {
         OneLine::Simple => true,
@@ -136,8 +136,8 @@ fn is_whole(form: OneLine, line: &[u8]) -> bool
     }
 }
 
-fn is_begun(form: OneLine, front: &[u8]) -> bool
-    ensures { result ≡ (line_form form).begun front.now }
+fn is_begun(limits: Limits, form: OneLine, front: &[u8]) -> bool
+    ensures { result ≡ (line_form (bounds limits) form).begun front.now }
 {
     match form {
         OneLine::Simple => true,
@@ -145,20 +145,25 @@ fn is_begun(form: OneLine, front: &[u8]) -> bool
         OneLine::Number => lines::is_number_begun(front),
         OneLine::Null => front.is_empty(),
         OneLine::Boolean => lines::is_truth_begun(front),
-        OneLine::Double => decimals::is_double_begun(front),
+        OneLine::Double => decimals::is_double_begun(limits, front),
         OneLine::Big => decimals::is_big_begun(front),
         OneLine::NoArray => lines::is_no_array_begun(front),
     }
 }
 
-fn line_value(alloc: Global, form: OneLine, input: &mut Input<'_>) -> Result<Value, Refusal>
-    ensures { IsFound data_of (line_as reader_limits (line_form form) input.old.left.now) result
+fn line_value(
+    alloc: Global,
+    limits: Limits,
+    form: OneLine,
+    input: &mut Input<'_>,
+) -> Result<Value, Refusal>
+    ensures { IsFound data_of (line_as (bounds limits) (line_form (bounds limits) form) input.old.left.now) result
         input.new.left.now }
 {
     let left = input.left;
     match lines::find_line(left) {
         LineEnd::Ended(n) => {
-            if !lines::is_within(&left[..n]) {
+            if !lines::is_within(limits, &left[..n]) {
                 return Err(Refusal::Bad);
             }
             match value_of_line(alloc, form, &left[..n])? {
@@ -170,14 +175,14 @@ fn line_value(alloc: Global, form: OneLine, input: &mut Input<'_>) -> Result<Val
             }
         }
         LineEnd::Held(n) => {
-            if lines::is_within(&left[..n]) && is_whole(form, &left[..n]) {
+            if lines::is_within(limits, &left[..n]) && is_whole(form, &left[..n]) {
                 Err(Refusal::Short)
             } else {
                 Err(Refusal::Bad)
             }
         }
         LineEnd::Unended => {
-            if lines::is_within(left) && is_begun(form, left) {
+            if lines::is_within(limits, left) && is_begun(limits, form, left) {
                 Err(Refusal::Short)
             } else {
                 Err(Refusal::Bad)
@@ -188,17 +193,17 @@ fn line_value(alloc: Global, form: OneLine, input: &mut Input<'_>) -> Result<Val
 }
 
 /// The line that announces a length, or none for `-1`.
-pub fn announced(most: u64, input: &mut Input<'_>) -> Result<Option<u64>, Refusal>
+pub fn announced(limits: Limits, most: u64, input: &mut Input<'_>) -> Result<Option<u64>, Refusal>
     requires { most ≤ 9_223_372_036_854_775_808 }
     ensures found { IsFound (λ s. s)
-        (line_as reader_limits (size_line (Some most)) input.old.left.now) result
+        (line_as (bounds limits) (size_line (Some most)) input.old.left.now) result
         input.new.left.now }
     ensures fits { IfOk result (λ s. IfSome s (λ n. n ≤ most)) }
 {
     let left = input.left;
     match lines::find_line(left) {
         LineEnd::Ended(n) => {
-            if !lines::is_within(&left[..n]) {
+            if !lines::is_within(limits, &left[..n]) {
                 return Err(Refusal::Bad);
             }
             match lines::read_size(most, &left[..n]) {
@@ -210,14 +215,16 @@ pub fn announced(most: u64, input: &mut Input<'_>) -> Result<Option<u64>, Refusa
             }
         }
         LineEnd::Held(n) => {
-            if lines::is_within(&left[..n]) && lines::read_size(most, &left[..n]).is_some() {
+            if lines::is_within(limits, &left[..n])
+                && lines::read_size(most, &left[..n]).is_some()
+            {
                 Err(Refusal::Short)
             } else {
                 Err(Refusal::Bad)
             }
         }
         LineEnd::Unended => {
-            if lines::is_within(left) && lines::is_size_begun(most, left) {
+            if lines::is_within(limits, left) && lines::is_size_begun(most, left) {
                 Err(Refusal::Short)
             } else {
                 Err(Refusal::Bad)
@@ -228,12 +235,13 @@ pub fn announced(most: u64, input: &mut Input<'_>) -> Result<Option<u64>, Refusa
 }
 
 /// The line that announces a length between these two.
-pub fn counted(least: u64, most: u64, input: &mut Input<'_>) -> Result<u64, Refusal>
+pub fn counted(limits: Limits, least: u64, most: u64, input: &mut Input<'_>) -> Result<u64, Refusal>
+    requires allowed { AreAllowed limits }
     requires most { most ≤ 9_223_372_036_854_775_808 }
     requires digit { least ≤ 9 }
     requires room { 11 * least ≤ most }
     ensures found { IsFound (λ n. n)
-        (line_as reader_limits (count_line reader_limits least (Some most)) input.old.left.now)
+        (line_as (bounds limits) (count_line (bounds limits) least (Some most)) input.old.left.now)
         result input.new.left.now }
     ensures fits { IfOk result (λ n. n ≤ most) }
     ensures enough { IfOk result (λ n. least ≤ n) }
@@ -241,7 +249,7 @@ pub fn counted(least: u64, most: u64, input: &mut Input<'_>) -> Result<u64, Refu
     let left = input.left;
     match lines::find_line(left) {
         LineEnd::Ended(n) => {
-            if !lines::is_within(&left[..n]) {
+            if !lines::is_within(limits, &left[..n]) {
                 return Err(Refusal::Bad);
             }
             match lines::read_count(least, most, &left[..n]) {
@@ -253,7 +261,7 @@ pub fn counted(least: u64, most: u64, input: &mut Input<'_>) -> Result<u64, Refu
             }
         }
         LineEnd::Held(n) => {
-            if lines::is_within(&left[..n])
+            if lines::is_within(limits, &left[..n])
                 && lines::read_count(least, most, &left[..n]).is_some()
             {
                 Err(Refusal::Short)
@@ -262,7 +270,7 @@ pub fn counted(least: u64, most: u64, input: &mut Input<'_>) -> Result<u64, Refu
             }
         }
         LineEnd::Unended => {
-            if lines::is_within(left) && lines::is_count_begun(least, most, left) {
+            if lines::is_within(limits, left) && lines::is_count_begun(limits, least, most, left) {
                 Err(Refusal::Short)
             } else {
                 Err(Refusal::Bad)
@@ -295,34 +303,36 @@ fn read_body(alloc: Global, input: &mut Input<'_>, n: usize) -> Result<Bytes, Re
     Ok(bytes)
 }
 
-fn read_bulk_string(alloc: Global, input: &mut Input<'_>) -> Result<Value, Refusal>
-    ensures { IsFound data_of (bulk_string reader_limits input.old.left.now) result
+fn read_bulk_string(alloc: Global, limits: Limits, input: &mut Input<'_>) -> Result<Value, Refusal>
+    requires { AreAllowed limits }
+    ensures { IsFound data_of (bulk_string (bounds limits) input.old.left.now) result
         input.new.left.now }
 {
-    match announced(MAX_BULK, input)? {
+    match announced(limits, limits.bulk as u64, input)? {
         None => Ok(Value::Nil),
         Some(n) => Ok(Value::BulkString(read_body(alloc, input, n as usize)?)),
     }
 }
 
-fn read_bulk_error(alloc: Global, input: &mut Input<'_>) -> Result<Value, Refusal>
-    ensures { IsFound data_of (bulk_error reader_limits input.old.left.now) result
+fn read_bulk_error(alloc: Global, limits: Limits, input: &mut Input<'_>) -> Result<Value, Refusal>
+    requires { AreAllowed limits }
+    ensures { IsFound data_of (bulk_error (bounds limits) input.old.left.now) result
         input.new.left.now }
 {
-    let n = counted(0, MAX_BULK, input)?;
+    let n = counted(limits, 0, limits.bulk as u64, input)?;
     let text = read_body(alloc, input, n as usize)?;
     Ok(error(alloc, text.as_slice())?)
 }
 
 /// A line that is a text.
-fn text(alloc: Global, input: &mut Input<'_>) -> Result<Bytes, Refusal>
-    ensures { IsFound (λ t. t) (line_as reader_limits text_line input.old.left.now) result
+fn text(alloc: Global, limits: Limits, input: &mut Input<'_>) -> Result<Bytes, Refusal>
+    ensures { IsFound (λ t. t) (line_as (bounds limits) text_line input.old.left.now) result
         input.new.left.now }
 {
     let left = input.left;
     match lines::find_line(left) {
         LineEnd::Ended(n) => {
-            if !lines::is_within(&left[..n]) {
+            if !lines::is_within(limits, &left[..n]) {
                 return Err(Refusal::Bad);
             }
             let text = Bytes::from_slice(alloc, &left[..n])?;
@@ -330,14 +340,14 @@ fn text(alloc: Global, input: &mut Input<'_>) -> Result<Bytes, Refusal>
             Ok(text)
         }
         LineEnd::Held(n) => {
-            if lines::is_within(&left[..n]) {
+            if lines::is_within(limits, &left[..n]) {
                 Err(Refusal::Short)
             } else {
                 Err(Refusal::Bad)
             }
         }
         LineEnd::Unended => {
-            if lines::is_within(left) {
+            if lines::is_within(limits, left) {
                 Err(Refusal::Short)
             } else {
                 Err(Refusal::Bad)
@@ -348,17 +358,19 @@ fn text(alloc: Global, input: &mut Input<'_>) -> Result<Bytes, Refusal>
 }
 
 /// A length, and a text of so many bytes.
-fn read_bulk_text(alloc: Global, input: &mut Input<'_>) -> Result<Bytes, Refusal>
-    ensures { IsFound (λ t. t) (bulk_text reader_limits input.old.left.now) result
+fn read_bulk_text(alloc: Global, limits: Limits, input: &mut Input<'_>) -> Result<Bytes, Refusal>
+    requires { AreAllowed limits }
+    ensures { IsFound (λ t. t) (bulk_text (bounds limits) input.old.left.now) result
         input.new.left.now }
 {
-    let n = counted(0, MAX_BULK, input)?;
+    let n = counted(limits, 0, limits.bulk as u64, input)?;
     read_body(alloc, input, n as usize)
 }
 
 /// The kind of a push: a simple or a bulk string.
-pub fn read_kind(alloc: Global, input: &mut Input<'_>) -> Result<Bytes, Refusal>
-    ensures { IsFound (λ k. k) (kind reader_limits input.old.left.now)
+pub fn read_kind(alloc: Global, limits: Limits, input: &mut Input<'_>) -> Result<Bytes, Refusal>
+    requires { AreAllowed limits }
+    ensures { IsFound (λ k. k) (kind (bounds limits) input.old.left.now)
         result input.new.left.now }
 {
     let left = input.left;
@@ -368,8 +380,8 @@ pub fn read_kind(alloc: Global, input: &mut Input<'_>) -> Result<Bytes, Refusal>
     let first = left[0];
     input.left = &left[1..];
     match first {
-        b'+' => text(alloc, input),
-        b'$' => read_bulk_text(alloc, input),
+        b'+' => text(alloc, limits, input),
+        b'$' => read_bulk_text(alloc, limits, input),
         _ => Err(Refusal::Bad),
     }
 }
@@ -390,11 +402,16 @@ fn read_format(alloc: Global, input: &mut Input<'_>) -> Result<Bytes, Refusal>
     Ok(format)
 }
 
-fn read_verbatim_string(alloc: Global, input: &mut Input<'_>) -> Result<Value, Refusal>
-    ensures { IsFound data_of (verbatim_string reader_limits input.old.left.now) result
+fn read_verbatim_string(
+    alloc: Global,
+    limits: Limits,
+    input: &mut Input<'_>,
+) -> Result<Value, Refusal>
+    requires { AreAllowed limits }
+    ensures { IsFound data_of (verbatim_string (bounds limits) input.old.left.now) result
         input.new.left.now }
 {
-    let n = counted(4, MAX_BULK, input)?;
+    let n = counted(limits, 4, limits.bulk as u64, input)?;
     let format = read_format(alloc, input)?;
     let text = read_body(alloc, input, n as usize - 4)?;
     Ok(Value::VerbatimString { format, text })
@@ -402,7 +419,7 @@ fn read_verbatim_string(alloc: Global, input: &mut Input<'_>) -> Result<Value, R
 
 /// Whether a form that holds no values begins so.
 pub fn is_plain(first: u8) -> bool
-    ensures { result ≡ has (plain reader_limits) first }
+    ensures { result ≡ has (plain no_limits) first }
 {
     matches!(
         first,
@@ -411,32 +428,43 @@ pub fn is_plain(first: u8) -> bool
 }
 
 /// A form that holds no values, by its first byte.
-pub fn read_plain(alloc: Global, first: u8, input: &mut Input<'_>) -> Result<Value, Refusal>
-    ensures { IsFound data_of (chosen (plain reader_limits) first input.old.left.now) result
+pub fn read_plain(
+    alloc: Global,
+    limits: Limits,
+    first: u8,
+    input: &mut Input<'_>,
+) -> Result<Value, Refusal>
+    requires { AreAllowed limits }
+    ensures { IsFound data_of (chosen (plain (bounds limits)) first input.old.left.now) result
         input.new.left.now }
 {
     match first {
-        b'+' => line_value(alloc, OneLine::Simple, input),
-        b'-' => line_value(alloc, OneLine::Error, input),
-        b':' => line_value(alloc, OneLine::Number, input),
-        b'$' => read_bulk_string(alloc, input),
-        b'_' => line_value(alloc, OneLine::Null, input),
-        b'#' => line_value(alloc, OneLine::Boolean, input),
-        b',' => line_value(alloc, OneLine::Double, input),
-        b'(' => line_value(alloc, OneLine::Big, input),
-        b'!' => read_bulk_error(alloc, input),
-        b'=' => read_verbatim_string(alloc, input),
+        b'+' => line_value(alloc, limits, OneLine::Simple, input),
+        b'-' => line_value(alloc, limits, OneLine::Error, input),
+        b':' => line_value(alloc, limits, OneLine::Number, input),
+        b'$' => read_bulk_string(alloc, limits, input),
+        b'_' => line_value(alloc, limits, OneLine::Null, input),
+        b'#' => line_value(alloc, limits, OneLine::Boolean, input),
+        b',' => line_value(alloc, limits, OneLine::Double, input),
+        b'(' => line_value(alloc, limits, OneLine::Big, input),
+        b'!' => read_bulk_error(alloc, limits, input),
+        b'=' => read_verbatim_string(alloc, limits, input),
         _ => Err(Refusal::Bad),
     }
 }
 
 /// What stands where no more may be nested, by its first byte.
-pub fn read_innermost(alloc: Global, first: u8, input: &mut Input<'_>) -> Result<Value, Refusal>
-    ensures { IsFound data_of (chosen (innermost reader_limits) first input.old.left.now)
+pub fn read_innermost(
+    alloc: Global,
+    limits: Limits,
+    first: u8,
+    input: &mut Input<'_>,
+) -> Result<Value, Refusal>
+    ensures { IsFound data_of (chosen (innermost (bounds limits)) first input.old.left.now)
         result input.new.left.now }
 {
     match first {
-        b'*' => line_value(alloc, OneLine::NoArray, input),
+        b'*' => line_value(alloc, limits, OneLine::NoArray, input),
         _ => Err(Refusal::Bad),
     }
 }

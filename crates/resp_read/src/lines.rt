@@ -1,6 +1,9 @@
 ghost use Rattle.std.specs.Prelude.{◌≡◌, ◌≤◌, ◌+◌, ◌*◌, ◌||◌, [], ◌∷◌, length, neg_ℤ, pos, is_some, Some, IfSome, bytes_eq};
-ghost use Rattle.resp_read.specs.Grammar.{line, fits, digits_after, at_most, natural, number, number_begun, size, size_begun, count, count_begun, truth, is_end, no_array_begun, reader_limits};
+ghost use Rattle.resp_read.specs.Grammar.{line, fits, digits_after, at_most, natural, number, number_begun, size, size_begun, count, count_begun, truth, is_end, no_array_begun};
+ghost use Rattle.resp_read.specs.Limits.{bounds, AreAllowed};
 ghost use Rattle.resp_read.specs.Parts.{line_at, IsWithin};
+
+use crate::limits::Limits;
 
 /// Where the first line of some bytes ends: at a CR LF, at a CR that is the last byte, not yet, or never, because a CR
 /// stands before another byte.
@@ -10,9 +13,6 @@ pub enum LineEnd {
     Unended,
     Broken,
 }
-
-/// The most bytes of a line.
-pub const MAX_LINE: usize = 1_048_576;
 
 pub fn find_line(bytes: &[u8]) -> LineEnd
     ensures line { line_at result bytes.now ≡ line bytes.now }
@@ -33,10 +33,10 @@ pub fn find_line(bytes: &[u8]) -> LineEnd
     LineEnd::Unended
 }
 
-pub fn is_within(line: &[u8]) -> bool
-    ensures { result ≡ fits reader_limits line.now }
+pub fn is_within(limits: Limits, line: &[u8]) -> bool
+    ensures { result ≡ fits (bounds limits) line.now }
 {
-    line.len() <= MAX_LINE
+    line.len() <= limits.line
 }
 
 /// The number of these decimal digits, one at least, if it is at most `most`.
@@ -156,11 +156,12 @@ pub fn read_count(least: u64, most: u64, line: &[u8]) -> Option<u64>
 }
 
 /// Whether a line that starts so can become such a length, within the limit of a line.
-pub fn is_count_begun(least: u64, most: u64, front: &[u8]) -> bool
+pub fn is_count_begun(limits: Limits, least: u64, most: u64, front: &[u8]) -> bool
+    requires allowed { AreAllowed limits }
     requires most { most ≤ 9_223_372_036_854_775_808 }
     requires digit { least ≤ 9 }
     requires room { 11 * least ≤ most }
-    ensures { result ≡ count_begun reader_limits least (Some most) front.now }
+    ensures { result ≡ count_begun (bounds limits) least (Some most) front.now }
 {
     if front.is_empty() {
         return true;
@@ -168,9 +169,9 @@ pub fn is_count_begun(least: u64, most: u64, front: &[u8]) -> bool
     match read_natural(most, front) {
         Some(n) => {
             if n < least {
-                return front.len() < MAX_LINE;
+                return front.len() < limits.line;
             }
-            is_within(front)
+            is_within(limits, front)
         }
         None => false,
     }
