@@ -3,7 +3,8 @@ use Rattle.std.proofs.Common.{◌≡◌, ℕ, ◌≤◌, List, [], ◌∷◌, le
 use Rattle.std.proofs.lemmas.List.{length-take-le}
 use Rattle.std.proofs.lemmas.Bool.Decides.{nat_tests}
 use Rattle.std.specs.Prelude.{◌==◌, ◌&&◌, nat_le, nat_lt, is_some}
-use Rattle.resp_read.specs.Grammar.{Found, read, short, bad, found_and_then, found_map, Line, ended, held, unended, broken, after_return, byte_before, line, LineForm, fits, line_found, line_as, found, natural, at_most, at_least, count_line, digits_after, fed, closed, body, reader_limits}
+use Rattle.resp_read.specs.Grammar.{fits, natural, at_most, at_least, digits_after, reader_limits}
+use Rattle.resp_read.specs.Parser.{read, short, bad, ended, held, unended, broken, Found, found_and_then, found_map, Line, after_return, byte_before, line, LineForm, line_found, line_as, found, count_line, fed, closed, body}
 use Rattle.resp_read.specs.Limits.{default_limits}
 use Rattle.resp_read.proofs.LineLaws.{fits_within}
 use Rattle.canonical_laws.specs.Readable.{has_return, IsLine}

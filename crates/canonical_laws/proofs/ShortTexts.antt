@@ -5,10 +5,11 @@ use Rattle.std.proofs.lemmas.Bool.Decides.{nat_tests}
 use Rattle.std.specs.Prelude.{◌==◌, nat_lt, bytes_eq}
 use Rattle.resp_value.specs.Data.{Data, nil, int, bulk, array, simple, okay, dict, attribute, set, double, boolean, verbatim, big, push, items_of, members_of}
 use Rattle.resp_value.specs.Kinds.{kind_of}
-use Rattle.resp_read.specs.Grammar.{Found, read, short, bad, found_and_then, found_map, line_as, size_line, count_line, is_end, is_double, is_big, number, truth, simple_of, error_of, simple_line, error_line, number_line, null_line, boolean_line, double_line, big_line, no_array_line, max_line, max_bulk, max_count, closed, body, bulk_of, bulk_string, error_body, bulk_error, format, text_of, verbatim_of, verbatim_string, repeated, pair, array_of, array_form, set_of, set_form, map_of, map_form, attributed, attribute_of, attribute_form, kind, push_with, push_of, push_form, Table, plain, nested, innermost, chosen, form, parse, max_depth, reader_limits}
+use Rattle.resp_read.specs.Grammar.{is_end, is_double, is_big, number, truth, simple_of, error_of, max_line, max_bulk, max_count, max_depth, reader_limits}
+use Rattle.resp_read.specs.Parser.{read, short, bad, Found, found_and_then, found_map, line_as, size_line, count_line, simple_line, error_line, number_line, null_line, boolean_line, double_line, big_line, no_array_line, closed, body, bulk_of, bulk_string, error_body, bulk_error, format, text_of, verbatim_of, verbatim_string, repeated, pair, array_of, array_form, set_of, set_form, map_of, map_form, attributed, attribute_of, attribute_form, kind, push_with, push_of, push_form, Table, plain, nested, innermost, chosen, form, parse}
 use Rattle.resp_read.specs.Reads.{Reads}
 use Rattle.resp_read.specs.Limits.{default_limits}
-use Rattle.resp_read.proofs.ReadLaws.{default_allowed}
+use Rattle.resp_read.proofs.ReadLaws.{default_allowed, found_where_reads}
 use Rattle.resp_read.proofs.Laws.{Lawful, Possible, lawful_then, lawful_map, possible_map, possible_then}
 use Rattle.resp_read.proofs.LineLaws.{lawful_line}
 use Rattle.resp_read.proofs.Numbers.{lawful_size}
@@ -210,7 +211,7 @@ parse_short zero = form_short (innermost reader_limits) (no_array_gives, tt)
 parse_short (suc n) = form_short (nested reader_limits (parse n)) (nested_short (parse n) (lawful_parse default_limits default_allowed n) (parse_some n) (parse_short n))
 
 pub short_errors : (bytes : List ℕ) (v : Data) (rest : List ℕ) → length bytes ≤ max_line → Reads bytes v rest → HasShortErrors reader_limits v
-short_errors bytes v rest fit e = was_read (HasShortErrors reader_limits) (parse max_depth bytes) v rest (parse_short max_depth bytes fit) e
+short_errors bytes v rest fit e = was_read (HasShortErrors reader_limits) (parse max_depth bytes) v rest (parse_short max_depth bytes fit) (found_where_reads bytes v rest e)
 
 pub short_text_again : (bytes : List ℕ) (v : Data) (rest more : List ℕ) → length bytes ≤ max_line → Reads bytes v rest → Reads (canonical v ++ more) v more
 short_text_again bytes v rest more fit e = read_again bytes v rest more e (short_errors bytes v rest fit e)

@@ -1,14 +1,16 @@
 -- A packed command is read as the array of its arguments.
-use Rattle.std.proofs.Common.{◌≡◌, ℕ, zero, suc, ◌≤◌, ◌<◌, ◌-◌, lit≤, List, [], ◌∷◌, ◌++◌, length, map, Some, refl, sym, ap, ◌∙◌, append_assoc, arith}
+use Rattle.std.proofs.Common.{◌≡◌, ℕ, zero, suc, ◌≤◌, ◌<◌, ◌-◌, lit≤, List, [], ◌∷◌, ◌++◌, length, map, Option, Some, refl, sym, ap, ◌∙◌, append_assoc, arith}
 use Rattle.std.proofs.lemmas.List.Elements.{All-head, All-tail}
 use Rattle.std.specs.List.{All}
 use Rattle.std.specs.Prelude.{decimal, flat_map}
 use Rattle.resp_value.specs.Data.{Data, bulk, array, items_of, Items, no_items, item}
-use Rattle.resp_read.specs.Grammar.{Found, read, found_and_then, found_map, body, bulk_of, bulk_string as bulk_form, repeated, array_of, array_form, max_depth}
+use Rattle.resp_read.specs.Grammar.{max_depth, value_within}
+use Rattle.resp_read.specs.Parser.{read, Found, found_and_then, found_map, body, bulk_of, bulk_string as bulk_form, repeated, array_of, array_form}
 use Rattle.resp_read.specs.Limits.{bounds, reading, default_limits, AreAllowed}
 use Rattle.resp_read.specs.declared.limits.Limits.{Limits}
 use Rattle.resp_read.specs.Reads.{ReadsWithin, Reads}
 use Rattle.resp_read.proofs.ReadLaws.{default_allowed}
+use Rattle.resp_read.proofs.WithinLaws.{reads_where_found}
 use Rattle.resp_read.proofs.Bodies.{body_is, lawful_body}
 use Rattle.resp_write.specs.Pack.{crlf, sized_text, bulk_string, number_line, pack}
 use Rattle.resp_laws.specs.Commands.{FitsBulkOf, IsWithin, IsWithinLimits, request}
@@ -68,7 +70,7 @@ module _ (limits : Limits) (allowed : AreAllowed limits) where
   pub reads_within : (name rest : List ℕ) (args : List (List ℕ)) → 0 < limits.depth → IsWithin limits (name ∷ args) → ReadsWithin limits (pack (name ∷ args) ++ rest) (request (name ∷ args)) rest
   reads_within name rest args deep h =
       let one_less : limits.depth ≡ suc (limits.depth - 1) = omega (arith, deep) in
-      ap (λ d. reading limits d (pack (name ∷ args) ++ rest)) one_less ∙ command_read (limits.depth - 1) (name ∷ args) rest h
+      reads_where_found limits allowed (pack (name ∷ args) ++ rest) (request (name ∷ args)) rest (ap (λ d. reading limits d (pack (name ∷ args) ++ rest)) one_less ∙ command_read (limits.depth - 1) (name ∷ args) rest h)
 
 -- an array may stand in others
 is_deep : 0 < max_depth
@@ -92,14 +94,14 @@ args_back : (args : List (List ℕ)) → texts_of (items_of (map bulk args)) ≡
 args_back [] = refl
 args_back (a ∷ args) = ap (λ x. a ∷ x) (args_back args)
 
-pub one_found : (v w : Data) (r s : List ℕ) → ◌≡◌ {A = Found Data} (read v r) (read w s) → v ≡ w
-one_found v w r s e = cc
+pub one_found : (v w : Data) (r s : List ℕ) → ◌≡◌ {A = Option (Data × List ℕ)} (Some (v, r)) (Some (w, s)) → v ≡ w
+one_found v w r s e = let same : ◌≡◌ {A = Data × List ℕ} (v, r) (w, s) = cc in ap (λ (x : Data × List ℕ). x.0) same
 
 same_list : (x y : List ℕ) (xs ys : List (List ℕ)) → ◌≡◌ {A = List (List ℕ)} (x ∷ xs) (y ∷ ys) → (x ≡ y) × (xs ≡ ys)
 same_list x y xs ys e = (cc, cc)
 
 pub same_command : (name other : List ℕ) (args others : List (List ℕ)) → IsWithinLimits (name ∷ args) → IsWithinLimits (other ∷ others) → pack (name ∷ args) ≡ pack (other ∷ others) → (name ≡ other) × (args ≡ others)
 same_command name other args others h k e =
-    let both = sym (reads_back name [] args h) ∙ ap (λ x. reading default_limits max_depth (x ++ [])) e ∙ reads_back other [] others k in
+    let both = sym (reads_back name [] args h) ∙ ap (λ x. value_within (bounds default_limits) max_depth (x ++ [])) e ∙ reads_back other [] others k in
     let same = one_found (request (name ∷ args)) (request (other ∷ others)) [] [] both in
     same_list name other args others (sym (args_back (name ∷ args)) ∙ ap args_of same ∙ args_back (other ∷ others))

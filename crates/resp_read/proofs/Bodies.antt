@@ -4,7 +4,8 @@ use Rattle.std.proofs.lemmas.List.{length-replicate, take-append-drop, take-appe
 use Rattle.std.proofs.lemmas.Bool.Decides.{nat_tests}
 use Rattle.std.specs.Prelude.{◌==◌, nat_lt, Option, Some, None}
 use Rattle.resp_value.specs.Data.{nil, bulk, verbatim}
-use Rattle.resp_read.specs.Grammar.{read, short, bad, fed, closed, body, bulk_of, bulk_string, line_as, size_line, count_line, error_of, error_body, bulk_error, some_bytes, colon, format, text_of, verbatim_of, verbatim_string, text_line, bulk_text, kind}
+use Rattle.resp_read.specs.Grammar.{error_of}
+use Rattle.resp_read.specs.Parser.{read, short, bad, fed, closed, body, bulk_of, bulk_string, line_as, size_line, count_line, error_body, bulk_error, some_bytes, colon, format, text_of, verbatim_of, verbatim_string, text_line, bulk_text, kind}
 use Rattle.resp_read.specs.Limits.{bounds, AreAllowed}
 use Rattle.resp_read.specs.declared.limits.Limits.{Limits}
 use Rattle.resp_read.proofs.Laws.{LawfulAt, Lawful, Possible, lawful_where_read, lawful_where_short, lawful_bad, lawful_read, lawful_if, lawful_cons, lawful_nil, lawful_then, lawful_map, possible_map, possible_then}

@@ -4,7 +4,8 @@ use Rattle.std.proofs.lemmas.List.{append-nil}
 use Rattle.std.proofs.lemmas.Bool.Decides.{nat_tests}
 use Rattle.std.specs.Prelude.{◌&&◌, ◌||◌, ◌==◌, nat_le, nat_lt, is_some}
 use Rattle.containers.proofs.Choices.{both_true}
-use Rattle.resp_read.specs.Grammar.{fits, is_digit, digits_after, at_most, natural, at_least, count, made_by, count_begun, count_line}
+use Rattle.resp_read.specs.Grammar.{fits, is_digit, digits_after, at_most, natural, at_least, count}
+use Rattle.resp_read.specs.Parser.{made_by, count_begun, count_line}
 use Rattle.resp_read.specs.Limits.{bounds, AreAllowed}
 use Rattle.resp_read.specs.declared.limits.Limits.{Limits}
 use Rattle.resp_read.proofs.LineLaws.{IsOneLine, LawfulLine, fits_is, fits_within, few_fit}

@@ -4,7 +4,8 @@ use Rattle.std.proofs.lemmas.Bool.Decides.{nat_tests}
 use Rattle.std.proofs.Math.Bool.{or-true, or-false, and-false}
 use Rattle.std.specs.Prelude.{◌==◌, ◌&&◌, ◌||◌, ◌⊎◌, nat_le, nat_eq, bytes_eq}
 use Rattle.resp_value.specs.Data.{double}
-use Rattle.resp_read.specs.Grammar.{fits, is_digit, is_end, unsigned, after_digits, digits_and, is_exponent, is_fraction, is_double, made_by, double_tails, double_line}
+use Rattle.resp_read.specs.Grammar.{fits, is_digit, is_end, unsigned, after_digits, digits_and, is_exponent, is_fraction, is_double}
+use Rattle.resp_read.specs.Parser.{made_by, double_tails, double_line}
 use Rattle.resp_read.specs.Doubles.{digit_to, exponent_to, step, run, missing}
 use Rattle.resp_read.specs.declared.decimals.Seen.{Seen}
 use Rattle.resp_read.specs.declared.decimals.Seen.TheVariants.{Nothing, Minus, Plus, I, In, Inf, N, Na, Nan, Whole, Point, Fraction, Exponent, Sign, Power, Never}

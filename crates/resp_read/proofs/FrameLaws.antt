@@ -5,13 +5,13 @@ use Rattle.std.proofs.lemmas.List.{take_more, take_more_set, take_all, length-se
 use Rattle.resp_value.specs.Data.{Data}
 use Rattle.resp_value.specs.View.{data_of}
 use Rattle.resp_value.specs.declared.value.Value.{Value}
-use Rattle.resp_read.specs.Grammar.{Found, read, short, bad, found_and_then, found_map, repeated, pair}
+use Rattle.resp_read.specs.Parser.{read, short, bad, Found, found_and_then, found_map, repeated, pair}
 use Rattle.resp_read.specs.declared.forms.Refusal.{Refusal}
 use Rattle.resp_read.specs.declared.forms.Refusal.TheVariants.{Short, Bad, NoMemory}
 use Rattle.resp_read.specs.declared.frames.Sequence.{Sequence}
 use Rattle.resp_read.specs.declared.frames.Pairing.{Pairing}
 use Rattle.resp_read.specs.declared.frames.Frame.{Frame}
-use Rattle.resp_read.specs.declared.frames.Frame.TheVariants.{Item, Key}
+use Rattle.resp_read.specs.declared.frames.Frame.TheVariants.{Item, Entry}
 use Rattle.resp_read.specs.declared.frames.Begun.{Begun}
 use Rattle.resp_read.specs.declared.frames.Begun.TheVariants.{Within}
 use Rattle.resp_read.specs.declared.waiting.Looked.{Looked}
@@ -61,12 +61,12 @@ module _ (inside : List ℕ → Found Data) where
   pub pairs_none : (of : Pairing) (found : List (Data × Data)) (bs : List ℕ) → with_pairs inside of found 0 bs ≡ paired inside of found bs
   pairs_none of found bs = ap (λ ps. paired inside of ps bs) (append-nil found)
 
-  pub pairs_more : (of : Pairing) (found : List (Data × Data)) (n : ℕ) (bs : List ℕ) → with_pairs inside of found (suc n) bs ≡ begun_as inside (Within (Key of found n)) bs
+  pub pairs_more : (of : Pairing) (found : List (Data × Data)) (n : ℕ) (bs : List ℕ) → with_pairs inside of found (suc n) bs ≡ begun_as inside (Within (Entry of found None n)) bs
   pairs_more of found n bs =
       let rest_of : Data × Data → List ℕ → Found Data = λ p rest. with_pairs inside of (found ++ p ∷ []) n rest in
       repeated_more (pair inside) (paired inside of) found n bs
       ∙ then_then (λ k rest. found_map (λ v. (k, v)) (inside rest)) rest_of (inside bs)
-      ∙ then_same (λ k rest. found_and_then rest_of (found_map (λ v. (k, v)) (inside rest))) (with_value inside (Key of found n)) (λ k rest. then_then (λ v more. read (k, v) more) rest_of (inside rest)) (inside bs)
+      ∙ then_same (λ k rest. found_and_then rest_of (found_map (λ v. (k, v)) (inside rest))) (with_value inside (Entry of found None n)) (λ k rest. then_then (λ v more. read (k, v) more) rest_of (inside rest)) (inside bs)
 
 -- the head of a form, and what follows it
 module _ {A : Type 0} (head : List ℕ → Found A) (law : Lawful head) (follows : A → List ℕ → Found Data) (inside : List ℕ → Found Data) (b : Begun) where

@@ -9,6 +9,7 @@ pub mod DoubleLaws
 pub mod Bodies
 pub mod Repeats
 pub mod ParseLaws
+pub mod GrammarLaws
 pub mod WithinLaws
 pub mod ReadLaws
 pub mod ValueLaws

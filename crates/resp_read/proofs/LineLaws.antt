@@ -3,7 +3,8 @@ use Rattle.std.proofs.Common.{◌≡◌, ℕ, ◌≤◌, List, [], ◌∷◌, �
 use Rattle.std.proofs.lemmas.List.{append-nil}
 use Rattle.std.proofs.lemmas.Bool.Decides.{nat_tests}
 use Rattle.std.specs.Prelude.{◌==◌}
-use Rattle.resp_read.specs.Grammar.{read, short, bad, Line, ended, held, unended, broken, after_return, byte_before, line, LineForm, fits, line_found, line_as}
+use Rattle.resp_read.specs.Grammar.{fits}
+use Rattle.resp_read.specs.Parser.{read, short, bad, ended, held, unended, broken, Line, after_return, byte_before, line, LineForm, line_found, line_as}
 use Rattle.resp_read.specs.Limits.{bounds, least_line, AreAllowed}
 use Rattle.resp_read.specs.declared.limits.Limits.{Limits}
 use Rattle.resp_read.proofs.FirstLine.{bytes_before, before-ended, before-held, before-unended, before-broken, going_on, line-append}

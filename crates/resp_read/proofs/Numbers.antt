@@ -4,7 +4,8 @@ use Rattle.std.proofs.lemmas.List.{append-nil}
 use Rattle.std.proofs.lemmas.Bool.Decides.{nat_tests}
 use Rattle.std.specs.Prelude.{ℤ, pos, neg_ℤ, nat_le, option_map, ◌==◌, ◌&&◌, ◌||◌, bytes_eq, is_some, ◌⊎◌}
 use Rattle.resp_value.specs.Data.{int}
-use Rattle.resp_read.specs.Grammar.{is_digit, digits_after, at_most, natural, number, number_begun, size, size_begun, simple_of, error_of, simple_line, error_line, number_line, size_line, text_line}
+use Rattle.resp_read.specs.Grammar.{is_digit, digits_after, at_most, natural, number, size, simple_of, error_of}
+use Rattle.resp_read.specs.Parser.{number_begun, size_begun, simple_line, error_line, number_line, size_line, text_line}
 use Rattle.resp_read.specs.Limits.{AreAllowed}
 use Rattle.resp_read.specs.declared.limits.Limits.{Limits}
 use Rattle.resp_read.proofs.Scans.{stays_above}

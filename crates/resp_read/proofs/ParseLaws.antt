@@ -2,7 +2,7 @@
 use Rattle.std.proofs.Common.{◌≡◌, ℕ, zero, suc, ◌<◌, List, [], ◌∷◌, ◌++◌, length, get_or, drop, Bool, true, false, cond, refl, sym, ap, ◌∙◌, subst, arith, length-append}
 use Rattle.std.specs.Prelude.{◌==◌, ◌||◌, Result}
 use Rattle.resp_value.specs.Data.{Data, simple}
-use Rattle.resp_read.specs.Grammar.{Found, read, short, Table, plain, nested, innermost, chosen, form, simple_line, error_line, number_line, null_line, boolean_line, double_line, big_line, no_array_line}
+use Rattle.resp_read.specs.Parser.{read, short, Found, Table, plain, nested, innermost, chosen, form, simple_line, error_line, number_line, null_line, boolean_line, double_line, big_line, no_array_line}
 use Rattle.resp_read.specs.Parts.{has, IsFound}
 use Rattle.resp_read.specs.declared.forms.Refusal.{Refusal}
 use Rattle.resp_read.specs.Limits.{bounds, reading, AreAllowed}

@@ -2,7 +2,8 @@
 use Rattle.std.proofs.Common.{◌≡◌, ℕ, ◌<◌, List, [], ◌++◌, length, lit≤, arith}
 use Rattle.std.specs.Prelude.{◌↔◌}
 use Rattle.resp_value.specs.Data.{Data}
-use Rattle.resp_read.specs.Grammar.{short, bad, parse, max_depth}
+use Rattle.resp_read.specs.Grammar.{max_depth}
+use Rattle.resp_read.specs.Parser.{read, short, bad, parse}
 use Rattle.resp_read.specs.Limits.{default_limits, AreAllowed}
 use Rattle.resp_read.specs.Reads.{Reads, IsProperPrefix, IsMalformed}
 use Rattle.resp_read.proofs.WithinLaws as within
@@ -53,3 +54,9 @@ short-prefix = within.short-prefix default_limits default_allowed
 
 pub bad-malformed : (bs : List ℕ) → (parse max_depth bs ≡ bad) ↔ IsMalformed bs
 bad-malformed = within.bad-malformed default_limits default_allowed
+
+pub reads_where_found : (bs : List ℕ) (v : Data) (rest : List ℕ) → parse max_depth bs ≡ read v rest → Reads bs v rest
+reads_where_found = within.reads_where_found default_limits default_allowed
+
+pub found_where_reads : (bs : List ℕ) (v : Data) (rest : List ℕ) → Reads bs v rest → parse max_depth bs ≡ read v rest
+found_where_reads = within.found_where_reads default_limits default_allowed

@@ -2,7 +2,7 @@
 use Rattle.std.proofs.Common.{arith, ℕ, zero, suc, ◌-◌, List, [], ◌∷◌, Option, Some, None, lit≤, refl}
 use Rattle.resp_value.specs.Data.{Data, nil, array, set, dict, attribute, push, items_of, members_of}
 use Rattle.resp_value.specs.Kinds.{kind_of}
-use Rattle.resp_read.specs.Grammar.{Found, found_map, line_as, size_line, count_line, repeated, pair, array_of, array_form, set_of, set_form, map_of, map_form, attributed, attribute_of, attribute_form, kind, push_with, push_of, push_form}
+use Rattle.resp_read.specs.Parser.{Found, found_map, line_as, size_line, count_line, repeated, pair, array_of, array_form, set_of, set_form, map_of, map_form, attributed, attribute_of, attribute_form, kind, push_with, push_of, push_form}
 use Rattle.resp_read.specs.Limits.{bounds, AreAllowed}
 use Rattle.resp_read.specs.declared.limits.Limits.{Limits}
 use Rattle.resp_read.proofs.Laws.{Lawful, Possible, lawful_read, lawful_then, lawful_map, possible_map, possible_then}

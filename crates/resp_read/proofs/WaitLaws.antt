@@ -4,7 +4,8 @@ use Rattle.std.proofs.lemmas.List.{take-append-drop, take-append-le, drop-append
 use Rattle.std.proofs.lemmas.Bool.Decides.{nat_tests}
 use Rattle.std.specs.Prelude.{◌==◌, ◌||◌, is_some}
 use Rattle.memchr.specs.Find.{Nowhere, Passes, is_byte}
-use Rattle.resp_read.specs.Grammar.{short, unended, after_return, byte_before, line, LineForm, line_found, line_as, simple_line, error_line, number_line, double_line, big_line, number_begun, big_begun, number, is_double, made_by, double_tails}
+use Rattle.resp_read.specs.Grammar.{number, is_double}
+use Rattle.resp_read.specs.Parser.{short, unended, after_return, byte_before, line, LineForm, line_found, line_as, simple_line, error_line, number_line, double_line, big_line, number_begun, big_begun, made_by, double_tails}
 use Rattle.resp_read.specs.Limits.{bounds, reading}
 use Rattle.resp_read.specs.declared.limits.Limits.{Limits}
 use Rattle.resp_read.specs.Digits.{digits_run, AreKept, is_bare, are_digits, number_in}

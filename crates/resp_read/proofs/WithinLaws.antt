@@ -2,16 +2,24 @@
 use Rattle.std.proofs.Common.{◌≡◌, ℕ, ◌<◌, List, [], ◌++◌, length, refl}
 use Rattle.std.specs.Prelude.{◌↔◌}
 use Rattle.resp_value.specs.Data.{Data}
-use Rattle.resp_read.specs.Grammar.{Found, read, short, bad}
-use Rattle.resp_read.specs.Limits.{reading, AreAllowed}
+use Rattle.resp_read.specs.Parser.{read, short, bad, Found}
+use Rattle.resp_read.specs.Limits.{bounds, reading, AreAllowed}
 use Rattle.resp_read.specs.Reads.{ReadsWithin, IsProperPrefixWithin, IsMalformedWithin}
 use Rattle.resp_read.specs.declared.limits.Limits.{Limits}
+use Rattle.resp_read.proofs.GrammarLaws.{read_where_found, found_where_read}
 use Rattle.resp_read.proofs.ParseLaws.{lawful_parse, takes_a_byte}
 
 module _ (limits : Limits) (allowed : AreAllowed limits) where
+  -- the grammar reads what the parser finds
+  pub reads_where_found : (bs : List ℕ) (v : Data) (rest : List ℕ) → reading limits limits.depth bs ≡ read v rest → ReadsWithin limits bs v rest
+  reads_where_found bs v rest e = read_where_found (bounds limits) limits.depth bs v rest e
+
+  pub found_where_reads : (bs : List ℕ) (v : Data) (rest : List ℕ) → ReadsWithin limits bs v rest → reading limits limits.depth bs ≡ read v rest
+  found_where_reads bs v rest e = found_where_read (bounds limits) limits.depth bs v rest e
+
   -- a value stays when bytes follow
   pub reads-append : (bs m : List ℕ) (v : Data) (rest : List ℕ) → ReadsWithin limits bs v rest → ReadsWithin limits (bs ++ m) v (rest ++ m)
-  reads-append bs m v rest e = (lawful_parse limits allowed limits.depth bs).grows m v rest e
+  reads-append bs m v rest e = reads_where_found (bs ++ m) v (rest ++ m) ((lawful_parse limits allowed limits.depth bs).grows m v rest (found_where_reads bs v rest e))
 
   -- what is bad stays bad
   pub bad-append : (bs m : List ℕ) → reading limits limits.depth bs ≡ bad → reading limits limits.depth (bs ++ m) ≡ bad
@@ -19,28 +27,28 @@ module _ (limits : Limits) (allowed : AreAllowed limits) where
 
   -- some bytes make a short text one value
   pub short-completes : (bs : List ℕ) → reading limits limits.depth bs ≡ short → (m : List ℕ) × (v : Data) × ReadsWithin limits (bs ++ m) v []
-  short-completes bs e = (lawful_parse limits allowed limits.depth bs).completes e
+  short-completes bs e = let c = (lawful_parse limits allowed limits.depth bs).completes e in (c.0, c.1, reads_where_found (bs ++ c.0) c.1 [] c.2)
 
   -- what is left is the end of the text
   pub reads-ends : (bs : List ℕ) (v : Data) (rest : List ℕ) → ReadsWithin limits bs v rest → (p : List ℕ) × (bs ≡ p ++ rest)
-  reads-ends bs v rest e = (lawful_parse limits allowed limits.depth bs).ends v rest e
+  reads-ends bs v rest e = (lawful_parse limits allowed limits.depth bs).ends v rest (found_where_reads bs v rest e)
 
   -- and shorter than it
   pub reads-shorter : (bs : List ℕ) (v : Data) (rest : List ℕ) → ReadsWithin limits bs v rest → length rest < length bs
-  reads-shorter bs v rest e = takes_a_byte limits allowed limits.depth bs v rest e
+  reads-shorter bs v rest e = takes_a_byte limits allowed limits.depth bs v rest (found_where_reads bs v rest e)
 
   -- two readings of one text are one
   pub reads-one : (bs : List ℕ) (v w : Data) (r s : List ℕ) → ReadsWithin limits bs v r → ReadsWithin limits bs w s → (v ≡ w) × (r ≡ s)
-  reads-one bs v w r s e f = (cc, cc)
+  reads-one bs v w r s e f = let a = found_where_reads bs v r e in let b = found_where_reads bs w s f in (cc, cc)
 
   pub prefix_from_short : (bs : List ℕ) → reading limits limits.depth bs ≡ short → IsProperPrefixWithin limits bs
-  prefix_from_short bs e = let c = short-completes bs e in ((c.0, c.1, [], c.2), λ v rest f. cc)
+  prefix_from_short bs e = let c = short-completes bs e in ((c.0, c.1, [], c.2), λ v rest f. let g = found_where_reads bs v rest f in cc)
 
   pub malformed_from_bad : (bs : List ℕ) → reading limits limits.depth bs ≡ bad → IsMalformedWithin limits bs
-  malformed_from_bad bs e = λ m v rest f. let g = bad-append bs m e in cc
+  malformed_from_bad bs e = λ m v rest f. let g = bad-append bs m e in let h = found_where_reads (bs ++ m) v rest f in cc
 
   short_by : (bs : List ℕ) (x : Found Data) → reading limits limits.depth bs ≡ x → IsProperPrefixWithin limits bs → x ≡ short
-  short_by bs (read v rest) is h = absurd (h.1 v rest is)
+  short_by bs (read v rest) is h = absurd (h.1 v rest (reads_where_found bs v rest is))
   short_by bs short is h = refl
   short_by bs bad is h = absurd (malformed_from_bad bs is h.0.0 h.0.1 h.0.2 h.0.3)
 
@@ -48,7 +56,7 @@ module _ (limits : Limits) (allowed : AreAllowed limits) where
   short_from_prefix bs h = short_by bs (reading limits limits.depth bs) refl h
 
   bad_by : (bs : List ℕ) (x : Found Data) → reading limits limits.depth bs ≡ x → IsMalformedWithin limits bs → x ≡ bad
-  bad_by bs (read v rest) is h = absurd (h [] v (rest ++ []) (reads-append bs [] v rest is))
+  bad_by bs (read v rest) is h = absurd (h [] v (rest ++ []) (reads-append bs [] v rest (reads_where_found bs v rest is)))
   bad_by bs short is h = let c = short-completes bs is in absurd (h c.0 c.1 [] c.2)
   bad_by bs bad is h = refl
 

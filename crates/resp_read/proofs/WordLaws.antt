@@ -4,7 +4,8 @@ use Rattle.std.proofs.lemmas.Bool.Decides.{nat_tests}
 use Rattle.std.proofs.Math.Bool.{and-false}
 use Rattle.std.specs.Prelude.{◌==◌, ◌&&◌, ◌||◌, bytes_eq, is_some, option_map}
 use Rattle.resp_value.specs.Data.{Data, nil, boolean, big}
-use Rattle.resp_read.specs.Grammar.{is_digit, truth, is_end, no_array_begun, unsigned, after_digits, digits_and, is_big, big_begun, null_line, boolean_line, big_line, no_array_line}
+use Rattle.resp_read.specs.Grammar.{is_digit, truth, is_end, unsigned, after_digits, digits_and, is_big}
+use Rattle.resp_read.specs.Parser.{no_array_begun, big_begun, null_line, boolean_line, big_line, no_array_line}
 use Rattle.resp_read.specs.Limits.{AreAllowed}
 use Rattle.resp_read.specs.declared.limits.Limits.{Limits}
 use Rattle.resp_read.proofs.LineLaws.{LawfulLine, few_fit}

@@ -10,7 +10,7 @@ use Rattle.resp_read.specs.declared.frames.Sequence.TheVariants.{Array, Set, Pus
 use Rattle.resp_read.specs.declared.frames.Pairing.{Pairing}
 use Rattle.resp_read.specs.declared.frames.Pairing.TheVariants.{Map, Attributes}
 use Rattle.resp_read.specs.declared.frames.Frame.{Frame}
-use Rattle.resp_read.specs.declared.frames.Frame.TheVariants.{Item, Key, Entry, Attributed}
+use Rattle.resp_read.specs.declared.frames.Frame.TheVariants.{Item, Entry, Attributed}
 use Rattle.resp_read.specs.declared.frames.Begun.{Begun}
 use Rattle.resp_read.specs.declared.frames.Begun.TheVariants.{Whole, Within}
 use Rattle.resp_read.specs.declared.limits.Limits.{Limits}
@@ -18,7 +18,7 @@ use Rattle.resp_read.specs.declared.waiting.Looked.{Looked}
 use Rattle.resp_read.specs.declared.reader.Health.{Health}
 use Rattle.resp_read.specs.declared.reader.Health.TheVariants.{Sound}
 use Rattle.resp_read.specs.Waiting.{IsLooked}
-use Rattle.resp_read.specs.Grammar.{Found, read, short, bad, found_and_then, found_map, repeated, pair, attributed}
+use Rattle.resp_read.specs.Parser.{read, short, bad, Found, found_and_then, found_map, repeated, pair, attributed}
 use Rattle.resp_read.specs.Limits.{reading, AreAllowed}
 
 -- what these values make
@@ -43,8 +43,8 @@ with_pairs inside of found n bs = found_and_then (λ ps. paired inside of (found
 -- what an aggregate is, where the value that it waits for is v, and these bytes follow
 abbrev pub with_value : (List ℕ → Found Data) → Frame → Data → List ℕ → Found Data
 with_value inside (Item of found more) v bs = with_values inside of (found ++ v ∷ []) more bs
-with_value inside (Key of found more) k bs = found_and_then (λ v rest. with_pairs inside of (found ++ (k, v) ∷ []) more rest) (inside bs)
-with_value inside (Entry of found k more) v bs = with_pairs inside of (found ++ (data_of k, v) ∷ []) more bs
+with_value inside (Entry of found None more) k bs = found_and_then (λ v rest. with_pairs inside of (found ++ (k, v) ∷ []) more rest) (inside bs)
+with_value inside (Entry of found (Some k) more) v bs = with_pairs inside of (found ++ (data_of k, v) ∷ []) more bs
 with_value inside (Attributed ps) v bs = read (attribute v (members_of ps)) bs
 
 -- what was begun is, where these bytes follow

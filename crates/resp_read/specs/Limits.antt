@@ -1,7 +1,8 @@
 -- What a reader takes at most.
 use Rattle.std.specs.Prelude.{ℕ, ◌≤◌, nat_lt, List, Some, if◌then◌else◌}
 use Rattle.resp_value.specs.Data.{Data}
-use Rattle.resp_read.specs.Grammar.{Found, Limits as GrammarLimits, max_line, max_bulk, max_count, max_depth, parse_within}
+use Rattle.resp_read.specs.Grammar.{Limits as GrammarLimits, max_line, max_bulk, max_count, max_depth}
+use Rattle.resp_read.specs.Parser.{Found, parse_within}
 use Rattle.resp_read.specs.declared.limits.Limits.{Limits}
 
 -- the limits of the grammar that a reader's limits are

@@ -1,7 +1,8 @@
 -- What the parts of the reader answer.
 use Rattle.std.specs.Prelude.{◌≡◌, ℕ, ◌+◌, ◌≤◌, Bool, false, ◌||◌, ◌==◌, List, [], ◌∷◌, length, take, drop, Result, Ok, Err}
 use Rattle.resp_value.specs.Data.{Data}
-use Rattle.resp_read.specs.Grammar.{Found, read, short, bad, Line, ended, held, unended, broken, LineForm, simple_line, error_line, number_line, null_line, boolean_line, double_line, big_line, no_array_line, Limits, Table}
+use Rattle.resp_read.specs.Grammar.{Limits}
+use Rattle.resp_read.specs.Parser.{read, short, bad, ended, held, unended, broken, Found, Line, LineForm, simple_line, error_line, number_line, null_line, boolean_line, double_line, big_line, no_array_line, Table}
 use Rattle.resp_read.specs.declared.lines.LineEnd.{LineEnd}
 use Rattle.resp_read.specs.declared.lines.LineEnd.TheVariants.{Ended, Held, Unended, Broken}
 use Rattle.resp_read.specs.declared.forms.OneLine.{OneLine}

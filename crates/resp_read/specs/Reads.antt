@@ -1,13 +1,13 @@
 -- When a text begins with a value, when more bytes are wanted, and when none can help.
-use Rattle.std.specs.Prelude.{◌≡◌, ℕ, List, ◌++◌}
+use Rattle.std.specs.Prelude.{◌≡◌, ℕ, List, ◌++◌, Some}
 use Rattle.resp_value.specs.Data.{Data}
-use Rattle.resp_read.specs.Grammar.{read}
-use Rattle.resp_read.specs.Limits.{reading, default_limits}
+use Rattle.resp_read.specs.Grammar.{value_within}
+use Rattle.resp_read.specs.Limits.{bounds, default_limits}
 use Rattle.resp_read.specs.declared.limits.Limits.{Limits}
 
--- within these limits the text begins with that value, and this is left after it
+-- within these limits the grammar reads that value at the front of the text, and leaves this
 abbrev pub ReadsWithin : Limits → List ℕ → Data → List ℕ → Type 0
-ReadsWithin limits bytes v rest = reading limits limits.depth bytes ≡ read v rest
+ReadsWithin limits bytes v rest = value_within (bounds limits) limits.depth bytes ≡ Some (v, rest)
 
 -- some continuation begins with a value, and the text itself with none
 abbrev pub IsProperPrefixWithin : Limits → List ℕ → Type 0

@@ -1,7 +1,8 @@
 ghost use Rattle.std.specs.Prelude.{◌≡◌, ◌≤◌, ◌*◌, length, IfOk, IfSome, option_map, is_some, Some, None, if◌then◌else◌};
 ghost use Rattle.resp_value.specs.Data.{nil};
 ghost use Rattle.resp_value.specs.View.{data_of};
-ghost use Rattle.resp_read.specs.Grammar.{simple_of, error_of, double_line, big_line, line_as, size_line, count_line, body, bulk_string, bulk_error, format, verbatim_string, text_line, bulk_text, kind, chosen, plain, innermost, max_bulk, no_limits};
+ghost use Rattle.resp_read.specs.Grammar.{simple_of, error_of, max_bulk, no_limits};
+ghost use Rattle.resp_read.specs.Parser.{double_line, big_line, line_as, size_line, count_line, body, bulk_string, bulk_error, format, verbatim_string, text_line, bulk_text, kind, chosen, plain, innermost};
 ghost use Rattle.resp_read.specs.Grammar.{Limits as GrammarLimits};
 ghost use Rattle.resp_read.specs.Limits.{bounds, AreAllowed};
 ghost use Rattle.resp_read.specs.Parts.{line_form, has, IsFound};

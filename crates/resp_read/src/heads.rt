@@ -1,6 +1,6 @@
 ghost use Rattle.std.specs.Prelude.{◌≡◌, ◌<◌, ◌-◌, ℕ, List, length, IfOk};
 ghost use Rattle.resp_value.specs.Data.{Data};
-ghost use Rattle.resp_read.specs.Grammar.{Found, chosen, nested, array_form, set_form, map_form, push_form, attribute_form};
+ghost use Rattle.resp_read.specs.Parser.{Found, chosen, nested, array_form, set_form, map_form, push_form, attribute_form};
 ghost use Rattle.resp_read.specs.Limits.{bounds, reading, AreAllowed};
 ghost use Rattle.resp_read.specs.Frames.{Begins, whole_of};
 

@@ -1,5 +1,6 @@
 ghost use Rattle.std.specs.Prelude.{◌≡◌, ◌≤◌, ◌∷◌, ℕ, length, take, IfSome, IsTrue};
-ghost use Rattle.resp_read.specs.Grammar.{short, unended, line, number_begun, big_begun, is_double, made_by, double_tails};
+ghost use Rattle.resp_read.specs.Grammar.{is_double};
+ghost use Rattle.resp_read.specs.Parser.{short, unended, line, number_begun, big_begun, made_by, double_tails};
 ghost use Rattle.resp_read.specs.Limits.{reading};
 ghost use Rattle.resp_read.specs.Digits.{digits_run, AreKept};
 ghost use Rattle.resp_read.specs.Doubles.{run};

@@ -1,6 +1,6 @@
 use Rattle.std.proofs.Common.{Some, None, refl, sym, ap, ◌∙◌}
 use Rattle.resp_value.specs.declared.value.Value.TheVariants.{Nil}
-use Rattle.resp_read.specs.Grammar.{read, line_as, size_line, array_of}
+use Rattle.resp_read.specs.Parser.{read, line_as, size_line, array_of}
 use Rattle.resp_read.specs.declared.frames.Sequence.TheVariants.{Array}
 use Rattle.resp_read.specs.declared.frames.Begun.TheVariants.{Whole}
 use Rattle.resp_read.specs.Frames.{with_values}

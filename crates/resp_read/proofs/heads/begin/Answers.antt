@@ -1,7 +1,7 @@
 use Rattle.std.proofs.Common.{◌≡◌, suc, ◌-◌, ◌<◌, ◌∷◌, length, get_or, take, drop, IfOk, refl, sym, ap, ◌∙◌, subst, arith, length-drop}
 use Rattle.std.proofs.lemmas.List.{take_rest}
 use Rattle.resp_value.specs.View.{data_of}
-use Rattle.resp_read.specs.Grammar.{chosen, nested}
+use Rattle.resp_read.specs.Parser.{chosen, nested}
 use Rattle.resp_read.specs.Frames.{Begins}
 use Rattle.resp_read.specs.Limits.{bounds, reading}
 use Rattle.resp_read.proofs.ParseLaws.{lawful_parse, form_more, at_plain, at_innermost}

@@ -1,5 +1,5 @@
 use Rattle.std.proofs.Common.{ℕ, sym, subst}
-use Rattle.resp_read.specs.Grammar.{chosen, nested}
+use Rattle.resp_read.specs.Parser.{chosen, nested}
 use Rattle.resp_read.specs.Frames.{Begins}
 use Rattle.resp_read.specs.Limits.{bounds}
 use Rattle.resp_read.proofs.heads.begin_nested.Goals as goal

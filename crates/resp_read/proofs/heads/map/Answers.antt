@@ -1,5 +1,5 @@
 use Rattle.std.proofs.Common.{arith, Some, lit≤, sym, ap, ◌∙◌}
-use Rattle.resp_read.specs.Grammar.{line_as, count_line, map_of}
+use Rattle.resp_read.specs.Parser.{line_as, count_line, map_of}
 use Rattle.resp_read.specs.declared.frames.Pairing.TheVariants.{Map}
 use Rattle.resp_read.specs.Frames.{with_pairs}
 use Rattle.resp_read.specs.Limits.{bounds}

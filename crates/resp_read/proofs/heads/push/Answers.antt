@@ -1,5 +1,5 @@
 use Rattle.std.proofs.Common.{arith, Some, ◌-◌, lit≤, sym, ◌∙◌}
-use Rattle.resp_read.specs.Grammar.{line_as, count_line, kind, push_of, push_with}
+use Rattle.resp_read.specs.Parser.{line_as, count_line, kind, push_of, push_with}
 use Rattle.resp_read.specs.declared.frames.Sequence.TheVariants.{Push}
 use Rattle.resp_read.specs.Frames.{with_values}
 use Rattle.resp_read.specs.Limits.{bounds}

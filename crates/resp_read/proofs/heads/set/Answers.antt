@@ -1,5 +1,5 @@
 use Rattle.std.proofs.Common.{arith, Some, lit≤, sym, ap, ◌∙◌}
-use Rattle.resp_read.specs.Grammar.{line_as, count_line, set_of}
+use Rattle.resp_read.specs.Parser.{line_as, count_line, set_of}
 use Rattle.resp_read.specs.declared.frames.Sequence.TheVariants.{Set}
 use Rattle.resp_read.specs.Frames.{with_values}
 use Rattle.resp_read.specs.Limits.{bounds}

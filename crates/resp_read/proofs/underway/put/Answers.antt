@@ -2,7 +2,7 @@ use Rattle.std.proofs.Common.{◌≡◌, ℕ, suc, ◌-◌, List, length, take, 
 use Rattle.std.specs.declared.alloc.AllocError.{AllocError}
 use Rattle.resp_value.specs.View.{data_of}
 use Rattle.resp_value.specs.declared.value.Value.{Value}
-use Rattle.resp_read.specs.Grammar.{read}
+use Rattle.resp_read.specs.Parser.{read}
 use Rattle.resp_read.specs.declared.frames.Frame.{Frame}
 use Rattle.resp_read.specs.declared.frames.Begun.TheVariants.{Whole, Within}
 use Rattle.resp_read.specs.Frames.{begun_as, within, resumed, IsPutInPlace}

@@ -1,6 +1,6 @@
 use Rattle.std.proofs.Common.{◌≡◌, ℕ, List, vec_len}
 use Rattle.resp_value.specs.View.{data_of}
-use Rattle.resp_read.specs.Grammar.{read}
+use Rattle.resp_read.specs.Parser.{read}
 use Rattle.resp_read.specs.Frames.{within}
 use Rattle.resp_read.specs.declared.limits.Limits.{Limits}
 use Rattle.resp_read.proofs.underway.put.Given as goal

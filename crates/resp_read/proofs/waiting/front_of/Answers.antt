@@ -1,6 +1,6 @@
 use Rattle.std.proofs.Common.{◌≡◌, ℕ, ◌∷◌, sym, ap, ◌∙◌, subst, refl}
 use Rattle.std.specs.Prelude.{◌||◌, is_some}
-use Rattle.resp_read.specs.Grammar.{short}
+use Rattle.resp_read.specs.Parser.{short}
 use Rattle.resp_read.specs.Digits.{is_bare, are_digits, number_in}
 use Rattle.resp_read.specs.Limits.{reading}
 use Rattle.resp_read.proofs.WaitLaws.{simple_waits, error_waits, number_waits, big_waits, double_waits}

@@ -1,11 +1,12 @@
 use Rattle.std.proofs.Common.{◌≡◌, ℕ, ◌-◌, List, length, take, drop, inr, sym, ap, ◌∙◌, subst}
 use Rattle.std.proofs.lemmas.List.{take_rest}
 use Rattle.resp_value.specs.View.{data_of}
-use Rattle.resp_read.specs.Grammar.{read}
+use Rattle.resp_read.specs.Parser.{read}
 use Rattle.resp_read.specs.State.{ReaderState}
 use Rattle.resp_read.specs.Frames.{IsUnderway}
 use Rattle.resp_read.specs.declared.reader.Health.TheVariants.{Sound, Malformed}
-use Rattle.resp_read.specs.Limits.{reading, AreAllowed}
+use Rattle.resp_read.specs.Limits.{bounds, reading, AreAllowed}
+use Rattle.resp_read.proofs.GrammarLaws.{read_where_found}
 use Rattle.resp_read.proofs.WithinLaws.{prefix_from_short, malformed_from_bad}
 use Rattle.resp_read.proofs.WaitLaws.{known_at_nothing}
 use Rattle.resp_read.proofs.FrameLaws.{given, waits, spoiled, underway_still}
@@ -20,10 +21,12 @@ returns-in-Ok-clause-found c =
     let r = c.self.inside in
     let left = c.read_on.new.input.left.now in
     let v = data_of c.in-Ok.value in
+    read_where_found (bounds c.args.self.now.limits) c.args.self.now.limits.depth c.args.self.now.rest v _ (
     ap (λ (p : ReaderState). reading p.limits p.limits.depth p.rest) (sym c.self.view_is)
     ∙ given r.limits r.bytes r.at r.next r.frames.items r.looked r.health c.self.invariant (ap (λ (p : ReaderState). p.health) c.self.view_is ∙ c.requires) _ (text_is c.as_slice.result.now r.bytes r.next c.as_slice.ensures) c.read_on.new.frames.items left c.in-Ok.value c.in-Ok.ensures
     ∙ ap (λ n. read v (drop (n - length left) r.bytes)) (sym c.len.ensures)
     ∙ ap (λ (p : ReaderState). read v p.rest) (sym c.give_room_back.ensures)
+    )
 
 pub returns-in-Ok-clause-value : goal.returns-in-Ok-clause-value
 returns-in-Ok-clause-value c =
