@@ -20,7 +20,8 @@ pub fn a_canonical_text_is_read_back()
     ensures reads { (v : Data) (rest : List ℕ) → IsReadable reader_limits max_depth v
         → Reads (canonical v ++ rest) v rest }
     ensures within { (limits : Limits) (v : Data) (rest : List ℕ) → AreAllowed limits
-        → IsReadable (bounds limits) limits.depth v → ReadsWithin limits (canonical v ++ rest) v rest }
+        → IsReadable (bounds limits) limits.depth v
+        → ReadsWithin limits (canonical v ++ rest) v rest }
     ensures no_other { (v : Data) (rest left : List ℕ) → Reads (canonical v ++ rest) v left
         → IsReadable reader_limits max_depth v }
 {}

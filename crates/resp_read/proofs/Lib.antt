@@ -17,3 +17,4 @@ pub mod ItemLaws
 pub mod FrameLaws
 pub mod DigitLaws
 pub mod WaitLaws
+pub mod AskedLaws

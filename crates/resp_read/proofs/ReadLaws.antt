@@ -34,9 +34,6 @@ reads-ends = within.reads-ends default_limits default_allowed
 pub reads-shorter : (bs : List ℕ) (v : Data) (rest : List ℕ) → Reads bs v rest → length rest < length bs
 reads-shorter = within.reads-shorter default_limits default_allowed
 
-pub reads-one : (bs : List ℕ) (v w : Data) (r s : List ℕ) → Reads bs v r → Reads bs w s → (v ≡ w) × (r ≡ s)
-reads-one = within.reads-one default_limits default_allowed
-
 pub prefix_from_short : (bs : List ℕ) → parse max_depth bs ≡ short → IsProperPrefix bs
 prefix_from_short = within.prefix_from_short default_limits default_allowed
 

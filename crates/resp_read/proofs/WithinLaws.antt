@@ -37,10 +37,6 @@ module _ (limits : Limits) (allowed : AreAllowed limits) where
   pub reads-shorter : (bs : List ℕ) (v : Data) (rest : List ℕ) → ReadsWithin limits bs v rest → length rest < length bs
   reads-shorter bs v rest e = takes_a_byte limits allowed limits.depth bs v rest (found_where_reads bs v rest e)
 
-  -- two readings of one text are one
-  pub reads-one : (bs : List ℕ) (v w : Data) (r s : List ℕ) → ReadsWithin limits bs v r → ReadsWithin limits bs w s → (v ≡ w) × (r ≡ s)
-  reads-one bs v w r s e f = let a = found_where_reads bs v r e in let b = found_where_reads bs w s f in (cc, cc)
-
   pub prefix_from_short : (bs : List ℕ) → reading limits limits.depth bs ≡ short → IsProperPrefixWithin limits bs
   prefix_from_short bs e = let c = short-completes bs e in ((c.0, c.1, [], c.2), λ v rest f. let g = found_where_reads bs v rest f in cc)
 

@@ -17,14 +17,15 @@ reading limits = parse_within (bounds limits)
 abbrev pub default_limits : Limits
 default_limits = record { line = max_line; bulk = max_bulk; count = max_count; depth = max_depth }
 
--- the least limits: the line of each number and length, each kind of a push that has a name, and each format of a text
--- are within them
+-- the least limit of a line: the line of each number of 64 bits and of each length is within it
 abbrev pub least_line : ℕ
 least_line = 32
 
+-- the least limit of a bulk string: the format of a verbatim string and each kind of a push that has a name are within it
 abbrev pub least_bulk : ℕ
 least_bulk = 64
 
+-- the least limit of an aggregate: the parts of each push that the protocol names are within it
 abbrev pub least_count : ℕ
 least_count = 16
 

@@ -2,10 +2,11 @@ ghost use Rattle.std.specs.Prelude.{◌≡◌, ◌≤◌, ◌*◌, length, IfOk,
 ghost use Rattle.resp_value.specs.Data.{nil};
 ghost use Rattle.resp_value.specs.View.{data_of};
 ghost use Rattle.resp_read.specs.Grammar.{simple_of, error_of, max_bulk, no_limits};
-ghost use Rattle.resp_read.specs.Parser.{double_line, big_line, line_as, size_line, count_line, body, bulk_string, bulk_error, format, verbatim_string, text_line, bulk_text, kind, chosen, plain, innermost};
+ghost use Rattle.resp_read.specs.Parser.{line, double_line, big_line, line_as, size_line, count_line, body, bulk_string, bulk_error, format, verbatim_string, text_line, bulk_text, kind, chosen, plain, innermost};
 ghost use Rattle.resp_read.specs.Grammar.{Limits as GrammarLimits};
 ghost use Rattle.resp_read.specs.Limits.{bounds, AreAllowed};
-ghost use Rattle.resp_read.specs.Parts.{line_form, has, IsFound};
+ghost use Rattle.resp_read.specs.Parts.{line_form, AreLengths, is_asked, begins_asked, front_line, has, IsFound};
+ghost use Rattle.resp_read.specs.Digits.{greatest};
 
 use crate::limits::Limits;
 use crate::lines::LineEnd;
@@ -102,7 +103,8 @@ fn big(alloc: Global, line: &[u8]) -> Result<Option<Value>, AllocError>
 
 /// What a whole line stands for.
 fn value_of_line(alloc: Global, form: OneLine, line: &[u8]) -> Result<Option<Value>, AllocError>
-    ensures { IfOk result (λ v. (most : GrammarLimits) → option_map data_of v ≡ (line_form most form).whole line.now) }
+    ensures { IfOk result (λ v. (most : GrammarLimits)
+        → option_map data_of v ≡ (line_form most form).whole line.now) }
 {
     match form {
         OneLine::Simple => Ok(Some(simple(alloc, line)?)),
@@ -122,7 +124,19 @@ fn value_of_line(alloc: Global, form: OneLine, line: &[u8]) -> Result<Option<Val
     }
 }
 
-fn is_whole(form: OneLine, line: &[u8]) -> bool
+/// What the line at the front is to be.
+#[derive(Clone, Copy)]
+enum Asked {
+    /// A value.
+    Value(OneLine),
+    /// A length that is at most this, or `-1`.
+    Size(u64),
+    /// A length between these two.
+    Count(u64, u64),
+    Text,
+}
+
+fn stands_for_value(form: OneLine, line: &[u8]) -> bool
     ensures { (most : GrammarLimits) → result ≡ is_some ((line_form most form).whole line.now) }
 {
     match form {
@@ -137,7 +151,7 @@ fn is_whole(form: OneLine, line: &[u8]) -> bool
     }
 }
 
-fn is_begun(limits: Limits, form: OneLine, front: &[u8]) -> bool
+fn begins_value(limits: Limits, form: OneLine, front: &[u8]) -> bool
     ensures { result ≡ (line_form (bounds limits) form).begun front.now }
 {
     match form {
@@ -152,132 +166,129 @@ fn is_begun(limits: Limits, form: OneLine, front: &[u8]) -> bool
     }
 }
 
+impl Asked {
+    /// Whether a line is that.
+    fn is_whole(self, line: &[u8]) -> bool
+        requires { AreLengths self }
+        ensures { result ≡ is_asked self line.now }
+    {
+        match self {
+            Asked::Value(form) => stands_for_value(form, line),
+            Asked::Size(most) => lines::read_size(most, line).is_some(),
+            Asked::Count(least, most) => lines::read_count(least, most, line).is_some(),
+            Asked::Text => true,
+        }
+    }
+
+    /// Whether a line that starts so can become that.
+    fn is_begun(self, limits: Limits, front: &[u8]) -> bool
+        requires allowed { AreAllowed limits }
+        requires lengths { AreLengths self }
+        ensures { result ≡ begins_asked (bounds limits) self front.now }
+    {
+        match self {
+            Asked::Value(form) => begins_value(limits, form, front),
+            Asked::Size(most) => lines::is_size_begun(most, front),
+            Asked::Count(least, most) => lines::is_count_begun(limits, least, most, front),
+            Asked::Text => true,
+        }
+    }
+}
+
+/// The line at the front within the limit, where it is whole; or whether more bytes can make it what is asked for.
+fn next_line<'a>(limits: Limits, asked: Asked, input: &mut Input<'a>) -> Result<&'a [u8], Refusal>
+    requires allowed { AreAllowed limits }
+    requires lengths { AreLengths asked }
+    ensures { IsFound (λ l. l.now)
+        (front_line (bounds limits) asked (line input.old.left.now)) result input.new.left.now }
+{
+    let left = input.left;
+    match lines::find_line(left) {
+        LineEnd::Ended(n) => {
+            if !lines::is_within(limits, &left[..n]) {
+                return Err(Refusal::Bad);
+            }
+            input.left = &left[n + 2..];
+            Ok(&left[..n])
+        }
+        LineEnd::Held(n) => {
+            if lines::is_within(limits, &left[..n]) && asked.is_whole(&left[..n]) {
+                Err(Refusal::Short)
+            } else {
+                Err(Refusal::Bad)
+            }
+        }
+        LineEnd::Unended => {
+            if lines::is_within(limits, left) && asked.is_begun(limits, left) {
+                Err(Refusal::Short)
+            } else {
+                Err(Refusal::Bad)
+            }
+        }
+        LineEnd::Broken => Err(Refusal::Bad),
+    }
+}
+
 fn line_value(
     alloc: Global,
     limits: Limits,
     form: OneLine,
     input: &mut Input<'_>,
 ) -> Result<Value, Refusal>
-    ensures { IsFound data_of (line_as (bounds limits) (line_form (bounds limits) form) input.old.left.now) result
-        input.new.left.now }
+    requires { AreAllowed limits }
+    ensures { IsFound data_of
+        (line_as (bounds limits) (line_form (bounds limits) form) input.old.left.now)
+        result input.new.left.now }
 {
-    let left = input.left;
-    match lines::find_line(left) {
-        LineEnd::Ended(n) => {
-            if !lines::is_within(limits, &left[..n]) {
-                return Err(Refusal::Bad);
-            }
-            match value_of_line(alloc, form, &left[..n])? {
-                Some(value) => {
-                    input.left = &left[n + 2..];
-                    Ok(value)
-                }
-                None => Err(Refusal::Bad),
-            }
-        }
-        LineEnd::Held(n) => {
-            if lines::is_within(limits, &left[..n]) && is_whole(form, &left[..n]) {
-                Err(Refusal::Short)
-            } else {
-                Err(Refusal::Bad)
-            }
-        }
-        LineEnd::Unended => {
-            if lines::is_within(limits, left) && is_begun(limits, form, left) {
-                Err(Refusal::Short)
-            } else {
-                Err(Refusal::Bad)
-            }
-        }
-        LineEnd::Broken => Err(Refusal::Bad),
+    let line = match next_line(limits, Asked::Value(form), input) {
+        Ok(line) => line,
+        Err(refusal) => return Err(refusal),
+    };
+    match value_of_line(alloc, form, line)? {
+        Some(value) => Ok(value),
+        None => Err(Refusal::Bad),
     }
 }
 
 /// The line that announces a length, or none for `-1`.
 pub fn announced(limits: Limits, most: u64, input: &mut Input<'_>) -> Result<Option<u64>, Refusal>
-    requires { most ≤ 9_223_372_036_854_775_808 }
+    requires allowed { AreAllowed limits }
+    requires most { most ≤ greatest }
     ensures found { IsFound (λ s. s)
         (line_as (bounds limits) (size_line (Some most)) input.old.left.now) result
         input.new.left.now }
     ensures fits { IfOk result (λ s. IfSome s (λ n. n ≤ most)) }
 {
-    let left = input.left;
-    match lines::find_line(left) {
-        LineEnd::Ended(n) => {
-            if !lines::is_within(limits, &left[..n]) {
-                return Err(Refusal::Bad);
-            }
-            match lines::read_size(most, &left[..n]) {
-                Some(size) => {
-                    input.left = &left[n + 2..];
-                    Ok(size)
-                }
-                None => Err(Refusal::Bad),
-            }
-        }
-        LineEnd::Held(n) => {
-            if lines::is_within(limits, &left[..n])
-                && lines::read_size(most, &left[..n]).is_some()
-            {
-                Err(Refusal::Short)
-            } else {
-                Err(Refusal::Bad)
-            }
-        }
-        LineEnd::Unended => {
-            if lines::is_within(limits, left) && lines::is_size_begun(most, left) {
-                Err(Refusal::Short)
-            } else {
-                Err(Refusal::Bad)
-            }
-        }
-        LineEnd::Broken => Err(Refusal::Bad),
+    let line = match next_line(limits, Asked::Size(most), input) {
+        Ok(line) => line,
+        Err(refusal) => return Err(refusal),
+    };
+    match lines::read_size(most, line) {
+        Some(size) => Ok(size),
+        None => Err(Refusal::Bad),
     }
 }
 
 /// The line that announces a length between these two.
 pub fn counted(limits: Limits, least: u64, most: u64, input: &mut Input<'_>) -> Result<u64, Refusal>
     requires allowed { AreAllowed limits }
-    requires most { most ≤ 9_223_372_036_854_775_808 }
+    requires most { most ≤ greatest }
     requires digit { least ≤ 9 }
     requires room { 11 * least ≤ most }
     ensures found { IsFound (λ n. n)
-        (line_as (bounds limits) (count_line (bounds limits) least (Some most)) input.old.left.now)
+        (line_as (bounds limits) (count_line (bounds limits) least (Some most))
+        input.old.left.now)
         result input.new.left.now }
     ensures fits { IfOk result (λ n. n ≤ most) }
     ensures enough { IfOk result (λ n. least ≤ n) }
 {
-    let left = input.left;
-    match lines::find_line(left) {
-        LineEnd::Ended(n) => {
-            if !lines::is_within(limits, &left[..n]) {
-                return Err(Refusal::Bad);
-            }
-            match lines::read_count(least, most, &left[..n]) {
-                Some(count) => {
-                    input.left = &left[n + 2..];
-                    Ok(count)
-                }
-                None => Err(Refusal::Bad),
-            }
-        }
-        LineEnd::Held(n) => {
-            if lines::is_within(limits, &left[..n])
-                && lines::read_count(least, most, &left[..n]).is_some()
-            {
-                Err(Refusal::Short)
-            } else {
-                Err(Refusal::Bad)
-            }
-        }
-        LineEnd::Unended => {
-            if lines::is_within(limits, left) && lines::is_count_begun(limits, least, most, left) {
-                Err(Refusal::Short)
-            } else {
-                Err(Refusal::Bad)
-            }
-        }
-        LineEnd::Broken => Err(Refusal::Bad),
+    let line = match next_line(limits, Asked::Count(least, most), input) {
+        Ok(line) => line,
+        Err(refusal) => return Err(refusal),
+    };
+    match lines::read_count(least, most, line) {
+        Some(count) => Ok(count),
+        None => Err(Refusal::Bad),
     }
 }
 
@@ -327,34 +338,13 @@ fn read_bulk_error(alloc: Global, limits: Limits, input: &mut Input<'_>) -> Resu
 
 /// A line that is a text.
 fn text(alloc: Global, limits: Limits, input: &mut Input<'_>) -> Result<Bytes, Refusal>
+    requires { AreAllowed limits }
     ensures { IsFound (λ t. t) (line_as (bounds limits) text_line input.old.left.now) result
         input.new.left.now }
 {
-    let left = input.left;
-    match lines::find_line(left) {
-        LineEnd::Ended(n) => {
-            if !lines::is_within(limits, &left[..n]) {
-                return Err(Refusal::Bad);
-            }
-            let text = Bytes::from_slice(alloc, &left[..n])?;
-            input.left = &left[n + 2..];
-            Ok(text)
-        }
-        LineEnd::Held(n) => {
-            if lines::is_within(limits, &left[..n]) {
-                Err(Refusal::Short)
-            } else {
-                Err(Refusal::Bad)
-            }
-        }
-        LineEnd::Unended => {
-            if lines::is_within(limits, left) {
-                Err(Refusal::Short)
-            } else {
-                Err(Refusal::Bad)
-            }
-        }
-        LineEnd::Broken => Err(Refusal::Bad),
+    match next_line(limits, Asked::Text, input) {
+        Ok(line) => Ok(Bytes::from_slice(alloc, line)?),
+        Err(refusal) => Err(refusal),
     }
 }
 
@@ -461,6 +451,7 @@ pub fn read_innermost(
     first: u8,
     input: &mut Input<'_>,
 ) -> Result<Value, Refusal>
+    requires { AreAllowed limits }
     ensures { IsFound data_of (chosen (innermost (bounds limits)) first input.old.left.now)
         result input.new.left.now }
 {

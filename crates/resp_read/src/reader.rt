@@ -99,9 +99,9 @@ impl Reader {
 
     /// A reader that was fed nothing, with the allowed limits that are nearest to these. Takes no memory.
     ///
-    /// So the memory of a reply under way has a bound: a value holds at most `(2 * count + 1) ^ depth` values that hold no
-    /// others, each with a line or a bulk string within its limit. The more may be nested, the less that bounds:
-    /// whoever wants fewer bytes than that compares `buffered_len` after each piece with a bound of its own.
+    /// They bound the memory of a reply under way: it has at most `(2 * count + 1) ^ depth` values that hold no others, and
+    /// each of these at most the bytes of a line and of a bulk string. Where replies may be nested that is much: to bound
+    /// them further, compare `buffered_len` with a limit of your own after each piece.
     pub fn with_limits(alloc: Global, limits: Limits) -> Reader
         ensures { result
             ≡ record { health = Sound; rest = []; limits = nearest_allowed limits } }
@@ -204,7 +204,8 @@ impl Reader {
     /// Whether a line that had not ended still has not, and can become a value. Looks at none of its bytes again.
     fn waits_on(&mut self) -> bool
         ensures same { self.new ≡ self.old }
-        ensures short { IsTrue result → self.old.health ≡ Sound → IsProperPrefixWithin self.old.limits self.old.rest }
+        ensures short { IsTrue result → self.old.health ≡ Sound
+            → IsProperPrefixWithin self.old.limits self.old.rest }
     {
         let left = &self.bytes.as_slice()[self.next..];
         if !self.waits || left.is_empty() {
