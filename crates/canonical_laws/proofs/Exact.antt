@@ -2,8 +2,11 @@
 use Rattle.std.proofs.Common.{◌≡◌, ℕ, zero, suc, ◌≤◌, List, ◌∷◌, ◌++◌, length, Bool, true, false, cond, refl, sym, ap, ◌∙◌, append_assoc}
 use Rattle.resp_value.specs.Data.{Data, array, dict, attribute, set, push, error, Items, no_items, item, items_of, list_of, Members, no_members, member, members_of, pairs_of}
 use Rattle.resp_value.specs.Kinds.{kind_of}
-use Rattle.resp_read.specs.Grammar.{Found, read, short, bad, found_and_then, found_map, Table, form, innermost, nested, parse, max_line, fits, ended, line_found, error_line, error_of, repeated, pair, attributed, max_depth, reader_limits}
+use Rattle.resp_read.specs.Grammar.{max_line, fits, error_of, max_depth, reader_limits}
+use Rattle.resp_read.specs.Parser.{read, short, bad, ended, Found, found_and_then, found_map, Table, form, innermost, nested, parse, line_found, error_line, repeated, pair, attributed}
 use Rattle.resp_read.specs.Reads.{Reads}
+use Rattle.resp_read.specs.Limits.{default_limits}
+use Rattle.resp_read.proofs.ReadLaws.{found_where_reads}
 use Rattle.resp_read.proofs.LineLaws.{fits_within}
 use Rattle.resp_write.specs.Canonical.{canonical, each_item, each_member, kind_text, breaks_line}
 use Rattle.resp_write.specs.Pack.{crlf, text_line, sized_text}
@@ -22,7 +25,7 @@ module _ {A B : Type 0} (g : A → List ℕ → Found B) where
   first_read bad b end e = cc
 
 fits_by : (l : List ℕ) (c : Bool) (x w : Data) (rest end : List ℕ) → fits reader_limits l ≡ c → ◌≡◌ {A = Found Data} (cond c (read x rest) bad) (read w end) → length l ≤ max_line
-fits_by l true x w rest end is e = fits_within l is
+fits_by l true x w rest end is e = fits_within default_limits l is
 fits_by l false x w rest end is e = cc
 
 module _ (more : Table) (rest : List ℕ) (w : Data) (end : List ℕ) where
@@ -119,4 +122,4 @@ value_short (suc n) v h rest w end e = over_short (parse n) (IsValue reader_limi
 pub readable_alone : (v : Data) (rest end : List ℕ) → Reads (canonical v ++ rest) v end → IsReadable reader_limits max_depth v
 readable_alone v rest end e =
     let h = read_is_value (canonical v ++ rest) v end e in
-    (h, value_short max_depth v h rest v end e)
+    (h, value_short max_depth v h rest v end (found_where_reads (canonical v ++ rest) v end e))

@@ -5,9 +5,11 @@ use Rattle.resp_value.specs.declared.push_kind.PushKind.{PushKind}
 use Rattle.resp_value.specs.declared.push_kind.PushKind.TheVariants.{Invalidate, Message, PMessage, SMessage, Unsubscribe, PUnsubscribe, SUnsubscribe, Subscribe, PSubscribe, SSubscribe}
 use Rattle.resp_value.specs.Data.{Data, array, dict, attribute, set, push, items_of, list_of, members_of, pairs_of}
 use Rattle.resp_value.specs.Kinds.{named_kind, kind_or, kind_of}
-use Rattle.resp_read.specs.Grammar.{Found, read, short, bad, found_and_then, found_map, line_as, size_line, count_line, text_line, bulk_text, body, max_bulk, max_count, repeated, pair, array_of, array_form, set_of, set_form, map_of, map_form, attributed, attribute_of, attribute_form, kind, push_with, push_of, push_form, plain, nested, innermost, form, parse, max_depth, reader_limits}
+use Rattle.resp_read.specs.Grammar.{max_bulk, max_count, max_depth, reader_limits}
+use Rattle.resp_read.specs.Parser.{read, short, bad, Found, found_and_then, found_map, line_as, size_line, count_line, text_line, bulk_text, body, repeated, pair, array_of, array_form, set_of, set_form, map_of, map_form, attributed, attribute_of, attribute_form, kind, push_with, push_of, push_form, plain, nested, innermost, form, parse}
 use Rattle.resp_read.specs.Reads.{Reads}
 use Rattle.resp_write.specs.Canonical.{canonical}
+use Rattle.resp_read.proofs.ReadLaws.{found_where_reads}
 use Rattle.resp_laws.specs.Commands.{FitsBulk}
 use Rattle.canonical_laws.specs.Readable.{IsReadKind, EachItem, EachMember, IsPlain, IsOver, IsValue, HasShortErrors, IsReadable}
 use Rattle.canonical_laws.proofs.Held.{IfRead, was_read, held_if, held_then, held_map, held_line, some_is, IsBetween, held_count, HasLength, held_body}
@@ -136,7 +138,7 @@ value_given zero bs = form_gives (IsPlain reader_limits) (innermost reader_limit
 value_given (suc n) bs = over_given (parse n) (IsValue reader_limits n) (value_given n) bs
 
 pub read_is_value : (bytes : List ℕ) (v : Data) (rest : List ℕ) → Reads bytes v rest → IsValue reader_limits max_depth v
-read_is_value bytes v rest e = was_read (IsValue reader_limits max_depth) (parse max_depth bytes) v rest (value_given max_depth bytes) e
+read_is_value bytes v rest e = was_read (IsValue reader_limits max_depth) (parse max_depth bytes) v rest (value_given max_depth bytes) (found_where_reads bytes v rest e)
 
 pub read_is_readable : (bytes : List ℕ) (v : Data) (rest : List ℕ) → Reads bytes v rest → HasShortErrors reader_limits v → IsReadable reader_limits max_depth v
 read_is_readable bytes v rest e h = (read_is_value bytes v rest e, h)

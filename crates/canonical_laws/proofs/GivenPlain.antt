@@ -4,7 +4,8 @@ use Rattle.std.proofs.lemmas.List.{length-take-le}
 use Rattle.std.proofs.lemmas.Bool.Decides.{nat_tests}
 use Rattle.std.specs.Prelude.{ℤ, pos, neg_ℤ, ◌==◌, nat_lt, option_map, bytes_eq}
 use Rattle.resp_value.specs.Data.{Data, nil, int, bulk, simple, okay, double, boolean, verbatim, big}
-use Rattle.resp_read.specs.Grammar.{Found, read, short, bad, line_as, is_end, is_double, is_big, natural, number, size_line, count_line, truth, simple_of, before_space, after_space, error_of, simple_line, error_line, number_line, null_line, boolean_line, double_line, big_line, no_array_line, max_bulk, body, bulk_of, bulk_string, error_body, bulk_error, some_bytes, colon, format, text_of, verbatim_of, verbatim_string, Table, plain, innermost, chosen, form, reader_limits}
+use Rattle.resp_read.specs.Grammar.{is_end, is_double, is_big, natural, number, truth, simple_of, before_space, after_space, error_of, max_bulk, reader_limits}
+use Rattle.resp_read.specs.Parser.{read, short, bad, Found, line_as, size_line, count_line, simple_line, error_line, number_line, null_line, boolean_line, double_line, big_line, no_array_line, body, bulk_of, bulk_string, error_body, bulk_error, some_bytes, colon, format, text_of, verbatim_of, verbatim_string, Table, plain, innermost, chosen, form}
 use Rattle.resp_write.specs.Canonical.{detail_text}
 use Rattle.canonical_laws.specs.Readable.{has_space, IsLine, IsLong, IsPlain}
 use Rattle.canonical_laws.proofs.Held.{IfRead, held_if, held_then, held_map, held_line, some_is, natural_fits, IsBetween, held_count, HasLength, held_body}

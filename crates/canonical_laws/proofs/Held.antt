@@ -3,7 +3,9 @@ use Rattle.std.proofs.Common.{◌≡◌, ℕ, ◌≤◌, List, [], ◌∷◌, le
 use Rattle.std.proofs.lemmas.List.{length-take-le}
 use Rattle.std.proofs.lemmas.Bool.Decides.{nat_tests}
 use Rattle.std.specs.Prelude.{◌==◌, ◌&&◌, nat_le, nat_lt, is_some}
-use Rattle.resp_read.specs.Grammar.{Found, read, short, bad, found_and_then, found_map, Line, ended, held, unended, broken, after_return, byte_before, line, LineForm, fits, line_found, line_as, found, natural, at_most, at_least, count_line, digits_after, fed, closed, body, reader_limits}
+use Rattle.resp_read.specs.Grammar.{fits, natural, at_most, at_least, digits_after, reader_limits}
+use Rattle.resp_read.specs.Parser.{read, short, bad, ended, held, unended, broken, Found, found_and_then, found_map, Line, after_return, byte_before, line, LineForm, line_found, line_as, found, count_line, fed, closed, body}
+use Rattle.resp_read.specs.Limits.{default_limits}
 use Rattle.resp_read.proofs.LineLaws.{fits_within}
 use Rattle.canonical_laws.specs.Readable.{has_return, IsLine}
 
@@ -68,7 +70,7 @@ module _ {A : Type 0} (form : LineForm A) (P : A → Type 0) (made : (l : List �
   found_by l rest None h is = tt
 
   fits_by : (l rest : List ℕ) (c : Bool) → has_return l ≡ false → fits reader_limits l ≡ c → IfRead P (cond c (found (form.whole l) rest) bad)
-  fits_by l rest true h fit = found_by l rest (form.whole l) (h, fits_within l fit) refl
+  fits_by l rest true h fit = found_by l rest (form.whole l) (h, fits_within default_limits l fit) refl
   fits_by l rest false h fit = tt
 
   line_made : (x : Line) → HasNoReturn x → IfRead P (line_found reader_limits form x)

@@ -1,6 +1,8 @@
 -- Which limits a canonical text is read back within: those of the reader, or none.
 use Rattle.std.proofs.Common.{◌≡◌, ℕ, ◌≤◌, ◌<◌, ◌^◌, Option, Some, None, true, refl, arith}
 use Rattle.resp_read.specs.Grammar.{Limits, reader_limits, no_limits, allows}
+use Rattle.resp_read.specs.Limits.{bounds, AreAllowed}
+use Rattle.resp_read.specs.declared.limits.Limits.{Limits as ReaderLimits}
 use Rattle.resp_laws.proofs.Lengths.{TakesNumbers, no_more}
 use Rattle.canonical_laws.specs.Readable.{IsAtMost, IsLength}
 
@@ -21,6 +23,14 @@ pub record AreUsual (limits : Limits) : Type 0 where
 
 pub reader_usual : AreUsual reader_limits
 reader_usual = record { numbers = λ n h. omega (arith, h); names = λ n h. omega (arith, h); bulk = λ n h. omega (arith, h); count = λ n h. omega (arith, h) }
+
+pub allowed_usual : (limits : ReaderLimits) → AreAllowed limits → AreUsual (bounds limits)
+allowed_usual limits allowed = record {
+  numbers = λ n h. omega (arith, h, allowed.line_least);
+  names = λ n h. omega (arith, h, allowed.bulk_least);
+  bulk = λ n h. omega (arith, h, allowed.bulk_most);
+  count = λ n h. omega (arith, h, allowed.count_most);
+}
 
 pub none_usual : AreUsual no_limits
 none_usual = record { numbers = λ n h. tt; names = λ n h. omega (arith, h); bulk = λ n h. h; count = λ n h. h }

@@ -5,7 +5,8 @@ use Rattle.std.proofs.lemmas.Fmt.{decimal_is_IsNumeral, length-decimal-le}
 use Rattle.std.proofs.lemmas.Str.Parse.{digit_from_value}
 use Rattle.std.specs.Prelude.{decimal, ◌==◌}
 use Rattle.std.specs.Str.Parse.{AllDigits, digits_value}
-use Rattle.resp_read.specs.Grammar.{Limits, allows, read, bad, ended, byte_before, line, LineForm, fits, line_found, line_as, natural, size_line, at_least, count_line, found}
+use Rattle.resp_read.specs.Grammar.{Limits, allows, fits, natural, at_least}
+use Rattle.resp_read.specs.Parser.{read, bad, ended, byte_before, line, LineForm, line_found, line_as, size_line, count_line, found}
 use Rattle.resp_read.proofs.Counts.{enough}
 use Rattle.resp_read.proofs.Numbers.{neither}
 use Rattle.resp_write.specs.Pack.{crlf}

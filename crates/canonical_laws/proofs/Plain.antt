@@ -10,7 +10,8 @@ use Rattle.std.specs.Str.Parse.{AllDigits, digits_value}
 use Rattle.containers.proofs.Choices.{taken_if}
 use Rattle.resp_value.specs.declared.server_error.ServerError.{ServerError}
 use Rattle.resp_value.specs.Data.{Data, nil, int, bulk, array, simple, okay, dict, attribute, set, double, boolean, verbatim, big, push, error}
-use Rattle.resp_read.specs.Grammar.{Limits, read, short, found_and_then, found_map, Table, form, number, is_double, is_big, body, before_space, after_space, error_of, simple_line, error_line, number_line, null_line, boolean_line, double_line, big_line, bulk_of, error_body, format, colon, text_of, verbatim_of}
+use Rattle.resp_read.specs.Grammar.{Limits, number, is_double, is_big, before_space, after_space, error_of}
+use Rattle.resp_read.specs.Parser.{read, short, found_and_then, found_map, Table, form, body, simple_line, error_line, number_line, null_line, boolean_line, double_line, big_line, bulk_of, error_body, format, colon, text_of, verbatim_of}
 use Rattle.resp_read.proofs.Numbers.{neither}
 use Rattle.resp_write.specs.Canonical.{canonical, detail_text, breaks_line, error_line as written_error}
 use Rattle.resp_write.specs.Pack.{crlf, text_line, sized_text}

@@ -5,8 +5,11 @@ use Rattle.std.proofs.lemmas.Bool.Decides.{nat_tests}
 use Rattle.std.specs.Prelude.{◌==◌, nat_lt, bytes_eq}
 use Rattle.resp_value.specs.Data.{Data, nil, int, bulk, array, simple, okay, dict, attribute, set, double, boolean, verbatim, big, push, items_of, members_of}
 use Rattle.resp_value.specs.Kinds.{kind_of}
-use Rattle.resp_read.specs.Grammar.{Found, read, short, bad, found_and_then, found_map, line_as, size_line, count_line, is_end, is_double, is_big, number, truth, simple_of, error_of, simple_line, error_line, number_line, null_line, boolean_line, double_line, big_line, no_array_line, max_line, max_bulk, max_count, closed, body, bulk_of, bulk_string, error_body, bulk_error, format, text_of, verbatim_of, verbatim_string, repeated, pair, array_of, array_form, set_of, set_form, map_of, map_form, attributed, attribute_of, attribute_form, kind, push_with, push_of, push_form, Table, plain, nested, innermost, chosen, form, parse, max_depth, reader_limits}
+use Rattle.resp_read.specs.Grammar.{is_end, is_double, is_big, number, truth, simple_of, error_of, max_line, max_bulk, max_count, max_depth, reader_limits}
+use Rattle.resp_read.specs.Parser.{read, short, bad, Found, found_and_then, found_map, line_as, size_line, count_line, simple_line, error_line, number_line, null_line, boolean_line, double_line, big_line, no_array_line, closed, body, bulk_of, bulk_string, error_body, bulk_error, format, text_of, verbatim_of, verbatim_string, repeated, pair, array_of, array_form, set_of, set_form, map_of, map_form, attributed, attribute_of, attribute_form, kind, push_with, push_of, push_form, Table, plain, nested, innermost, chosen, form, parse}
 use Rattle.resp_read.specs.Reads.{Reads}
+use Rattle.resp_read.specs.Limits.{default_limits}
+use Rattle.resp_read.proofs.ReadLaws.{default_allowed, found_where_reads}
 use Rattle.resp_read.proofs.Laws.{Lawful, Possible, lawful_then, lawful_map, possible_map, possible_then}
 use Rattle.resp_read.proofs.LineLaws.{lawful_line}
 use Rattle.resp_read.proofs.Numbers.{lawful_size}
@@ -95,7 +98,7 @@ body_by n bs false fit is =
 
 bulk_error_gives : GivesShort (bulk_error reader_limits)
 bulk_error_gives bs fit =
-    short_then (line_as reader_limits (count_line reader_limits 0 (Some max_bulk))) error_body Any (HasShortErrors reader_limits) (lawful_counted 0 max_bulk (lit≤ tt) (lit≤ tt)) bs fit
+    short_then (line_as reader_limits (count_line reader_limits 0 (Some max_bulk))) error_body Any (HasShortErrors reader_limits) (lawful_counted default_limits default_allowed 0 max_bulk (lit≤ tt) (lit≤ tt)) bs fit
     (λ n rest k h. held_map IsShort (HasShortErrors reader_limits) error_of (body n rest) (body_by n rest (nat_lt (length rest) n) k refl) (λ t is. error_short t is)) (any_read (line_as reader_limits (count_line reader_limits 0 (Some max_bulk)) bs))
 
 text_by : (n : ℕ) (f bs : List ℕ) → IfRead (HasShortErrors reader_limits) (text_of n f bs)
@@ -167,7 +170,7 @@ module _ (inside : List ℕ → Found Data) (lawful : Lawful inside) (some : Pos
 
   counted : (g : ℕ → List ℕ → Found Data) → ((n : ℕ) → GivesShort (g n)) → GivesShort (λ bs. found_and_then g (line_as reader_limits (count_line reader_limits 0 (Some max_count)) bs))
   counted g h bs fit =
-      short_then (line_as reader_limits (count_line reader_limits 0 (Some max_count))) g Any (HasShortErrors reader_limits) (lawful_counted 0 max_count (lit≤ tt) (lit≤ tt)) bs fit (λ n rest k s. h n rest k) (any_read (line_as reader_limits (count_line reader_limits 0 (Some max_count)) bs))
+      short_then (line_as reader_limits (count_line reader_limits 0 (Some max_count))) g Any (HasShortErrors reader_limits) (lawful_counted default_limits default_allowed 0 max_count (lit≤ tt) (lit≤ tt)) bs fit (λ n rest k s. h n rest k) (any_read (line_as reader_limits (count_line reader_limits 0 (Some max_count)) bs))
 
   array_by : (o : Option ℕ) → GivesShort (array_of inside o)
   array_by None bs fit = tt
@@ -175,7 +178,7 @@ module _ (inside : List ℕ → Found Data) (lawful : Lawful inside) (some : Pos
 
   array_gives : GivesShort (array_form reader_limits inside)
   array_gives bs fit =
-      short_then (line_as reader_limits (size_line (Some max_count))) (array_of inside) Any (HasShortErrors reader_limits) (lawful_line (size_line (Some max_count)) (lawful_size max_count)) bs fit (λ o rest k s. array_by o rest k) (any_read (line_as reader_limits (size_line (Some max_count)) bs))
+      short_then (line_as reader_limits (size_line (Some max_count))) (array_of inside) Any (HasShortErrors reader_limits) (lawful_line default_limits (size_line (Some max_count)) (lawful_size default_limits default_allowed max_count)) bs fit (λ o rest k s. array_by o rest k) (any_read (line_as reader_limits (size_line (Some max_count)) bs))
 
   set_gives : GivesShort (set_form reader_limits inside)
   set_gives = counted (set_of inside) (λ n bs fit. held_map ItemsShort (HasShortErrors reader_limits) (λ ds. set (items_of ds)) (repeated inside n bs) (items_gives n bs fit) (λ ds s. s))
@@ -191,8 +194,8 @@ module _ (inside : List ℕ → Found Data) (lawful : Lawful inside) (some : Pos
 
   push_gives : GivesShort (push_form reader_limits inside)
   push_gives bs fit =
-      short_then (line_as reader_limits (count_line reader_limits 1 (Some max_count))) (push_of reader_limits inside) Any (HasShortErrors reader_limits) (lawful_counted 1 max_count (lit≤ tt) (lit≤ tt)) bs fit
-      (λ n rest k s. short_then (kind reader_limits) (push_with inside n) Any (HasShortErrors reader_limits) lawful_kind rest k
+      short_then (line_as reader_limits (count_line reader_limits 1 (Some max_count))) (push_of reader_limits inside) Any (HasShortErrors reader_limits) (lawful_counted default_limits default_allowed 1 max_count (lit≤ tt) (lit≤ tt)) bs fit
+      (λ n rest k s. short_then (kind reader_limits) (push_with inside n) Any (HasShortErrors reader_limits) (lawful_kind default_limits default_allowed) rest k
       (λ text others m t. held_map ItemsShort (HasShortErrors reader_limits) (λ ds. push (kind_of text) (items_of ds)) (repeated inside (n - 1) others) (items_gives (n - 1) others m) (λ ds u. u)) (any_read (kind reader_limits rest)))
       (any_read (line_as reader_limits (count_line reader_limits 1 (Some max_count)) bs))
 
@@ -205,10 +208,10 @@ parse_some (suc n) = (95 ∷ 13 ∷ 10 ∷ [], nil, refl)
 
 parse_short : (n : ℕ) → GivesShort (parse n)
 parse_short zero = form_short (innermost reader_limits) (no_array_gives, tt)
-parse_short (suc n) = form_short (nested reader_limits (parse n)) (nested_short (parse n) (lawful_parse n) (parse_some n) (parse_short n))
+parse_short (suc n) = form_short (nested reader_limits (parse n)) (nested_short (parse n) (lawful_parse default_limits default_allowed n) (parse_some n) (parse_short n))
 
 pub short_errors : (bytes : List ℕ) (v : Data) (rest : List ℕ) → length bytes ≤ max_line → Reads bytes v rest → HasShortErrors reader_limits v
-short_errors bytes v rest fit e = was_read (HasShortErrors reader_limits) (parse max_depth bytes) v rest (parse_short max_depth bytes fit) e
+short_errors bytes v rest fit e = was_read (HasShortErrors reader_limits) (parse max_depth bytes) v rest (parse_short max_depth bytes fit) (found_where_reads bytes v rest e)
 
 pub short_text_again : (bytes : List ℕ) (v : Data) (rest more : List ℕ) → length bytes ≤ max_line → Reads bytes v rest → Reads (canonical v ++ more) v more
 short_text_again bytes v rest more fit e = read_again bytes v rest more e (short_errors bytes v rest fit e)

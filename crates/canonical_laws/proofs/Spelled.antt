@@ -4,11 +4,13 @@ use Rattle.std.proofs.lemmas.List.{append-nil}
 use Rattle.resp_value.specs.Data.{Data, nil, int, bulk, array, simple, okay, dict, attribute, set, double, boolean, verbatim, big, push, error, Items, no_items, item, items_of, list_of, Members, no_members, member, members_of, pairs_of}
 use Rattle.resp_value.specs.Kinds.{kind_of}
 use Rattle.resp_value.specs.View.{data_of-value_of}
-use Rattle.resp_read.specs.Grammar.{Found, read, found_and_then, found_map, Table, form, innermost, nested, parse, max_depth, repeated, pair, attributed, reader_limits}
+use Rattle.resp_read.specs.Grammar.{max_depth, reader_limits}
+use Rattle.resp_read.specs.Parser.{read, Found, found_and_then, found_map, Table, form, innermost, nested, parse, repeated, pair, attributed}
 use Rattle.resp_read.specs.Reads.{Reads}
 use Rattle.resp_write.specs.Canonical.{canonical, kind_text}
 use Rattle.resp_write.specs.Pack.{number_line, sized_text, bulk_string}
 use Rattle.resp_laws.proofs.Commands.{first_then}
+use Rattle.resp_read.proofs.ReadLaws.{reads_where_found}
 use Rattle.canonical_laws.specs.Readable.{error_words, EachItem, EachMember, IsPlain, IsOver, IsValue}
 use Rattle.canonical_laws.proofs.Limits.{reader_usual}
 use Rattle.canonical_laws.proofs.Plain.{plain_read, bulk_error_back, error_back}
@@ -107,4 +109,4 @@ value_spelled (suc n) v h = over_spelled (parse n) (IsValue reader_limits n) (va
 pub some_text : (v : Data) → IsValue reader_limits max_depth v → (bytes : List ℕ) × Reads bytes v []
 some_text v h =
     let t = value_spelled max_depth v h in
-    (t.0, ap (parse max_depth) (sym (append-nil t.0)) ∙ t.1 [])
+    (t.0, reads_where_found t.0 v [] (ap (parse max_depth) (sym (append-nil t.0)) ∙ t.1 []))

@@ -6,7 +6,8 @@ use Rattle.resp_value.specs.declared.push_kind.PushKind.TheVariants.{Disconnecti
 use Rattle.resp_value.specs.Data.{Data, array, dict, attribute, set, push, Items, no_items, item, items_of, list_of, Members, no_members, member, members_of, pairs_of}
 use Rattle.resp_value.specs.Kinds.{kind_or, kind_of}
 use Rattle.resp_value.specs.View.{data_of-value_of}
-use Rattle.resp_read.specs.Grammar.{Limits, Found, read, found_and_then, found_map, form, innermost, nested, parse_within, repeated, pair, body, array_of, set_of, map_of, attributed, attribute_of, kind, push_with, push_of}
+use Rattle.resp_read.specs.Grammar.{Limits}
+use Rattle.resp_read.specs.Parser.{read, Found, found_and_then, found_map, form, innermost, nested, parse_within, repeated, pair, body, array_of, set_of, map_of, attributed, attribute_of, kind, push_with, push_of}
 use Rattle.resp_write.specs.Canonical.{canonical, each_item, each_member, kind_text}
 use Rattle.resp_write.specs.Pack.{crlf, number_line, bulk_string}
 use Rattle.resp_laws.proofs.Commands.{line_shape, sized_shape, text_read, first_then}

@@ -1,21 +1,27 @@
 //! The laws of canonical texts: a value's text is read back as that value.
 #![tactic(auto)]
 
-ghost use Rattle.std.specs.Prelude.{◌≡◌, ℕ, ◌^◌, ◌≤◌, ◌<◌, List, [], ◌++◌, length};
+ghost use Rattle.std.specs.Prelude.{◌≡◌, ℕ, ◌^◌, ◌≤◌, ◌<◌, List, [], ◌++◌, length, Some};
 ghost use Rattle.std.specs.List.{All};
 ghost use Rattle.resp_value.specs.Data.{Data, array, items_of};
-ghost use Rattle.resp_read.specs.Grammar.{read, reader_limits, no_limits, parse, parse_within, max_line, max_depth};
-ghost use Rattle.resp_read.specs.Reads.{Reads};
+ghost use Rattle.resp_read.specs.Grammar.{reader_limits, no_limits, value_within, max_line, max_depth};
+ghost use Rattle.resp_read.specs.Limits.{bounds, AreAllowed};
+ghost use Rattle.resp_read.specs.Reads.{ReadsWithin, Reads};
+ghost use Rattle.resp_read.specs.declared.limits.Limits.{Limits};
 ghost use Rattle.resp_write.specs.Canonical.{canonical};
 ghost use Rattle.canonical_laws.specs.Readable.{IsValue, HasShortErrors, IsReadable, WasRead, shown_depth};
 
 /// Does nothing. Its contract: whatever follows the canonical text of a readable value, a reader finds that value at the
-/// front, and what follows is left; and no other value is read back within its limits.
+/// front, and what follows is left, with the default limits and with any that are allowed; and no other value is read back
+/// within the default ones.
 pub fn a_canonical_text_is_read_back()
     ensures at_depth { (depth : ℕ) (v : Data) (rest : List ℕ) → IsReadable reader_limits depth v
-        → parse depth (canonical v ++ rest) ≡ read v rest }
+        → value_within reader_limits depth (canonical v ++ rest) ≡ Some (v, rest) }
     ensures reads { (v : Data) (rest : List ℕ) → IsReadable reader_limits max_depth v
         → Reads (canonical v ++ rest) v rest }
+    ensures within { (limits : Limits) (v : Data) (rest : List ℕ) → AreAllowed limits
+        → IsReadable (bounds limits) limits.depth v
+        → ReadsWithin limits (canonical v ++ rest) v rest }
     ensures no_other { (v : Data) (rest left : List ℕ) → Reads (canonical v ++ rest) v left
         → IsReadable reader_limits max_depth v }
 {}
@@ -25,12 +31,12 @@ pub fn a_canonical_text_is_read_back()
 /// lists of them, shown as arrays. Lengths are numbers of 64 bits, as those in memory are.
 pub fn a_canonical_text_is_read_back_without_limits()
     ensures at_depth { (depth : ℕ) (v : Data) (rest : List ℕ) → IsValue no_limits depth v
-        → parse_within no_limits depth (canonical v ++ rest) ≡ read v rest }
+        → value_within no_limits depth (canonical v ++ rest) ≡ Some (v, rest) }
     ensures read_again { (bytes : List ℕ) (v : Data) (rest more : List ℕ) → Reads bytes v rest
-        → parse_within no_limits shown_depth (canonical v ++ more) ≡ read v more }
+        → value_within no_limits shown_depth (canonical v ++ more) ≡ Some (v, more) }
     ensures listed { (vs : List Data) (more : List ℕ) → length vs < 2 ^ 64 → All WasRead vs
-        → parse_within no_limits shown_depth (canonical (array (items_of vs)) ++ more)
-        ≡ read (array (items_of vs)) more }
+        → value_within no_limits shown_depth (canonical (array (items_of vs)) ++ more)
+        ≡ Some (array (items_of vs), more) }
 {}
 
 /// Does nothing. Its contract: values that are not the same have not the same canonical text, not even where other bytes

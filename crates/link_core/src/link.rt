@@ -8,6 +8,7 @@ ghost use Rattle.link_core.specs.Dealing.{pushes_each, heard_of};
 ghost use Rattle.resp_value.specs.View.{data_of};
 ghost use Rattle.resp_read.specs.Values.{values, left_over, is_spoiled};
 ghost use Rattle.resp_read.specs.Items.{items, is_item};
+ghost use Rattle.resp_read.specs.Limits.{default_limits};
 
 use crate::errors::{EnqueueError, StartError};
 use crate::message::{Entry, PushAt, PushInfo, Queued, Settled, Started};
@@ -582,7 +583,8 @@ fn deal_all(
     out: &mut Vec<Settled>,
     pushes: &mut Vec<PushAt>,
 ) -> Result<bool, AllocError>
-    requires { reader.old.health ≡ Health.Sound }
+    requires sound { reader.old.health ≡ Health.Sound }
+    requires limits { reader.old.limits ≡ default_limits }
     ensures dealt { OnOk result (
         dealing_with row.new out.new.items
         ≡ dealt_each (dealing_with row.old out.old.items) (items reader.old.rest)
@@ -598,6 +600,7 @@ fn deal_all(
     ensures sound { IfOk result (λ broken.
         broken ≡ false → reader.new.health ≡ Health.Sound
         ) }
+    ensures limits { reader.new.limits ≡ default_limits }
 {
     'values: loop {
         match reader.next_value(alloc) {

@@ -1,4 +1,4 @@
-use crate::{Bytes, PushKind, ReadError, Reader, Value};
+use crate::{Bytes, Limits, PushKind, ReadError, Reader, Value};
 use resp_write::canonical_text;
 use std::alloc::{AllocError, Global};
 use std::test::Fail;
@@ -417,6 +417,51 @@ fn reads_aggregates_up_to_the_depth(rt: HostRuntime) -> Result<(), Fail> {
     for (piece, count, end, shown) in DEEP {
         let is_so = is_deep_read(rt.alloc(), piece, count, end, shown)?;
         assert!(rt; is_so, "{count} times {piece:?}, then {end:?}");
+    }
+    Ok(())
+}
+
+fn is_read_within(
+    alloc: Global,
+    limits: Limits,
+    text: &str,
+    want: &str,
+) -> Result<bool, AllocError> {
+    let mut reader = Reader::with_limits(alloc, limits);
+    reader.feed(text.as_bytes())?;
+    answers(alloc, &mut reader, want)
+}
+
+/// Texts, and the answer of a reader with the least limits and one aggregate: at each limit, and one past it.
+const LEAST: [(&str, &str); 12] = [
+    ("+0123456789abcdef0123456789abcdef", "none"),
+    (
+        "+0123456789abcdef0123456789abcdef\r\n",
+        "+0123456789abcdef0123456789abcdef\r\n",
+    ),
+    ("+0123456789abcdef0123456789abcdef0", "parse"),
+    ("$64\r\n", "none"),
+    ("$65", "parse"),
+    ("!64\r\n", "none"),
+    ("!65", "parse"),
+    ("*16\r\n", "none"),
+    ("*17", "parse"),
+    ("%17", "parse"),
+    ("*1\r\n:1\r\n", "*1\r\n:1\r\n"),
+    ("*1\r\n*0", "parse"),
+];
+
+#[test]
+fn refuses_what_is_beyond_its_limits(rt: HostRuntime) -> Result<(), Fail> {
+    let least = Limits {
+        line: 0,
+        bulk: 0,
+        count: 0,
+        depth: 1,
+    };
+    for (text, want) in LEAST {
+        let is_so = is_read_within(rt.alloc(), least, text, want)?;
+        assert!(rt; is_so, "{text:?}");
     }
     Ok(())
 }

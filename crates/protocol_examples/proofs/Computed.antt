@@ -2,9 +2,10 @@
 use Rattle.std.proofs.Common.{◌≡◌, ℕ, List, [], ◌∷◌, map}
 use Rattle.std.specs.List.{All}
 use Rattle.std.proofs.lemmas.List.Elements.{All-nil, All-cons}
-use Rattle.resp_read.specs.Grammar.{read, short, bad, parse, max_depth}
+use Rattle.resp_read.specs.Grammar.{max_depth}
+use Rattle.resp_read.specs.Parser.{read, short, bad, parse}
 use Rattle.resp_read.specs.Reads.{IsProperPrefix, IsMalformed}
-use Rattle.resp_read.proofs.ReadLaws.{reads-append, prefix_from_short, malformed_from_bad}
+use Rattle.resp_read.proofs.ReadLaws.{reads_where_found, reads-append, prefix_from_short, malformed_from_bad}
 use Rattle.protocol_examples.specs.Tables.{Gives}
 use Rattle.protocol_examples.specs.Grammar.{Example, IsValue}
 
@@ -34,7 +35,7 @@ gives f rows e = each_same (λ row. f row.0) (λ row. row.1) rows e
 
 pub are_values : (examples : List Example) → map (λ example. parse max_depth example.0) examples ≡ map (λ example. read example.1 []) examples → All IsValue examples
 are_values [] e = All-nil IsValue
-are_values (x ∷ xs) e = All-cons IsValue x xs (λ rest. reads-append x.0 rest x.1 [] (first_same _ _ _ _ e)) (are_values xs (others_same _ _ _ _ e))
+are_values (x ∷ xs) e = All-cons IsValue x xs (λ rest. reads-append x.0 rest x.1 [] (reads_where_found x.0 x.1 [] (first_same _ _ _ _ e))) (are_values xs (others_same _ _ _ _ e))
 
 pub are_malformed : (texts : List (List ℕ)) → map (parse max_depth) texts ≡ map (λ text. bad) texts → All IsMalformed texts
 are_malformed [] e = All-nil IsMalformed

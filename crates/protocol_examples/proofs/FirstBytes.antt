@@ -3,7 +3,8 @@ use Rattle.std.proofs.Common.{◌≡◌, ◌≢◌, ℕ, List, [], ◌∷◌, if
 use Rattle.std.specs.List.{All}
 use Rattle.std.proofs.lemmas.List.Elements.{All-head, All-tail}
 use Rattle.containers.proofs.Choices.{ne_test}
-use Rattle.resp_read.specs.Grammar.{Table, bad, chosen, plain, nested, parse, reader_limits, max_depth}
+use Rattle.resp_read.specs.Grammar.{reader_limits, max_depth}
+use Rattle.resp_read.specs.Parser.{bad, Table, chosen, plain, nested, parse}
 use Rattle.resp_read.proofs.ReadLaws.{malformed_from_bad}
 use Rattle.std.specs.Prelude.{◌++◌}
 use Rattle.protocol_examples.specs.Grammar.{BeginsNone}

@@ -5,8 +5,9 @@ use Rattle.std.specs.List.{All}
 use Rattle.std.proofs.lemmas.List.Elements.{All-head, All-tail}
 use Rattle.containers.proofs.Choices.{ne_test}
 use Rattle.resp_value.specs.Data.{simple, okay}
-use Rattle.resp_read.specs.Grammar.{Found, short, bad, line, ended, unended, after_return, byte_before, line_found, simple_line, simple_of, reader_limits, max_depth}
-use Rattle.resp_read.proofs.ReadLaws.{malformed_from_bad}
+use Rattle.resp_read.specs.Grammar.{simple_of, reader_limits, max_depth}
+use Rattle.resp_read.specs.Parser.{short, bad, ended, unended, Found, line, after_return, byte_before, line_found, simple_line}
+use Rattle.resp_read.proofs.ReadLaws.{reads_where_found, malformed_from_bad}
 use Rattle.protocol_examples.specs.Limits.{IsReadToItsEnd, IsTooLong}
 
 -- a byte that isn't CR, and those after it
@@ -38,9 +39,10 @@ long_simple text n = ap (λ t. if t then okay else simple text) (longer_than_oka
 pub longest_line : IsReadToItsEnd 1_048_576
 unfolding max_depth
 longest_line text rest n h =
+    reads_where_found (43 ∷ (text ++ 13 ∷ 10 ∷ rest)) (simple text) rest (
     ap (line_found reader_limits simple_line) (line_whole text rest h)
     ∙ ap (λ m. if nat_le m 1_048_576 then Found.read (simple_of text) rest else bad) n
-    ∙ ap (λ v. Found.read v rest) (long_simple text n)
+    ∙ ap (λ v. Found.read v rest) (long_simple text n))
 
 pub longer_line : IsTooLong 1_048_577
 unfolding max_depth

@@ -5,8 +5,9 @@ use Rattle.std.specs.List.{All}
 use Rattle.resp_value.specs.declared.push_kind.PushKind.TheVariants.{Other}
 use Rattle.resp_value.specs.Kinds.{kind_of}
 use Rattle.resp_value.specs.Data.{Data, nil, int, array, simple, dict, attribute, set, push, items_of, members_of}
-use Rattle.resp_read.specs.Grammar.{Found, read, short, bad, found_and_then, found_map, parse, max_depth}
-use Rattle.resp_read.proofs.ReadLaws.{malformed_from_bad}
+use Rattle.resp_read.specs.Grammar.{max_depth}
+use Rattle.resp_read.specs.Parser.{read, short, bad, Found, found_and_then, found_map, parse}
+use Rattle.resp_read.proofs.ReadLaws.{reads_where_found, malformed_from_bad}
 use Rattle.protocol_examples.specs.Limits.{Wrapping, wrapped_text, wrapped, wrappings, MayNest, MayHoldNil, MayNotNest, MayNotHoldEmpty}
 use Rattle.protocol_examples.proofs.Computed.{each}
 
@@ -79,11 +80,11 @@ of_each P f = each P wrappings (f _ array_wraps, (f _ set_wraps, (f _ dict_wraps
 
 may_nest : (w : Wrapping) → Wraps w → MayNest 100 w
 unfolding max_depth
-may_nest w is = nested_read w is (codes ":1\r\n") (int (pos 1)) (λ rest. refl) 100
+may_nest w is = λ rest. reads_where_found (wrapped_text w (codes ":1\r\n") 100 ++ rest) (wrapped w (int (pos 1)) 100) rest (nested_read w is (codes ":1\r\n") (int (pos 1)) (λ rest. refl) 100 rest)
 
 may_hold_nil : (w : Wrapping) → Wraps w → MayHoldNil 100 w
 unfolding max_depth
-may_hold_nil w is = nested_read w is (codes "*-1\r\n") nil (λ rest. refl) 100
+may_hold_nil w is = λ rest. reads_where_found (wrapped_text w (codes "*-1\r\n") 100 ++ rest) (wrapped w nil 100) rest (nested_read w is (codes "*-1\r\n") nil (λ rest. refl) 100 rest)
 
 may_not_nest : (w : Wrapping) → Wraps w → MayNotNest 101 w
 unfolding max_depth

@@ -7,7 +7,8 @@ use Rattle.std.proofs.lemmas.Str.Parse.{digit_from_value}
 use Rattle.std.specs.Char.{digit_value}
 use Rattle.std.specs.Prelude.{decimal, nat_le, ◌==◌, option_map}
 use Rattle.std.specs.Str.Parse.{AllDigits, digits_value_after, digits_value}
-use Rattle.resp_read.specs.Grammar.{Limits, max_line, reader_limits, allows, read, bad, ended, byte_before, line, fits, digits_after, at_most, natural, size, found, line_found, line_as, size_line}
+use Rattle.resp_read.specs.Grammar.{Limits, max_line, reader_limits, allows, fits, digits_after, at_most, natural, size}
+use Rattle.resp_read.specs.Parser.{read, bad, ended, byte_before, line, found, line_found, line_as, size_line}
 use Rattle.resp_read.proofs.Numbers.{other_start}
 
 -- a digit ends no line

@@ -2,17 +2,25 @@
 use Rattle.std.specs.Prelude.{ℕ, ◌≤◌, Bool, true, false, List, [], ◌∷◌, ◌++◌, length, map, codes}
 use Rattle.std.specs.List.{All}
 use Rattle.resp_value.specs.Data.{Data, bulk, array, items_of}
-use Rattle.resp_read.specs.Grammar.{max_bulk, max_count}
+use Rattle.resp_read.specs.Limits.{default_limits}
+use Rattle.resp_read.specs.declared.limits.Limits.{Limits}
 use Rattle.resp_write.specs.Command.{Command}
 use Rattle.resp_write.specs.Pack.{pack}
 
--- no longer than the longest bulk string that a reader takes
-abbrev pub FitsBulk : List ℕ → Type 0
-FitsBulk text = length text ≤ max_bulk
+-- no longer than the longest bulk string that a reader with these limits takes
+abbrev pub FitsBulkOf : Limits → List ℕ → Type 0
+FitsBulkOf limits text = length text ≤ limits.bulk
 
 -- each argument fits a bulk string, and there are no more of them than an array may have values
+abbrev pub IsWithin : Limits → List (List ℕ) → Type 0
+IsWithin limits args = All (FitsBulkOf limits) args × (length args ≤ limits.count)
+
+-- the same of a reader that is asked for no other limits
+abbrev pub FitsBulk : List ℕ → Type 0
+FitsBulk = FitsBulkOf default_limits
+
 abbrev pub IsWithinLimits : List (List ℕ) → Type 0
-IsWithinLimits args = All FitsBulk args × (length args ≤ max_count)
+IsWithinLimits = IsWithin default_limits
 
 -- what a reader finds of a command's name and arguments: an array of bulk strings
 abbrev pub request : List (List ℕ) → Data

@@ -4,9 +4,12 @@ use Rattle.std.proofs.lemmas.List.{length-replicate, take-append-drop, take-appe
 use Rattle.std.proofs.lemmas.Bool.Decides.{nat_tests}
 use Rattle.std.specs.Prelude.{◌==◌, nat_lt, Option, Some, None}
 use Rattle.resp_value.specs.Data.{nil, bulk, verbatim}
-use Rattle.resp_read.specs.Grammar.{read, short, bad, fed, closed, body, bulk_of, bulk_string, line_as, size_line, count_line, max_bulk, error_of, error_body, bulk_error, some_bytes, colon, format, text_of, verbatim_of, verbatim_string, text_line, bulk_text, kind, reader_limits}
+use Rattle.resp_read.specs.Grammar.{error_of}
+use Rattle.resp_read.specs.Parser.{read, short, bad, fed, closed, body, bulk_of, bulk_string, line_as, size_line, count_line, error_body, bulk_error, some_bytes, colon, format, text_of, verbatim_of, verbatim_string, text_line, bulk_text, kind}
+use Rattle.resp_read.specs.Limits.{bounds, AreAllowed}
+use Rattle.resp_read.specs.declared.limits.Limits.{Limits}
 use Rattle.resp_read.proofs.Laws.{LawfulAt, Lawful, Possible, lawful_where_read, lawful_where_short, lawful_bad, lawful_read, lawful_if, lawful_cons, lawful_nil, lawful_then, lawful_map, possible_map, possible_then}
-use Rattle.resp_read.proofs.LineLaws.{lawful_line}
+use Rattle.resp_read.proofs.LineLaws.{lawful_line, fits_is}
 use Rattle.resp_read.proofs.Numbers.{lawful_size, lawful_text_line}
 use Rattle.resp_read.proofs.Counts.{lawful_count}
 
@@ -70,15 +73,15 @@ bulk_of_possible : (n : Option ℕ) → Possible (bulk_of n)
 bulk_of_possible None = ([], nil, refl)
 bulk_of_possible (Some n) = possible_map bulk (body n) (body_possible n)
 
-pub lawful_bulk_string : Lawful (bulk_string reader_limits)
-lawful_bulk_string = lawful_then (line_as reader_limits (size_line (Some max_bulk))) bulk_of (lawful_line (size_line (Some max_bulk)) (lawful_size max_bulk)) lawful_bulk_of bulk_of_possible
+pub lawful_bulk_string : (limits : Limits) → AreAllowed limits → Lawful (bulk_string (bounds limits))
+lawful_bulk_string limits allowed = lawful_then (line_as (bounds limits) (size_line (Some limits.bulk))) bulk_of (lawful_line limits (size_line (Some limits.bulk)) (lawful_size limits allowed limits.bulk)) lawful_bulk_of bulk_of_possible
 
-pub lawful_counted : (least most : ℕ) → least ≤ 9 → 11 * least ≤ most → Lawful (line_as reader_limits (count_line reader_limits least (Some most)))
-lawful_counted least most digit room = lawful_line (count_line reader_limits least (Some most)) (lawful_count least most digit room)
+pub lawful_counted : (limits : Limits) → AreAllowed limits → (least most : ℕ) → least ≤ 9 → 11 * least ≤ most → Lawful (line_as (bounds limits) (count_line (bounds limits) least (Some most)))
+lawful_counted limits allowed least most digit room = lawful_line limits (count_line (bounds limits) least (Some most)) (lawful_count limits allowed least most digit room)
 
-pub lawful_bulk_error : Lawful (bulk_error reader_limits)
-lawful_bulk_error =
-    lawful_then (line_as reader_limits (count_line reader_limits 0 (Some max_bulk))) error_body (lawful_counted 0 max_bulk (lit≤ tt) (lit≤ tt))
+pub lawful_bulk_error : (limits : Limits) → AreAllowed limits → Lawful (bulk_error (bounds limits))
+lawful_bulk_error limits allowed =
+    lawful_then (line_as (bounds limits) (count_line (bounds limits) 0 (Some limits.bulk))) error_body (lawful_counted limits allowed 0 limits.bulk (lit≤ tt) (omega arith))
     (λ n. lawful_map error_of (body n) (lawful_body n)) (λ n. possible_map error_of (body n) (body_possible n))
 
 -- n bytes
@@ -132,21 +135,21 @@ lawful_verbatim_of n = lawful_then format (text_of n) lawful_format (lawful_text
 verbatim_possible : (n : ℕ) → Possible (verbatim_of n)
 verbatim_possible n = possible_then format (text_of n) lawful_format format_possible (text_possible n)
 
-pub lawful_verbatim_string : Lawful (verbatim_string reader_limits)
-lawful_verbatim_string = lawful_then (line_as reader_limits (count_line reader_limits 4 (Some max_bulk))) verbatim_of (lawful_counted 4 max_bulk (lit≤ tt) (lit≤ tt)) lawful_verbatim_of verbatim_possible
+pub lawful_verbatim_string : (limits : Limits) → AreAllowed limits → Lawful (verbatim_string (bounds limits))
+lawful_verbatim_string limits allowed = lawful_then (line_as (bounds limits) (count_line (bounds limits) 4 (Some limits.bulk))) verbatim_of (lawful_counted limits allowed 4 limits.bulk (lit≤ tt) (omega (arith, allowed.bulk_least))) lawful_verbatim_of verbatim_possible
 
 -- the kind of a push
-kind_line : Lawful (line_as reader_limits text_line)
-kind_line = lawful_line text_line lawful_text_line
+kind_line : (limits : Limits) → Lawful (line_as (bounds limits) text_line)
+kind_line limits = lawful_line limits text_line (lawful_text_line limits)
 
-kind_text : Lawful (bulk_text reader_limits)
-kind_text = lawful_then (line_as reader_limits (count_line reader_limits 0 (Some max_bulk))) body (lawful_counted 0 max_bulk (lit≤ tt) (lit≤ tt)) lawful_body body_possible
+kind_text : (limits : Limits) → AreAllowed limits → Lawful (bulk_text (bounds limits))
+kind_text limits allowed = lawful_then (line_as (bounds limits) (count_line (bounds limits) 0 (Some limits.bulk))) body (lawful_counted limits allowed 0 limits.bulk (lit≤ tt) (omega arith)) lawful_body body_possible
 
-pub kind_possible : Possible (kind reader_limits)
-kind_possible = (43 ∷ 13 ∷ 10 ∷ [], [], refl)
+pub kind_possible : (limits : Limits) → Possible (kind (bounds limits))
+kind_possible limits = let fit = fits_is limits [] (omega arith) in (43 ∷ 13 ∷ 10 ∷ [], [], rw fit refl)
 
-pub lawful_kind : Lawful (kind reader_limits)
-lawful_kind [] = lawful_nil (kind reader_limits) refl kind_possible
-lawful_kind (b ∷ bs) =
-    lawful_cons (kind reader_limits) (λ x. cond (b == 43) (line_as reader_limits text_line x) (cond (b == 36) (bulk_text reader_limits x) bad)) b bs (λ x. refl)
-    (lawful_if (b == 43) (line_as reader_limits text_line) (λ x. cond (b == 36) (bulk_text reader_limits x) bad) bs (kind_line bs) (lawful_if (b == 36) (bulk_text reader_limits) (λ x. bad) bs (kind_text bs) (lawful_bad bs)))
+pub lawful_kind : (limits : Limits) → AreAllowed limits → Lawful (kind (bounds limits))
+lawful_kind limits allowed [] = lawful_nil (kind (bounds limits)) refl (kind_possible limits)
+lawful_kind limits allowed (b ∷ bs) =
+    lawful_cons (kind (bounds limits)) (λ x. cond (b == 43) (line_as (bounds limits) text_line x) (cond (b == 36) (bulk_text (bounds limits) x) bad)) b bs (λ x. refl)
+    (lawful_if (b == 43) (line_as (bounds limits) text_line) (λ x. cond (b == 36) (bulk_text (bounds limits) x) bad) bs (kind_line limits bs) (lawful_if (b == 36) (bulk_text (bounds limits)) (λ x. bad) bs (kind_text limits allowed bs) (lawful_bad bs)))

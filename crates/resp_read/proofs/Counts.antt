@@ -1,11 +1,14 @@
 -- Lengths without `-1`: which fronts can become one.
-use Rattle.std.proofs.Common.{◌≡◌, ℕ, ◌+◌, ◌-◌, ◌*◌, ◌≤◌, ◌<◌, List, [], ◌∷◌, ◌++◌, length, Option, Some, None, Bool, true, false, cond, inl, inr, refl, ap, ◌∙◌, arith, length-append}
+use Rattle.std.proofs.Common.{lit≤, ◌≡◌, ℕ, ◌+◌, ◌-◌, ◌*◌, ◌≤◌, ◌<◌, List, [], ◌∷◌, ◌++◌, length, Option, Some, None, Bool, true, false, cond, inl, inr, refl, ap, ◌∙◌, arith, length-append}
 use Rattle.std.proofs.lemmas.List.{append-nil}
 use Rattle.std.proofs.lemmas.Bool.Decides.{nat_tests}
 use Rattle.std.specs.Prelude.{◌&&◌, ◌||◌, ◌==◌, nat_le, nat_lt, is_some}
 use Rattle.containers.proofs.Choices.{both_true}
-use Rattle.resp_read.specs.Grammar.{max_line, fits, is_digit, digits_after, at_most, natural, at_least, count, made_by, count_begun, count_line, reader_limits}
-use Rattle.resp_read.proofs.LineLaws.{IsOneLine, LawfulLine, fits_is, fits_within}
+use Rattle.resp_read.specs.Grammar.{fits, is_digit, digits_after, at_most, natural, at_least, count}
+use Rattle.resp_read.specs.Parser.{made_by, count_begun, count_line}
+use Rattle.resp_read.specs.Limits.{bounds, AreAllowed}
+use Rattle.resp_read.specs.declared.limits.Limits.{Limits}
+use Rattle.resp_read.proofs.LineLaws.{IsOneLine, LawfulLine, fits_is, fits_within, few_fit}
 use Rattle.resp_read.proofs.Numbers.{Begins, natural_stays, one_of_two, neither}
 
 not_both : (c d : Bool) → (c && d) ≡ false → c ≡ true → d ≡ false
@@ -17,15 +20,15 @@ abbrev pub AllLines : List (List ℕ) → Type 0
 AllLines [] = Unit {0}
 AllLines (q ∷ qs) = IsOneLine q × AllLines qs
 
-module _ (f : List ℕ → Bool) where
+module _ (limits : Limits) (f : List ℕ → Bool) where
   -- a tail that makes the front whole
   abbrev pub Made : List ℕ → Type 0
-  Made l = (q : List ℕ) × (f (l ++ q) ≡ true) × (length (l ++ q) ≤ max_line) × IsOneLine q
+  Made l = (q : List ℕ) × (f (l ++ q) ≡ true) × (length (l ++ q) ≤ limits.line) × IsOneLine q
 
-  pub made_can : (qs : List (List ℕ)) (l : List ℕ) → AllLines qs → made_by reader_limits f qs l ≡ true → Made l
+  pub made_can : (qs : List (List ℕ)) (l : List ℕ) → AllLines qs → made_by (bounds limits) f qs l ≡ true → Made l
   made_can [] l lines h = cc
-  made_can (q ∷ qs) l lines h = elim (one_of_two (fits reader_limits (l ++ q) && f (l ++ q)) (made_by reader_limits f qs l) h) [
-    | inl one ↦ let b = both_true (fits reader_limits (l ++ q)) (f (l ++ q)) one in (q, b.1, fits_within (l ++ q) b.0, lines.0)
+  made_can (q ∷ qs) l lines h = elim (one_of_two (fits (bounds limits) (l ++ q) && f (l ++ q)) (made_by (bounds limits) f qs l) h) [
+    | inl one ↦ let b = both_true (fits (bounds limits) (l ++ q)) (f (l ++ q)) one in (q, b.1, fits_within limits (l ++ q) b.0, lines.0)
     | inr other ↦ made_can qs l lines.1 other
   ]
 
@@ -93,10 +96,10 @@ no_tail false false false false h k = refl
 no_tail x true z w h k = cc
 no_tail x false z true h k = cc
 
-fits_more : (l : List ℕ) (b : ℕ) → fits reader_limits (l ++ b ∷ []) ≡ nat_lt (length l) max_line
-fits_more l b = let e = length-append l (b ∷ []) in grind (arith, nat_tests)
+fits_more : (limits : Limits) (l : List ℕ) (b : ℕ) → fits (bounds limits) (l ++ b ∷ []) ≡ nat_lt (length l) limits.line
+fits_more limits l b = let e = length-append l (b ∷ []) in grind (arith, nat_tests)
 
-module _ (least most : ℕ) (digit : least ≤ 9) (room : 11 * least ≤ most) where
+module _ (limits : Limits) (allowed : AreAllowed limits) (least most : ℕ) (digit : least ≤ 9) (room : 11 * least ≤ most) where
   -- a length that is too small, with one digit more
   pub next_digit : (n b : ℕ) (l : List ℕ) → natural (Some most) (b ∷ l) ≡ Some n → n < least → count least (Some most) ((b ∷ l) ++ digit_for least) ≡ Some (10 * n + least)
   next_digit n b l h few =
@@ -119,30 +122,30 @@ module _ (least most : ℕ) (digit : least ≤ 9) (room : 11 * least ≤ most) w
   some_count l None is h = cc
   some_count l (Some n) is h = (n, is)
 
-  count_can : (l : List ℕ) → length l ≤ max_line → count_begun reader_limits least (Some most) l ≡ true → Begins (count least (Some most)) l
+  count_can : (l : List ℕ) → length l ≤ limits.line → count_begun (bounds limits) least (Some most) l ≡ true → Begins limits (count least (Some most)) l
   count_can l fit h =
-      let m = made_can is_count ([] ∷ digit_for least ∷ []) l (refl, (line_of_digit, tt)) h in
+      let m = made_can limits is_count ([] ∷ digit_for least ∷ []) l (refl, (line_of_digit, tt)) h in
       let n = some_count (l ++ m.0) (count least (Some most) (l ++ m.0)) refl m.1 in
       (m.0, n.0, n.1, m.2, m.3)
 
   -- neither the front nor the front with one digit more is one
   abbrev Stuck : List ℕ → Type 0
-  Stuck l = (fits reader_limits (l ++ []) ≡ true → is_count (l ++ []) ≡ false) × (fits reader_limits (l ++ digit_for least) ≡ true → is_count (l ++ digit_for least) ≡ false)
+  Stuck l = (fits (bounds limits) (l ++ []) ≡ true → is_count (l ++ []) ≡ false) × (fits (bounds limits) (l ++ digit_for least) ≡ true → is_count (l ++ digit_for least) ≡ false)
 
-  stuck : (l : List ℕ) → count_begun reader_limits least (Some most) l ≡ false → Stuck l
+  stuck : (l : List ℕ) → count_begun (bounds limits) least (Some most) l ≡ false → Stuck l
   stuck l h =
-      let first = neither (fits reader_limits (l ++ []) && is_count (l ++ [])) (made_by reader_limits is_count (digit_for least ∷ []) l) h in
-      let second = neither (fits reader_limits (l ++ digit_for least) && is_count (l ++ digit_for least)) false first.1 in
-      (not_both (fits reader_limits (l ++ [])) (is_count (l ++ [])) first.0, not_both (fits reader_limits (l ++ digit_for least)) (is_count (l ++ digit_for least)) second.0)
+      let first = neither (fits (bounds limits) (l ++ []) && is_count (l ++ [])) (made_by (bounds limits) is_count (digit_for least ∷ []) l) h in
+      let second = neither (fits (bounds limits) (l ++ digit_for least) && is_count (l ++ digit_for least)) false first.1 in
+      (not_both (fits (bounds limits) (l ++ [])) (is_count (l ++ [])) first.0, not_both (fits (bounds limits) (l ++ digit_for least)) (is_count (l ++ digit_for least)) second.0)
 
-  fits_shorter : (l p q : List ℕ) → length p ≤ length q → length (l ++ q) ≤ max_line → fits reader_limits (l ++ p) ≡ true
-  fits_shorter l p q h k = fits_is (l ++ p) (omega (arith, h, k, length-append l p, length-append l q))
+  fits_shorter : (l p q : List ℕ) → length p ≤ length q → length (l ++ q) ≤ limits.line → fits (bounds limits) (l ++ p) ≡ true
+  fits_shorter l p q h k = fits_is limits (l ++ p) (omega (arith, h, k, length-append l p, length-append l q))
 
   counted_none : (l : List ℕ) → natural (Some most) l ≡ None → count least (Some most) l ≡ None
   counted_none l h = ap (at_least least) h
 
   -- a front that is a number, and is stuck, is too small; and then nothing may follow
-  cannot_by : (n b : ℕ) (l q : List ℕ) → natural (Some most) (b ∷ l) ≡ Some n → Stuck (b ∷ l) → length ((b ∷ l) ++ q) ≤ max_line → (c : Bool) → nat_le least n ≡ c → count least (Some most) ((b ∷ l) ++ q) ≡ None
+  cannot_by : (n b : ℕ) (l q : List ℕ) → natural (Some most) (b ∷ l) ≡ Some n → Stuck (b ∷ l) → length ((b ∷ l) ++ q) ≤ limits.line → (c : Bool) → nat_le least n ≡ c → count least (Some most) ((b ∷ l) ++ q) ≡ None
   cannot_by n b l q is h fit true enough_for =
       let whole : count least (Some most) (b ∷ l) ≡ Some n = ap (at_least least) is ∙ enough least n (grind (arith, nat_tests)) in
       let not : is_count ((b ∷ l) ++ []) ≡ false = h.0 (fits_shorter (b ∷ l) [] q (omega arith) fit) in
@@ -155,11 +158,11 @@ module _ (least most : ℕ) (digit : least ≤ 9) (room : 11 * least ≤ most) w
       let yes : is_count ((b ∷ l) ++ digit_for least) ≡ true = ap is_some whole in
       cc
 
-  cannot_at : (b : ℕ) (l q : List ℕ) (o : Option ℕ) → natural (Some most) (b ∷ l) ≡ o → Stuck (b ∷ l) → length ((b ∷ l) ++ q) ≤ max_line → count least (Some most) ((b ∷ l) ++ q) ≡ None
+  cannot_at : (b : ℕ) (l q : List ℕ) (o : Option ℕ) → natural (Some most) (b ∷ l) ≡ o → Stuck (b ∷ l) → length ((b ∷ l) ++ q) ≤ limits.line → count least (Some most) ((b ∷ l) ++ q) ≡ None
   cannot_at b l q None is h fit = counted_none ((b ∷ l) ++ q) (natural_stays most b l q is)
   cannot_at b l q (Some n) is h fit = cannot_by n b l q is h fit (nat_le least n) refl
 
-  count_cannot : (l q : List ℕ) → length (l ++ q) ≤ max_line → count_begun reader_limits least (Some most) l ≡ false → count least (Some most) (l ++ q) ≡ None
+  count_cannot : (l q : List ℕ) → length (l ++ q) ≤ limits.line → count_begun (bounds limits) least (Some most) l ≡ false → count least (Some most) (l ++ q) ≡ None
   count_cannot [] [] fit h = refl
   count_cannot [] (d ∷ q) fit h =
       let not : is_count (digit_for least) ≡ false = (stuck [] h).1 (fits_shorter [] (digit_for least) (d ∷ q) (omega arith) fit) in
@@ -167,43 +170,43 @@ module _ (least most : ℕ) (digit : least ≤ 9) (room : 11 * least ≤ most) w
       cc
   count_cannot (b ∷ l) q fit h = cannot_at b l q (natural (Some most) (b ∷ l)) refl (stuck (b ∷ l) h) fit
 
-  pub lawful_count : LawfulLine (count_line reader_limits least (Some most))
+  pub lawful_count : LawfulLine limits (count_line (bounds limits) least (Some most))
   lawful_count = record { can = count_can; cannot = count_cannot }
 
   -- what the code looks at: the front alone
-  pub begun_empty : (l : List ℕ) → length l ≡ 0 → count_begun reader_limits least (Some most) l ≡ true
+  pub begun_empty : (l : List ℕ) → length l ≡ 0 → count_begun (bounds limits) least (Some most) l ≡ true
   begun_empty (b ∷ l) h = absurd (omega (arith, h))
   begun_empty [] h =
       let yes : is_count (digit_for least) ≡ true = ap is_some first_digit in
-      let fit : fits reader_limits (digit_for least) ≡ true = fits_is (digit_for least) (omega arith) in
-      only_second (fits reader_limits []) false (fits reader_limits (digit_for least)) (is_count (digit_for least)) refl yes ∙ fit
+      let fit : fits (bounds limits) (digit_for least) ≡ true = fits_is limits (digit_for least) (few_fit limits allowed (lit≤ tt)) in
+      only_second (fits (bounds limits) []) false (fits (bounds limits) (digit_for least)) (is_count (digit_for least)) refl yes ∙ fit
 
-  begun_few : (n b : ℕ) (l : List ℕ) → natural (Some most) (b ∷ l) ≡ Some n → n < least → count_begun reader_limits least (Some most) (b ∷ l) ≡ nat_lt (length (b ∷ l)) max_line
+  begun_few : (n b : ℕ) (l : List ℕ) → natural (Some most) (b ∷ l) ≡ Some n → n < least → count_begun (bounds limits) least (Some most) (b ∷ l) ≡ nat_lt (length (b ∷ l)) limits.line
   begun_few n b l is few =
       let no : is_count ((b ∷ l) ++ []) ≡ false = ap is_some (ap (count least (Some most)) (append-nil (b ∷ l)) ∙ ap (at_least least) is ∙ too_few least n few) in
       let yes : is_count ((b ∷ l) ++ digit_for least) ≡ true = ap is_some (next_digit n b l is few) in
-      only_second (fits reader_limits ((b ∷ l) ++ [])) (is_count ((b ∷ l) ++ [])) (fits reader_limits ((b ∷ l) ++ digit_for least)) (is_count ((b ∷ l) ++ digit_for least)) no yes ∙ fits_more (b ∷ l) (48 + least)
+      only_second (fits (bounds limits) ((b ∷ l) ++ [])) (is_count ((b ∷ l) ++ [])) (fits (bounds limits) ((b ∷ l) ++ digit_for least)) (is_count ((b ∷ l) ++ digit_for least)) no yes ∙ fits_more limits (b ∷ l) (48 + least)
 
-  begun_many : (n b : ℕ) (l : List ℕ) → natural (Some most) (b ∷ l) ≡ Some n → least ≤ n → count_begun reader_limits least (Some most) (b ∷ l) ≡ fits reader_limits (b ∷ l)
+  begun_many : (n b : ℕ) (l : List ℕ) → natural (Some most) (b ∷ l) ≡ Some n → least ≤ n → count_begun (bounds limits) least (Some most) (b ∷ l) ≡ fits (bounds limits) (b ∷ l)
   begun_many n b l is many =
       let yes : is_count ((b ∷ l) ++ []) ≡ true = ap is_some (ap (count least (Some most)) (append-nil (b ∷ l)) ∙ ap (at_least least) is ∙ enough least n many) in
-      first_already (fits reader_limits ((b ∷ l) ++ [])) (is_count ((b ∷ l) ++ [])) (fits reader_limits ((b ∷ l) ++ digit_for least)) (is_count ((b ∷ l) ++ digit_for least)) yes
-      (λ h. fits_shorter (b ∷ l) [] (digit_for least) (omega arith) (fits_within ((b ∷ l) ++ digit_for least) h)) ∙ ap (fits reader_limits) (append-nil (b ∷ l))
+      first_already (fits (bounds limits) ((b ∷ l) ++ [])) (is_count ((b ∷ l) ++ [])) (fits (bounds limits) ((b ∷ l) ++ digit_for least)) (is_count ((b ∷ l) ++ digit_for least)) yes
+      (λ h. fits_shorter (b ∷ l) [] (digit_for least) (omega arith) (fits_within limits ((b ∷ l) ++ digit_for least) h)) ∙ ap (fits (bounds limits)) (append-nil (b ∷ l))
 
-  begun_none : (b : ℕ) (l : List ℕ) → natural (Some most) (b ∷ l) ≡ None → count_begun reader_limits least (Some most) (b ∷ l) ≡ false
+  begun_none : (b : ℕ) (l : List ℕ) → natural (Some most) (b ∷ l) ≡ None → count_begun (bounds limits) least (Some most) (b ∷ l) ≡ false
   begun_none b l is =
       let no : is_count ((b ∷ l) ++ []) ≡ false = ap is_some (counted_none ((b ∷ l) ++ []) (natural_stays most b l [] is)) in
       let nor : is_count ((b ∷ l) ++ digit_for least) ≡ false = ap is_some (counted_none ((b ∷ l) ++ digit_for least) (natural_stays most b l (digit_for least) is)) in
-      no_tail (fits reader_limits ((b ∷ l) ++ [])) (is_count ((b ∷ l) ++ [])) (fits reader_limits ((b ∷ l) ++ digit_for least)) (is_count ((b ∷ l) ++ digit_for least)) no nor
+      no_tail (fits (bounds limits) ((b ∷ l) ++ [])) (is_count ((b ∷ l) ++ [])) (fits (bounds limits) ((b ∷ l) ++ digit_for least)) (is_count ((b ∷ l) ++ digit_for least)) no nor
 
-  pub front_few : (n : ℕ) (l : List ℕ) → 0 < length l → natural (Some most) l ≡ Some n → n < least → count_begun reader_limits least (Some most) l ≡ nat_lt (length l) max_line
+  pub front_few : (n : ℕ) (l : List ℕ) → 0 < length l → natural (Some most) l ≡ Some n → n < least → count_begun (bounds limits) least (Some most) l ≡ nat_lt (length l) limits.line
   front_few n [] some is few = absurd (omega (arith, some))
   front_few n (b ∷ l) some is few = begun_few n b l is few
 
-  pub front_many : (n : ℕ) (l : List ℕ) → 0 < length l → natural (Some most) l ≡ Some n → least ≤ n → count_begun reader_limits least (Some most) l ≡ fits reader_limits l
+  pub front_many : (n : ℕ) (l : List ℕ) → 0 < length l → natural (Some most) l ≡ Some n → least ≤ n → count_begun (bounds limits) least (Some most) l ≡ fits (bounds limits) l
   front_many n [] some is many = absurd (omega (arith, some))
   front_many n (b ∷ l) some is many = begun_many n b l is many
 
-  pub front_none : (l : List ℕ) → 0 < length l → natural (Some most) l ≡ None → count_begun reader_limits least (Some most) l ≡ false
+  pub front_none : (l : List ℕ) → 0 < length l → natural (Some most) l ≡ None → count_begun (bounds limits) least (Some most) l ≡ false
   front_none [] some is = absurd (omega (arith, some))
   front_none (b ∷ l) some is = begun_none b l is

@@ -2,13 +2,15 @@
 use Rattle.std.proofs.Common.{◌≡◌, ℕ, ◌+◌, ◌-◌, ◌*◌, ◌≤◌, ◌<◌, List, [], ◌∷◌, ◌++◌, Option, Some, None, Bool, true, false, cond, lit≤, refl, sym, ap, ◌∙◌, arith}
 use Rattle.std.proofs.lemmas.Bool.Decides.{nat_tests}
 use Rattle.std.specs.Prelude.{ℤ, pos, neg_ℤ, nat_le, option_map, ◌==◌, ◌||◌, is_some}
-use Rattle.resp_read.specs.Grammar.{is_digit, digits_after, at_most, natural, number, number_begun, after_digits, is_end, big_begun}
-use Rattle.resp_read.specs.Digits.{greatest, kept, digit_to, digits_step, digits_run, number_in, is_bare, are_digits}
+use Rattle.resp_read.specs.Grammar.{digits_and, is_big, is_digit, digits_after, at_most, natural, number, after_digits, is_end}
+use Rattle.resp_read.specs.Parser.{number_begun, big_begun}
+use Rattle.resp_read.specs.Digits.{greatest, kept, digit_to, digits_step, digits_run, natural_in, number_in, is_bare, are_digits}
 use Rattle.resp_read.specs.declared.digits.Sign.{Sign}
 use Rattle.resp_read.specs.declared.digits.Sign.TheVariants.{NoSign, Plus, Minus}
 use Rattle.resp_read.specs.declared.digits.Digits.{Digits}
 use Rattle.resp_read.specs.declared.digits.Digits.TheVariants.{Empty, Signed, Number, Above, Never}
-use Rattle.resp_read.proofs.Scans.{stays_above}
+use Rattle.resp_read.proofs.Scans.{stays_above, below_digits}
+use Rattle.resp_read.proofs.WordLaws.{big_is}
 
 pub run-append : (d : Digits) (l q : List ℕ) → digits_run d (l ++ q) ≡ digits_run (digits_run d l) q
 run-append d [] q = refl
@@ -83,6 +85,50 @@ number_by false false b l = run_first number_in NoSign 9_223_372_036_854_775_807
 pub number_is : (l : List ℕ) → number l ≡ number_in (digits_run Empty l)
 number_is [] = refl
 number_is (b ∷ l) = sym (number_by (b == 45) (b == 43) b l)
+
+-- a length within a limit, where no sign stands before it
+limit_map : (c : Bool) (n : ℕ) → cond c (Some n) None ≡ option_map (λ m. m) (cond c (Some n) None)
+limit_map true n = refl
+limit_map false n = refl
+
+same_option : (o : Option ℕ) → option_map (λ n. n) o ≡ o
+same_option None = refl
+same_option (Some n) = refl
+
+module _ (most : ℕ) (fit : most ≤ greatest) where
+  natural_reads : Gives (natural_in most) NoSign most (λ n. n)
+  natural_reads = record { number = λ n h. limit_map (nat_le n most) n; above = refl; never = refl; least = fit }
+
+  -- behind a sign there is none
+  module _ (s : Sign) (none : (n : ℕ) → natural_in most (Number s n) ≡ None) where
+    kept_none : (c : Bool) (m : ℕ) (l : List ℕ) → natural_in most (digits_run (Number s m) l) ≡ None → natural_in most (digits_run (cond c (Number s m) Above) l) ≡ None
+    kept_none true m l h = h
+    kept_none false m l h = none_above (natural_in most) NoSign most (λ n. n) natural_reads l
+
+    digit_none : (c : Bool) (m : ℕ) (l : List ℕ) → natural_in most (digits_run (Number s m) l) ≡ None → natural_in most (digits_run (cond c (kept s m) Never) l) ≡ None
+    digit_none true m l h = kept_none (nat_le m greatest) m l h
+    digit_none false m l h = ap (natural_in most) (never_stays l)
+
+    number_none : (l : List ℕ) (n : ℕ) → natural_in most (digits_run (Number s n) l) ≡ None
+    number_none [] n = none n
+    number_none (b ∷ l) n = digit_none (is_digit b) (10 * n + (b - 48)) l (number_none l (10 * n + (b - 48)))
+
+    signed_none : (l : List ℕ) → natural_in most (digits_run (Signed s) l) ≡ None
+    signed_none [] = refl
+    signed_none (b ∷ l) = digit_none (is_digit b) (10 * 0 + (b - 48)) l (number_none l (10 * 0 + (b - 48)))
+
+  natural_by : (c d : Bool) (b : ℕ) (l : List ℕ) → (b == 45) ≡ c → (b == 43) ≡ d → natural_in most (digits_run (cond c (Signed Minus) (cond d (Signed Plus) (digit_to NoSign 0 b))) l) ≡ natural (Some most) (b ∷ l)
+  natural_by true d b l h k =
+      let e : b ≡ 45 = grind (arith, nat_tests) in
+      signed_none Minus (λ n. refl) l ∙ sym (ap (at_most (Some most)) (below_digits 0 b l (omega (arith, e))))
+  natural_by false true b l h k =
+      let e : b ≡ 43 = grind (arith, nat_tests) in
+      signed_none Plus (λ n. refl) l ∙ sym (ap (at_most (Some most)) (below_digits 0 b l (omega (arith, e))))
+  natural_by false false b l h k = run_first (natural_in most) NoSign most (λ n. n) natural_reads b l ∙ same_option (natural (Some most) (b ∷ l))
+
+  pub natural_is : (l : List ℕ) → natural (Some most) l ≡ natural_in most (digits_run Empty l)
+  natural_is [] = refl
+  natural_is (b ∷ l) = sym (natural_by (b == 45) (b == 43) b l refl refl)
 
 -- behind a digit nothing is bare
 digit_bare : (c d : Bool) (s : Sign) (m : ℕ) → is_bare (cond c (cond d (Number s m) Above) Never) ≡ false
@@ -169,3 +215,25 @@ big_by false false b l = digit_alive NoSign b l
 pub can_be_big : (l : List ℕ) → big_begun l ≡ (is_bare (digits_run Empty l) || are_digits (digits_run Empty l))
 can_be_big [] = refl
 can_be_big (b ∷ l) = sym (big_by (b == 45) (b == 43) b l)
+
+-- digits, one at least
+digit_digits : (s : Sign) (b : ℕ) (l : List ℕ) → are_digits (digits_run (digit_to s 0 b) l) ≡ digits_and is_end (b ∷ l)
+digit_digits s b l =
+    let m = 10 * 0 + (b - 48) in
+    let bare : is_bare (digits_run (digit_to s 0 b) l) ≡ false = never_bare l (digit_to s 0 b) (digit_bare (is_digit b) (nat_le m greatest) s m) in
+    sym (ap (λ c. c || are_digits (digits_run (digit_to s 0 b) l)) bare) ∙ digit_alive s b l ∙ sym (big_is b l)
+
+signed_digits : (s : Sign) (l : List ℕ) → are_digits (digits_run (Signed s) l) ≡ digits_and is_end l
+signed_digits s [] = refl
+signed_digits s (b ∷ l) = digit_digits s b l
+
+digits_by : (c d : Bool) (b : ℕ) (l : List ℕ) → are_digits (digits_run (cond c (Signed Minus) (cond d (Signed Plus) (digit_to NoSign 0 b))) l) ≡ digits_and is_end (cond (d || c) l (b ∷ l))
+digits_by true true b l = signed_digits Minus l
+digits_by true false b l = signed_digits Minus l
+digits_by false true b l = signed_digits Plus l
+digits_by false false b l = digit_digits NoSign b l
+
+-- whether a line is a big number
+pub big_digits : (l : List ℕ) → is_big l ≡ are_digits (digits_run Empty l)
+big_digits [] = refl
+big_digits (b ∷ l) = sym (digits_by (b == 45) (b == 43) b l)

@@ -4,10 +4,13 @@ use Rattle.std.proofs.lemmas.Bool.Decides.{nat_tests}
 use Rattle.std.proofs.Math.Bool.{or-true, or-false, and-false}
 use Rattle.std.specs.Prelude.{◌==◌, ◌&&◌, ◌||◌, ◌⊎◌, nat_le, nat_eq, bytes_eq}
 use Rattle.resp_value.specs.Data.{double}
-use Rattle.resp_read.specs.Grammar.{max_line, fits, is_digit, is_end, unsigned, after_digits, digits_and, is_exponent, is_fraction, is_double, made_by, double_tails, double_line, reader_limits}
+use Rattle.resp_read.specs.Grammar.{fits, is_digit, is_end, unsigned, after_digits, digits_and, is_exponent, is_fraction, is_double}
+use Rattle.resp_read.specs.Parser.{made_by, double_tails, double_line}
 use Rattle.resp_read.specs.Doubles.{digit_to, exponent_to, step, run, missing}
 use Rattle.resp_read.specs.declared.decimals.Seen.{Seen}
 use Rattle.resp_read.specs.declared.decimals.Seen.TheVariants.{Nothing, Minus, Plus, I, In, Inf, N, Na, Nan, Whole, Point, Fraction, Exponent, Sign, Power, Never}
+use Rattle.resp_read.specs.Limits.{bounds}
+use Rattle.resp_read.specs.declared.limits.Limits.{Limits}
 use Rattle.resp_read.proofs.LineLaws.{LawfulLine, fits_is, fits_within}
 use Rattle.resp_read.proofs.Numbers.{Begins}
 use Rattle.resp_read.proofs.Counts.{made_can}
@@ -228,65 +231,28 @@ completes Sign = (refl, refl, inr (inl refl))
 completes Power = (refl, refl, inl refl)
 completes Never = tt
 
-module _ (f : List ℕ → Bool) where
-  made_among : (qs : List (List ℕ)) (l q : List ℕ) → Among q qs → fits reader_limits (l ++ q) ≡ true → f (l ++ q) ≡ true → made_by reader_limits f qs l ≡ true
+module _ (limits : Limits) (f : List ℕ → Bool) where
+  made_among : (qs : List (List ℕ)) (l q : List ℕ) → Among q qs → fits (bounds limits) (l ++ q) ≡ true → f (l ++ q) ≡ true → made_by (bounds limits) f qs l ≡ true
   made_among [] l q h fit is = absurd h
   made_among (p ∷ ps) l q (inl e) fit is =
       let same : l ++ q ≡ l ++ p = ap (λ x. l ++ x) e in
-      let a : fits reader_limits (l ++ p) ≡ true = ap (fits reader_limits) (sym same) ∙ fit in
+      let a : fits (bounds limits) (l ++ p) ≡ true = ap (fits (bounds limits)) (sym same) ∙ fit in
       let b : f (l ++ p) ≡ true = ap f (sym same) ∙ is in
       rw (a, b) refl
   made_among (p ∷ ps) l q (inr h) fit is =
-      ap (λ c. (fits reader_limits (l ++ p) && f (l ++ p)) || c) (made_among ps l q h fit is) ∙ or-true (fits reader_limits (l ++ p) && f (l ++ p))
+      ap (λ c. (fits (bounds limits) (l ++ p) && f (l ++ p)) || c) (made_among ps l q h fit is) ∙ or-true (fits (bounds limits) (l ++ p) && f (l ++ p))
 
   no_by : (c d e : Bool) → (c ≡ true → d ≡ false) → e ≡ false → ((c && d) || e) ≡ false
   no_by true d e h k = let n = h refl in rw (n, k) refl
   no_by false d e h k = k
 
-  none_made : (qs : List (List ℕ)) (l : List ℕ) → ((q : List ℕ) → fits reader_limits (l ++ q) ≡ true → f (l ++ q) ≡ false) → made_by reader_limits f qs l ≡ false
+  none_made : (qs : List (List ℕ)) (l : List ℕ) → ((q : List ℕ) → fits (bounds limits) (l ++ q) ≡ true → f (l ++ q) ≡ false) → made_by (bounds limits) f qs l ≡ false
   none_made [] l h = refl
-  none_made (q ∷ qs) l h = no_by (fits reader_limits (l ++ q)) (f (l ++ q)) (made_by reader_limits f qs l) (h q) (none_made qs l h)
+  none_made (q ∷ qs) l h = no_by (fits (bounds limits) (l ++ q)) (f (l ++ q)) (made_by (bounds limits) f qs l) (h q) (none_made qs l h)
 
 module _ (l : List ℕ) where
   no_double : (q : List ℕ) → TooFew (missing (run Nothing l)) (length q) → is_double (l ++ q) ≡ false
   no_double q h = double_on l q ∙ few (run Nothing l) q h
-
-  pub begun_fits : (n : ℕ) → missing (run Nothing l) ≡ Some n → length l + n ≤ max_line → made_by reader_limits is_double double_tails l ≡ true
-  begun_fits n is fit =
-      let s = run Nothing l in
-      let c : Completes s (Some n) = subst (Completes s) is (completes s) in
-      let k : length (l ++ tail_of s) ≤ max_line = omega (arith, length-append l (tail_of s), c.1, fit) in
-      made_among is_double double_tails l (tail_of s) c.2 (fits_is (l ++ tail_of s) k) (double_on l (tail_of s) ∙ c.0)
-
-  too_few : (n : ℕ) → missing (run Nothing l) ≡ Some n → max_line < length l + n → (q : List ℕ) → length (l ++ q) ≤ max_line → is_double (l ++ q) ≡ false
-  too_few n is long q fit =
-      let k : length q < n = omega (arith, length-append l q, long, fit) in
-      no_double q (subst (λ o. TooFew o (length q)) (sym is) k)
-
-  pub begun_long : (n : ℕ) → missing (run Nothing l) ≡ Some n → max_line < length l + n → made_by reader_limits is_double double_tails l ≡ false
-  begun_long n is long = none_made is_double double_tails l (λ q fit. too_few n is long q (fits_within (l ++ q) fit))
-
-  never_double : missing (run Nothing l) ≡ None → (q : List ℕ) → is_double (l ++ q) ≡ false
-  never_double is q = no_double q (subst (λ o. TooFew o (length q)) (sym is) tt)
-
-  pub begun_never : missing (run Nothing l) ≡ None → made_by reader_limits is_double double_tails l ≡ false
-  begun_never is = none_made is_double double_tails l (λ q fit. never_double is q)
-
-  long_by : (n : ℕ) → missing (run Nothing l) ≡ Some n → made_by reader_limits is_double double_tails l ≡ false → (c : Bool) → nat_le (length l + n) max_line ≡ c → max_line < length l + n
-  long_by n is h true fit = let e = begun_fits n is (grind (arith, nat_tests)) in cc
-  long_by n is h false long = grind (arith, nat_tests)
-
-  none_by : (o : Option ℕ) → missing (run Nothing l) ≡ o → made_by reader_limits is_double double_tails l ≡ false → (q : List ℕ) → length (l ++ q) ≤ max_line → is_double (l ++ q) ≡ false
-  none_by None is h q fit = never_double is q
-  none_by (Some n) is h q fit = too_few n is (long_by n is h (nat_le (length l + n) max_line) refl) q fit
-
-  begun_by : (n : ℕ) → missing (run Nothing l) ≡ Some n → length l ≤ max_line → (c : Bool) → nat_le n (max_line - length l) ≡ c → c ≡ made_by reader_limits is_double double_tails l
-  begun_by n is h true fit = sym (begun_fits n is (grind (arith, nat_tests)))
-  begun_by n is h false long = sym (begun_long n is (grind (arith, nat_tests)))
-
-  -- what the code looks at
-  pub begun_is : (n : ℕ) → missing (run Nothing l) ≡ Some n → length l ≤ max_line → nat_le n (max_line - length l) ≡ made_by reader_limits is_double double_tails l
-  begun_is n is h = begun_by n is h (nat_le n (max_line - length l)) refl
 
   pub double_whole : (n : ℕ) → missing (run Nothing l) ≡ Some n → is_double l ≡ nat_eq n 0
   double_whole n is = double_is l ∙ ap is_whole is ∙ none_missing n
@@ -294,13 +260,51 @@ module _ (l : List ℕ) where
   pub double_never : missing (run Nothing l) ≡ None → is_double l ≡ false
   double_never is = double_is l ∙ ap is_whole is
 
-double_can : (l : List ℕ) → length l ≤ max_line → made_by reader_limits is_double double_tails l ≡ true → Begins (λ x. cond (is_double x) (Some (double x)) None) l
-double_can l fit h =
-    let m = made_can is_double double_tails l (refl, (refl, (refl, (refl, (refl, (refl, tt)))))) h in
+module _ (limits : Limits) (l : List ℕ) where
+  pub begun_fits : (n : ℕ) → missing (run Nothing l) ≡ Some n → length l + n ≤ limits.line → made_by (bounds limits) is_double double_tails l ≡ true
+  begun_fits n is fit =
+      let s = run Nothing l in
+      let c : Completes s (Some n) = subst (Completes s) is (completes s) in
+      let k : length (l ++ tail_of s) ≤ limits.line = omega (arith, length-append l (tail_of s), c.1, fit) in
+      made_among limits is_double double_tails l (tail_of s) c.2 (fits_is limits (l ++ tail_of s) k) (double_on l (tail_of s) ∙ c.0)
+
+  too_few : (n : ℕ) → missing (run Nothing l) ≡ Some n → limits.line < length l + n → (q : List ℕ) → length (l ++ q) ≤ limits.line → is_double (l ++ q) ≡ false
+  too_few n is long q fit =
+      let k : length q < n = omega (arith, length-append l q, long, fit) in
+      no_double l q (subst (λ o. TooFew o (length q)) (sym is) k)
+
+  pub begun_long : (n : ℕ) → missing (run Nothing l) ≡ Some n → limits.line < length l + n → made_by (bounds limits) is_double double_tails l ≡ false
+  begun_long n is long = none_made limits is_double double_tails l (λ q fit. too_few n is long q (fits_within limits (l ++ q) fit))
+
+  never_double : missing (run Nothing l) ≡ None → (q : List ℕ) → is_double (l ++ q) ≡ false
+  never_double is q = no_double l q (subst (λ o. TooFew o (length q)) (sym is) tt)
+
+  pub begun_never : missing (run Nothing l) ≡ None → made_by (bounds limits) is_double double_tails l ≡ false
+  begun_never is = none_made limits is_double double_tails l (λ q fit. never_double is q)
+
+  long_by : (n : ℕ) → missing (run Nothing l) ≡ Some n → made_by (bounds limits) is_double double_tails l ≡ false → (c : Bool) → nat_le (length l + n) limits.line ≡ c → limits.line < length l + n
+  long_by n is h true fit = let e = begun_fits n is (grind (arith, nat_tests)) in cc
+  long_by n is h false long = grind (arith, nat_tests)
+
+  none_by : (o : Option ℕ) → missing (run Nothing l) ≡ o → made_by (bounds limits) is_double double_tails l ≡ false → (q : List ℕ) → length (l ++ q) ≤ limits.line → is_double (l ++ q) ≡ false
+  none_by None is h q fit = never_double is q
+  none_by (Some n) is h q fit = too_few n is (long_by n is h (nat_le (length l + n) limits.line) refl) q fit
+
+  begun_by : (n : ℕ) → missing (run Nothing l) ≡ Some n → length l ≤ limits.line → (c : Bool) → nat_le n (limits.line - length l) ≡ c → c ≡ made_by (bounds limits) is_double double_tails l
+  begun_by n is h true fit = sym (begun_fits n is (grind (arith, nat_tests)))
+  begun_by n is h false long = sym (begun_long n is (grind (arith, nat_tests)))
+
+  -- what the code looks at
+  pub begun_is : (n : ℕ) → missing (run Nothing l) ≡ Some n → length l ≤ limits.line → nat_le n (limits.line - length l) ≡ made_by (bounds limits) is_double double_tails l
+  begun_is n is h = begun_by n is h (nat_le n (limits.line - length l)) refl
+
+double_can : (limits : Limits) (l : List ℕ) → length l ≤ limits.line → made_by (bounds limits) is_double double_tails l ≡ true → Begins limits (λ x. cond (is_double x) (Some (double x)) None) l
+double_can limits l fit h =
+    let m = made_can limits is_double double_tails l (refl, (refl, (refl, (refl, (refl, (refl, tt)))))) h in
     (m.0, double (l ++ m.0), ap (λ c. cond c (Some (double (l ++ m.0))) None) m.1, m.2, m.3)
 
-pub lawful_double : LawfulLine (double_line reader_limits)
-lawful_double = record {
-  can = double_can;
-  cannot = λ l q fit h. ap (λ c. cond c (Some (double (l ++ q))) None) (none_by l (missing (run Nothing l)) refl h q fit);
+pub lawful_double : (limits : Limits) → LawfulLine limits (double_line (bounds limits))
+lawful_double limits = record {
+  can = double_can limits;
+  cannot = λ l q fit h. ap (λ c. cond c (Some (double (l ++ q))) None) (none_by limits l (missing (run Nothing l)) refl h q fit);
 }

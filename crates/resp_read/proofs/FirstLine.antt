@@ -1,7 +1,7 @@
 -- The first line of a text, when bytes stand before it or follow.
 use Rattle.std.proofs.Common.{◌≡◌, ℕ, List, [], ◌∷◌, ◌++◌, Bool, true, false, cond, refl, sym, ap, ◌∙◌}
 use Rattle.std.specs.Prelude.{◌==◌}
-use Rattle.resp_read.specs.Grammar.{Line, ended, held, unended, broken, after_return, byte_before, line}
+use Rattle.resp_read.specs.Parser.{ended, held, unended, broken, Line, after_return, byte_before, line}
 
 -- the line with these bytes before it
 abbrev pub bytes_before : List ℕ → Line → Line

@@ -1,12 +1,12 @@
 -- The items at the front of a text, one by one.
 use Rattle.std.proofs.Common.{◌≡◌, ℕ, List, [], ◌∷◌, cond, ap}
 use Rattle.resp_value.specs.Data.{Data}
-use Rattle.resp_read.specs.Grammar.{read, parse, max_depth}
+use Rattle.resp_read.specs.Reads.{Reads}
 use Rattle.resp_read.specs.Values.{values}
 use Rattle.resp_read.specs.Items.{is_item, items_among, items}
 use Rattle.resp_read.proofs.ValueLaws.{values-read}
 
-pub items-read : (bs : List ℕ) (v : Data) (r : List ℕ) → parse max_depth bs ≡ read v r → items bs ≡ cond (is_item v) (v ∷ items r) (items r)
+pub items-read : (bs : List ℕ) (v : Data) (r : List ℕ) → Reads bs v r → items bs ≡ cond (is_item v) (v ∷ items r) (items r)
 unfolding items
 items-read bs v r e = ap items_among (values-read bs v r e).0
 

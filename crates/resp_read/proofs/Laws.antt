@@ -1,7 +1,7 @@
 -- What holds of each reader of a form, and how it passes from the parts to the whole.
 use Rattle.std.proofs.Common.{◌≡◌, ℕ, List, [], ◌∷◌, ◌++◌, Bool, true, false, refl, sym, ap, ◌∙◌, append_assoc}
 use Rattle.std.specs.Prelude.{if◌then◌else◌}
-use Rattle.resp_read.specs.Grammar.{Found, read, short, bad, found_and_then, found_map}
+use Rattle.resp_read.specs.Parser.{read, short, bad, Found, found_and_then, found_map}
 
 module _ {A : Type 0} where
   -- with bytes that follow: what was read stays read, what was bad stays bad; some bytes make a short text whole; and what is left is the end of the text

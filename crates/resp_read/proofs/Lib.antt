@@ -9,9 +9,12 @@ pub mod DoubleLaws
 pub mod Bodies
 pub mod Repeats
 pub mod ParseLaws
+pub mod GrammarLaws
+pub mod WithinLaws
 pub mod ReadLaws
 pub mod ValueLaws
 pub mod ItemLaws
 pub mod FrameLaws
 pub mod DigitLaws
 pub mod WaitLaws
+pub mod AskedLaws

@@ -4,42 +4,45 @@ use Rattle.std.proofs.lemmas.List.{append-nil}
 use Rattle.std.proofs.lemmas.Bool.Decides.{nat_tests}
 use Rattle.std.specs.Prelude.{ℤ, pos, neg_ℤ, nat_le, option_map, ◌==◌, ◌&&◌, ◌||◌, bytes_eq, is_some, ◌⊎◌}
 use Rattle.resp_value.specs.Data.{int}
-use Rattle.resp_read.specs.Grammar.{max_line, is_digit, digits_after, at_most, natural, number, number_begun, size, size_begun, simple_of, error_of, simple_line, error_line, number_line, size_line, text_line}
+use Rattle.resp_read.specs.Grammar.{is_digit, digits_after, at_most, natural, number, size, simple_of, error_of}
+use Rattle.resp_read.specs.Parser.{number_begun, size_begun, simple_line, error_line, number_line, size_line, text_line}
+use Rattle.resp_read.specs.Limits.{AreAllowed}
+use Rattle.resp_read.specs.declared.limits.Limits.{Limits}
 use Rattle.resp_read.proofs.Scans.{stays_above}
-use Rattle.resp_read.proofs.LineLaws.{IsOneLine, LawfulLine}
+use Rattle.resp_read.proofs.LineLaws.{IsOneLine, LawfulLine, few_fit}
 
 -- some line of the form begins with l
-abbrev pub Begins : {A : Type 0} → (List ℕ → Option A) → List ℕ → Type 0
-Begins {A} f l = (q : List ℕ) × (a : A) × (f (l ++ q) ≡ Some a) × (length (l ++ q) ≤ max_line) × IsOneLine q
+abbrev pub Begins : {A : Type 0} → Limits → (List ℕ → Option A) → List ℕ → Type 0
+Begins {A} limits f l = (q : List ℕ) × (a : A) × (f (l ++ q) ≡ Some a) × (length (l ++ q) ≤ limits.line) × IsOneLine q
 
 pub is_none : {A : Type 0} (o : Option A) → is_some o ≡ false → o ≡ None
 is_none None h = refl
 is_none (Some x) h = cc
 
-module _ {A : Type 0} (f : List ℕ → Option A) where
-  pub whole_already : (l : List ℕ) (o : Option A) → f l ≡ o → length l ≤ max_line → is_some o ≡ true → Begins f l
+module _ (limits : Limits) {A : Type 0} (f : List ℕ → Option A) where
+  pub whole_already : (l : List ℕ) (o : Option A) → f l ≡ o → length l ≤ limits.line → is_some o ≡ true → Begins limits f l
   whole_already l None is fit h = cc
-  whole_already l (Some a) is fit h = ([], a, ap f (append-nil l) ∙ is, subst (λ x. length x ≤ max_line) (sym (append-nil l)) fit, refl)
+  whole_already l (Some a) is fit h = ([], a, ap f (append-nil l) ∙ is, subst (λ x. length x ≤ limits.line) (sym (append-nil l)) fit, refl)
 
-  pub seen_through : {B : Type 0} (h : A → B) (l : List ℕ) → Begins f l → Begins (λ x. option_map h (f x)) l
+  pub seen_through : {B : Type 0} (h : A → B) (l : List ℕ) → Begins limits f l → Begins limits (λ x. option_map h (f x)) l
   seen_through h l b = (b.0, h b.1, ap (option_map h) b.2, b.3, b.4)
 
 -- every line is of the form
-module _ {A : Type 0} (f : List ℕ → A) where
-  any_line : LawfulLine (record { whole = λ l. Some (f l); begun = λ l. true })
+module _ (limits : Limits) {A : Type 0} (f : List ℕ → A) where
+  any_line : LawfulLine limits (record { whole = λ l. Some (f l); begun = λ l. true })
   any_line = record {
-    can = λ l fit h. whole_already (λ x. Some (f x)) l (Some (f l)) refl fit refl;
+    can = λ l fit h. whole_already limits (λ x. Some (f x)) l (Some (f l)) refl fit refl;
     cannot = λ l q fit h. cc;
   }
 
-pub lawful_simple : LawfulLine simple_line
-lawful_simple = any_line simple_of
+pub lawful_simple : (limits : Limits) → LawfulLine limits simple_line
+lawful_simple limits = any_line limits simple_of
 
-pub lawful_text_line : LawfulLine text_line
-lawful_text_line = any_line (λ l. l)
+pub lawful_text_line : (limits : Limits) → LawfulLine limits text_line
+lawful_text_line limits = any_line limits (λ l. l)
 
-pub lawful_error : LawfulLine error_line
-lawful_error = any_line error_of
+pub lawful_error : (limits : Limits) → LawfulLine limits error_line
+lawful_error limits = any_line limits error_of
 
 none_still : (c : Bool) (most : ℕ) (x y : Option ℕ) → (at_most (Some most) x ≡ None → at_most (Some most) y ≡ None) → at_most (Some most) (cond c x None) ≡ None → at_most (Some most) (cond c y None) ≡ None
 none_still true most x y f h = f h
@@ -91,19 +94,19 @@ none_of_three true y z h = cc
 none_of_three false true z h = cc
 none_of_three false false z h = (refl, refl, h)
 
-sign_begins : (b k : ℕ) → (b == k) ≡ true → Begins number (k ∷ []) → Begins number (b ∷ [])
-sign_begins b k h begins = let e : b ≡ k = grind (arith, nat_tests) in subst (λ x. Begins number (x ∷ [])) (sym e) begins
+sign_begins : (limits : Limits) (b k : ℕ) → (b == k) ≡ true → Begins limits number (k ∷ []) → Begins limits number (b ∷ [])
+sign_begins limits b k h begins = let e : b ≡ k = grind (arith, nat_tests) in subst (λ x. Begins limits number (x ∷ [])) (sym e) begins
 
-number_can : (l : List ℕ) → length l ≤ max_line → number_begun l ≡ true → Begins number l
-number_can [] fit h = (48 ∷ [], pos 0, refl, lit≤ tt, refl)
-number_can (b ∷ []) fit h = elim (one_of_three (b == 45) (b == 43) (is_some (number (b ∷ []))) h) [
-  | inl minus ↦ sign_begins b 45 minus (48 ∷ [], pos 0, refl, lit≤ tt, refl)
+number_can : (limits : Limits) → AreAllowed limits → (l : List ℕ) → length l ≤ limits.line → number_begun l ≡ true → Begins limits number l
+number_can limits allowed [] fit h = (48 ∷ [], pos 0, refl, few_fit limits allowed (lit≤ tt), refl)
+number_can limits allowed (b ∷ []) fit h = elim (one_of_three (b == 45) (b == 43) (is_some (number (b ∷ []))) h) [
+  | inl minus ↦ sign_begins limits b 45 minus (48 ∷ [], pos 0, refl, few_fit limits allowed (lit≤ tt), refl)
   | inr other ↦ elim other [
-    | inl plus ↦ sign_begins b 43 plus (48 ∷ [], pos 0, refl, lit≤ tt, refl)
-    | inr whole ↦ whole_already number (b ∷ []) (number (b ∷ [])) refl fit whole
+    | inl plus ↦ sign_begins limits b 43 plus (48 ∷ [], pos 0, refl, few_fit limits allowed (lit≤ tt), refl)
+    | inr whole ↦ whole_already limits number (b ∷ []) (number (b ∷ [])) refl fit whole
   ]
 ]
-number_can (b ∷ c ∷ ds) fit h = whole_already number (b ∷ c ∷ ds) (number (b ∷ c ∷ ds)) refl fit h
+number_can limits allowed (b ∷ c ∷ ds) fit h = whole_already limits number (b ∷ c ∷ ds) (number (b ∷ c ∷ ds)) refl fit h
 
 number_cannot : (l q : List ℕ) → number_begun l ≡ false → number (l ++ q) ≡ None
 number_cannot [] q h = cc
@@ -112,9 +115,9 @@ number_cannot (b ∷ []) q h =
     number_stays_one b q n.0 n.1 (is_none (number (b ∷ [])) n.2)
 number_cannot (b ∷ c ∷ ds) q h = number_stays b c ds q (is_none (number (b ∷ c ∷ ds)) h)
 
-pub lawful_number : LawfulLine number_line
-lawful_number = record {
-  can = λ l fit h. seen_through number int l (number_can l fit h);
+pub lawful_number : (limits : Limits) → AreAllowed limits → LawfulLine limits number_line
+lawful_number limits allowed = record {
+  can = λ l fit h. seen_through limits number int l (number_can limits allowed l fit h);
   cannot = λ l q fit h. ap (option_map int) (number_cannot l q h);
 }
 
@@ -161,21 +164,21 @@ pub neither : (x y : Bool) → (x || y) ≡ false → (x ≡ false) × (y ≡ fa
 neither true y h = cc
 neither false y h = (refl, h)
 
-minus_begins : (most : ℕ) → Begins (size (Some most)) (45 ∷ [])
-minus_begins most = (49 ∷ [], None, refl, lit≤ tt, refl)
+minus_begins : (limits : Limits) → AreAllowed limits → (most : ℕ) → Begins limits (size (Some most)) (45 ∷ [])
+minus_begins limits allowed most = (49 ∷ [], None, refl, few_fit limits allowed (lit≤ tt), refl)
 
-size_can : (most : ℕ) (l : List ℕ) → length l ≤ max_line → size_begun (Some most) l ≡ true → Begins (size (Some most)) l
-size_can most [] fit h = (45 ∷ 49 ∷ [], None, refl, lit≤ tt, refl)
-size_can most (b ∷ []) fit h = elim (one_of_two (b == 45) (is_some (size (Some most) (b ∷ []))) h) [
-  | inl minus ↦ let e : b ≡ 45 = grind (arith, nat_tests) in subst (λ x. Begins (size (Some most)) (x ∷ [])) (sym e) (minus_begins most)
-  | inr whole ↦ whole_already (size (Some most)) (b ∷ []) (size (Some most) (b ∷ [])) refl fit whole
+size_can : (limits : Limits) → AreAllowed limits → (most : ℕ) (l : List ℕ) → length l ≤ limits.line → size_begun (Some most) l ≡ true → Begins limits (size (Some most)) l
+size_can limits allowed most [] fit h = (45 ∷ 49 ∷ [], None, refl, few_fit limits allowed (lit≤ tt), refl)
+size_can limits allowed most (b ∷ []) fit h = elim (one_of_two (b == 45) (is_some (size (Some most) (b ∷ []))) h) [
+  | inl minus ↦ let e : b ≡ 45 = grind (arith, nat_tests) in subst (λ x. Begins limits (size (Some most)) (x ∷ [])) (sym e) (minus_begins limits allowed most)
+  | inr whole ↦ whole_already limits (size (Some most)) (b ∷ []) (size (Some most) (b ∷ [])) refl fit whole
 ]
-size_can most (b ∷ c ∷ ds) fit h = whole_already (size (Some most)) (b ∷ c ∷ ds) (size (Some most) (b ∷ c ∷ ds)) refl fit h
+size_can limits allowed most (b ∷ c ∷ ds) fit h = whole_already limits (size (Some most)) (b ∷ c ∷ ds) (size (Some most) (b ∷ c ∷ ds)) refl fit h
 
 size_cannot : (most : ℕ) (l q : List ℕ) → size_begun (Some most) l ≡ false → size (Some most) (l ++ q) ≡ None
 size_cannot most [] q h = cc
 size_cannot most (b ∷ []) q h = let n = neither (b == 45) (is_some (size (Some most) (b ∷ []))) h in size_stays_one most b q n.0 (is_none (size (Some most) (b ∷ [])) n.1)
 size_cannot most (b ∷ c ∷ ds) q h = size_stays most b c ds q (is_none (size (Some most) (b ∷ c ∷ ds)) h)
 
-pub lawful_size : (most : ℕ) → LawfulLine (size_line (Some most))
-lawful_size most = record { can = size_can most; cannot = λ l q fit h. size_cannot most l q h }
+pub lawful_size : (limits : Limits) → AreAllowed limits → (most : ℕ) → LawfulLine limits (size_line (Some most))
+lawful_size limits allowed most = record { can = size_can limits allowed most; cannot = λ l q fit h. size_cannot most l q h }

@@ -2,11 +2,13 @@
 use Rattle.std.proofs.Common.{◌≡◌, ℕ, zero, suc, ◌<◌, List, [], ◌∷◌, ◌++◌, length, get_or, drop, Bool, true, false, cond, refl, sym, ap, ◌∙◌, subst, arith, length-append}
 use Rattle.std.specs.Prelude.{◌==◌, ◌||◌, Result}
 use Rattle.resp_value.specs.Data.{Data, simple}
-use Rattle.resp_read.specs.Grammar.{Found, read, short, Table, plain, nested, innermost, chosen, form, parse, simple_line, error_line, number_line, null_line, boolean_line, double_line, big_line, no_array_line, reader_limits}
+use Rattle.resp_read.specs.Parser.{read, short, Found, Table, plain, nested, innermost, chosen, form, simple_line, error_line, number_line, null_line, boolean_line, double_line, big_line, no_array_line}
 use Rattle.resp_read.specs.Parts.{has, IsFound}
 use Rattle.resp_read.specs.declared.forms.Refusal.{Refusal}
+use Rattle.resp_read.specs.Limits.{bounds, reading, AreAllowed}
+use Rattle.resp_read.specs.declared.limits.Limits.{Limits}
 use Rattle.resp_read.proofs.Laws.{Lawful, Possible, lawful_bad, lawful_if, lawful_cons, lawful_nil}
-use Rattle.resp_read.proofs.LineLaws.{lawful_line}
+use Rattle.resp_read.proofs.LineLaws.{lawful_line, fits_is}
 use Rattle.resp_read.proofs.Numbers.{lawful_simple, lawful_error, lawful_number}
 use Rattle.resp_read.proofs.WordLaws.{lawful_null, lawful_boolean, lawful_big, lawful_no_array}
 use Rattle.resp_read.proofs.DoubleLaws.{lawful_double}
@@ -25,64 +27,65 @@ lawful_more : (fs gs : Table) → AllLawful fs → AllLawful gs → AllLawful (f
 lawful_more [] gs h k = k
 lawful_more (f ∷ fs) gs h k = (h.0, lawful_more fs gs h.1 k)
 
-lawful_plain : AllLawful (plain reader_limits)
-lawful_plain = (
-  lawful_line simple_line lawful_simple,
-  (
-    lawful_line error_line lawful_error,
+module _ (limits : Limits) (allowed : AreAllowed limits) where
+  lawful_plain : AllLawful (plain (bounds limits))
+  lawful_plain = (
+    lawful_line limits simple_line (lawful_simple limits),
     (
-      lawful_line number_line lawful_number,
+      lawful_line limits error_line (lawful_error limits),
       (
-        lawful_bulk_string,
+        lawful_line limits number_line (lawful_number limits allowed),
         (
-          lawful_line null_line lawful_null,
+          lawful_bulk_string limits allowed,
           (
-            lawful_line boolean_line lawful_boolean,
-            (lawful_line (double_line reader_limits) lawful_double, (lawful_line big_line lawful_big, (lawful_bulk_error, (lawful_verbatim_string, tt)))),
+            lawful_line limits null_line (lawful_null limits allowed),
+            (
+              lawful_line limits boolean_line (lawful_boolean limits allowed),
+              (lawful_line limits (double_line (bounds limits)) (lawful_double limits), (lawful_line limits big_line (lawful_big limits allowed), (lawful_bulk_error limits allowed, (lawful_verbatim_string limits allowed, tt)))),
+            ),
           ),
         ),
       ),
     ),
-  ),
-)
+  )
 
--- the empty simple string
-shortest : (more : Table) (m : List ℕ) → form reader_limits more (43 ∷ 13 ∷ 10 ∷ m) ≡ read (simple []) m
-shortest more m = refl
+  -- the empty simple string
+  shortest : (more : Table) (m : List ℕ) → form (bounds limits) more (43 ∷ 13 ∷ 10 ∷ m) ≡ read (simple []) m
+  shortest more m = let fit = fits_is limits [] (omega arith) in rw fit refl
 
-lawful_form : (more : Table) → AllLawful more → Lawful (form reader_limits more)
-lawful_form more h [] = lawful_nil (form reader_limits more) refl (43 ∷ 13 ∷ 10 ∷ [], simple [], shortest more [])
-lawful_form more h (b ∷ bs) = lawful_cons (form reader_limits more) (chosen (plain reader_limits ++ more) b) b bs (λ x. refl) (lawful_chosen (plain reader_limits ++ more) (lawful_more (plain reader_limits) more lawful_plain h) b bs)
+  lawful_form : (more : Table) → AllLawful more → Lawful (form (bounds limits) more)
+  lawful_form more h [] = lawful_nil (form (bounds limits) more) refl (43 ∷ 13 ∷ 10 ∷ [], simple [], shortest more [])
+  lawful_form more h (b ∷ bs) = lawful_cons (form (bounds limits) more) (chosen (plain (bounds limits) ++ more) b) b bs (λ x. refl) (lawful_chosen (plain (bounds limits) ++ more) (lawful_more (plain (bounds limits)) more lawful_plain h) b bs)
 
-lawful_nested : (inside : List ℕ → Found Data) → Lawful inside → Possible inside → AllLawful (nested reader_limits inside)
-lawful_nested inside h p = (lawful_array inside h p, (lawful_set inside h p, (lawful_dict inside h p, (lawful_push inside h p, (lawful_attribute inside h p, tt)))))
+  lawful_nested : (inside : List ℕ → Found Data) → Lawful inside → Possible inside → AllLawful (nested (bounds limits) inside)
+  lawful_nested inside h p = (lawful_array limits allowed inside h p, (lawful_set limits allowed inside h p, (lawful_dict limits allowed inside h p, (lawful_push limits allowed inside h p, (lawful_attribute limits allowed inside h p, tt)))))
 
-lawful_innermost : AllLawful (innermost reader_limits)
-lawful_innermost = (lawful_line no_array_line lawful_no_array, tt)
+  lawful_innermost : AllLawful (innermost (bounds limits))
+  lawful_innermost = (lawful_line limits no_array_line (lawful_no_array limits allowed), tt)
 
-parse_possible : (n : ℕ) → Possible (parse n)
-parse_possible zero = (43 ∷ 13 ∷ 10 ∷ [], simple [], shortest (innermost reader_limits) [])
-parse_possible (suc n) = (43 ∷ 13 ∷ 10 ∷ [], simple [], shortest (nested reader_limits (parse n)) [])
+  parse_possible : (n : ℕ) → Possible (reading limits n)
+  parse_possible zero = (43 ∷ 13 ∷ 10 ∷ [], simple [], shortest (innermost (bounds limits)) [])
+  parse_possible (suc n) = (43 ∷ 13 ∷ 10 ∷ [], simple [], shortest (nested (bounds limits) (reading limits n)) [])
 
-pub lawful_parse : (n : ℕ) → Lawful (parse n)
-lawful_parse zero = lawful_form (innermost reader_limits) lawful_innermost
-lawful_parse (suc n) = lawful_form (nested reader_limits (parse n)) (lawful_nested (parse n) (lawful_parse n) (parse_possible n))
+  pub lawful_parse : (n : ℕ) → Lawful (reading limits n)
+  lawful_parse zero = lawful_form (innermost (bounds limits)) lawful_innermost
+  lawful_parse (suc n) = lawful_form (nested (bounds limits) (reading limits n)) (lawful_nested (reading limits n) (lawful_parse n) (parse_possible n))
 
-takes_by : (more : Table) → AllLawful more → (bs : List ℕ) (v : Data) (r : List ℕ) → form reader_limits more bs ≡ read v r → length r < length bs
-takes_by more h [] v r e = cc
-takes_by more h (b ∷ bs) v r e =
-    let p = (lawful_chosen (plain reader_limits ++ more) (lawful_more (plain reader_limits) more lawful_plain h) b bs).ends v r e in
-    let n : length bs ≡ length (p.0 ++ r) = ap length p.1 in
-    omega (arith, n, length-append p.0 r)
+  takes_by : (more : Table) → AllLawful more → (bs : List ℕ) (v : Data) (r : List ℕ) → form (bounds limits) more bs ≡ read v r → length r < length bs
+  takes_by more h [] v r e = cc
+  takes_by more h (b ∷ bs) v r e =
+      let p = (lawful_chosen (plain (bounds limits) ++ more) (lawful_more (plain (bounds limits)) more lawful_plain h) b bs).ends v r e in
+      let n : length bs ≡ length (p.0 ++ r) = ap length p.1 in
+      omega (arith, n, length-append p.0 r)
 
--- a value takes one byte at least
-pub takes_a_byte : (n : ℕ) (bs : List ℕ) (v : Data) (r : List ℕ) → parse n bs ≡ read v r → length r < length bs
-takes_a_byte zero bs v r e = takes_by (innermost reader_limits) lawful_innermost bs v r e
-takes_a_byte (suc n) bs v r e = takes_by (nested reader_limits (parse n)) (lawful_nested (parse n) (lawful_parse n) (parse_possible n)) bs v r e
+  -- a value takes one byte at least
+  pub takes_a_byte : (n : ℕ) (bs : List ℕ) (v : Data) (r : List ℕ) → reading limits n bs ≡ read v r → length r < length bs
+  takes_a_byte zero bs v r e = takes_by (innermost (bounds limits)) lawful_innermost bs v r e
+  takes_a_byte (suc n) bs v r e = takes_by (nested (bounds limits) (reading limits n)) (lawful_nested (reading limits n) (lawful_parse n) (parse_possible n)) bs v r e
 
-pub empty_short : (n : ℕ) → parse n [] ≡ short
-empty_short zero = refl
-empty_short (suc n) = refl
+  pub empty_short : (n : ℕ) → reading limits n [] ≡ short
+  empty_short zero = refl
+  empty_short (suc n) = refl
 
 pub same_first : (bs : List ℕ) (b : ℕ) → 0 < length bs → get_or bs 0 0 ≡ b → bs ≡ b ∷ drop 1 bs
 same_first [] b h is = absurd (omega arith)
@@ -97,25 +100,25 @@ chosen_more : (fs gs : Table) (b : ℕ) (bs : List ℕ) → chosen (fs ++ gs) b 
 chosen_more [] gs b bs = refl
 chosen_more (f ∷ fs) gs b bs = step_by (b == f.0) (has fs b) (f.1 bs) (chosen fs b bs) (chosen (fs ++ gs) b bs) (chosen gs b bs) (chosen_more fs gs b bs)
 
-form_plain : (more : Table) (b : ℕ) (bs : List ℕ) → has (plain reader_limits) b ≡ true → form reader_limits more (b ∷ bs) ≡ chosen (plain reader_limits) b bs
-form_plain more b bs h = chosen_more (plain reader_limits) more b bs ∙ ap (λ c. cond c (chosen (plain reader_limits) b bs) (chosen more b bs)) h
+form_plain : (limits : Limits) (more : Table) (b : ℕ) (bs : List ℕ) → has (plain (bounds limits)) b ≡ true → form (bounds limits) more (b ∷ bs) ≡ chosen (plain (bounds limits)) b bs
+form_plain limits more b bs h = chosen_more (plain (bounds limits)) more b bs ∙ ap (λ c. cond c (chosen (plain (bounds limits)) b bs) (chosen more b bs)) h
 
-pub form_more : (more : Table) (b : ℕ) (bs : List ℕ) → has (plain reader_limits) b ≡ false → form reader_limits more (b ∷ bs) ≡ chosen more b bs
-form_more more b bs h = chosen_more (plain reader_limits) more b bs ∙ ap (λ c. cond c (chosen (plain reader_limits) b bs) (chosen more b bs)) h
+pub form_more : (limits : Limits) (more : Table) (b : ℕ) (bs : List ℕ) → has (plain (bounds limits)) b ≡ false → form (bounds limits) more (b ∷ bs) ≡ chosen more b bs
+form_more limits more b bs h = chosen_more (plain (bounds limits)) more b bs ∙ ap (λ c. cond c (chosen (plain (bounds limits)) b bs) (chosen more b bs)) h
 
-pub parse_plain : (depth b : ℕ) (bs : List ℕ) → has (plain reader_limits) b ≡ true → parse depth (b ∷ bs) ≡ chosen (plain reader_limits) b bs
-parse_plain zero b bs h = form_plain (innermost reader_limits) b bs h
-parse_plain (suc n) b bs h = form_plain (nested reader_limits (parse n)) b bs h
+pub parse_plain : (limits : Limits) (depth b : ℕ) (bs : List ℕ) → has (plain (bounds limits)) b ≡ true → reading limits depth (b ∷ bs) ≡ chosen (plain (bounds limits)) b bs
+parse_plain limits zero b bs h = form_plain limits (innermost (bounds limits)) b bs h
+parse_plain limits (suc n) b bs h = form_plain limits (nested (bounds limits) (reading limits n)) b bs h
 
 -- what was found behind the first byte is found at the front
-module _ {X : Type 0} (view : X → Data) (left rest : List ℕ) (b : ℕ) (r : Result X Refusal) (new : List ℕ) (some : 0 < length left) (first : get_or left 0 0 ≡ b) (behind : rest ≡ drop 1 left) where
+module _ (limits : Limits) {X : Type 0} (view : X → Data) (left rest : List ℕ) (b : ℕ) (r : Result X Refusal) (new : List ℕ) (some : 0 < length left) (first : get_or left 0 0 ≡ b) (behind : rest ≡ drop 1 left) where
   at_first : (f g : List ℕ → Found Data) → ((bs : List ℕ) → f (b ∷ bs) ≡ g bs) → IsFound view (g rest) r new → IsFound view (f left) r new
   at_first f g same found =
       let e : f left ≡ g rest = ap f (same_first left b some first) ∙ same (drop 1 left) ∙ ap g (sym behind) in
       subst (λ x. IsFound view x r new) (sym e) found
 
-  pub at_plain : (depth : ℕ) → has (plain reader_limits) b ≡ true → IsFound view (chosen (plain reader_limits) b rest) r new → IsFound view (parse depth left) r new
-  at_plain depth h found = at_first (parse depth) (chosen (plain reader_limits) b) (λ bs. parse_plain depth b bs h) found
+  pub at_plain : (depth : ℕ) → has (plain (bounds limits)) b ≡ true → IsFound view (chosen (plain (bounds limits)) b rest) r new → IsFound view (reading limits depth left) r new
+  at_plain depth h found = at_first (reading limits depth) (chosen (plain (bounds limits)) b) (λ bs. parse_plain limits depth b bs h) found
 
-  pub at_innermost : (depth : ℕ) → depth ≡ 0 → has (plain reader_limits) b ≡ false → IsFound view (chosen (innermost reader_limits) b rest) r new → IsFound view (parse depth left) r new
-  at_innermost depth is h found = at_first (parse depth) (chosen (innermost reader_limits) b) (λ bs. ap (λ d. parse d (b ∷ bs)) is ∙ form_more (innermost reader_limits) b bs h) found
+  pub at_innermost : (depth : ℕ) → depth ≡ 0 → has (plain (bounds limits)) b ≡ false → IsFound view (chosen (innermost (bounds limits)) b rest) r new → IsFound view (reading limits depth left) r new
+  at_innermost depth is h found = at_first (reading limits depth) (chosen (innermost (bounds limits)) b) (λ bs. ap (λ d. reading limits d (b ∷ bs)) is ∙ form_more limits (innermost (bounds limits)) b bs h) found

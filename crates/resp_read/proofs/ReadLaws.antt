@@ -1,60 +1,59 @@
--- What is found at the front of a text is what the words of contracts say of it.
-use Rattle.std.proofs.Common.{◌≡◌, ℕ, ◌<◌, List, [], ◌++◌, length, refl}
+-- The same within the limits of a reader that is asked for no others.
+use Rattle.std.proofs.Common.{◌≡◌, ℕ, ◌<◌, List, [], ◌++◌, length, lit≤, arith}
 use Rattle.std.specs.Prelude.{◌↔◌}
 use Rattle.resp_value.specs.Data.{Data}
-use Rattle.resp_read.specs.Grammar.{Found, read, short, bad, parse, max_depth}
+use Rattle.resp_read.specs.Grammar.{max_depth}
+use Rattle.resp_read.specs.Parser.{read, short, bad, parse}
+use Rattle.resp_read.specs.Limits.{default_limits, AreAllowed}
 use Rattle.resp_read.specs.Reads.{Reads, IsProperPrefix, IsMalformed}
-use Rattle.resp_read.proofs.ParseLaws.{lawful_parse, takes_a_byte}
+use Rattle.resp_read.proofs.WithinLaws as within
 
--- a value stays when bytes follow
+pub default_allowed : AreAllowed default_limits
+default_allowed = record {
+  line_least = lit≤ tt;
+  line_most = lit≤ tt;
+  bulk_least = lit≤ tt;
+  bulk_most = lit≤ tt;
+  count_least = lit≤ tt;
+  count_most = lit≤ tt;
+  depth_most = omega arith;
+}
+
 pub reads-append : (bs m : List ℕ) (v : Data) (rest : List ℕ) → Reads bs v rest → Reads (bs ++ m) v (rest ++ m)
-reads-append bs m v rest e = (lawful_parse max_depth bs).grows m v rest e
+reads-append = within.reads-append default_limits default_allowed
 
--- what is bad stays bad
 pub bad-append : (bs m : List ℕ) → parse max_depth bs ≡ bad → parse max_depth (bs ++ m) ≡ bad
-bad-append bs m e = (lawful_parse max_depth bs).stays m e
+bad-append = within.bad-append default_limits default_allowed
 
--- some bytes make a short text one value
 pub short-completes : (bs : List ℕ) → parse max_depth bs ≡ short → (m : List ℕ) × (v : Data) × Reads (bs ++ m) v []
-short-completes bs e = (lawful_parse max_depth bs).completes e
+short-completes = within.short-completes default_limits default_allowed
 
--- what is left is the end of the text
 pub reads-ends : (bs : List ℕ) (v : Data) (rest : List ℕ) → Reads bs v rest → (p : List ℕ) × (bs ≡ p ++ rest)
-reads-ends bs v rest e = (lawful_parse max_depth bs).ends v rest e
+reads-ends = within.reads-ends default_limits default_allowed
 
--- and shorter than it
 pub reads-shorter : (bs : List ℕ) (v : Data) (rest : List ℕ) → Reads bs v rest → length rest < length bs
-reads-shorter bs v rest e = takes_a_byte max_depth bs v rest e
-
--- two readings of one text are one
-pub reads-one : (bs : List ℕ) (v w : Data) (r s : List ℕ) → Reads bs v r → Reads bs w s → (v ≡ w) × (r ≡ s)
-reads-one bs v w r s e f = (cc, cc)
+reads-shorter = within.reads-shorter default_limits default_allowed
 
 pub prefix_from_short : (bs : List ℕ) → parse max_depth bs ≡ short → IsProperPrefix bs
-prefix_from_short bs e = let c = short-completes bs e in ((c.0, c.1, [], c.2), λ v rest f. cc)
+prefix_from_short = within.prefix_from_short default_limits default_allowed
 
 pub malformed_from_bad : (bs : List ℕ) → parse max_depth bs ≡ bad → IsMalformed bs
-malformed_from_bad bs e = λ m v rest f. let g = bad-append bs m e in cc
-
-short_by : (bs : List ℕ) (x : Found Data) → parse max_depth bs ≡ x → IsProperPrefix bs → x ≡ short
-short_by bs (read v rest) is h = absurd (h.1 v rest is)
-short_by bs short is h = refl
-short_by bs bad is h = absurd (malformed_from_bad bs is h.0.0 h.0.1 h.0.2 h.0.3)
+malformed_from_bad = within.malformed_from_bad default_limits default_allowed
 
 pub short_from_prefix : (bs : List ℕ) → IsProperPrefix bs → parse max_depth bs ≡ short
-short_from_prefix bs h = short_by bs (parse max_depth bs) refl h
-
-bad_by : (bs : List ℕ) (x : Found Data) → parse max_depth bs ≡ x → IsMalformed bs → x ≡ bad
-bad_by bs (read v rest) is h = absurd (h [] v (rest ++ []) (reads-append bs [] v rest is))
-bad_by bs short is h = let c = short-completes bs is in absurd (h c.0 c.1 [] c.2)
-bad_by bs bad is h = refl
+short_from_prefix = within.short_from_prefix default_limits default_allowed
 
 pub bad_from_malformed : (bs : List ℕ) → IsMalformed bs → parse max_depth bs ≡ bad
-bad_from_malformed bs h = bad_by bs (parse max_depth bs) refl h
+bad_from_malformed = within.bad_from_malformed default_limits default_allowed
 
--- a short text is the proper front of a value, and a bad one is malformed
 pub short-prefix : (bs : List ℕ) → (parse max_depth bs ≡ short) ↔ IsProperPrefix bs
-short-prefix bs = (prefix_from_short bs, short_from_prefix bs)
+short-prefix = within.short-prefix default_limits default_allowed
 
 pub bad-malformed : (bs : List ℕ) → (parse max_depth bs ≡ bad) ↔ IsMalformed bs
-bad-malformed bs = (malformed_from_bad bs, bad_from_malformed bs)
+bad-malformed = within.bad-malformed default_limits default_allowed
+
+pub reads_where_found : (bs : List ℕ) (v : Data) (rest : List ℕ) → parse max_depth bs ≡ read v rest → Reads bs v rest
+reads_where_found = within.reads_where_found default_limits default_allowed
+
+pub found_where_reads : (bs : List ℕ) (v : Data) (rest : List ℕ) → Reads bs v rest → parse max_depth bs ≡ read v rest
+found_where_reads = within.found_where_reads default_limits default_allowed

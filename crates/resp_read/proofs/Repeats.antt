@@ -1,8 +1,10 @@
 -- Values that hold values are lawful, where those that they hold are.
-use Rattle.std.proofs.Common.{ℕ, zero, suc, ◌-◌, List, [], ◌∷◌, Option, Some, None, lit≤, refl}
+use Rattle.std.proofs.Common.{arith, ℕ, zero, suc, ◌-◌, List, [], ◌∷◌, Option, Some, None, lit≤, refl}
 use Rattle.resp_value.specs.Data.{Data, nil, array, set, dict, attribute, push, items_of, members_of}
 use Rattle.resp_value.specs.Kinds.{kind_of}
-use Rattle.resp_read.specs.Grammar.{Found, found_map, line_as, size_line, count_line, max_count, repeated, pair, array_of, array_form, set_of, set_form, map_of, map_form, attributed, attribute_of, attribute_form, kind, push_with, push_of, push_form, reader_limits}
+use Rattle.resp_read.specs.Parser.{Found, found_map, line_as, size_line, count_line, repeated, pair, array_of, array_form, set_of, set_form, map_of, map_form, attributed, attribute_of, attribute_form, kind, push_with, push_of, push_form}
+use Rattle.resp_read.specs.Limits.{bounds, AreAllowed}
+use Rattle.resp_read.specs.declared.limits.Limits.{Limits}
 use Rattle.resp_read.proofs.Laws.{Lawful, Possible, lawful_read, lawful_then, lawful_map, possible_map, possible_then}
 use Rattle.resp_read.proofs.LineLaws.{lawful_line}
 use Rattle.resp_read.proofs.Numbers.{lawful_size}
@@ -22,7 +24,7 @@ module _ {A : Type 0} (inside : List ℕ → Found A) where
       lawful_then inside (next n) h (λ a. lawful_map (λ others. a ∷ others) (repeated inside n) (lawful_repeated h p n))
       (λ a. possible_map (λ others. a ∷ others) (repeated inside n) (possible_repeated h p n))
 
-module _ (inside : List ℕ → Found Data) (h : Lawful inside) (p : Possible inside) where
+module _ (limits : Limits) (allowed : AreAllowed limits) (inside : List ℕ → Found Data) (h : Lawful inside) (p : Possible inside) where
   abbrev pub second : Data → List ℕ → Found (Data × Data)
   second k rest = found_map (λ v. (k, v)) (inside rest)
 
@@ -44,8 +46,8 @@ module _ (inside : List ℕ → Found Data) (h : Lawful inside) (p : Possible in
   pairs_possible : (n : ℕ) → Possible (repeated (pair inside) n)
   pairs_possible = possible_repeated (pair inside) lawful_pair pair_possible
 
-  lawful_count : Lawful (line_as reader_limits (count_line reader_limits 0 (Some max_count)))
-  lawful_count = lawful_counted 0 max_count (lit≤ tt) (lit≤ tt)
+  lawful_count : Lawful (line_as (bounds limits) (count_line (bounds limits) 0 (Some limits.count)))
+  lawful_count = lawful_counted limits allowed 0 limits.count (lit≤ tt) (omega arith)
 
   lawful_array_of : (n : Option ℕ) → Lawful (array_of inside n)
   lawful_array_of None = lawful_read nil
@@ -55,17 +57,17 @@ module _ (inside : List ℕ → Found Data) (h : Lawful inside) (p : Possible in
   array_possible None = ([], nil, refl)
   array_possible (Some n) = possible_map (λ ds. array (items_of ds)) (repeated inside n) (values_possible n)
 
-  pub lawful_array : Lawful (array_form reader_limits inside)
-  lawful_array = lawful_then (line_as reader_limits (size_line (Some max_count))) (array_of inside) (lawful_line (size_line (Some max_count)) (lawful_size max_count)) lawful_array_of array_possible
+  pub lawful_array : Lawful (array_form (bounds limits) inside)
+  lawful_array = lawful_then (line_as (bounds limits) (size_line (Some limits.count))) (array_of inside) (lawful_line limits (size_line (Some limits.count)) (lawful_size limits allowed limits.count)) lawful_array_of array_possible
 
-  pub lawful_set : Lawful (set_form reader_limits inside)
+  pub lawful_set : Lawful (set_form (bounds limits) inside)
   lawful_set =
-      lawful_then (line_as reader_limits (count_line reader_limits 0 (Some max_count))) (set_of inside) lawful_count (λ n. lawful_map (λ ds. set (items_of ds)) (repeated inside n) (lawful_values n))
+      lawful_then (line_as (bounds limits) (count_line (bounds limits) 0 (Some limits.count))) (set_of inside) lawful_count (λ n. lawful_map (λ ds. set (items_of ds)) (repeated inside n) (lawful_values n))
       (λ n. possible_map (λ ds. set (items_of ds)) (repeated inside n) (values_possible n))
 
-  pub lawful_dict : Lawful (map_form reader_limits inside)
+  pub lawful_dict : Lawful (map_form (bounds limits) inside)
   lawful_dict =
-      lawful_then (line_as reader_limits (count_line reader_limits 0 (Some max_count))) (map_of inside) lawful_count (λ n. lawful_map (λ ps. dict (members_of ps)) (repeated (pair inside) n) (lawful_pairs n))
+      lawful_then (line_as (bounds limits) (count_line (bounds limits) 0 (Some limits.count))) (map_of inside) lawful_count (λ n. lawful_map (λ ps. dict (members_of ps)) (repeated (pair inside) n) (lawful_pairs n))
       (λ n. possible_map (λ ps. dict (members_of ps)) (repeated (pair inside) n) (pairs_possible n))
 
   lawful_attributed : (ps : List (Data × Data)) → Lawful (attributed inside ps)
@@ -80,8 +82,8 @@ module _ (inside : List ℕ → Found Data) (h : Lawful inside) (p : Possible in
   attribute_possible : (n : ℕ) → Possible (attribute_of inside n)
   attribute_possible n = possible_then (repeated (pair inside) n) (attributed inside) (lawful_pairs n) (pairs_possible n) attributed_possible
 
-  pub lawful_attribute : Lawful (attribute_form reader_limits inside)
-  lawful_attribute = lawful_then (line_as reader_limits (count_line reader_limits 0 (Some max_count))) (attribute_of inside) lawful_count lawful_attribute_of attribute_possible
+  pub lawful_attribute : Lawful (attribute_form (bounds limits) inside)
+  lawful_attribute = lawful_then (line_as (bounds limits) (count_line (bounds limits) 0 (Some limits.count))) (attribute_of inside) lawful_count lawful_attribute_of attribute_possible
 
   lawful_push_with : (n : ℕ) (k : List ℕ) → Lawful (push_with inside n k)
   lawful_push_with n k = lawful_map (λ ds. push (kind_of k) (items_of ds)) (repeated inside (n - 1)) (lawful_values (n - 1))
@@ -89,8 +91,8 @@ module _ (inside : List ℕ → Found Data) (h : Lawful inside) (p : Possible in
   push_with_possible : (n : ℕ) (k : List ℕ) → Possible (push_with inside n k)
   push_with_possible n k = possible_map (λ ds. push (kind_of k) (items_of ds)) (repeated inside (n - 1)) (values_possible (n - 1))
 
-  pub lawful_push : Lawful (push_form reader_limits inside)
+  pub lawful_push : Lawful (push_form (bounds limits) inside)
   lawful_push =
-      lawful_then (line_as reader_limits (count_line reader_limits 1 (Some max_count))) (push_of reader_limits inside) (lawful_counted 1 max_count (lit≤ tt) (lit≤ tt))
-      (λ n. lawful_then (kind reader_limits) (push_with inside n) lawful_kind (lawful_push_with n) (push_with_possible n))
-      (λ n. possible_then (kind reader_limits) (push_with inside n) lawful_kind kind_possible (push_with_possible n))
+      lawful_then (line_as (bounds limits) (count_line (bounds limits) 1 (Some limits.count))) (push_of (bounds limits) inside) (lawful_counted limits allowed 1 limits.count (lit≤ tt) (omega (arith, allowed.count_least)))
+      (λ n. lawful_then (kind (bounds limits)) (push_with inside n) (lawful_kind limits allowed) (lawful_push_with n) (push_with_possible n))
+      (λ n. possible_then (kind (bounds limits)) (push_with inside n) (lawful_kind limits allowed) (kind_possible limits) (push_with_possible n))

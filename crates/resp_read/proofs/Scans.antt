@@ -3,7 +3,8 @@ use Rattle.std.proofs.Common.{◌≡◌, ℕ, ◌+◌, ◌-◌, ◌*◌, ◌≤�
 use Rattle.std.proofs.lemmas.List.{append-nil, drop_more, take_more, drop_all, take_all}
 use Rattle.std.proofs.lemmas.Bool.Decides.{nat_tests}
 use Rattle.std.specs.Prelude.{◌==◌, ◌⊎◌, ◌&&◌, nat_le}
-use Rattle.resp_read.specs.Grammar.{ended, held, unended, broken, after_return, byte_before, line, is_digit, digits_after, at_most, natural, before_space, after_space, after_digits, is_end}
+use Rattle.resp_read.specs.Grammar.{is_digit, digits_after, at_most, natural, before_space, after_space, after_digits, is_end}
+use Rattle.resp_read.specs.Parser.{ended, held, unended, broken, after_return, byte_before, line}
 use Rattle.resp_read.specs.Doubles.{step, run}
 use Rattle.resp_read.specs.declared.decimals.Seen.{Seen}
 use Rattle.resp_read.proofs.FirstLine.{bytes_before, before-ended, before-held, before-unended, before-broken, before-push}
@@ -48,39 +49,8 @@ clear_more i bs h clear other =
     let rest = drop (i + 1) bs in
     clear ∙ ap (bytes_before (take i bs)) (ap line (drop_more bs i 0 h) ∙ other_first b rest other) ∙ sym (before-push (take i bs) b (line rest)) ∙ ap (λ t. bytes_before t (line rest)) (sym (take_more bs i 0 h))
 
--- the number of all the digits, by those that are left
-abbrev pub IsSoFar : ℕ → List ℕ → ℕ → ℕ → Type 0
-IsSoFar most ds n i = natural (Some most) ds ≡ at_most (Some most) (digits_after n (drop i ds))
-
-pub so_far_first : (most : ℕ) (ds : List ℕ) → (length ds ≡ 0 → ⊥) → IsSoFar most ds 0 0
-so_far_first most [] h = absurd (h refl)
-so_far_first most (b ∷ ds) h = refl
-
-digit_first : (n b : ℕ) (ds : List ℕ) → 48 ≤ b → b ≤ 57 → digits_after n (b ∷ ds) ≡ digits_after (10 * n + (b - 48)) ds
-digit_first n b ds low high =
-    let l : nat_le 48 b ≡ true = grind (arith, nat_tests) in
-    let h : nat_le b 57 ≡ true = grind (arith, nat_tests) in
-    rw (l, h) refl
-
-both_by : (c d : Bool) (x : Option ℕ) → d ≡ false → cond (c && d) x None ≡ None
-both_by true d x h = rw h refl
-both_by false d x h = refl
-
-below_digits : (n b : ℕ) (ds : List ℕ) → b < 48 → digits_after n (b ∷ ds) ≡ None
+pub below_digits : (n b : ℕ) (ds : List ℕ) → b < 48 → digits_after n (b ∷ ds) ≡ None
 below_digits n b ds low = let l : nat_le 48 b ≡ false = grind (arith, nat_tests) in rw l refl
-
-above_digits : (n b : ℕ) (ds : List ℕ) → 57 < b → digits_after n (b ∷ ds) ≡ None
-above_digits n b ds high = let h : nat_le b 57 ≡ false = grind (arith, nat_tests) in both_by (nat_le 48 b) (nat_le b 57) (digits_after (10 * n + (b - 48)) ds) h
-
-pub so_far_more : (most n i b : ℕ) (ds : List ℕ) → i < length ds → IsSoFar most ds n i → get_or ds i 0 ≡ b → 48 ≤ b → b ≤ 57 → IsSoFar most ds (10 * n + (b - 48)) (i + 1)
-so_far_more most n i b ds h so_far is low high =
-    so_far ∙ ap (λ d. at_most (Some most) (digits_after n d)) (drop_more ds i 0 h ∙ ap (λ x. x ∷ drop (i + 1) ds) is) ∙ ap (at_most (Some most)) (digit_first n b (drop (i + 1) ds) low high)
-
-pub so_far_other : (most n i b : ℕ) (ds : List ℕ) → i < length ds → IsSoFar most ds n i → get_or ds i 0 ≡ b → (b < 48) ⊎ (57 < b) → natural (Some most) ds ≡ None
-so_far_other most n i b ds h so_far is (inl low) =
-    so_far ∙ ap (λ d. at_most (Some most) (digits_after n d)) (drop_more ds i 0 h ∙ ap (λ x. x ∷ drop (i + 1) ds) is) ∙ ap (at_most (Some most)) (below_digits n b (drop (i + 1) ds) low)
-so_far_other most n i b ds h so_far is (inr high) =
-    so_far ∙ ap (λ d. at_most (Some most) (digits_after n d)) (drop_more ds i 0 h ∙ ap (λ x. x ∷ drop (i + 1) ds) is) ∙ ap (at_most (Some most)) (above_digits n b (drop (i + 1) ds) high)
 
 none_by : (c : Bool) (most : ℕ) (x : Option ℕ) → at_most (Some most) x ≡ None → at_most (Some most) (cond c x None) ≡ None
 none_by true most x h = h
@@ -90,14 +60,6 @@ none_by false most x h = refl
 pub stays_above : (most n : ℕ) (ds : List ℕ) → most < n → at_most (Some most) (digits_after n ds) ≡ None
 stays_above most n [] h = let c : nat_le n most ≡ false = grind (arith, nat_tests) in rw c refl
 stays_above most n (b ∷ ds) h = none_by (is_digit b) most (digits_after (10 * n + (b - 48)) ds) (stays_above most (10 * n + (b - 48)) ds (omega arith))
-
-pub so_far_above : (most n i b : ℕ) (ds : List ℕ) → i < length ds → IsSoFar most ds n i → get_or ds i 0 ≡ b → 48 ≤ b → b ≤ 57 → most < 10 * n + (b - 48) → natural (Some most) ds ≡ None
-so_far_above most n i b ds h so_far is low high above = so_far_more most n i b ds h so_far is low high ∙ stays_above most (10 * n + (b - 48)) (drop (i + 1) ds) above
-
-pub so_far_all : (most n i : ℕ) (ds : List ℕ) → length ds ≤ i → n ≤ most → IsSoFar most ds n i → natural (Some most) ds ≡ Some n
-so_far_all most n i ds h below so_far =
-    let c : nat_le n most ≡ true = grind (arith, nat_tests) in
-    so_far ∙ ap (λ d. at_most (Some most) (digits_after n d)) (drop_all i ds h) ∙ ap (λ t. cond t (Some n) None) c
 
 -- no space stands in the first i bytes
 abbrev pub IsSpaceless : ℕ → List ℕ → Type 0
@@ -131,16 +93,6 @@ pub no_space : (i : ℕ) (l : List ℕ) → length l ≤ i → IsSpaceless i l �
 no_space i l h so_far =
     let d = drop_all i l h in
     (so_far.0 ∙ (λ j. take_all i l h j ++ before_space (d j)) ∙ append-nil l, so_far.1 ∙ ap after_space d)
-
--- the digits behind i others
-pub digit_passed : (i : ℕ) (l : List ℕ) → i < length l → is_digit (get_or l i 0) ≡ true → after_digits (drop i l) ≡ after_digits (drop (i + 1) l)
-digit_passed i l h is = ap after_digits (drop_more l i 0 h) ∙ ap (λ c. cond c (after_digits (drop (i + 1) l)) (get_or l i 0 ∷ drop (i + 1) l)) is
-
-pub digits_stop : (i : ℕ) (l : List ℕ) → i < length l → is_digit (get_or l i 0) ≡ false → is_end (after_digits (drop i l)) ≡ false
-digits_stop i l h is = ap (λ x. is_end (after_digits x)) (drop_more l i 0 h) ∙ ap (λ c. is_end (cond c (after_digits (drop (i + 1) l)) (get_or l i 0 ∷ drop (i + 1) l))) is
-
-pub digits_done : (i : ℕ) (l : List ℕ) → length l ≤ i → is_end (after_digits (drop i l)) ≡ true
-digits_done i l h = ap (λ x. is_end (after_digits x)) (drop_all i l h)
 
 -- a double is read byte by byte
 pub run_more : (s : Seen) (i : ℕ) (l : List ℕ) → i < length l → run s (drop i l) ≡ run (step s (get_or l i 0)) (drop (i + 1) l)

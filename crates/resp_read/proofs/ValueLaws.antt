@@ -1,19 +1,25 @@
 -- The values at the front of a text, one by one, and when the text is cut.
 use Rattle.std.proofs.Common.{◌≡◌, ℕ, zero, suc, ◌≤◌, ◌<◌, List, [], ◌∷◌, ◌++◌, length, Bool, true, false, refl, sym, ap, ◌∙◌, subst, append_assoc, arith}
 use Rattle.resp_value.specs.Data.{Data}
-use Rattle.resp_read.specs.Grammar.{Found, read, short, bad, parse, max_depth}
+use Rattle.resp_read.specs.Grammar.{max_depth}
+use Rattle.resp_read.specs.Parser.{read, short, bad, Found, parse}
+use Rattle.resp_read.specs.Reads.{Reads}
 use Rattle.resp_read.specs.Values.{first_and, values_within, values, past_first, left_within, left_over, is_bad, is_spoiled}
-use Rattle.resp_read.proofs.ParseLaws.{empty_short}
-use Rattle.resp_read.proofs.ReadLaws.{reads-append, bad-append, reads-ends, reads-shorter}
+use Rattle.resp_read.specs.Limits.{default_limits}
+use Rattle.resp_read.proofs.ParseLaws as parsed
+use Rattle.resp_read.proofs.ReadLaws.{default_allowed, reads-append, bad-append, reads-ends, reads-shorter, reads_where_found, found_where_reads}
+
+empty_short : parse max_depth [] ≡ short
+empty_short = parsed.empty_short default_limits default_allowed max_depth
 
 none_values : (n : ℕ) (bs : List ℕ) → length bs ≤ 0 → values_within n bs ≡ []
 none_values zero bs h = refl
-none_values (suc n) [] h = ap (first_and (values_within n)) (empty_short max_depth)
+none_values (suc n) [] h = ap (first_and (values_within n)) empty_short
 none_values (suc n) (b ∷ bs) h = absurd (omega arith)
 
 none_left : (n : ℕ) (bs : List ℕ) → length bs ≤ 0 → left_within n bs ≡ bs
 none_left zero bs h = refl
-none_left (suc n) [] h = ap (past_first (left_within n) []) (empty_short max_depth)
+none_left (suc n) [] h = ap (past_first (left_within n) []) empty_short
 none_left (suc n) (b ∷ bs) h = absurd (omega arith)
 
 -- two that are large enough give the same
@@ -22,7 +28,7 @@ SameWithin n k bs = (values_within n bs ≡ values_within k bs) × (left_within 
 
 same_by : (n k : ℕ) (bs : List ℕ) (x : Found Data) → parse max_depth bs ≡ x → length bs ≤ suc n → length bs ≤ suc k
     → ((r : List ℕ) → length r ≤ n → length r ≤ k → SameWithin n k r) → (first_and (values_within n) x ≡ first_and (values_within k) x) × (past_first (left_within n) bs x ≡ past_first (left_within k) bs x)
-same_by n k bs (read v r) is h g same = let l = reads-shorter bs v r is in let s = same r (omega arith) (omega arith) in (ap (λ vs. v ∷ vs) s.0, s.1)
+same_by n k bs (read v r) is h g same = let l = reads-shorter bs v r (reads_where_found bs v r is) in let s = same r (omega arith) (omega arith) in (ap (λ vs. v ∷ vs) s.0, s.1)
 same_by n k bs short is h g same = (refl, refl)
 same_by n k bs bad is h g same = (refl, refl)
 
@@ -56,13 +62,14 @@ spoiled_where bs x e is = ap (λ y. is_bad (parse max_depth y)) e ∙ ap is_bad 
 
 pub left_over-read : (bs : List ℕ) (v : Data) (r : List ℕ) → parse max_depth bs ≡ read v r → left_over bs ≡ left_over r
 left_over-read bs v r e =
-    let l = reads-shorter bs v r e in
+    let l = reads-shorter bs v r (reads_where_found bs v r e) in
     left_once bs ∙ ap (past_first (left_within (length bs)) bs) e ∙ sym (left_is (length bs) r (omega arith))
 
 -- where a value stands first
-pub values-read : (bs : List ℕ) (v : Data) (r : List ℕ) → parse max_depth bs ≡ read v r → (values bs ≡ v ∷ values r) × (left_over bs ≡ left_over r) × (is_spoiled bs ≡ is_spoiled r)
-values-read bs v r e =
-    let l = reads-shorter bs v r e in
+pub values-read : (bs : List ℕ) (v : Data) (r : List ℕ) → Reads bs v r → (values bs ≡ v ∷ values r) × (left_over bs ≡ left_over r) × (is_spoiled bs ≡ is_spoiled r)
+values-read bs v r reads =
+    let e = found_where_reads bs v r reads in
+    let l = reads-shorter bs v r reads in
     let left = left_over-read bs v r e in
     (values_once bs ∙ ap (first_and (values_within (length bs))) e ∙ ap (λ vs. v ∷ vs) (sym (values_is (length bs) r (omega arith))), left, spoiled_by bs r left)
 
@@ -80,7 +87,7 @@ values-bad bs e =
 
 -- an empty text
 pub values-empty : (values [] ≡ []) × (left_over [] ≡ []) × (is_spoiled [] ≡ false)
-values-empty = values-short [] (empty_short max_depth)
+values-empty = values-short [] empty_short
 
 -- where more bytes follow a text that is not spoiled
 record Goes (bs m : List ℕ) : Type 0 where
@@ -90,9 +97,9 @@ record Goes (bs m : List ℕ) : Type 0 where
 
 cut_by : (n : ℕ) (bs m : List ℕ) (x : Found Data) → parse max_depth bs ≡ x → length bs ≤ n → is_spoiled bs ≡ false → ((r : List ℕ) → length r < length bs → is_spoiled r ≡ false → Goes r m) → Goes bs m
 cut_by n bs m (read v r) is h sound later =
-    let here = values-read bs v r is in
-    let there = values-read (bs ++ m) v (r ++ m) (reads-append bs m v r is) in
-    let g = later r (reads-shorter bs v r is) (sym here.2 ∙ sound) in
+    let here = values-read bs v r (reads_where_found bs v r is) in
+    let there = values-read (bs ++ m) v (r ++ m) (reads-append bs m v r (reads_where_found bs v r is)) in
+    let g = later r (reads-shorter bs v r (reads_where_found bs v r is)) (sym here.2 ∙ sound) in
     record {
       values_go = there.0 ∙ ap (λ vs. v ∷ vs) g.values_go ∙ sym (λ i. here.0 i ++ values (here.1 i ++ m));
       left_goes = there.1 ∙ g.left_goes ∙ ap (λ l. left_over (l ++ m)) (sym here.1);
@@ -127,9 +134,9 @@ Stops bs m = (values (bs ++ m) ≡ values bs) × (is_spoiled (bs ++ m) ≡ true)
 
 stops_by : (bs m : List ℕ) (x : Found Data) → parse max_depth bs ≡ x → is_spoiled bs ≡ true → ((r : List ℕ) → length r < length bs → is_spoiled r ≡ true → Stops r m) → Stops bs m
 stops_by bs m (read v r) is spoiled later =
-    let here = values-read bs v r is in
-    let there = values-read (bs ++ m) v (r ++ m) (reads-append bs m v r is) in
-    let g = later r (reads-shorter bs v r is) (sym here.2 ∙ spoiled) in
+    let here = values-read bs v r (reads_where_found bs v r is) in
+    let there = values-read (bs ++ m) v (r ++ m) (reads-append bs m v r (reads_where_found bs v r is)) in
+    let g = later r (reads-shorter bs v r (reads_where_found bs v r is)) (sym here.2 ∙ spoiled) in
     (there.0 ∙ ap (λ vs. v ∷ vs) g.0 ∙ sym here.0, there.2 ∙ g.1)
 stops_by bs m short is spoiled later = let here = values-short bs is in let no : ◌≡◌ {A = Bool} false true = sym here.2 ∙ spoiled in cc
 stops_by bs m bad is spoiled later =
@@ -150,9 +157,9 @@ IsLeft bs left = ((p : List ℕ) × (bs ≡ p ++ left)) × (values left ≡ []) 
 
 left_by : (bs : List ℕ) (x : Found Data) → parse max_depth bs ≡ x → ((r : List ℕ) → length r < length bs → IsLeft r (left_over r)) → IsLeft bs (left_over bs)
 left_by bs (read v r) is later =
-    let here = values-read bs v r is in
-    let g = later r (reads-shorter bs v r is) in
-    let front = reads-ends bs v r is in
+    let here = values-read bs v r (reads_where_found bs v r is) in
+    let g = later r (reads-shorter bs v r (reads_where_found bs v r is)) in
+    let front = reads-ends bs v r (reads_where_found bs v r is) in
     let end : bs ≡ (front.0 ++ g.0.0) ++ left_over r = front.1 ∙ ap (λ x. front.0 ++ x) g.0.1 ∙ sym (append_assoc front.0 g.0.0 (left_over r)) in
     subst (IsLeft bs) (sym here.1) ((front.0 ++ g.0.0, end), g.1, g.2, g.3 ∙ sym here.2)
 left_by bs short is later = let here = values-short bs is in subst (IsLeft bs) (sym here.1) (([], refl), here.0, here.1, refl)

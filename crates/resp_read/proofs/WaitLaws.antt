@@ -4,7 +4,10 @@ use Rattle.std.proofs.lemmas.List.{take-append-drop, take-append-le, drop-append
 use Rattle.std.proofs.lemmas.Bool.Decides.{nat_tests}
 use Rattle.std.specs.Prelude.{◌==◌, ◌||◌, is_some}
 use Rattle.memchr.specs.Find.{Nowhere, Passes, is_byte}
-use Rattle.resp_read.specs.Grammar.{short, unended, after_return, byte_before, line, LineForm, line_found, line_as, max_line, simple_line, error_line, number_line, double_line, big_line, parse, number_begun, big_begun, number, is_double, made_by, double_tails, reader_limits}
+use Rattle.resp_read.specs.Grammar.{number, is_double}
+use Rattle.resp_read.specs.Parser.{short, unended, after_return, byte_before, line, LineForm, line_found, line_as, simple_line, error_line, number_line, double_line, big_line, number_begun, big_begun, made_by, double_tails}
+use Rattle.resp_read.specs.Limits.{bounds, reading}
+use Rattle.resp_read.specs.declared.limits.Limits.{Limits}
 use Rattle.resp_read.specs.Digits.{digits_run, AreKept, is_bare, are_digits, number_in}
 use Rattle.resp_read.specs.Doubles.{run}
 use Rattle.resp_read.specs.declared.digits.Digits.{Digits}
@@ -42,25 +45,25 @@ looked_on looked text more known is none =
     subst (λ x. line x ≡ unended x) (take-append-drop looked.count text) (line_on (take looked.count text) (drop looked.count text) known.unended rest)
 
 -- a line that has not ended and can become one of its form
-module _ {A : Type 0} (form : LineForm A) (l : List ℕ) (is : line l ≡ unended l) (fit : length l ≤ max_line) where
-  pub unended_short : form.begun l ≡ true → line_as reader_limits form l ≡ short
-  unended_short begun = let fits = fits_is l fit in ap (line_found reader_limits form) is ∙ rw (fits, begun) refl
+module _ (limits : Limits) {A : Type 0} (form : LineForm A) (l : List ℕ) (is : line l ≡ unended l) (fit : length l ≤ limits.line) where
+  pub unended_short : form.begun l ≡ true → line_as (bounds limits) form l ≡ short
+  unended_short begun = let fits = fits_is limits l fit in ap (line_found (bounds limits) form) is ∙ rw (fits, begun) refl
 
-module _ (l : List ℕ) (is : line l ≡ unended l) (fit : length l ≤ max_line) where
-  pub simple_waits : (depth : ℕ) → parse depth (43 ∷ l) ≡ short
-  simple_waits depth = parse_plain depth 43 l refl ∙ unended_short simple_line l is fit refl
+module _ (limits : Limits) (l : List ℕ) (is : line l ≡ unended l) (fit : length l ≤ limits.line) where
+  pub simple_waits : (depth : ℕ) → reading limits depth (43 ∷ l) ≡ short
+  simple_waits depth = parse_plain limits depth 43 l refl ∙ unended_short limits simple_line l is fit refl
 
-  pub error_waits : (depth : ℕ) → parse depth (45 ∷ l) ≡ short
-  error_waits depth = parse_plain depth 45 l refl ∙ unended_short error_line l is fit refl
+  pub error_waits : (depth : ℕ) → reading limits depth (45 ∷ l) ≡ short
+  error_waits depth = parse_plain limits depth 45 l refl ∙ unended_short limits error_line l is fit refl
 
-  pub number_waits : (is_bare (digits_run Empty l) || is_some (number_in (digits_run Empty l))) ≡ true → (depth : ℕ) → parse depth (58 ∷ l) ≡ short
-  number_waits h depth = parse_plain depth 58 l refl ∙ unended_short number_line l is fit (can_be_number l ∙ h)
+  pub number_waits : (is_bare (digits_run Empty l) || is_some (number_in (digits_run Empty l))) ≡ true → (depth : ℕ) → reading limits depth (58 ∷ l) ≡ short
+  number_waits h depth = parse_plain limits depth 58 l refl ∙ unended_short limits number_line l is fit (can_be_number l ∙ h)
 
-  pub big_waits : (is_bare (digits_run Empty l) || are_digits (digits_run Empty l)) ≡ true → (depth : ℕ) → parse depth (40 ∷ l) ≡ short
-  big_waits h depth = parse_plain depth 40 l refl ∙ unended_short big_line l is fit (can_be_big l ∙ h)
+  pub big_waits : (is_bare (digits_run Empty l) || are_digits (digits_run Empty l)) ≡ true → (depth : ℕ) → reading limits depth (40 ∷ l) ≡ short
+  big_waits h depth = parse_plain limits depth 40 l refl ∙ unended_short limits big_line l is fit (can_be_big l ∙ h)
 
-  pub double_waits : made_by reader_limits is_double double_tails l ≡ true → (depth : ℕ) → parse depth (44 ∷ l) ≡ short
-  double_waits h depth = parse_plain depth 44 l refl ∙ unended_short (double_line reader_limits) l is fit h
+  pub double_waits : made_by (bounds limits) is_double double_tails l ≡ true → (depth : ℕ) → reading limits depth (44 ∷ l) ≡ short
+  double_waits h depth = parse_plain limits depth 44 l refl ∙ unended_short limits (double_line (bounds limits)) l is fit h
 
 -- what is known of no bytes
 pub nothing_looked : (looked : Looked) (l : List ℕ) → IsLooked looked [] → IsLooked looked l

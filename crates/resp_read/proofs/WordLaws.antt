@@ -4,24 +4,27 @@ use Rattle.std.proofs.lemmas.Bool.Decides.{nat_tests}
 use Rattle.std.proofs.Math.Bool.{and-false}
 use Rattle.std.specs.Prelude.{◌==◌, ◌&&◌, ◌||◌, bytes_eq, is_some, option_map}
 use Rattle.resp_value.specs.Data.{Data, nil, boolean, big}
-use Rattle.resp_read.specs.Grammar.{max_line, is_digit, truth, is_end, no_array_begun, unsigned, after_digits, digits_and, is_big, big_begun, null_line, boolean_line, big_line, no_array_line}
-use Rattle.resp_read.proofs.LineLaws.{LawfulLine}
+use Rattle.resp_read.specs.Grammar.{is_digit, truth, is_end, unsigned, after_digits, digits_and, is_big}
+use Rattle.resp_read.specs.Parser.{no_array_begun, big_begun, null_line, boolean_line, big_line, no_array_line}
+use Rattle.resp_read.specs.Limits.{AreAllowed}
+use Rattle.resp_read.specs.declared.limits.Limits.{Limits}
+use Rattle.resp_read.proofs.LineLaws.{LawfulLine, few_fit}
 use Rattle.resp_read.proofs.Numbers.{Begins, is_none, whole_already, seen_through, longer_other, other_start}
 
 abbrev nil_if : Bool → Option Data
 nil_if c = cond c (Some nil) None
 
 -- `_`
-null_can : (l : List ℕ) → length l ≤ max_line → is_end l ≡ true → Begins (λ x. nil_if (is_end x)) l
-null_can [] fit h = ([], nil, refl, lit≤ tt, refl)
-null_can (b ∷ l) fit h = cc
+null_can : (limits : Limits) → AreAllowed limits → (l : List ℕ) → length l ≤ limits.line → is_end l ≡ true → Begins limits (λ x. nil_if (is_end x)) l
+null_can limits allowed [] fit h = ([], nil, refl, few_fit limits allowed (lit≤ tt), refl)
+null_can limits allowed (b ∷ l) fit h = cc
 
 null_cannot : (l q : List ℕ) → is_end l ≡ false → nil_if (is_end (l ++ q)) ≡ None
 null_cannot [] q h = cc
 null_cannot (b ∷ l) q h = refl
 
-pub lawful_null : LawfulLine null_line
-lawful_null = record { can = null_can; cannot = λ l q fit h. null_cannot l q h }
+pub lawful_null : (limits : Limits) → AreAllowed limits → LawfulLine limits null_line
+lawful_null limits allowed = record { can = null_can limits allowed; cannot = λ l q fit h. null_cannot l q h }
 
 -- `#`
 truth_by : (c d : Bool) → c ≡ false → d ≡ false → cond c (Some true) (cond d (Some false) None) ≡ None
@@ -35,17 +38,17 @@ truth_stays b [] [] h = h
 truth_stays b [] (c ∷ q) h = truth_long b c q
 truth_stays b (c ∷ l) q h = truth_long b c (l ++ q)
 
-truth_can : (l : List ℕ) → length l ≤ max_line → (is_end l || is_some (truth l)) ≡ true → Begins truth l
-truth_can [] fit h = (116 ∷ [], true, refl, lit≤ tt, refl)
-truth_can (b ∷ l) fit h = whole_already truth (b ∷ l) (truth (b ∷ l)) refl fit h
+truth_can : (limits : Limits) → AreAllowed limits → (l : List ℕ) → length l ≤ limits.line → (is_end l || is_some (truth l)) ≡ true → Begins limits truth l
+truth_can limits allowed [] fit h = (116 ∷ [], true, refl, few_fit limits allowed (lit≤ tt), refl)
+truth_can limits allowed (b ∷ l) fit h = whole_already limits truth (b ∷ l) (truth (b ∷ l)) refl fit h
 
 truth_cannot : (l q : List ℕ) → (is_end l || is_some (truth l)) ≡ false → truth (l ++ q) ≡ None
 truth_cannot [] q h = cc
 truth_cannot (b ∷ l) q h = truth_stays b l q (is_none (truth (b ∷ l)) h)
 
-pub lawful_boolean : LawfulLine boolean_line
-lawful_boolean = record {
-  can = λ l fit h. seen_through truth boolean l (truth_can l fit h);
+pub lawful_boolean : (limits : Limits) → AreAllowed limits → LawfulLine limits boolean_line
+lawful_boolean limits allowed = record {
+  can = λ l fit h. seen_through limits truth boolean l (truth_can limits allowed l fit h);
   cannot = λ l q fit h. ap (option_map boolean) (truth_cannot l q h);
 }
 
@@ -53,23 +56,23 @@ lawful_boolean = record {
 abbrev is_no_array : List ℕ → Bool
 is_no_array l = bytes_eq l (45 ∷ 49 ∷ [])
 
-is_already : (l : List ℕ) → is_no_array l ≡ true → length l ≤ max_line → Begins (λ x. nil_if (is_no_array x)) l
-is_already l h fit = whole_already (λ x. nil_if (is_no_array x)) l (nil_if (is_no_array l)) refl fit (ap (λ c. is_some (nil_if c)) h)
+is_already : (limits : Limits) (l : List ℕ) → is_no_array l ≡ true → length l ≤ limits.line → Begins limits (λ x. nil_if (is_no_array x)) l
+is_already limits l h fit = whole_already limits (λ x. nil_if (is_no_array x)) l (nil_if (is_no_array l)) refl fit (ap (λ c. is_some (nil_if c)) h)
 
-no_array_can : (l : List ℕ) → length l ≤ max_line → no_array_begun l ≡ true → Begins (λ x. nil_if (is_no_array x)) l
-no_array_can [] fit h = (45 ∷ 49 ∷ [], nil, refl, lit≤ tt, refl)
-no_array_can (b ∷ []) fit h =
+no_array_can : (limits : Limits) → AreAllowed limits → (l : List ℕ) → length l ≤ limits.line → no_array_begun l ≡ true → Begins limits (λ x. nil_if (is_no_array x)) l
+no_array_can limits allowed [] fit h = (45 ∷ 49 ∷ [], nil, refl, few_fit limits allowed (lit≤ tt), refl)
+no_array_can limits allowed (b ∷ []) fit h =
     let e : b ≡ 45 = grind (arith, nat_tests) in
-    subst (λ x. Begins (λ y. nil_if (is_no_array y)) (x ∷ [])) (sym e) (49 ∷ [], nil, refl, lit≤ tt, refl)
-no_array_can (b ∷ c ∷ l) fit h = is_already (b ∷ c ∷ l) h fit
+    subst (λ x. Begins limits (λ y. nil_if (is_no_array y)) (x ∷ [])) (sym e) (49 ∷ [], nil, refl, few_fit limits allowed (lit≤ tt), refl)
+no_array_can limits allowed (b ∷ c ∷ l) fit h = is_already limits (b ∷ c ∷ l) h fit
 
 no_array_cannot : (l q : List ℕ) → no_array_begun l ≡ false → nil_if (is_no_array (l ++ q)) ≡ None
 no_array_cannot [] q h = cc
 no_array_cannot (b ∷ []) q h = ap nil_if (other_start b q h)
 no_array_cannot (b ∷ c ∷ l) q h = ap nil_if (longer_other b c l q h)
 
-pub lawful_no_array : LawfulLine no_array_line
-lawful_no_array = record { can = no_array_can; cannot = λ l q fit h. no_array_cannot l q h }
+pub lawful_no_array : (limits : Limits) → AreAllowed limits → LawfulLine limits no_array_line
+lawful_no_array limits allowed = record { can = no_array_can limits allowed; cannot = λ l q fit h. no_array_cannot l q h }
 
 -- `(`
 abbrev big_if : Bool → List ℕ → Option Data
@@ -101,12 +104,12 @@ signed_by b l false is part begun =
     let all : is_end (after_digits (b ∷ l)) ≡ true = sym (ap (λ c. is_end (after_digits (cond c l (b ∷ l)))) is) ∙ begun in
     absurd (some_digits b l all some)
 
-big_by : (l : List ℕ) → length l ≤ max_line → (c : Bool) → is_big l ≡ c → big_begun l ≡ true → Begins (λ x. big_if (is_big x) x) l
-big_by l fit true is h = whole_already (λ x. big_if (is_big x) x) l (Some (big l)) (ap (λ c. big_if c l) is) fit refl
-big_by [] fit false is h = (48 ∷ [], big (48 ∷ []), refl, lit≤ tt, refl)
-big_by (b ∷ l) fit false is h =
+big_by : (limits : Limits) → AreAllowed limits → (l : List ℕ) → length l ≤ limits.line → (c : Bool) → is_big l ≡ c → big_begun l ≡ true → Begins limits (λ x. big_if (is_big x) x) l
+big_by limits allowed l fit true is h = whole_already limits (λ x. big_if (is_big x) x) l (Some (big l)) (ap (λ c. big_if c l) is) fit refl
+big_by limits allowed [] fit false is h = (48 ∷ [], big (48 ∷ []), refl, few_fit limits allowed (lit≤ tt), refl)
+big_by limits allowed (b ∷ l) fit false is h =
     let one = signed_by b l ((b == 43) || (b == 45)) refl is h in
-    subst (λ x. Begins (λ y. big_if (is_big y) y) (b ∷ x)) (sym one.0) (48 ∷ [], big (b ∷ 48 ∷ []), ap (λ c. big_if c (b ∷ 48 ∷ [])) (signed_one b one.1), lit≤ tt, refl)
+    subst (λ x. Begins limits (λ y. big_if (is_big y) y) (b ∷ x)) (sym one.0) (48 ∷ [], big (b ∷ 48 ∷ []), ap (λ c. big_if c (b ∷ 48 ∷ [])) (signed_one b one.1), few_fit limits allowed (lit≤ tt), refl)
 
 -- where a byte is no digit, it stays so
 other_byte : (c : Bool) (x y z w : List ℕ) → is_end w ≡ false → (is_end x ≡ false → is_end y ≡ false) → is_end (cond c x z) ≡ false → is_end (cond c y w) ≡ false
@@ -129,5 +132,5 @@ big_cannot : (l q : List ℕ) → big_begun l ≡ false → big_if (is_big (l ++
 big_cannot [] q h = cc
 big_cannot (b ∷ l) q h = ap (λ c. big_if c ((b ∷ l) ++ q)) (no_big (unsigned ((b ∷ l) ++ q)) (unsigned_by ((b == 43) || (b == 45)) b l q h))
 
-pub lawful_big : LawfulLine big_line
-lawful_big = record { can = λ l fit h. big_by l fit (is_big l) refl h; cannot = λ l q fit h. big_cannot l q h }
+pub lawful_big : (limits : Limits) → AreAllowed limits → LawfulLine limits big_line
+lawful_big limits allowed = record { can = λ l fit h. big_by limits allowed l fit (is_big l) refl h; cannot = λ l q fit h. big_cannot l q h }

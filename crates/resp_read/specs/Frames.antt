@@ -10,14 +10,16 @@ use Rattle.resp_read.specs.declared.frames.Sequence.TheVariants.{Array, Set, Pus
 use Rattle.resp_read.specs.declared.frames.Pairing.{Pairing}
 use Rattle.resp_read.specs.declared.frames.Pairing.TheVariants.{Map, Attributes}
 use Rattle.resp_read.specs.declared.frames.Frame.{Frame}
-use Rattle.resp_read.specs.declared.frames.Frame.TheVariants.{Item, Key, Entry, Attributed}
+use Rattle.resp_read.specs.declared.frames.Frame.TheVariants.{Item, Entry, Attributed}
 use Rattle.resp_read.specs.declared.frames.Begun.{Begun}
 use Rattle.resp_read.specs.declared.frames.Begun.TheVariants.{Whole, Within}
+use Rattle.resp_read.specs.declared.limits.Limits.{Limits}
 use Rattle.resp_read.specs.declared.waiting.Looked.{Looked}
 use Rattle.resp_read.specs.declared.reader.Health.{Health}
 use Rattle.resp_read.specs.declared.reader.Health.TheVariants.{Sound}
 use Rattle.resp_read.specs.Waiting.{IsLooked}
-use Rattle.resp_read.specs.Grammar.{Found, read, short, bad, found_and_then, found_map, repeated, pair, attributed, parse, max_depth}
+use Rattle.resp_read.specs.Parser.{read, short, bad, Found, found_and_then, found_map, repeated, pair, attributed}
+use Rattle.resp_read.specs.Limits.{reading, AreAllowed}
 
 -- what these values make
 abbrev pub made : Sequence → List Data → Data
@@ -41,8 +43,8 @@ with_pairs inside of found n bs = found_and_then (λ ps. paired inside of (found
 -- what an aggregate is, where the value that it waits for is v, and these bytes follow
 abbrev pub with_value : (List ℕ → Found Data) → Frame → Data → List ℕ → Found Data
 with_value inside (Item of found more) v bs = with_values inside of (found ++ v ∷ []) more bs
-with_value inside (Key of found more) k bs = found_and_then (λ v rest. with_pairs inside of (found ++ (k, v) ∷ []) more rest) (inside bs)
-with_value inside (Entry of found k more) v bs = with_pairs inside of (found ++ (data_of k, v) ∷ []) more bs
+with_value inside (Entry of found None more) k bs = found_and_then (λ v rest. with_pairs inside of (found ++ (k, v) ∷ []) more rest) (inside bs)
+with_value inside (Entry of found (Some k) more) v bs = with_pairs inside of (found ++ (data_of k, v) ∷ []) more bs
 with_value inside (Attributed ps) v bs = read (attribute v (members_of ps)) bs
 
 -- what was begun is, where these bytes follow
@@ -56,13 +58,13 @@ whole_of (Ok v) = Ok (Whole v)
 whole_of (Err e) = Err e
 
 -- what the outermost of these aggregates is, where x is found in the innermost; n may still be nested
-abbrev pub within : ℕ → List Frame → Found Data → Found Data
-within n [] x = x
-within n (frame ∷ frames) x = found_and_then (with_value (parse (n - 1)) frame) (within (n - 1) frames x)
+abbrev pub within : Limits → ℕ → List Frame → Found Data → Found Data
+within limits n [] x = x
+within limits n (frame ∷ frames) x = found_and_then (with_value (reading limits (n - 1)) frame) (within limits (n - 1) frames x)
 
 -- what it is, where these bytes follow
-abbrev pub resumed : List Frame → List ℕ → Found Data
-resumed frames bs = within max_depth frames (parse (max_depth - length frames) bs)
+abbrev pub resumed : Limits → List Frame → List ℕ → Found Data
+resumed limits frames bs = within limits limits.depth frames (reading limits (limits.depth - length frames) bs)
 
 -- the one text is the end of the other
 abbrev pub IsEnd : List ℕ → List ℕ → Type 0
@@ -81,28 +83,29 @@ IsAdded old v (Ok None) new = (inside : List ℕ → Found Data) (bs : List ℕ)
 IsAdded old v (Ok (Some w)) new = (w ≡ v) × (new ≡ old)
 IsAdded old v (Err e) new = Unit {0}
 
--- the same of the innermost of these aggregates
+-- the same of the innermost of these aggregates, within any limits
 abbrev pub IsPutInPlace : {E : Type 0} → List Frame → Value → Result (Option Value) E → List Frame → Type 0
-IsPutInPlace old v (Ok None) new = (bs : List ℕ) → within max_depth old (read (data_of v) bs) ≡ resumed new bs
+IsPutInPlace old v (Ok None) new = (limits : Limits) (bs : List ℕ) → within limits limits.depth old (read (data_of v) bs) ≡ resumed limits new bs
 IsPutInPlace old v (Ok (Some w)) new = (w ≡ v) × (new ≡ old)
 IsPutInPlace old v (Err e) new = Unit {0}
 
--- what becomes of a value in these aggregates: the outermost is whole by it, or it waits on
+-- what becomes of a value in these aggregates: the outermost is whole by it, or it waits on, within any limits
 abbrev pub IsPut : {E : Type 0} → List Frame → Value → Result (Option Value) E → List Frame → Type 0
-IsPut old v (Ok (Some w)) new = (new ≡ []) × ((bs : List ℕ) → within max_depth old (read (data_of v) bs) ≡ read (data_of w) bs)
-IsPut old v (Ok None) new = (bs : List ℕ) → within max_depth old (read (data_of v) bs) ≡ resumed new bs
+IsPut old v (Ok (Some w)) new = (new ≡ []) × ((limits : Limits) (bs : List ℕ) → within limits limits.depth old (read (data_of v) bs) ≡ read (data_of w) bs)
+IsPut old v (Ok None) new = (limits : Limits) (bs : List ℕ) → within limits limits.depth old (read (data_of v) bs) ≡ resumed limits new bs
 IsPut old v (Err e) new = Unit {0}
 
 -- what reading on makes of the aggregates: the outermost is whole, or more bytes are wanted, or none can help
-abbrev pub ReadsOn : List Frame → List ℕ → Result Value Refusal → List Frame → List ℕ → Type 0
-ReadsOn old bs (Ok v) new left = (new ≡ []) × IsEnd left bs × ((m : List ℕ) → resumed old (bs ++ m) ≡ read (data_of v) (left ++ m))
-ReadsOn old bs (Err Short) new left = IsEnd left bs × (resumed old bs ≡ short) × ((m : List ℕ) → resumed old (bs ++ m) ≡ resumed new (left ++ m))
-ReadsOn old bs (Err Bad) new left = resumed old bs ≡ bad
-ReadsOn old bs (Err NoMemory) new left = Unit {0}
+abbrev pub ReadsOn : Limits → List Frame → List ℕ → Result Value Refusal → List Frame → List ℕ → Type 0
+ReadsOn limits old bs (Ok v) new left = (new ≡ []) × IsEnd left bs × ((m : List ℕ) → resumed limits old (bs ++ m) ≡ read (data_of v) (left ++ m))
+ReadsOn limits old bs (Err Short) new left = IsEnd left bs × (resumed limits old bs ≡ short) × ((m : List ℕ) → resumed limits old (bs ++ m) ≡ resumed limits new (left ++ m))
+ReadsOn limits old bs (Err Bad) new left = resumed limits old bs ≡ bad
+ReadsOn limits old bs (Err NoMemory) new left = Unit {0}
 
--- where a reader is in its bytes: the value that begins at the one place is what the aggregates are with the bytes from the other place on, whatever bytes follow; and what is known of the line behind the first byte there
-pub record IsUnderway (bytes : List ℕ) (at next : ℕ) (frames : List Frame) (looked : Looked) (health : Health) : Type 0 where
+-- where a reader with these limits is in its bytes: the value that begins at the one place is what the aggregates are with the bytes from the other place on, whatever bytes follow; and what is known of the line behind the first byte there
+pub record IsUnderway (limits : Limits) (bytes : List ℕ) (at next : ℕ) (frames : List Frame) (looked : Looked) (health : Health) : Type 0 where
+  pub allowed : AreAllowed limits
   pub in_order : at ≤ next
   pub fits : next ≤ length bytes
-  pub resumes : health ≡ Sound → (m : List ℕ) → parse max_depth (drop at bytes ++ m) ≡ resumed frames (drop next bytes ++ m)
+  pub resumes : health ≡ Sound → (m : List ℕ) → reading limits limits.depth (drop at bytes ++ m) ≡ resumed limits frames (drop next bytes ++ m)
   pub known : IsLooked looked (drop 1 (drop next bytes))

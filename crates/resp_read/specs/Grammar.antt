@@ -1,23 +1,7 @@
 -- RESP, the protocol of Redis (https://redis.io/docs/latest/develop/reference/protocol-spec): which value stands at the front of a text, and what is left after it.
-use Rattle.std.specs.Prelude.{ℕ, zero, suc, ◌+◌, ◌-◌, ◌*◌, ℤ, pos, neg_ℤ, Bool, true, false, ◌&&◌, ◌||◌, ◌==◌, nat_le, nat_lt, List, [], ◌∷◌, ◌++◌, length, take, drop, Option, Some, None, option_map, is_some, bytes_eq, if◌then◌else◌}
+use Rattle.std.specs.Prelude.{ℕ, zero, suc, ◌+◌, ◌-◌, ◌*◌, ℤ, pos, neg_ℤ, Bool, true, false, ◌&&◌, ◌||◌, ◌==◌, nat_le, nat_lt, List, [], ◌∷◌, ◌++◌, length, take, drop, Option, Some, None, option_map, bytes_eq, if◌then◌else◌}
 use Rattle.resp_value.specs.Data.{Data, nil, int, bulk, array, simple, okay, dict, attribute, set, double, boolean, verbatim, big, push, error, items_of, members_of}
 use Rattle.resp_value.specs.Kinds.{kind_of}
-
--- what stands at the front of a text: something whole with the bytes after it, something that is not whole yet, or nothing that can become whole
-pub data Found (A : Type 0) : Type 0 where
-  read : A → List ℕ → Found A
-  short : Found A
-  bad : Found A
-
--- what was read, and then what f finds after it
-abbrev pub found_and_then : {A B : Type 0} → (A → List ℕ → Found B) → Found A → Found B
-found_and_then f (read a rest) = f a rest
-found_and_then f short = short
-found_and_then f bad = bad
-
--- what was read, as f makes of it
-abbrev pub found_map : {A B : Type 0} → (A → B) → Found A → Found B
-found_map f x = found_and_then (λ a rest. read (f a) rest) x
 
 -- the most bytes of a line, its CR LF not counted: a limit of this reader
 abbrev pub max_line : ℕ
@@ -30,6 +14,10 @@ max_bulk = 536_870_912
 -- the most values or pairs of an aggregate: a limit of this reader
 abbrev pub max_count : ℕ
 max_count = 2_147_483_647
+
+-- a nested form stands in at most 99 others
+unfoldable pub max_depth : ℕ
+max_depth = 100
 
 -- the most bytes of a line, the most bytes of a bulk string, and the most values or pairs of an aggregate; none where there is no limit
 pub record Limits : Type 0 where
@@ -50,54 +38,9 @@ abbrev pub allows : Option ℕ → ℕ → Bool
 allows None n = true
 allows (Some most) n = nat_le n most
 
--- the first line of a text: all of it with the bytes after its CR LF, all of it where the LF is still to come, its front where no CR has come, or none because no LF follows the CR
-pub data Line : Type 0 where
-  ended : List ℕ → List ℕ → Line
-  held : List ℕ → Line
-  unended : List ℕ → Line
-  broken : Line
-
--- after a CR
-abbrev pub after_return : List ℕ → Line
-after_return [] = held []
-after_return (b ∷ bs) = if b == 10 then ended [] bs else broken
-
--- the line with one byte more before it
-abbrev pub byte_before : ℕ → Line → Line
-byte_before b (ended l rest) = ended (b ∷ l) rest
-byte_before b (held l) = held (b ∷ l)
-byte_before b (unended l) = unended (b ∷ l)
-byte_before b broken = broken
-
--- the bytes up to the first CR, which LF has to follow
-abbrev pub line : List ℕ → Line
-line [] = unended []
-line (b ∷ bs) = if b == 13 then after_return bs else byte_before b (line bs)
-
--- what a whole line stands for, if it is of this form; and whether a line that starts so can become one of this form within the limit
-pub record LineForm (A : Type 0) : Type 0 where
-  pub whole : List ℕ → Option A
-  pub begun : List ℕ → Bool
-
 -- whether a line is within the limit
 abbrev pub fits : Limits → List ℕ → Bool
 fits limits l = allows limits.line (length l)
-
--- what a whole line stands for, and the bytes after it
-abbrev pub found : {A : Type 0} → Option A → List ℕ → Found A
-found (Some a) rest = read a rest
-found None rest = bad
-
--- what the first line of a text is, by its form
-abbrev pub line_found : {A : Type 0} → Limits → LineForm A → Line → Found A
-line_found limits form (ended l rest) = if fits limits l then found (form.whole l) rest else bad
-line_found limits form (held l) = if fits limits l && is_some (form.whole l) then short else bad
-line_found limits form (unended l) = if fits limits l && form.begun l then short else bad
-line_found limits form broken = bad
-
--- a line of this form, and CR LF
-abbrev pub line_as : {A : Type 0} → Limits → LineForm A → List ℕ → Found A
-line_as limits form bs = line_found limits form (line bs)
 
 -- `0` to `9`
 abbrev pub is_digit : ℕ → Bool
@@ -126,21 +69,9 @@ number (b ∷ bs) =
     else if b == 43 then option_map pos (natural (Some 9_223_372_036_854_775_807) bs)
     else option_map pos (natural (Some 9_223_372_036_854_775_807) (b ∷ bs))
 
--- the front of a number: nothing, a sign, or a number
-abbrev pub number_begun : List ℕ → Bool
-number_begun [] = true
-number_begun (b ∷ []) = (b == 45) || (b == 43) || is_some (number (b ∷ []))
-number_begun (b ∷ c ∷ bs) = is_some (number (b ∷ c ∷ bs))
-
 -- a length within the limit, or none for `-1`, which stands for Nil
 abbrev pub size : Option ℕ → List ℕ → Option (Option ℕ)
 size most l = if bytes_eq l (45 ∷ 49 ∷ []) then Some None else option_map Some (natural most l)
-
--- the front of a length: nothing, `-`, or a length
-abbrev pub size_begun : Option ℕ → List ℕ → Bool
-size_begun most [] = true
-size_begun most (b ∷ []) = (b == 45) || is_some (size most (b ∷ []))
-size_begun most (b ∷ c ∷ bs) = is_some (size most (b ∷ c ∷ bs))
 
 -- a number that is not below the limit
 abbrev pub at_least : ℕ → Option ℕ → Option ℕ
@@ -150,15 +81,6 @@ at_least least (Some n) = if nat_le least n then Some n else None
 -- a length that is at least that, within the limit
 abbrev pub count : ℕ → Option ℕ → List ℕ → Option ℕ
 count least most l = at_least least (natural most l)
-
--- one of these tails makes a front one of the lines that f takes, within the limit
-abbrev pub made_by : Limits → (List ℕ → Bool) → List (List ℕ) → List ℕ → Bool
-made_by limits f [] l = false
-made_by limits f (q ∷ qs) l = (fits limits (l ++ q) && f (l ++ q)) || made_by limits f qs l
-
--- the front of a length: it is one, or one more digit makes it one
-abbrev pub count_begun : Limits → ℕ → Option ℕ → List ℕ → Bool
-count_begun limits least most l = made_by limits (λ x. is_some (count least most x)) ([] ∷ ((48 + least) ∷ []) ∷ []) l
 
 -- without its sign, if there is one
 abbrev pub unsigned : List ℕ → List ℕ
@@ -194,31 +116,9 @@ is_fraction (b ∷ bs) = if b == 46 then digits_and is_exponent bs else is_expon
 abbrev pub is_double : List ℕ → Bool
 is_double l = bytes_eq l (105 ∷ 110 ∷ 102 ∷ []) || bytes_eq l (45 ∷ 105 ∷ 110 ∷ 102 ∷ []) || bytes_eq l (110 ∷ 97 ∷ 110 ∷ []) || digits_and is_fraction (unsigned l)
 
--- what makes the front of a double whole: nothing, a digit, or what is left of `inf` or `nan`
-abbrev pub double_tails : List (List ℕ)
-double_tails = [] ∷ (48 ∷ []) ∷ (110 ∷ 102 ∷ []) ∷ (102 ∷ []) ∷ (97 ∷ 110 ∷ []) ∷ (110 ∷ []) ∷ []
-
 -- digits, with a sign or without
 abbrev pub is_big : List ℕ → Bool
 is_big l = digits_and is_end (unsigned l)
-
--- the front of that: nothing, a sign, or some of the digits
-abbrev pub big_begun : List ℕ → Bool
-big_begun l = is_end (after_digits (unsigned l))
-
--- v, where LF follows
-abbrev pub fed : {A : Type 0} → A → List ℕ → Found A
-fed v [] = short
-fed v (b ∷ bs) = if b == 10 then read v bs else bad
-
--- v, where CR LF follows
-abbrev pub closed : {A : Type 0} → A → List ℕ → Found A
-closed v [] = short
-closed v (b ∷ bs) = if b == 13 then fed v bs else bad
-
--- n bytes, and CR LF
-abbrev pub body : ℕ → List ℕ → Found (List ℕ)
-body n bs = if nat_lt (length bs) n then short else closed (take n bs) (drop n bs)
 
 -- the line `OK` is a value of its own
 abbrev pub simple_of : List ℕ → Data
@@ -238,221 +138,136 @@ after_space (b ∷ bs) = if b == 32 then Some bs else after_space bs
 abbrev pub error_of : List ℕ → Data
 error_of l = error (record { code = before_space l; detail = after_space l })
 
--- `+`: a simple string
-abbrev pub simple_line : LineForm Data
-simple_line = record { whole = λ l. Some (simple_of l); begun = λ l. true }
-
--- `-`: an error
-abbrev pub error_line : LineForm Data
-error_line = record { whole = λ l. Some (error_of l); begun = λ l. true }
-
--- `:`: a number
-abbrev pub number_line : LineForm Data
-number_line = record { whole = λ l. option_map int (number l); begun = number_begun }
-
--- `_`: Nil, the empty line
-abbrev pub null_line : LineForm Data
-null_line = record { whole = λ l. if is_end l then Some nil else None; begun = is_end }
-
 -- `t` or `f`
 abbrev pub truth : List ℕ → Option Bool
 truth l = if bytes_eq l (116 ∷ []) then Some true else if bytes_eq l (102 ∷ []) then Some false else None
 
--- `#`: a boolean
-abbrev pub boolean_line : LineForm Data
-boolean_line = record { whole = λ l. option_map boolean (truth l); begun = λ l. is_end l || is_some (truth l) }
+-- what was read, and then what f reads after it
+abbrev pub read_then : {A B : Type 0} → (A → List ℕ → Option (B × List ℕ)) → Option (A × List ℕ) → Option (B × List ℕ)
+read_then f None = None
+read_then f (Some x) = f x.0 x.1
 
--- `,`: a double, whose text is kept
-abbrev pub double_line : Limits → LineForm Data
-double_line limits = record { whole = λ l. if is_double l then Some (double l) else None; begun = made_by limits is_double double_tails }
+-- what was read, as f makes of it
+abbrev pub read_as : {A B : Type 0} → (A → B) → Option (A × List ℕ) → Option (B × List ℕ)
+read_as f x = read_then (λ a rest. Some (f a, rest)) x
 
--- `(`: a big number, whose text is kept
-abbrev pub big_line : LineForm Data
-big_line = record { whole = λ l. if is_big l then Some (big l) else None; begun = big_begun }
+-- the end of a line, of which CR was read: LF
+abbrev pub line_end : List ℕ → Option (List ℕ × List ℕ)
+line_end [] = None
+line_end (b ∷ rest) = if b == 10 then Some ([], rest) else None
 
--- the line that announces a length, or `-1`
-abbrev pub size_line : Option ℕ → LineForm (Option ℕ)
-size_line most = record { whole = size most; begun = size_begun most }
+-- a line: the bytes up to the first CR, which LF has to follow
+abbrev pub whole_line : List ℕ → Option (List ℕ × List ℕ)
+whole_line [] = None
+whole_line (b ∷ bs) = if b == 13 then line_end bs else read_as (λ l. b ∷ l) (whole_line bs)
 
--- the line that announces a length of at least that
-abbrev pub count_line : Limits → ℕ → Option ℕ → LineForm ℕ
-count_line limits least most = record { whole = count least most; begun = count_begun limits least most }
-
--- Nil, or a bulk string of that length
-abbrev pub bulk_of : Option ℕ → List ℕ → Found Data
-bulk_of None bs = read nil bs
-bulk_of (Some n) bs = found_map bulk (body n bs)
-
--- `$`: a length, and so many bytes
-abbrev pub bulk_string : Limits → List ℕ → Found Data
-bulk_string limits bs = found_and_then bulk_of (line_as limits (size_line limits.bulk) bs)
-
--- an error of that length
-abbrev pub error_body : ℕ → List ℕ → Found Data
-error_body n bs = found_map error_of (body n bs)
-
--- `!`: an error in so many bytes
-abbrev pub bulk_error : Limits → List ℕ → Found Data
-bulk_error limits bs = found_and_then error_body (line_as limits (count_line limits 0 limits.bulk) bs)
+-- what f makes of a line within the limit
+abbrev pub line_of : {A : Type 0} → Limits → (List ℕ → Option A) → List ℕ → Option (A × List ℕ)
+line_of limits f bs = read_then (λ l rest. if fits limits l then option_map (λ a. (a, rest)) (f l) else None) (whole_line bs)
 
 -- n bytes
-abbrev pub some_bytes : ℕ → List ℕ → Found (List ℕ)
-some_bytes n bs = if nat_lt (length bs) n then short else read (take n bs) (drop n bs)
+abbrev pub so_many : ℕ → List ℕ → Option (List ℕ × List ℕ)
+so_many n bs = if nat_lt (length bs) n then None else Some (take n bs, drop n bs)
 
--- v, where `:` follows
-abbrev pub colon : {A : Type 0} → A → List ℕ → Found A
-colon v [] = short
-colon v (b ∷ bs) = if b == 58 then read v bs else bad
+-- v, where this byte follows
+abbrev pub before : {A : Type 0} → ℕ → A → List ℕ → Option (A × List ℕ)
+before want v [] = None
+before want v (b ∷ rest) = if b == want then Some (v, rest) else None
 
--- the format of a text: three bytes, and `:`
-abbrev pub format : List ℕ → Found (List ℕ)
-format bs = found_and_then colon (some_bytes 3 bs)
+-- v, where CR LF follows
+abbrev pub before_end : {A : Type 0} → A → List ℕ → Option (A × List ℕ)
+before_end v bs = read_then (before 10) (before 13 v bs)
 
--- a text of that format, of n bytes with its format
-abbrev pub text_of : ℕ → List ℕ → List ℕ → Found Data
-text_of n f bs = found_map (verbatim f) (body (n - 4) bs)
+-- n bytes, and CR LF
+abbrev pub text : ℕ → List ℕ → Option (List ℕ × List ℕ)
+text n bs = read_then before_end (so_many n bs)
 
--- a format and its text
-abbrev pub verbatim_of : ℕ → List ℕ → Found Data
-verbatim_of n bs = found_and_then (text_of n) (format bs)
+-- Nil, or a bulk string of that length
+abbrev pub bulk_or_nil : Option ℕ → List ℕ → Option (Data × List ℕ)
+bulk_or_nil None bs = Some (nil, bs)
+bulk_or_nil (Some n) bs = read_as bulk (text n bs)
 
--- `=`: a text with its format
-abbrev pub verbatim_string : Limits → List ℕ → Found Data
-verbatim_string limits bs = found_and_then verbatim_of (line_as limits (count_line limits 4 limits.bulk) bs)
+-- three bytes, `:`, and the text of a verbatim string that has n bytes with them
+abbrev pub verbatim_text : ℕ → List ℕ → Option (Data × List ℕ)
+verbatim_text n bs = read_then (λ format rest. read_as (verbatim format) (text (n - 4) rest)) (read_then (before 58) (so_many 3 bs))
 
 -- n of what inside reads, one after another
-abbrev pub repeated : {A : Type 0} → (List ℕ → Found A) → ℕ → List ℕ → Found (List A)
-repeated inside zero bs = read [] bs
-repeated inside (suc n) bs = found_and_then (λ a rest. found_map (λ others. a ∷ others) (repeated inside n rest)) (inside bs)
+abbrev pub several : {A : Type 0} → (List ℕ → Option (A × List ℕ)) → ℕ → List ℕ → Option (List A × List ℕ)
+several inside zero bs = Some ([], bs)
+several inside (suc n) bs = read_then (λ a rest. read_as (λ others. a ∷ others) (several inside n rest)) (inside bs)
 
 -- two values
-abbrev pub pair : (List ℕ → Found Data) → List ℕ → Found (Data × Data)
-pair inside bs = found_and_then (λ k rest. found_map (λ v. (k, v)) (inside rest)) (inside bs)
+abbrev pub two : (List ℕ → Option (Data × List ℕ)) → List ℕ → Option ((Data × Data) × List ℕ)
+two inside bs = read_then (λ k rest. read_as (λ v. (k, v)) (inside rest)) (inside bs)
 
--- Nil, or an array of n values
-abbrev pub array_of : (List ℕ → Found Data) → Option ℕ → List ℕ → Found Data
-array_of inside None bs = read nil bs
-array_of inside (Some n) bs = found_map (λ ds. array (items_of ds)) (repeated inside n bs)
-
--- `*`: a count, and so many values
-abbrev pub array_form : Limits → (List ℕ → Found Data) → List ℕ → Found Data
-array_form limits inside bs = found_and_then (array_of inside) (line_as limits (size_line limits.count) bs)
-
--- a set of n values
-abbrev pub set_of : (List ℕ → Found Data) → ℕ → List ℕ → Found Data
-set_of inside n bs = found_map (λ ds. set (items_of ds)) (repeated inside n bs)
-
--- `~`: a count, and so many values
-abbrev pub set_form : Limits → (List ℕ → Found Data) → List ℕ → Found Data
-set_form limits inside bs = found_and_then (set_of inside) (line_as limits (count_line limits 0 limits.count) bs)
-
--- a map of n pairs
-abbrev pub map_of : (List ℕ → Found Data) → ℕ → List ℕ → Found Data
-map_of inside n bs = found_map (λ ps. dict (members_of ps)) (repeated (pair inside) n bs)
-
--- `%`: a count, and so many pairs
-abbrev pub map_form : Limits → (List ℕ → Found Data) → List ℕ → Found Data
-map_form limits inside bs = found_and_then (map_of inside) (line_as limits (count_line limits 0 limits.count) bs)
-
--- a value with these attributes
-abbrev pub attributed : (List ℕ → Found Data) → List (Data × Data) → List ℕ → Found Data
-attributed inside ps bs = found_map (λ v. attribute v (members_of ps)) (inside bs)
-
--- n pairs, and the value that they are attributes of
-abbrev pub attribute_of : (List ℕ → Found Data) → ℕ → List ℕ → Found Data
-attribute_of inside n bs = found_and_then (attributed inside) (repeated (pair inside) n bs)
-
--- `|`: a count, so many pairs, and a value
-abbrev pub attribute_form : Limits → (List ℕ → Found Data) → List ℕ → Found Data
-attribute_form limits inside bs = found_and_then (attribute_of inside) (line_as limits (count_line limits 0 limits.count) bs)
-
--- a line that is a text
-abbrev pub text_line : LineForm (List ℕ)
-text_line = record { whole = λ l. Some l; begun = λ l. true }
-
--- a length, and a text of so many bytes
-abbrev pub bulk_text : Limits → List ℕ → Found (List ℕ)
-bulk_text limits bs = found_and_then body (line_as limits (count_line limits 0 limits.bulk) bs)
+-- Nil, or an array of that many values
+abbrev pub array_or_nil : (List ℕ → Option (Data × List ℕ)) → Option ℕ → List ℕ → Option (Data × List ℕ)
+array_or_nil inside None bs = Some (nil, bs)
+array_or_nil inside (Some n) bs = read_as (λ ds. array (items_of ds)) (several inside n bs)
 
 -- the kind of a push: a simple or a bulk string
-abbrev pub kind : Limits → List ℕ → Found (List ℕ)
-kind limits [] = short
-kind limits (b ∷ bs) = if b == 43 then line_as limits text_line bs else if b == 36 then bulk_text limits bs else bad
+abbrev pub push_kind : Limits → List ℕ → Option (List ℕ × List ℕ)
+push_kind limits [] = None
+push_kind limits (b ∷ bs) =
+    if b == 43 then line_of limits (λ l. Some l) bs
+    else if b == 36 then read_then text (line_of limits (count 0 limits.bulk) bs)
+    else None
 
--- n values with their kind among them
-abbrev pub push_with : (List ℕ → Found Data) → ℕ → List ℕ → List ℕ → Found Data
-push_with inside n k bs = found_map (λ ds. push (kind_of k) (items_of ds)) (repeated inside (n - 1) bs)
+-- a push of n values with its kind
+abbrev pub push_values : Limits → (List ℕ → Option (Data × List ℕ)) → ℕ → List ℕ → Option (Data × List ℕ)
+push_values limits inside n bs = read_then (λ k rest. read_as (λ ds. push (kind_of k) (items_of ds)) (several inside (n - 1) rest)) (push_kind limits bs)
 
--- a kind, and the others of n values
-abbrev pub push_of : Limits → (List ℕ → Found Data) → ℕ → List ℕ → Found Data
-push_of limits inside n bs = found_and_then (push_with inside n) (kind limits bs)
-
--- `>`: a count of one at least, a kind, and the other values
-abbrev pub push_form : Limits → (List ℕ → Found Data) → List ℕ → Found Data
-push_form limits inside bs = found_and_then (push_of limits inside) (line_as limits (count_line limits 1 limits.count) bs)
-
--- the front of `-1`
-abbrev pub no_array_begun : List ℕ → Bool
-no_array_begun [] = true
-no_array_begun (b ∷ []) = b == 45
-no_array_begun (b ∷ c ∷ bs) = bytes_eq (b ∷ c ∷ bs) (45 ∷ 49 ∷ [])
-
--- `*-1`: Nil
-abbrev pub no_array_line : LineForm Data
-no_array_line = record { whole = λ l. if bytes_eq l (45 ∷ 49 ∷ []) then Some nil else None; begun = no_array_begun }
+-- n attributes, and the value that has them
+abbrev pub with_attributes : (List ℕ → Option (Data × List ℕ)) → ℕ → List ℕ → Option (Data × List ℕ)
+with_attributes inside n bs = read_then (λ ps rest. read_as (λ v. attribute v (members_of ps)) (inside rest)) (several (two inside) n bs)
 
 -- first bytes, and what reads the bytes after each
-abbrev pub Table : Type 0
-Table = List (ℕ × (List ℕ → Found Data))
+abbrev pub Forms : Type 0
+Forms = List (ℕ × (List ℕ → Option (Data × List ℕ)))
 
--- the forms that hold no values
-abbrev pub plain : Limits → Table
-plain limits =
-    (43, line_as limits simple_line)
-    ∷ (45, line_as limits error_line)
-    ∷ (58, line_as limits number_line)
-    ∷ (36, bulk_string limits)
-    ∷ (95, line_as limits null_line)
-    ∷ (35, line_as limits boolean_line)
-    ∷ (44, line_as limits (double_line limits))
-    ∷ (40, line_as limits big_line)
-    ∷ (33, bulk_error limits)
-    ∷ (61, verbatim_string limits)
+-- `+` a simple string, `-` an error, `:` a number, `$` a bulk string, `_` Nil, `#` a boolean, `,` a double, `(` a big
+-- number, `!` an error in so many bytes, `=` a text with its format
+abbrev pub plain_forms : Limits → Forms
+plain_forms limits =
+    (43, line_of limits (λ l. Some (simple_of l)))
+    ∷ (45, line_of limits (λ l. Some (error_of l)))
+    ∷ (58, line_of limits (λ l. option_map int (number l)))
+    ∷ (36, λ bs. read_then bulk_or_nil (line_of limits (size limits.bulk) bs))
+    ∷ (95, line_of limits (λ l. if is_end l then Some nil else None))
+    ∷ (35, line_of limits (λ l. option_map boolean (truth l)))
+    ∷ (44, line_of limits (λ l. if is_double l then Some (double l) else None))
+    ∷ (40, line_of limits (λ l. if is_big l then Some (big l) else None))
+    ∷ (33, λ bs. read_then (λ n rest. read_as error_of (text n rest)) (line_of limits (count 0 limits.bulk) bs))
+    ∷ (61, λ bs. read_then verbatim_text (line_of limits (count 4 limits.bulk) bs))
     ∷ []
 
--- the forms that hold values, which inside reads
-abbrev pub nested : Limits → (List ℕ → Found Data) → Table
-nested limits inside =
-    (42, array_form limits inside)
-    ∷ (126, set_form limits inside)
-    ∷ (37, map_form limits inside)
-    ∷ (62, push_form limits inside)
-    ∷ (124, attribute_form limits inside)
+-- `*` an array, `~` a set, `%` a map, `>` a push, `|` attributes and their value, each behind a count; the values in
+-- them are what inside reads
+abbrev pub nested_forms : Limits → (List ℕ → Option (Data × List ℕ)) → Forms
+nested_forms limits inside =
+    (42, λ bs. read_then (array_or_nil inside) (line_of limits (size limits.count) bs))
+    ∷ (126, λ bs. read_then (λ n rest. read_as (λ ds. set (items_of ds)) (several inside n rest)) (line_of limits (count 0 limits.count) bs))
+    ∷ (37, λ bs. read_then (λ n rest. read_as (λ ps. dict (members_of ps)) (several (two inside) n rest)) (line_of limits (count 0 limits.count) bs))
+    ∷ (62, λ bs. read_then (push_values limits inside) (line_of limits (count 1 limits.count) bs))
+    ∷ (124, λ bs. read_then (with_attributes inside) (line_of limits (count 0 limits.count) bs))
     ∷ []
 
 -- where no more may be nested an array is still Nil, since that holds nothing
-abbrev pub innermost : Limits → Table
-innermost limits = (42, line_as limits no_array_line) ∷ []
+abbrev pub innermost_forms : Limits → Forms
+innermost_forms limits = (42, line_of limits (λ l. if bytes_eq l (45 ∷ 49 ∷ []) then Some nil else None)) ∷ []
 
 -- by its first byte b, the form of the bytes after it; any other byte begins no value
-abbrev pub chosen : Table → ℕ → List ℕ → Found Data
-chosen [] b bs = bad
-chosen (f ∷ fs) b bs = if b == f.0 then f.1 bs else chosen fs b bs
+abbrev pub form_of : Forms → ℕ → List ℕ → Option (Data × List ℕ)
+form_of [] b bs = None
+form_of (f ∷ fs) b bs = if b == f.0 then f.1 bs else form_of fs b bs
 
 -- a value of the plain forms or of these
-abbrev pub form : Limits → Table → List ℕ → Found Data
-form limits more [] = short
-form limits more (b ∷ bs) = chosen (plain limits ++ more) b bs
+abbrev pub value_of : Limits → Forms → List ℕ → Option (Data × List ℕ)
+value_of limits more [] = None
+value_of limits more (b ∷ bs) = form_of (plain_forms limits ++ more) b bs
 
--- the value at the front of a text within these limits, where nested forms stand in one another up to that number
-abbrev pub parse_within : Limits → ℕ → List ℕ → Found Data
-parse_within limits zero bs = form limits (innermost limits) bs
-parse_within limits (suc n) bs = form limits (nested limits (parse_within limits n)) bs
-
--- the same within the limits of this reader
-abbrev pub parse : ℕ → List ℕ → Found Data
-parse = parse_within reader_limits
-
--- a nested form stands in at most 99 others
-unfoldable pub max_depth : ℕ
-max_depth = 100
+-- the value at the front of a text within these limits and what is left after it, where nested forms stand in one
+-- another up to that number
+abbrev pub value_within : Limits → ℕ → List ℕ → Option (Data × List ℕ)
+value_within limits zero bs = value_of limits (innermost_forms limits) bs
+value_within limits (suc n) bs = value_of limits (nested_forms limits (value_within limits n)) bs

@@ -1,4 +1,6 @@
 pub mod Grammar
+pub mod Parser
+pub mod Limits
 pub mod Reads
 pub mod Values
 pub mod State

@@ -1,16 +1,28 @@
 -- When a text begins with a value, when more bytes are wanted, and when none can help.
-use Rattle.std.specs.Prelude.{◌≡◌, ℕ, List, ◌++◌}
+use Rattle.std.specs.Prelude.{◌≡◌, ℕ, List, ◌++◌, Some}
 use Rattle.resp_value.specs.Data.{Data}
-use Rattle.resp_read.specs.Grammar.{read, parse, max_depth}
+use Rattle.resp_read.specs.Grammar.{value_within}
+use Rattle.resp_read.specs.Limits.{bounds, default_limits}
+use Rattle.resp_read.specs.declared.limits.Limits.{Limits}
 
--- the text begins with that value, and this is left after it
-abbrev pub Reads : List ℕ → Data → List ℕ → Type 0
-Reads bytes v rest = parse max_depth bytes ≡ read v rest
+-- within these limits the grammar reads that value at the front of the text, and leaves this
+abbrev pub ReadsWithin : Limits → List ℕ → Data → List ℕ → Type 0
+ReadsWithin limits bytes v rest = value_within (bounds limits) limits.depth bytes ≡ Some (v, rest)
 
 -- some continuation begins with a value, and the text itself with none
-abbrev pub IsProperPrefix : List ℕ → Type 0
-IsProperPrefix bytes = ((m : List ℕ) × (v : Data) × (rest : List ℕ) × Reads (bytes ++ m) v rest) × ((v : Data) (rest : List ℕ) → Reads bytes v rest → ⊥)
+abbrev pub IsProperPrefixWithin : Limits → List ℕ → Type 0
+IsProperPrefixWithin limits bytes = ((m : List ℕ) × (v : Data) × (rest : List ℕ) × ReadsWithin limits (bytes ++ m) v rest) × ((v : Data) (rest : List ℕ) → ReadsWithin limits bytes v rest → ⊥)
 
 -- no continuation begins with a value
+abbrev pub IsMalformedWithin : Limits → List ℕ → Type 0
+IsMalformedWithin limits bytes = (m : List ℕ) (v : Data) (rest : List ℕ) → ReadsWithin limits (bytes ++ m) v rest → ⊥
+
+-- the same within the limits of a reader that is asked for no others
+abbrev pub Reads : List ℕ → Data → List ℕ → Type 0
+Reads = ReadsWithin default_limits
+
+abbrev pub IsProperPrefix : List ℕ → Type 0
+IsProperPrefix = IsProperPrefixWithin default_limits
+
 abbrev pub IsMalformed : List ℕ → Type 0
-IsMalformed bytes = (m : List ℕ) (v : Data) (rest : List ℕ) → Reads (bytes ++ m) v rest → ⊥
+IsMalformed = IsMalformedWithin default_limits

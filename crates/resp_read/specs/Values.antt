@@ -1,7 +1,8 @@
 -- The values that stand one after another at the front of a text, and what is left behind them.
 use Rattle.std.specs.Prelude.{ℕ, zero, suc, Bool, true, false, List, [], ◌∷◌, length}
 use Rattle.resp_value.specs.Data.{Data}
-use Rattle.resp_read.specs.Grammar.{Found, read, short, bad, parse, max_depth}
+use Rattle.resp_read.specs.Grammar.{max_depth}
+use Rattle.resp_read.specs.Parser.{read, short, bad, Found, parse}
 
 -- what was read, and those that next finds after it
 abbrev pub first_and : (List ℕ → List Data) → Found Data → List Data

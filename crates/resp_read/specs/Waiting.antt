@@ -1,6 +1,6 @@
 -- What a reader knows of a line that has not ended, so that it looks at none of its bytes again.
 use Rattle.std.specs.Prelude.{◌≡◌, ℕ, ◌≤◌, List, length, take}
-use Rattle.resp_read.specs.Grammar.{unended, line}
+use Rattle.resp_read.specs.Parser.{unended, line}
 use Rattle.resp_read.specs.Digits.{digits_run, AreKept}
 use Rattle.resp_read.specs.Doubles.{run}
 use Rattle.resp_read.specs.declared.digits.Digits.TheVariants.{Empty}

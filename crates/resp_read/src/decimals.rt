@@ -1,49 +1,27 @@
 ghost use Rattle.std.specs.Prelude.{◌≡◌, ℕ, List, length};
-ghost use Rattle.resp_read.specs.Grammar.{is_end, after_digits, unsigned, is_big, big_begun, is_double, made_by, double_tails, reader_limits};
+ghost use Rattle.resp_read.specs.Grammar.{is_end, after_digits, unsigned, is_big, is_double};
+ghost use Rattle.resp_read.specs.Parser.{big_begun, made_by, double_tails};
+ghost use Rattle.resp_read.specs.Limits.{bounds};
 ghost use Rattle.resp_read.specs.Doubles.{digit_to, byte_to, exponent_to, step, run, missing};
 ghost use Rattle.resp_read.specs.declared.decimals.Seen.TheVariants.{Nothing, Whole, Fraction, Exponent};
 
-use crate::digits::is_decimal;
-use crate::lines::MAX_LINE;
-
-/// The bytes behind a sign, if there is one.
-fn behind_sign(line: &[u8]) -> &[u8]
-    ensures { result.now ≡ unsigned line.now }
-{
-    match line {
-        [b'+', rest @ ..] => rest,
-        [b'-', rest @ ..] => rest,
-        _ => line,
-    }
-}
-
-fn all_digits(line: &[u8]) -> bool
-    ensures { result ≡ is_end (after_digits line.now) }
-{
-    for b in line {
-        if !is_decimal(*b) {
-            return false;
-        }
-    }
-    true
-}
+use crate::digits::{Digits, is_decimal};
+use crate::limits::Limits;
 
 /// Digits, with a sign or without.
 pub fn is_big_number(line: &[u8]) -> bool
     ensures { result ≡ is_big line.now }
 {
-    let digits = behind_sign(line);
-    if digits.is_empty() {
-        return false;
-    }
-    all_digits(digits)
+    let read = Digits::Empty.through(line);
+    read.are_some()
 }
 
 /// Whether a line that starts so can become a big number.
 pub fn is_big_begun(front: &[u8]) -> bool
     ensures { result ≡ big_begun front.now }
 {
-    all_digits(behind_sign(front))
+    let read = Digits::Empty.through(front);
+    read.can_be_some()
 }
 
 /// What has been read of a double.
@@ -212,24 +190,24 @@ pub fn is_whole_double(line: &[u8]) -> bool
 }
 
 /// Whether a line of that length, of which this was read, can become a double within the limit of a line.
-pub fn can_be_double(seen: Seen, size: usize) -> bool
+pub fn can_be_double(limits: Limits, seen: Seen, size: usize) -> bool
     ensures { (front : List ℕ) → run Nothing front ≡ seen → length front ≡ size
-        → result ≡ made_by reader_limits is_double double_tails front }
+        → result ≡ made_by (bounds limits) is_double double_tails front }
 {
     match bytes_missing(seen) {
         Some(n) => {
-            if size > MAX_LINE {
+            if size > limits.line {
                 return false;
             }
-            n <= MAX_LINE - size
+            n <= limits.line - size
         }
         None => false,
     }
 }
 
 /// Whether a line that starts so can become a double within the limit of a line.
-pub fn is_double_begun(front: &[u8]) -> bool
-    ensures { result ≡ made_by reader_limits is_double double_tails front.now }
+pub fn is_double_begun(limits: Limits, front: &[u8]) -> bool
+    ensures { result ≡ made_by (bounds limits) is_double double_tails front.now }
 {
-    can_be_double(read_all(front), front.len())
+    can_be_double(limits, read_all(front), front.len())
 }

@@ -1,6 +1,6 @@
-ghost use Rattle.std.specs.Prelude.{◌≡◌, ◌≤◌, ◌||◌, neg_ℤ, pos, is_some};
+ghost use Rattle.std.specs.Prelude.{◌≡◌, ◌≤◌, ◌||◌, neg_ℤ, pos, is_some, IfSome};
 ghost use Rattle.resp_read.specs.Grammar.{is_digit};
-ghost use Rattle.resp_read.specs.Digits.{greatest, AreKept, digit_to, digits_step, digits_run, number_in, is_bare, are_digits};
+ghost use Rattle.resp_read.specs.Digits.{greatest, AreKept, digit_to, digits_step, digits_run, natural_in, number_in, is_bare, are_digits};
 
 /// What stands before the digits.
 #[derive(Clone, Copy)]
@@ -116,6 +116,24 @@ impl Digits {
             Digits::Empty | Digits::Signed(_) => true,
             _ => self.number().is_some(),
         }
+    }
+
+    /// The number without a sign, if it is at most `most`.
+    pub fn natural(self, most: u64) -> Option<u64>
+        ensures is { result ≡ natural_in most self }
+        ensures fits { IfSome result (λ n. n ≤ most) }
+    {
+        match self {
+            Digits::Number(Sign::NoSign, n) => if n <= most { Some(n) } else { None },
+            _ => None,
+        }
+    }
+
+    /// Whether there are digits.
+    pub fn are_some(self) -> bool
+        ensures { result ≡ are_digits self }
+    {
+        matches!(self, Digits::Number(..) | Digits::Above)
     }
 
     /// Whether digits begin so.

@@ -1,17 +1,19 @@
 ghost use Rattle.std.specs.Prelude.{◌≡◌, ◌≤◌, ◌*◌, length, IfOk, IfSome, option_map, is_some, Some, None, if◌then◌else◌};
 ghost use Rattle.resp_value.specs.Data.{nil};
 ghost use Rattle.resp_value.specs.View.{data_of};
-ghost use Rattle.resp_read.specs.Grammar.{simple_of, error_of, double_line, big_line, line_as, size_line, count_line, body, bulk_string, bulk_error, format, verbatim_string, text_line, bulk_text, kind, chosen, plain, innermost, max_bulk, reader_limits};
-ghost use Rattle.resp_read.specs.Parts.{line_form, has, IsFound};
+ghost use Rattle.resp_read.specs.Grammar.{simple_of, error_of, max_bulk, no_limits};
+ghost use Rattle.resp_read.specs.Parser.{line, double_line, big_line, line_as, size_line, count_line, body, bulk_string, bulk_error, format, verbatim_string, text_line, bulk_text, kind, chosen, plain, innermost};
+ghost use Rattle.resp_read.specs.Grammar.{Limits as GrammarLimits};
+ghost use Rattle.resp_read.specs.Limits.{bounds, AreAllowed};
+ghost use Rattle.resp_read.specs.Parts.{line_form, AreLengths, is_asked, begins_asked, front_line, has, IsFound};
+ghost use Rattle.resp_read.specs.Digits.{greatest};
 
+use crate::limits::Limits;
 use crate::lines::LineEnd;
 use crate::{decimals, lines};
 use containers::Bytes;
 use resp_value::{ServerError, Value};
 use std::alloc::{AllocError, Global};
-
-/// The most bytes of a bulk string.
-const MAX_BULK: u64 = 536_870_912;
 
 /// A value that is one line.
 #[derive(Clone, Copy)]
@@ -82,7 +84,7 @@ fn nil_if(is_so: bool) -> Option<Value>
 }
 
 fn double(alloc: Global, line: &[u8]) -> Result<Option<Value>, AllocError>
-    ensures { IfOk result (λ v. option_map data_of v ≡ (double_line reader_limits).whole line.now) }
+    ensures { IfOk result (λ v. option_map data_of v ≡ (double_line no_limits).whole line.now) }
 {
     if decimals::is_whole_double(line) {
         return Ok(Some(Value::Double(Bytes::from_slice(alloc, line)?)));
@@ -101,7 +103,8 @@ fn big(alloc: Global, line: &[u8]) -> Result<Option<Value>, AllocError>
 
 /// What a whole line stands for.
 fn value_of_line(alloc: Global, form: OneLine, line: &[u8]) -> Result<Option<Value>, AllocError>
-    ensures { IfOk result (λ v. option_map data_of v ≡ (line_form form).whole line.now) }
+    ensures { IfOk result (λ v. (most : GrammarLimits)
+        → option_map data_of v ≡ (line_form most form).whole line.now) }
 {
     match form {
         OneLine::Simple => Ok(Some(simple(alloc, line)?)),
@@ -121,8 +124,20 @@ fn value_of_line(alloc: Global, form: OneLine, line: &[u8]) -> Result<Option<Val
     }
 }
 
-fn is_whole(form: OneLine, line: &[u8]) -> bool
-    ensures { result ≡ is_some ((line_form form).whole line.now) }
+/// What the line at the front is to be.
+#[derive(Clone, Copy)]
+enum Asked {
+    /// A value.
+    Value(OneLine),
+    /// A length that is at most this, or `-1`.
+    Size(u64),
+    /// A length between these two.
+    Count(u64, u64),
+    Text,
+}
+
+fn stands_for_value(form: OneLine, line: &[u8]) -> bool
+    ensures { (most : GrammarLimits) → result ≡ is_some ((line_form most form).whole line.now) }
 {
     match form {
         OneLine::Simple => true,
@@ -136,8 +151,8 @@ fn is_whole(form: OneLine, line: &[u8]) -> bool
     }
 }
 
-fn is_begun(form: OneLine, front: &[u8]) -> bool
-    ensures { result ≡ (line_form form).begun front.now }
+fn begins_value(limits: Limits, form: OneLine, front: &[u8]) -> bool
+    ensures { result ≡ (line_form (bounds limits) form).begun front.now }
 {
     match form {
         OneLine::Simple => true,
@@ -145,130 +160,135 @@ fn is_begun(form: OneLine, front: &[u8]) -> bool
         OneLine::Number => lines::is_number_begun(front),
         OneLine::Null => front.is_empty(),
         OneLine::Boolean => lines::is_truth_begun(front),
-        OneLine::Double => decimals::is_double_begun(front),
+        OneLine::Double => decimals::is_double_begun(limits, front),
         OneLine::Big => decimals::is_big_begun(front),
         OneLine::NoArray => lines::is_no_array_begun(front),
     }
 }
 
-fn line_value(alloc: Global, form: OneLine, input: &mut Input<'_>) -> Result<Value, Refusal>
-    ensures { IsFound data_of (line_as reader_limits (line_form form) input.old.left.now) result
-        input.new.left.now }
+impl Asked {
+    /// Whether a line is that.
+    fn is_whole(self, line: &[u8]) -> bool
+        requires { AreLengths self }
+        ensures { result ≡ is_asked self line.now }
+    {
+        match self {
+            Asked::Value(form) => stands_for_value(form, line),
+            Asked::Size(most) => lines::read_size(most, line).is_some(),
+            Asked::Count(least, most) => lines::read_count(least, most, line).is_some(),
+            Asked::Text => true,
+        }
+    }
+
+    /// Whether a line that starts so can become that.
+    fn is_begun(self, limits: Limits, front: &[u8]) -> bool
+        requires allowed { AreAllowed limits }
+        requires lengths { AreLengths self }
+        ensures { result ≡ begins_asked (bounds limits) self front.now }
+    {
+        match self {
+            Asked::Value(form) => begins_value(limits, form, front),
+            Asked::Size(most) => lines::is_size_begun(most, front),
+            Asked::Count(least, most) => lines::is_count_begun(limits, least, most, front),
+            Asked::Text => true,
+        }
+    }
+}
+
+/// The line at the front within the limit, where it is whole; or whether more bytes can make it what is asked for.
+fn next_line<'a>(limits: Limits, asked: Asked, input: &mut Input<'a>) -> Result<&'a [u8], Refusal>
+    requires allowed { AreAllowed limits }
+    requires lengths { AreLengths asked }
+    ensures { IsFound (λ l. l.now)
+        (front_line (bounds limits) asked (line input.old.left.now)) result input.new.left.now }
 {
     let left = input.left;
     match lines::find_line(left) {
         LineEnd::Ended(n) => {
-            if !lines::is_within(&left[..n]) {
+            if !lines::is_within(limits, &left[..n]) {
                 return Err(Refusal::Bad);
             }
-            match value_of_line(alloc, form, &left[..n])? {
-                Some(value) => {
-                    input.left = &left[n + 2..];
-                    Ok(value)
-                }
-                None => Err(Refusal::Bad),
-            }
+            input.left = &left[n + 2..];
+            Ok(&left[..n])
         }
         LineEnd::Held(n) => {
-            if lines::is_within(&left[..n]) && is_whole(form, &left[..n]) {
+            if lines::is_within(limits, &left[..n]) && asked.is_whole(&left[..n]) {
                 Err(Refusal::Short)
             } else {
                 Err(Refusal::Bad)
             }
         }
         LineEnd::Unended => {
-            if lines::is_within(left) && is_begun(form, left) {
+            if lines::is_within(limits, left) && asked.is_begun(limits, left) {
                 Err(Refusal::Short)
             } else {
                 Err(Refusal::Bad)
             }
         }
         LineEnd::Broken => Err(Refusal::Bad),
+    }
+}
+
+fn line_value(
+    alloc: Global,
+    limits: Limits,
+    form: OneLine,
+    input: &mut Input<'_>,
+) -> Result<Value, Refusal>
+    requires { AreAllowed limits }
+    ensures { IsFound data_of
+        (line_as (bounds limits) (line_form (bounds limits) form) input.old.left.now)
+        result input.new.left.now }
+{
+    let line = match next_line(limits, Asked::Value(form), input) {
+        Ok(line) => line,
+        Err(refusal) => return Err(refusal),
+    };
+    match value_of_line(alloc, form, line)? {
+        Some(value) => Ok(value),
+        None => Err(Refusal::Bad),
     }
 }
 
 /// The line that announces a length, or none for `-1`.
-pub fn announced(most: u64, input: &mut Input<'_>) -> Result<Option<u64>, Refusal>
-    requires { most ≤ 9_223_372_036_854_775_808 }
+pub fn announced(limits: Limits, most: u64, input: &mut Input<'_>) -> Result<Option<u64>, Refusal>
+    requires allowed { AreAllowed limits }
+    requires most { most ≤ greatest }
     ensures found { IsFound (λ s. s)
-        (line_as reader_limits (size_line (Some most)) input.old.left.now) result
+        (line_as (bounds limits) (size_line (Some most)) input.old.left.now) result
         input.new.left.now }
     ensures fits { IfOk result (λ s. IfSome s (λ n. n ≤ most)) }
 {
-    let left = input.left;
-    match lines::find_line(left) {
-        LineEnd::Ended(n) => {
-            if !lines::is_within(&left[..n]) {
-                return Err(Refusal::Bad);
-            }
-            match lines::read_size(most, &left[..n]) {
-                Some(size) => {
-                    input.left = &left[n + 2..];
-                    Ok(size)
-                }
-                None => Err(Refusal::Bad),
-            }
-        }
-        LineEnd::Held(n) => {
-            if lines::is_within(&left[..n]) && lines::read_size(most, &left[..n]).is_some() {
-                Err(Refusal::Short)
-            } else {
-                Err(Refusal::Bad)
-            }
-        }
-        LineEnd::Unended => {
-            if lines::is_within(left) && lines::is_size_begun(most, left) {
-                Err(Refusal::Short)
-            } else {
-                Err(Refusal::Bad)
-            }
-        }
-        LineEnd::Broken => Err(Refusal::Bad),
+    let line = match next_line(limits, Asked::Size(most), input) {
+        Ok(line) => line,
+        Err(refusal) => return Err(refusal),
+    };
+    match lines::read_size(most, line) {
+        Some(size) => Ok(size),
+        None => Err(Refusal::Bad),
     }
 }
 
 /// The line that announces a length between these two.
-pub fn counted(least: u64, most: u64, input: &mut Input<'_>) -> Result<u64, Refusal>
-    requires most { most ≤ 9_223_372_036_854_775_808 }
+pub fn counted(limits: Limits, least: u64, most: u64, input: &mut Input<'_>) -> Result<u64, Refusal>
+    requires allowed { AreAllowed limits }
+    requires most { most ≤ greatest }
     requires digit { least ≤ 9 }
     requires room { 11 * least ≤ most }
     ensures found { IsFound (λ n. n)
-        (line_as reader_limits (count_line reader_limits least (Some most)) input.old.left.now)
+        (line_as (bounds limits) (count_line (bounds limits) least (Some most))
+        input.old.left.now)
         result input.new.left.now }
     ensures fits { IfOk result (λ n. n ≤ most) }
     ensures enough { IfOk result (λ n. least ≤ n) }
 {
-    let left = input.left;
-    match lines::find_line(left) {
-        LineEnd::Ended(n) => {
-            if !lines::is_within(&left[..n]) {
-                return Err(Refusal::Bad);
-            }
-            match lines::read_count(least, most, &left[..n]) {
-                Some(count) => {
-                    input.left = &left[n + 2..];
-                    Ok(count)
-                }
-                None => Err(Refusal::Bad),
-            }
-        }
-        LineEnd::Held(n) => {
-            if lines::is_within(&left[..n])
-                && lines::read_count(least, most, &left[..n]).is_some()
-            {
-                Err(Refusal::Short)
-            } else {
-                Err(Refusal::Bad)
-            }
-        }
-        LineEnd::Unended => {
-            if lines::is_within(left) && lines::is_count_begun(least, most, left) {
-                Err(Refusal::Short)
-            } else {
-                Err(Refusal::Bad)
-            }
-        }
-        LineEnd::Broken => Err(Refusal::Bad),
+    let line = match next_line(limits, Asked::Count(least, most), input) {
+        Ok(line) => line,
+        Err(refusal) => return Err(refusal),
+    };
+    match lines::read_count(least, most, line) {
+        Some(count) => Ok(count),
+        None => Err(Refusal::Bad),
     }
 }
 
@@ -295,70 +315,53 @@ fn read_body(alloc: Global, input: &mut Input<'_>, n: usize) -> Result<Bytes, Re
     Ok(bytes)
 }
 
-fn read_bulk_string(alloc: Global, input: &mut Input<'_>) -> Result<Value, Refusal>
-    ensures { IsFound data_of (bulk_string reader_limits input.old.left.now) result
+fn read_bulk_string(alloc: Global, limits: Limits, input: &mut Input<'_>) -> Result<Value, Refusal>
+    requires { AreAllowed limits }
+    ensures { IsFound data_of (bulk_string (bounds limits) input.old.left.now) result
         input.new.left.now }
 {
-    match announced(MAX_BULK, input)? {
+    match announced(limits, limits.bulk as u64, input)? {
         None => Ok(Value::Nil),
         Some(n) => Ok(Value::BulkString(read_body(alloc, input, n as usize)?)),
     }
 }
 
-fn read_bulk_error(alloc: Global, input: &mut Input<'_>) -> Result<Value, Refusal>
-    ensures { IsFound data_of (bulk_error reader_limits input.old.left.now) result
+fn read_bulk_error(alloc: Global, limits: Limits, input: &mut Input<'_>) -> Result<Value, Refusal>
+    requires { AreAllowed limits }
+    ensures { IsFound data_of (bulk_error (bounds limits) input.old.left.now) result
         input.new.left.now }
 {
-    let n = counted(0, MAX_BULK, input)?;
+    let n = counted(limits, 0, limits.bulk as u64, input)?;
     let text = read_body(alloc, input, n as usize)?;
     Ok(error(alloc, text.as_slice())?)
 }
 
 /// A line that is a text.
-fn text(alloc: Global, input: &mut Input<'_>) -> Result<Bytes, Refusal>
-    ensures { IsFound (λ t. t) (line_as reader_limits text_line input.old.left.now) result
+fn text(alloc: Global, limits: Limits, input: &mut Input<'_>) -> Result<Bytes, Refusal>
+    requires { AreAllowed limits }
+    ensures { IsFound (λ t. t) (line_as (bounds limits) text_line input.old.left.now) result
         input.new.left.now }
 {
-    let left = input.left;
-    match lines::find_line(left) {
-        LineEnd::Ended(n) => {
-            if !lines::is_within(&left[..n]) {
-                return Err(Refusal::Bad);
-            }
-            let text = Bytes::from_slice(alloc, &left[..n])?;
-            input.left = &left[n + 2..];
-            Ok(text)
-        }
-        LineEnd::Held(n) => {
-            if lines::is_within(&left[..n]) {
-                Err(Refusal::Short)
-            } else {
-                Err(Refusal::Bad)
-            }
-        }
-        LineEnd::Unended => {
-            if lines::is_within(left) {
-                Err(Refusal::Short)
-            } else {
-                Err(Refusal::Bad)
-            }
-        }
-        LineEnd::Broken => Err(Refusal::Bad),
+    match next_line(limits, Asked::Text, input) {
+        Ok(line) => Ok(Bytes::from_slice(alloc, line)?),
+        Err(refusal) => Err(refusal),
     }
 }
 
 /// A length, and a text of so many bytes.
-fn read_bulk_text(alloc: Global, input: &mut Input<'_>) -> Result<Bytes, Refusal>
-    ensures { IsFound (λ t. t) (bulk_text reader_limits input.old.left.now) result
+fn read_bulk_text(alloc: Global, limits: Limits, input: &mut Input<'_>) -> Result<Bytes, Refusal>
+    requires { AreAllowed limits }
+    ensures { IsFound (λ t. t) (bulk_text (bounds limits) input.old.left.now) result
         input.new.left.now }
 {
-    let n = counted(0, MAX_BULK, input)?;
+    let n = counted(limits, 0, limits.bulk as u64, input)?;
     read_body(alloc, input, n as usize)
 }
 
 /// The kind of a push: a simple or a bulk string.
-pub fn read_kind(alloc: Global, input: &mut Input<'_>) -> Result<Bytes, Refusal>
-    ensures { IsFound (λ k. k) (kind reader_limits input.old.left.now)
+pub fn read_kind(alloc: Global, limits: Limits, input: &mut Input<'_>) -> Result<Bytes, Refusal>
+    requires { AreAllowed limits }
+    ensures { IsFound (λ k. k) (kind (bounds limits) input.old.left.now)
         result input.new.left.now }
 {
     let left = input.left;
@@ -368,8 +371,8 @@ pub fn read_kind(alloc: Global, input: &mut Input<'_>) -> Result<Bytes, Refusal>
     let first = left[0];
     input.left = &left[1..];
     match first {
-        b'+' => text(alloc, input),
-        b'$' => read_bulk_text(alloc, input),
+        b'+' => text(alloc, limits, input),
+        b'$' => read_bulk_text(alloc, limits, input),
         _ => Err(Refusal::Bad),
     }
 }
@@ -390,11 +393,16 @@ fn read_format(alloc: Global, input: &mut Input<'_>) -> Result<Bytes, Refusal>
     Ok(format)
 }
 
-fn read_verbatim_string(alloc: Global, input: &mut Input<'_>) -> Result<Value, Refusal>
-    ensures { IsFound data_of (verbatim_string reader_limits input.old.left.now) result
+fn read_verbatim_string(
+    alloc: Global,
+    limits: Limits,
+    input: &mut Input<'_>,
+) -> Result<Value, Refusal>
+    requires { AreAllowed limits }
+    ensures { IsFound data_of (verbatim_string (bounds limits) input.old.left.now) result
         input.new.left.now }
 {
-    let n = counted(4, MAX_BULK, input)?;
+    let n = counted(limits, 4, limits.bulk as u64, input)?;
     let format = read_format(alloc, input)?;
     let text = read_body(alloc, input, n as usize - 4)?;
     Ok(Value::VerbatimString { format, text })
@@ -402,7 +410,7 @@ fn read_verbatim_string(alloc: Global, input: &mut Input<'_>) -> Result<Value, R
 
 /// Whether a form that holds no values begins so.
 pub fn is_plain(first: u8) -> bool
-    ensures { result ≡ has (plain reader_limits) first }
+    ensures { result ≡ has (plain no_limits) first }
 {
     matches!(
         first,
@@ -411,32 +419,44 @@ pub fn is_plain(first: u8) -> bool
 }
 
 /// A form that holds no values, by its first byte.
-pub fn read_plain(alloc: Global, first: u8, input: &mut Input<'_>) -> Result<Value, Refusal>
-    ensures { IsFound data_of (chosen (plain reader_limits) first input.old.left.now) result
+pub fn read_plain(
+    alloc: Global,
+    limits: Limits,
+    first: u8,
+    input: &mut Input<'_>,
+) -> Result<Value, Refusal>
+    requires { AreAllowed limits }
+    ensures { IsFound data_of (chosen (plain (bounds limits)) first input.old.left.now) result
         input.new.left.now }
 {
     match first {
-        b'+' => line_value(alloc, OneLine::Simple, input),
-        b'-' => line_value(alloc, OneLine::Error, input),
-        b':' => line_value(alloc, OneLine::Number, input),
-        b'$' => read_bulk_string(alloc, input),
-        b'_' => line_value(alloc, OneLine::Null, input),
-        b'#' => line_value(alloc, OneLine::Boolean, input),
-        b',' => line_value(alloc, OneLine::Double, input),
-        b'(' => line_value(alloc, OneLine::Big, input),
-        b'!' => read_bulk_error(alloc, input),
-        b'=' => read_verbatim_string(alloc, input),
+        b'+' => line_value(alloc, limits, OneLine::Simple, input),
+        b'-' => line_value(alloc, limits, OneLine::Error, input),
+        b':' => line_value(alloc, limits, OneLine::Number, input),
+        b'$' => read_bulk_string(alloc, limits, input),
+        b'_' => line_value(alloc, limits, OneLine::Null, input),
+        b'#' => line_value(alloc, limits, OneLine::Boolean, input),
+        b',' => line_value(alloc, limits, OneLine::Double, input),
+        b'(' => line_value(alloc, limits, OneLine::Big, input),
+        b'!' => read_bulk_error(alloc, limits, input),
+        b'=' => read_verbatim_string(alloc, limits, input),
         _ => Err(Refusal::Bad),
     }
 }
 
 /// What stands where no more may be nested, by its first byte.
-pub fn read_innermost(alloc: Global, first: u8, input: &mut Input<'_>) -> Result<Value, Refusal>
-    ensures { IsFound data_of (chosen (innermost reader_limits) first input.old.left.now)
+pub fn read_innermost(
+    alloc: Global,
+    limits: Limits,
+    first: u8,
+    input: &mut Input<'_>,
+) -> Result<Value, Refusal>
+    requires { AreAllowed limits }
+    ensures { IsFound data_of (chosen (innermost (bounds limits)) first input.old.left.now)
         result input.new.left.now }
 {
     match first {
-        b'*' => line_value(alloc, OneLine::NoArray, input),
+        b'*' => line_value(alloc, limits, OneLine::NoArray, input),
         _ => Err(Refusal::Bad),
     }
 }

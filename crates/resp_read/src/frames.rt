@@ -1,7 +1,7 @@
 ghost use Rattle.std.specs.Prelude.{◌≡◌, ℕ, List, IfOk};
 ghost use Rattle.resp_value.specs.Data.{Data};
 ghost use Rattle.resp_value.specs.View.{data_of};
-ghost use Rattle.resp_read.specs.Grammar.{Found};
+ghost use Rattle.resp_read.specs.Parser.{Found};
 ghost use Rattle.resp_read.specs.Frames.{made, with_values, with_pairs, with_value, begun_as, IsAdded};
 
 use resp_value::{Inner, Pairs, PushKind, Value, Values};
@@ -32,17 +32,11 @@ pub enum Frame {
         found: Values,
         more: u64,
     },
-    /// The next key.
-    Key {
-        of: Pairing,
-        found: Pairs,
-        more: u64,
-    },
-    /// The value of that key.
+    /// The next key, or the value of that key.
     Entry {
         of: Pairing,
         found: Pairs,
-        key: Value,
+        key: Option<Value>,
         more: u64,
     },
     /// The value that has these attributes.
@@ -92,9 +86,10 @@ pub fn pairing_of(of: Pairing, found: Pairs, count: u64) -> Begun
         → with_pairs inside of found count bs ≡ begun_as inside result bs }
 {
     if count > 0 {
-        return Begun::Within(Frame::Key {
+        return Begun::Within(Frame::Entry {
             of,
             found,
+            key: None,
             more: count - 1,
         });
     }
@@ -105,8 +100,8 @@ pub fn pairing_of(of: Pairing, found: Pairs, count: u64) -> Begun
 }
 
 impl Frame {
-    /// Takes the value that it waits for, where it is a sequence that waits for more behind it. Otherwise hands the value
-    /// back, and stays as it was.
+    /// Takes the value that it waits for, where it waits for more behind it. Otherwise hands the value back, and stays as it
+    /// was.
     pub fn add(&mut self, value: Value) -> Result<Option<Value>, AllocError>
         ensures { IsAdded self.old value result self.new }
     {
@@ -119,7 +114,27 @@ impl Frame {
                 *more -= 1;
                 Ok(None)
             }
-            Frame::Key { .. } | Frame::Entry { .. } | Frame::Attributed { .. } => Ok(Some(value)),
+            Frame::Entry {
+                found,
+                key,
+                more,
+                ..
+            } => match key.take() {
+                None => {
+                    *key = Some(value);
+                    Ok(None)
+                }
+                Some(first) => {
+                    if *more == 0 {
+                        *key = Some(first);
+                        return Ok(Some(value));
+                    }
+                    found.push(first, value)?;
+                    *more -= 1;
+                    Ok(None)
+                }
+            },
+            Frame::Attributed { .. } => Ok(Some(value)),
         }
     }
 
@@ -137,21 +152,23 @@ impl Frame {
                 found.push(value)?;
                 Ok(sequence_of(of, found, more))
             }
-            Frame::Key { of, found, more } => Ok(Begun::Within(Frame::Entry {
-                of,
-                found,
-                key: value,
-                more,
-            })),
             Frame::Entry {
                 of,
                 mut found,
                 key,
                 more,
-            } => {
-                found.push(key, value)?;
-                Ok(pairing_of(of, found, more))
-            }
+            } => match key {
+                Some(first) => {
+                    found.push(first, value)?;
+                    Ok(pairing_of(of, found, more))
+                }
+                None => Ok(Begun::Within(Frame::Entry {
+                    of,
+                    found,
+                    key: Some(value),
+                    more,
+                })),
+            },
             Frame::Attributed { attributes } => Ok(Begun::Whole(Value::Attribute {
                 inner: Inner::new(alloc, value)?,
                 attributes,

@@ -1,25 +1,15 @@
 ghost use Rattle.std.specs.Prelude.{◌≡◌, ◌<◌, ◌-◌, ℕ, List, length, IfOk};
 ghost use Rattle.resp_value.specs.Data.{Data};
-ghost use Rattle.resp_read.specs.Grammar.{Found, chosen, parse, nested, array_form, set_form, map_form, push_form, attribute_form, max_depth, reader_limits};
+ghost use Rattle.resp_read.specs.Parser.{Found, chosen, nested, array_form, set_form, map_form, push_form, attribute_form};
+ghost use Rattle.resp_read.specs.Limits.{bounds, reading, AreAllowed};
 ghost use Rattle.resp_read.specs.Frames.{Begins, whole_of};
 
 use crate::forms::{Input, Refusal};
 use crate::frames::{Begun, Pairing, Sequence};
+use crate::limits::Limits;
 use crate::{forms, frames};
 use resp_value::{Pairs, PushKind, Value, Values};
 use std::alloc::Global;
-
-/// The most values or pairs of an aggregate.
-const MAX_COUNT: u64 = 2_147_483_647;
-
-/// How many aggregates and attributes stand in one another at most.
-const MAX_DEPTH: usize = 100;
-
-fn most_depth() -> usize
-    ensures { result ≡ max_depth }
-{
-    MAX_DEPTH
-}
 
 /// What was read, as a value that is whole.
 fn whole(found: Result<Value, Refusal>) -> Result<Begun, Refusal>
@@ -32,9 +22,15 @@ fn whole(found: Result<Value, Refusal>) -> Result<Begun, Refusal>
 }
 
 /// What begins at the front, in so many aggregates.
-pub fn begin(alloc: Global, around: usize, input: &mut Input<'_>) -> Result<Begun, Refusal>
-    ensures begins { Begins (parse (max_depth - around)) (parse (max_depth - around - 1))
-        input.old.left.now result input.new.left.now }
+pub fn begin(
+    alloc: Global,
+    limits: Limits,
+    around: usize,
+    input: &mut Input<'_>,
+) -> Result<Begun, Refusal>
+    requires { AreAllowed limits }
+    ensures begins { Begins (reading limits (limits.depth - around))
+        (reading limits (limits.depth - around - 1)) input.old.left.now result input.new.left.now }
     ensures shorter { IfOk result (λ b. length input.new.left.now < length input.old.left.now) }
 {
     let left = input.left;
@@ -44,75 +40,86 @@ pub fn begin(alloc: Global, around: usize, input: &mut Input<'_>) -> Result<Begu
     let first = left[0];
     input.left = &left[1..];
     if forms::is_plain(first) {
-        return whole(forms::read_plain(alloc, first, input));
+        return whole(forms::read_plain(alloc, limits, first, input));
     }
-    if around >= most_depth() {
-        return whole(forms::read_innermost(alloc, first, input));
+    if around >= limits.depth {
+        return whole(forms::read_innermost(alloc, limits, first, input));
     }
-    begin_nested(alloc, first, input)
+    begin_nested(alloc, limits, first, input)
 }
 
 /// The head of a form that holds values, by its first byte.
-fn begin_nested(alloc: Global, first: u8, input: &mut Input<'_>) -> Result<Begun, Refusal>
+fn begin_nested(
+    alloc: Global,
+    limits: Limits,
+    first: u8,
+    input: &mut Input<'_>,
+) -> Result<Begun, Refusal>
+    requires { AreAllowed limits }
     ensures { (inside : List ℕ → Found Data)
-        → Begins (chosen (nested reader_limits inside) first) inside input.old.left.now result
+        → Begins (chosen (nested (bounds limits) inside) first) inside input.old.left.now result
         input.new.left.now }
 {
     match first {
-        b'*' => array(alloc, input),
-        b'~' => set(alloc, input),
-        b'%' => map(alloc, input),
-        b'>' => push(alloc, input),
-        b'|' => attribute(alloc, input),
+        b'*' => array(alloc, limits, input),
+        b'~' => set(alloc, limits, input),
+        b'%' => map(alloc, limits, input),
+        b'>' => push(alloc, limits, input),
+        b'|' => attribute(alloc, limits, input),
         _ => Err(Refusal::Bad),
     }
 }
 
-fn array(alloc: Global, input: &mut Input<'_>) -> Result<Begun, Refusal>
+fn array(alloc: Global, limits: Limits, input: &mut Input<'_>) -> Result<Begun, Refusal>
+    requires { AreAllowed limits }
     ensures { (inside : List ℕ → Found Data)
-        → Begins (array_form reader_limits inside) inside input.old.left.now result
+        → Begins (array_form (bounds limits) inside) inside input.old.left.now result
         input.new.left.now }
 {
-    match forms::announced(MAX_COUNT, input)? {
+    match forms::announced(limits, limits.count as u64, input)? {
         None => Ok(Begun::Whole(Value::Nil)),
         Some(n) => Ok(frames::sequence_of(Sequence::Array, Values::new(alloc), n)),
     }
 }
 
-fn set(alloc: Global, input: &mut Input<'_>) -> Result<Begun, Refusal>
+fn set(alloc: Global, limits: Limits, input: &mut Input<'_>) -> Result<Begun, Refusal>
+    requires { AreAllowed limits }
     ensures { (inside : List ℕ → Found Data)
-        → Begins (set_form reader_limits inside) inside
+        → Begins (set_form (bounds limits) inside) inside
         input.old.left.now result input.new.left.now }
 {
-    let n = forms::counted(0, MAX_COUNT, input)?;
+    let n = forms::counted(limits, 0, limits.count as u64, input)?;
     Ok(frames::sequence_of(Sequence::Set, Values::new(alloc), n))
 }
 
-fn map(alloc: Global, input: &mut Input<'_>) -> Result<Begun, Refusal>
+fn map(alloc: Global, limits: Limits, input: &mut Input<'_>) -> Result<Begun, Refusal>
+    requires { AreAllowed limits }
     ensures { (inside : List ℕ → Found Data)
-        → Begins (map_form reader_limits inside) inside
+        → Begins (map_form (bounds limits) inside) inside
         input.old.left.now result input.new.left.now }
 {
-    let n = forms::counted(0, MAX_COUNT, input)?;
+    let n = forms::counted(limits, 0, limits.count as u64, input)?;
     Ok(frames::pairing_of(Pairing::Map, Pairs::new(alloc), n))
 }
 
-fn push(alloc: Global, input: &mut Input<'_>) -> Result<Begun, Refusal>
+fn push(alloc: Global, limits: Limits, input: &mut Input<'_>) -> Result<Begun, Refusal>
+    requires { AreAllowed limits }
     ensures { (inside : List ℕ → Found Data)
-        → Begins (push_form reader_limits inside) inside input.old.left.now result
+        → Begins (push_form (bounds limits) inside) inside input.old.left.now result
         input.new.left.now }
 {
-    let n = forms::counted(1, MAX_COUNT, input)?;
-    let text = forms::read_kind(alloc, input)?;
+    let n = forms::counted(limits, 1, limits.count as u64, input)?;
+    let text = forms::read_kind(alloc, limits, input)?;
     let of = Sequence::Push(PushKind::of_text(text));
     Ok(frames::sequence_of(of, Values::new(alloc), n - 1))
 }
 
-fn attribute(alloc: Global, input: &mut Input<'_>) -> Result<Begun, Refusal>
+fn attribute(alloc: Global, limits: Limits, input: &mut Input<'_>) -> Result<Begun, Refusal>
+    requires { AreAllowed limits }
     ensures { (inside : List ℕ → Found Data)
-        → Begins (attribute_form reader_limits inside) inside input.old.left.now result
+        → Begins (attribute_form (bounds limits) inside) inside input.old.left.now result
         input.new.left.now }
 {
-    let n = forms::counted(0, MAX_COUNT, input)?;
+    let n = forms::counted(limits, 0, limits.count as u64, input)?;
     Ok(frames::pairing_of(Pairing::Attributes, Pairs::new(alloc), n))
 }

@@ -6,9 +6,11 @@ mod digits;
 mod forms;
 mod frames;
 mod heads;
+mod limits;
 mod lines;
 mod reader;
 mod underway;
 mod waiting;
 
+pub use limits::Limits;
 pub use reader::{Health, ReadError, Reader};

@@ -1,6 +1,12 @@
 ghost use Rattle.std.specs.Prelude.{◌≡◌, ◌≤◌, ◌+◌, ◌*◌, ◌||◌, [], ◌∷◌, length, neg_ℤ, pos, is_some, Some, IfSome, bytes_eq};
-ghost use Rattle.resp_read.specs.Grammar.{line, fits, digits_after, at_most, natural, number, number_begun, size, size_begun, count, count_begun, truth, is_end, no_array_begun, reader_limits};
+ghost use Rattle.resp_read.specs.Grammar.{fits, digits_after, at_most, natural, number, size, count, truth, is_end};
+ghost use Rattle.resp_read.specs.Parser.{line, number_begun, size_begun, count_begun, no_array_begun};
+ghost use Rattle.resp_read.specs.Limits.{bounds, AreAllowed};
+ghost use Rattle.resp_read.specs.Digits.{greatest};
 ghost use Rattle.resp_read.specs.Parts.{line_at, IsWithin};
+
+use crate::digits::Digits;
+use crate::limits::Limits;
 
 /// Where the first line of some bytes ends: at a CR LF, at a CR that is the last byte, not yet, or never, because a CR
 /// stands before another byte.
@@ -10,9 +16,6 @@ pub enum LineEnd {
     Unended,
     Broken,
 }
-
-/// The most bytes of a line.
-pub const MAX_LINE: usize = 1_048_576;
 
 pub fn find_line(bytes: &[u8]) -> LineEnd
     ensures line { line_at result bytes.now ≡ line bytes.now }
@@ -33,86 +36,41 @@ pub fn find_line(bytes: &[u8]) -> LineEnd
     LineEnd::Unended
 }
 
-pub fn is_within(line: &[u8]) -> bool
-    ensures { result ≡ fits reader_limits line.now }
+pub fn is_within(limits: Limits, line: &[u8]) -> bool
+    ensures { result ≡ fits (bounds limits) line.now }
 {
-    line.len() <= MAX_LINE
+    line.len() <= limits.line
 }
 
 /// The number of these decimal digits, one at least, if it is at most `most`.
 fn read_natural(most: u64, digits: &[u8]) -> Option<u64>
-    requires { most ≤ 9_223_372_036_854_775_808 }
+    requires { most ≤ greatest }
     ensures is { result ≡ natural (Some most) digits.now }
     ensures fits { IfSome result (λ n. n ≤ most) }
 {
-    if digits.is_empty() {
-        return None;
-    }
-    let mut n = 0u64;
-    for b in digits {
-        let b = *b;
-        if b < b'0' || b > b'9' {
-            return None;
-        }
-        if n > most / 10 {
-            return None;
-        }
-        let next = 10 * n + u64::from(b - b'0');
-        if next > most {
-            return None;
-        }
-        n = next;
-    }
-    Some(n)
-}
-
-fn negated(n: u64) -> i64
-    requires { n ≤ 9_223_372_036_854_775_808 }
-    ensures { result ≡ neg_ℤ (pos n) }
-{
-    if n == 9_223_372_036_854_775_808 {
-        i64::MIN
-    } else {
-        -(n as i64)
-    }
+    let read = Digits::Empty.through(digits);
+    read.natural(most)
 }
 
 /// A number of 64 bits, with a sign or without.
 pub fn read_number(line: &[u8]) -> Option<i64>
     ensures { result ≡ number line.now }
 {
-    match line {
-        [] => None,
-        [b'-', rest @ ..] => match read_natural(9_223_372_036_854_775_808, rest) {
-            Some(n) => Some(negated(n)),
-            None => None,
-        },
-        [b'+', rest @ ..] => match read_natural(9_223_372_036_854_775_807, rest) {
-            Some(n) => Some(n as i64),
-            None => None,
-        },
-        [_, ..] => match read_natural(9_223_372_036_854_775_807, line) {
-            Some(n) => Some(n as i64),
-            None => None,
-        },
-    }
+    let read = Digits::Empty.through(line);
+    read.number()
 }
 
 /// Whether a line that starts so can become a number.
 pub fn is_number_begun(front: &[u8]) -> bool
     ensures { result ≡ number_begun front.now }
 {
-    match front {
-        [] => true,
-        [b'-'] => true,
-        [b'+'] => true,
-        _ => read_number(front).is_some(),
-    }
+    let read = Digits::Empty.through(front);
+    read.can_be_number()
 }
 
 /// A length that is at most `most`, or none for `-1`.
 pub fn read_size(most: u64, line: &[u8]) -> Option<Option<u64>>
-    requires { most ≤ 9_223_372_036_854_775_808 }
+    requires { most ≤ greatest }
     ensures is { result ≡ size (Some most) line.now }
     ensures fits { IfSome result (λ s. IfSome s (λ n. n ≤ most)) }
 {
@@ -127,7 +85,7 @@ pub fn read_size(most: u64, line: &[u8]) -> Option<Option<u64>>
 
 /// Whether a line that starts so can become such a length.
 pub fn is_size_begun(most: u64, front: &[u8]) -> bool
-    requires { most ≤ 9_223_372_036_854_775_808 }
+    requires { most ≤ greatest }
     ensures { result ≡ size_begun (Some most) front.now }
 {
     match front {
@@ -139,7 +97,7 @@ pub fn is_size_begun(most: u64, front: &[u8]) -> bool
 
 /// A length between these two.
 pub fn read_count(least: u64, most: u64, line: &[u8]) -> Option<u64>
-    requires { most ≤ 9_223_372_036_854_775_808 }
+    requires { most ≤ greatest }
     ensures is { result ≡ count least (Some most) line.now }
     ensures fits { IfSome result (λ n. n ≤ most) }
     ensures enough { IfSome result (λ n. least ≤ n) }
@@ -156,11 +114,12 @@ pub fn read_count(least: u64, most: u64, line: &[u8]) -> Option<u64>
 }
 
 /// Whether a line that starts so can become such a length, within the limit of a line.
-pub fn is_count_begun(least: u64, most: u64, front: &[u8]) -> bool
-    requires most { most ≤ 9_223_372_036_854_775_808 }
+pub fn is_count_begun(limits: Limits, least: u64, most: u64, front: &[u8]) -> bool
+    requires allowed { AreAllowed limits }
+    requires most { most ≤ greatest }
     requires digit { least ≤ 9 }
     requires room { 11 * least ≤ most }
-    ensures { result ≡ count_begun reader_limits least (Some most) front.now }
+    ensures { result ≡ count_begun (bounds limits) least (Some most) front.now }
 {
     if front.is_empty() {
         return true;
@@ -168,9 +127,9 @@ pub fn is_count_begun(least: u64, most: u64, front: &[u8]) -> bool
     match read_natural(most, front) {
         Some(n) => {
             if n < least {
-                return front.len() < MAX_LINE;
+                return front.len() < limits.line;
             }
-            is_within(front)
+            is_within(limits, front)
         }
         None => false,
     }

@@ -1,10 +1,12 @@
 ghost use Rattle.std.specs.Prelude.{◌≡◌, [], length, OnOk, OnErr, IsOk, IsErr, IsTrue, ◌↔◌};
 ghost use Rattle.resp_read.specs.declared.reader.Health.TheVariants.{Sound, Malformed, NoMemory};
-ghost use Rattle.resp_read.specs.Reads.{IsProperPrefix};
+ghost use Rattle.resp_read.specs.Reads.{IsProperPrefixWithin};
+ghost use Rattle.resp_read.specs.Limits.{default_limits, nearest_allowed, AreAllowed};
 ghost use Rattle.resp_read.specs.Reading.{kept_of, NextValue, NextFound};
 
 use crate::forms::{Input, Refusal};
 use crate::frames::Frame;
+use crate::limits::Limits;
 use crate::waiting::Looked;
 use crate::{underway, waiting};
 use containers::Bytes;
@@ -71,6 +73,7 @@ pub struct Reader {
     /// What is known of the line behind the first byte of that value.
     looked: Looked,
     health: Health,
+    limits: Limits,
 }
 
 impl Model for Reader {
@@ -79,17 +82,36 @@ impl Model for Reader {
 
     ghost Value = { ReaderState };
 
-    ghost view = { λ r. record { health = r.health; rest = drop r.at r.bytes } };
+    ghost view = { λ r. record { health = r.health; rest = drop r.at r.bytes; limits = r.limits } };
 
     ghost use Rattle.resp_read.specs.Frames.{IsUnderway};
 
-    ghost invariant = { λ r. IsUnderway r.bytes r.at r.next r.frames.items r.looked r.health };
+    ghost invariant = { λ r. IsUnderway r.limits r.bytes r.at r.next r.frames.items r.looked r.health };
 }
 
 impl Reader {
-    /// A reader that was fed nothing. Takes no memory.
+    /// A reader that was fed nothing, with the default limits. Takes no memory.
     pub fn new(alloc: Global) -> Reader
-        ensures { result ≡ record { health = Sound; rest = [] } }
+        ensures { result ≡ record { health = Sound; rest = []; limits = default_limits } }
+    {
+        Reader::within(alloc, Limits::default())
+    }
+
+    /// A reader that was fed nothing, with the allowed limits that are nearest to these. Takes no memory.
+    ///
+    /// They bound the memory of a reply under way: it has at most `(2 * count + 1) ^ depth` values that hold no others, and
+    /// each of these at most the bytes of a line and of a bulk string. Where replies may be nested that is much: to bound
+    /// them further, compare `buffered_len` with a limit of your own after each piece.
+    pub fn with_limits(alloc: Global, limits: Limits) -> Reader
+        ensures { result
+            ≡ record { health = Sound; rest = []; limits = nearest_allowed limits } }
+    {
+        Reader::within(alloc, limits.nearest_allowed())
+    }
+
+    fn within(alloc: Global, limits: Limits) -> Reader
+        requires { AreAllowed limits }
+        ensures { result ≡ record { health = Sound; rest = []; limits = limits } }
     {
         Reader {
             bytes: Bytes::new(alloc),
@@ -100,7 +122,15 @@ impl Reader {
             waits: false,
             looked: Looked::at_nothing(),
             health: Health::Sound,
+            limits,
         }
+    }
+
+    /// What it takes at most.
+    pub fn limits(&self) -> Limits
+        ensures { result ≡ self.now.limits }
+    {
+        self.limits
     }
 
     /// How many bytes it was fed that no value given was made of.
@@ -174,13 +204,14 @@ impl Reader {
     /// Whether a line that had not ended still has not, and can become a value. Looks at none of its bytes again.
     fn waits_on(&mut self) -> bool
         ensures same { self.new ≡ self.old }
-        ensures short { IsTrue result → self.old.health ≡ Sound → IsProperPrefix self.old.rest }
+        ensures short { IsTrue result → self.old.health ≡ Sound
+            → IsProperPrefixWithin self.old.limits self.old.rest }
     {
         let left = &self.bytes.as_slice()[self.next..];
         if !self.waits || left.is_empty() {
             return false;
         }
-        match waiting::look_on(left[0], self.looked, &left[1..]) {
+        match waiting::look_on(self.limits, left[0], self.looked, &left[1..]) {
             Some(looked) => {
                 self.looked = looked;
                 true
@@ -189,10 +220,10 @@ impl Reader {
         }
     }
 
-    /// The next value, or none where more bytes are wanted.
+    /// The next value within its limits, or none where more bytes are wanted.
     ///
     /// # Errors
-    /// `Parse`: what is left begins no value, whatever follows. `NoMemory`: memory was refused, now or before. After
+    /// `Parse`: what is left begins no value within the limits, whatever follows. `NoMemory`: memory was refused, now or before. After
     /// either the reader reads no further.
     pub fn next_value(&mut self, alloc: Global) -> Result<Option<Value>, ReadError>
         ensures value { NextValue result self.old self.new }
@@ -219,7 +250,7 @@ impl Reader {
         let mut input = Input {
             left: &self.bytes.as_slice()[self.next..],
         };
-        match underway::read_on(alloc, &mut self.frames, &mut input) {
+        match underway::read_on(alloc, self.limits, &mut self.frames, &mut input) {
             Ok(value) => {
                 self.at = self.bytes.len() - input.left.len();
                 self.next = self.at;

@@ -1,9 +1,11 @@
 ghost use Rattle.std.specs.Prelude.{◌≡◌, ◌∷◌, [], ◌++◌, OnOk};
 ghost use Rattle.resp_read.specs.Frames.{IsPutInPlace, IsPut, ReadsOn};
+ghost use Rattle.resp_read.specs.Limits.{AreAllowed};
 
 use crate::forms::{Input, Refusal};
 use crate::frames::{Begun, Frame};
 use crate::heads;
+use crate::limits::Limits;
 use resp_value::Value;
 use std::alloc::{AllocError, Global};
 
@@ -53,16 +55,18 @@ fn put(alloc: Global, frames: &mut Vec<Frame>, value: Value) -> Result<Option<Va
 /// Reads on within these aggregates, the outermost first. `Short`: `input` is where the next value begins.
 pub fn read_on(
     alloc: Global,
+    limits: Limits,
     frames: &mut Vec<Frame>,
     input: &mut Input<'_>,
 ) -> Result<Value, Refusal>
-    ensures { ReadsOn frames.old.items input.old.left.now
+    requires { AreAllowed limits }
+    ensures { ReadsOn limits frames.old.items input.old.left.now
         result frames.new.items input.new.left.now }
 {
     loop {
         let mut ahead = Input { left: input.left };
         let around = frames.as_slice().len();
-        let begun = match heads::begin(alloc, around, &mut ahead) {
+        let begun = match heads::begin(alloc, limits, around, &mut ahead) {
             Ok(begun) => begun,
             Err(refusal) => return Err(refusal),
         };

@@ -1,5 +1,7 @@
 ghost use Rattle.std.specs.Prelude.{◌≡◌, ◌≤◌, ◌∷◌, ℕ, length, take, IfSome, IsTrue};
-ghost use Rattle.resp_read.specs.Grammar.{short, unended, line, parse, max_line, number_begun, big_begun, is_double, made_by, double_tails, reader_limits};
+ghost use Rattle.resp_read.specs.Grammar.{is_double};
+ghost use Rattle.resp_read.specs.Parser.{short, unended, line, number_begun, big_begun, made_by, double_tails};
+ghost use Rattle.resp_read.specs.Limits.{reading};
 ghost use Rattle.resp_read.specs.Digits.{digits_run, AreKept};
 ghost use Rattle.resp_read.specs.Doubles.{run};
 ghost use Rattle.resp_read.specs.Waiting.{IsFrontOf, IsLooked};
@@ -9,7 +11,7 @@ ghost use Rattle.resp_read.specs.declared.decimals.Seen.TheVariants.{Nothing};
 use crate::decimals;
 use crate::decimals::Seen;
 use crate::digits::Digits;
-use crate::lines::MAX_LINE;
+use crate::limits::Limits;
 use memchr::memchr;
 
 /// What was read of a line that has not ended.
@@ -79,12 +81,12 @@ fn is_unended(looked: Looked, text: &[u8]) -> bool
 
 /// What is read of a line that has not ended and can become a value of the form that begins with `first`; or none, where
 /// that is to be found out in another way.
-fn front_of(first: u8, looked: Looked, text: &[u8]) -> Option<Front>
+fn front_of(limits: Limits, first: u8, looked: Looked, text: &[u8]) -> Option<Front>
     requires looked { IsLooked looked text.now }
-    requires fits { length text.now ≤ max_line }
+    requires fits { length text.now ≤ limits.line }
     requires unended { line text.now ≡ unended text.now }
     ensures { IfSome result (λ front. IsFrontOf front text.now
-        × ((depth : ℕ) → parse depth (first ∷ text.now) ≡ short)) }
+        × ((depth : ℕ) → reading limits depth (first ∷ text.now) ≡ short)) }
 {
     match first {
         b'+' => Some(Front::Text),
@@ -107,7 +109,7 @@ fn front_of(first: u8, looked: Looked, text: &[u8]) -> Option<Front>
         }
         b',' => {
             let seen = looked.double(text);
-            if decimals::can_be_double(seen, text.len()) {
+            if decimals::can_be_double(limits, seen, text.len()) {
                 Some(Front::Double(seen))
             } else {
                 None
@@ -119,15 +121,15 @@ fn front_of(first: u8, looked: Looked, text: &[u8]) -> Option<Front>
 
 /// Looks at the bytes of a line that were not looked at. What is known of it then, if it has not ended and can become a
 /// value of the form that begins with `first`.
-pub fn look_on(first: u8, looked: Looked, text: &[u8]) -> Option<Looked>
+pub fn look_on(limits: Limits, first: u8, looked: Looked, text: &[u8]) -> Option<Looked>
     requires { IsLooked looked text.now }
     ensures { IfSome result (λ known. IsLooked known text.now
-        × ((depth : ℕ) → parse depth (first ∷ text.now) ≡ short)) }
+        × ((depth : ℕ) → reading limits depth (first ∷ text.now) ≡ short)) }
 {
-    if text.len() > MAX_LINE || !is_unended(looked, text) {
+    if text.len() > limits.line || !is_unended(looked, text) {
         return None;
     }
-    match front_of(first, looked, text) {
+    match front_of(limits, first, looked, text) {
         Some(front) => Some(Looked {
             count: text.len(),
             front,

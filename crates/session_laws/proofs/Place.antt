@@ -4,7 +4,6 @@ use Rattle.std.specs.List.{AllByRecursion}
 use Rattle.std.specs.Prelude.{if◌then◌else◌, ◌==◌}
 use Rattle.containers.proofs.Choices.{by_test, eq_from, eq_test, ne_from, not_both, taken_if}
 use Rattle.resp_value.specs.declared.value.Value.TheVariants.{Nil}
-use Rattle.resp_read.specs.Grammar.{line}
 use Rattle.driver_model.specs.declared.action.Action.TheVariants as action
 use Rattle.driver_model.specs.declared.outcome.Outcome.TheVariants as outcome
 use Rattle.link_core.specs.Link.{LinkState}

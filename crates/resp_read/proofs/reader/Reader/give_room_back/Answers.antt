@@ -6,4 +6,4 @@ use Rattle.resp_read.proofs.reader.Reader.give_room_back.Goals as goal
 pub invariant_of-self : goal.invariant_of-self
 invariant_of-self c =
     let r = c.self.inside in
-    moved_up r.bytes r.at r.next r.frames.items r.looked r.health c.self.invariant c.in-Ok.bytes (c.in-Ok.ensures ∙ take_rest c.as_slice.result.now r.at ∙ ap (drop r.at) c.as_slice.ensures)
+    moved_up r.limits r.bytes r.at r.next r.frames.items r.looked r.health c.self.invariant c.in-Ok.bytes (c.in-Ok.ensures ∙ take_rest c.as_slice.result.now r.at ∙ ap (drop r.at) c.as_slice.ensures)
