@@ -3,3 +3,4 @@ pub mod Feeding
 pub mod Memory
 pub mod World
 pub mod MemWorld
+pub mod NetWorld

@@ -2,12 +2,19 @@
 #![tactic(auto)]
 
 mod call_log;
+mod dialing;
+mod fault_count;
+mod fault_of;
 mod feeding;
 mod mem_world;
 mod memory;
+#[cfg(test)]
+mod net_tests;
+mod net_world;
 mod sink;
 mod source;
 mod standard;
+mod streams;
 mod sure;
 #[cfg(test)]
 mod tests;
@@ -18,6 +25,7 @@ mod world;
 pub use feeding::{Fed, Feed, FeedError, feed_all};
 pub use mem_world::{MemWorld, WorldScript};
 pub use memory::{MemSink, MemSource};
+pub use net_world::NetWorld;
 pub use sink::{Put, Sink, write_all};
 pub use source::{Got, Source};
 pub use standard::{StdSink, StdSource, standard_input, standard_output};

@@ -6,6 +6,7 @@ ghost use Rattle.outside.specs.MemWorld.{dial_answer, number_answer, read_answer
 ghost use Rattle.outside.specs.MemWorld.{dial_answered, moment_told, read_answered, word_told, write_answered};
 
 use crate::call_log::CallLog;
+use crate::fault_count::{after_dial, after_read, after_write};
 use crate::world::{Call, Dialed, LinkGot, LinkPut, World};
 use containers::{Bytes, Queue};
 use redis_error::FaultKind;
@@ -104,36 +105,6 @@ fn next_read(reads: &mut Queue<LinkGot>, incoming: &mut Bytes, room: &mut [u8]) 
         Some(LinkGot::Read(most)) => give(incoming, most, room),
         Some(answer) => answer,
         None => LinkGot::NotYet,
-    }
-}
-
-fn after_dial(faults: u64, answer: Dialed) -> u64
-    ensures later { faults ≤ result }
-    ensures rose { DialFailed answer → Rose faults result }
-{
-    match answer {
-        Dialed::Failed(_) => faults.saturating_add(1),
-        Dialed::Yes => faults,
-    }
-}
-
-fn after_read(faults: u64, answer: LinkGot) -> u64
-    ensures later { faults ≤ result }
-    ensures rose { GotFailed answer → Rose faults result }
-{
-    match answer {
-        LinkGot::Failed(_) => faults.saturating_add(1),
-        LinkGot::Read(_) | LinkGot::NotYet | LinkGot::Ended => faults,
-    }
-}
-
-fn after_write(faults: u64, answer: LinkPut) -> u64
-    ensures later { faults ≤ result }
-    ensures rose { PutFailed answer → Rose faults result }
-{
-    match answer {
-        LinkPut::Failed(_) => faults.saturating_add(1),
-        LinkPut::Took(_) | LinkPut::NotYet => faults,
     }
 }
 
