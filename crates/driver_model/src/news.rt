@@ -1,5 +1,7 @@
-ghost use Rattle.std.specs.Prelude.{◌≡◌};
+ghost use Rattle.std.specs.Prelude.{◌≡◌, Some};
+ghost use Rattle.driver_model.specs.News.{news_of, of_timer, told};
 
+use crate::action::Purpose;
 use crate::event::EventKind;
 use redis_error::FaultKind;
 
@@ -21,6 +23,10 @@ pub enum LinkNews<'a> {
     Silence,
     /// Its connect succeeded.
     Connected,
+    /// Its connect failed.
+    Refused { fault: FaultKind },
+    /// The time in which it was to be connected is over.
+    Overdue,
     /// So many of the offered bytes were taken.
     Took { count: u64 },
     /// Bytes came from the peer.
@@ -38,15 +44,30 @@ pub struct LinkEvent<'a> {
     pub news: LinkNews<'a>,
 }
 
-impl EventKind {
-    ghost use Rattle.driver_model.specs.News.{news_of, told};
+/// What the link of this number sees of a timer that fires and was asked for this.
+fn fired(purpose: Purpose, link: u32) -> LinkNews<'static>
+    ensures { told result ≡ of_timer link (Some purpose) }
+{
+    match purpose {
+        Purpose::Connect { link: named } if named == link => LinkNews::Overdue,
+        _ => LinkNews::Silence,
+    }
+}
 
-    /// What the link of this number sees of the event.
-    pub fn news(&self, link: u32) -> LinkNews<'_>
-        ensures { told result ≡ news_of link self.now }
+impl EventKind {
+    /// What the link of this number sees of the event, where these are the purposes of the timers by their numbers.
+    pub fn news(&self, timers: &[Purpose], link: u32) -> LinkNews<'_>
+        ensures { told result ≡ news_of timers.now link self.now }
     {
         match self {
             EventKind::Connected { link: named } if *named == link => LinkNews::Connected,
+            EventKind::Refused { link: named, fault } if *named == link => {
+                LinkNews::Refused { fault: *fault }
+            }
+            EventKind::Fired { timer } => match timers.get(*timer as usize) {
+                Some(purpose) => fired(*purpose, link),
+                None => LinkNews::Silence,
+            },
             EventKind::Wrote { link: named, count } if *named == link => {
                 LinkNews::Took { count: *count }
             }

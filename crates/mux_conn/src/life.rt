@@ -1,4 +1,5 @@
 use link_core::LinkCore;
+use redis_error::RedisError;
 
 /// How far a link has come.
 #[derive(Drop)]
@@ -7,7 +8,9 @@ pub enum Life {
     Dialing,
     /// It is up, and takes messages.
     Ready { link: LinkCore },
-    Ended,
+    /// It takes no more messages: a request gets this error. It is that of its opening where this failed, and else the closed
+    /// connection.
+    Ended { error: RedisError },
 }
 
 impl Life {
@@ -21,7 +24,7 @@ impl Life {
         match self {
             Life::Dialing => true,
             Life::Ready { link: _ } => false,
-            Life::Ended => false,
+            Life::Ended { error: _ } => false,
         }
     }
 
@@ -32,7 +35,7 @@ impl Life {
         match self {
             Life::Dialing => false,
             Life::Ready { link: _ } => false,
-            Life::Ended => true,
+            Life::Ended { error: _ } => true,
         }
     }
 
@@ -43,7 +46,7 @@ impl Life {
         match self {
             Life::Dialing => true,
             Life::Ready { link } => link.is_full(),
-            Life::Ended => false,
+            Life::Ended { error: _ } => false,
         }
     }
 }

@@ -1,15 +1,19 @@
 ghost use Rattle.std.specs.Prelude.{◌≡◌, ◌⊎◌, ℕ, ◌<◌, ◌+◌, ◌^◌, ◌↔◌, [], ◌∷◌, ◌++◌, length, true};
-ghost use Rattle.std.specs.Prelude.{false, OnOk, OnErr, IfOk, IsErrOf, option_copied};
+ghost use Rattle.std.specs.Prelude.{false, Some, OnOk, OnErr, IfOk, IsErrOf, option_copied};
 ghost use Rattle.shared_session.specs.Turn.{shown_each};
 ghost use Rattle.shared_session.specs.Done.{done_each, put_each};
+ghost use Rattle.driver_model.specs.Config.{address, connect_timeout, first_fault};
 ghost use Rattle.shared_session.specs.Replay.{first_link, opening_core, opening_actions, with_room};
+ghost use Rattle.shared_session.specs.Replay.{IsSound};
 
 use crate::core_state::{Core, Single};
 use crate::errors::{MakeError, StepError};
 use crate::showing::{Done, show_each};
 use containers::{Queue, Seq};
-use driver_model::{Action, Cause, Config, Event, EventKind, Outcome};
+use connection_info::{ConnectionInfo, OpenError};
+use driver_model::{Action, Cause, Config, Event, EventKind, Outcome, Purpose};
 use mux_conn::{ConnectionError, LinkAct, MultiplexedConnection};
+use redis_error::ConfigName;
 use std::alloc::{AllocError, Global};
 use std::marker::Model;
 
@@ -71,35 +75,42 @@ impl Drop for Session {
 }
 
 /// The state after the opening.
-fn opened(alloc: Global) -> Core
-    ensures { (config : Config) (word : ℕ) → result ≡ opening_core config word }
+fn opened(alloc: Global, timeout: Option<u64>) -> Result<Core, AllocError>
+    ensures { IfOk result (λ core. (config : Config) (word : ℕ)
+        → connect_timeout config ≡ timeout → core ≡ opening_core config word) }
 {
-    Core {
+    let mut timers = Seq::new(alloc);
+    if timeout.is_some() {
+        timers.push(Purpose::Connect { link: FIRST_LINK })?;
+    }
+    Ok(Core {
         turns: 1,
         links: FIRST_LINK + 1,
         shut: false,
+        timers,
         table: Seq::new(alloc),
         single: Single {
             link: FIRST_LINK,
             connection: MultiplexedConnection::new(alloc),
         },
-    }
+    })
 }
 
 /// The actions of the opening. After an error `out` is as it was.
 fn show_opening(
     alloc: Global,
     config: &Config,
+    info: ConnectionInfo,
     word: u64,
     out: &mut Vec<Action>,
 ) -> Result<(), AllocError>
+    requires { address config.now ≡ Some info }
     ensures actions { OnOk result (
         out.new.items ≡ out.old.items ++ opening_actions config.now word
         ) }
     ensures err { OnErr result (out.new.items ≡ out.old.items) }
 {
     let shown = config.clone(alloc)?;
-    let host = config.host.clone(alloc)?;
     let mut actions = Vec::new(alloc);
     actions.push(Action::Turn {
         number: 0,
@@ -110,9 +121,16 @@ fn show_opening(
     })?;
     actions.push(Action::Connect {
         link: FIRST_LINK,
-        host,
-        port: config.port,
+        host: info.host,
+        port: info.port,
     })?;
+    if let Some(ms) = config.connect_timeout() {
+        actions.push(Action::Timer {
+            timer: 0,
+            ms,
+            purpose: Purpose::Connect { link: FIRST_LINK },
+        })?;
+    }
     out.append(&mut actions)
 }
 
@@ -122,7 +140,8 @@ impl Session {
     ghost use Rattle.shared_session.specs.Replay.{is_bad_after, is_spent_after};
     ghost use Rattle.shared_session.specs.Stops.{IsSpentBy};
 
-    /// A session that has made its opening, whose actions `out` gains. After `NoMemory` `out` is as it was.
+    /// A session that has made its opening, whose actions `out` gains. A configuration of which something is refused makes
+    /// none: `Config` tells what is refused first. After an error `out` is as it was.
     pub fn new(
         alloc: Global,
         config: Config,
@@ -135,11 +154,19 @@ impl Session {
         ensures actions { OnOk result (
             out.new.items ≡ out.old.items ++ opening_actions config word
             ) }
+        ensures sound { OnOk result (IsSound config) }
+        ensures refused { (name : ConfigName) → IsErrOf result (MakeError.Config name)
+            → first_fault config ≡ Some name }
         ensures err { OnErr result (out.new.items ≡ out.old.items) }
     {
+        let info = match config.info(alloc) {
+            Ok(info) => info,
+            Err(OpenError::Config(name)) => return Err(MakeError::Config { name }),
+            Err(_) => return Err(MakeError::NoMemory),
+        };
         let events = Seq::new(alloc);
-        let core = opened(alloc);
-        show_opening(alloc, &config, word, out)?;
+        let core = opened(alloc, config.connect_timeout())?;
+        show_opening(alloc, &config, info, word, out)?;
         Ok(Session {
             config,
             word,
