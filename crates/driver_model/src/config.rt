@@ -1,6 +1,7 @@
-ghost use Rattle.std.specs.Prelude.{◌≡◌, Some, None, IfOk, IfErr};
+ghost use Rattle.std.specs.Prelude.{◌≡◌, Some, None, OnOk, IfOk, IfErr};
 ghost use Rattle.driver_model.specs.Config.{address, has_setup, connect_timeout, first_fault};
 ghost use Rattle.driver_model.specs.Config.{RefusesConfig};
+ghost use Rattle.connection_info.specs.Refusal.{RefusesUrl};
 
 use connection_info::{ConnectionInfo, IntoConnectionInfo, OpenError, RedisConnectionInfo};
 use containers::Bytes;
@@ -44,6 +45,7 @@ impl Config {
     }
 
     /// The server's address. A URL that isn't one is refused.
+    #[tactic(auto, using(crate::proofs::Text::utf8_true, crate::proofs::Text::utf8_false))]
     fn read_address(&self, alloc: Global) -> Result<ConnectionInfo, OpenError>
         ensures ok { IfOk result (λ info. address self.now ≡ Some info) }
         ensures err { IfErr result (RefusesUrl (address self.now ≡ None)) }

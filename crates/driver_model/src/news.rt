@@ -1,4 +1,4 @@
-ghost use Rattle.std.specs.Prelude.{◌≡◌, Some};
+ghost use Rattle.std.specs.Prelude.{◌≡◌, slice_get};
 ghost use Rattle.driver_model.specs.News.{news_of, of_timer, told};
 
 use crate::action::Purpose;
@@ -44,14 +44,19 @@ pub struct LinkEvent<'a> {
     pub news: LinkNews<'a>,
 }
 
-/// What the link of this number sees of a timer that fires and was asked for this.
-fn fired(purpose: Purpose, link: u32) -> LinkNews<'static>
-    ensures { told result ≡ of_timer link (Some purpose) }
+/// What the link of this number sees of a timer that fires, where these are the purposes of the timers by their numbers.
+fn fired(timers: &[Purpose], timer: u32, link: u32) -> LinkNews<'static>
+    ensures { told result ≡ of_timer link (slice_get timers.now timer) }
 {
-    match purpose {
-        Purpose::Connect { link: named } if named == link => LinkNews::Overdue,
-        _ => LinkNews::Silence,
+    let place = timer as usize;
+    if place >= timers.len() {
+        return LinkNews::Silence;
     }
+    let Purpose::Connect { link: named } = timers[place];
+    if named == link {
+        return LinkNews::Overdue;
+    }
+    LinkNews::Silence
 }
 
 impl EventKind {
@@ -59,15 +64,14 @@ impl EventKind {
     pub fn news(&self, timers: &[Purpose], link: u32) -> LinkNews<'_>
         ensures { told result ≡ news_of timers.now link self.now }
     {
+        if let EventKind::Fired { timer } = self {
+            return fired(timers, *timer, link);
+        }
         match self {
             EventKind::Connected { link: named } if *named == link => LinkNews::Connected,
             EventKind::Refused { link: named, fault } if *named == link => {
                 LinkNews::Refused { fault: *fault }
             }
-            EventKind::Fired { timer } => match timers.get(*timer as usize) {
-                Some(purpose) => fired(*purpose, link),
-                None => LinkNews::Silence,
-            },
             EventKind::Wrote { link: named, count } if *named == link => {
                 LinkNews::Took { count: *count }
             }
