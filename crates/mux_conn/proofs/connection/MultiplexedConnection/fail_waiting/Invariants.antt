@@ -4,7 +4,7 @@ use Rattle.mux_conn.proofs.connection.MultiplexedConnection.fail_waiting.Given a
 
 abbrev pub invariant-loop-request : goal.invariant-loop-request
 invariant-loop-request l = record {
-  work : failed_each (record { conn = l.self; acts = l.out.items }) l.error.now l.rest ≡ failed_each (record { conn = record l.fn.self { waiting = [] }; acts = l.fn.out.items }) l.fn.error.now l.fn.self.waiting;
+  work : failed_each (record { conn = l.self; acts = l.out.items }) l.error l.rest ≡ failed_each (record { conn = record l.fn.self { waiting = [] }; acts = l.fn.out.items }) l.fn.error l.fn.self.waiting;
   count : length l.self.requests ≡ length l.fn.self.requests;
   failure : l.self.failure ≡ l.fn.self.failure;
 }
