@@ -1,5 +1,8 @@
 -- What one link sees of an event: the one place where an event is taken to a link.
-use Rattle.std.specs.Prelude.{ℕ, ◌==◌, Bool, true, false, List, if◌then◌else◌}
+use Rattle.std.specs.Prelude.{ℕ, ◌==◌, Bool, true, false, List, Option, Some, None, slice_get, if◌then◌else◌}
+use Rattle.redis_error.specs.declared.fault_kind.FaultKind.{FaultKind}
+use Rattle.driver_model.specs.declared.action.Purpose.{Purpose}
+use Rattle.driver_model.specs.declared.action.Purpose.TheVariants as purpose
 use Rattle.driver_model.specs.declared.event.EventKind.{EventKind}
 use Rattle.driver_model.specs.declared.event.EventKind.TheVariants as event
 use Rattle.driver_model.specs.declared.news.LinkFault.{LinkFault}
@@ -7,11 +10,13 @@ use Rattle.driver_model.specs.declared.news.LinkFault.TheVariants as fault
 use Rattle.driver_model.specs.declared.news.LinkNews.{LinkNews}
 use Rattle.driver_model.specs.declared.news.LinkNews.TheVariants as variant
 
--- nothing; its connect succeeded; so many of the offered bytes were taken; bytes came; its peer closed it, or a read or a
--- write failed; everything is shut down
+-- nothing; its connect succeeded; its connect failed; the time in which it was to be connected is over; so many of the
+-- offered bytes were taken; bytes came; its peer closed it, or a read or a write failed; everything is shut down
 pub data News : Type 0 where
   silence : News
   connected : News
+  refused : FaultKind → News
+  overdue : News
   took : ℕ → News
   came : List ℕ → News
   failed : LinkFault → News
@@ -21,22 +26,31 @@ pub data News : Type 0 where
 abbrev pub for_link : Bool → News → News
 for_link mine news = if mine then news else silence
 
--- what the link of number n sees of an event
-abbrev pub news_of : ℕ → EventKind → News
-news_of n (event.Connected l) = for_link (l == n) connected
-news_of n (event.Wrote l count) = for_link (l == n) (took count)
-news_of n (event.Bytes l piece) = for_link (l == n) (came piece)
-news_of n (event.Ended l) = for_link (l == n) (failed fault.Ended)
-news_of n (event.ReadFault l kind) = for_link (l == n) (failed (fault.Io kind))
-news_of n (event.WriteFault l kind) = for_link (l == n) (failed (fault.Io kind))
-news_of n event.Shutdown = shut
-news_of n (event.Submit s) = silence
-news_of n (event.Cancel s) = silence
+-- what it sees of a timer that fires and was asked for this, if it was asked
+abbrev pub of_timer : ℕ → Option Purpose → News
+of_timer n None = silence
+of_timer n (Some (purpose.Connect l)) = for_link (l == n) overdue
+
+-- what the link of number n sees of an event, where these are the purposes of the timers by their numbers
+abbrev pub news_of : List Purpose → ℕ → EventKind → News
+news_of timers n (event.Connected l) = for_link (l == n) connected
+news_of timers n (event.Refused l f) = for_link (l == n) (refused f)
+news_of timers n (event.Wrote l count) = for_link (l == n) (took count)
+news_of timers n (event.Bytes l piece) = for_link (l == n) (came piece)
+news_of timers n (event.Ended l) = for_link (l == n) (failed fault.Ended)
+news_of timers n (event.ReadFault l kind) = for_link (l == n) (failed (fault.Io kind))
+news_of timers n (event.WriteFault l kind) = for_link (l == n) (failed (fault.Io kind))
+news_of timers n (event.Fired t) = of_timer n (slice_get timers t)
+news_of timers n event.Shutdown = shut
+news_of timers n (event.Submit s) = silence
+news_of timers n (event.Cancel s) = silence
 
 -- the news that a link is handed
 abbrev pub told : LinkNews → News
 told variant.Silence = silence
 told variant.Connected = connected
+told (variant.Refused f) = refused f
+told variant.Overdue = overdue
 told (variant.Took count) = took count
 told (variant.Came piece) = came piece.now
 told (variant.Failed f) = failed f

@@ -4,6 +4,7 @@ use crate::config::Config;
 use crate::event::Event;
 use crate::outcome::Outcome;
 use containers::Bytes;
+use redis_error::RedisError;
 use std::alloc::{AllocError, Global};
 
 /// What a turn is the turn of: the opening, or an event.
@@ -26,6 +27,13 @@ pub enum WaitKind {
     Connect,
 }
 
+/// What a timer is asked for.
+#[derive(Clone, Copy, PartialEq, Eq)]
+pub enum Purpose {
+    /// The link is to be connected by then.
+    Connect { link: u32 },
+}
+
 /// What a turn asks of the outside, or tells it.
 #[derive(Drop)]
 pub enum Action {
@@ -39,6 +47,12 @@ pub enum Action {
         link: u32,
         host: Bytes,
         port: u16,
+    },
+    /// A timer is to fire after so many milliseconds. Timers are numbered from 0.
+    Timer {
+        timer: u32,
+        ms: u64,
+        purpose: Purpose,
     },
     /// The link ended, or is to be closed.
     Close {
@@ -62,13 +76,25 @@ pub enum Action {
         need: u64,
         len: u64,
     },
-    /// The first link is ready.
-    Created,
+    /// The first link is ready, or its opening failed with this error.
+    Created {
+        error: Option<RedisError>,
+    },
     /// A submission is answered.
     Outcome {
         submission: u32,
         outcome: Outcome,
     },
+}
+
+/// An equal error of its own, if there is one.
+fn clone_error(alloc: Global, error: &Option<RedisError>) -> Result<Option<RedisError>, AllocError>
+    ensures { IfOk result (λ e. e ≡ error.now) }
+{
+    match error {
+        None => Ok(None),
+        Some(error) => Ok(Some(error.clone(alloc)?)),
+    }
 }
 
 impl Cause {
@@ -113,6 +139,11 @@ impl Action {
                     port: *port,
                 })
             }
+            Action::Timer { timer, ms, purpose } => Ok(Action::Timer {
+                timer: *timer,
+                ms: *ms,
+                purpose: *purpose,
+            }),
             Action::Close { link } => Ok(Action::Close { link: *link }),
             Action::Write { link, bytes } => {
                 let bytes = bytes.clone(alloc)?;
@@ -135,7 +166,10 @@ impl Action {
                 need: *need,
                 len: *len,
             }),
-            Action::Created => Ok(Action::Created),
+            Action::Created { error } => {
+                let error = clone_error(alloc, error)?;
+                Ok(Action::Created { error })
+            }
             Action::Outcome {
                 submission,
                 outcome,

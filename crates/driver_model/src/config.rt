@@ -1,13 +1,28 @@
-ghost use Rattle.std.specs.Prelude.{◌≡◌, IfOk};
+ghost use Rattle.std.specs.Prelude.{◌≡◌, Some, None, OnOk, IfOk, IfErr};
+ghost use Rattle.driver_model.specs.Config.{address, has_setup, connect_timeout, first_fault};
+ghost use Rattle.driver_model.specs.Config.{RefusesConfig};
+ghost use Rattle.connection_info.specs.Refusal.{RefusesUrl};
 
+use connection_info::{ConnectionInfo, IntoConnectionInfo, OpenError, RedisConnectionInfo};
 use containers::Bytes;
+use redis_error::ConfigName;
 use std::alloc::{AllocError, Global};
 
-/// What a session is made from: one multiplexed connection to a host and port, without setup and timers.
+/// What a session is made from: the words of the line `config single`, each where it was given.
 #[derive(Drop)]
 pub struct Config {
-    pub host: Bytes,
-    pub port: u16,
+    /// The server's address, a URL as it was given.
+    pub url: Bytes,
+    /// How many milliseconds the connect may take, `Some(None)` for any number. 1,000 where nothing is given.
+    pub connect: Option<Option<u64>>,
+}
+
+/// Whether anything is to be said to the server before the first request: a password, another protocol than RESP2, or
+/// another database than 0.
+fn needs_setup(info: &RedisConnectionInfo) -> bool
+    ensures { result ≡ has_setup info.now }
+{
+    info.password.is_some() || info.protocol.supports_resp3() || info.db != 0
 }
 
 impl Config {
@@ -15,10 +30,43 @@ impl Config {
     pub fn clone(&self, alloc: Global) -> Result<Config, AllocError>
         ensures { IfOk result (λ c. c ≡ self.now) }
     {
-        let host = self.host.clone(alloc)?;
+        let url = self.url.clone(alloc)?;
         Ok(Config {
-            host,
-            port: self.port,
+            url,
+            connect: self.connect,
         })
+    }
+
+    /// How many milliseconds the connect may take, if that is bounded.
+    pub fn connect_timeout(&self) -> Option<u64>
+        ensures { result ≡ connect_timeout self.now }
+    {
+        self.connect.unwrap_or(Some(1000))
+    }
+
+    /// The server's address. A URL that isn't one is refused.
+    #[tactic(auto, using(crate::proofs::Text::utf8_true, crate::proofs::Text::utf8_false))]
+    fn read_address(&self, alloc: Global) -> Result<ConnectionInfo, OpenError>
+        ensures ok { IfOk result (λ info. address self.now ≡ Some info) }
+        ensures err { IfErr result (RefusesUrl (address self.now ≡ None)) }
+    {
+        match str::from_utf8(self.url.as_slice()) {
+            Ok(text) => text.into_connection_info(alloc),
+            Err(_) => Err(OpenError::Config(ConfigName::Url)),
+        }
+    }
+
+    /// The server's address, where nothing of the configuration is refused. Else the name of what is refused first: a URL
+    /// that isn't an address, and an address that asks for a setup, which a session doesn't make yet.
+    pub fn info(&self, alloc: Global) -> Result<ConnectionInfo, OpenError>
+        ensures ok { IfOk result (λ info. address self.now ≡ Some info) }
+        ensures sound { OnOk result (first_fault self.now ≡ None) }
+        ensures err { IfErr result (RefusesConfig self.now) }
+    {
+        let info = self.read_address(alloc)?;
+        if needs_setup(&info.redis) {
+            return Err(OpenError::Config(ConfigName::Kind));
+        }
+        Ok(info)
     }
 }

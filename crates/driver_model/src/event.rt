@@ -32,7 +32,7 @@ pub enum Submission {
     },
 }
 
-/// What happened. Links and submissions go by their numbers, counted from 0.
+/// What happened. Links, submissions and timers go by their numbers, counted from 0.
 #[derive(Drop)]
 pub enum EventKind {
     /// A caller hands in a request.
@@ -41,6 +41,8 @@ pub enum EventKind {
     Cancel { submission: u32 },
     /// A connect succeeded.
     Connected { link: u32 },
+    /// A connect failed.
+    Refused { link: u32, fault: FaultKind },
     /// So many of the offered bytes were taken.
     Wrote { link: u32, count: u64 },
     /// Bytes came from the peer.
@@ -51,6 +53,8 @@ pub enum EventKind {
     ReadFault { link: u32, fault: FaultKind },
     /// A write to the link failed.
     WriteFault { link: u32, fault: FaultKind },
+    /// The time of a timer is over.
+    Fired { timer: u32 },
     /// Everything is closed.
     Shutdown,
 }
@@ -114,6 +118,10 @@ impl EventKind {
                 submission: *submission,
             }),
             EventKind::Connected { link } => Ok(EventKind::Connected { link: *link }),
+            EventKind::Refused { link, fault } => Ok(EventKind::Refused {
+                link: *link,
+                fault: *fault,
+            }),
             EventKind::Wrote { link, count } => Ok(EventKind::Wrote {
                 link: *link,
                 count: *count,
@@ -131,6 +139,7 @@ impl EventKind {
                 link: *link,
                 fault: *fault,
             }),
+            EventKind::Fired { timer } => Ok(EventKind::Fired { timer: *timer }),
             EventKind::Shutdown => Ok(EventKind::Shutdown),
         }
     }

@@ -15,7 +15,7 @@ mod request;
 mod tests;
 mod verdicts;
 
-pub use action::{Action, Cause, Owner, WaitKind};
+pub use action::{Action, Cause, Owner, Purpose, WaitKind};
 pub use commands::Commands;
 pub use config::Config;
 pub use event::{Event, EventKind, Submission};

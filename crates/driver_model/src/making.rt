@@ -73,6 +73,13 @@ impl Event {
         Event::of(EventKind::Connected { link })
     }
 
+    /// The connect of this link failed.
+    pub fn refused(link: u32, fault: FaultKind) -> Event
+        ensures { result ≡ record { word = 0; kind = EventKind.Refused link fault } }
+    {
+        Event::of(EventKind::Refused { link, fault })
+    }
+
     /// So many of the bytes that this link offered were taken.
     pub fn wrote(link: u32, count: u64) -> Event
         ensures { result ≡ record { word = 0; kind = EventKind.Wrote link count } }
@@ -108,6 +115,13 @@ impl Event {
         ensures { result ≡ record { word = 0; kind = EventKind.WriteFault link fault } }
     {
         Event::of(EventKind::WriteFault { link, fault })
+    }
+
+    /// The time of this timer is over.
+    pub fn fired(timer: u32) -> Event
+        ensures { result ≡ record { word = 0; kind = EventKind.Fired timer } }
+    {
+        Event::of(EventKind::Fired { timer })
     }
 
     /// Everything is closed.

@@ -36,11 +36,13 @@ fn seen(event: &Event) -> (&'static str, u32) {
         EventKind::Submit { submission: _ } => ("submit", 0),
         EventKind::Cancel { submission } => ("cancel", *submission),
         EventKind::Connected { link } => ("connected", *link),
+        EventKind::Refused { link, fault: _ } => ("refused", *link),
         EventKind::Wrote { link, count: _ } => ("wrote", *link),
         EventKind::Bytes { link, piece: _ } => ("bytes", *link),
         EventKind::Ended { link } => ("ended", *link),
         EventKind::ReadFault { link, fault: _ } => ("read-fault", *link),
         EventKind::WriteFault { link, fault: _ } => ("write-fault", *link),
+        EventKind::Fired { timer } => ("fired", *timer),
         EventKind::Shutdown => ("shutdown", 0),
     }
 }
@@ -50,6 +52,10 @@ fn events_are_made(rt: HostRuntime) -> Result<(), Fail> {
     let alloc = rt.alloc();
     assert_eq!(rt; seen(&Event::cancel(4)), ("cancel", 4));
     assert_eq!(rt; seen(&Event::connected(1)), ("connected", 1));
+    assert_eq!(rt;
+        seen(&Event::refused(6, FaultKind::Refused)),
+        ("refused", 6)
+    );
     assert_eq!(rt; seen(&Event::wrote(2, 20)), ("wrote", 2));
     assert_eq!(rt; seen(&Event::bytes(alloc, 3, b"+x")?), ("bytes", 3));
     assert_eq!(rt; seen(&Event::ended(5)), ("ended", 5));
@@ -61,6 +67,7 @@ fn events_are_made(rt: HostRuntime) -> Result<(), Fail> {
         seen(&Event::write_fault(7, FaultKind::Reset)),
         ("write-fault", 7)
     );
+    assert_eq!(rt; seen(&Event::fired(8)), ("fired", 8));
     assert_eq!(rt; seen(&Event::shutdown()), ("shutdown", 0));
     assert_eq!(rt; Event::shutdown().with_word(9).word, 9);
     Ok(())

@@ -1,5 +1,7 @@
-ghost use Rattle.std.specs.Prelude.{◌≡◌};
+ghost use Rattle.std.specs.Prelude.{◌≡◌, slice_get};
+ghost use Rattle.driver_model.specs.News.{news_of, of_timer, told};
 
+use crate::action::Purpose;
 use crate::event::EventKind;
 use redis_error::FaultKind;
 
@@ -21,6 +23,10 @@ pub enum LinkNews<'a> {
     Silence,
     /// Its connect succeeded.
     Connected,
+    /// Its connect failed.
+    Refused { fault: FaultKind },
+    /// The time in which it was to be connected is over.
+    Overdue,
     /// So many of the offered bytes were taken.
     Took { count: u64 },
     /// Bytes came from the peer.
@@ -38,15 +44,34 @@ pub struct LinkEvent<'a> {
     pub news: LinkNews<'a>,
 }
 
-impl EventKind {
-    ghost use Rattle.driver_model.specs.News.{news_of, told};
+/// What the link of this number sees of a timer that fires, where these are the purposes of the timers by their numbers.
+fn fired(timers: &[Purpose], timer: u32, link: u32) -> LinkNews<'static>
+    ensures { told result ≡ of_timer link (slice_get timers.now timer) }
+{
+    let place = timer as usize;
+    if place >= timers.len() {
+        return LinkNews::Silence;
+    }
+    let Purpose::Connect { link: named } = timers[place];
+    if named == link {
+        return LinkNews::Overdue;
+    }
+    LinkNews::Silence
+}
 
-    /// What the link of this number sees of the event.
-    pub fn news(&self, link: u32) -> LinkNews<'_>
-        ensures { told result ≡ news_of link self.now }
+impl EventKind {
+    /// What the link of this number sees of the event, where these are the purposes of the timers by their numbers.
+    pub fn news(&self, timers: &[Purpose], link: u32) -> LinkNews<'_>
+        ensures { told result ≡ news_of timers.now link self.now }
     {
+        if let EventKind::Fired { timer } = self {
+            return fired(timers, *timer, link);
+        }
         match self {
             EventKind::Connected { link: named } if *named == link => LinkNews::Connected,
+            EventKind::Refused { link: named, fault } if *named == link => {
+                LinkNews::Refused { fault: *fault }
+            }
             EventKind::Wrote { link: named, count } if *named == link => {
                 LinkNews::Took { count: *count }
             }

@@ -4,6 +4,7 @@ use Rattle.driver_model.specs.declared.action.Action.{Action}
 use Rattle.driver_model.specs.declared.action.Action.TheVariants as action
 use Rattle.driver_model.specs.declared.action.Cause.{Cause}
 use Rattle.driver_model.specs.declared.action.Cause.TheVariants as cause
+use Rattle.driver_model.specs.declared.action.Purpose.{Purpose}
 use Rattle.driver_model.specs.declared.action.Owner.{Owner}
 use Rattle.driver_model.specs.declared.action.Owner.TheVariants as owner
 use Rattle.driver_model.specs.declared.event.EventKind.{EventKind}
@@ -12,21 +13,22 @@ use Rattle.driver_model.specs.News.{news_of}
 use Rattle.legal_trace.specs.Ledger.{Ledger, Start, Line, asks, hears, begins, offers, ends, blank_ledger, noted_each}
 use Rattle.legal_trace.specs.Story.{Story, blank_story, bytes_of, shape, handed_in, left, tried, waits, answered}
 
--- how many links were asked for, and the ledger of each; how many submissions were handed in, and the story of each;
--- how often the creation was shown; whether everything was shut down; how many turns began, and what the turn that runs is
--- the turn of
+-- how many links were asked for, and the ledger of each; how many submissions were handed in, and the story of each; what
+-- each timer was asked for, in order; how often the creation was shown, or its failure; whether everything was shut down; how
+-- many turns began, and what the turn that runs is the turn of
 pub record Book : Type 0 where
   pub links : ℕ
   pub link : ℕ → Ledger
   pub submissions : ℕ
   pub story : ℕ → Story
+  pub timers : List Purpose
   pub created : ℕ
   pub shut : Bool
   pub turns : ℕ
   pub running : Option Cause
 
 abbrev pub blank_book : Book
-blank_book = record { links = 0; link = λ n. blank_ledger; submissions = 0; story = λ n. blank_story; created = 0; shut = false; turns = 0; running = None }
+blank_book = record { links = 0; link = λ n. blank_ledger; submissions = 0; story = λ n. blank_story; timers = []; created = 0; shut = false; turns = 0; running = None }
 
 -- a message as its owner has it: it carries the owner's bytes
 abbrev pub message_of : Book → Owner → Start
@@ -39,13 +41,14 @@ if_mine mine line = if mine then line ∷ [] else []
 -- what an action tells of link n
 abbrev pub lines_of : Book → ℕ → Action → List Line
 lines_of b n (action.Turn number (cause.Opening config word)) = []
-lines_of b n (action.Turn number (cause.Event e)) = hears (news_of n e.kind) ∷ []
+lines_of b n (action.Turn number (cause.Event e)) = hears number (news_of b.timers n e.kind) ∷ []
 lines_of b n (action.Connect l host port) = if_mine (l == n) asks
+lines_of b n (action.Timer t ms what) = []
 lines_of b n (action.Close l) = if_mine (l == n) (ends (b.turns - 1))
 lines_of b n (action.Write l bytes) = if_mine (l == n) (offers bytes)
 lines_of b n (action.Start l message who count len) = if_mine (l == n) (begins (message_of b who))
 lines_of b n (action.Wait who kind) = []
-lines_of b n action.Created = []
+lines_of b n (action.Created e) = []
 lines_of b n (action.Outcome m o) = []
 
 -- the link that submissions go to: the last that was asked for
@@ -61,11 +64,13 @@ abbrev pub after_event : Book → ℕ → EventKind → Story
 after_event b n (event.Submit what) = if_own (b.submissions == n) (handed_in (b.story n) what b.shut (current b)) (b.story n)
 after_event b n (event.Cancel m) = if_own (m == n) (left (b.story n)) (b.story n)
 after_event b n (event.Connected l) = b.story n
+after_event b n (event.Refused l f) = b.story n
 after_event b n (event.Wrote l count) = b.story n
 after_event b n (event.Bytes l piece) = b.story n
 after_event b n (event.Ended l) = b.story n
 after_event b n (event.ReadFault l kind) = b.story n
 after_event b n (event.WriteFault l kind) = b.story n
+after_event b n (event.Fired t) = b.story n
 after_event b n event.Shutdown = b.story n
 
 -- what an action is to submission n
@@ -76,9 +81,10 @@ story_after b n (action.Start l message (owner.Try m round) count len) = if_own 
 story_after b n (action.Wait (owner.Try m round) kind) = if_own (m == n) (waits (b.story n) kind) (b.story n)
 story_after b n (action.Outcome m o) = if_own (m == n) (answered (b.story n) o) (b.story n)
 story_after b n (action.Connect l host port) = b.story n
+story_after b n (action.Timer t ms what) = b.story n
 story_after b n (action.Close l) = b.story n
 story_after b n (action.Write l bytes) = b.story n
-story_after b n action.Created = b.story n
+story_after b n (action.Created e) = b.story n
 
 -- how many submissions an event hands in, and whether it shuts everything down
 abbrev pub submitted_by : EventKind → ℕ
@@ -103,7 +109,8 @@ begun b (cause.Event e) = record b {
 abbrev pub counted : Book → Action → Book
 counted b (action.Turn number c) = begun b c
 counted b (action.Connect l host port) = record b { links = b.links + 1 }
-counted b action.Created = record b { created = b.created + 1 }
+counted b (action.Timer t ms what) = record b { timers = b.timers ++ what ∷ [] }
+counted b (action.Created e) = record b { created = b.created + 1 }
 counted b (action.Close l) = b
 counted b (action.Write l bytes) = b
 counted b (action.Wait who kind) = b

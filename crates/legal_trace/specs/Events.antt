@@ -10,20 +10,22 @@ use Rattle.legal_trace.specs.Book.{Book}
 abbrev pub is_no_link : Book → ℕ → Bool
 is_no_link b l = nat_le b.links l
 
--- the event hands in a submission without a form, or names a link or a submission that was never given out, or more written bytes than were offered to a link that
--- has not ended
+-- the event hands in a submission without a form, or names a link, a timer or a submission that was never given out, or
+-- more written bytes than were offered to a link that has not ended
 unfoldable pub is_bad_event : Book → EventKind → Bool
 is_bad_event b (event.Submit what) = has_no_form what
 is_bad_event b (event.Cancel n) = nat_le b.submissions n
 is_bad_event b (event.Connected l) = is_no_link b l
+is_bad_event b (event.Refused l f) = is_no_link b l
 is_bad_event b (event.Wrote l count) = is_no_link b l || (not (is_over (b.link l)) && nat_lt (length (b.link l).offer) count)
 is_bad_event b (event.Bytes l piece) = is_no_link b l
 is_bad_event b (event.Ended l) = is_no_link b l
 is_bad_event b (event.ReadFault l kind) = is_no_link b l
 is_bad_event b (event.WriteFault l kind) = is_no_link b l
+is_bad_event b (event.Fired t) = nat_le (length b.timers) t
 is_bad_event b event.Shutdown = false
 
 -- more numbers of a sort were given out than there are: a turn after the number 2^32 - 1, or that number itself to a
--- submission, to a link, or to a message of a link
+-- submission, to a link, to a timer, or to a message of a link
 abbrev pub HasRunOut : Book → Type 0
-HasRunOut b = (2 ^ 32 < b.turns) ⊎ (2 ^ 32 ≤ b.submissions) ⊎ (2 ^ 32 ≤ b.links) ⊎ ((l : ℕ) × (2 ^ 32 ≤ length (b.link l).starts))
+HasRunOut b = (2 ^ 32 < b.turns) ⊎ (2 ^ 32 ≤ b.submissions) ⊎ (2 ^ 32 ≤ b.links) ⊎ (2 ^ 32 ≤ length b.timers) ⊎ ((l : ℕ) × (2 ^ 32 ≤ length (b.link l).starts))

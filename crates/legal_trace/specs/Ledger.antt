@@ -4,11 +4,14 @@ use Rattle.std.specs.Prelude.{◌≡◌, ◌≢◌, ◌⊎◌, ◌≤◌, ℕ, s
 use Rattle.resp_value.specs.Data.{Data}
 use Rattle.resp_read.specs.Values.{left_over, is_spoiled}
 use Rattle.resp_read.specs.Items.{items}
+use Rattle.redis_error.specs.declared.fault_kind.FaultKind.TheVariants as kind
+use Rattle.redis_error.specs.declared.redis_error.RedisError.{RedisError}
+use Rattle.redis_error.specs.declared.redis_error.RedisError.TheVariants as error
 use Rattle.driver_model.specs.declared.action.Owner.{Owner}
 use Rattle.driver_model.specs.declared.news.LinkFault.{LinkFault}
 use Rattle.driver_model.specs.declared.news.LinkFault.TheVariants as fault
 use Rattle.driver_model.specs.declared.outcome.Shape.{Shape}
-use Rattle.driver_model.specs.News.{News, silence, connected, took, came, failed, shut}
+use Rattle.driver_model.specs.News.{News, silence, connected, refused, overdue, took, came, failed, shut}
 use Rattle.driver_model.specs.Shape.{need_of}
 
 -- a message that started: who owns it, how many items it takes and what they become, and its bytes
@@ -17,10 +20,17 @@ pub record Start : Type 0 where
   pub shape : Shape
   pub bytes : List ℕ
 
--- why a link ends: everything is shut down, or a fault
+-- why a link ends: everything is shut down, or a fault, or its opening failed with this error
 pub data Ending : Type 0 where
   by_shutdown : Ending
   by_fault : LinkFault → Ending
+  by_opening : RedisError → Ending
+
+-- the error that it is, where the opening failed
+abbrev pub failure_of : Ending → Option RedisError
+failure_of by_shutdown = None
+failure_of (by_fault f) = None
+failure_of (by_opening e) = Some e
 
 -- how a link ended: in which turn, why, and how many of its messages, from the first on, were full then, which is the number
 -- of the oldest that was not
@@ -70,14 +80,24 @@ items_came l more = record l { dealt = l.dealt ++ take (reach l.starts l.dealt -
 abbrev pub bytes_came : Ledger → List ℕ → Ledger
 bytes_came l piece = items_came (record l { rest = left_over (l.rest ++ piece) }) (items (l.rest ++ piece))
 
--- what news makes of it: a link is up from its first successful connect until its end
-abbrev pub with_news : Ledger → News → Ledger
-with_news l connected = if is_over l then l else record l { up = true }
-with_news l (took count) = if l.up then record l { taken = l.taken ++ take count l.offer; offer = [] } else l
-with_news l (came piece) = if l.up then bytes_came l piece else l
-with_news l silence = l
-with_news l (failed f) = l
-with_news l shut = l
+-- its connect was asked for and isn't answered
+abbrev pub dials : Ledger → Bool
+dials l = l.asked && not l.up && not (is_over l)
+
+-- a link whose connect failed in this turn: it ends by that alone
+abbrev pub refused_in : Ledger → ℕ → RedisError → Ledger
+refused_in l turn e = record l { end = Some (record { turn = turn; why = by_opening e; oldest = 0 }) }
+
+-- what news makes of it in this turn: a link is up from its first successful connect until its end
+abbrev pub with_news : Ledger → ℕ → News → Ledger
+with_news l turn connected = if is_over l then l else record l { up = true }
+with_news l turn (refused f) = if dials l then refused_in l turn (error.Io f) else l
+with_news l turn (took count) = if l.up then record l { taken = l.taken ++ take count l.offer; offer = [] } else l
+with_news l turn (came piece) = if l.up then bytes_came l piece else l
+with_news l turn silence = l
+with_news l turn overdue = l
+with_news l turn (failed f) = l
+with_news l turn shut = l
 
 -- what ends a link that is up: its peer, a read or a write that failed, bytes that begin no value, or the shutdown
 abbrev pub ending_up : Ledger → News → Option Ending
@@ -86,13 +106,17 @@ ending_up l (failed f) = Some (by_fault f)
 ending_up l shut = Some by_shutdown
 ending_up l silence = None
 ending_up l connected = None
+ending_up l (refused f) = None
+ending_up l overdue = None
 ending_up l (took count) = None
 
--- what ends a link whose connect isn't answered: the shutdown alone
+-- what closes a link whose connect isn't answered: the shutdown, and the end of the time in which it was to be connected
 abbrev pub ending_asked : News → Option Ending
 ending_asked shut = Some by_shutdown
+ending_asked overdue = Some (by_opening (error.Io kind.TimedOut))
 ending_asked silence = None
 ending_asked connected = None
+ending_asked (refused f) = None
 ending_asked (took count) = None
 ending_asked (came piece) = None
 ending_asked (failed f) = None
@@ -114,11 +138,11 @@ full_count (s ∷ ss) dealt = if nat_le (need_in s.shape dealt) (length dealt) t
 abbrev pub ended : Ledger → ℕ → Ledger
 ended l turn = record l { up = false; end = Some (record { turn = turn; why = ending_or_shutdown (ending l); oldest = full_count l.starts l.dealt }) }
 
--- a line of what is told of a link: its connect is asked for; a turn, with this news for it; a message begins; its
--- unwritten bytes are offered; it ends, in that turn
+-- a line of what is told of a link: its connect is asked for; the turn of that number, with this news for it; a message
+-- begins; its unwritten bytes are offered; it is closed, in that turn
 pub data Line : Type 0 where
   asks : Line
-  hears : News → Line
+  hears : ℕ → News → Line
   begins : Start → Line
   offers : List ℕ → Line
   ends : ℕ → Line
@@ -126,7 +150,7 @@ pub data Line : Type 0 where
 -- what one more line makes of it
 abbrev pub noted : Ledger → Line → Ledger
 noted l asks = record l { asked = true }
-noted l (hears news) = record (with_news l news) { heard = news }
+noted l (hears turn news) = record (with_news l turn news) { heard = news }
 noted l (begins s) = record l { starts = l.starts ++ s ∷ [] }
 noted l (offers bytes) = record l { offer = bytes }
 noted l (ends turn) = ended l turn
@@ -138,6 +162,11 @@ noted_each l (x ∷ more) = noted_each (noted l x) more
 -- the ledger of a link of which this is told
 abbrev pub ledger : List Line → Ledger
 ledger lines = noted_each blank_ledger lines
+
+-- the error with which the opening of a link failed, if it did
+abbrev pub failure_in : Option End → Option RedisError
+failure_in None = None
+failure_in (Some end) = failure_of end.why
 
 -- the bytes of messages, one after another
 abbrev pub joined : List Start → List ℕ
@@ -164,7 +193,7 @@ IsWithin l _ = Unit {0}
 -- its unwritten bytes at once, where no offer is unanswered; and it ends where something must end it
 abbrev pub MayNote : Ledger → Line → Type 0
 MayNote l asks = l.asked ≡ false
-MayNote l (hears news) = IsWithin l news
+MayNote l (hears turn news) = IsWithin l news
 MayNote l (begins s) = (l.up ≡ true) × (s.bytes ≢ [])
 MayNote l (offers bytes) = (l.up ≡ true) × (l.offer ≡ []) × (bytes ≡ unwritten l) × (bytes ≢ [])
 MayNote l (ends turn) = (why : Ending) × (ending l ≡ Some why)

@@ -1,23 +1,28 @@
 -- When a trace can be relied on: said of its book alone, apart from any machine. A turn has five segments: the event's own
 -- effect, the passes, the writes, the waits, and the closes of links that nothing uses any more, of which there are none on
 -- one connection. An action stands where it is the next that is due, once all before it are done.
-use Rattle.std.specs.Prelude.{◌≡◌, ◌≢◌, ◌⊎◌, ℕ, ◌<◌, true, false, List, [], ◌∷◌, length, Some, None}
+use Rattle.std.specs.Prelude.{◌≡◌, ◌≢◌, ◌⊎◌, ℕ, ◌<◌, true, false, List, [], ◌∷◌, length, Option, Some, None}
+use Rattle.redis_error.specs.declared.redis_error.RedisError.{RedisError}
 use Rattle.resp_value.specs.declared.value.Value.TheVariants.{Nil}
+use Rattle.connection_info.specs.declared.address.ConnectionInfo.{ConnectionInfo}
 use Rattle.driver_model.specs.declared.action.Action.{Action}
 use Rattle.driver_model.specs.declared.action.Action.TheVariants as action
 use Rattle.driver_model.specs.declared.action.Cause.{Cause}
 use Rattle.driver_model.specs.declared.action.Cause.TheVariants as cause
 use Rattle.driver_model.specs.declared.action.Owner.TheVariants as owner
+use Rattle.driver_model.specs.declared.action.Purpose.{Purpose}
+use Rattle.driver_model.specs.declared.action.Purpose.TheVariants as purpose
 use Rattle.driver_model.specs.declared.action.WaitKind.{WaitKind}
 use Rattle.driver_model.specs.declared.action.WaitKind.TheVariants as wait
 use Rattle.driver_model.specs.declared.config.Config.{Config}
 use Rattle.driver_model.specs.declared.event.Event.{Event}
 use Rattle.driver_model.specs.declared.outcome.Outcome.{Outcome}
 use Rattle.driver_model.specs.declared.outcome.Outcome.TheVariants as outcome
+use Rattle.driver_model.specs.Config.{address, connect_timeout}
 use Rattle.driver_model.specs.Shape.{need_of}
-use Rattle.legal_trace.specs.Ledger.{Ledger, Ending, IsOffered, is_over, ending, unwritten}
+use Rattle.legal_trace.specs.Ledger.{Ledger, Ending, IsOffered, is_over, ending, failure_in, unwritten}
 use Rattle.legal_trace.specs.Story.{Story, Try, last_of, is_open, is_awaited, bytes_of, shape}
-use Rattle.legal_trace.specs.Book.{Book, blank_book, book, entered}
+use Rattle.legal_trace.specs.Book.{Book, blank_book, book, entered, current}
 use Rattle.legal_trace.specs.Owed.{owed, is_full}
 use Rattle.legal_trace.specs.Events.{is_bad_event}
 
@@ -41,16 +46,26 @@ VerdictsAreShown b = (n : ℕ) → IsOpen b n → is_over (link_of b n) ≡ fals
 abbrev pub NoneEnds : Book → Type 0
 NoneEnds b = (l : ℕ) → ending (b.link l) ≡ None
 
--- a link was asked for, and where a link is up, the creation was shown
+-- where the opening of a link failed, this was shown
+abbrev pub FailuresAreShown : Book → Type 0
+FailuresAreShown b = (l : ℕ) (e : RedisError) → failure_in (b.link l).end ≡ Some e → b.created ≢ 0
+
+-- a link was asked for, and where a link is up, or its opening failed, the creation was shown
 pub record IsCreated (b : Book) : Type 0 where
   pub asked : b.links ≢ 0
   pub shown : (l : ℕ) → (b.link l).up ≡ true → b.created ≢ 0
+  pub failed : FailuresAreShown b
+
+-- the opening has asked for a timer where the connect is bounded
+abbrev pub IsTimed : Book → Type 0
+IsTimed b = (config : Config) (word : ℕ) → b.running ≡ Some (cause.Opening config word) → connect_timeout config ≢ None → b.timers ≢ []
 
 -- the event has had its own effect
 pub record IsApplied (b : Book) : Type 0 where
   pub answered : NoneIsOwed b
   pub ended : NoneEnds b
   pub created : IsCreated b
+  pub timed : IsTimed b
 
 -- a submission that was answered with Nil at its place, since nobody awaits its reply
 pub record IsTold (s : Story) : Type 0 where
@@ -114,7 +129,20 @@ pub record MayConnect (b : Book) (l : ℕ) (host : List ℕ) (port : ℕ) : Type
   pub opens : b.running ≡ Some (cause.Opening config word)
   pub first : b.links ≡ 0
   pub next : l ≡ b.links
-  pub address : (host ≡ config.host) × (port ≡ config.port)
+  pub info : ConnectionInfo
+  pub configured : address config ≡ Some info
+  pub address : (host ≡ info.host) × (port ≡ info.port)
+
+-- the opening asks for a timer of the configured time, behind its link, where the connect is bounded
+pub record MayTimer (b : Book) (t ms : ℕ) (what : Purpose) : Type 0 where
+  pub config : Config
+  pub word : ℕ
+  pub opens : b.running ≡ Some (cause.Opening config word)
+  pub bounded : connect_timeout config ≡ Some ms
+  pub asked : b.links ≢ 0
+  pub first : b.timers ≡ []
+  pub next : t ≡ length b.timers
+  pub is_for : what ≡ purpose.Connect (current b)
 
 -- a link is closed by what must end it, in the order of their numbers, once the outcomes that values gave are shown
 pub record MayClose (b : Book) (l : ℕ) : Type 0 where
@@ -131,13 +159,25 @@ pub record MayBeCreated (b : Book) : Type 0 where
   pub answered : NoneIsOwed b
   pub ended : NoneEnds b
 
+-- it is shown once that the opening of a link failed, with its error
+pub record MayFail (b : Book) (e : RedisError) : Type 0 where
+  pub l : ℕ
+  pub fails : failure_in (b.link l).end ≡ Some e
+  pub once : b.created ≡ 0
+  pub ended : NoneEnds b
+
+-- the creation: it came to be, or it failed with that error
+abbrev pub MayShowCreation : Book → Option RedisError → Type 0
+MayShowCreation b None = MayBeCreated b
+MayShowCreation b (Some e) = MayFail b e
+
 -- an open submission is answered with what it is owed: first those whose link has not ended, and then the others, once all
--- links that must end have; each in the order of their numbers
+-- links that must end have and a failed opening was shown; each in the order of their numbers
 pub record MayAnswer (b : Book) (n : ℕ) (o : Outcome) : Type 0 where
   pub asked : IsOpen b n
   pub owes : owed b n ≡ Some o
   pub in_order : (m : ℕ) → m < n → IsOpen b m → is_over (link_of b m) ≡ is_over (link_of b n) → owed b m ≡ None
-  pub after_closes : is_over (link_of b n) ≡ true → NoneEnds b × VerdictsAreShown b
+  pub after_closes : is_over (link_of b n) ≡ true → NoneEnds b × VerdictsAreShown b × FailuresAreShown b
 
 -- no submission before n has a message that may start
 abbrev pub IsFirstToMove : Book → ℕ → Type 0
@@ -186,11 +226,12 @@ pub record MayWait (b : Book) (n : ℕ) (kind : WaitKind) : Type 0 where
 abbrev pub MayStand : Book → Action → Type 0
 MayStand b (action.Turn number c) = MayTurn b number c
 MayStand b (action.Connect l host port) = MayConnect b l host port
+MayStand b (action.Timer t ms what) = MayTimer b t ms what
 MayStand b (action.Close l) = MayClose b l
 MayStand b (action.Write l bytes) = MayWrite b l bytes
 MayStand b (action.Wait (owner.Try n round) kind) = (round ≡ 0) × MayWait b n kind
 MayStand b (action.Start l message (owner.Try n round) count len) = (round ≡ 0) × MayStart b l message n count len
-MayStand b action.Created = MayBeCreated b
+MayStand b (action.Created e) = MayShowCreation b e
 MayStand b (action.Outcome n o) = MayAnswer b n o ⊎ MayTell b n o
 
 -- each of these actions stands where it may, behind what is in the book

@@ -10,7 +10,7 @@ use Rattle.driver_model.specs.declared.outcome.Outcome.TheVariants as outcome
 use Rattle.driver_model.specs.declared.outcome.Shape.{Shape}
 use Rattle.driver_model.specs.declared.outcome.Shape.TheVariants.{Single, Pipeline}
 use Rattle.driver_model.specs.Shape.{verdict_of, outcome_of}
-use Rattle.legal_trace.specs.Ledger.{Ledger, End, Ending, by_shutdown, by_fault, need_in, reached}
+use Rattle.legal_trace.specs.Ledger.{Ledger, End, Ending, by_shutdown, by_fault, by_opening, need_in, reached}
 use Rattle.legal_trace.specs.Story.{Story, Try, bytes_of, shape, last_of}
 use Rattle.legal_trace.specs.Book.{Book}
 
@@ -35,6 +35,7 @@ abbrev pub oldest_error : Ending → Shape → RedisError
 oldest_error (by_fault f) Single = fault_error f
 oldest_error (by_fault f) (Pipeline offset count transaction) = error.Closed
 oldest_error by_shutdown of_shape = error.Closed
+oldest_error (by_opening e) of_shape = error.Closed
 
 -- the error of a message that was not full when its link ended: every other one gets the closed connection
 abbrev pub cut_off : End → ℕ → Shape → RedisError
@@ -48,10 +49,16 @@ cut_off_if (Some end) k of_shape = Some (outcome.Fault (cut_off end k of_shape))
 abbrev pub owed_to_message : Ledger → ℕ → Shape → Option Outcome
 owed_to_message l k of_shape = if is_full l k then Some (outcome_of (verdict_of of_shape (cut l k of_shape))) else cut_off_if l.end k of_shape
 
--- what a submission without a message comes to: the closed connection where its link has ended
+-- the error of a submission without a message: that of the opening where this failed, and else the closed connection
+abbrev pub unstarted_error : Ending → RedisError
+unstarted_error by_shutdown = error.Closed
+unstarted_error (by_fault f) = error.Closed
+unstarted_error (by_opening e) = e
+
+-- what a submission without a message comes to, where its link has ended
 abbrev pub owed_unstarted : Option End → Option Outcome
 owed_unstarted None = None
-owed_unstarted (Some end) = Some (outcome.Fault error.Closed)
+owed_unstarted (Some end) = Some (outcome.Fault (unstarted_error end.why))
 
 -- what a submission comes to by its last try
 abbrev pub owed_to_try : Book → Story → Option Try → Option Outcome

@@ -30,30 +30,24 @@ with_link w link = at_life w (Ready link)
 abbrev pub awaits_connect : Life → Bool
 awaits_connect Dialing = true
 awaits_connect (Ready link) = false
-awaits_connect Ended = false
+awaits_connect (Ended e) = false
 
 abbrev pub is_ready : Life → Bool
 is_ready Dialing = false
 is_ready (Ready link) = true
-is_ready Ended = false
-
--- it takes no more messages
-abbrev pub has_ended : Life → Bool
-has_ended Dialing = false
-has_ended (Ready link) = false
-has_ended Ended = true
+is_ready (Ended e) = false
 
 -- no request can be moved
 abbrev pub moves_none : Life → Bool
 moves_none Dialing = true
 moves_none (Ready link) = is_full link
-moves_none Ended = false
+moves_none (Ended e) = false
 
 -- how many messages of a link that is up have started
 abbrev pub started_in : Life → ℕ
 started_in Dialing = 0
 started_in (Ready link) = link.started
-started_in Ended = 0
+started_in (Ended e) = 0
 
 -- the number 2^32 - 1 was given to a message of the link
 abbrev pub is_spent_in : Life → Bool

@@ -1,11 +1,13 @@
 -- What news of its link does to a connection, and the leave of a caller. No request is moved.
-use Rattle.std.specs.Prelude.{◌≤◌, ℕ, Bool, List, [], ◌∷◌, if◌then◌else◌}
+use Rattle.std.specs.Prelude.{◌≤◌, ℕ, Bool, List, [], ◌∷◌, Some, None, if◌then◌else◌}
+use Rattle.redis_error.specs.declared.fault_kind.FaultKind.{FaultKind}
+use Rattle.redis_error.specs.declared.fault_kind.FaultKind.TheVariants as kind
+use Rattle.redis_error.specs.declared.redis_error.RedisError.{RedisError}
 use Rattle.redis_error.specs.declared.redis_error.RedisError.TheVariants as error
 use Rattle.driver_model.specs.declared.news.LinkFault.{LinkFault}
 use Rattle.driver_model.specs.declared.news.LinkFault.TheVariants as fault
-use Rattle.driver_model.specs.declared.outcome.Outcome.{Outcome}
 use Rattle.driver_model.specs.declared.outcome.Outcome.TheVariants as outcome
-use Rattle.driver_model.specs.News.{News, silence, connected, took, came, failed, shut}
+use Rattle.driver_model.specs.News.{News, silence, connected, refused, overdue, took, came, failed, shut}
 use Rattle.driver_model.specs.Shape.{outcome_of}
 use Rattle.link_core.specs.declared.message.Settled.{Settled}
 use Rattle.link_core.specs.Link.{LinkState, Settling, fresh, no_boundary, wrote_of, cancelled, faulted, closed_all}
@@ -27,52 +29,65 @@ max_size = 4_294_967_295
 abbrev pub new_link : LinkState
 new_link = fresh max_size no_boundary
 
-abbrev pub closed : Outcome
-closed = outcome.Fault error.Closed
-
 -- each message that the link has settled is answered, in order
 abbrev pub settled_each : Work → List Settled → Work
 settled_each w [] = w
 settled_each w (s ∷ ss) = settled_each (answered w s.id (outcome_of s.verdict)) ss
 
--- each of these requests is answered with the closed connection
-abbrev pub closed_each : Work → List Waiting → Work
-closed_each w [] = w
-closed_each w (q ∷ qs) = closed_each (answered w q.number closed) qs
+-- each of these requests is answered with this error
+abbrev pub failed_each : Work → RedisError → List Waiting → Work
+failed_each w e [] = w
+failed_each w e (q ∷ qs) = failed_each (answered w q.number (outcome.Fault e)) e qs
 
--- those that wait for a place are answered with the closed connection
-abbrev pub waiting_closed : Work → Work
-waiting_closed w = closed_each (record w { conn = record w.conn { waiting = [] } }) w.conn.waiting
+-- those that wait for a place are answered with it
+abbrev pub waiting_failed : Work → RedisError → Work
+waiting_failed w e = failed_each (record w { conn = record w.conn { waiting = [] } }) e w.conn.waiting
 
 -- the link ends: it is closed, its messages are answered, and then those that wait for a place
 abbrev pub ended : Work → List Settled → Work
-ended w out = waiting_closed (settled_each (acted (at_life w Ended) act.Close) out)
+ended w out = waiting_failed (settled_each (acted (at_life w (Ended error.Closed)) act.Close) out) error.Closed
 
 abbrev pub ended_by : Work → LinkState → LinkFault → Work
 ended_by w link f = ended w (faulted (record { link = link; out = [] }) f).out
 
--- the first answer to the connect
+-- the opening fails with this error, which is shown, and those that wait for a place are answered
+abbrev pub opening_failed : Work → RedisError → Work
+opening_failed w e = waiting_failed (acted (at_life w (Ended e)) (act.Created (Some e))) e
+
+-- the first answer to the connect: it succeeded
 abbrev pub connected_at : Work → Life → Work
-connected_at w Dialing = acted (with_link w new_link) act.Created
+connected_at w Dialing = acted (with_link w new_link) (act.Created None)
 connected_at w (Ready link) = w
-connected_at w Ended = w
+connected_at w (Ended e) = w
+
+-- the first answer to the connect: it failed
+abbrev pub refused_at : Work → FaultKind → Life → Work
+refused_at w f Dialing = opening_failed w (error.Io f)
+refused_at w f (Ready link) = w
+refused_at w f (Ended e) = w
+
+-- the time in which it was to be connected is over: where it isn't, it is closed
+abbrev pub overdue_at : Work → Life → Work
+overdue_at w Dialing = opening_failed (acted w act.Close) (error.Io kind.TimedOut)
+overdue_at w (Ready link) = w
+overdue_at w (Ended e) = w
 
 -- so many bytes were offered
 abbrev pub CanTake : Life → ℕ → Type 0
 CanTake (Ready link) count = count ≤ link.outbox.offered
 CanTake Dialing count = Unit {0}
-CanTake Ended count = Unit {0}
+CanTake (Ended e) count = Unit {0}
 
 abbrev pub taken_at : Work → ℕ → Life → Work
 taken_at w count (Ready link) = with_link w (wrote_of link count)
 taken_at w count Dialing = w
-taken_at w count Ended = w
+taken_at w count (Ended e) = w
 
 -- the link ends where it is up
 abbrev pub failed_at : Work → LinkFault → Life → Work
 failed_at w f (Ready link) = ended_by w link f
 failed_at w f Dialing = w
-failed_at w f Ended = w
+failed_at w f (Ended e) = w
 
 abbrev pub broken_at : Bool → Work → Work
 broken_at broken w = if broken then failed_at w fault.Parse w.conn.life else w
@@ -84,19 +99,21 @@ read_to w s = broken_at s.link.broken (settled_each (with_link w s.link) s.out)
 abbrev pub read_at : Work → List ℕ → Life → Work
 read_at w piece (Ready link) = read_to w (piece_dealt (record { link = link; out = [] }) piece)
 read_at w piece Dialing = w
-read_at w piece Ended = w
+read_at w piece (Ended e) = w
 
 -- everything is closed
 abbrev pub shut_at : Work → Life → Work
 shut_at w (Ready link) = ended w (closed_all (record { link = link; out = [] })).out
 shut_at w Dialing = ended w []
-shut_at w Ended = w
+shut_at w (Ended e) = w
 
 -- no more bytes are taken than were offered
 abbrev pub IsWithin : Life → News → Type 0
 IsWithin life (took count) = CanTake life count
 IsWithin life silence = Unit {0}
 IsWithin life connected = Unit {0}
+IsWithin life (refused f) = Unit {0}
+IsWithin life overdue = Unit {0}
 IsWithin life (came piece) = Unit {0}
 IsWithin life (failed f) = Unit {0}
 IsWithin life shut = Unit {0}
@@ -105,6 +122,8 @@ IsWithin life shut = Unit {0}
 abbrev pub applied : Work → News → Work
 applied w silence = w
 applied w connected = connected_at w w.conn.life
+applied w (refused f) = refused_at w f w.conn.life
+applied w overdue = overdue_at w w.conn.life
 applied w (took count) = taken_at w count w.conn.life
 applied w (came piece) = read_at w piece w.conn.life
 applied w (failed f) = failed_at w f w.conn.life
@@ -113,7 +132,7 @@ applied w shut = shut_at w w.conn.life
 abbrev pub cancelled_in : Life → ℕ → Life
 cancelled_in (Ready link) p = Ready (cancelled link p)
 cancelled_in Dialing p = Dialing
-cancelled_in Ended p = Ended
+cancelled_in (Ended e) p = Ended e
 
 -- the caller of request p has gone: its message leaves the queue, or is answered to nobody
 abbrev pub left : MultiplexedConnection → ℕ → MultiplexedConnection

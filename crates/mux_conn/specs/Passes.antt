@@ -14,7 +14,6 @@ use Rattle.mux_conn.specs.declared.request.Progress.TheVariants as progress
 use Rattle.mux_conn.specs.declared.request.Waiting.{Waiting}
 use Rattle.mux_conn.specs.Connection.{Work, acted, with_link, moves_none}
 use Rattle.mux_conn.specs.Requests.{name_at, is_waiting_at, progressed, answered}
-use Rattle.mux_conn.specs.Effects.{closed}
 
 -- each start is shown
 abbrev pub shown_each : Work → List Started → Work
@@ -28,7 +27,7 @@ starts_with w s = shown_each (with_link w s.link) s.out
 abbrev pub started_at : Work → Life → Work
 started_at w (Ready link) = starts_with w (started_all (record { link = link; out = [] }))
 started_at w Dialing = w
-started_at w Ended = w
+started_at w (Ended e) = w
 
 abbrev pub started : Work → Work
 started w = started_at w w.conn.life
@@ -40,7 +39,7 @@ message_of q = record { id = q.number; packed = q.packed; shape = q.shape; await
 abbrev pub placed_at : Work → Waiting → Life → Work
 placed_at w q (Ready link) = with_link (progressed w q.number progress.Placed) (enqueued link (message_of q))
 placed_at w q Dialing = w
-placed_at w q Ended = w
+placed_at w q (Ended e) = w
 
 -- a command whose reply nobody awaits is answered with Nil at its place
 abbrev pub told_at_place : Work → Waiting → Work
@@ -49,7 +48,7 @@ told_at_place w q = if q.awaited then w else answered w q.number (outcome.One Ni
 -- a request that still waits takes its place, and messages start; on a link that has ended it is answered
 abbrev pub moved_at : Work → Waiting → Life → Work
 moved_at w q (Ready link) = started (told_at_place (placed_at w q (Ready link)) q)
-moved_at w q Ended = answered w q.number closed
+moved_at w q (Ended e) = answered w q.number (outcome.Fault e)
 moved_at w q Dialing = w
 
 abbrev pub moved : Work → Waiting → Work

@@ -24,7 +24,7 @@ offers w link = if can_offer link.outbox then acted (with_link w (offered_of lin
 abbrev pub written_at : Work → Life → Work
 written_at w (Ready link) = offers w link
 written_at w Dialing = w
-written_at w Ended = w
+written_at w (Ended e) = w
 
 abbrev pub written : Work → Work
 written w = written_at w w.conn.life

@@ -1,11 +1,14 @@
 use containers::Bytes;
 use driver_model::{Outcome, WaitKind};
+use redis_error::RedisError;
 
 /// What a connection asks of the outside, or tells it. A request goes by the name that its maker gave it.
 #[derive(Drop)]
 pub enum LinkAct {
-    /// The link is ready.
-    Created,
+    /// The link is ready, or its opening failed with this error.
+    Created {
+        error: Option<RedisError>,
+    },
     /// The link ended, or is to be closed.
     Close,
     /// All unwritten bytes of the link are offered.

@@ -12,7 +12,6 @@ use crate::request::{Pending, Progress, Request, Waiting};
 use containers::Queue;
 use driver_model::Outcome;
 use link_core::{EnqueueError, LinkCore, StartError, Started};
-use redis_error::RedisError;
 use resp_value::Value;
 use std::alloc::{AllocError, Global};
 
@@ -59,7 +58,7 @@ impl MultiplexedConnection {
         let ready = match &mut self.life {
             Life::Ready { link } => start_ready(alloc, link, &mut starts),
             Life::Dialing => return Ok(()),
-            Life::Ended => return Ok(()),
+            Life::Ended { error: _ } => return Ok(()),
         };
         match ready {
             Ok(()) => {}
@@ -88,7 +87,7 @@ impl MultiplexedConnection {
         let link = match &mut self.life {
             Life::Ready { link } => link,
             Life::Dialing => return Ok(()),
-            Life::Ended => return Ok(()),
+            Life::Ended { error: _ } => return Ok(()),
         };
         let number = u64::from(request.number);
         let packed = request.packed.as_slice();
@@ -140,9 +139,9 @@ impl MultiplexedConnection {
         if !self.is_waiting(request.number) {
             return Ok(());
         }
-        if self.life.is_ended() {
-            let closed = Outcome::Fault(RedisError::Closed);
-            self.answer(u64::from(request.number), closed, out)?;
+        if let Life::Ended { error } = &self.life {
+            let error = error.clone(alloc)?;
+            self.answer(u64::from(request.number), Outcome::Fault(error), out)?;
             return Ok(());
         }
         self.place(alloc, request)?;

@@ -7,14 +7,15 @@ use crate::request::{Pending, Progress, Request};
 use containers::Queue;
 use driver_model::{LinkFault, LinkNews, Outcome};
 use link_core::{LinkCore, Settled};
-use redis_error::RedisError;
+use redis_error::{FaultKind, RedisError};
 use resp_read::ReadError;
 use std::alloc::{AllocError, Global};
 
 impl MultiplexedConnection {
     ghost use Rattle.driver_model.specs.News.{told};
     ghost use Rattle.mux_conn.specs.Connection.{work_with};
-    ghost use Rattle.mux_conn.specs.Effects.{settled_each, waiting_closed, ended, ended_by};
+    ghost use Rattle.mux_conn.specs.Effects.{settled_each, waiting_failed, ended, ended_by};
+    ghost use Rattle.mux_conn.specs.Effects.{opening_failed, refused_at, overdue_at};
     ghost use Rattle.mux_conn.specs.Effects.{connected_at, taken_at, read_at, failed_at, shut_at};
     ghost use Rattle.mux_conn.specs.Effects.{applied, left, CanTake, IsWithin};
 
@@ -34,18 +35,24 @@ impl MultiplexedConnection {
         Ok(())
     }
 
-    /// Each request that waits for its place is answered with the closed connection.
-    fn close_waiting(&mut self, alloc: Global, out: &mut Vec<LinkAct>) -> Result<(), AllocError>
+    /// Each request that waits for its place is answered with this error.
+    fn fail_waiting(
+        &mut self,
+        alloc: Global,
+        error: &RedisError,
+        out: &mut Vec<LinkAct>,
+    ) -> Result<(), AllocError>
         ensures work { OnOk result (
-            work_with self.new out.new.items ≡ waiting_closed (work_with self.old out.old.items)
+            work_with self.new out.new.items
+            ≡ waiting_failed (work_with self.old out.old.items) error.now
             ) }
         ensures count { length self.new.requests ≡ length self.old.requests }
         ensures failure { self.new.failure ≡ self.old.failure }
     {
         let mut rest = std::mem::replace(&mut self.waiting, Queue::new(alloc));
         while let Some(request) = rest.pop_front() {
-            let closed = Outcome::Fault(RedisError::Closed);
-            self.answer(u64::from(request.number), closed, out)?;
+            let error = error.clone(alloc)?;
+            self.answer(u64::from(request.number), Outcome::Fault(error), out)?;
         }
         Ok(())
     }
@@ -64,10 +71,71 @@ impl MultiplexedConnection {
         ensures count { length self.new.requests ≡ length self.old.requests }
         ensures failure { self.new.failure ≡ self.old.failure }
     {
-        self.life = Life::Ended;
+        self.life = Life::Ended {
+            error: RedisError::Closed,
+        };
         out.push(LinkAct::Close)?;
         self.settle(settled, out)?;
-        self.close_waiting(alloc, out)
+        self.fail_waiting(alloc, &RedisError::Closed, out)
+    }
+
+    /// The opening fails with this fault, which is shown, and what waits for a place is answered.
+    fn fail_opening(
+        &mut self,
+        alloc: Global,
+        fault: FaultKind,
+        out: &mut Vec<LinkAct>,
+    ) -> Result<(), AllocError>
+        ensures work { OnOk result (
+            work_with self.new out.new.items
+            ≡ opening_failed (work_with self.old out.old.items) (RedisError.Io fault)
+            ) }
+        ensures count { length self.new.requests ≡ length self.old.requests }
+        ensures failure { self.new.failure ≡ self.old.failure }
+    {
+        self.life = Life::Ended {
+            error: RedisError::Io { fault },
+        };
+        out.push(LinkAct::Created {
+            error: Some(RedisError::Io { fault }),
+        })?;
+        self.fail_waiting(alloc, &RedisError::Io { fault }, out)
+    }
+
+    /// The connect failed.
+    fn refuse_connect(
+        &mut self,
+        alloc: Global,
+        fault: FaultKind,
+        out: &mut Vec<LinkAct>,
+    ) -> Result<(), AllocError>
+        ensures work { OnOk result (
+            work_with self.new out.new.items
+            ≡ refused_at (work_with self.old out.old.items) fault self.old.life
+            ) }
+        ensures count { length self.new.requests ≡ length self.old.requests }
+        ensures failure { self.new.failure ≡ self.old.failure }
+    {
+        if self.life.is_dialing() {
+            self.fail_opening(alloc, fault, out)?;
+        }
+        Ok(())
+    }
+
+    /// The time for the connect is over.
+    fn run_late(&mut self, alloc: Global, out: &mut Vec<LinkAct>) -> Result<(), AllocError>
+        ensures work { OnOk result (
+            work_with self.new out.new.items
+            ≡ overdue_at (work_with self.old out.old.items) self.old.life
+            ) }
+        ensures count { length self.new.requests ≡ length self.old.requests }
+        ensures failure { self.new.failure ≡ self.old.failure }
+    {
+        if self.life.is_dialing() {
+            out.push(LinkAct::Close)?;
+            self.fail_opening(alloc, FaultKind::TimedOut, out)?;
+        }
+        Ok(())
     }
 
     /// The connect is answered.
@@ -82,7 +150,7 @@ impl MultiplexedConnection {
         if self.life.is_dialing() {
             let link = LinkCore::new(alloc, u32::MAX, u64::MAX);
             self.life = Life::Ready { link };
-            out.push(LinkAct::Created)?;
+            out.push(LinkAct::Created { error: None })?;
         }
         Ok(())
     }
@@ -95,7 +163,7 @@ impl MultiplexedConnection {
         match &mut self.life {
             Life::Ready { link } => link.wrote(count),
             Life::Dialing => {}
-            Life::Ended => {}
+            Life::Ended { error: _ } => {}
         }
     }
 
@@ -117,7 +185,7 @@ impl MultiplexedConnection {
         let read = match &mut self.life {
             Life::Ready { link } => link.bytes_unheard(alloc, piece, &mut settled),
             Life::Dialing => return Ok(()),
-            Life::Ended => return Ok(()),
+            Life::Ended { error: _ } => return Ok(()),
         };
         let broken = match read {
             Ok(()) => false,
@@ -149,7 +217,7 @@ impl MultiplexedConnection {
         match &mut self.life {
             Life::Ready { link } => link.fault(alloc, fault, &mut settled)?,
             Life::Dialing => return Ok(()),
-            Life::Ended => return Ok(()),
+            Life::Ended { error: _ } => return Ok(()),
         }
         self.end(alloc, settled, out)
     }
@@ -167,7 +235,7 @@ impl MultiplexedConnection {
         match &mut self.life {
             Life::Ready { link } => link.close(alloc, &mut settled)?,
             Life::Dialing => {}
-            Life::Ended => return Ok(()),
+            Life::Ended { error: _ } => return Ok(()),
         }
         self.end(alloc, settled, out)
     }
@@ -190,6 +258,8 @@ impl MultiplexedConnection {
         match news {
             LinkNews::Silence => Ok(()),
             LinkNews::Connected => self.connect(alloc, out),
+            LinkNews::Refused { fault } => self.refuse_connect(alloc, fault, out),
+            LinkNews::Overdue => self.run_late(alloc, out),
             LinkNews::Took { count } => {
                 self.take(count);
                 Ok(())
@@ -217,7 +287,7 @@ impl MultiplexedConnection {
         match &mut self.life {
             Life::Ready { link } => link.cancel(number),
             Life::Dialing => {}
-            Life::Ended => {}
+            Life::Ended { error: _ } => {}
         }
     }
 }

@@ -61,7 +61,7 @@ impl MultiplexedConnection {
         match &self.life {
             Life::Dialing => 0,
             Life::Ready { link } => link.started(),
-            Life::Ended => 0,
+            Life::Ended { error: _ } => 0,
         }
     }
 

@@ -23,7 +23,7 @@ impl MultiplexedConnection {
         let offers = match &mut self.life {
             Life::Ready { link } => link.offer(&mut bytes)?,
             Life::Dialing => return Ok(()),
-            Life::Ended => return Ok(()),
+            Life::Ended { error: _ } => return Ok(()),
         };
         if offers {
             out.push(LinkAct::Write {

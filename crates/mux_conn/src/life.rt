@@ -1,4 +1,5 @@
 use link_core::LinkCore;
+use redis_error::RedisError;
 
 /// How far a link has come.
 #[derive(Drop)]
@@ -7,12 +8,14 @@ pub enum Life {
     Dialing,
     /// It is up, and takes messages.
     Ready { link: LinkCore },
-    Ended,
+    /// It takes no more messages: a request gets this error. It is that of its opening where this failed, and else the closed
+    /// connection.
+    Ended { error: RedisError },
 }
 
 impl Life {
     ghost use Rattle.std.specs.Prelude.{◌≡◌};
-    ghost use Rattle.mux_conn.specs.Connection.{awaits_connect, has_ended, moves_none};
+    ghost use Rattle.mux_conn.specs.Connection.{awaits_connect, moves_none};
 
     /// Whether the connect isn't answered.
     pub fn is_dialing(&self) -> bool
@@ -21,18 +24,7 @@ impl Life {
         match self {
             Life::Dialing => true,
             Life::Ready { link: _ } => false,
-            Life::Ended => false,
-        }
-    }
-
-    /// Whether the link has ended.
-    pub fn is_ended(&self) -> bool
-        ensures { result ≡ has_ended self.now }
-    {
-        match self {
-            Life::Dialing => false,
-            Life::Ready { link: _ } => false,
-            Life::Ended => true,
+            Life::Ended { error: _ } => false,
         }
     }
 
@@ -43,7 +35,7 @@ impl Life {
         match self {
             Life::Dialing => true,
             Life::Ready { link } => link.is_full(),
-            Life::Ended => false,
+            Life::Ended { error: _ } => false,
         }
     }
 }

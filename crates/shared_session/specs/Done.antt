@@ -8,7 +8,7 @@ use Rattle.shared_session.specs.declared.showing.Done.{Done}
 -- the outcome that an act tells, if it tells one
 abbrev pub done_by : LinkAct → List Done
 done_by (act.Outcome n o) = record { submission = n; outcome = o } ∷ []
-done_by act.Created = []
+done_by (act.Created e) = []
 done_by act.Close = []
 done_by (act.Write bytes) = []
 done_by (act.Wait n kind) = []

@@ -3,11 +3,12 @@ use Rattle.std.specs.Prelude.{◌≡◌, ◌^◌, ◌<◌, length, false, None}
 use Rattle.shared_session.specs.declared.session.Failure.TheVariants.{Sound}
 use Rattle.shared_session.specs.declared.session.Session.TheInside.{Inside}
 use Rattle.shared_session.specs.Turn.{has_run_out, IsFewer}
-use Rattle.shared_session.specs.Replay.{state_after, trace_of, outcomes_in}
+use Rattle.shared_session.specs.Replay.{IsSound, state_after, trace_of, outcomes_in}
 
--- a session that hasn't failed is where its history leads, no number has run out, and its connection hasn't failed; its
+-- its configuration is sound; a session that hasn't failed is where its history leads, no number has run out, and its connection hasn't failed; its
 -- outcomes are those that the trace of its history tells, also when it has failed
 pub record IsReplay (s : Inside) : Type 0 where
+  pub configured : IsSound s.config
   pub core : s.failure ≡ Sound → s.core ≡ state_after s.config s.word s.events
   pub outcomes : s.outcomes ≡ outcomes_in (trace_of s.config s.word s.events)
   pub few : length s.events < 2 ^ 32

@@ -1,14 +1,18 @@
 -- The state and the trace that a history leads to: a fold of one turn.
 use Rattle.std.specs.Prelude.{◌≡◌, ℕ, ◌+◌, Bool, false, List, [], ◌∷◌, ◌++◌, Option, Some, None, slice_get, slice_set}
+use Rattle.connection_info.specs.declared.address.ConnectionInfo.{ConnectionInfo}
 use Rattle.driver_model.specs.declared.action.Action.{Action}
 use Rattle.driver_model.specs.declared.action.Action.TheVariants as action
 use Rattle.driver_model.specs.declared.action.Cause.{Cause}
 use Rattle.driver_model.specs.declared.action.Cause.TheVariants as cause
+use Rattle.driver_model.specs.declared.action.Purpose.{Purpose}
+use Rattle.driver_model.specs.declared.action.Purpose.TheVariants as purpose
 use Rattle.driver_model.specs.declared.config.Config.{Config}
 use Rattle.driver_model.specs.declared.event.Event.{Event}
 use Rattle.driver_model.specs.declared.event.EventKind.{EventKind}
 use Rattle.driver_model.specs.declared.event.EventKind.TheVariants as event
 use Rattle.driver_model.specs.declared.outcome.Outcome.{Outcome}
+use Rattle.driver_model.specs.Config.{address, connect_timeout, first_fault}
 use Rattle.mux_conn.specs.Turn.{dialing}
 use Rattle.shared_session.specs.declared.core_state.Core.{Core}
 use Rattle.shared_session.specs.Turn.{next_turn, actions_of, is_bad, spends}
@@ -17,17 +21,43 @@ use Rattle.shared_session.specs.Turn.{next_turn, actions_of, is_bad, spends}
 abbrev pub first_link : ℕ
 first_link = 0
 
--- after turn 0: the first link was asked for
-abbrev pub opening_core : Config → ℕ → Core
-opening_core config word = record { turns = 1; links = first_link + 1; shut = false; table = []; single = record { link = first_link; connection = dialing } }
+-- what the timer of the opening is asked for, where the connect is bounded
+abbrev pub connect_timers : Option ℕ → List Purpose
+connect_timers None = []
+connect_timers (Some ms) = purpose.Connect first_link ∷ []
 
--- what turn 0 shows
+-- after turn 0: the first link was asked for, and its timer
+abbrev pub opening_core : Config → ℕ → Core
+opening_core config word = record {
+  turns = 1;
+  links = first_link + 1;
+  shut = false;
+  timers = connect_timers (connect_timeout config);
+  table = [];
+  single = record { link = first_link; connection = dialing };
+}
+
+-- the timer of the opening is asked for
+abbrev pub timer_asked : Option ℕ → List Action
+timer_asked None = []
+timer_asked (Some ms) = action.Timer 0 ms (purpose.Connect first_link) ∷ []
+
+-- the connect to an address, and its timer
+abbrev pub connect_asked : Option ConnectionInfo → Option ℕ → List Action
+connect_asked None timeout = []
+connect_asked (Some info) timeout = action.Connect first_link info.host info.port ∷ timer_asked timeout
+
+-- what turn 0 shows, of a configuration whose URL is an address
 abbrev pub opening_actions : Config → ℕ → List Action
-opening_actions config word = action.Turn 0 (cause.Opening config word) ∷ action.Connect first_link config.host config.port ∷ []
+opening_actions config word = action.Turn 0 (cause.Opening config word) ∷ connect_asked (address config) (connect_timeout config)
 
 abbrev pub run_on : Core → List Event → Core
 run_on c [] = c
 run_on c (e ∷ es) = run_on (next_turn c e.kind).core es
+
+-- nothing of the configuration is refused
+abbrev pub IsSound : Config → Type 0
+IsSound config = first_fault config ≡ None
 
 -- where a history leads
 unfoldable pub state_after : Config → ℕ → List Event → Core
@@ -46,6 +76,8 @@ abbrev pub with_room : List (Option Outcome) → EventKind → List (Option Outc
 with_room os (event.Submit what) = os ++ None ∷ []
 with_room os (event.Cancel n) = os
 with_room os (event.Connected l) = os
+with_room os (event.Refused l f) = os
+with_room os (event.Fired t) = os
 with_room os (event.Wrote l count) = os
 with_room os (event.Bytes l piece) = os
 with_room os (event.Ended l) = os
@@ -59,11 +91,12 @@ told os (action.Turn k (cause.Opening config word)) = os
 told os (action.Turn k (cause.Event e)) = with_room os e.kind
 told os (action.Outcome n o) = slice_set os n (Some o)
 told os (action.Connect l host port) = os
+told os (action.Timer t ms what) = os
 told os (action.Close l) = os
 told os (action.Write l bytes) = os
 told os (action.Wait who kind) = os
 told os (action.Start l message who need len) = os
-told os action.Created = os
+told os (action.Created e) = os
 
 abbrev pub told_each : List (Option Outcome) → List Action → List (Option Outcome)
 told_each os [] = os

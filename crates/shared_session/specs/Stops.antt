@@ -4,7 +4,8 @@ use Rattle.driver_model.specs.declared.action.Action.{Action}
 use Rattle.driver_model.specs.declared.config.Config.{Config}
 use Rattle.driver_model.specs.declared.event.Event.{Event}
 use Rattle.shared_session.specs.declared.errors.ReplayError.{ReplayError}
-use Rattle.shared_session.specs.declared.errors.ReplayError.TheVariants.{BadEvent, Spent, NoMemory}
+use Rattle.shared_session.specs.declared.errors.ReplayError.TheVariants as error
+use Rattle.driver_model.specs.Config.{first_fault}
 use Rattle.shared_session.specs.Replay.{trace_of, AreGood, AreUnspent, is_bad_after, is_spent_after}
 use Rattle.shared_session.specs.History.{History}
 use Rattle.shared_session.specs.declared.session.Failure.TheVariants.{Sound}
@@ -36,8 +37,10 @@ pub record IsSpentBy (s : History) (e : Event) : Type 0 where
   pub good : is_bad_after s.config s.word s.events e ≡ false
   pub spent : is_spent_after s.config s.word s.events e ≡ true
 
--- a bad event, or a spent step: the turns before it were shown. Want of memory: the finished turns were shown
+-- a bad event, or a spent step: the turns before it were shown. A configuration that is refused: nothing was shown. Want of
+-- memory: the finished turns were shown
 abbrev pub Stops : ReplayError → Config → ℕ → List Event → List Action → List Action → Type 0
-Stops (BadEvent n) config word events before after = Shown config word events before after n × IsBadAt config word events n
-Stops (Spent n) config word events before after = Shown config word events before after n × IsSpentAt config word events n
-Stops NoMemory config word events before after = (after ≡ before) ⊎ ((n : ℕ) × Shown config word events before after n)
+Stops (error.BadEvent n) config word events before after = Shown config word events before after n × IsBadAt config word events n
+Stops (error.Spent n) config word events before after = Shown config word events before after n × IsSpentAt config word events n
+Stops (error.Config name) config word events before after = (after ≡ before) × (first_fault config ≡ Some name)
+Stops error.NoMemory config word events before after = (after ≡ before) ⊎ ((n : ℕ) × Shown config word events before after n)

@@ -46,6 +46,8 @@ is_shutdown event.Shutdown = true
 is_shutdown (event.Submit what) = false
 is_shutdown (event.Cancel n) = false
 is_shutdown (event.Connected l) = false
+is_shutdown (event.Refused l f) = false
+is_shutdown (event.Fired t) = false
 is_shutdown (event.Wrote l count) = false
 is_shutdown (event.Bytes l piece) = false
 is_shutdown (event.Ended l) = false
@@ -57,7 +59,7 @@ shut_by c kind = record c { shut = c.shut || is_shutdown kind }
 
 -- the connection hears its link's news
 abbrev pub heard : Turning → EventKind → Turning
-heard t kind = with_work (record t { core = shut_by t.core kind }) (applied (work_of t) (news_of t.core.single.link kind))
+heard t kind = with_work (record t { core = shut_by t.core kind }) (applied (work_of t) (news_of t.core.timers t.core.single.link kind))
 
 -- the next submission has no request: it is answered at once
 abbrev pub refused_with : Turning → RedisError → Turning
@@ -95,6 +97,8 @@ abbrev pub requested : Turning → EventKind → Turning
 requested t (event.Submit what) = submitted t what
 requested t (event.Cancel n) = left_by t (slice_get t.core.table n)
 requested t (event.Connected l) = t
+requested t (event.Refused l f) = t
+requested t (event.Fired n) = t
 requested t (event.Wrote l count) = t
 requested t (event.Bytes l piece) = t
 requested t (event.Ended l) = t
@@ -124,7 +128,7 @@ next_turn c kind = whole_effect (counted c) kind
 
 -- what an act of the connection of link l shows
 abbrev pub shown : ℕ → LinkAct → Action
-shown l act.Created = action.Created
+shown l (act.Created e) = action.Created e
 shown l act.Close = action.Close l
 shown l (act.Write bytes) = action.Write l bytes
 shown l (act.Wait n kind) = action.Wait (owner.Try n 0) kind
@@ -152,18 +156,20 @@ IsFewer c = length c.single.connection.requests ≤ length c.table
 abbrev pub exceeds_offer : Life → ℕ → Bool
 exceeds_offer Dialing count = nat_lt 0 count
 exceeds_offer (Ready link) count = nat_lt link.outbox.offered count
-exceeds_offer Ended count = false
+exceeds_offer (Ended e) count = false
 
 -- no link of that number was asked for
 abbrev pub is_no_link : Core → ℕ → Bool
 is_no_link c l = nat_le c.links l
 
--- the event hands in a submission without a form, or names a link or a submission that was never given out, or more written
--- bytes than were offered
+-- the event hands in a submission without a form, or names a link, a timer or a submission that was never given out, or
+-- more written bytes than were offered
 unfoldable pub is_bad : Core → EventKind → Bool
 is_bad c (event.Submit what) = has_no_form what
 is_bad c (event.Cancel n) = nat_le (length c.table) n
 is_bad c (event.Connected l) = is_no_link c l
+is_bad c (event.Refused l f) = is_no_link c l
+is_bad c (event.Fired t) = nat_le (length c.timers) t
 is_bad c (event.Wrote l count) = is_no_link c l || ((l == c.single.link) && exceeds_offer c.single.connection.life count)
 is_bad c (event.Bytes l piece) = is_no_link c l
 is_bad c (event.Ended l) = is_no_link c l
@@ -171,9 +177,9 @@ is_bad c (event.ReadFault l kind) = is_no_link c l
 is_bad c (event.WriteFault l kind) = is_no_link c l
 is_bad c event.Shutdown = false
 
--- the number 2^32 - 1 was given to a message or a submission
+-- the number 2^32 - 1 was given to a message, a submission or a timer
 unfoldable pub has_run_out : Core → Bool
-has_run_out c = is_spent_in c.single.connection.life || nat_le (2 ^ 32) (length c.table)
+has_run_out c = is_spent_in c.single.connection.life || (nat_le (2 ^ 32) (length c.table) || nat_le (2 ^ 32) (length c.timers))
 
 -- the step of an event is spent: the history holds 2^32 - 1 events, or the turn would give out a number too many
 unfoldable pub spends : Core → Event → Bool

@@ -2,7 +2,7 @@ ghost use Rattle.std.specs.Prelude.{◌≡◌, ◌<◌, ◌≤◌, ◌+◌, ◌+
 ghost use Rattle.std.specs.Prelude.{true, false, None, Some, OnOk, OnErr, IfErr, IsErrOf};
 
 use containers::{Bytes, Seq};
-use driver_model::{EventKind, Outcome, Submission};
+use driver_model::{EventKind, Outcome, Purpose, Submission};
 use mux_conn::{ConnectionError, Life, LinkAct, MultiplexedConnection, Pending};
 use redis_error::RedisError;
 use std::alloc::{AllocError, Global};
@@ -27,11 +27,13 @@ impl Drop for Single {
 }
 
 /// The state of a session: how many turns it has made, the opening among them, how many links were asked for, whether
-/// everything was shut down, the request of each submission, where it has one, and its connection.
+/// everything was shut down, what each timer was asked for, the request of each submission, where it has one, and its
+/// connection.
 pub struct Core {
     pub turns: u64,
     pub links: u32,
     pub shut: bool,
+    pub timers: Seq<Purpose>,
     pub table: Seq<Option<Pending>>,
     pub single: Single,
 }
@@ -42,9 +44,11 @@ impl Drop for Core {
             turns: _,
             links: _,
             shut: _,
+            timers,
             table,
             single,
         } = self;
+        drop(timers);
         drop(table);
         drop(single);
     }
@@ -67,7 +71,7 @@ impl Core {
         acts: &mut Vec<LinkAct>,
     ) -> Result<(), ConnectionError>
         requires { IsWithin self.old.single.connection.life
-            (news_of self.old.single.link event.now) }
+            (news_of self.old.timers self.old.single.link event.now) }
         ensures turning { OnOk result (
             turning_with self.new acts.new.items
             ≡ heard (turning_with self.old acts.old.items) event.now
@@ -84,7 +88,7 @@ impl Core {
             _ => false,
         };
         self.shut = self.shut || shutdown;
-        let news = event.news(self.single.link);
+        let news = event.news(self.timers.as_slice(), self.single.link);
         self.single.connection.apply(alloc, news, acts)
     }
 
@@ -214,6 +218,8 @@ impl Core {
             EventKind::Submit { submission } => submission.is_formless(),
             EventKind::Cancel { submission } => *submission as usize >= self.table.len(),
             EventKind::Connected { link } => *link >= self.links,
+            EventKind::Refused { link, fault: _ } => *link >= self.links,
+            EventKind::Fired { timer } => *timer as usize >= self.timers.len(),
             EventKind::Wrote { link, count } => {
                 *link >= self.links || (*link == self.single.link && self.takes_too_much(*count))
             }
@@ -232,17 +238,19 @@ impl Core {
         match &self.single.connection.life {
             Life::Dialing => count > 0,
             Life::Ready { link } => count > link.offered_len(),
-            Life::Ended => false,
+            Life::Ended { error: _ } => false,
         }
     }
 
-    /// Whether the number 2^32 - 1 was given to a message or a submission.
+    /// Whether the number 2^32 - 1 was given to a message, a submission or a timer.
     #[tactic(auto, unfolding(crate::specs::Turn::has_run_out))]
     fn is_spent(&self) -> bool
         ensures { result ≡ has_run_out self.now }
     {
         let started = u64::from(self.single.connection.started());
-        started >= TOO_MANY || self.table.len() as u64 >= TOO_MANY
+        started >= TOO_MANY
+            || self.table.len() as u64 >= TOO_MANY
+            || self.timers.len() as u64 >= TOO_MANY
     }
 
     /// The event's own effect, and then requests are moved, and bytes and waits are shown.

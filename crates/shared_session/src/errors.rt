@@ -1,10 +1,11 @@
-use link_core::StartError;
-use resp_read::ReadError;
+use redis_error::ConfigName;
 use std::alloc::AllocError;
 
 /// Why a session was not made.
 #[derive(Drop)]
 pub enum MakeError {
+    /// The configuration is refused, for what it says of this name.
+    Config { name: ConfigName },
     NoMemory,
 }
 
@@ -23,6 +24,8 @@ pub enum StepError {
 /// Why a replay ended before its last event. The finished turns are kept.
 #[derive(Drop)]
 pub enum ReplayError {
+    /// The configuration is refused, for what it says of this name. Nothing was shown.
+    Config { name: ConfigName },
     /// The event at this index is the first bad one.
     BadEvent { index: u32 },
     /// A number has run out, after so many events.

@@ -1,5 +1,5 @@
 ghost use Rattle.std.specs.Prelude.{◌≡◌, ◌++◌, OnOk, IfErr};
-ghost use Rattle.shared_session.specs.Replay.{trace_of, AreGood, AreUnspent};
+ghost use Rattle.shared_session.specs.Replay.{trace_of, AreGood, AreUnspent, IsSound};
 ghost use Rattle.shared_session.specs.Stops.{Stops};
 
 use crate::errors::{MakeError, ReplayError, StepError};
@@ -19,6 +19,7 @@ impl Session {
         ensures actions { OnOk result (
             actions.new.items ≡ actions.old.items ++ trace_of config word events.now
             ) }
+        ensures sound { OnOk result (IsSound config) }
         ensures good { OnOk result (AreGood config word events.now) }
         ensures unspent { OnOk result (AreUnspent config word events.now) }
         ensures stops { IfErr result (λ e.
@@ -27,6 +28,7 @@ impl Session {
     {
         let mut session = match Session::new(alloc, config, word, actions) {
             Ok(session) => session,
+            Err(MakeError::Config { name }) => return Err(ReplayError::Config { name }),
             Err(MakeError::NoMemory) => return Err(ReplayError::NoMemory),
         };
         for event in events {

@@ -1,15 +1,19 @@
 ghost use Rattle.std.specs.Prelude.{◌≡◌, ◌⊎◌, ℕ, ◌<◌, ◌+◌, ◌^◌, ◌↔◌, [], ◌∷◌, ◌++◌, length, true};
-ghost use Rattle.std.specs.Prelude.{false, OnOk, OnErr, IfOk, IsErrOf, option_copied};
+ghost use Rattle.std.specs.Prelude.{false, Some, OnOk, OnErr, IfOk, IsErrOf, option_copied};
 ghost use Rattle.shared_session.specs.Turn.{shown_each};
 ghost use Rattle.shared_session.specs.Done.{done_each, put_each};
+ghost use Rattle.driver_model.specs.Config.{address, first_fault};
 ghost use Rattle.shared_session.specs.Replay.{first_link, opening_core, opening_actions, with_room};
+ghost use Rattle.shared_session.specs.Replay.{connect_timers, timer_asked, IsSound};
 
 use crate::core_state::{Core, Single};
 use crate::errors::{MakeError, StepError};
 use crate::showing::{Done, show_each};
+use connection_info::{ConnectionInfo, OpenError};
 use containers::{Queue, Seq};
-use driver_model::{Action, Cause, Config, Event, EventKind, Outcome};
+use driver_model::{Action, Cause, Config, Event, EventKind, Outcome, Purpose};
 use mux_conn::{ConnectionError, LinkAct, MultiplexedConnection};
+use redis_error::ConfigName;
 use std::alloc::{AllocError, Global};
 use std::marker::Model;
 
@@ -70,19 +74,50 @@ impl Drop for Session {
     }
 }
 
-/// The state after the opening.
-fn opened(alloc: Global) -> Core
-    ensures { (config : Config) (word : ℕ) → result ≡ opening_core config word }
+/// What the timer of the opening is asked for, where the connect is bounded.
+fn opening_timers(alloc: Global, timeout: Option<u64>) -> Result<Seq<Purpose>, AllocError>
+    ensures { IfOk result (λ timers. timers ≡ connect_timers timeout) }
 {
-    Core {
+    let mut timers = Seq::new(alloc);
+    match timeout {
+        Some(_) => timers.push(Purpose::Connect { link: FIRST_LINK })?,
+        None => {}
+    }
+    Ok(timers)
+}
+
+/// The state after the opening.
+fn opened(alloc: Global, config: &Config) -> Result<Core, AllocError>
+    ensures { IfOk result (λ core. (word : ℕ) → core ≡ opening_core config.now word) }
+{
+    let timers = opening_timers(alloc, config.connect_timeout())?;
+    Ok(Core {
         turns: 1,
         links: FIRST_LINK + 1,
         shut: false,
+        timers,
         table: Seq::new(alloc),
         single: Single {
             link: FIRST_LINK,
             connection: MultiplexedConnection::new(alloc),
         },
+    })
+}
+
+/// The timer of the opening is asked for, where the connect is bounded.
+fn show_timer(timeout: Option<u64>, out: &mut Vec<Action>) -> Result<(), AllocError>
+    ensures { OnOk result (out.new.items ≡ out.old.items ++ timer_asked timeout) }
+{
+    match timeout {
+        Some(ms) => {
+            out.push(Action::Timer {
+                timer: 0,
+                ms,
+                purpose: Purpose::Connect { link: FIRST_LINK },
+            })?;
+            Ok(())
+        }
+        None => Ok(()),
     }
 }
 
@@ -90,16 +125,17 @@ fn opened(alloc: Global) -> Core
 fn show_opening(
     alloc: Global,
     config: &Config,
+    info: ConnectionInfo,
     word: u64,
     out: &mut Vec<Action>,
 ) -> Result<(), AllocError>
+    requires { address config.now ≡ Some info }
     ensures actions { OnOk result (
         out.new.items ≡ out.old.items ++ opening_actions config.now word
         ) }
     ensures err { OnErr result (out.new.items ≡ out.old.items) }
 {
     let shown = config.clone(alloc)?;
-    let host = config.host.clone(alloc)?;
     let mut actions = Vec::new(alloc);
     actions.push(Action::Turn {
         number: 0,
@@ -110,9 +146,10 @@ fn show_opening(
     })?;
     actions.push(Action::Connect {
         link: FIRST_LINK,
-        host,
-        port: config.port,
+        host: info.host,
+        port: info.port,
     })?;
+    show_timer(config.connect_timeout(), &mut actions)?;
     out.append(&mut actions)
 }
 
@@ -122,7 +159,8 @@ impl Session {
     ghost use Rattle.shared_session.specs.Replay.{is_bad_after, is_spent_after};
     ghost use Rattle.shared_session.specs.Stops.{IsSpentBy};
 
-    /// A session that has made its opening, whose actions `out` gains. After `NoMemory` `out` is as it was.
+    /// A session that has made its opening, whose actions `out` gains. A configuration of which something is refused makes
+    /// none: `Config` tells what is refused first. After an error `out` is as it was.
     pub fn new(
         alloc: Global,
         config: Config,
@@ -135,11 +173,19 @@ impl Session {
         ensures actions { OnOk result (
             out.new.items ≡ out.old.items ++ opening_actions config word
             ) }
+        ensures sound { OnOk result (IsSound config) }
+        ensures refused { (name : ConfigName) → IsErrOf result (MakeError.Config name)
+            → first_fault config ≡ Some name }
         ensures err { OnErr result (out.new.items ≡ out.old.items) }
     {
+        let info = match config.info(alloc) {
+            Ok(info) => info,
+            Err(OpenError::Config(name)) => return Err(MakeError::Config { name }),
+            Err(_) => return Err(MakeError::NoMemory),
+        };
         let events = Seq::new(alloc);
-        let core = opened(alloc);
-        show_opening(alloc, &config, word, out)?;
+        let core = opened(alloc, &config)?;
+        show_opening(alloc, &config, info, word, out)?;
         Ok(Session {
             config,
             word,

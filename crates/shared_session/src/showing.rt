@@ -29,7 +29,7 @@ fn action_of(link: u32, act: LinkAct) -> Action
     ensures { result ≡ shown link act }
 {
     match act {
-        LinkAct::Created => Action::Created,
+        LinkAct::Created { error } => Action::Created { error },
         LinkAct::Close => Action::Close { link },
         LinkAct::Write { bytes } => Action::Write { link, bytes },
         LinkAct::Wait { request, wait } => Action::Wait {

@@ -1,0 +1,45 @@
+-- What the words of a configuration mean.
+use Rattle.std.specs.Prelude.{◌≡◌, ⊤, ℕ, ℤ, pos, zero, Bool, true, false, ◌||◌, not, Option, Some, None, is_some, unwrap_or, if◌then◌else◌}
+use Rattle.std.specs.Str.{is_utf8}
+use Rattle.redis_error.specs.declared.config_name.ConfigName.{ConfigName}
+use Rattle.redis_error.specs.declared.config_name.ConfigName.TheVariants as name
+use Rattle.connection_info.specs.declared.address.ConnectionInfo.{ConnectionInfo}
+use Rattle.connection_info.specs.declared.address.RedisConnectionInfo.{RedisConnectionInfo}
+use Rattle.connection_info.specs.declared.open_error.OpenError.{OpenError}
+use Rattle.connection_info.specs.declared.open_error.OpenError.TheVariants as error
+use Rattle.connection_info.specs.Address.{address_of}
+use Rattle.connection_info.specs.Config.{default_config}
+use Rattle.connection_info.specs.Protocol.{is_resp3}
+use Rattle.driver_model.specs.declared.config.Config.{Config}
+
+-- the address of its server, if its URL is one
+abbrev pub address : Config → Option ConnectionInfo
+address c = if is_utf8 c.url then address_of c.url else None
+
+-- how many milliseconds the connect may take, if that is bounded: where nothing is said, as the Rust crate has it
+abbrev pub connect_timeout : Config → Option ℕ
+connect_timeout c = unwrap_or c.connect default_config.connection_timeout
+
+abbrev pub is_zero : ℤ → Bool
+is_zero (pos zero) = true
+is_zero _ = false
+
+-- something is to be said to the server before the first request: a password, another protocol than RESP2, or another
+-- database than 0
+abbrev pub has_setup : RedisConnectionInfo → Bool
+has_setup info = is_some info.password || is_resp3 info.protocol || not (is_zero info.db)
+
+abbrev pub fault_in : Option ConnectionInfo → Option ConfigName
+fault_in None = Some name.Url
+fault_in (Some info) = if has_setup info.redis then Some name.Kind else None
+
+-- what of a configuration is refused first, if anything is: a URL that isn't an address, and an address that asks for a
+-- setup, which a session doesn't make yet
+abbrev pub first_fault : Config → Option ConfigName
+first_fault c = fault_in (address c)
+
+-- either memory was wanted, or this is refused first
+abbrev pub RefusesConfig : Config → OpenError → Type 0
+RefusesConfig c (error.Config fault) = first_fault c ≡ Some fault
+RefusesConfig c error.Client = ⊥
+RefusesConfig c error.NoMemory = ⊤
