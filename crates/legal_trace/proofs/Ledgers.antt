@@ -117,9 +117,9 @@ started_keeps k l (begins s) h = let e : length (l.starts ++ s ∷ []) ≡ lengt
 started_keeps k l (offers bytes) h = h
 started_keeps k l (ends turn) h = h
 
--- a link that was not asked for
+-- a link that was not asked for is not up, and has not ended
 abbrev pub IsUnasked : Ledger → Type 0
-IsUnasked l = (l.asked ≡ false) × (l.up ≡ false)
+IsUnasked l = (l.asked ≡ false) × (l.up ≡ false) × (l.end ≡ None)
 
 -- what is done only where a link is up isn't done
 unasked_unless_up : (l m : Ledger) → IsUnasked l → IsUnasked (if l.up then m else l)
