@@ -76,7 +76,7 @@ connects_new : (b : Book) (l m : ℕ) → m ≡ b.links → Sound b → (m == l)
 connects_new b l m next h t = let e : m ≡ l = eq_from m l t in (h.links.unasked l (omega arith)).0
 
 -- what an action that may stand tells of a link may stand there
-lines_may : (b : Book) (l : ℕ) (a : Action) → MayStand b a → Sound b → AllNoted (b.link l) (lines_of b l a)
+pub lines_may : (b : Book) (l : ℕ) (a : Action) → MayStand b a → Sound b → AllNoted (b.link l) (lines_of b l a)
 lines_may b l (action.Turn k (cause.Opening config word)) may h = tt
 lines_may b l (action.Turn k (cause.Event e)) may h = (within b l e.kind may.is_for.2 h, tt)
 lines_may b l (action.Connect m host port) may h = may_mine (m == l) (b.link l) asks (connects_new b l m may.next h)

@@ -8,12 +8,13 @@ use Rattle.driver_model.specs.declared.action.Cause.TheVariants as cause
 use Rattle.driver_model.specs.declared.action.Owner.TheVariants as owner
 use Rattle.driver_model.specs.declared.outcome.Outcome.{Outcome}
 use Rattle.driver_model.specs.Config.{connect_timeout}
-use Rattle.legal_trace.specs.Ledger.{End, Ending, is_over, IsOffered, ending, failure_in}
+use Rattle.legal_trace.specs.Ledger.{End, Ending, is_over, IsOffered, ending}
 use Rattle.legal_trace.specs.Story.{Try, last_of}
 use Rattle.legal_trace.specs.Book.{Book}
 use Rattle.legal_trace.specs.Legal.{MayStand, MayAnswer, MayTell, MayWrite, MayShowCreation, IsOpen, link_of, NoneIsOwed, VerdictsAreShown, NoneEnds, FailuresAreShown, IsTimed, IsCreated, IsApplied, IsMoved, IsWritten, IsSettled, IsStarted, IsWaiting, CanMove}
 use Rattle.legal_laws.proofs.Numbers.{up_is_numbered, over_is_numbered, open_is_numbered, unasked_stays}
 use Rattle.legal_laws.proofs.Opens.{still_stays}
+use Rattle.legal_laws.proofs.Quiet.{failed_is_over}
 use Rattle.legal_trace.specs.Owed.{owed}
 use Rattle.legal_trace.proofs.Plain.{not_none}
 use Rattle.legal_laws.proofs.Sound.{Sound}
@@ -177,18 +178,13 @@ end_is_begun b l why h ends =
     begun b h (λ e. not_none (ending (b.link l)) why (unasked_stays (b.link l) (h.links.unasked l (omega arith))) ends)
     (λ early. not_none (ending (b.link l)) why (still_stays (b.link l) (h.still early l)) ends)
 
--- where the opening of a link failed, it has ended
-failed_is_over : (o : Option End) (e : RedisError) → failure_in o ≡ Some e → (end : End) × (o ≡ Some end)
-failed_is_over None e fails = absurd (cc fails)
-failed_is_over (Some end) e fails = (end, refl)
-
 -- all before an outcome that is owed is done
 answer_reached : (b : Book) (n : ℕ) (o : Outcome) (over : Bool) → is_over (link_of b n) ≡ over → MayAnswer b n o → Sound b → Reached (answer_rank over) b
 answer_reached b n o false e may h = open_is_begun b n h may.asked
 answer_reached b n o true e may h = ((may.after_closes e).2, ((may.after_closes e).0, ((may.after_closes e).1, open_is_begun b n h may.asked)))
 
 -- where a link is up, no opening failed, since there is one link
-none_failed : (b : Book) (l : ℕ) → Sound b → (b.link l).up ≡ true → FailuresAreShown b
+pub none_failed : (b : Book) (l : ℕ) → Sound b → (b.link l).up ≡ true → FailuresAreShown b
 none_failed b l h up m e fails created =
     let over = failed_is_over (b.link m).end e fails in
     let i : l < b.links = up_is_numbered b l h.links up in
