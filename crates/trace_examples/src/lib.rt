@@ -44,7 +44,8 @@ ghost use Rattle.trace_examples.specs.Fronts.{refused_fronts, overdue_fronts};
 ghost use Rattle.trace_examples.specs.Openings.{timed_opening, connect_refused, refusal_shown};
 ghost use Rattle.trace_examples.specs.Openings.{refused_at_first, overdue, timed_out};
 ghost use Rattle.trace_examples.specs.Traces.{opening};
-ghost use Rattle.trace_examples.specs.Claims.{IsTraceOf, IsTraceIn, NoneBegins, NoneBeginsIn, NoneIs};
+ghost use Rattle.trace_examples.specs.Claims.{IsTraceOf, IsTraceIn};
+ghost use Rattle.trace_examples.specs.Claims.{NoneBegins, NoneBeginsIn, NoneIs};
 
 /// Does nothing. Its contract: these traces are legal. A transaction is aborted by the error of its
 /// command; a command whose reply nobody awaits is answered at its place, and its item is not given
@@ -235,9 +236,10 @@ pub fn nobody_is_left_out()
     ensures held_back_last { NoneIs held_back }
 {}
 
-/// Does nothing. Its contract: these are legal too. Where the time of a connect is over, or it fails,
-/// the commands that wait get that error, and so does each one that comes later, unless it is empty
-/// or came after a shutdown; and once a link is up, its timer and a refusal change nothing.
+/// Does nothing. Its contract: these are legal too. Where the time of a connect is over, or the
+/// connect fails, the commands that wait get that error, and so does each one that comes later,
+/// unless it is empty or came after a shutdown; and once a link is up, its timer and a refusal
+/// change nothing.
 pub fn so_are_these_openings()
     ensures timed_out { IsTraceIn bounded
         (event.Submit (command 71) ∷ event.Fired 0 ∷ event.Submit (command 72)
