@@ -7,6 +7,7 @@ ghost use Rattle.legal_trace.specs.Ledger.{Line, LinkLegal};
 ghost use Rattle.legal_laws.specs.Links.{LinksAreLegal, LedgersAreTold, TakesInOrder};
 ghost use Rattle.legal_laws.specs.Answers.{AnswersOnce, AnswersAll};
 ghost use Rattle.legal_laws.specs.Next.{OneIsNextBehind};
+ghost use Rattle.legal_laws.specs.Creation.{TellsOfOpening};
 ghost use Rattle.legal_laws.specs.Laws.{OfEachLegal, LinksTakeInOrder, OneIsLegal, TurnsAreInOrder};
 
 /// Does nothing. Its contract: what a legal trace tells of each link is legal by itself. What the
@@ -49,4 +50,12 @@ pub fn two_legal_traces_are_equal()
 /// Does nothing. Its contract: in a legal trace the actions of each turn stand segment by segment.
 pub fn a_turn_has_five_segments()
     ensures { TurnsAreInOrder }
+{}
+
+/// Does nothing. Its contract: a legal trace shows the creation at most once. Where the opening of
+/// a link failed, and only there, it shows that error. With this error alone, and behind the
+/// creation, each submission of that link is answered that has bytes and no message and came before
+/// any shutdown; and none of these is left open.
+pub fn a_failed_opening_is_told()
+    ensures { OfEachLegal TellsOfOpening }
 {}
