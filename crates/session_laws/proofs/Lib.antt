@@ -20,6 +20,7 @@ pub mod Announce
 pub mod Heard
 pub mod End
 pub mod Connect
+pub mod Failing
 pub mod Took
 pub mod Read
 pub mod Cancel
