@@ -17,7 +17,7 @@ use Rattle.mux_conn.specs.declared.request.Waiting.{Waiting}
 use Rattle.mux_conn.specs.Connection.{Work, with_link, awaits_connect, moves_none, started_in, is_spent_in}
 use Rattle.mux_conn.specs.Requests.{is_open_at, is_waiting_at, answered}
 use Rattle.driver_model.specs.News.{News}
-use Rattle.mux_conn.specs.Effects.{closed, applied}
+use Rattle.mux_conn.specs.Effects.{applied}
 use Rattle.mux_conn.specs.Passes.{shown_each, started, started_at, placed_at, told_at_place, moved, moved_at, moved_each, moved_all, passed, still_waiting}
 use Rattle.mux_conn.specs.Turn.{written, written_at, wait_shown, waits_each, flushed, stepped}
 
@@ -33,7 +33,7 @@ shown_same w (s ∷ ss) = shown_same _ ss
 -- starts give no smaller numbers
 started_rises_at : (w : Work) (life : Life) → w.conn.life ≡ life → count w ≤ count (started_at w life)
 started_rises_at w Dialing e = le_refl (count w)
-started_rises_at w Ended e = le_refl (count w)
+started_rises_at w (Ended x) e = le_refl (count w)
 started_rises_at w (Ready link) e =
     let all = started_all (record { link = link; out = [] }) in
     let same : count (shown_each (with_link w all.link) all.out) ≡ all.link.started = ap (λ (c : MultiplexedConnection). started_in c.life) (shown_same (with_link w all.link) all.out) in
@@ -67,7 +67,7 @@ told_count w q = count_either q.awaited (count w) w (answered w q.number (outcom
 
 moved_at_rises : (w : Work) (q : Waiting) (life : Life) → w.conn.life ≡ life → count w ≤ count (moved_at w q life)
 moved_at_rises w q Dialing e = le_refl (count w)
-moved_at_rises w q Ended e = let same = answered_count w q.number closed in omega (arith, same)
+moved_at_rises w q (Ended x) e = let same = answered_count w q.number (outcome.Fault x) in omega (arith, same)
 moved_at_rises w q (Ready link) e =
     let told = told_at_place (placed_at w q (Ready link)) q in
     let same : count told ≡ link.started = told_count (placed_at w q (Ready link)) q in
@@ -106,7 +106,7 @@ waits_count w (p ∷ ps) = waits_count (wait_shown w p) ps ∙ wait_count w p
 
 written_count : (w : Work) (life : Life) → w.conn.life ≡ life → count (written_at w life) ≡ count w
 written_count w Dialing e = refl
-written_count w Ended e = refl
+written_count w (Ended x) e = refl
 written_count w (Ready link) e = let from : count w ≡ link.started = ap started_in e in count_either (can_offer link.outbox) (count w) _ w (sym from) refl
 
 -- what a turn ends with starts nothing

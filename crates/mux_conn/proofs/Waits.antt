@@ -11,7 +11,6 @@ use Rattle.mux_conn.specs.declared.life.Life.TheVariants.{Dialing, Ready, Ended}
 use Rattle.mux_conn.specs.declared.request.Waiting.{Waiting}
 use Rattle.mux_conn.specs.Connection.{Work, with_link}
 use Rattle.mux_conn.specs.Requests.{is_open_at, is_waiting_at, answered}
-use Rattle.mux_conn.specs.Effects.{closed}
 use Rattle.mux_conn.specs.Passes.{shown_each, started, started_at, placed_at, told_at_place, moved, moved_at, still_waiting}
 
 -- an answer, a word at its place, shown starts and starts
@@ -29,13 +28,13 @@ shown_waits w (s ∷ ss) ys = shown_waits _ ss ys
 
 started_waits : (w : Work) (life : Life) (ys : List Waiting) → still_waiting (started_at w life) ys ≡ started_at (still_waiting w ys) life
 started_waits w Dialing ys = refl
-started_waits w Ended ys = refl
+started_waits w (Ended e) ys = refl
 started_waits w (Ready link) ys = let all = started_all (record { link = link; out = [] }) in shown_waits (with_link w all.link) all.out ys
 
 -- and so a move, at any life of the link
 moved_at_waits : (w : Work) (q : Waiting) (life : Life) (ys : List Waiting) → still_waiting (moved_at w q life) ys ≡ moved_at (still_waiting w ys) q life
 moved_at_waits w q Dialing ys = refl
-moved_at_waits w q Ended ys = answered_waits w q.number closed ys
+moved_at_waits w q (Ended e) ys = answered_waits w q.number (outcome.Fault e) ys
 moved_at_waits w q (Ready link) ys =
     let told = told_at_place (placed_at w q (Ready link)) q in
     started_waits told told.conn.life ys ∙ ap started (told_waits (placed_at w q (Ready link)) q ys)

@@ -37,12 +37,6 @@ is_ready Dialing = false
 is_ready (Ready link) = true
 is_ready (Ended e) = false
 
--- it takes no more messages
-abbrev pub has_ended : Life → Bool
-has_ended Dialing = false
-has_ended (Ready link) = false
-has_ended (Ended e) = true
-
 -- no request can be moved
 abbrev pub moves_none : Life → Bool
 moves_none Dialing = true

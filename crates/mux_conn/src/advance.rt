@@ -12,7 +12,6 @@ use crate::request::{Pending, Progress, Request, Waiting};
 use containers::Queue;
 use driver_model::Outcome;
 use link_core::{EnqueueError, LinkCore, StartError, Started};
-use redis_error::RedisError;
 use resp_value::Value;
 use std::alloc::{AllocError, Global};
 

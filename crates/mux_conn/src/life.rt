@@ -15,7 +15,7 @@ pub enum Life {
 
 impl Life {
     ghost use Rattle.std.specs.Prelude.{◌≡◌};
-    ghost use Rattle.mux_conn.specs.Connection.{awaits_connect, has_ended, moves_none};
+    ghost use Rattle.mux_conn.specs.Connection.{awaits_connect, moves_none};
 
     /// Whether the connect isn't answered.
     pub fn is_dialing(&self) -> bool
@@ -25,17 +25,6 @@ impl Life {
             Life::Dialing => true,
             Life::Ready { link: _ } => false,
             Life::Ended { error: _ } => false,
-        }
-    }
-
-    /// Whether the link has ended.
-    pub fn is_ended(&self) -> bool
-        ensures { result ≡ has_ended self.now }
-    {
-        match self {
-            Life::Dialing => false,
-            Life::Ready { link: _ } => false,
-            Life::Ended { error: _ } => true,
         }
     }
 

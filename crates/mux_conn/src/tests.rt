@@ -24,6 +24,9 @@ enum Call {
     /// A turn without news.
     Turn,
     Connected,
+    Refused(FaultKind),
+    /// The time for the connect is over.
+    Overdue,
     Took(u64),
     Came(&'static str),
     Failed(LinkFault),
@@ -90,9 +93,20 @@ fn describe_write(bytes: &Bytes, log: &mut Vec<u8>) -> Result<(), AllocError> {
     log.extend_from_slice(bytes.as_slice())
 }
 
+fn describe_creation(error: &Option<RedisError>, log: &mut Vec<u8>) -> Result<(), AllocError> {
+    log.extend_from_slice(b"created".as_slice())?;
+    match error {
+        Some(error) => {
+            log.extend_from_slice(b" ".as_slice())?;
+            describe_fault(error, log)
+        }
+        None => Ok(()),
+    }
+}
+
 fn describe_act(alloc: Global, act: &LinkAct, log: &mut Vec<u8>) -> Result<(), AllocError> {
     match act {
-        LinkAct::Created => log.extend_from_slice(b"created".as_slice()),
+        LinkAct::Created { error } => describe_creation(error, log),
         LinkAct::Close => log.extend_from_slice(b"close".as_slice()),
         LinkAct::Write { bytes } => describe_write(bytes, log),
         LinkAct::Wait { request, wait: _ } => describe_wait(alloc, *request, log),
@@ -152,7 +166,7 @@ fn can_take(conn: &MultiplexedConnection, count: u64) -> bool
     match &conn.life {
         Life::Ready { link } => count <= link.offered_len(),
         Life::Dialing => true,
-        Life::Ended => true,
+        Life::Ended { error: _ } => true,
     }
 }
 
@@ -233,6 +247,8 @@ fn make(
         }
         Call::Turn => step(alloc, conn, LinkNews::Silence, log),
         Call::Connected => step(alloc, conn, LinkNews::Connected, log),
+        Call::Refused(fault) => step(alloc, conn, LinkNews::Refused { fault: *fault }, log),
+        Call::Overdue => step(alloc, conn, LinkNews::Overdue, log),
         Call::Took(count) => {
             assert!(rt; can_take(conn, *count));
             step(alloc, conn, LinkNews::Took { count: *count }, log)
@@ -373,4 +389,60 @@ close; 7 reset; 9 closed; 6 closed; moves; 5 closed; 4 closed; ";
     )?;
     let calls = [Call::Ask(7, "a"), Call::Turn, Call::Shut];
     run(&rt, alloc, calls.as_slice(), "7 waits; close; 7 closed; ")
+}
+
+#[test]
+fn a_refused_connect_answers_everyone(rt: HostRuntime) -> Result<(), AllocError> {
+    let calls = [
+        Call::Ask(7, "a"),
+        Call::Turn,
+        Call::AskUnawaited(9, "b"),
+        Call::Refused(FaultKind::Reset),
+        Call::Ask(5, "c"),
+        Call::Advance(2),
+        Call::Ask(4, "d"),
+        Call::Turn,
+        Call::Connected,
+        Call::Shut,
+        Call::Ask(3, "e"),
+        Call::Turn,
+    ];
+    let wanted =
+        "7 waits; created reset; 7 reset; 9 reset; moves; 5 reset; 4 reset; 3 reset; ";
+    run(&rt, rt.alloc(), calls.as_slice(), wanted)
+}
+
+#[test]
+fn an_overdue_connect_is_closed(rt: HostRuntime) -> Result<(), AllocError> {
+    let calls = [
+        Call::Ask(7, "a"),
+        Call::Ask(9, "b"),
+        Call::Cancel(0),
+        Call::Overdue,
+        Call::Ask(5, "c"),
+        Call::Turn,
+        Call::Overdue,
+        Call::Refused(FaultKind::Reset),
+    ];
+    let wanted = "close; created timed-out; 9 timed-out; 5 timed-out; ";
+    run(&rt, rt.alloc(), calls.as_slice(), wanted)
+}
+
+#[test]
+fn late_news_of_the_connect_changes_nothing(rt: HostRuntime) -> Result<(), AllocError> {
+    let calls = [
+        Call::Connected,
+        Call::Ask(7, "a"),
+        Call::Turn,
+        Call::Refused(FaultKind::Reset),
+        Call::Overdue,
+        Call::Came("+x\r\n"),
+        Call::Shut,
+        Call::Refused(FaultKind::Reset),
+        Call::Overdue,
+        Call::Ask(5, "b"),
+        Call::Turn,
+    ];
+    let wanted = "created; start 0 of 7, 1; write a; 7 x; close; 5 closed; ";
+    run(&rt, rt.alloc(), calls.as_slice(), wanted)
 }

@@ -1,7 +1,8 @@
 -- One more event of a history.
 use Rattle.std.proofs.Common.{◌≡◌, ◌==◌, ℕ, ◌+◌, ◌-◌, ◌^◌, ◌<◌, ◌≤◌, List, [], ◌∷◌, ◌++◌, length, refl, sym, ◌∙◌, ap, append_assoc, false, ◌⊎◌, inl, inr, arith, length-append}
-use Rattle.std.specs.Prelude.{Option, Some, None, slice_get, take, true}
+use Rattle.std.specs.Prelude.{Option, Some, None, slice_get, take, true, nat_le}
 use Rattle.std.proofs.lemmas.List.{append-nil, length-take-le}
+use Rattle.connection_info.specs.declared.address.ConnectionInfo.{ConnectionInfo}
 use Rattle.driver_model.specs.declared.action.Action.{Action}
 use Rattle.driver_model.specs.declared.config.Config.{Config}
 use Rattle.driver_model.specs.declared.event.Event.{Event}
@@ -12,6 +13,7 @@ use Rattle.containers.proofs.Choices.{chosen}
 use Rattle.driver_model.specs.declared.event.EventKind.{EventKind}
 use Rattle.driver_model.specs.declared.event.EventKind.TheVariants as event
 use Rattle.driver_model.specs.declared.event.Submission.{Submission}
+use Rattle.driver_model.specs.Config.{address, connect_timeout}
 use Rattle.driver_model.specs.Request.{packed_bytes}
 use Rattle.mux_conn.specs.declared.request.Pending.{Pending}
 use Rattle.mux_conn.specs.declared.act.LinkAct.{LinkAct}
@@ -20,7 +22,7 @@ use Rattle.driver_model.specs.declared.action.Action.TheVariants as action
 use Rattle.driver_model.specs.declared.action.Cause.TheVariants as cause
 use Rattle.shared_session.specs.Turn.{Turning, counted, heard, submitted, left_by, requested, next_turn, shown_each, actions_of, is_bad, has_run_out, spends, IsFewer}
 use Rattle.shared_session.specs.Done.{done_by, done_each, put_each}
-use Rattle.shared_session.specs.Replay.{opening_core, opening_actions, run_on, state_after, turns_on, trace_of, with_room, told_each, outcomes_in, AreGood, AreGoodOn, AreUnspent, AreUnspentOn, is_bad_after, is_spent_after}
+use Rattle.shared_session.specs.Replay.{connect_timers, connect_asked, opening_core, opening_actions, run_on, state_after, turns_on, trace_of, with_room, told_each, outcomes_in, AreGood, AreGoodOn, AreUnspent, AreUnspentOn, is_bad_after, is_spent_after}
 use Rattle.shared_session.specs.Stops.{Shown, IsBadAt, IsSpentAt, IsSpentBy}
 use Rattle.shared_session.specs.declared.session.Failure.{Failure}
 use Rattle.shared_session.specs.declared.session.Failure.TheVariants.{Sound, Spent, NoMemory}
@@ -44,7 +46,7 @@ turns_on-more c (d ∷ es) e = ap (λ (acts : List Action). actions_of c d ++ ac
 
 pub trace_of-none : (config : Config) (word : ℕ) → trace_of config word [] ≡ opening_actions config word
 unfolding trace_of
-trace_of-none config word = refl
+trace_of-none config word = append-nil (opening_actions config word)
 
 pub trace_of-more : (config : Config) (word : ℕ) (es : List Event) (e : Event) → trace_of config word (es ++ e ∷ []) ≡ trace_of config word es ++ actions_of (state_after config word es) e
 unfolding trace_of state_after
@@ -60,15 +62,21 @@ told_append os (a ∷ s) t = told_append _ s t
 told_shown : (os : List (Option Outcome)) (link : ℕ) (acts : List LinkAct) → told_each os (shown_each link acts) ≡ put_each os (done_each acts)
 told_shown os link [] = refl
 told_shown os link (act.Outcome n o ∷ more) = told_shown _ link more
-told_shown os link (act.Created ∷ more) = told_shown os link more
+told_shown os link (act.Created e ∷ more) = told_shown os link more
 told_shown os link (act.Close ∷ more) = told_shown os link more
 told_shown os link (act.Write bytes ∷ more) = told_shown os link more
 told_shown os link (act.Wait n kind ∷ more) = told_shown os link more
 told_shown os link (act.Start message n need len ∷ more) = told_shown os link more
 
+-- the connect and its timer tell no outcome
+told_asked : (info : Option ConnectionInfo) (timeout : Option ℕ) → told_each [] (connect_asked info timeout) ≡ []
+told_asked None timeout = refl
+told_asked (Some info) None = refl
+told_asked (Some info) (Some ms) = refl
+
 pub outcomes-none : (config : Config) (word : ℕ) → outcomes_in (trace_of config word []) ≡ []
-unfolding trace_of outcomes_in
-outcomes-none config word = refl
+unfolding outcomes_in
+outcomes-none config word = ap (λ (t : List Action). told_each [] t) (trace_of-none config word) ∙ told_asked (address config) (connect_timeout config)
 
 -- one more turn tells its outcomes
 pub outcomes-more : (config : Config) (word : ℕ) (es : List Event) (e : Event) →
@@ -94,6 +102,8 @@ requested_turns : (t : Turning) (kind : EventKind) → (requested t kind).core.t
 requested_turns t (event.Submit what) = submitted_turns t what
 requested_turns t (event.Cancel n) = left_turns t (slice_get t.core.table n)
 requested_turns t (event.Connected l) = refl
+requested_turns t (event.Refused l f) = refl
+requested_turns t (event.Fired n) = refl
 requested_turns t (event.Wrote l count) = refl
 requested_turns t (event.Bytes l piece) = refl
 requested_turns t (event.Ended l) = refl
@@ -174,10 +184,14 @@ shown_kept before after config word es e number link acts old new b a n l s =
     rw (← b) (s ∙ ap (λ (k : ℕ). old ++ (action.Turn k (cause.Event e) ∷ shown_each link acts)) n ∙ ap (λ (k : ℕ). old ++ (action.Turn before.turns (cause.Event e) ∷ shown_each k acts)) l
     ∙ ap (λ (t : Turning). old ++ (action.Turn before.turns (cause.Event e) ∷ shown_each before.single.link t.acts)) a)
 
+few_timers : (timeout : Option ℕ) → nat_le (2 ^ 32) (length (connect_timers timeout)) ≡ false
+few_timers None = refl
+few_timers (Some ms) = refl
+
 -- no number has run out at the opening
 pub unspent_opening : (core : Core) (config : Config) (word : ℕ) → core ≡ opening_core config word → has_run_out core ≡ false
 unfolding has_run_out
-unspent_opening core config word c = rw c refl
+unspent_opening core config word c = rw c (few_timers (connect_timeout config))
 
 -- what a replay keeps from event to event: the session has taken those events, and their turns were shown
 pub record Kept (config : Config) (word : ℕ) (taken : List Event) (before : List Action) (s : History) (after : List Action) : Type 0 where

@@ -1,7 +1,7 @@
 -- A number that has run out in the passes has run out in the turn.
 use Rattle.std.proofs.Common.{◌≡◌, ◌⊎◌, inl, inr, ℕ, ◌^◌, ◌<◌, nat_le, ◌||◌, Bool, true, false, Option, Some, None, refl, sym, ap, subst, ◌∙◌, arith, length}
 use Rattle.std.proofs.lemmas.Bool.Decides.{nat_tests}
-use Rattle.containers.proofs.Choices.{or_right}
+use Rattle.containers.proofs.Choices.{or_left, or_right}
 use Rattle.driver_model.specs.declared.event.EventKind.{EventKind}
 use Rattle.mux_conn.specs.declared.errors.ConnectionError.{ConnectionError}
 use Rattle.mux_conn.specs.Connection.{is_spent_in}
@@ -20,7 +20,10 @@ lower n h = grind (arith, nat_tests, h)
 -- a state in which no number has run out has room for one more submission
 pub room_left : (c : Core) → has_run_out c ≡ false → length c.table < 2 ^ 32
 unfolding has_run_out
-room_left c h = lower (length c.table) (or_right (is_spent_in c.single.connection.life) (nat_le (2 ^ 32) (length c.table)) h)
+room_left c h =
+    let table = nat_le (2 ^ 32) (length c.table) in
+    let timers = nat_le (2 ^ 32) (length c.timers) in
+    lower (length c.table) (or_left table timers (or_right (is_spent_in c.single.connection.life) (table || timers) h))
 
 spent_moving : (t : Turning) → is_spent_in (passed (work_of t)).conn.life ≡ true → has_run_out (moved_on t).core ≡ true
 unfolding has_run_out

@@ -1,9 +1,12 @@
 -- A good event says no more than was offered, and names what was given out.
-use Rattle.std.proofs.Common.{◌≡◌, refl, arith, ℕ, ◌<◌, ◌≤◌, ◌==◌, nat_lt, nat_le, ◌&&◌, ◌||◌, Bool, true, false, length}
+use Rattle.std.proofs.Common.{◌≡◌, refl, arith, ℕ, ◌<◌, ◌≤◌, ◌==◌, nat_lt, nat_le, ◌&&◌, ◌||◌, Bool, true, false, length, Option, Some, None}
+use Rattle.std.specs.Prelude.{slice_get}
 use Rattle.containers.proofs.Choices.{not_le_from, not_lt_from, or_right}
+use Rattle.driver_model.specs.declared.action.Purpose.{Purpose}
+use Rattle.driver_model.specs.declared.action.Purpose.TheVariants as purpose
 use Rattle.driver_model.specs.declared.event.EventKind.{EventKind}
 use Rattle.driver_model.specs.declared.event.EventKind.TheVariants as event
-use Rattle.driver_model.specs.News.{News, silence, connected, took, came, failed, shut, for_link, news_of}
+use Rattle.driver_model.specs.News.{News, silence, connected, refused, overdue, took, came, failed, shut, for_link, of_timer, news_of}
 use Rattle.mux_conn.specs.declared.life.Life.{Life}
 use Rattle.mux_conn.specs.declared.life.Life.TheVariants.{Dialing, Ready, Ended}
 use Rattle.mux_conn.specs.Effects.{IsWithin, CanTake}
@@ -13,7 +16,7 @@ use Rattle.shared_session.specs.Turn.{is_bad, is_no_link, exceeds_offer, IsKnown
 can_take : (life : Life) (count : ℕ) → exceeds_offer life count ≡ false → CanTake life count
 can_take Dialing count f = tt
 can_take (Ready link) count f = not_lt_from link.outbox.offered count f
-can_take Ended count f = tt
+can_take (Ended e) count f = tt
 
 own_take : (mine : Bool) (life : Life) (count : ℕ) → (mine && exceeds_offer life count) ≡ false → IsWithin life (for_link mine (took count))
 own_take true life count f = can_take life count f
@@ -23,11 +26,17 @@ either_news : (mine : Bool) (life : Life) (x : News) → IsWithin life x → IsW
 either_news true life x h = h
 either_news false life x h = tt
 
-pub news_within : (c : Core) (kind : EventKind) → is_bad c kind ≡ false → IsWithin c.single.connection.life (news_of c.single.link kind)
+timer_within : (life : Life) (n : ℕ) (slot : Option Purpose) → IsWithin life (of_timer n slot)
+timer_within life n None = tt
+timer_within life n (Some (purpose.Connect l)) = either_news (l == n) life overdue tt
+
+pub news_within : (c : Core) (kind : EventKind) → is_bad c kind ≡ false → IsWithin c.single.connection.life (news_of c.timers c.single.link kind)
 unfolding is_bad
 news_within c (event.Submit what) good = tt
 news_within c (event.Cancel n) good = tt
 news_within c (event.Connected l) good = either_news (l == c.single.link) c.single.connection.life connected tt
+news_within c (event.Refused l f) good = either_news (l == c.single.link) c.single.connection.life (refused f) tt
+news_within c (event.Fired t) good = timer_within c.single.connection.life c.single.link (slice_get c.timers t)
 news_within c (event.Wrote l count) good = own_take (l == c.single.link) c.single.connection.life count (or_right (is_no_link c l) _ good)
 news_within c (event.Bytes l piece) good = either_news (l == c.single.link) c.single.connection.life (came piece) tt
 news_within c (event.Ended l) good = either_news (l == c.single.link) c.single.connection.life (failed _) tt
@@ -41,6 +50,8 @@ unfolding is_bad
 known_good c (event.Cancel n) count same good = let l : n < length c.table = not_le_from (length c.table) n good in omega (arith, same, l)
 known_good c (event.Submit what) count same good = tt
 known_good c (event.Connected l) count same good = tt
+known_good c (event.Refused l f) count same good = tt
+known_good c (event.Fired t) count same good = tt
 known_good c (event.Wrote l n) count same good = tt
 known_good c (event.Bytes l piece) count same good = tt
 known_good c (event.Ended l) count same good = tt
@@ -54,6 +65,8 @@ unfolding is_bad
 bad_counted c turns (event.Submit what) = refl
 bad_counted c turns (event.Cancel n) = refl
 bad_counted c turns (event.Connected l) = refl
+bad_counted c turns (event.Refused l f) = refl
+bad_counted c turns (event.Fired t) = refl
 bad_counted c turns (event.Wrote l count) = refl
 bad_counted c turns (event.Bytes l piece) = refl
 bad_counted c turns (event.Ended l) = refl

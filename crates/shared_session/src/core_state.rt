@@ -238,7 +238,7 @@ impl Core {
         match &self.single.connection.life {
             Life::Dialing => count > 0,
             Life::Ready { link } => count > link.offered_len(),
-            Life::Ended => false,
+            Life::Ended { error: _ } => false,
         }
     }
 

@@ -2,15 +2,15 @@ ghost use Rattle.std.specs.Prelude.{◌≡◌, ◌⊎◌, ℕ, ◌<◌, ◌+◌,
 ghost use Rattle.std.specs.Prelude.{false, Some, OnOk, OnErr, IfOk, IsErrOf, option_copied};
 ghost use Rattle.shared_session.specs.Turn.{shown_each};
 ghost use Rattle.shared_session.specs.Done.{done_each, put_each};
-ghost use Rattle.driver_model.specs.Config.{address, connect_timeout, first_fault};
+ghost use Rattle.driver_model.specs.Config.{address, first_fault};
 ghost use Rattle.shared_session.specs.Replay.{first_link, opening_core, opening_actions, with_room};
-ghost use Rattle.shared_session.specs.Replay.{IsSound};
+ghost use Rattle.shared_session.specs.Replay.{connect_timers, timer_asked, IsSound};
 
 use crate::core_state::{Core, Single};
 use crate::errors::{MakeError, StepError};
 use crate::showing::{Done, show_each};
-use containers::{Queue, Seq};
 use connection_info::{ConnectionInfo, OpenError};
+use containers::{Queue, Seq};
 use driver_model::{Action, Cause, Config, Event, EventKind, Outcome, Purpose};
 use mux_conn::{ConnectionError, LinkAct, MultiplexedConnection};
 use redis_error::ConfigName;
@@ -74,15 +74,23 @@ impl Drop for Session {
     }
 }
 
-/// The state after the opening.
-fn opened(alloc: Global, timeout: Option<u64>) -> Result<Core, AllocError>
-    ensures { IfOk result (λ core. (config : Config) (word : ℕ)
-        → connect_timeout config ≡ timeout → core ≡ opening_core config word) }
+/// What the timer of the opening is asked for, where the connect is bounded.
+fn opening_timers(alloc: Global, timeout: Option<u64>) -> Result<Seq<Purpose>, AllocError>
+    ensures { IfOk result (λ timers. timers ≡ connect_timers timeout) }
 {
     let mut timers = Seq::new(alloc);
-    if timeout.is_some() {
-        timers.push(Purpose::Connect { link: FIRST_LINK })?;
+    match timeout {
+        Some(_) => timers.push(Purpose::Connect { link: FIRST_LINK })?,
+        None => {}
     }
+    Ok(timers)
+}
+
+/// The state after the opening.
+fn opened(alloc: Global, config: &Config) -> Result<Core, AllocError>
+    ensures { IfOk result (λ core. (word : ℕ) → core ≡ opening_core config.now word) }
+{
+    let timers = opening_timers(alloc, config.connect_timeout())?;
     Ok(Core {
         turns: 1,
         links: FIRST_LINK + 1,
@@ -94,6 +102,20 @@ fn opened(alloc: Global, timeout: Option<u64>) -> Result<Core, AllocError>
             connection: MultiplexedConnection::new(alloc),
         },
     })
+}
+
+/// The timer of the opening is asked for, where the connect is bounded.
+fn show_timer(timeout: Option<u64>, out: &mut Vec<Action>) -> Result<(), AllocError>
+    ensures { OnOk result (out.new.items ≡ out.old.items ++ timer_asked timeout) }
+{
+    match timeout {
+        Some(ms) => out.push(Action::Timer {
+            timer: 0,
+            ms,
+            purpose: Purpose::Connect { link: FIRST_LINK },
+        }),
+        None => Ok(()),
+    }
 }
 
 /// The actions of the opening. After an error `out` is as it was.
@@ -124,13 +146,7 @@ fn show_opening(
         host: info.host,
         port: info.port,
     })?;
-    if let Some(ms) = config.connect_timeout() {
-        actions.push(Action::Timer {
-            timer: 0,
-            ms,
-            purpose: Purpose::Connect { link: FIRST_LINK },
-        })?;
-    }
+    show_timer(config.connect_timeout(), &mut actions)?;
     out.append(&mut actions)
 }
 
@@ -165,7 +181,7 @@ impl Session {
             Err(_) => return Err(MakeError::NoMemory),
         };
         let events = Seq::new(alloc);
-        let core = opened(alloc, config.connect_timeout())?;
+        let core = opened(alloc, &config)?;
         show_opening(alloc, &config, info, word, out)?;
         Ok(Session {
             config,

@@ -1,7 +1,7 @@
 use crate::{MakeError, ReplayError, Session, StepError};
 use containers::{Bytes, Names};
-use driver_model::{Action, Commands, Config, Event, EventKind, Outcome, Owner, Submission};
-use redis_error::{FaultKind, RedisError};
+use driver_model::{Action, Commands, Config, Event, EventKind, Outcome, Owner, Purpose, Submission};
+use redis_error::{ConfigName, FaultKind, RedisError};
 use resp_value::{Aborts, Value};
 use std::alloc::{AllocError, Global};
 use std::process::Abort;
@@ -19,6 +19,8 @@ enum Told {
     Packed(u32, u32),
     Cancel(u32),
     Connected(u32),
+    Refused(u32, FaultKind),
+    Fired(u32),
     Wrote(u32, u64),
     Bytes(u32, &'static str),
     Ended(u32),
@@ -27,10 +29,17 @@ enum Told {
     Shutdown,
 }
 
-fn config(alloc: Global) -> Result<Config, AllocError> {
-    let host = Bytes::from_slice(alloc, b"h")?;
-    Ok(Config { host, port: 6379 })
+fn config_of(
+    alloc: Global,
+    url: &[u8],
+    connect: Option<Option<u64>>,
+) -> Result<Config, AllocError> {
+    let url = Bytes::from_slice(alloc, url)?;
+    Ok(Config { url, connect })
 }
+
+/// A connect of any length.
+const UNBOUNDED: Option<Option<u64>> = Some(None);
 
 fn get(alloc: Global, key: &str) -> Result<EventKind, AllocError> {
     let mut args = Names::new(alloc);
@@ -89,6 +98,11 @@ fn kind(alloc: Global, told: &Told) -> Result<EventKind, AllocError> {
             submission: *submission,
         }),
         Told::Connected(link) => Ok(EventKind::Connected { link: *link }),
+        Told::Refused(link, fault) => Ok(EventKind::Refused {
+            link: *link,
+            fault: *fault,
+        }),
+        Told::Fired(timer) => Ok(EventKind::Fired { timer: *timer }),
         Told::Wrote(link, count) => Ok(EventKind::Wrote {
             link: *link,
             count: *count,
@@ -168,6 +182,26 @@ fn write(text: &Bytes, log: &mut Vec<u8>) -> Result<(), AllocError> {
     log.extend_from_slice(b"; ".as_slice())
 }
 
+fn show_timer(
+    alloc: Global,
+    timer: u32,
+    ms: u64,
+    purpose: Purpose,
+    log: &mut Vec<u8>,
+) -> Result<(), AllocError> {
+    let Purpose::Connect { link } = purpose;
+    log.extend_from_slice(format!(in alloc; "timer {timer} {ms} connect {link}; ")?.as_bytes())
+}
+
+fn show_creation(error: &Option<RedisError>, log: &mut Vec<u8>) -> Result<(), AllocError> {
+    log.extend_from_slice(b"created".as_slice())?;
+    if let Some(error) = error {
+        log.extend_from_slice(b" ".as_slice())?;
+        log.extend_from_slice(fault_word(error).as_bytes())?;
+    }
+    log.extend_from_slice(b"; ".as_slice())
+}
+
 fn show(alloc: Global, action: &Action, log: &mut Vec<u8>) -> Result<(), AllocError> {
     let line = match action {
         Action::Turn { number, cause: _ } => format!(in alloc; "turn {number}; ")?,
@@ -176,6 +210,9 @@ fn show(alloc: Global, action: &Action, log: &mut Vec<u8>) -> Result<(), AllocEr
             host: _,
             port,
         } => format!(in alloc; "connect {link} {port}; ")?,
+        Action::Timer { timer, ms, purpose } => {
+            return show_timer(alloc, *timer, *ms, *purpose, log);
+        }
         Action::Close { link } => format!(in alloc; "close {link}; ")?,
         Action::Write { link: _, bytes } => return write(bytes, log),
         Action::Wait { owner, wait: _ } => format!(in alloc; "wait {}; ", number_of(owner))?,
@@ -186,7 +223,7 @@ fn show(alloc: Global, action: &Action, log: &mut Vec<u8>) -> Result<(), AllocEr
             need,
             len,
         } => { format!(in alloc; "start {message} {} {need} {len}; ", number_of(owner))? }
-        Action::Created => format!(in alloc; "created; ")?,
+        Action::Created { error } => return show_creation(error, log),
         Action::Outcome {
             submission,
             outcome,
@@ -219,10 +256,10 @@ fn takes(
 }
 
 fn begin(alloc: Global, actions: &mut Vec<Action>) -> Result<Session, AllocError> {
-    let config = config(alloc)?;
+    let config = config_of(alloc, b"redis://h", UNBOUNDED)?;
     match Session::new(alloc, config, 0, actions) {
         Ok(session) => Ok(session),
-        Err(MakeError::NoMemory) => Err(AllocError),
+        Err(_) => Err(AllocError),
     }
 }
 
@@ -291,9 +328,10 @@ fn a_session_takes_events(rt: HostRuntime) -> Result<(), AllocError> {
     Ok(())
 }
 
-/// Replays a list, and answers the index of its bad event.
+/// Replays a list where the connect may take so long, and answers the index of its bad event.
 fn replay(
     alloc: Global,
+    connect: Option<Option<u64>>,
     list: &[Told],
     actions: &mut Vec<Action>,
 ) -> Result<Option<u32>, AllocError> {
@@ -301,7 +339,7 @@ fn replay(
     for told in list {
         events.push(event(alloc, told)?)?;
     }
-    let config = config(alloc)?;
+    let config = config_of(alloc, b"redis://h", connect)?;
     match Session::replay(alloc, config, 0, events.as_slice(), actions) {
         Ok(()) => Ok(None),
         Err(ReplayError::BadEvent { index }) => Ok(Some(index)),
@@ -319,7 +357,7 @@ fn a_replay_ends_at_a_bad_event(rt: HostRuntime) -> Result<(), AllocError> {
         Told::Cancel(0),
     ];
     let mut actions = Vec::new(alloc);
-    assert_eq!(rt; replay(alloc, list.as_slice(), &mut actions)?, None);
+    assert_eq!(rt; replay(alloc, UNBOUNDED, list.as_slice(), &mut actions)?, None);
     let wanted = "turn 0; connect 0 6379; turn 1; wait 0; \
 turn 2; created; start 0 0 1 20; write *2\r\n$3\r\nGET\r\n$1\r\na\r\n; turn 3; close 0; 0 parse; turn 4; ";
     let log = show_all(alloc, actions.as_slice())?;
@@ -331,18 +369,29 @@ turn 2; created; start 0 0 1 20; write *2\r\n$3\r\nGET\r\n$1\r\na\r\n; turn 3; c
         Told::Shutdown,
     ];
     let mut actions = Vec::new(alloc);
-    assert_eq!(rt; replay(alloc, list.as_slice(), &mut actions)?, Some(2));
+    assert_eq!(rt; replay(alloc, UNBOUNDED, list.as_slice(), &mut actions)?, Some(2));
     assert_eq!(rt; actions.len(), 7);
     Ok(())
 }
 
-/// Replays a list of good events on a link that is up, and compares its trace after the opening.
-fn compare(rt: &impl Abort, alloc: Global, list: &[Told], wanted: &str) -> Result<(), AllocError> {
+/// Replays a list of good events where the connect may take so long, and compares its trace.
+fn compare_within(
+    rt: &impl Abort,
+    alloc: Global,
+    connect: Option<Option<u64>>,
+    list: &[Told],
+    wanted: &str,
+) -> Result<(), AllocError> {
     let mut actions = Vec::new(alloc);
-    assert_eq!(rt; replay(alloc, list, &mut actions)?, None);
+    assert_eq!(rt; replay(alloc, connect, list, &mut actions)?, None);
     let log = show_all(alloc, actions.as_slice())?;
     assert_eq!(rt; log.as_slice(), wanted.as_bytes());
     Ok(())
+}
+
+/// The same, where it may take any time.
+fn compare(rt: &impl Abort, alloc: Global, list: &[Told], wanted: &str) -> Result<(), AllocError> {
+    compare_within(rt, alloc, UNBOUNDED, list, wanted)
 }
 
 #[test]
@@ -416,4 +465,122 @@ write *2\r\n$3\r\nGET\r\n$1\r\na\r\n; turn 3; start 1 1 1 20; turn 4; close 0; 0
     let wanted = "turn 0; connect 0 6379; turn 1; created; turn 2; start 0 0 2 14; \
 write *1\r\n$4\r\nPING\r\n; turn 3; close 0; 0 closed; ";
     compare(&rt, alloc, list.as_slice(), wanted)
+}
+
+/// What is refused of a configuration.
+fn refusal_of(alloc: Global, url: &[u8]) -> Result<&'static str, AllocError> {
+    let mut actions = Vec::new(alloc);
+    let config = config_of(alloc, url, None)?;
+    match Session::replay(alloc, config, 0, &[], &mut actions) {
+        Ok(()) => Ok("nothing"),
+        Err(ReplayError::Config { name }) => Ok(name.name()),
+        Err(_) => Err(AllocError),
+    }
+}
+
+/// URLs, and what a session refuses of them.
+const ADDRESSES: [(&[u8], &str); 11] = [
+    (b"redis://h", "nothing"),
+    (b"redis://user@h:7000/0?protocol=2", "nothing"),
+    (b"redis://[::1]/0", "nothing"),
+    (b"", "url"),
+    (b"h:6379", "url"),
+    (b"redis://", "url"),
+    (b"rediss://h", "url"),
+    (b"redis://h\xFF", "url"),
+    (b"redis://:secret@h", "kind"),
+    (b"redis://h?protocol=3", "kind"),
+    (b"redis://h/1", "kind"),
+];
+
+#[test]
+fn configurations_are_refused(rt: HostRuntime) -> Result<(), AllocError> {
+    for row in ADDRESSES {
+        assert_eq!(rt; refusal_of(rt.alloc(), row.0)?, row.1);
+    }
+    Ok(())
+}
+
+#[test]
+fn a_refused_configuration_shows_nothing(rt: HostRuntime) -> Result<(), AllocError> {
+    let alloc = rt.alloc();
+    let mut actions = Vec::new(alloc);
+    let config = config_of(alloc, b"h", None)?;
+    match Session::new(alloc, config, 0, &mut actions) {
+        Ok(_) => assert!(rt; false),
+        Err(MakeError::Config { name }) => assert!(rt; name == ConfigName::Url),
+        Err(MakeError::NoMemory) => return Err(AllocError),
+    }
+    assert_eq!(rt; actions.len(), 0);
+    Ok(())
+}
+
+#[test]
+fn a_refused_connect_fails_the_opening(rt: HostRuntime) -> Result<(), AllocError> {
+    let list = [
+        Told::Get("a"),
+        Told::NoReply,
+        Told::Cancel(1),
+        Told::Get("b"),
+        Told::Refused(0, FaultKind::Reset),
+        Told::Get("c"),
+        Told::EmptyCommand,
+        Told::Connected(0),
+        Told::Fired(0),
+        Told::Refused(0, FaultKind::Refused),
+        Told::Shutdown,
+        Told::Get("d"),
+    ];
+    let wanted = "turn 0; connect 0 6379; timer 0 1000 connect 0; turn 1; wait 0; turn 2; wait 1; \
+turn 3; turn 4; wait 2; turn 5; created reset; 0 reset; 2 reset; turn 6; 3 reset; turn 7; 4 empty; turn 8; \
+turn 9; turn 10; turn 11; turn 12; 5 closed; ";
+    compare_within(&rt, rt.alloc(), None, list.as_slice(), wanted)
+}
+
+#[test]
+fn an_overdue_connect_is_closed(rt: HostRuntime) -> Result<(), AllocError> {
+    let list = [
+        Told::Get("a"),
+        Told::Fired(0),
+        Told::Get("b"),
+        Told::Connected(0),
+        Told::Fired(0),
+    ];
+    let wanted = "turn 0; connect 0 6379; timer 0 25 connect 0; turn 1; wait 0; \
+turn 2; close 0; created timed-out; 0 timed-out; turn 3; 1 timed-out; turn 4; turn 5; ";
+    compare_within(&rt, rt.alloc(), Some(Some(25)), list.as_slice(), wanted)
+}
+
+#[test]
+fn late_news_of_the_connect_changes_nothing(rt: HostRuntime) -> Result<(), AllocError> {
+    let list = [
+        Told::Connected(0),
+        Told::Fired(0),
+        Told::Refused(0, FaultKind::Reset),
+        Told::Ended(0),
+        Told::Fired(0),
+        Told::Get("a"),
+    ];
+    let wanted = "turn 0; connect 0 6379; timer 0 0 connect 0; turn 1; created; turn 2; turn 3; \
+turn 4; close 0; turn 5; turn 6; 0 closed; ";
+    compare_within(&rt, rt.alloc(), Some(Some(0)), list.as_slice(), wanted)
+}
+
+/// How long the connect may take, what is told, and which of it is bad.
+const BAD: [(Option<Option<u64>>, Told, Option<u32>); 5] = [
+    (None, Told::Fired(0), None),
+    (None, Told::Fired(1), Some(0)),
+    (UNBOUNDED, Told::Fired(0), Some(0)),
+    (UNBOUNDED, Told::Refused(0, FaultKind::Denied), None),
+    (UNBOUNDED, Told::Refused(1, FaultKind::Denied), Some(0)),
+];
+
+#[test]
+fn timers_are_numbered(rt: HostRuntime) -> Result<(), AllocError> {
+    let alloc = rt.alloc();
+    for row in BAD {
+        let mut actions = Vec::new(alloc);
+        assert_eq!(rt; replay(alloc, row.0, &[row.1], &mut actions)?, row.2);
+    }
+    Ok(())
 }

@@ -9,6 +9,7 @@ invariant_of-result c =
     let core = c.opened-core.result in
     let is = c.opened-core.ensures config word in
     record {
+      configured = c.in-Ok.ensures.sound;
       core = λ _. opened_is core config word c.new-events.result is c.new-events.ensures;
       outcomes = c.new.ensures ∙ rw c.new-events.ensures (sym (outcomes-none config word));
       few = omega (arith, ap length c.new-events.ensures);
