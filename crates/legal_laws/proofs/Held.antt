@@ -1,12 +1,12 @@
 -- What is done stays done while messages start, are written and wait.
-use Rattle.std.proofs.Common.{◌≡◌, ◌≢◌, ◌⊎◌, inl, inr, ℕ, ◌==◌, true, List, [], ◌∷◌, Option, None, if◌then◌else◌, refl, sym, subst}
+use Rattle.std.proofs.Common.{◌≡◌, ◌≢◌, ◌⊎◌, inl, inr, ℕ, ◌==◌, true, List, [], ◌∷◌, Option, Some, None, if◌then◌else◌, refl, sym, subst}
 use Rattle.containers.proofs.Choices.{chosen, eq_from, eq_test, if_true}
 use Rattle.driver_model.specs.declared.action.Action.{Action}
 use Rattle.driver_model.specs.declared.action.Action.TheVariants as action
 use Rattle.driver_model.specs.declared.action.Owner.TheVariants as owner
 use Rattle.driver_model.specs.declared.action.WaitKind.{WaitKind}
 use Rattle.driver_model.specs.declared.outcome.Outcome.{Outcome}
-use Rattle.legal_trace.specs.Ledger.{Ledger, Line, Start, begins, offers, noted_each, ending}
+use Rattle.legal_trace.specs.Ledger.{Ledger, Line, Start, begins, offers, noted_each, ending, failure_in}
 use Rattle.legal_trace.specs.Story.{Story, Try, is_open, shape, tried, waits, answered}
 use Rattle.legal_trace.specs.Owed.{owed_to_message, owed_to_try}
 use Rattle.legal_trace.specs.Book.{Book, entered, if_mine, message_of}
@@ -63,7 +63,9 @@ start_applied b l k m round count len may h = record {
   created = record {
     asked = may.applied.created.asked;
     shown = λ j. mine_keeps (λ (x : Ledger). x.up ≡ true → b.created ≢ 0) (l == j) (b.link j) (begins (message_of b (owner.Try m round))) (λ t. may.applied.created.shown j) (may.applied.created.shown j);
+    failed = λ j e. mine_keeps (λ (x : Ledger). failure_in x.end ≡ Some e → b.created ≢ 0) (l == j) (b.link j) (begins (message_of b (owner.Try m round))) (λ t. may.applied.created.failed j e) (may.applied.created.failed j e);
   };
+  timed = may.applied.timed;
 }
 
 -- what is answered is not open
@@ -77,7 +79,8 @@ tell_applied b m o may = record {
       (λ t open_still. absurd (not_open (b.story n) o open_still))
       (λ f open_still. owed_again b (entered b (action.Outcome m o)) (b.story n) (λ e. e, λ t last e. e) (may.applied.answered n open_still));
   ended = may.applied.ended;
-  created = record { asked = may.applied.created.asked; shown = may.applied.created.shown };
+  created = record { asked = may.applied.created.asked; shown = may.applied.created.shown; failed = may.applied.created.failed };
+  timed = may.applied.timed;
 }
 
 -- a write leaves the event applied and all moved
@@ -92,7 +95,9 @@ write_applied b l bytes done = record {
   created = record {
     asked = done.created.asked;
     shown = λ j. mine_keeps (λ (x : Ledger). x.up ≡ true → b.created ≢ 0) (l == j) (b.link j) (offers bytes) (λ t. done.created.shown j) (done.created.shown j);
+    failed = λ j e. mine_keeps (λ (x : Ledger). failure_in x.end ≡ Some e → b.created ≢ 0) (l == j) (b.link j) (offers bytes) (λ t. done.created.failed j e) (done.created.failed j e);
   };
+  timed = done.timed;
 }
 
 -- a write brings no link up
@@ -113,7 +118,8 @@ wait_applied b m round kind done = record {
       (λ t o. owed_again b (entered b (action.Wait (owner.Try m round) kind)) (b.story n) (λ e. e, λ u last e. e) (done.answered n o))
       (λ f o. owed_again b (entered b (action.Wait (owner.Try m round) kind)) (b.story n) (λ e. e, λ u last e. e) (done.answered n o));
   ended = done.ended;
-  created = record { asked = done.created.asked; shown = done.created.shown };
+  created = record { asked = done.created.asked; shown = done.created.shown; failed = done.created.failed };
+  timed = done.timed;
 }
 
 -- what a story has that may start

@@ -8,8 +8,10 @@ pub mod Shutdown
 pub mod Sound
 pub mod Links
 pub mod Answers
+pub mod Quiet
 pub mod Ranks
 pub mod Next
 pub mod Equal
 pub mod Held
 pub mod Segments
+pub mod Creation

@@ -1,5 +1,6 @@
 -- What a legal trace tells of each link is legal.
-use Rattle.std.proofs.Common.{◌≡◌, ◌≢◌, inl, inr, ℕ, ◌-◌, ◌≤◌, ◌==◌, nat_lt, Bool, true, false, ◌&&◌, not, List, [], ◌∷◌, length, ◌||◌, is_some, arith, refl, sym, ◌∙◌, subst, ap}
+use Rattle.std.proofs.Common.{◌≡◌, ◌≢◌, inl, inr, ℕ, ◌-◌, ◌≤◌, ◌==◌, nat_lt, Bool, true, false, ◌&&◌, not, List, [], ◌∷◌, length, ◌||◌, Option, Some, None, is_some, arith, refl, sym, ◌∙◌, subst, ap}
+use Rattle.std.specs.Prelude.{slice_get}
 use Rattle.containers.proofs.Choices.{chosen, eq_from, or_right, not_lt_from}
 use Rattle.driver_model.specs.declared.action.Action.{Action}
 use Rattle.driver_model.specs.declared.action.Action.TheVariants as action
@@ -10,7 +11,9 @@ use Rattle.driver_model.specs.declared.event.Event.{Event}
 use Rattle.driver_model.specs.declared.event.EventKind.{EventKind}
 use Rattle.driver_model.specs.declared.event.EventKind.TheVariants as event
 use Rattle.driver_model.specs.declared.news.LinkFault.TheVariants as fault
-use Rattle.driver_model.specs.News.{silence, connected, took, came, failed, news_of}
+use Rattle.driver_model.specs.declared.action.Purpose.{Purpose}
+use Rattle.driver_model.specs.declared.action.Purpose.TheVariants as purpose
+use Rattle.driver_model.specs.News.{silence, connected, refused, overdue, took, came, failed, news_of, of_timer}
 use Rattle.legal_trace.specs.Ledger.{Ledger, Line, asks, begins, offers, ends, is_over, IsWithin, MayNote, AllNoted}
 use Rattle.legal_trace.specs.Story.{bytes_of}
 use Rattle.legal_trace.specs.Book.{Book, blank_book, entered, lines_of, lines_of_each, if_mine, message_of}
@@ -38,10 +41,17 @@ wrote_within b l count good h up =
     let over : is_over (b.link l) ≡ false = ap is_some (h.up l up) in
     not_lt_from (length (b.link l).offer) count (not_the_second (is_over (b.link l)) (nat_lt (length (b.link l).offer) count) (or_right (is_no_link b l) (not (is_over (b.link l)) && nat_lt (length (b.link l).offer) count) good) over)
 
+-- a timer that fires takes none
+of_timer_within : (l : Ledger) (n : ℕ) (what : Option Purpose) → IsWithin l (of_timer n what)
+of_timer_within l n None = tt
+of_timer_within l n (Some (purpose.Connect m)) = chosen (IsWithin l) (m == n) overdue silence (λ t. tt) (λ f. tt)
+
 -- an event that isn't bad is within what was offered
-within : (b : Book) (l : ℕ) (kind : EventKind) → is_bad_event b kind ≡ false → Sound b → IsWithin (b.link l) (news_of l kind)
+within : (b : Book) (l : ℕ) (kind : EventKind) → is_bad_event b kind ≡ false → Sound b → IsWithin (b.link l) (news_of b.timers l kind)
 unfolding is_bad_event
 within b l (event.Connected m) good h = chosen (IsWithin (b.link l)) (m == l) connected silence (λ t. tt) (λ f. tt)
+within b l (event.Refused m f) good h = chosen (IsWithin (b.link l)) (m == l) (refused f) silence (λ t. tt) (λ e. tt)
+within b l (event.Fired t) good h = of_timer_within (b.link l) l (slice_get b.timers t)
 within b l (event.Wrote m count) good h =
     chosen (IsWithin (b.link l)) (m == l) (took count) silence
     (λ t. subst (λ j. (b.link j).up ≡ true → count ≤ length (b.link j).offer) (eq_from m l t) (wrote_within b m count good h))
@@ -66,17 +76,18 @@ connects_new : (b : Book) (l m : ℕ) → m ≡ b.links → Sound b → (m == l)
 connects_new b l m next h t = let e : m ≡ l = eq_from m l t in (h.links.unasked l (omega arith)).0
 
 -- what an action that may stand tells of a link may stand there
-lines_may : (b : Book) (l : ℕ) (a : Action) → MayStand b a → Sound b → AllNoted (b.link l) (lines_of b l a)
+pub lines_may : (b : Book) (l : ℕ) (a : Action) → MayStand b a → Sound b → AllNoted (b.link l) (lines_of b l a)
 lines_may b l (action.Turn k (cause.Opening config word)) may h = tt
 lines_may b l (action.Turn k (cause.Event e)) may h = (within b l e.kind may.is_for.2 h, tt)
 lines_may b l (action.Connect m host port) may h = may_mine (m == l) (b.link l) asks (connects_new b l m may.next h)
+lines_may b l (action.Timer t ms what) may h = tt
 lines_may b l (action.Close m) may h = may_mine (m == l) (b.link l) (ends (b.turns - 1)) (λ t. subst (λ j. MayNote (b.link j) (ends (b.turns - 1))) (eq_from m l t) (may.why, may.ends))
 lines_may b l (action.Write m bytes) may h = may_mine (m == l) (b.link l) (offers bytes) (λ t. subst (λ j. MayNote (b.link j) (offers bytes)) (eq_from m l t) (may.up, may.answered, may.all, may.some))
 lines_may b l (action.Wait (owner.Try n round) kind) may h = tt
 lines_may b l (action.Start m k (owner.Try n round) count len) may h =
     may_mine (m == l) (b.link l) (begins (message_of b (owner.Try n round)))
     (λ t. (subst (λ j. (b.link j).up ≡ true) (sym may.1.on_its_link ∙ eq_from m l t) may.1.moves.up, starts_with_bytes b m k n count len may.1 h))
-lines_may b l action.Created may h = tt
+lines_may b l (action.Created e) may h = tt
 lines_may b l (action.Outcome n o) may h = tt
 
 -- so what actions tell that may stand, behind what is in a book

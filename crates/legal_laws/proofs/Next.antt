@@ -1,5 +1,5 @@
 -- At most one action may stand next.
-use Rattle.std.proofs.Common.{◌≡◌, ◌⊎◌, inl, inr, ℕ, zero, suc, ◌<◌, ◌≤◌, nat_lt, Bool, true, false, List, [], length, Some, None, refl, sym, ◌∙◌, subst, ap, arith}
+use Rattle.std.proofs.Common.{◌≡◌, ◌⊎◌, inl, inr, ℕ, zero, suc, ◌<◌, ◌≤◌, nat_lt, Bool, true, false, List, [], length, Option, Some, None, refl, sym, ◌∙◌, subst, ap, arith}
 use Rattle.containers.proofs.Choices.{by_test, lt_from, not_lt_from, not_both}
 use Rattle.driver_model.specs.declared.action.Action.{Action}
 use Rattle.driver_model.specs.declared.action.Action.TheVariants as action
@@ -7,20 +7,24 @@ use Rattle.driver_model.specs.declared.action.Cause.TheVariants as cause
 use Rattle.driver_model.specs.declared.action.Owner.TheVariants as owner
 use Rattle.driver_model.specs.declared.action.WaitKind.{WaitKind}
 use Rattle.driver_model.specs.declared.action.WaitKind.TheVariants as wait
+use Rattle.driver_model.specs.declared.action.Purpose.{Purpose}
+use Rattle.driver_model.specs.Config.{address, connect_timeout}
 use Rattle.driver_model.specs.Shape.{need_of}
+use Rattle.connection_info.specs.declared.address.ConnectionInfo.{ConnectionInfo}
+use Rattle.redis_error.specs.declared.redis_error.RedisError.{RedisError}
 use Rattle.resp_value.specs.declared.value.Value.TheVariants.{Nil}
 use Rattle.driver_model.specs.declared.config.Config.{Config}
 use Rattle.driver_model.specs.declared.event.Event.{Event}
 use Rattle.driver_model.specs.declared.outcome.Outcome.{Outcome}
 use Rattle.driver_model.specs.declared.outcome.Outcome.TheVariants as outcome
-use Rattle.legal_trace.specs.Ledger.{IsOffered, is_over, unwritten, ending}
+use Rattle.legal_trace.specs.Ledger.{IsOffered, is_over, unwritten, ending, failure_in}
 use Rattle.legal_trace.specs.Story.{is_awaited, shape, bytes_of}
 use Rattle.legal_trace.specs.Owed.{owed}
 use Rattle.legal_trace.specs.Book.{Book, book}
-use Rattle.legal_trace.specs.Legal.{MayStand, MayConnect, MayClose, MayAnswer, MayTell, MayStart, MayWrite, MayWait, IsOpen, link_of, CanMove}
+use Rattle.legal_trace.specs.Legal.{MayStand, MayConnect, MayTimer, MayClose, MayFail, MayShowCreation, MayAnswer, MayTell, MayStart, MayWrite, MayWait, IsOpen, link_of, CanMove}
 use Rattle.legal_laws.specs.Next.{BothAnnounce, OneIsNext, OneIsNextBehind}
 use Rattle.legal_laws.proofs.Tales.{open_has_none}
-use Rattle.legal_laws.proofs.Ranks.{answer_rank, rank, same_rank, outcome_rank, not_offered}
+use Rattle.legal_laws.proofs.Ranks.{answer_rank, creation_rank, rank, same_rank, outcome_rank, not_offered}
 use Rattle.legal_trace.proofs.Plain.{not_none, not_empty, same_some}
 use Rattle.legal_laws.proofs.Sound.{Sound, sound_behind}
 
@@ -77,9 +81,28 @@ one_connect b l m host other port number h k =
     let e : cause.Opening h.config h.word ≡ cause.Opening k.config k.word = same_some (cause.Opening h.config h.word) (cause.Opening k.config k.word) (sym h.opens ∙ k.opens) in
     let c : h.config ≡ k.config = same_config h.config k.config h.word k.word e in
     let i : l ≡ m = h.next ∙ sym k.next in
-    let a : host ≡ other = h.address.0 ∙ (ap (λ (x : Config). x.host) c ∙ sym k.address.0) in
-    let p : port ≡ number = h.address.1 ∙ (ap (λ (x : Config). x.port) c ∙ sym k.address.1) in
+    let info : h.info ≡ k.info = same_some h.info k.info (sym h.configured ∙ (ap address c ∙ k.configured)) in
+    let a : host ≡ other = h.address.0 ∙ (ap (λ (x : ConnectionInfo). x.host) info ∙ sym k.address.0) in
+    let p : port ≡ number = h.address.1 ∙ (ap (λ (x : ConnectionInfo). x.port) info ∙ sym k.address.1) in
     cc (i, a, p)
+
+-- two timers are one
+one_timer : (b : Book) (t u ms time : ℕ) (what other : Purpose) → MayTimer b t ms what → MayTimer b u time other → action.Timer t ms what ≡ action.Timer u time other
+one_timer b t u ms time what other h k =
+    let e : cause.Opening h.config h.word ≡ cause.Opening k.config k.word = same_some (cause.Opening h.config h.word) (cause.Opening k.config k.word) (sym h.opens ∙ k.opens) in
+    let c : h.config ≡ k.config = same_config h.config k.config h.word k.word e in
+    let i : t ≡ u = h.next ∙ sym k.next in
+    let m : ms ≡ time = same_some ms time (sym h.bounded ∙ (ap connect_timeout c ∙ k.bounded)) in
+    let w : what ≡ other = h.is_for ∙ sym k.is_for in
+    cc (i, m, w)
+
+-- two failures of the creation are one
+one_failure : (b : Book) (d e : RedisError) → MayFail b d → MayFail b e → d ≡ e
+one_failure b d e h k =
+    let l : h.l ≡ k.l = least_is_one (λ j. failure_in (b.link j).end ≡ None → ⊥) h.l k.l
+    (λ none. not_none (failure_in (b.link h.l).end) d none h.fails) (λ none. not_none (failure_in (b.link k.l).end) e none k.fails)
+    (λ j i w. w (h.in_order j i)) (λ j i w. w (k.in_order j i)) in
+    same_some d e (sym h.fails ∙ (ap (λ j. failure_in (b.link j).end) l ∙ k.fails))
 
 -- two closes are one
 one_close : (b : Book) (l m : ℕ) → MayClose b l → MayClose b m → action.Close l ≡ action.Close m
@@ -130,14 +153,16 @@ IsStarting b y = (l : ℕ) × (k : ℕ) × (n : ℕ) × (count : ℕ) × (len : 
 abbrev pub OfRank : ℕ → Book → Action → Type 0
 OfRank zero b y = (k : ℕ) × (config : Config) × (word : ℕ) × (y ≡ action.Turn k (cause.Opening config word)) × (k ≡ b.turns)
 OfRank (suc zero) b y = (l : ℕ) × (host : List ℕ) × (port : ℕ) × (y ≡ action.Connect l host port) × MayConnect b l host port
-OfRank (suc (suc zero)) b y = IsAnswering b false y
-OfRank (suc (suc (suc zero))) b y = (l : ℕ) × (y ≡ action.Close l) × MayClose b l
-OfRank (suc (suc (suc (suc zero)))) b y = IsAnswering b true y
-OfRank (suc (suc (suc (suc (suc zero))))) b y = y ≡ action.Created
-OfRank (suc (suc (suc (suc (suc (suc zero)))))) b y = IsTelling b y ⊎ IsStarting b y
-OfRank (suc (suc (suc (suc (suc (suc (suc zero))))))) b y = (l : ℕ) × (bytes : List ℕ) × (y ≡ action.Write l bytes) × MayWrite b l bytes
-OfRank (suc (suc (suc (suc (suc (suc (suc (suc zero)))))))) b y = (n : ℕ) × (kind : WaitKind) × (y ≡ action.Wait (owner.Try n 0) kind) × MayWait b n kind
-OfRank (suc (suc (suc (suc (suc (suc (suc (suc (suc more))))))))) b y = (k : ℕ) × (e : Event) × (y ≡ action.Turn k (cause.Event e)) × (k ≡ b.turns)
+OfRank (suc (suc zero)) b y = (t : ℕ) × (ms : ℕ) × (what : Purpose) × (y ≡ action.Timer t ms what) × MayTimer b t ms what
+OfRank (suc (suc (suc zero))) b y = IsAnswering b false y
+OfRank (suc (suc (suc (suc zero)))) b y = (l : ℕ) × (y ≡ action.Close l) × MayClose b l
+OfRank (suc (suc (suc (suc (suc zero))))) b y = (e : RedisError) × (y ≡ action.Created (Some e)) × MayFail b e
+OfRank (suc (suc (suc (suc (suc (suc zero)))))) b y = IsAnswering b true y
+OfRank (suc (suc (suc (suc (suc (suc (suc zero))))))) b y = y ≡ action.Created None
+OfRank (suc (suc (suc (suc (suc (suc (suc (suc zero)))))))) b y = IsTelling b y ⊎ IsStarting b y
+OfRank (suc (suc (suc (suc (suc (suc (suc (suc (suc zero))))))))) b y = (l : ℕ) × (bytes : List ℕ) × (y ≡ action.Write l bytes) × MayWrite b l bytes
+OfRank (suc (suc (suc (suc (suc (suc (suc (suc (suc (suc zero)))))))))) b y = (n : ℕ) × (kind : WaitKind) × (y ≡ action.Wait (owner.Try n 0) kind) × MayWait b n kind
+OfRank (suc (suc (suc (suc (suc (suc (suc (suc (suc (suc (suc more))))))))))) b y = (k : ℕ) × (e : Event) × (y ≡ action.Turn k (cause.Event e)) × (k ≡ b.turns)
 
 -- an outcome that is owed is of its rank
 answer_of_rank : (b : Book) (n : ℕ) (o : Outcome) (over : Bool) → is_over (link_of b n) ≡ over → MayAnswer b n o → OfRank (answer_rank over) b (action.Outcome n o)
@@ -149,13 +174,19 @@ outcome_of_rank : (b : Book) (n : ℕ) (o : Outcome) (may : MayAnswer b n o ⊎ 
 outcome_of_rank b n o (inl owes) = answer_of_rank b n o (is_over (link_of b n)) refl owes
 outcome_of_rank b n o (inr told) = inl (n, o, refl, told)
 
+-- so is the creation
+creation_of_rank : (b : Book) (e : Option RedisError) → MayShowCreation b e → OfRank (creation_rank e) b (action.Created e)
+creation_of_rank b None may = refl
+creation_of_rank b (Some e) may = (e, refl, may)
+
 -- each action that may stand is of its rank
 pub of_rank : (b : Book) (y : Action) (may : MayStand b y) → OfRank (rank b y may) b y
 of_rank b (action.Turn k (cause.Opening config word)) may = (k, config, word, refl, may.next)
 of_rank b (action.Connect l host port) may = (l, host, port, refl, may)
+of_rank b (action.Timer t ms what) may = (t, ms, what, refl, may)
 of_rank b (action.Outcome n o) may = outcome_of_rank b n o may
 of_rank b (action.Close l) may = (l, refl, may)
-of_rank b action.Created may = refl
+of_rank b (action.Created e) may = creation_of_rank b e may
 of_rank b (action.Start l k (owner.Try n round) count len) may = inr (l, k, n, count, len, ap (λ r. action.Start l k (owner.Try n r) count len) may.0, may.1)
 of_rank b (action.Write l bytes) may = (l, bytes, refl, may)
 of_rank b (action.Wait (owner.Try n round) kind) may = (n, kind, ap (λ r. action.Wait (owner.Try n r) kind) may.0, may.1)
@@ -172,6 +203,11 @@ beside_outcome b n o y (inl p) q = beside_answer b n o y (is_over (link_of b n))
 beside_outcome b n o y (inr p) (inl q) = inl (one_told b n q.0 o q.1 p q.3 ∙ sym q.2)
 beside_outcome b n o y (inr p) (inr q) = absurd (told_or_starts b n q.2 o q.0 q.1 q.3 q.4 p q.6)
 
+-- beside the creation
+beside_creation : (b : Book) (e : Option RedisError) (y : Action) → MayShowCreation b e → OfRank (creation_rank e) b y → AreOne (action.Created e) y
+beside_creation b None y p q = inl (sym q)
+beside_creation b (Some e) y p q = inl (ap (λ x. action.Created (Some x)) (one_failure b e q.0 p q.2) ∙ sym q.1)
+
 -- beside a start
 beside_start : (b : Book) (l k n count len : ℕ) (y : Action) → MayStart b l k n count len → IsTelling b y ⊎ IsStarting b y → AreOne (action.Start l k (owner.Try n 0) count len) y
 beside_start b l k n count len y p (inl q) = absurd (told_or_starts b q.0 n q.1 l k count len q.3 p)
@@ -181,9 +217,10 @@ beside_start b l k n count len y p (inr q) = inl (one_start b l q.0 k q.1 n q.2 
 pub beside : (b : Book) (x y : Action) (p : MayStand b x) → OfRank (rank b x p) b y → AreOne x y
 beside b (action.Turn j (cause.Opening config word)) y p q = subst (AreOne (action.Turn j (cause.Opening config word))) (sym q.3) (inr (p.next ∙ sym q.4, tt))
 beside b (action.Connect l host port) y p q = inl (one_connect b l q.0 host q.1 port q.2 p q.4 ∙ sym q.3)
+beside b (action.Timer t ms what) y p q = inl (one_timer b t q.0 ms q.1 what q.2 p q.4 ∙ sym q.3)
 beside b (action.Outcome n o) y p q = beside_outcome b n o y p q
 beside b (action.Close l) y p q = inl (one_close b l q.0 p q.2 ∙ sym q.1)
-beside b action.Created y p q = inl (sym q)
+beside b (action.Created e) y p q = beside_creation b e y p q
 beside b (action.Start l k (owner.Try n round) count len) y p q = subst (λ r. AreOne (action.Start l k (owner.Try n r) count len) y) (sym p.0) (beside_start b l k n count len y p.1 q)
 beside b (action.Write l bytes) y p q = inl (one_write b l q.0 bytes q.1 p q.3 ∙ sym q.2)
 beside b (action.Wait (owner.Try n round) kind) y p q = subst (λ r. AreOne (action.Wait (owner.Try n r) kind) y) (sym p.0) (inl (one_wait b n q.0 kind q.1 p.1 q.3 ∙ sym q.2))

@@ -1,6 +1,7 @@
 -- Links and submissions are numbered in order.
-use Rattle.std.proofs.Common.{◌≡◌, ◌≢◌, ◌⊎◌, inl, inr, ℕ, ◌+◌, ◌-◌, ◌<◌, ◌≤◌, ◌==◌, nat_le, Bool, true, false, if◌then◌else◌, refl, sym, ◌∙◌, subst, arith}
-use Rattle.containers.proofs.Choices.{by_test, left_if, le_from, not_le_from, ne_test, ne_from, not_both}
+use Rattle.std.proofs.Common.{◌≡◌, ◌≢◌, ◌⊎◌, inl, inr, ℕ, ◌+◌, ◌-◌, ◌<◌, ◌≤◌, ◌==◌, nat_le, Bool, true, false, ◌&&◌, not, Option, Some, None, if◌then◌else◌, refl, sym, ap, ◌∙◌, subst, arith}
+use Rattle.std.specs.Prelude.{slice_get}
+use Rattle.containers.proofs.Choices.{by_test, eq_from, left_if, le_from, not_le_from, ne_test, ne_from, not_both}
 use Rattle.driver_model.specs.declared.action.Action.{Action}
 use Rattle.driver_model.specs.declared.action.Action.TheVariants as action
 use Rattle.driver_model.specs.declared.action.Cause.TheVariants as cause
@@ -8,14 +9,17 @@ use Rattle.driver_model.specs.declared.action.Owner.TheVariants as owner
 use Rattle.driver_model.specs.declared.event.EventKind.{EventKind}
 use Rattle.driver_model.specs.declared.event.EventKind.TheVariants as event
 use Rattle.driver_model.specs.declared.news.LinkFault.TheVariants as fault
-use Rattle.driver_model.specs.News.{News, silence, connected, took, came, failed, news_of, for_link}
+use Rattle.driver_model.specs.declared.action.Purpose.{Purpose}
+use Rattle.driver_model.specs.declared.action.Purpose.TheVariants as purpose
+use Rattle.driver_model.specs.News.{News, silence, connected, refused, overdue, took, came, failed, news_of, for_link, of_timer}
 use Rattle.driver_model.specs.declared.outcome.Outcome.{Outcome}
-use Rattle.legal_trace.specs.Ledger.{Ledger, asks, begins, offers, ends, noted_each}
+use Rattle.legal_trace.specs.Ledger.{Ledger, End, asks, begins, offers, ends, is_over, ending, ending_up, ending_asked, noted_each}
 use Rattle.legal_trace.specs.Story.{Story, blank_story, is_open, is_awaited, handed_in, left, tried, waits, answered}
 use Rattle.legal_trace.specs.Book.{Book, entered, lines_of, if_mine, message_of, current, after_event, submitted_by}
 use Rattle.legal_trace.specs.Events.{is_bad_event}
 use Rattle.legal_trace.specs.Legal.{MayAnswer, MayTell, MayStand, IsTold, IsOpen, CanMove}
 use Rattle.legal_trace.proofs.Ledgers.{each_keeps, mine_keeps, IsAsked, asked_keeps, IsUnasked, unasked_hears}
+use Rattle.legal_trace.proofs.Plain.{not_none}
 
 -- the links below that number were asked for, and no others
 pub record LinksAreNumbered (links : ℕ) (link : ℕ → Ledger) : Type 0 where
@@ -31,13 +35,20 @@ not_for_link : (mine : Bool) (x : News) → (x ≡ connected → ⊥) → for_li
 not_for_link true x other e = other e
 not_for_link false x other e = cc e
 
+-- nor is a timer that fires
+not_of_timer : (l : ℕ) (what : Option Purpose) → of_timer l what ≡ connected → ⊥
+not_of_timer l None e = cc e
+not_of_timer l (Some (purpose.Connect m)) e = not_for_link (m == l) overdue (λ x. cc x) e
+
 -- the connect of a link that was not asked for can't succeed
-not_connected : (b : Book) (l : ℕ) (kind : EventKind) → b.links ≤ l → is_bad_event b kind ≡ false → news_of l kind ≡ connected → ⊥
+not_connected : (b : Book) (l : ℕ) (kind : EventKind) → b.links ≤ l → is_bad_event b kind ≡ false → news_of b.timers l kind ≡ connected → ⊥
 unfolding is_bad_event
 not_connected b l (event.Connected m) i good e =
     let known : m < b.links = not_le_from b.links m good in
     let other : (m == l) ≡ false = ne_test m l (omega arith) in
     let quiet : silence ≡ connected = sym (left_if (m == l) connected silence other) ∙ e in cc quiet
+not_connected b l (event.Refused m f) i good e = not_for_link (m == l) (refused f) (λ x. cc x) e
+not_connected b l (event.Fired t) i good e = not_of_timer l (slice_get b.timers t) e
 not_connected b l (event.Wrote m count) i good e = not_for_link (m == l) (took count) (λ x. cc x) e
 not_connected b l (event.Bytes m piece) i good e = not_for_link (m == l) (came piece) (λ x. cc x) e
 not_connected b l (event.Ended m) i good e = not_for_link (m == l) (failed fault.Ended) (λ x. cc x) e
@@ -47,19 +58,26 @@ not_connected b l event.Shutdown i good e = cc e
 not_connected b l (event.Submit s) i good e = cc e
 not_connected b l (event.Cancel s) i good e = cc e
 
+-- a link that was not asked for doesn't end
+pub unasked_stays : (l : Ledger) → IsUnasked l → ending l ≡ None
+unasked_stays l h = left_if l.up (ending_up l l.heard) (if l.asked && not (is_over l) then ending_asked l.heard else None) h.1 ∙ left_if (l.asked && not (is_over l)) (ending_asked l.heard) None (ap (λ x. x && not (is_over l)) h.0)
+
 -- a link that was not asked for is told nothing of its own
 unasked_kept : (b : Book) (l : ℕ) (a : Action) → MayStand b a → (entered b a).links ≤ l → IsUnasked (b.link l) → IsUnasked (noted_each (b.link l) (lines_of b l a))
 unasked_kept b l (action.Turn k (cause.Opening config word)) may i h = h
-unasked_kept b l (action.Turn k (cause.Event e)) may i h = unasked_hears (b.link l) (news_of l e.kind) (not_connected b l e.kind i may.is_for.2) h
+unasked_kept b l (action.Turn k (cause.Event e)) may i h = unasked_hears (b.link l) k (news_of b.timers l e.kind) (not_connected b l e.kind i may.is_for.2) h
 unasked_kept b l (action.Connect m host port) may i h =
     let e : m ≡ b.links = may.next in
     let other : (m == l) ≡ false = ne_test m l (omega arith) in
     mine_keeps IsUnasked (m == l) (b.link l) asks (λ t. absurd (not_both (m == l) other t)) h
-unasked_kept b l (action.Close m) may i h = mine_keeps IsUnasked (m == l) (b.link l) (ends (b.turns - 1)) (λ t. (h.0, refl)) h
+unasked_kept b l (action.Timer t ms what) may i h = h
+unasked_kept b l (action.Close m) may i h =
+    mine_keeps IsUnasked (m == l) (b.link l) (ends (b.turns - 1))
+    (λ t. absurd (not_none (ending (b.link m)) may.why (unasked_stays (b.link m) (subst (λ j. IsUnasked (b.link j)) (sym (eq_from m l t)) h)) may.ends)) h
 unasked_kept b l (action.Write m bytes) may i h = mine_keeps IsUnasked (m == l) (b.link l) (offers bytes) (λ t. h) h
 unasked_kept b l (action.Wait who kind) may i h = h
 unasked_kept b l (action.Start m k who count len) may i h = mine_keeps IsUnasked (m == l) (b.link l) (begins (message_of b who)) (λ t. h) h
-unasked_kept b l action.Created may i h = h
+unasked_kept b l (action.Created e) may i h = h
 unasked_kept b l (action.Outcome n o) may i h = h
 
 -- links are never taken back
@@ -67,11 +85,12 @@ links_grow : (b : Book) (a : Action) → b.links ≤ (entered b a).links
 links_grow b (action.Turn k (cause.Opening config word)) = omega arith
 links_grow b (action.Turn k (cause.Event e)) = omega arith
 links_grow b (action.Connect m host port) = omega arith
+links_grow b (action.Timer t ms what) = omega arith
 links_grow b (action.Close m) = omega arith
 links_grow b (action.Write m bytes) = omega arith
 links_grow b (action.Wait who kind) = omega arith
 links_grow b (action.Start m k who count len) = omega arith
-links_grow b action.Created = omega arith
+links_grow b (action.Created e) = omega arith
 links_grow b (action.Outcome n o) = omega arith
 
 -- what was asked for stays so, whatever is told
@@ -87,11 +106,12 @@ asked_kept b l (action.Connect m host port) may h i =
     by_test (m == l) (IsAsked (noted_each (b.link l) (if_mine (m == l) asks)))
     (λ t. subst (λ (x : Bool). IsAsked (noted_each (b.link l) (if_mine x asks))) (sym t) refl)
     (λ f. let other : m ≢ l = ne_from m l f in mine_keeps IsAsked (m == l) (b.link l) asks (λ t. refl) (h.asked l (omega arith)))
+asked_kept b l (action.Timer t ms what) may h i = asked_stays b l (action.Timer t ms what) (h.asked l i)
 asked_kept b l (action.Close m) may h i = asked_stays b l (action.Close m) (h.asked l i)
 asked_kept b l (action.Write m bytes) may h i = asked_stays b l (action.Write m bytes) (h.asked l i)
 asked_kept b l (action.Wait (owner.Try n round) kind) may h i = asked_stays b l (action.Wait (owner.Try n round) kind) (h.asked l i)
 asked_kept b l (action.Start m k (owner.Try n round) count len) may h i = asked_stays b l (action.Start m k (owner.Try n round) count len) (h.asked l i)
-asked_kept b l action.Created may h i = asked_stays b l action.Created (h.asked l i)
+asked_kept b l (action.Created e) may h i = asked_stays b l (action.Created e) (h.asked l i)
 asked_kept b l (action.Outcome n o) may h i = asked_stays b l (action.Outcome n o) (h.asked l i)
 
 -- links stay numbered
@@ -107,7 +127,13 @@ up_is_numbered b l h up = by_test (nat_le b.links l) (l < b.links)
     (λ t. absurd (not_both (b.link l).up (h.unasked l (le_from b.links l t)).1 up))
     (λ f. not_le_from b.links l f)
 
--- and asked for
+-- so is one that has ended
+pub over_is_numbered : (b : Book) (l : ℕ) (end : End) → HasLinks b → (b.link l).end ≡ Some end → l < b.links
+over_is_numbered b l end h over = by_test (nat_le b.links l) (l < b.links)
+    (λ t. absurd (not_none (b.link l).end end (h.unasked l (le_from b.links l t)).2 over))
+    (λ f. not_le_from b.links l f)
+
+-- and one that is up was asked for
 pub up_is_asked : (b : Book) (l : ℕ) → HasLinks b → (b.link l).up ≡ true → IsAsked (b.link l)
 up_is_asked b l h up = h.asked l (up_is_numbered b l h up)
 
@@ -145,6 +171,8 @@ unfolding is_bad_event
 event_leaves_blank b n (event.Submit what) good h i = left_if (b.submissions == n) (handed_in (b.story n) what b.shut (current b)) (b.story n) (ne_test b.submissions n (omega arith)) ∙ h n (omega arith)
 event_leaves_blank b n (event.Cancel m) good h i = others_blank b m n (left (b.story n)) h (omega arith) (not_le_from b.submissions m good)
 event_leaves_blank b n (event.Connected l) good h i = h n (omega arith)
+event_leaves_blank b n (event.Refused l f) good h i = h n (omega arith)
+event_leaves_blank b n (event.Fired t) good h i = h n (omega arith)
 event_leaves_blank b n (event.Wrote l count) good h i = h n (omega arith)
 event_leaves_blank b n (event.Bytes l piece) good h i = h n (omega arith)
 event_leaves_blank b n (event.Ended l) good h i = h n (omega arith)
@@ -162,9 +190,10 @@ pub stories_kept : (b : Book) (a : Action) → MayStand b a → HasStories b →
 stories_kept b (action.Turn k (cause.Opening config word)) may h n i = h n i
 stories_kept b (action.Turn k (cause.Event e)) may h n i = event_leaves_blank b n e.kind may.is_for.2 h i
 stories_kept b (action.Connect l host port) may h n i = h n i
+stories_kept b (action.Timer t ms what) may h n i = h n i
 stories_kept b (action.Close l) may h n i = h n i
 stories_kept b (action.Write l bytes) may h n i = h n i
 stories_kept b (action.Wait (owner.Try m round) kind) may h n i = others_blank b m n (waits (b.story n) kind) h i (open_is_numbered b m h may.1.asked)
 stories_kept b (action.Start l k (owner.Try m round) count len) may h n i = others_blank b m n (tried (b.story n) l k) h i (mover_is_numbered b m h may.1.moves)
-stories_kept b action.Created may h n i = h n i
+stories_kept b (action.Created e) may h n i = h n i
 stories_kept b (action.Outcome m o) may h n i = others_blank b m n (answered (b.story n) o) h i (outcome_is_numbered b m o h may)

@@ -1,21 +1,29 @@
 -- Until the first link is asked for nothing is handed in.
-use Rattle.std.proofs.Common.{◌≡◌, ℕ, Bool, false, Option, None, arith}
+use Rattle.std.proofs.Common.{◌≡◌, ◌≢◌, ℕ, ◌≤◌, ◌==◌, Bool, false, ◌&&◌, not, Option, Some, None, if◌then◌else◌, refl, ◌∙◌, ap, arith}
+use Rattle.containers.proofs.Choices.{chosen, left_if}
 use Rattle.driver_model.specs.declared.action.Action.{Action}
 use Rattle.driver_model.specs.declared.action.Action.TheVariants as action
 use Rattle.driver_model.specs.declared.action.Cause.{Cause}
 use Rattle.driver_model.specs.declared.action.Cause.TheVariants as cause
 use Rattle.driver_model.specs.declared.action.Owner.TheVariants as owner
-use Rattle.legal_trace.specs.Book.{Book, entered}
+use Rattle.driver_model.specs.declared.config.Config.{Config}
+use Rattle.driver_model.specs.News.{News, silence}
+use Rattle.legal_trace.specs.Ledger.{Ledger, Ending, asks, begins, offers, is_over, ending, ending_up, ending_asked}
+use Rattle.legal_trace.specs.Book.{Book, entered, message_of}
 use Rattle.legal_trace.specs.Legal.{MayStand}
+use Rattle.legal_trace.proofs.Ledgers.{mine_keeps}
 use Rattle.legal_trace.proofs.Plain.{not_none}
 
--- before the first turn no link is asked for and no turn runs, and before a link is asked for nothing is handed in or shut
--- down
+-- before the first turn no link is asked for and no turn runs; the opening is the first turn; before a link is asked for
+-- nothing is handed in or shut down, and in the opening nothing is handed in; and one link is asked for at most
 pub record Opens (turns links submissions : ℕ) (running : Option Cause) (is_shut : Bool) : Type 0 where
   pub no_links : turns ≡ 0 → links ≡ 0
   pub not_running : turns ≡ 0 → running ≡ None
+  pub first : (config : Config) (word : ℕ) → running ≡ Some (cause.Opening config word) → turns ≤ 1
   pub no_submissions : links ≡ 0 → submissions ≡ 0
+  pub none_yet : turns ≤ 1 → submissions ≡ 0
   pub not_shut : links ≡ 0 → is_shut ≡ false
+  pub one_link : links ≤ 1
 
 -- so it is in a book
 abbrev pub IsOpening : Book → Type 0
@@ -26,24 +34,64 @@ pub opening_kept : (b : Book) (a : Action) → MayStand b a → IsOpening b → 
 opening_kept b (action.Turn k (cause.Opening config word)) may h = record {
   no_links = λ e. absurd (omega arith);
   not_running = λ e. absurd (omega arith);
+  first = λ config word e. let start : b.turns ≡ 0 = may.is_for in omega arith;
   no_submissions = h.no_submissions;
+  none_yet = λ i. h.no_submissions (h.no_links may.is_for);
   not_shut = h.not_shut;
+  one_link = h.one_link;
 }
 opening_kept b (action.Turn k (cause.Event event)) may h = record {
   no_links = λ e. absurd (omega arith);
   not_running = λ e. absurd (omega arith);
+  first = λ config word e. absurd (cc e);
   no_submissions = λ e. absurd (may.is_for.1.written.moved.applied.created.asked e);
+  none_yet = λ i. let later : b.turns ≢ 0 = may.is_for.0 in absurd (omega arith);
   not_shut = λ e. absurd (may.is_for.1.written.moved.applied.created.asked e);
+  one_link = h.one_link;
 }
 opening_kept b (action.Connect l host port) may h = record {
   no_links = λ e. absurd (not_none b.running (cause.Opening may.config may.word) (h.not_running e) may.opens);
   not_running = h.not_running;
+  first = h.first;
   no_submissions = λ e. absurd (omega arith);
+  none_yet = h.none_yet;
   not_shut = λ e. absurd (omega arith);
+  one_link = let none : b.links ≡ 0 = may.first in omega arith;
 }
+opening_kept b (action.Timer t ms what) may h = h
 opening_kept b (action.Close l) may h = h
 opening_kept b (action.Write l bytes) may h = h
 opening_kept b (action.Wait (owner.Try n round) kind) may h = h
 opening_kept b (action.Start l k (owner.Try n round) count len) may h = h
-opening_kept b action.Created may h = h
+opening_kept b (action.Created e) may h = h
 opening_kept b (action.Outcome n o) may h = h
+
+-- nothing has happened to a link: it is not up, has not ended, and was told nothing
+pub record IsStill (l : Ledger) : Type 0 where
+  pub down : l.up ≡ false
+  pub lives : l.end ≡ None
+  pub untold : l.heard ≡ silence
+
+-- until the first event comes, each link is so
+abbrev pub StillAtFirst : ℕ → (ℕ → Ledger) → Type 0
+StillAtFirst turns link = turns ≤ 1 → (l : ℕ) → IsStill (link l)
+
+-- a link that is still doesn't end
+pub still_stays : (l : Ledger) → IsStill l → ending l ≡ None
+still_stays l h =
+    left_if l.up (ending_up l l.heard) (if l.asked && not (is_over l) then ending_asked l.heard else None) h.down
+    ∙ (ap (λ (x : News). if l.asked && not (is_over l) then ending_asked x else None) h.untold
+    ∙ chosen (λ (x : Option Ending). x ≡ None) (l.asked && not (is_over l)) None None (λ t. refl) (λ f. refl))
+
+-- each action that may stand keeps it
+pub still_kept : (b : Book) (a : Action) → MayStand b a → StillAtFirst b.turns b.link → StillAtFirst (entered b a).turns (entered b a).link
+still_kept b (action.Turn k (cause.Opening config word)) may h = λ i. h (omega arith)
+still_kept b (action.Turn k (cause.Event e)) may h = λ i. let later : b.turns ≢ 0 = may.is_for.0 in absurd (omega arith)
+still_kept b (action.Connect m host port) may h = λ i l. mine_keeps IsStill (m == l) (b.link l) asks (λ t. record { down = (h i l).down; lives = (h i l).lives; untold = (h i l).untold }) (h i l)
+still_kept b (action.Timer t ms what) may h = h
+still_kept b (action.Close m) may h = λ i. absurd (not_none (ending (b.link m)) may.why (still_stays (b.link m) (h i m)) may.ends)
+still_kept b (action.Write m bytes) may h = λ i l. mine_keeps IsStill (m == l) (b.link l) (offers bytes) (λ t. record { down = (h i l).down; lives = (h i l).lives; untold = (h i l).untold }) (h i l)
+still_kept b (action.Wait (owner.Try n round) kind) may h = h
+still_kept b (action.Start m k (owner.Try n round) count len) may h = λ i l. mine_keeps IsStill (m == l) (b.link l) (begins (message_of b (owner.Try n round))) (λ t. record { down = (h i l).down; lives = (h i l).lives; untold = (h i l).untold }) (h i l)
+still_kept b (action.Created e) may h = h
+still_kept b (action.Outcome n o) may h = h

@@ -1,61 +1,77 @@
 -- In which order things are due: each action has a rank, and what comes later asks that all before it is done.
-use Rattle.std.proofs.Common.{◌≡◌, ◌≢◌, ◌⊎◌, inl, inr, ℕ, zero, suc, ◌<◌, ◌≤◌, ◌==◌, nat_lt, Bool, true, false, ◌&&◌, not, List, [], Some, None, if◌then◌else◌, refl, sym, ◌∙◌, subst, ap, arith}
-use Rattle.containers.proofs.Choices.{by_test, eq_from, ne_from, left_if, lt_from, not_lt_from}
+use Rattle.std.proofs.Common.{◌≡◌, ◌≢◌, ◌⊎◌, inl, inr, ℕ, zero, suc, ◌<◌, ◌≤◌, ◌==◌, nat_lt, Bool, true, false, List, [], Option, Some, None, refl, sym, ◌∙◌, subst, ap, arith}
+use Rattle.containers.proofs.Choices.{by_test, eq_from, ne_from, lt_from, not_lt_from, not_both}
+use Rattle.redis_error.specs.declared.redis_error.RedisError.{RedisError}
 use Rattle.driver_model.specs.declared.action.Action.{Action}
 use Rattle.driver_model.specs.declared.action.Action.TheVariants as action
 use Rattle.driver_model.specs.declared.action.Cause.TheVariants as cause
 use Rattle.driver_model.specs.declared.action.Owner.TheVariants as owner
 use Rattle.driver_model.specs.declared.outcome.Outcome.{Outcome}
-use Rattle.legal_trace.specs.Ledger.{Ledger, Ending, is_over, IsOffered, ending, ending_up, ending_asked}
+use Rattle.driver_model.specs.Config.{connect_timeout}
+use Rattle.legal_trace.specs.Ledger.{End, Ending, is_over, IsOffered, ending}
 use Rattle.legal_trace.specs.Story.{Try, last_of}
 use Rattle.legal_trace.specs.Book.{Book}
-use Rattle.legal_trace.specs.Legal.{MayStand, MayAnswer, MayTell, MayWrite, IsOpen, link_of, NoneIsOwed, VerdictsAreShown, NoneEnds, IsCreated, IsApplied, IsMoved, IsWritten, IsSettled, IsStarted, IsWaiting, CanMove}
-use Rattle.legal_laws.proofs.Numbers.{up_is_numbered, open_is_numbered}
-use Rattle.legal_trace.proofs.Ledgers.{IsUnasked}
+use Rattle.legal_trace.specs.Legal.{MayStand, MayAnswer, MayTell, MayWrite, MayShowCreation, IsOpen, link_of, NoneIsOwed, VerdictsAreShown, NoneEnds, FailuresAreShown, IsTimed, IsCreated, IsApplied, IsMoved, IsWritten, IsSettled, IsStarted, IsWaiting, CanMove}
+use Rattle.legal_laws.proofs.Numbers.{up_is_numbered, over_is_numbered, open_is_numbered, unasked_stays}
+use Rattle.legal_laws.proofs.Opens.{still_stays}
+use Rattle.legal_laws.proofs.Quiet.{failed_is_over}
 use Rattle.legal_trace.specs.Owed.{owed}
 use Rattle.legal_trace.proofs.Plain.{not_none}
 use Rattle.legal_laws.proofs.Sound.{Sound}
 
 -- the outcomes that are owed: what values gave, where the link has not ended, and then the others
 abbrev pub answer_rank : Bool → ℕ
-answer_rank false = 2
-answer_rank true = 4
+answer_rank false = 3
+answer_rank true = 6
+
+-- the creation: that an opening failed comes before the outcomes that it gives
+abbrev pub creation_rank : Option RedisError → ℕ
+creation_rank (Some e) = 5
+creation_rank None = 7
 
 -- these come before one that is told at its place
 abbrev pub outcome_rank : (b : Book) (n : ℕ) (o : Outcome) → MayAnswer b n o ⊎ MayTell b n o → ℕ
 outcome_rank b n o (inl owed) = answer_rank (is_over (link_of b n))
-outcome_rank b n o (inr told) = 6
+outcome_rank b n o (inr told) = 8
 
--- the opening, its connect, the outcomes of links that have not ended, the closes, the other outcomes that are owed, the
--- creation, the passes, the writes, the waits, and the next event
+-- the opening, its connect and its timer, the outcomes of links that have not ended, the closes, the creation that failed,
+-- the other outcomes that are owed, the creation, the passes, the writes, the waits, and the next event
 abbrev pub rank : (b : Book) (a : Action) → MayStand b a → ℕ
 rank b (action.Turn k (cause.Opening config word)) may = 0
 rank b (action.Connect l host port) may = 1
+rank b (action.Timer t ms what) may = 2
 rank b (action.Outcome n o) may = outcome_rank b n o may
-rank b (action.Close l) may = 3
-rank b action.Created may = 5
-rank b (action.Start l k who count len) may = 6
-rank b (action.Write l bytes) may = 7
-rank b (action.Wait who kind) may = 8
-rank b (action.Turn k (cause.Event e)) may = 9
+rank b (action.Close l) may = 4
+rank b (action.Created e) may = creation_rank e
+rank b (action.Start l k who count len) may = 8
+rank b (action.Write l bytes) may = 9
+rank b (action.Wait who kind) may = 10
+rank b (action.Turn k (cause.Event e)) may = 11
 
 -- an outcome that is owed comes before the passes
-pub answer_first : (over : Bool) → answer_rank over < 6
+pub answer_first : (over : Bool) → answer_rank over < 8
 answer_first false = omega arith
 answer_first true = omega arith
+
+-- so does the creation
+pub creation_first : (e : Option RedisError) → creation_rank e < 8
+creation_first None = omega arith
+creation_first (Some e) = omega arith
 
 -- what is done once nothing of this rank is due
 abbrev pub Step : ℕ → Book → Type 0
 Step zero b = b.turns ≢ 0
 Step (suc zero) b = b.links ≢ 0
-Step (suc (suc zero)) b = VerdictsAreShown b
-Step (suc (suc (suc zero))) b = NoneEnds b
-Step (suc (suc (suc (suc zero)))) b = NoneIsOwed b
-Step (suc (suc (suc (suc (suc zero))))) b = IsCreated b
-Step (suc (suc (suc (suc (suc (suc zero)))))) b = (n : ℕ) → CanMove b n → ⊥
-Step (suc (suc (suc (suc (suc (suc (suc zero))))))) b = (l : ℕ) → (b.link l).up ≡ true → IsOffered (b.link l)
-Step (suc (suc (suc (suc (suc (suc (suc (suc zero)))))))) b = (n : ℕ) → IsOpen b n → IsStarted b n ⊎ IsWaiting b n
-Step (suc (suc (suc (suc (suc (suc (suc (suc (suc more))))))))) b = ⊥
+Step (suc (suc zero)) b = IsTimed b
+Step (suc (suc (suc zero))) b = VerdictsAreShown b
+Step (suc (suc (suc (suc zero)))) b = NoneEnds b
+Step (suc (suc (suc (suc (suc zero))))) b = FailuresAreShown b
+Step (suc (suc (suc (suc (suc (suc zero)))))) b = NoneIsOwed b
+Step (suc (suc (suc (suc (suc (suc (suc zero))))))) b = IsCreated b
+Step (suc (suc (suc (suc (suc (suc (suc (suc zero)))))))) b = (n : ℕ) → CanMove b n → ⊥
+Step (suc (suc (suc (suc (suc (suc (suc (suc (suc zero))))))))) b = (l : ℕ) → (b.link l).up ≡ true → IsOffered (b.link l)
+Step (suc (suc (suc (suc (suc (suc (suc (suc (suc (suc zero)))))))))) b = (n : ℕ) → IsOpen b n → IsStarted b n ⊎ IsWaiting b n
+Step (suc (suc (suc (suc (suc (suc (suc (suc (suc (suc (suc more))))))))))) b = ⊥
 
 -- all below this rank is done
 abbrev pub Reached : ℕ → Book → Type 0
@@ -91,13 +107,19 @@ outcome_not_done : (b : Book) (n : ℕ) (o : Outcome) (may : MayAnswer b n o ⊎
 outcome_not_done b n o (inl owes) h = answer_not_done b n o (is_over (link_of b n)) refl owes h
 outcome_not_done b n o (inr told) h = h n told.moves
 
+-- the creation that may be shown is due
+creation_not_done : (b : Book) (e : Option RedisError) → MayShowCreation b e → Step (creation_rank e) b → ⊥
+creation_not_done b None may h = h.shown may.l may.up may.once
+creation_not_done b (Some e) may h = h may.l e may.fails may.once
+
 -- where an action may stand, its rank isn't done
 pub not_done : (b : Book) (a : Action) (may : MayStand b a) → Step (rank b a may) b → ⊥
 not_done b (action.Turn k (cause.Opening config word)) may h = h may.is_for
 not_done b (action.Connect l host port) may h = h may.first
+not_done b (action.Timer t ms what) may h = h may.config may.word may.opens (λ none. not_none (connect_timeout may.config) ms none may.bounded) may.first
 not_done b (action.Outcome n o) may h = outcome_not_done b n o may h
 not_done b (action.Close l) may h = not_none (ending (b.link l)) may.why (h l) may.ends
-not_done b action.Created may h = h.shown may.l may.up may.once
+not_done b (action.Created e) may h = creation_not_done b e may h
 not_done b (action.Start l k (owner.Try n round) count len) may h = h n may.1.moves
 not_done b (action.Write l bytes) may h = not_offered b l bytes may (h l may.up)
 not_done b (action.Wait (owner.Try n round) kind) may h = not_gone b n may.1.unstarted may.1.new (h n may.1.asked)
@@ -107,46 +129,76 @@ not_done b (action.Turn k (cause.Event e)) may h = h
 linked : (b : Book) → Sound b → b.links ≢ 0 → Reached 2 b
 linked b h links = (links, (λ e. links (h.opens.no_links e), tt))
 
+-- once an event came, the opening's timer isn't due
+begun : (b : Book) → Sound b → b.links ≢ 0 → (b.turns ≤ 1 → ⊥) → Reached 3 b
+begun b h links later = (λ config word opens bounded. absurd (later (h.opens.first config word opens)), linked b h links)
+
 -- where nothing is owed, nothing is owed that values gave
 verdicts : (b : Book) → NoneIsOwed b → VerdictsAreShown b
 verdicts b none n o e = none n o
 
 -- what is done where the event has had its effect
-pub applied : (b : Book) → Sound b → IsApplied b → Reached 6 b
-applied b h done = (done.created, (done.answered, (done.ended, (verdicts b done.answered, linked b h done.created.asked))))
+pub applied : (b : Book) → Sound b → IsApplied b → Reached 8 b
+applied b h done =
+    (done.created, (done.answered, (done.created.failed, (done.ended, (verdicts b done.answered, (done.timed, linked b h done.created.asked))))))
 
 -- where all messages have started
-pub moved : (b : Book) → Sound b → IsMoved b → Reached 7 b
+pub moved : (b : Book) → Sound b → IsMoved b → Reached 9 b
 moved b h done = (done.moved, applied b h done.applied)
 
 -- where all is written
-pub written : (b : Book) → Sound b → IsWritten b → Reached 8 b
+pub written : (b : Book) → Sound b → IsWritten b → Reached 10 b
 written b h done = (done.offered, moved b h done.moved)
 
 -- where the turn is settled
-pub settled : (b : Book) → Sound b → IsSettled b → Reached 9 b
+pub settled : (b : Book) → Sound b → IsSettled b → Reached 11 b
 settled b h done = (done.goes, written b h done.written)
 
--- where a submission is open, a link was asked for
-open_has_link : (b : Book) (n : ℕ) → Sound b → IsOpen b n → b.links ≢ 0
-open_has_link b n h o e = let i : n < b.submissions = open_is_numbered b n h.stories o in let none : b.submissions ≡ 0 = h.opens.no_submissions e in omega arith
+-- where a submission is open, an event came
+open_is_begun : (b : Book) (n : ℕ) → Sound b → IsOpen b n → Reached 3 b
+open_is_begun b n h o =
+    let i : n < b.submissions = open_is_numbered b n h.stories o in
+    begun b h (λ e. let none : b.submissions ≡ 0 = h.opens.no_submissions e in omega arith) (λ early. let none : b.submissions ≡ 0 = h.opens.none_yet early in omega arith)
 
--- where a link is up, a link was asked for
-up_has_link : (b : Book) (l : ℕ) → Sound b → (b.link l).up ≡ true → b.links ≢ 0
-up_has_link b l h up e = let i : l < b.links = up_is_numbered b l h.links up in omega arith
+-- where a link is up, too
+up_is_begun : (b : Book) (l : ℕ) → Sound b → (b.link l).up ≡ true → Reached 3 b
+up_is_begun b l h up =
+    let i : l < b.links = up_is_numbered b l h.links up in
+    begun b h (λ e. omega arith) (λ early. not_both (b.link l).up (h.still early l).down up)
 
--- a link that was not asked for doesn't end
-unasked_stays : (l : Ledger) → IsUnasked l → ending l ≡ None
-unasked_stays l h = left_if l.up (ending_up l l.heard) (if l.asked && not (is_over l) then ending_asked l.heard else None) h.1 ∙ left_if (l.asked && not (is_over l)) (ending_asked l.heard) None (ap (λ x. x && not (is_over l)) h.0)
+-- where a link has ended
+over_is_begun : (b : Book) (l : ℕ) (end : End) → Sound b → (b.link l).end ≡ Some end → Reached 3 b
+over_is_begun b l end h over =
+    let i : l < b.links = over_is_numbered b l end h.links over in
+    begun b h (λ e. omega arith) (λ early. not_none (b.link l).end end (h.still early l).lives over)
 
--- where a link must end, a link was asked for
-end_has_link : (b : Book) (l : ℕ) (why : Ending) → Sound b → ending (b.link l) ≡ Some why → b.links ≢ 0
-end_has_link b l why h ends e = not_none (ending (b.link l)) why (unasked_stays (b.link l) (h.links.unasked l (omega arith))) ends
+-- and where one must end
+end_is_begun : (b : Book) (l : ℕ) (why : Ending) → Sound b → ending (b.link l) ≡ Some why → Reached 3 b
+end_is_begun b l why h ends =
+    begun b h (λ e. not_none (ending (b.link l)) why (unasked_stays (b.link l) (h.links.unasked l (omega arith))) ends)
+    (λ early. not_none (ending (b.link l)) why (still_stays (b.link l) (h.still early l)) ends)
 
 -- all before an outcome that is owed is done
 answer_reached : (b : Book) (n : ℕ) (o : Outcome) (over : Bool) → is_over (link_of b n) ≡ over → MayAnswer b n o → Sound b → Reached (answer_rank over) b
-answer_reached b n o false e may h = linked b h (open_has_link b n h may.asked)
-answer_reached b n o true e may h = ((may.after_closes e).0, ((may.after_closes e).1, linked b h (open_has_link b n h may.asked)))
+answer_reached b n o false e may h = open_is_begun b n h may.asked
+answer_reached b n o true e may h = ((may.after_closes e).2, ((may.after_closes e).0, ((may.after_closes e).1, open_is_begun b n h may.asked)))
+
+-- where a link is up, no opening failed, since there is one link
+pub none_failed : (b : Book) (l : ℕ) → Sound b → (b.link l).up ≡ true → FailuresAreShown b
+none_failed b l h up m e fails created =
+    let over = failed_is_over (b.link m).end e fails in
+    let i : l < b.links = up_is_numbered b l h.links up in
+    let j : m < b.links = over_is_numbered b m over.0 h.links over.1 in
+    let one : b.links ≤ 1 = h.opens.one_link in
+    let same : l ≡ m = omega arith in
+    not_none (b.link m).end over.0 (h.up m (subst (λ k. (b.link k).up ≡ true) same up)) over.1
+
+-- all before the creation
+creation_reached : (b : Book) (e : Option RedisError) → MayShowCreation b e → Sound b → Reached (creation_rank e) b
+creation_reached b None may h =
+    (may.answered, (none_failed b may.l h may.up, (may.ended, (verdicts b may.answered, up_is_begun b may.l h may.up))))
+creation_reached b (Some e) may h =
+    let over = failed_is_over (b.link may.l).end e may.fails in (may.ended, (may.answered, over_is_begun b may.l over.0 h over.1))
 
 -- and before any outcome
 outcome_reached : (b : Book) (n : ℕ) (o : Outcome) (may : MayAnswer b n o ⊎ MayTell b n o) → Sound b → Reached (outcome_rank b n o may) b
@@ -158,8 +210,9 @@ pub reached : (b : Book) (a : Action) (may : MayStand b a) → Sound b → Reach
 reached b (action.Turn k (cause.Opening config word)) may h = tt
 reached b (action.Connect l host port) may h = (λ e. not_none b.running (cause.Opening may.config may.word) (h.opens.not_running e) may.opens, tt)
 reached b (action.Outcome n o) may h = outcome_reached b n o may h
-reached b (action.Close l) may h = (may.answered, linked b h (end_has_link b l may.why h may.ends))
-reached b action.Created may h = (may.answered, (may.ended, (verdicts b may.answered, linked b h (up_has_link b may.l h may.up))))
+reached b (action.Timer t ms what) may h = linked b h may.asked
+reached b (action.Close l) may h = (may.answered, end_is_begun b l may.why h may.ends)
+reached b (action.Created e) may h = creation_reached b e may h
 reached b (action.Start l k (owner.Try n round) count len) may h = applied b h may.1.applied
 reached b (action.Write l bytes) may h = moved b h may.moved
 reached b (action.Wait (owner.Try n round) kind) may h = written b h may.1.written

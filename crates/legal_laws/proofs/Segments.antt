@@ -13,7 +13,7 @@ use Rattle.legal_trace.specs.Book.{Book, blank_book, entered}
 use Rattle.legal_trace.specs.Legal.{MayStand, MayAnswer, MayTell, AllStand, link_of, IsApplied, IsMoved, IsWritten, Legal}
 use Rattle.legal_laws.specs.Segments.{answers_in, segment, MayCome, AreInOrder}
 use Rattle.legal_laws.proofs.Held.{start_applied, tell_applied, write_moved, wait_written}
-use Rattle.legal_laws.proofs.Ranks.{rank, not_done, step_of, applied, moved, written, answer_first}
+use Rattle.legal_laws.proofs.Ranks.{rank, not_done, step_of, applied, moved, written, answer_first, creation_first}
 use Rattle.legal_laws.proofs.Sound.{Sound, stays_sound, blank_is_sound}
 
 -- what is done in a turn from this segment on
@@ -35,8 +35,9 @@ done_behind : (b : Book) (a : Action) (may : MayStand b a) → Sound b → DoneI
 done_behind b (action.Turn k (cause.Opening config word)) may h = tt
 done_behind b (action.Turn k (cause.Event e)) may h = tt
 done_behind b (action.Connect l host port) may h = tt
+done_behind b (action.Timer t ms what) may h = tt
 done_behind b (action.Close l) may h = tt
-done_behind b action.Created may h = tt
+done_behind b (action.Created e) may h = tt
 done_behind b (action.Outcome n o) may h = outcome_done b n o may
 done_behind b (action.Start l k (owner.Try n round) count len) may h = start_applied b l k n round count len may.1 h
 done_behind b (action.Write l bytes) may h = write_moved b l bytes may.moved
@@ -67,19 +68,19 @@ applied_from b (suc (suc zero)) i h = h
 applied_from b (suc (suc (suc more))) i h = (moved_from b (suc (suc (suc more))) (omega arith) h).applied
 
 -- an effect comes behind no pass, a pass behind no write, and a write behind no wait
-effect_early : (b : Book) (a : Action) (may : MayStand b a) (k : ℕ) → Sound b → DoneIn k b → rank b a may < 6 → k ≤ 1
+effect_early : (b : Book) (a : Action) (may : MayStand b a) (k : ℕ) → Sound b → DoneIn k b → rank b a may < 8 → k ≤ 1
 effect_early b a may k h done r = by_test (nat_le k 1) (k ≤ 1) (le_from k 1)
-    (λ f. absurd (not_done b a may (step_of b (rank b a may) 6 r (applied b h (applied_from b k (not_le_from k 1 f) done)))))
+    (λ f. absurd (not_done b a may (step_of b (rank b a may) 8 r (applied b h (applied_from b k (not_le_from k 1 f) done)))))
 
 -- nothing of the second comes behind the third
-pass_early : (b : Book) (a : Action) (may : MayStand b a) (k : ℕ) → Sound b → DoneIn k b → rank b a may < 7 → k ≤ 2
+pass_early : (b : Book) (a : Action) (may : MayStand b a) (k : ℕ) → Sound b → DoneIn k b → rank b a may < 9 → k ≤ 2
 pass_early b a may k h done r = by_test (nat_le k 2) (k ≤ 2) (le_from k 2)
-    (λ f. absurd (not_done b a may (step_of b (rank b a may) 7 r (moved b h (moved_from b k (not_le_from k 2 f) done)))))
+    (λ f. absurd (not_done b a may (step_of b (rank b a may) 9 r (moved b h (moved_from b k (not_le_from k 2 f) done)))))
 
 -- nothing of the third comes behind the fourth
-write_early : (b : Book) (a : Action) (may : MayStand b a) (k : ℕ) → Sound b → DoneIn k b → rank b a may < 8 → k ≤ 3
+write_early : (b : Book) (a : Action) (may : MayStand b a) (k : ℕ) → Sound b → DoneIn k b → rank b a may < 10 → k ≤ 3
 write_early b a may k h done r = by_test (nat_le k 3) (k ≤ 3) (le_from k 3)
-    (λ f. absurd (not_done b a may (step_of b (rank b a may) 8 r (written b h (written_from b k (not_le_from k 3 f) done)))))
+    (λ f. absurd (not_done b a may (step_of b (rank b a may) 10 r (written b h (written_from b k (not_le_from k 3 f) done)))))
 
 -- there is none behind the fourth
 at_most_four : (b : Book) (k : ℕ) → DoneIn k b → k ≤ 4
@@ -99,8 +100,9 @@ outcome_early b n o (inr told) k h done = pass_early b (action.Outcome n o) (inr
 comes : (b : Book) (a : Action) (may : MayStand b a) (k : ℕ) → Sound b → DoneIn k b → MayCome k b a may
 comes b (action.Turn j c) may k h done = tt
 comes b (action.Connect l host port) may k h done = effect_early b (action.Connect l host port) may k h done (omega arith)
+comes b (action.Timer t ms what) may k h done = effect_early b (action.Timer t ms what) may k h done (omega arith)
 comes b (action.Close l) may k h done = effect_early b (action.Close l) may k h done (omega arith)
-comes b action.Created may k h done = effect_early b action.Created may k h done (omega arith)
+comes b (action.Created e) may k h done = effect_early b (action.Created e) may k h done (creation_first e)
 comes b (action.Outcome n o) may k h done = outcome_early b n o may k h done
 comes b (action.Start l j (owner.Try n round) count len) may k h done = pass_early b (action.Start l j (owner.Try n round) count len) may k h done (omega arith)
 comes b (action.Write l bytes) may k h done = write_early b (action.Write l bytes) may k h done (omega arith)

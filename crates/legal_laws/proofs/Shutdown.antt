@@ -44,29 +44,32 @@ was_shut true e = refl
 was_shut false e = e
 
 -- and none comes by news
-still_none : (b : Book) (x : News) (l : ℕ) → NoneEnds b → ShutIsHeard b.shut b.link → (b.shut || false) ≡ true → HearsShut (noted (b.link l) (hears x))
-still_none b x l none h s a e = absurd (none_left b none h (was_shut b.shut s) l (sym (hears_past (b.link l) x).asked ∙ a) (sym (hears_past (b.link l) x).end ∙ e))
+still_none : (b : Book) (turn : ℕ) (x : News) (l : ℕ) → NoneEnds b → ShutIsHeard b.shut b.link → (b.shut || false) ≡ true → HearsShut (noted (b.link l) (hears turn x))
+still_none b turn x l none h s a e = absurd (none_left b none h (was_shut b.shut s) l (sym (hears_past (b.link l) turn x).asked ∙ a) ((hears_past (b.link l) turn x).end e))
 
 -- each event leaves it so
-turn_heard : (b : Book) (kind : EventKind) → NoneEnds b → ShutIsHeard b.shut b.link → ShutIsHeard (b.shut || shuts kind) (λ l. noted (b.link l) (hears (news_of l kind)))
-turn_heard b event.Shutdown none h = λ s l a e. refl
-turn_heard b (event.Submit what) none h = λ s l. still_none b (news_of l (event.Submit what)) l none h s
-turn_heard b (event.Cancel n) none h = λ s l. still_none b (news_of l (event.Cancel n)) l none h s
-turn_heard b (event.Connected m) none h = λ s l. still_none b (news_of l (event.Connected m)) l none h s
-turn_heard b (event.Wrote m count) none h = λ s l. still_none b (news_of l (event.Wrote m count)) l none h s
-turn_heard b (event.Bytes m piece) none h = λ s l. still_none b (news_of l (event.Bytes m piece)) l none h s
-turn_heard b (event.Ended m) none h = λ s l. still_none b (news_of l (event.Ended m)) l none h s
-turn_heard b (event.ReadFault m kind) none h = λ s l. still_none b (news_of l (event.ReadFault m kind)) l none h s
-turn_heard b (event.WriteFault m kind) none h = λ s l. still_none b (news_of l (event.WriteFault m kind)) l none h s
+turn_heard : (b : Book) (turn : ℕ) (kind : EventKind) → NoneEnds b → ShutIsHeard b.shut b.link → ShutIsHeard (b.shut || shuts kind) (λ l. noted (b.link l) (hears turn (news_of b.timers l kind)))
+turn_heard b turn event.Shutdown none h = λ s l a e. refl
+turn_heard b turn (event.Submit what) none h = λ s l. still_none b turn (news_of b.timers l (event.Submit what)) l none h s
+turn_heard b turn (event.Cancel n) none h = λ s l. still_none b turn (news_of b.timers l (event.Cancel n)) l none h s
+turn_heard b turn (event.Connected m) none h = λ s l. still_none b turn (news_of b.timers l (event.Connected m)) l none h s
+turn_heard b turn (event.Refused m f) none h = λ s l. still_none b turn (news_of b.timers l (event.Refused m f)) l none h s
+turn_heard b turn (event.Fired t) none h = λ s l. still_none b turn (news_of b.timers l (event.Fired t)) l none h s
+turn_heard b turn (event.Wrote m count) none h = λ s l. still_none b turn (news_of b.timers l (event.Wrote m count)) l none h s
+turn_heard b turn (event.Bytes m piece) none h = λ s l. still_none b turn (news_of b.timers l (event.Bytes m piece)) l none h s
+turn_heard b turn (event.Ended m) none h = λ s l. still_none b turn (news_of b.timers l (event.Ended m)) l none h s
+turn_heard b turn (event.ReadFault m kind) none h = λ s l. still_none b turn (news_of b.timers l (event.ReadFault m kind)) l none h s
+turn_heard b turn (event.WriteFault m kind) none h = λ s l. still_none b turn (news_of b.timers l (event.WriteFault m kind)) l none h s
 
 -- it stays so
 pub shut_kept : (b : Book) (a : Action) → MayStand b a → IsOpening b → ShutIsHeard b.shut b.link → ShutIsHeard (entered b a).shut (entered b a).link
 shut_kept b (action.Turn k (cause.Opening config word)) may opening h = h
-shut_kept b (action.Turn k (cause.Event e)) may opening h = turn_heard b e.kind may.is_for.1.written.moved.applied.ended h
+shut_kept b (action.Turn k (cause.Event e)) may opening h = turn_heard b k e.kind may.is_for.1.written.moved.applied.ended h
 shut_kept b (action.Connect m host port) may opening h = λ s. absurd (not_both b.shut (opening.not_shut may.first) s)
+shut_kept b (action.Timer t ms what) may opening h = h
 shut_kept b (action.Close m) may opening h = λ s l. mine_keeps HearsShut (m == l) (b.link l) (ends (b.turns - 1)) (λ t a e. cc) (h s l)
 shut_kept b (action.Write m bytes) may opening h = λ s l. mine_keeps HearsShut (m == l) (b.link l) (offers bytes) (λ t. h s l) (h s l)
 shut_kept b (action.Wait (owner.Try n round) kind) may opening h = h
 shut_kept b (action.Start m k (owner.Try n round) count len) may opening h = λ s l. mine_keeps HearsShut (m == l) (b.link l) (begins (message_of b (owner.Try n round))) (λ t. h s l) (h s l)
-shut_kept b action.Created may opening h = h
+shut_kept b (action.Created e) may opening h = h
 shut_kept b (action.Outcome n o) may opening h = h

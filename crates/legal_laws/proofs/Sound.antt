@@ -4,15 +4,16 @@ use Rattle.driver_model.specs.declared.action.Action.{Action}
 use Rattle.legal_trace.specs.Book.{Book, blank_book, book, entered, entered_each, lines_of}
 use Rattle.legal_trace.specs.Legal.{MayStand, AllStand}
 use Rattle.legal_trace.proofs.Ledgers.{each_keeps, UpIsNotOver, up_keeps, FewAreDealt, few_keeps}
-use Rattle.legal_laws.proofs.Opens.{IsOpening, opening_kept}
+use Rattle.legal_laws.proofs.Opens.{IsOpening, opening_kept, StillAtFirst, still_kept}
 use Rattle.legal_laws.proofs.Numbers.{HasLinks, links_kept, HasStories, stories_kept}
 use Rattle.legal_laws.proofs.Tales.{AnsweredOnce, once_kept, TriesAreStarted, starts_kept}
 use Rattle.legal_laws.proofs.Shutdown.{ShutIsHeard, shut_kept}
 
--- how it opens; the numbers of links and submissions; that links which are up have not ended, and are not dealt too many
+-- how it opens, and that until the first event nothing happens to links; the numbers of links and submissions; that links which are up have not ended, and are not dealt too many
 -- items; what submissions were answered, and which messages they started; and what links hear of a shutdown
 pub record Sound (b : Book) : Type 0 where
   pub opens : IsOpening b
+  pub still : StillAtFirst b.turns b.link
   pub links : HasLinks b
   pub stories : HasStories b
   pub up : (l : ℕ) → UpIsNotOver (b.link l)
@@ -25,6 +26,7 @@ pub record Sound (b : Book) : Type 0 where
 pub stays_sound : (b : Book) (a : Action) → MayStand b a → Sound b → Sound (entered b a)
 stays_sound b a may h = record {
   opens = opening_kept b a may h.opens;
+  still = still_kept b a may h.still;
   links = links_kept b a may h.links;
   stories = stories_kept b a may h.stories;
   up = λ l. each_keeps UpIsNotOver up_keeps (b.link l) (lines_of b l a) (h.up l);
@@ -37,8 +39,17 @@ stays_sound b a may h = record {
 -- the blank book has it
 pub blank_is_sound : Sound blank_book
 blank_is_sound = record {
-  opens = record { no_links = λ e. refl; not_running = λ e. refl; no_submissions = λ e. refl; not_shut = λ e. refl };
-  links = record { asked = λ l i. absurd (omega arith); unasked = λ l i. (refl, refl) };
+  opens = record {
+    no_links = λ e. refl;
+    not_running = λ e. refl;
+    first = λ config word e. absurd (cc e);
+    no_submissions = λ e. refl;
+    none_yet = λ i. refl;
+    not_shut = λ e. refl;
+    one_link = omega arith;
+  };
+  still = λ i l. record { down = refl; lives = refl; untold = refl };
+  links = record { asked = λ l i. absurd (omega arith); unasked = λ l i. (refl, refl, refl) };
   stories = λ n i. refl;
   up = λ l u. refl;
   few = λ l. omega arith;

@@ -3,8 +3,9 @@ use Rattle.std.proofs.Common.{◌≡◌, ℕ, true, List, [], ◌∷◌, ◌++�
 use Rattle.std.proofs.lemmas.List.{append-nil, take-append-drop}
 use Rattle.std.proofs.Math.Seq.{drop-append_seam}
 use Rattle.containers.proofs.Choices.{chosen}
-use Rattle.driver_model.specs.News.{News, silence, connected, took, came, failed, shut}
-use Rattle.legal_trace.specs.Ledger.{Ledger, Line, asks, hears, begins, offers, ends, blank_ledger, noted, noted_each, with_news, bytes_came, is_over, joined, stream, MayNote, AllNoted, LinkLegal}
+use Rattle.redis_error.specs.declared.redis_error.RedisError.TheVariants as error
+use Rattle.driver_model.specs.News.{News, silence, connected, refused, overdue, took, came, failed, shut}
+use Rattle.legal_trace.specs.Ledger.{Ledger, Line, asks, hears, begins, offers, ends, blank_ledger, noted, noted_each, with_news, refused_in, bytes_came, is_over, dials, joined, stream, MayNote, AllNoted, LinkLegal}
 use Rattle.legal_trace.proofs.Ledgers.{joined_more}
 use Rattle.legal_laws.specs.Links.{IsPrefix, TakesInOrder}
 
@@ -34,18 +35,20 @@ pub prefix_more : (front whole more : List ℕ) → IsPrefix front whole → IsP
 prefix_more front whole more h = record { rest = h.rest ++ more; joins = sym (append_assoc front h.rest more) ∙ ap (λ x. x ++ more) h.joins }
 
 -- news keeps the order
-hears_in_order : (l : Ledger) (news : News) → InOrder l → InOrder (with_news l news)
-hears_in_order l silence h = h
-hears_in_order l connected h = chosen InOrder (is_over l) l (record l { up = true }) (λ t. h) (λ e. h)
-hears_in_order l (took count) h = chosen InOrder l.up (record l { taken = l.taken ++ take count l.offer; offer = [] }) l (λ t. prefix_taken l.taken l.offer (joined l.starts) count h) (λ e. h)
-hears_in_order l (came piece) h = chosen InOrder l.up (bytes_came l piece) l (λ t. h) (λ e. h)
-hears_in_order l (failed f) h = h
-hears_in_order l shut h = h
+hears_in_order : (l : Ledger) (turn : ℕ) (news : News) → InOrder l → InOrder (with_news l turn news)
+hears_in_order l turn silence h = h
+hears_in_order l turn connected h = chosen InOrder (is_over l) l (record l { up = true }) (λ t. h) (λ e. h)
+hears_in_order l turn (refused f) h = chosen InOrder (dials l) (refused_in l turn (error.Io f)) l (λ t. h) (λ e. h)
+hears_in_order l turn overdue h = h
+hears_in_order l turn (took count) h = chosen InOrder l.up (record l { taken = l.taken ++ take count l.offer; offer = [] }) l (λ t. prefix_taken l.taken l.offer (joined l.starts) count h) (λ e. h)
+hears_in_order l turn (came piece) h = chosen InOrder l.up (bytes_came l piece) l (λ t. h) (λ e. h)
+hears_in_order l turn (failed f) h = h
+hears_in_order l turn shut h = h
 
 -- so does a line that may stand
 noted_in_order : (l : Ledger) (x : Line) → MayNote l x → InOrder l → InOrder (noted l x)
 noted_in_order l asks may h = h
-noted_in_order l (hears news) may h = hears_in_order l news h
+noted_in_order l (hears turn news) may h = hears_in_order l turn news h
 noted_in_order l (begins s) may h = subst (IsPrefix (stream l)) (sym (joined_more l.starts s)) (prefix_more (stream l) (joined l.starts) s.bytes h)
 noted_in_order l (offers bytes) may h = subst (λ x. IsPrefix (l.taken ++ x) (joined l.starts)) (sym may.2) (prefix_offered l.taken l.offer (joined l.starts) h)
 noted_in_order l (ends turn) may h = h

@@ -79,6 +79,8 @@ event_once b n (event.Submit what) blank h =
     (λ f. h)
 event_once b n (event.Cancel m) blank h = chosen AnsweredOnce (m == n) (left (b.story n)) (b.story n) (λ t. chosen AnsweredOnce (is_open (b.story n)) (record (b.story n) { cancelled = true; waiting = None }) (b.story n) (λ o. h) (λ o. h)) (λ f. h)
 event_once b n (event.Connected l) blank h = h
+event_once b n (event.Refused l f) blank h = h
+event_once b n (event.Fired t) blank h = h
 event_once b n (event.Wrote l count) blank h = h
 event_once b n (event.Bytes l piece) blank h = h
 event_once b n (event.Ended l) blank h = h
@@ -95,11 +97,12 @@ pub once_kept : (b : Book) (a : Action) → MayStand b a → HasStories b → (n
 once_kept b (action.Turn k (cause.Opening config word)) may blank n h = h
 once_kept b (action.Turn k (cause.Event e)) may blank n h = event_once b n e.kind blank h
 once_kept b (action.Connect l host port) may blank n h = h
+once_kept b (action.Timer t ms what) may blank n h = h
 once_kept b (action.Close l) may blank n h = h
 once_kept b (action.Write l bytes) may blank n h = h
 once_kept b (action.Wait (owner.Try m round) kind) may blank n h = chosen AnsweredOnce (m == n) (waits (b.story n) kind) (b.story n) (λ t. h) (λ f. h)
 once_kept b (action.Start l k (owner.Try m round) count len) may blank n h = chosen AnsweredOnce (m == n) (tried (b.story n) l k) (b.story n) (λ t. started_once (b.story n) l k h) (λ f. h)
-once_kept b action.Created may blank n h = h
+once_kept b (action.Created e) may blank n h = h
 once_kept b (action.Outcome m o) may blank n h =
     chosen AnsweredOnce (m == n) (answered (b.story n) o) (b.story n)
     (λ t. subst (λ j. AnsweredOnce (answered (b.story j) o)) (eq_from m n t) (outcome_once b m o may))
@@ -132,6 +135,8 @@ event_tries : (b : Book) (n : ℕ) (kind : EventKind) (link : ℕ → Ledger) �
 event_tries b n (event.Submit what) link h = chosen (TriesAreStarted link) (b.submissions == n) (handed_in (b.story n) what b.shut (current b)) (b.story n) (λ t. h) (λ f. h)
 event_tries b n (event.Cancel m) link h = chosen (TriesAreStarted link) (m == n) (left (b.story n)) (b.story n) (λ t. chosen (TriesAreStarted link) (is_open (b.story n)) (record (b.story n) { cancelled = true; waiting = None }) (b.story n) (λ o. h) (λ o. h)) (λ f. h)
 event_tries b n (event.Connected l) link h = h
+event_tries b n (event.Refused l f) link h = h
+event_tries b n (event.Fired t) link h = h
 event_tries b n (event.Wrote l count) link h = h
 event_tries b n (event.Bytes l piece) link h = h
 event_tries b n (event.Ended l) link h = h
@@ -144,6 +149,7 @@ tries_kept : (b : Book) (a : Action) → MayStand b a → (n : ℕ) → TriesAre
 tries_kept b (action.Turn k (cause.Opening config word)) may n h = h
 tries_kept b (action.Turn k (cause.Event e)) may n h = event_tries b n e.kind (entered b (action.Turn k (cause.Event e))).link h
 tries_kept b (action.Connect l host port) may n h = h
+tries_kept b (action.Timer t ms what) may n h = h
 tries_kept b (action.Close l) may n h = h
 tries_kept b (action.Write l bytes) may n h = h
 tries_kept b (action.Wait (owner.Try m round) kind) may n h = chosen (TriesAreStarted (entered b (action.Wait (owner.Try m round) kind)).link) (m == n) (waits (b.story n) kind) (b.story n) (λ t. h) (λ f. h)
@@ -151,7 +157,7 @@ tries_kept b (action.Start l k (owner.Try m round) count len) may n h =
     chosen (TriesAreStarted (entered b (action.Start l k (owner.Try m round) count len)).link) (m == n) (tried (b.story n) l k) (b.story n)
     (λ t. subst (λ j. TriesAreStarted (entered b (action.Start l k (owner.Try m round) count len)).link (tried (b.story j) l k)) (eq_from m n t) (starts_next b l k m count len round may.1.next))
     (λ f. h)
-tries_kept b action.Created may n h = h
+tries_kept b (action.Created e) may n h = h
 tries_kept b (action.Outcome m o) may n h = chosen (TriesAreStarted (entered b (action.Outcome m o)).link) (m == n) (answered (b.story n) o) (b.story n) (λ t. h) (λ f. h)
 
 -- each stays so

@@ -2,4 +2,5 @@ pub mod Links
 pub mod Answers
 pub mod Next
 pub mod Segments
+pub mod Creation
 pub mod Laws

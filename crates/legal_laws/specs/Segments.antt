@@ -17,8 +17,9 @@ answers_in b n o (inr told) = 2
 abbrev pub segment : (b : Book) (a : Action) → MayStand b a → ℕ
 segment b (action.Turn k c) may = 0
 segment b (action.Connect l host port) may = 1
+segment b (action.Timer t ms what) may = 1
 segment b (action.Close l) may = 1
-segment b action.Created may = 1
+segment b (action.Created e) may = 1
 segment b (action.Outcome n o) may = answers_in b n o may
 segment b (action.Start l k who need len) may = 2
 segment b (action.Write l bytes) may = 3

@@ -7,6 +7,7 @@ ghost use Rattle.legal_trace.specs.Ledger.{Line, LinkLegal};
 ghost use Rattle.legal_laws.specs.Links.{LinksAreLegal, LedgersAreTold, TakesInOrder};
 ghost use Rattle.legal_laws.specs.Answers.{AnswersOnce, AnswersAll};
 ghost use Rattle.legal_laws.specs.Next.{OneIsNextBehind};
+ghost use Rattle.legal_laws.specs.Creation.{TellsOfOpening};
 ghost use Rattle.legal_laws.specs.Laws.{OfEachLegal, LinksTakeInOrder, OneIsLegal, TurnsAreInOrder};
 
 /// Does nothing. Its contract: what a legal trace tells of each link is legal by itself. What the
@@ -49,4 +50,11 @@ pub fn two_legal_traces_are_equal()
 /// Does nothing. Its contract: in a legal trace the actions of each turn stand segment by segment.
 pub fn a_turn_has_five_segments()
     ensures { TurnsAreInOrder }
+{}
+
+/// Does nothing. Its contract: a legal trace shows the creation at most once. Where the opening of a
+/// link failed, it shows its error, which every submission without a message is then answered with,
+/// unless it came after a shutdown or has no bytes; and none of them is left open.
+pub fn a_failed_opening_is_told()
+    ensures { OfEachLegal TellsOfOpening }
 {}

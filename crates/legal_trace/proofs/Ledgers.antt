@@ -1,15 +1,16 @@
 -- What holds of any ledger, and what lines do to it.
-use Rattle.std.proofs.Common.{◌≡◌, ◌≢◌, ℕ, ◌+◌, ◌-◌, ◌<◌, ◌≤◌, ◌==◌, min, if◌then◌else◌, Bool, true, false, List, [], ◌∷◌, ◌++◌, length, take, drop, None, refl, sym, ap, ◌∙◌, subst, arith, append_assoc, length-append}
-use Rattle.containers.proofs.Choices.{chosen, if_false, ne_from}
+use Rattle.std.proofs.Common.{◌≡◌, ◌≢◌, ℕ, ◌+◌, ◌-◌, ◌<◌, ◌≤◌, ◌==◌, min, if◌then◌else◌, Bool, true, false, ◌&&◌, not, List, [], ◌∷◌, ◌++◌, length, take, drop, None, refl, sym, ap, ◌∙◌, subst, arith, append_assoc, length-append}
+use Rattle.containers.proofs.Choices.{chosen, if_false, ne_from, not_both}
 use Rattle.std.proofs.lemmas.List.{append-nil, length-take}
 use Rattle.resp_read.specs.Values.{left_over}
 use Rattle.resp_read.specs.Items.{items}
 use Rattle.resp_value.specs.Data.{Data}
-use Rattle.driver_model.specs.News.{News, silence, connected, took, came, failed, shut}
+use Rattle.redis_error.specs.declared.redis_error.RedisError.TheVariants as error
+use Rattle.driver_model.specs.News.{News, silence, connected, refused, overdue, took, came, failed, shut}
 use Rattle.driver_model.specs.declared.outcome.Shape.{Shape}
 use Rattle.driver_model.specs.declared.outcome.Shape.TheVariants.{Single, Pipeline}
 use Rattle.driver_model.specs.Shape.{need_of}
-use Rattle.legal_trace.specs.Ledger.{Ledger, Line, Start, asks, hears, begins, offers, ends, noted, noted_each, with_news, bytes_came, items_came, is_over, reach, joined, AllNoted}
+use Rattle.legal_trace.specs.Ledger.{Ledger, Line, Start, asks, hears, begins, offers, ends, noted, noted_each, with_news, refused_in, bytes_came, items_came, is_over, dials, reach, joined, AllNoted}
 use Rattle.legal_trace.specs.Book.{if_mine}
 use Rattle.legal_trace.proofs.Plain.{none_from}
 
@@ -33,23 +34,40 @@ pub may_append : (l : Ledger) (xs ys : List Line) → AllNoted l xs → AllNoted
 may_append l [] ys h k = k
 may_append l (x ∷ xs) ys h k = (h.0, may_append (noted l x) xs ys h.1 k)
 
+-- of three that all hold, each does
+three_hold : (asked up over : Bool) → (asked && not up && not over) ≡ true → (asked ≡ true) × (up ≡ false) × (over ≡ false)
+three_hold true false false e = (refl, refl, refl)
+three_hold true false true e = cc
+three_hold true true over e = cc
+three_hold false up over e = cc
+
+-- a link whose connect isn't answered was asked for, is not up, and has not ended
+pub dials_from : (l : Ledger) → dials l ≡ true → (l.asked ≡ true) × (l.up ≡ false) × (is_over l ≡ false)
+dials_from l h = three_hold l.asked l.up (is_over l) h
+
+-- so one that was not asked for doesn't dial
+pub unasked_dials_not : (l : Ledger) → l.asked ≡ false → dials l ≡ false
+unasked_dials_not l h = ap (λ asked. asked && not l.up && not (is_over l)) h
+
 -- a link that is up has not ended
 abbrev pub UpIsNotOver : Ledger → Type 0
 UpIsNotOver l = l.up ≡ true → l.end ≡ None
 
 -- news brings up no link that has ended
-up_hears : (l : Ledger) (news : News) → UpIsNotOver l → UpIsNotOver (with_news l news)
-up_hears l silence h = h
-up_hears l connected h = chosen UpIsNotOver (is_over l) l (record l { up = true }) (λ t. h) (λ e u. none_from l.end e)
-up_hears l (took count) h = chosen UpIsNotOver l.up (record l { taken = l.taken ++ take count l.offer; offer = [] }) l (λ t. h) (λ e. h)
-up_hears l (came piece) h = chosen UpIsNotOver l.up (bytes_came l piece) l (λ t. h) (λ e. h)
-up_hears l (failed f) h = h
-up_hears l shut h = h
+up_hears : (l : Ledger) (turn : ℕ) (news : News) → UpIsNotOver l → UpIsNotOver (with_news l turn news)
+up_hears l turn silence h = h
+up_hears l turn connected h = chosen UpIsNotOver (is_over l) l (record l { up = true }) (λ t. h) (λ e u. none_from l.end e)
+up_hears l turn (refused f) h = chosen UpIsNotOver (dials l) (refused_in l turn (error.Io f)) l (λ t u. absurd (not_both l.up (dials_from l t).1 u)) (λ e. h)
+up_hears l turn overdue h = h
+up_hears l turn (took count) h = chosen UpIsNotOver l.up (record l { taken = l.taken ++ take count l.offer; offer = [] }) l (λ t. h) (λ e. h)
+up_hears l turn (came piece) h = chosen UpIsNotOver l.up (bytes_came l piece) l (λ t. h) (λ e. h)
+up_hears l turn (failed f) h = h
+up_hears l turn shut h = h
 
 -- nor does any line
 pub up_keeps : (l : Ledger) (x : Line) → UpIsNotOver l → UpIsNotOver (noted l x)
 up_keeps l asks h = h
-up_keeps l (hears news) h = up_hears l news h
+up_keeps l (hears turn news) h = up_hears l turn news h
 up_keeps l (begins s) h = h
 up_keeps l (offers bytes) h = h
 up_keeps l (ends turn) h = λ u. cc
@@ -58,29 +76,31 @@ up_keeps l (ends turn) h = λ u. cc
 abbrev pub IsAsked : Ledger → Type 0
 IsAsked l = l.asked ≡ true
 
--- of a second ledger: it was asked for, has ended and has started messages as the first
+-- of a second ledger: it was asked for and has started messages as the first, and where it has not ended, nor has the first
 pub record SamePast (l m : Ledger) : Type 0 where
   pub asked : m.asked ≡ l.asked
-  pub end : m.end ≡ l.end
+  pub end : m.end ≡ None → l.end ≡ None
   pub starts : m.starts ≡ l.starts
 
 -- each has its own past
 same_past : (l : Ledger) → SamePast l l
-same_past l = record { asked = refl; end = refl; starts = refl }
+same_past l = record { asked = refl; end = λ e. e; starts = refl }
 
 -- news leaves these as they are
-pub hears_past : (l : Ledger) (news : News) → SamePast l (with_news l news)
-hears_past l silence = same_past l
-hears_past l connected = chosen (SamePast l) (is_over l) l (record l { up = true }) (λ t. same_past l) (λ e. record { asked = refl; end = refl; starts = refl })
-hears_past l (took count) = chosen (SamePast l) l.up (record l { taken = l.taken ++ take count l.offer; offer = [] }) l (λ t. record { asked = refl; end = refl; starts = refl }) (λ e. same_past l)
-hears_past l (came piece) = chosen (SamePast l) l.up (bytes_came l piece) l (λ t. record { asked = refl; end = refl; starts = refl }) (λ e. same_past l)
-hears_past l (failed f) = same_past l
-hears_past l shut = same_past l
+pub hears_past : (l : Ledger) (turn : ℕ) (news : News) → SamePast l (with_news l turn news)
+hears_past l turn silence = same_past l
+hears_past l turn connected = chosen (SamePast l) (is_over l) l (record l { up = true }) (λ t. same_past l) (λ e. record { asked = refl; end = λ n. n; starts = refl })
+hears_past l turn (refused f) = chosen (SamePast l) (dials l) (refused_in l turn (error.Io f)) l (λ t. record { asked = refl; end = λ n. none_from l.end (dials_from l t).2; starts = refl }) (λ e. same_past l)
+hears_past l turn overdue = same_past l
+hears_past l turn (took count) = chosen (SamePast l) l.up (record l { taken = l.taken ++ take count l.offer; offer = [] }) l (λ t. record { asked = refl; end = λ n. n; starts = refl }) (λ e. same_past l)
+hears_past l turn (came piece) = chosen (SamePast l) l.up (bytes_came l piece) l (λ t. record { asked = refl; end = λ n. n; starts = refl }) (λ e. same_past l)
+hears_past l turn (failed f) = same_past l
+hears_past l turn shut = same_past l
 
 -- each line leaves it so
 pub asked_keeps : (l : Ledger) (x : Line) → IsAsked l → IsAsked (noted l x)
 asked_keeps l asks h = refl
-asked_keeps l (hears news) h = subst (λ (b : Bool). b ≡ true) (sym (hears_past l news).asked) h
+asked_keeps l (hears turn news) h = subst (λ (b : Bool). b ≡ true) (sym (hears_past l turn news).asked) h
 asked_keeps l (begins s) h = h
 asked_keeps l (offers bytes) h = h
 asked_keeps l (ends turn) h = h
@@ -92,27 +112,29 @@ HasStarted k l = k < length l.starts
 -- each line leaves these
 pub started_keeps : (k : ℕ) (l : Ledger) (x : Line) → HasStarted k l → HasStarted k (noted l x)
 started_keeps k l asks h = h
-started_keeps k l (hears news) h = subst (λ (ss : List Start). k < length ss) (sym (hears_past l news).starts) h
+started_keeps k l (hears turn news) h = subst (λ (ss : List Start). k < length ss) (sym (hears_past l turn news).starts) h
 started_keeps k l (begins s) h = let e : length (l.starts ++ s ∷ []) ≡ length l.starts + 1 = length-append l.starts (s ∷ []) in omega arith
 started_keeps k l (offers bytes) h = h
 started_keeps k l (ends turn) h = h
 
--- a link that was not asked for
+-- a link that was not asked for is not up, and has not ended
 abbrev pub IsUnasked : Ledger → Type 0
-IsUnasked l = (l.asked ≡ false) × (l.up ≡ false)
+IsUnasked l = (l.asked ≡ false) × (l.up ≡ false) × (l.end ≡ None)
 
 -- what is done only where a link is up isn't done
 unasked_unless_up : (l m : Ledger) → IsUnasked l → IsUnasked (if l.up then m else l)
 unasked_unless_up l m h = if_false IsUnasked l.up m l h.1 h
 
 -- it stays so, but for a connect that succeeds
-pub unasked_hears : (l : Ledger) (news : News) → (news ≡ connected → ⊥) → IsUnasked l → IsUnasked (with_news l news)
-unasked_hears l silence not_up h = h
-unasked_hears l connected not_up h = absurd (not_up refl)
-unasked_hears l (took count) not_up h = unasked_unless_up l (record l { taken = l.taken ++ take count l.offer; offer = [] }) h
-unasked_hears l (came piece) not_up h = unasked_unless_up l (bytes_came l piece) h
-unasked_hears l (failed f) not_up h = h
-unasked_hears l shut not_up h = h
+pub unasked_hears : (l : Ledger) (turn : ℕ) (news : News) → (news ≡ connected → ⊥) → IsUnasked l → IsUnasked (with_news l turn news)
+unasked_hears l turn silence not_up h = h
+unasked_hears l turn connected not_up h = absurd (not_up refl)
+unasked_hears l turn (refused f) not_up h = if_false IsUnasked (dials l) (refused_in l turn (error.Io f)) l (unasked_dials_not l h.0) h
+unasked_hears l turn overdue not_up h = h
+unasked_hears l turn (took count) not_up h = unasked_unless_up l (record l { taken = l.taken ++ take count l.offer; offer = [] }) h
+unasked_hears l turn (came piece) not_up h = unasked_unless_up l (bytes_came l piece) h
+unasked_hears l turn (failed f) not_up h = h
+unasked_hears l turn shut not_up h = h
 
 -- the bytes of a message more
 pub joined_more : (ss : List Start) (s : Start) → joined (ss ++ s ∷ []) ≡ joined ss ++ s.bytes
@@ -149,18 +171,20 @@ few_come l more h =
     omega arith
 
 -- so with any news
-few_hears : (l : Ledger) (news : News) → FewAreDealt l → FewAreDealt (with_news l news)
-few_hears l silence h = h
-few_hears l connected h = chosen FewAreDealt (is_over l) l (record l { up = true }) (λ t. h) (λ e. h)
-few_hears l (took count) h = chosen FewAreDealt l.up (record l { taken = l.taken ++ take count l.offer; offer = [] }) l (λ t. h) (λ e. h)
-few_hears l (came piece) h = chosen FewAreDealt l.up (bytes_came l piece) l (λ t. few_come (record l { rest = left_over (l.rest ++ piece) }) (items (l.rest ++ piece)) h) (λ e. h)
-few_hears l (failed f) h = h
-few_hears l shut h = h
+few_hears : (l : Ledger) (turn : ℕ) (news : News) → FewAreDealt l → FewAreDealt (with_news l turn news)
+few_hears l turn silence h = h
+few_hears l turn connected h = chosen FewAreDealt (is_over l) l (record l { up = true }) (λ t. h) (λ e. h)
+few_hears l turn (refused f) h = chosen FewAreDealt (dials l) (refused_in l turn (error.Io f)) l (λ t. h) (λ e. h)
+few_hears l turn overdue h = h
+few_hears l turn (took count) h = chosen FewAreDealt l.up (record l { taken = l.taken ++ take count l.offer; offer = [] }) l (λ t. h) (λ e. h)
+few_hears l turn (came piece) h = chosen FewAreDealt l.up (bytes_came l piece) l (λ t. few_come (record l { rest = left_over (l.rest ++ piece) }) (items (l.rest ++ piece)) h) (λ e. h)
+few_hears l turn (failed f) h = h
+few_hears l turn shut h = h
 
 -- and with any line
 pub few_keeps : (l : Ledger) (x : Line) → FewAreDealt l → FewAreDealt (noted l x)
 few_keeps l asks h = h
-few_keeps l (hears news) h = few_hears l news h
+few_keeps l (hears turn news) h = few_hears l turn news h
 few_keeps l (begins s) h = let e : reach (l.starts ++ s ∷ []) l.dealt ≡ reach l.starts l.dealt + need_of s.shape = reach_more l.starts s l.dealt in omega arith
 few_keeps l (offers bytes) h = h
 few_keeps l (ends turn) h = h

@@ -18,7 +18,7 @@ use Rattle.driver_model.specs.declared.config.Config.{Config}
 use Rattle.driver_model.specs.declared.event.Event.{Event}
 use Rattle.driver_model.specs.declared.outcome.Outcome.{Outcome}
 use Rattle.driver_model.specs.declared.outcome.Outcome.TheVariants as outcome
-use Rattle.driver_model.specs.Config.{address, connect_timeout}
+use Rattle.driver_model.specs.Config.{address, connect_timeout, first_fault}
 use Rattle.driver_model.specs.Shape.{need_of}
 use Rattle.legal_trace.specs.Ledger.{Ledger, Ending, IsOffered, is_over, ending, failure_in, unwritten}
 use Rattle.legal_trace.specs.Story.{Story, Try, last_of, is_open, is_awaited, bytes_of, shape}
@@ -122,11 +122,12 @@ pub record MayTurn (b : Book) (number : ℕ) (c : Cause) : Type 0 where
   pub next : number ≡ b.turns
   pub is_for : IsFor b c
 
--- the opening asks for the first link, at the configured address
+-- the opening asks for the first link, at the configured address, where nothing of the configuration is refused
 pub record MayConnect (b : Book) (l : ℕ) (host : List ℕ) (port : ℕ) : Type 0 where
   pub config : Config
   pub word : ℕ
   pub opens : b.running ≡ Some (cause.Opening config word)
+  pub sound : first_fault config ≡ None
   pub first : b.links ≡ 0
   pub next : l ≡ b.links
   pub info : ConnectionInfo
@@ -159,12 +160,15 @@ pub record MayBeCreated (b : Book) : Type 0 where
   pub answered : NoneIsOwed b
   pub ended : NoneEnds b
 
--- it is shown once that the opening of a link failed, with its error
+-- it is shown once that the opening of a link failed, the first that did, with its error: once all links that must end have,
+-- and the outcomes that values gave are shown
 pub record MayFail (b : Book) (e : RedisError) : Type 0 where
   pub l : ℕ
   pub fails : failure_in (b.link l).end ≡ Some e
+  pub in_order : (m : ℕ) → m < l → failure_in (b.link m).end ≡ None
   pub once : b.created ≡ 0
   pub ended : NoneEnds b
+  pub answered : VerdictsAreShown b
 
 -- the creation: it came to be, or it failed with that error
 abbrev pub MayShowCreation : Book → Option RedisError → Type 0

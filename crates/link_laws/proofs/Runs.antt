@@ -1,10 +1,11 @@
 -- Each run of a link is legal, and settles what is owed.
-use Rattle.std.proofs.Common.{◌≡◌, ◌-◌, ◌≢◌, ◌⊎◌, inl, inr, ℕ, ◌==◌, nat_le, Bool, true, false, ◌||◌, List, [], ◌∷◌, ◌++◌, length, Some, None, refl, sym, ap, ◌∙◌, subst, append_assoc}
+use Rattle.std.proofs.Common.{◌≡◌, ◌+◌, ◌-◌, ◌≢◌, ◌⊎◌, inl, inr, ℕ, ◌==◌, nat_le, Bool, true, false, ◌||◌, List, [], ◌∷◌, ◌++◌, length, Some, None, refl, sym, ap, ◌∙◌, subst, append_assoc}
 use Rattle.std.specs.List.{AllByRecursion}
 use Rattle.std.proofs.lemmas.List.{append-nil}
 use Rattle.containers.proofs.Choices.{not_both, chosen, if_true, if_false, taken_if, le_from, ne_from, or_right}
 use Rattle.resp_read.specs.Values.{is_spoiled}
 use Rattle.resp_read.proofs.ValueLaws.{values-empty}
+use Rattle.redis_error.specs.declared.redis_error.RedisError.TheVariants as error
 use Rattle.driver_model.specs.declared.action.Owner.{Owner}
 use Rattle.driver_model.specs.declared.news.LinkFault.{LinkFault}
 use Rattle.driver_model.specs.declared.news.LinkFault.TheVariants as fault
@@ -16,6 +17,7 @@ use Rattle.link_core.specs.Link.{Settling, fresh, is_full, enqueued, started_all
 use Rattle.link_core.specs.Outbox.{can_offer}
 use Rattle.link_core.specs.Waiting.{is_wanted, without}
 use Rattle.legal_trace.specs.Ledger.{Ledger, reach, Ending, by_shutdown, by_fault, Line, asks, hears, begins, offers, ends, blank_ledger, ending, ending_up, ended, noted, noted_each, ledger, AllNoted, LinkLegal}
+use Rattle.legal_trace.specs.Owed.{unstarted_error}
 use Rattle.legal_trace.proofs.Ledgers.{noted_append, may_append}
 use Rattle.link_laws.specs.Settles.{IsOwed, IsOwedUnstarted}
 use Rattle.link_laws.specs.Starts.{start_from, starting, begins_each}
@@ -72,11 +74,11 @@ fresh_sound : (name : ℕ → Owner) (size boundary : ℕ) → Sound name (fresh
 fresh_sound name size boundary = inl (
   refl,
   (
-    noted (noted blank_ledger asks) (hears connected),
+    noted (noted blank_ledger asks) (hears 1 connected),
     record {
       told = record { told = refl; stands = (refl, (tt, tt)) };
       lives = record { up = refl; lives = refl; unspoiled = values-empty.2 };
-      tied = connected_tied name (noted blank_ledger asks) (fresh size boundary) (asked_tied name blank_ledger (fresh size boundary) (fresh_tied name size boundary));
+      tied = connected_tied name (noted blank_ledger asks) (fresh size boundary) 1 (asked_tied name blank_ledger (fresh size boundary) (fresh_tied name size boundary));
       packed = tt;
       cuts = tt;
       none = refl;
@@ -87,9 +89,9 @@ fresh_sound name size boundary = inl (
 -- the operations of a link that goes on
 --
 -- a turn that changes no more
-heard_live : (name : ℕ → Owner) (l : Ledger) (r : Run) → IsLive name l r → IsLive name (noted l (hears silence)) (heard r silence)
+heard_live : (name : ℕ → Owner) (l : Ledger) (r : Run) → IsLive name l r → IsLive name (noted l (hears (r.turn + 1) silence)) (heard r silence)
 heard_live name l r h = record {
-  told = told_more l r.lines (hears silence ∷ []) h.told (tt, tt);
+  told = told_more l r.lines (hears (r.turn + 1) silence ∷ []) h.told (tt, tt);
   lives = record { up = h.lives.up; lives = h.lives.lives; unspoiled = h.lives.unspoiled };
   tied = told_tied name l r.link l.asked l.up silence h.tied;
   packed = h.packed;
@@ -189,12 +191,12 @@ offered_live name l r goes_on h =
     (λ f. (goes_on, (l, h)))
 
 -- what a link that is up keeps when bytes are taken
-taken_lives : (l : Ledger) (n : ℕ) → Lives l → Lives (noted l (hears (took n)))
-taken_lives l n h = if_true (λ (x : Ledger). Lives (record x { heard = took n })) l.up _ l h.up (record { up = h.up; lives = h.lives; unspoiled = h.unspoiled })
+taken_lives : (l : Ledger) (turn n : ℕ) → Lives l → Lives (noted l (hears turn (took n)))
+taken_lives l turn n h = if_true (λ (x : Ledger). Lives (record x { heard = took n })) l.up _ l h.up (record { up = h.up; lives = h.lives; unspoiled = h.unspoiled })
 
 -- what was settled keeps its cuts
-taken_cuts : (name : ℕ → Owner) (l : Ledger) (n : ℕ) (out : List Settled) → l.up ≡ true → AreCuts name l.starts l.dealt out → AreCuts name (noted l (hears (took n))).starts (noted l (hears (took n))).dealt out
-taken_cuts name l n out up h = if_true (λ (x : Ledger). AreCuts name x.starts x.dealt out) l.up _ l up h
+taken_cuts : (name : ℕ → Owner) (l : Ledger) (turn n : ℕ) (out : List Settled) → l.up ≡ true → AreCuts name l.starts l.dealt out → AreCuts name (noted l (hears turn (took n))).starts (noted l (hears turn (took n))).dealt out
+taken_cuts name l turn n out up h = if_true (λ (x : Ledger). AreCuts name x.starts x.dealt out) l.up _ l up h
 
 -- offered bytes are taken
 taken_live : (name : ℕ → Owner) (l : Ledger) (r : Run) (n : ℕ) → r.over ≡ false → IsLive name l r → GoesOn name (taken_up r n)
@@ -203,13 +205,13 @@ taken_live name l r n goes_on h =
     (λ t. (
       goes_on,
       (
-        noted l (hears (took n)),
+        noted l (hears (r.turn + 1) (took n)),
         record {
-          told = told_more l r.lines (hears (took n) ∷ []) h.told ((λ up. taken_within name l r.link n (le_from _ _ t) h.tied), tt);
-          lives = taken_lives l n h.lives;
-          tied = wrote_tied name l r.link n h.lives.up (le_from _ _ t) h.tied;
+          told = told_more l r.lines (hears (r.turn + 1) (took n) ∷ []) h.told ((λ up. taken_within name l r.link n (le_from _ _ t) h.tied), tt);
+          lives = taken_lives l (r.turn + 1) n h.lives;
+          tied = wrote_tied name l r.link (r.turn + 1) n h.lives.up (le_from _ _ t) h.tied;
           packed = h.packed;
-          cuts = taken_cuts name l n r.settled h.lives.up h.cuts;
+          cuts = taken_cuts name l (r.turn + 1) n r.settled h.lives.up h.cuts;
           none = h.none;
         },
       ),
@@ -226,9 +228,9 @@ record IsEnding (name : ℕ → Owner) (l : Ledger) (r : Run) : Type 0 where
   pub cuts : AreCuts name l.starts l.dealt r.settled
 
 -- the link ends, and what it settles of its row is owed
-over_sound : (name : ℕ → Owner) (l : Ledger) (r : Run) (rows : List Settled) (why : Ending) → ending l ≡ Some why → AllByRecursion (IsOwed name (ended l r.turn)) rows → IsEnding name l r
+over_sound : (name : ℕ → Owner) (l : Ledger) (r : Run) (rows : List Settled) (why : Ending) → ending l ≡ Some why → unstarted_error why ≡ error.Closed → AllByRecursion (IsOwed name (ended l r.turn)) rows → IsEnding name l r
     → Sound name (over_with r (emptied (settling r) (rows ++ queue_closed r.link.queue)))
-over_sound name l r rows why ends_by owed h = inr (
+over_sound name l r rows why ends_by closes owed h = inr (
   refl,
   (
     ended l r.turn,
@@ -238,7 +240,7 @@ over_sound name l r rows why ends_by owed h = inr (
         started = r.settled ++ rows;
         all = sym (append_assoc r.settled rows (queue_closed r.link.queue));
         owed = all_append (IsOwed name (ended l r.turn)) r.settled rows (cuts_owed name (ended l r.turn) r.settled h.cuts) owed;
-        closed = queue_owed l r.turn r.link.queue;
+        closed = queue_owed l r.turn why r.link.queue ends_by closes;
       };
     },
   ),
@@ -246,11 +248,11 @@ over_sound name l r rows why ends_by owed h = inr (
 
 -- it ends by a fault, or since it is shut down
 faulted_sound : (name : ℕ → Owner) (l : Ledger) (r : Run) (f : LinkFault) → ending l ≡ Some (by_fault f) → IsEnding name l r → Sound name (over_with r (faulted (settling r) f))
-faulted_sound name l r f ends_by h = over_sound name l r (row_hit f r.link.row) (by_fault f) ends_by (row_hit_owed name l r.link r.turn f ends_by h.lives h.tied) h
+faulted_sound name l r f ends_by h = over_sound name l r (row_hit f r.link.row) (by_fault f) ends_by refl (row_hit_owed name l r.link r.turn f ends_by h.lives h.tied) h
 
 -- the link is shut down
 closed_sound : (name : ℕ → Owner) (l : Ledger) (r : Run) → ending l ≡ Some by_shutdown → IsEnding name l r → Sound name (over_with r (closed_all (settling r)))
-closed_sound name l r ends_by h = over_sound name l r (row_closed r.link.row) by_shutdown ends_by (row_closed_owed name l r.link r.turn ends_by h.lives h.tied) h
+closed_sound name l r ends_by h = over_sound name l r (row_closed r.link.row) by_shutdown ends_by refl (row_closed_owed name l r.link r.turn ends_by h.lives h.tied) h
 
 -- news that ends a link that is up
 ends_up : (l : Ledger) (news : News) (why : Ending) → l.up ≡ true → ending_up l news ≡ Some why → ending (record l { heard = news }) ≡ Some why
@@ -259,14 +261,14 @@ ends_up l news why up e = taken_if l.up _ _ up ∙ e
 -- a fault is told, and ends the link
 failed_sound : (name : ℕ → Owner) (l : Ledger) (r : Run) (f : LinkFault) → IsLive name l r → Sound name (over_with (heard r (failed f)) (faulted (settling r) f))
 failed_sound name l r f h =
-    faulted_sound name (noted l (hears (failed f))) (heard r (failed f)) f (ends_up l (failed f) (by_fault f) h.lives.up refl)
-    (record { told = told_more l r.lines (hears (failed f) ∷ []) h.told (tt, tt); lives = h.lives.lives; tied = told_tied name l r.link l.asked l.up (failed f) h.tied; cuts = h.cuts })
+    faulted_sound name (noted l (hears (r.turn + 1) (failed f))) (heard r (failed f)) f (ends_up l (failed f) (by_fault f) h.lives.up refl)
+    (record { told = told_more l r.lines (hears (r.turn + 1) (failed f) ∷ []) h.told (tt, tt); lives = h.lives.lives; tied = told_tied name l r.link l.asked l.up (failed f) h.tied; cuts = h.cuts })
 
 -- the shutdown is told, and ends the link
 shut_sound : (name : ℕ → Owner) (l : Ledger) (r : Run) → IsLive name l r → Sound name (over_with (heard r shut) (closed_all (settling r)))
 shut_sound name l r h =
-    closed_sound name (noted l (hears shut)) (heard r shut) (ends_up l shut by_shutdown h.lives.up refl)
-    (record { told = told_more l r.lines (hears shut ∷ []) h.told (tt, tt); lives = h.lives.lives; tied = told_tied name l r.link l.asked l.up shut h.tied; cuts = h.cuts })
+    closed_sound name (noted l (hears (r.turn + 1) shut)) (heard r shut) (ends_up l shut by_shutdown h.lives.up refl)
+    (record { told = told_more l r.lines (hears (r.turn + 1) shut ∷ []) h.told (tt, tt); lives = h.lives.lives; tied = told_tied name l r.link l.asked l.up shut h.tied; cuts = h.cuts })
 
 -- bytes come
 --
@@ -279,7 +281,7 @@ read_ending : (name : ℕ → Owner) (l : Ledger) (r : Run) (piece : List ℕ) �
 read_ending name l r piece h =
     let d = dealt_alike name l r.link piece h.lives.lives h.tied in
     record {
-      told = subst (λ (x : Ledger). IsTold x (r.lines ++ hears (came piece) ∷ [])) (heard_is l piece h.lives.up) (told_more l r.lines (hears (came piece) ∷ []) h.told (tt, tt));
+      told = subst (λ (x : Ledger). IsTold x (r.lines ++ hears (r.turn + 1) (came piece) ∷ [])) (heard_is l (r.turn + 1) piece h.lives.up) (told_more l r.lines (hears (r.turn + 1) (came piece) ∷ []) h.told (tt, tt));
       lives = h.lives.lives;
       tied = read_tied name l r.link piece h.lives.lives h.tied;
       cuts = all_append _ r.settled (deals r.link piece).out (cuts_stay name l.starts l.dealt _ r.settled h.cuts) d.cuts;
@@ -328,7 +330,7 @@ acted_sound name l r (read piece) goes_on h = read_sound name l r piece goes_on 
 acted_sound name l r (withdraw id) goes_on h = inl (goes_on, (l, withdrawn_live name l r id h))
 acted_sound name l r (fail f) goes_on h = failed_sound name l r f h
 acted_sound name l r shut_down goes_on h = shut_sound name l r h
-acted_sound name l r pass goes_on h = inl (goes_on, (noted l (hears silence), heard_live name l r h))
+acted_sound name l r pass goes_on h = inl (goes_on, (noted l (hears (r.turn + 1) silence), heard_live name l r h))
 
 -- one operation
 performed_sound : (name : ℕ → Owner) (r : Run) (o : Operation) → Sound name r → Sound name (performed name r o)

@@ -20,7 +20,7 @@ use Rattle.link_core.specs.Ends.{failed_by, error_of, hit_by, row_closed, row_hi
 use Rattle.link_core.specs.Link.{LinkState, Settling, piece_dealt}
 use Rattle.link_core.specs.Row.{lack_of, lack_of_row}
 use Rattle.legal_trace.specs.Ledger.{Start, hears, noted, End, Ending, by_shutdown, by_fault, Ledger, reach, ending, ending_or_shutdown, full_count, ended}
-use Rattle.legal_trace.specs.Owed.{cut, is_full, fault_error, oldest_error, cut_off, owed_to_message}
+use Rattle.legal_trace.specs.Owed.{cut, is_full, fault_error, oldest_error, unstarted_error, cut_off, owed_to_message, owed_unstarted}
 use Rattle.link_laws.specs.Settles.{StandsAs, IsOwed, IsOwedUnstarted}
 use Rattle.link_laws.proofs.Rows.{Open, untouched_each, open_rows, open_list, StandFrom, rows_stand, unfilled}
 use Rattle.link_laws.proofs.Dealt.{IsCutOf, AreCuts, all_append}
@@ -54,11 +54,11 @@ pub read_owed : (name : ℕ → Owner) (l : Ledger) (s : LinkState) (piece : Lis
 read_owed name l s piece lives h = cuts_owed name (has_heard l piece) (deals s piece).out (dealt_alike name l s piece lives h).cuts
 
 -- what a call with bytes settles is owed, where the link is up, has not ended, and is not broken
-pub came_owed : (name : ℕ → Owner) (l : Ledger) (s : LinkState) (piece : List ℕ) → l.up ≡ true → l.end ≡ None → s.broken ≡ false → TiedLink name l s
-    → AllByRecursion (IsOwed name (noted l (hears (came piece)))) (piece_dealt (record { link = s; out = [] }) piece).out
-came_owed name l s piece up lives sound h =
-    subst (λ (x : Settling). AllByRecursion (IsOwed name (noted l (hears (came piece)))) x.out) (sym (reads_on s [] piece sound))
-    (subst (λ (x : Ledger). AllByRecursion (IsOwed name x) (deals s piece).out) (sym (heard_is l piece up)) (read_owed name l s piece lives h))
+pub came_owed : (name : ℕ → Owner) (l : Ledger) (s : LinkState) (turn : ℕ) (piece : List ℕ) → l.up ≡ true → l.end ≡ None → s.broken ≡ false → TiedLink name l s
+    → AllByRecursion (IsOwed name (noted l (hears turn (came piece)))) (piece_dealt (record { link = s; out = [] }) piece).out
+came_owed name l s turn piece up lives sound h =
+    subst (λ (x : Settling). AllByRecursion (IsOwed name (noted l (hears turn (came piece)))) x.out) (sym (reads_on s [] piece sound))
+    (subst (λ (x : Ledger). AllByRecursion (IsOwed name x) (deals s piece).out) (sym (heard_is l turn piece up)) (read_owed name l s piece lives h))
 
 -- the end
 --
@@ -140,13 +140,17 @@ row_hit_owed name l s turn f ends lives h = hit_owed name l turn f s.row ends (r
 pub row_closed_owed : (name : ℕ → Owner) (l : Ledger) (s : LinkState) (turn : ℕ) → ending l ≡ Some by_shutdown → l.end ≡ None → TiedLink name l s → AllByRecursion (IsOwed name (ended l turn)) (row_closed s.row)
 row_closed_owed name l s turn ends lives h = closed_owed name l turn s.row ends (rows_from name l s.row (h.row lives))
 
--- those that wait get the closed connection
-pub queue_owed : (l : Ledger) (turn : ℕ) (queue : List Queued) → AllByRecursion (IsOwedUnstarted (ended l turn)) (queue_closed queue)
-queue_owed l turn [] = tt
-queue_owed l turn (q ∷ qs) =
+-- a message that waits is owed the error of the opening, where this failed, and else the closed connection
+waiting_owed : (l : Ledger) (turn : ℕ) (why : Ending) (e : RedisError) → ending l ≡ Some why → unstarted_error why ≡ e → owed_unstarted (ended l turn).end ≡ Some (outcome.Fault e)
+waiting_owed l turn why e ends is = ap (λ w. Some (outcome.Fault (unstarted_error (ending_or_shutdown w)))) ends ∙ ap (λ x. Some (outcome.Fault x)) is
+
+-- those that wait for a link that was up get the closed connection
+pub queue_owed : (l : Ledger) (turn : ℕ) (why : Ending) (queue : List Queued) → ending l ≡ Some why → unstarted_error why ≡ error.Closed → AllByRecursion (IsOwedUnstarted (ended l turn)) (queue_closed queue)
+queue_owed l turn why [] ends is = tt
+queue_owed l turn why (q ∷ qs) ends is =
     all_append (IsOwedUnstarted (ended l turn)) (failed_by q.awaited q.id error.Closed) (queue_closed qs)
-    (chosen (AllByRecursion (IsOwedUnstarted (ended l turn))) q.awaited _ _ (λ t. (refl, tt)) (λ f. tt))
-    (queue_owed l turn qs)
+    (chosen (AllByRecursion (IsOwedUnstarted (ended l turn))) q.awaited _ _ (λ t. (waiting_owed l turn why error.Closed ends is, tt)) (λ f. tt))
+    (queue_owed l turn why qs ends is)
 
 -- how many more items the started messages take
 --

@@ -9,7 +9,9 @@ use Rattle.resp_read.specs.Values.{left_over, is_spoiled}
 use Rattle.resp_read.specs.Items.{items}
 use Rattle.resp_read.proofs.ValueLaws.{values-empty, left_over-settled}
 use Rattle.driver_model.specs.declared.action.Owner.{Owner}
-use Rattle.driver_model.specs.News.{News, silence, connected, took, came, failed, shut}
+use Rattle.redis_error.specs.declared.fault_kind.FaultKind.{FaultKind}
+use Rattle.redis_error.specs.declared.redis_error.RedisError.TheVariants as error
+use Rattle.driver_model.specs.News.{News, silence, connected, refused, overdue, took, came, failed, shut}
 use Rattle.link_core.specs.declared.message.Entry.{Entry}
 use Rattle.link_core.specs.declared.message.Queued.{Queued}
 use Rattle.link_core.specs.declared.message.Settled.{Settled}
@@ -19,7 +21,7 @@ use Rattle.link_core.specs.Link.{LinkState, Starting, Settling, fresh, entry_of,
 use Rattle.link_core.specs.Outbox.{can_offer}
 use Rattle.link_core.specs.Row.{silent, silenced}
 use Rattle.link_core.specs.Waiting.{without}
-use Rattle.legal_trace.specs.Ledger.{Start, End, Ledger, ended, asks, hears, begins, offers, ends, blank_ledger, is_over, reach, bytes_came, noted, noted_each, joined, unwritten, IsOffered, MayNote, AllNoted}
+use Rattle.legal_trace.specs.Ledger.{Start, End, Ledger, ended, asks, hears, begins, offers, ends, blank_ledger, is_over, dials, refused_in, reach, bytes_came, noted, noted_each, joined, unwritten, IsOffered, MayNote, AllNoted}
 use Rattle.legal_trace.proofs.Ledgers.{joined_more}
 use Rattle.link_laws.specs.Starts.{start_from, begun, starting, begins_each}
 use Rattle.link_laws.proofs.Choices.{chosen_both}
@@ -88,24 +90,34 @@ pub asked_tied : (name : ℕ → Owner) (l : Ledger) (s : LinkState) → TiedLin
 asked_tied name l s h = told_tied name l s true l.up l.heard h
 
 -- and succeeds
-pub connected_tied : (name : ℕ → Owner) (l : Ledger) (s : LinkState) → TiedLink name l s → TiedLink name (noted l (hears connected)) s
-connected_tied name l s h =
+pub connected_tied : (name : ℕ → Owner) (l : Ledger) (s : LinkState) (turn : ℕ) → TiedLink name l s → TiedLink name (noted l (hears turn connected)) s
+connected_tied name l s turn h =
     chosen (λ (x : Ledger). TiedLink name (record x { heard = connected }) s) (is_over l) l (record l { up = true })
     (λ t. told_tied name l s l.asked l.up connected h)
     (λ f. told_tied name l s l.asked true connected h)
 
 -- a turn that isn't its own, a fault, and the shutdown
-pub silent_tied : (name : ℕ → Owner) (l : Ledger) (s : LinkState) → TiedLink name l s → TiedLink name (noted l (hears silence)) s
-silent_tied name l s h = told_tied name l s l.asked l.up silence h
+pub silent_tied : (name : ℕ → Owner) (l : Ledger) (s : LinkState) (turn : ℕ) → TiedLink name l s → TiedLink name (noted l (hears turn silence)) s
+silent_tied name l s turn h = told_tied name l s l.asked l.up silence h
+
+-- its connect fails, which ends it where it isn't answered
+pub refused_tied : (name : ℕ → Owner) (l : Ledger) (s : LinkState) (turn : ℕ) (f : FaultKind) → TiedLink name l s → TiedLink name (noted l (hears turn (refused f))) s
+refused_tied name l s turn f h =
+    let m = refused_in l turn (error.Io f) in
+    chosen (λ (x : Ledger). TiedLink name (record x { heard = refused f }) s) (dials l) m l
+    (λ t. retied name name l s l.asked l.up m.end (refused f) s.queue s.row h (λ e. cc))
+    (λ t. told_tied name l s l.asked l.up (refused f) h)
 
 -- a link that isn't up hears of no bytes
-pub unheard_tied : (name : ℕ → Owner) (l : Ledger) (s : LinkState) (news : News) → l.up ≡ false → TiedLink name l s → TiedLink name (noted l (hears news)) s
-unheard_tied name l s silence f h = silent_tied name l s h
-unheard_tied name l s connected f h = connected_tied name l s h
-unheard_tied name l s (took count) f h = if_false (λ (x : Ledger). TiedLink name (record x { heard = took count }) s) l.up _ l f (told_tied name l s l.asked l.up (took count) h)
-unheard_tied name l s (came piece) f h = if_false (λ (x : Ledger). TiedLink name (record x { heard = came piece }) s) l.up _ l f (told_tied name l s l.asked l.up (came piece) h)
-unheard_tied name l s (failed why) f h = told_tied name l s l.asked l.up (failed why) h
-unheard_tied name l s shut f h = told_tied name l s l.asked l.up shut h
+pub unheard_tied : (name : ℕ → Owner) (l : Ledger) (s : LinkState) (turn : ℕ) (news : News) → l.up ≡ false → TiedLink name l s → TiedLink name (noted l (hears turn news)) s
+unheard_tied name l s turn silence f h = silent_tied name l s turn h
+unheard_tied name l s turn connected f h = connected_tied name l s turn h
+unheard_tied name l s turn (refused why) f h = refused_tied name l s turn why h
+unheard_tied name l s turn overdue f h = told_tied name l s l.asked l.up overdue h
+unheard_tied name l s turn (took count) f h = if_false (λ (x : Ledger). TiedLink name (record x { heard = took count }) s) l.up _ l f (told_tied name l s l.asked l.up (took count) h)
+unheard_tied name l s turn (came piece) f h = if_false (λ (x : Ledger). TiedLink name (record x { heard = came piece }) s) l.up _ l f (told_tied name l s l.asked l.up (came piece) h)
+unheard_tied name l s turn (failed why) f h = told_tied name l s l.asked l.up (failed why) h
+unheard_tied name l s turn shut f h = told_tied name l s l.asked l.up shut h
 
 -- what changes the link alone
 --
@@ -278,8 +290,8 @@ wrote_link name l s n few h = record {
 }
 
 -- where the link is up
-pub wrote_tied : (name : ℕ → Owner) (l : Ledger) (s : LinkState) (n : ℕ) → l.up ≡ true → n ≤ s.outbox.offered → TiedLink name l s → TiedLink name (noted l (hears (took n))) (wrote_of s n)
-wrote_tied name l s n up few h = if_true (λ (x : Ledger). TiedLink name (record x { heard = took n }) (wrote_of s n)) l.up _ l up (wrote_link name l s n few h)
+pub wrote_tied : (name : ℕ → Owner) (l : Ledger) (s : LinkState) (turn n : ℕ) → l.up ≡ true → n ≤ s.outbox.offered → TiedLink name l s → TiedLink name (noted l (hears turn (took n))) (wrote_of s n)
+wrote_tied name l s turn n up few h = if_true (λ (x : Ledger). TiedLink name (record x { heard = took n }) (wrote_of s n)) l.up _ l up (wrote_link name l s n few h)
 
 -- bytes come
 --
@@ -300,8 +312,8 @@ pub reads_on : (s : LinkState) (out : List Settled) (piece : List ℕ) → s.bro
 reads_on s out piece f = if_false (λ (x : Settling). x ≡ record { link = has_read s piece; out = out ++ (deals s piece).out }) s.broken _ _ f refl
 
 -- and its ledger takes note where it is up
-pub heard_is : (l : Ledger) (piece : List ℕ) → l.up ≡ true → noted l (hears (came piece)) ≡ has_heard l piece
-heard_is l piece up = if_true (λ (x : Ledger). record x { heard = came piece } ≡ has_heard l piece) l.up _ l up refl
+pub heard_is : (l : Ledger) (turn : ℕ) (piece : List ℕ) → l.up ≡ true → noted l (hears turn (came piece)) ≡ has_heard l piece
+heard_is l turn piece up = if_true (λ (x : Ledger). record x { heard = came piece } ≡ has_heard l piece) l.up _ l up refl
 
 -- each item is dealt alike
 pub dealt_alike : (name : ℕ → Owner) (l : Ledger) (s : LinkState) (piece : List ℕ) → l.end ≡ None → TiedLink name l s → IsDealt name l.starts (bytes_came l piece).dealt (deals s piece)
@@ -326,11 +338,11 @@ read_tied name l s piece lives h =
     }
 
 -- where the link is up, has not ended, and is not broken
-pub came_tied : (name : ℕ → Owner) (l : Ledger) (s : LinkState) (out : List Settled) (piece : List ℕ) → l.up ≡ true → l.end ≡ None → s.broken ≡ false → TiedLink name l s
-    → TiedLink name (noted l (hears (came piece))) (piece_dealt (record { link = s; out = out }) piece).link
-came_tied name l s out piece up lives sound h =
-    subst (λ (x : Settling). TiedLink name (noted l (hears (came piece))) x.link) (sym (reads_on s out piece sound))
-    (subst (λ (x : Ledger). TiedLink name x (has_read s piece)) (sym (heard_is l piece up)) (read_tied name l s piece lives h))
+pub came_tied : (name : ℕ → Owner) (l : Ledger) (s : LinkState) (out : List Settled) (turn : ℕ) (piece : List ℕ) → l.up ≡ true → l.end ≡ None → s.broken ≡ false → TiedLink name l s
+    → TiedLink name (noted l (hears turn (came piece))) (piece_dealt (record { link = s; out = out }) piece).link
+came_tied name l s out turn piece up lives sound h =
+    subst (λ (x : Settling). TiedLink name (noted l (hears turn (came piece))) x.link) (sym (reads_on s out piece sound))
+    (subst (λ (x : Ledger). TiedLink name x (has_read s piece)) (sym (heard_is l turn piece up)) (read_tied name l s piece lives h))
 
 -- the link ends
 --

@@ -13,7 +13,7 @@ use Rattle.link_core.specs.Waiting.{without}
 use Rattle.legal_trace.specs.Ledger.{reach, ledger}
 use Rattle.link_laws.specs.Alike.{SameLink, SameStarting, SameSettling, others}
 use Rattle.link_laws.specs.Pieces.{dealt_by}
-use Rattle.link_laws.specs.Runs.{Operation, withdraw, Run, performed, run, AreOwed, answered_or_wanted, wanted_by, is_withdraw}
+use Rattle.link_laws.specs.Runs.{Operation, withdraw, Run, performed, run, answered_or_wanted, wanted_by, is_withdraw}
 use Rattle.link_laws.specs.Settles.{settled_ids, awaited_of}
 
 -- links that are alike but for one message's own verdict are so after this call

@@ -39,11 +39,11 @@ pub record Run : Type 0 where
 
 -- a link is asked for in turn 0, and its connect succeeds in turn 1
 abbrev pub fresh_run : ℕ → ℕ → Run
-fresh_run size boundary = record { link = fresh size boundary; over = false; turn = 1; lines = asks ∷ hears connected ∷ []; settled = []; unstarted = [] }
+fresh_run size boundary = record { link = fresh size boundary; over = false; turn = 1; lines = asks ∷ hears 1 connected ∷ []; settled = []; unstarted = [] }
 
 -- a turn, with this news for the link
 abbrev pub heard : Run → News → Run
-heard r news = record r { turn = r.turn + 1; lines = r.lines ++ hears news ∷ [] }
+heard r news = record r { turn = r.turn + 1; lines = r.lines ++ hears (r.turn + 1) news ∷ [] }
 
 -- the link and what it settled, for a call of it
 abbrev pub settling : Run → Settling

@@ -1,0 +1,129 @@
+-- Links whose connect is answered: no opening of theirs fails any more, and none that failed is forgotten.
+use Rattle.std.proofs.Common.{◌≡◌, ℕ, true, false, ◌&&◌, not, List, [], ◌∷◌, Option, Some, None, if◌then◌else◌, refl}
+use Rattle.std.proofs.lemmas.Bool.{not-true}
+use Rattle.containers.proofs.Choices.{chosen, both_left, both_right}
+use Rattle.redis_error.specs.declared.redis_error.RedisError.{RedisError}
+use Rattle.redis_error.specs.declared.redis_error.RedisError.TheVariants as error
+use Rattle.driver_model.specs.declared.news.LinkFault.TheVariants as fault
+use Rattle.driver_model.specs.News.{News, silence, connected, refused, overdue, took, came, failed, shut}
+use Rattle.resp_read.specs.Values.{is_spoiled}
+use Rattle.legal_trace.specs.Ledger.{Ledger, Line, End, Ending, by_fault, asks, hears, begins, offers, ends, noted, noted_each, with_news, refused_in, bytes_came, is_over, dials, ending, ending_up, ending_asked, ending_or_shutdown, failure_of, failure_in, MayNote, AllNoted}
+use Rattle.legal_trace.proofs.Ledgers.{dials_from, UpIsNotOver, up_keeps}
+use Rattle.legal_trace.proofs.Plain.{none_from, not_none}
+
+-- its connect is not open: it was not asked for, is up, or has ended
+abbrev pub Quiet : Ledger → Type 0
+Quiet l = l.asked ≡ true → l.up ≡ false → l.end ≡ None → ⊥
+
+-- news leave it so
+quiet_hears : (l : Ledger) (turn : ℕ) (news : News) → Quiet l → Quiet (with_news l turn news)
+quiet_hears l turn silence h = h
+quiet_hears l turn connected h = chosen Quiet (is_over l) l (record l { up = true }) (λ t. h) (λ e a u n. absurd (cc u))
+quiet_hears l turn (refused f) h = chosen Quiet (dials l) (refused_in l turn (error.Io f)) l (λ t a u n. absurd (cc n)) (λ e. h)
+quiet_hears l turn overdue h = h
+quiet_hears l turn (took count) h = chosen Quiet l.up _ l (λ t. h) (λ e. h)
+quiet_hears l turn (came piece) h = chosen Quiet l.up (bytes_came l piece) l (λ t. h) (λ e. h)
+quiet_hears l turn (failed f) h = h
+quiet_hears l turn shut h = h
+
+-- no opening fails by these
+abbrev NoFailure : Option Ending → Type 0
+NoFailure o = failure_of (ending_or_shutdown o) ≡ None
+
+-- what ends a link that is up is no failed opening
+up_fails_not : (l : Ledger) (news : News) → NoFailure (ending_up l news)
+up_fails_not l silence = refl
+up_fails_not l connected = refl
+up_fails_not l (refused f) = refl
+up_fails_not l overdue = refl
+up_fails_not l (took count) = refl
+up_fails_not l (came piece) = chosen NoFailure (is_spoiled l.rest) (Some (by_fault fault.Parse)) None (λ t. refl) (λ f. refl)
+up_fails_not l (failed f) = refl
+up_fails_not l shut = refl
+
+-- nor is what ends one whose connect is not open
+quiet_fails_not : (l : Ledger) → Quiet l → NoFailure (ending l)
+quiet_fails_not l h =
+    chosen NoFailure l.up (ending_up l l.heard) (if l.asked && not (is_over l) then ending_asked l.heard else None)
+    (λ t. up_fails_not l l.heard)
+    (λ down. chosen NoFailure (l.asked && not (is_over l)) (ending_asked l.heard) None
+    (λ t. absurd (h (both_left l.asked (not (is_over l)) t) down (none_from l.end (not-true (is_over l) (both_right l.asked (not (is_over l)) t)))))
+    (λ f. refl))
+
+-- its connect is not open, and if its opening failed, this is what was shown
+pub record IsQuiet (shown : List (Option RedisError)) (l : Ledger) : Type 0 where
+  pub quiet : Quiet l
+  pub tells : (e : RedisError) → failure_in l.end ≡ Some e → shown ≡ Some e ∷ []
+
+-- it fails by no news
+abbrev Tells : List (Option RedisError) → Ledger → Type 0
+Tells shown l = (e : RedisError) → failure_in l.end ≡ Some e → shown ≡ Some e ∷ []
+
+tells_hears : (shown : List (Option RedisError)) (l : Ledger) (turn : ℕ) (news : News) → IsQuiet shown l → Tells shown (with_news l turn news)
+tells_hears shown l turn silence h = h.tells
+tells_hears shown l turn connected h = chosen (Tells shown) (is_over l) l (record l { up = true }) (λ t. h.tells) (λ e. h.tells)
+tells_hears shown l turn (refused f) h =
+    chosen (Tells shown) (dials l) (refused_in l turn (error.Io f)) l
+    (λ t. let open_still = dials_from l t in absurd (h.quiet open_still.0 open_still.1 (none_from l.end open_still.2)))
+    (λ e. h.tells)
+tells_hears shown l turn overdue h = h.tells
+tells_hears shown l turn (took count) h = chosen (Tells shown) l.up _ l (λ t. h.tells) (λ e. h.tells)
+tells_hears shown l turn (came piece) h = chosen (Tells shown) l.up (bytes_came l piece) l (λ t. h.tells) (λ e. h.tells)
+tells_hears shown l turn (failed f) h = h.tells
+tells_hears shown l turn shut h = h.tells
+
+-- so it stays with a turn
+pub hears_quiet : (shown : List (Option RedisError)) (l : Ledger) (turn : ℕ) (news : News) → IsQuiet shown l → IsQuiet shown (noted l (hears turn news))
+hears_quiet shown l turn news h = record { quiet = quiet_hears l turn news h.quiet; tells = tells_hears shown l turn news h }
+
+-- and with its end
+pub ends_quiet : (shown : List (Option RedisError)) (l : Ledger) (turn : ℕ) → IsQuiet shown l → IsQuiet shown (noted l (ends turn))
+ends_quiet shown l turn h = record {
+  quiet = λ a u n. absurd (cc n);
+  tells = λ e fails. absurd (not_none (failure_of (ending_or_shutdown (ending l))) e (quiet_fails_not l h.quiet) fails);
+}
+
+-- what has ended ends no second time
+over_stays : (l : Ledger) (end : End) → UpIsNotOver l → l.end ≡ Some end → ending l ≡ None
+over_stays l end h over =
+    chosen (λ (x : Option Ending). x ≡ None) l.up (ending_up l l.heard) (if l.asked && not (is_over l) then ending_asked l.heard else None)
+    (λ t. absurd (not_none l.end end (h t) over))
+    (λ down. chosen (λ (x : Option Ending). x ≡ None) (l.asked && not (is_over l)) (ending_asked l.heard) None
+    (λ t. absurd (not_none l.end end (none_from l.end (not-true (is_over l) (both_right l.asked (not (is_over l)) t))) over))
+    (λ f. refl))
+
+-- where an opening failed, the link has ended
+pub failed_is_over : (o : Option End) (e : RedisError) → failure_in o ≡ Some e → (end : End) × (o ≡ Some end)
+failed_is_over None e fails = absurd (cc fails)
+failed_is_over (Some end) e fails = (end, refl)
+
+-- its opening failed with that error
+abbrev FailedWith : RedisError → Ledger → Type 0
+FailedWith e l = failure_in l.end ≡ Some e
+
+-- so it stays
+failed_hears : (e : RedisError) (l : Ledger) (turn : ℕ) (news : News) → FailedWith e l → FailedWith e (with_news l turn news)
+failed_hears e l turn silence h = h
+failed_hears e l turn connected h = chosen (FailedWith e) (is_over l) l (record l { up = true }) (λ t. h) (λ f. h)
+failed_hears e l turn (refused f) h =
+    chosen (FailedWith e) (dials l) (refused_in l turn (error.Io f)) l
+    (λ t. let over = failed_is_over l.end e h in absurd (not_none l.end over.0 (none_from l.end (dials_from l t).2) over.1))
+    (λ f. h)
+failed_hears e l turn overdue h = h
+failed_hears e l turn (took count) h = chosen (FailedWith e) l.up _ l (λ t. h) (λ f. h)
+failed_hears e l turn (came piece) h = chosen (FailedWith e) l.up (bytes_came l piece) l (λ t. h) (λ f. h)
+failed_hears e l turn (failed f) h = h
+failed_hears e l turn shut h = h
+
+-- with any line that may stand
+failed_noted : (e : RedisError) (l : Ledger) (x : Line) → MayNote l x → UpIsNotOver l → FailedWith e l → FailedWith e (noted l x)
+failed_noted e l asks may up h = h
+failed_noted e l (hears turn news) may up h = failed_hears e l turn news h
+failed_noted e l (begins s) may up h = h
+failed_noted e l (offers bytes) may up h = h
+failed_noted e l (ends turn) may up h = let over = failed_is_over l.end e h in absurd (not_none (ending l) may.0 (over_stays l over.0 up over.1) may.1)
+
+-- and with many
+pub failed_stays : (e : RedisError) (l : Ledger) (lines : List Line) → AllNoted l lines → UpIsNotOver l → failure_in l.end ≡ Some e → failure_in (noted_each l lines).end ≡ Some e
+failed_stays e l [] all up h = h
+failed_stays e l (x ∷ more) all up h = failed_stays e (noted l x) more all.1 (up_keeps l x up) (failed_noted e l x all.0 up h)
