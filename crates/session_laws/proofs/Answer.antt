@@ -1,6 +1,5 @@
 -- One outcome: where it may stand, and what it leaves.
 use Rattle.std.proofs.Common.{◌≡◌, ◌≢◌, inl, inr, ℕ, ◌<◌, ◌==◌, Bool, true, false, ◌&&◌, not, is_some, List, [], ◌∷◌, ◌++◌, length, Option, Some, None, if◌then◌else◌, refl, sym, ap, ◌∙◌, subst}
-use Rattle.mux_conn.specs.Connection.{has_ended}
 use Rattle.std.specs.List.{AllByRecursion}
 use Rattle.containers.proofs.Choices.{by_test, chosen, if_true, left_if, eq_from, ne_from, not_both}
 use Rattle.driver_model.specs.declared.action.Action.TheVariants as action
@@ -24,7 +23,7 @@ use Rattle.legal_trace.specs.Book.{Book, entered}
 use Rattle.legal_trace.specs.Owed.{owed, owed_to_try, owed_to_message, owed_unstarted}
 use Rattle.legal_trace.specs.Legal.{NoneEnds, VerdictsAreShown, MayAnswer, FailuresAreShown}
 use Rattle.session_laws.proofs.Numbers.{IsIn, in_right, in_left, Rising, rising_in}
-use Rattle.session_laws.proofs.Tied.{Inner, link_in, queue_ids, waiting_ids, IsUnknown, TiedLife, TiedNames, IsEntry, TiedLines, Tied, relined}
+use Rattle.session_laws.proofs.Tied.{Inner, link_in, queue_ids, waiting_ids, IsUnknown, TiedLife, TiedNames, IsEntry, TiedLines, Tied, relined, has_ended}
 use Rattle.session_laws.proofs.Names.{open_within, earlier_name, owners_still, length_still, names_progressed, there_other, there_then}
 use Rattle.session_laws.proofs.InLine.{line_of, IsInLine, first_is_apart}
 use Rattle.session_laws.proofs.Closing.{Closes, with_closed, story_closed, tries_closed, packs_closed, queue_closed, waits_closed}

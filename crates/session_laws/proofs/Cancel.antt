@@ -1,6 +1,5 @@
 -- The caller of a submission has gone.
 use Rattle.std.proofs.Common.{◌≡◌, ◌≢◌, inl, inr, ℕ, suc, ◌+◌, ◌<◌, ◌==◌, Bool, true, false, ◌&&◌, ◌||◌, is_some, List, [], ◌∷◌, ◌++◌, length, Option, Some, None, slice_get, if◌then◌else◌, refl, sym, ap, ◌∙◌, subst, arith}
-use Rattle.mux_conn.specs.Connection.{has_ended}
 use Rattle.std.specs.List.{AllByRecursion}
 use Rattle.containers.proofs.Choices.{chosen, left_if, eq_from, ne_from}
 use Rattle.driver_model.specs.declared.action.Action.{Action}
@@ -30,7 +29,7 @@ use Rattle.legal_trace.specs.Ledger.{Ledger}
 use Rattle.legal_trace.specs.Story.{Story, is_open, left}
 use Rattle.legal_trace.specs.Book.{Book, book, entered, if_own}
 use Rattle.session_laws.proofs.Numbers.{IsIn, in_left, in_right, in_either, Rising, rising_in, rising_right}
-use Rattle.session_laws.proofs.Tied.{inner, link_in, owner_of, queue_ids, waiting_ids, IsQueued, IsEntry, TiedLife, TiedStory, TiedLines, Tied, no_opening}
+use Rattle.session_laws.proofs.Tied.{inner, link_in, owner_of, queue_ids, waiting_ids, IsQueued, IsEntry, TiedLife, TiedStory, TiedLines, Tied, no_opening, has_ended}
 use Rattle.session_laws.proofs.States.{IsWhole, IsWholeIn, Between, HasApplied}
 use Rattle.session_laws.proofs.Names.{open_within, name_of_some, owners_still, length_still, names_progressed, there_other, there_then}
 use Rattle.session_laws.proofs.InLine.{row_ids, wanted_in}

@@ -16,7 +16,7 @@ use Rattle.mux_conn.specs.declared.life.Life.{Life}
 use Rattle.mux_conn.specs.declared.life.Life.TheVariants.{Ready, Ended}
 use Rattle.mux_conn.specs.declared.request.Request.{Request}
 use Rattle.mux_conn.specs.declared.request.Waiting.{Waiting}
-use Rattle.mux_conn.specs.Connection.{Work, acted, at_life, has_ended}
+use Rattle.mux_conn.specs.Connection.{Work, acted, at_life}
 use Rattle.mux_conn.specs.Requests.{name_at}
 use Rattle.mux_conn.specs.Effects.{waiting_failed, new_link, settled_each, ended}
 use Rattle.shared_session.specs.declared.core_state.Core.{Core}
@@ -27,7 +27,7 @@ use Rattle.legal_trace.specs.Book.{Book, book, entered}
 use Rattle.legal_trace.specs.Owed.{owed, owed_unstarted, unstarted_error}
 use Rattle.legal_trace.specs.Legal.{MayClose}
 use Rattle.session_laws.proofs.Numbers.{IsIn, in_left, in_right, Rising, rising_in, rising_within, rising_right, rising_tail}
-use Rattle.session_laws.proofs.Tied.{Inner, link_in, owner_of, queue_ids, waiting_ids, TiedLines, Tied, relined, FailureIsShown, TiedLife}
+use Rattle.session_laws.proofs.Tied.{Inner, link_in, owner_of, queue_ids, waiting_ids, TiedLines, Tied, relined, FailureIsShown, TiedLife, has_ended}
 use Rattle.session_laws.proofs.States.{HasApplied}
 use Rattle.session_laws.proofs.InLine.{line_of, IsInLine, awaited_rises}
 use Rattle.session_laws.proofs.Owes.{none_owed, in_line, later_unstarted, owed_none_started, settled_owed}

@@ -1,6 +1,5 @@
 -- The event's own effect: each kind of event leaves the session tied to its book, and nothing due but what moves.
 use Rattle.std.proofs.Common.{◌≡◌, ℕ, ◌==◌, ◌&&◌, false, List, [], ◌∷◌, ◌++◌, refl, sym, ◌∙◌, subst}
-use Rattle.session_laws.proofs.Failing.{refused_applied, overdue_applied}
 use Rattle.containers.proofs.Choices.{or_left, or_right, eq_test, not_le_from, not_lt_from}
 use Rattle.driver_model.specs.declared.action.Action.{Action}
 use Rattle.driver_model.specs.declared.event.EventKind.{EventKind}
@@ -14,7 +13,7 @@ use Rattle.shared_session.specs.declared.core_state.Core.{Core}
 use Rattle.shared_session.specs.Turn.{with_work, heard, effect, counted, is_no_link, exceeds_offer, is_bad}
 use Rattle.session_laws.proofs.States.{Between, HasApplied}
 use Rattle.session_laws.proofs.Announce.{turn_of, turned, own_news, own_timer}
-use Rattle.session_laws.proofs.Connect.{connected_applied}
+use Rattle.session_laws.proofs.Connect.{connected_applied, refused_applied, overdue_applied}
 use Rattle.session_laws.proofs.Took.{took_applied}
 use Rattle.session_laws.proofs.Read.{read_applied}
 use Rattle.session_laws.proofs.End.{failed_applied, shut_applied}

@@ -19,13 +19,13 @@ use Rattle.link_laws.proofs.Settles.{row_hit_owed, row_closed_owed}
 use Rattle.link_laws.proofs.TiedLink.{TiedLink, told_tied}
 use Rattle.mux_conn.specs.declared.life.Life.{Life}
 use Rattle.mux_conn.specs.declared.life.Life.TheVariants.{Dialing, Ready, Ended}
-use Rattle.mux_conn.specs.Connection.{Work, has_ended}
+use Rattle.mux_conn.specs.Connection.{Work}
 use Rattle.mux_conn.specs.Effects.{ended_by, failed_at, shut_at}
 use Rattle.shared_session.specs.declared.core_state.Core.{Core}
 use Rattle.shared_session.specs.Turn.{with_work, is_bad}
 use Rattle.legal_trace.specs.Ledger.{Ledger, by_fault, by_shutdown, ends, noted, ending, is_over}
 use Rattle.legal_trace.specs.Book.{book}
-use Rattle.session_laws.proofs.Tied.{link_in, owner_of, TiedLife}
+use Rattle.session_laws.proofs.Tied.{link_in, owner_of, TiedLife, has_ended}
 use Rattle.session_laws.proofs.States.{Between, HasApplied}
 use Rattle.session_laws.proofs.Settle.{trace_of_acts, Holds}
 use Rattle.session_laws.proofs.Close.{HasEnded, ended_holds, ended_applied}

@@ -1,7 +1,6 @@
 -- A session whose event has had its own effect, while requests are moved.
 use Rattle.std.proofs.Common.{List, None, [], ap, false, refl, subst, sym, ℕ, ◌++◌, ◌∙◌, ◌∷◌, ◌≡◌, ◌≢◌}
 use Rattle.redis_error.specs.declared.redis_error.RedisError.{RedisError}
-use Rattle.mux_conn.specs.Connection.{has_ended}
 use Rattle.std.specs.Prelude.{◌==◌}
 use Rattle.containers.proofs.Choices.{chosen, not_both}
 use Rattle.driver_model.specs.declared.action.Action.{Action}
@@ -15,7 +14,7 @@ use Rattle.session_laws.proofs.Entered.{book_more, sound_more}
 use Rattle.session_laws.proofs.Moves.{AreQueued, none_moves}
 use Rattle.session_laws.proofs.Owes.{created_is, none_open, none_owed}
 use Rattle.session_laws.proofs.States.{IsWholeIn}
-use Rattle.session_laws.proofs.Tied.{Inner, Sound, Tied, TiedLife, link_in, queue_ids, waiting_ids}
+use Rattle.session_laws.proofs.Tied.{Inner, Sound, Tied, TiedLife, link_in, queue_ids, waiting_ids, has_ended}
 use Rattle.session_laws.proofs.Told.{NoneTold}
 
 -- nothing must end, and who was told and has not started is in the queue

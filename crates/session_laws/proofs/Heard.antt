@@ -4,7 +4,6 @@ use Rattle.driver_model.specs.declared.action.Purpose.{Purpose}
 use Rattle.driver_model.specs.declared.outcome.Outcome.TheVariants as outcome
 use Rattle.redis_error.specs.declared.redis_error.RedisError.TheVariants as error
 use Rattle.redis_error.specs.declared.redis_error.RedisError.{RedisError}
-use Rattle.mux_conn.specs.Connection.{has_ended}
 use Rattle.containers.proofs.Choices.{by_test, chosen, if_false, left_if, eq_from, ne_from, not_both}
 use Rattle.driver_model.specs.declared.action.Action.{Action}
 use Rattle.driver_model.specs.declared.event.EventKind.{EventKind}
@@ -18,7 +17,7 @@ use Rattle.shared_session.specs.Turn.{with_work, is_bad}
 use Rattle.legal_trace.specs.Ledger.{Ledger, Ending, hears, noted, ending, ending_up, ending_asked, is_over, bytes_came, dials, refused_in}
 use Rattle.legal_trace.specs.Book.{Book, book, entered}
 use Rattle.legal_trace.specs.Legal.{NoneEnds}
-use Rattle.session_laws.proofs.Tied.{Inner, link_in, owner_of, TiedLife, TiedLines, TiedWaits, Tied}
+use Rattle.session_laws.proofs.Tied.{Inner, link_in, owner_of, TiedLife, TiedLines, TiedWaits, Tied, has_ended}
 use Rattle.session_laws.proofs.States.{IsWholeIn, Between, HasApplied}
 use Rattle.session_laws.proofs.Answer.{unknown_ends, not_up_ends, over_not_asked, some_end}
 use Rattle.session_laws.proofs.Settle.{seen, trace_of_acts, Holds}

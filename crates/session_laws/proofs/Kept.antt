@@ -1,6 +1,5 @@
 -- What one action of a turn leaves as it is.
 use Rattle.std.proofs.Common.{Bool, List, [], ap, length, refl, slice_get, subst, sym, ℕ, ◌<◌, ◌∙◌, ◌∷◌, ◌≡◌, ◌≢◌, false}
-use Rattle.mux_conn.specs.Connection.{has_ended}
 use Rattle.std.specs.List.{AllByRecursion}
 use Rattle.std.specs.Prelude.{◌==◌}
 use Rattle.containers.proofs.Choices.{chosen, eq_from, eq_test, if_false, ne_test, taken_if}
@@ -16,7 +15,7 @@ use Rattle.legal_trace.specs.Ledger.{Ledger, Line, noted, noted_each}
 use Rattle.legal_trace.specs.Story.{Story, awaited_in, packed_in, shape_in, tried}
 use Rattle.session_laws.proofs.Names.{name_placed}
 use Rattle.session_laws.proofs.Owes.{request_story}
-use Rattle.session_laws.proofs.Tied.{Inner, IsOf, IsPacked, IsQueued, IsRequest, IsUnknown, Tied, TiedLife, TiedLines, TiedNames, TiedNumbers, TiedStory, TiedTries, TiedWaits, link_in, owner_of}
+use Rattle.session_laws.proofs.Tied.{Inner, IsOf, IsPacked, IsQueued, IsRequest, IsUnknown, Tied, TiedLife, TiedLines, TiedNames, TiedNumbers, TiedStory, TiedTries, TiedWaits, link_in, owner_of, has_ended}
 
 -- a session and the ledger of its link, which is that of the book
 pub record TiedBy (b : Book) (t : Inner) (l : Ledger) : Type 0 where

@@ -20,7 +20,6 @@ pub mod Announce
 pub mod Heard
 pub mod End
 pub mod Connect
-pub mod Failing
 pub mod Took
 pub mod Read
 pub mod Cancel

@@ -8,7 +8,7 @@ use Rattle.driver_model.specs.declared.action.Action.{Action}
 use Rattle.driver_model.specs.declared.outcome.Outcome.{Outcome}
 use Rattle.link_core.specs.Link.{LinkState, started_all}
 use Rattle.link_laws.specs.Settles.{awaited_ids, wanted}
-use Rattle.mux_conn.specs.Connection.{Work, moves_none, with_link, has_ended}
+use Rattle.mux_conn.specs.Connection.{Work, moves_none, with_link}
 use Rattle.mux_conn.specs.Effects.{failed_each, waiting_failed}
 use Rattle.mux_conn.specs.Passes.{moved, moved_all, moved_at, moved_each, passed, started_at, still_waiting}
 use Rattle.mux_conn.specs.Requests.{answered, at_progress, is_open as is_open_progress, is_open_at, is_waiting, is_waiting_at, name_at}
@@ -30,7 +30,7 @@ use Rattle.session_laws.proofs.Passes.{IsUp, moved_all_up, moved_none_waits, mov
 use Rattle.session_laws.proofs.Settle.{Holds, answered_leaves, book_of_more, failed_leaves, seen, trace_of_acts}
 use Rattle.session_laws.proofs.Starts.{shown_is}
 use Rattle.session_laws.proofs.States.{IsWhole, IsWholeIn}
-use Rattle.session_laws.proofs.Tied.{Inner, Sound, Tied, link_in, queue_ids}
+use Rattle.session_laws.proofs.Tied.{Inner, Sound, Tied, link_in, queue_ids, has_ended}
 use Rattle.session_laws.proofs.Told.{NoneTold, fault_told}
 
 -- the event has had its effect, all messages that may start have started, and none waits but for the connect

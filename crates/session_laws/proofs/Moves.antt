@@ -2,7 +2,6 @@
 use Rattle.std.proofs.Common.{List, [], ap, arith, inl, inr, length, refl, subst, sym, true, ℕ, ◌++◌, ◌<◌, ◌∙◌, ◌∷◌, ◌≡◌, ◌≢◌, false}
 use Rattle.legal_trace.specs.Ledger.{Ledger}
 use Rattle.mux_conn.specs.declared.life.Life.{Life}
-use Rattle.mux_conn.specs.Connection.{has_ended}
 use Rattle.containers.proofs.Choices.{not_both}
 use Rattle.link_laws.proofs.Started.{row_open}
 use Rattle.link_laws.specs.Settles.{StandsAs, wanted}
@@ -16,7 +15,7 @@ use Rattle.session_laws.proofs.InLine.{first_is_least, line_of, open_in_line, ro
 use Rattle.session_laws.proofs.Names.{earlier_name, open_within}
 use Rattle.session_laws.proofs.Numbers.{IsIn, Rising, in_either, in_left, rising_in, rising_right}
 use Rattle.session_laws.proofs.Owes.{lives, open_request, stands_started, wanted_entry}
-use Rattle.session_laws.proofs.Tied.{Inner, Tied, TiedLife, link_in, owner_of, queue_ids, waiting_ids}
+use Rattle.session_laws.proofs.Tied.{Inner, Tied, TiedLife, link_in, owner_of, queue_ids, waiting_ids, has_ended}
 
 -- who was told at its place and has not started has a place in the queue
 abbrev pub AreQueued : Book → Inner → Type 0

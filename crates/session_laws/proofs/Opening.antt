@@ -133,15 +133,15 @@ timer_stands config word info None is = tt
 timer_stands config word info (Some ms) is = (record { config = config; word = word; opens = refl; bounded = is; asked = λ e. cc; first = refl; next = refl; is_for = refl }, tt)
 
 -- and so its actions may
-opening_stands : (config : Config) (word : ℕ) (info : ConnectionInfo) (timeout : Option ℕ) → address config ≡ Some info → connect_timeout config ≡ timeout → AllStand blank_book (opened_actions config word info timeout)
-opening_stands config word info timeout at is = (
+opening_stands : (config : Config) (word : ℕ) (info : ConnectionInfo) (timeout : Option ℕ) → IsSound config → address config ≡ Some info → connect_timeout config ≡ timeout → AllStand blank_book (opened_actions config word info timeout)
+opening_stands config word info timeout sound at is = (
   record { next = refl; is_for = refl },
-  (record { config = config; word = word; opens = refl; first = refl; next = refl; info = info; configured = at; address = (refl, refl) }, timer_stands config word info timeout is),
+  (record { config = config; word = word; opens = refl; sound = sound; first = refl; next = refl; info = info; configured = at; address = (refl, refl) }, timer_stands config word info timeout is),
 )
 
 -- the session after an opening with an address
-opened_between : (config : Config) (word : ℕ) (info : ConnectionInfo) (timeout : Option ℕ) → address config ≡ Some info → connect_timeout config ≡ timeout → IsBetween (opened_actions config word info timeout) (opened_core (connect_timers timeout))
-opened_between config word info timeout at is =
+opened_between : (config : Config) (word : ℕ) (info : ConnectionInfo) (timeout : Option ℕ) → IsSound config → address config ≡ Some info → connect_timeout config ≡ timeout → IsBetween (opened_actions config word info timeout) (opened_core (connect_timers timeout))
+opened_between config word info timeout sound at is =
     let timers = connect_timers timeout in
     let b = opened config word info timers in
     let c = opened_core timers in
@@ -155,7 +155,7 @@ opened_between config word info timeout at is =
     record {
       started = [];
       between = record {
-        sound = record { stands = opening_stands config word info timeout at is; tied = subst (λ (x : Book). Tied x t) book_is tied };
+        sound = record { stands = opening_stands config word info timeout sound at is; tied = subst (λ (x : Book). Tied x t) book_is tied };
         settled = subst IsSettled book_is (is_settled b t tied refl refl whole waiting (is_written b t tied moved (λ link e. cc)));
         began = λ e. cc;
         fresh = refl;
@@ -172,4 +172,4 @@ opening_between config word sound = by_address (address config) refl sound
     by_address : (x : Option ConnectionInfo) → address config ≡ x → fault_in x ≡ None
         → IsBetween (action.Turn 0 (cause.Opening config word) ∷ connect_asked x (connect_timeout config)) (opening_core config word)
     by_address None at none = cc
-    by_address (Some info) at none = opened_between config word info (connect_timeout config) at refl
+    by_address (Some info) at none = opened_between config word info (connect_timeout config) sound at refl

@@ -1,7 +1,6 @@
 -- What submissions are owed, by the requests that they are.
 use Rattle.std.proofs.Common.{◌≡◌, ◌≢◌, inl, inr, ℕ, zero, suc, ◌<◌, ◌==◌, Bool, true, false, ◌&&◌, not, is_some, length-append, List, [], ◌∷◌, ◌++◌, length, Option, Some, None, slice_get, refl, sym, ap, ◌∙◌, subst, arith}
 use Rattle.redis_error.specs.declared.redis_error.RedisError.{RedisError}
-use Rattle.mux_conn.specs.Connection.{has_ended}
 use Rattle.std.specs.List.{AllByRecursion}
 use Rattle.std.proofs.lemmas.List.{nil_from_length}
 use Rattle.containers.proofs.Choices.{by_test, left_if, eq_from, ne_from, ne_test, not_both}
@@ -25,7 +24,7 @@ use Rattle.legal_trace.specs.Book.{Book}
 use Rattle.legal_trace.specs.Owed.{owed, owed_to_message, owed_unstarted, owed_to_try}
 use Rattle.legal_trace.specs.Legal.{IsOpen, NoneIsOwed, IsCreated, FailuresAreShown}
 use Rattle.session_laws.proofs.Numbers.{Rising, IsIn, in_either, rising_in, rising_left, rising_apart}
-use Rattle.session_laws.proofs.Tied.{IsEntry, Inner, link_in, owner_of, owners_of, owners_each, queue_ids, waiting_ids, IsRequest, TiedStory, TiedLife, Tied, FailureIsShown}
+use Rattle.session_laws.proofs.Tied.{IsEntry, Inner, link_in, owner_of, owners_of, owners_each, queue_ids, waiting_ids, IsRequest, TiedStory, TiedLife, Tied, FailureIsShown, has_ended}
 use Rattle.session_laws.proofs.Names.{get_some, open_within, name_of_some, name_placed, same_name}
 use Rattle.session_laws.proofs.InLine.{AtPlaces, IsInLine, wanted_rises, places_rise, row_ids, wanted_in, line_of, open_in_line}
 

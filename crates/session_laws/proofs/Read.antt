@@ -24,7 +24,7 @@ use Rattle.mux_conn.specs.declared.life.Life.{Life}
 use Rattle.mux_conn.specs.declared.life.Life.TheVariants.{Dialing, Ready, Ended}
 use Rattle.mux_conn.specs.declared.request.Request.{Request}
 use Rattle.mux_conn.specs.declared.request.Waiting.{Waiting}
-use Rattle.mux_conn.specs.Connection.{Work, has_ended}
+use Rattle.mux_conn.specs.Connection.{Work}
 use Rattle.mux_conn.specs.Requests.{name_at}
 use Rattle.mux_conn.specs.Effects.{settled_each, failed_at, read_to, read_at}
 use Rattle.shared_session.specs.declared.core_state.Core.{Core}
@@ -34,7 +34,7 @@ use Rattle.legal_trace.specs.Story.{Story}
 use Rattle.legal_trace.specs.Book.{book}
 use Rattle.legal_trace.specs.Owed.{owed}
 use Rattle.session_laws.proofs.Numbers.{IsIn, Rising}
-use Rattle.session_laws.proofs.Tied.{inner, link_in, owner_of, queue_ids, waiting_ids, IsEntry, TiedLife, TiedLines}
+use Rattle.session_laws.proofs.Tied.{inner, link_in, owner_of, queue_ids, waiting_ids, IsEntry, TiedLife, TiedLines, has_ended}
 use Rattle.session_laws.proofs.States.{IsWhole, Between, HasApplied}
 use Rattle.session_laws.proofs.InLine.{IsInLine}
 use Rattle.session_laws.proofs.Owes.{in_line}

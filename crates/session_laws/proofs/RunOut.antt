@@ -7,7 +7,7 @@ use Rattle.containers.proofs.Places.{get_within}
 use Rattle.containers.proofs.Choices.{by_test, eq_from, le_from, le_test, ne_from}
 use Rattle.driver_model.specs.declared.config.Config.{Config}
 use Rattle.driver_model.specs.declared.event.Event.{Event}
-use Rattle.mux_conn.specs.Connection.{is_spent_in, started_in, has_ended}
+use Rattle.mux_conn.specs.Connection.{is_spent_in, started_in}
 use Rattle.mux_conn.specs.declared.life.Life.{Life}
 use Rattle.mux_conn.specs.declared.life.Life.TheVariants.{Dialing, Ended, Ready}
 use Rattle.mux_conn.specs.declared.request.Request.{Request}
@@ -21,7 +21,7 @@ use Rattle.shared_session.proofs.Replays.{state_after-more, turns_after}
 use Rattle.session_laws.proofs.Legality.{replay_between}
 use Rattle.session_laws.proofs.Numbers.{Rising, rising_left}
 use Rattle.session_laws.proofs.Start.{owners_length}
-use Rattle.session_laws.proofs.Tied.{Inner, Tied, inner, link_in, queue_ids, waiting_ids}
+use Rattle.session_laws.proofs.Tied.{Inner, Tied, inner, link_in, queue_ids, waiting_ids, has_ended}
 
 -- one event more
 --

@@ -18,7 +18,7 @@ use Rattle.mux_conn.specs.declared.life.Life.TheVariants.{Dialing, Ready, Ended}
 use Rattle.mux_conn.specs.declared.request.Progress.TheVariants as progress
 use Rattle.mux_conn.specs.declared.request.Request.{Request}
 use Rattle.mux_conn.specs.declared.request.Waiting.{Waiting}
-use Rattle.mux_conn.specs.Connection.{Work, has_ended}
+use Rattle.mux_conn.specs.Connection.{Work}
 use Rattle.mux_conn.specs.Requests.{is_open_at, name_at, at_progress, answered}
 use Rattle.mux_conn.specs.Effects.{settled_each, failed_each}
 use Rattle.shared_session.specs.declared.core_state.Core.{Core}
@@ -28,7 +28,7 @@ use Rattle.legal_trace.specs.Book.{Book, book, entered}
 use Rattle.legal_trace.specs.Owed.{owed}
 use Rattle.legal_trace.specs.Legal.{MayStand, MayAnswer}
 use Rattle.session_laws.proofs.Numbers.{Rising, rising_from}
-use Rattle.session_laws.proofs.Tied.{Inner, link_in, TiedLife, Tied, Sound, waiting_ids}
+use Rattle.session_laws.proofs.Tied.{Inner, link_in, TiedLife, Tied, Sound, waiting_ids, has_ended}
 use Rattle.session_laws.proofs.Entered.{book_more, sound_more, shown_more}
 use Rattle.session_laws.proofs.Names.{open_within, name_still, length_still}
 use Rattle.session_laws.proofs.InLine.{line_of, IsInLine, open_in_line, first_is_least}

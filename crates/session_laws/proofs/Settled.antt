@@ -8,7 +8,7 @@ use Rattle.driver_model.specs.declared.action.WaitKind.TheVariants as wait
 use Rattle.link_core.specs.Link.{LinkState}
 use Rattle.link_laws.proofs.Started.{row_open}
 use Rattle.link_laws.specs.Settles.{StandsAs, wanted}
-use Rattle.mux_conn.specs.Connection.{Work, acted, awaits_connect, has_ended}
+use Rattle.mux_conn.specs.Connection.{Work, acted, awaits_connect}
 use Rattle.mux_conn.specs.Passes.{passed}
 use Rattle.mux_conn.specs.Requests.{is_waiting_at, name_at}
 use Rattle.mux_conn.specs.Turn.{flushed, wait_shown, waits_each, waits_shown}
@@ -28,7 +28,7 @@ use Rattle.session_laws.proofs.Owes.{lives, none_open, open_request, stands_star
 use Rattle.session_laws.proofs.Place.{waiting_open}
 use Rattle.session_laws.proofs.Settle.{book_of_more, holds_more, seen, trace_of_acts}
 use Rattle.session_laws.proofs.States.{Between, HasApplied, IsWholeIn, trace_with}
-use Rattle.session_laws.proofs.Tied.{Inner, IsNew, Tied, TiedLife, link_in, owner_of, queue_ids, waiting_ids}
+use Rattle.session_laws.proofs.Tied.{Inner, IsNew, Tied, TiedLife, link_in, owner_of, queue_ids, waiting_ids, has_ended}
 use Rattle.session_laws.proofs.Told.{NoneTold, wait_told}
 use Rattle.session_laws.proofs.Waits.{dialing_holds, dialing_waits, unshown_tied, wait_may, wait_tied, with_fresh}
 use Rattle.session_laws.proofs.Write.{HasWritten, is_written, moved_book, written_holds}

@@ -26,7 +26,6 @@ use Rattle.mux_conn.specs.declared.life.Life.TheVariants.{Dialing, Ready, Ended}
 use Rattle.mux_conn.specs.declared.request.Pending.{Pending}
 use Rattle.mux_conn.specs.declared.request.Request.{Request}
 use Rattle.mux_conn.specs.declared.request.Waiting.{Waiting}
-use Rattle.mux_conn.specs.Connection.{has_ended}
 use Rattle.mux_conn.specs.Requests.{name_at, is_open_at, is_waiting_at}
 use Rattle.mux_conn.specs.Effects.{new_link}
 use Rattle.shared_session.specs.declared.core_state.Core.{Core}
@@ -61,6 +60,12 @@ abbrev pub link_in : Life → LinkState
 link_in Dialing = new_link
 link_in (Ready link) = link
 link_in (Ended e) = new_link
+
+-- it takes no more messages
+abbrev pub has_ended : Life → Bool
+has_ended Dialing = false
+has_ended (Ready link) = false
+has_ended (Ended e) = true
 
 -- whose message a request's is
 abbrev pub owner_of : List Request → ℕ → Owner

@@ -8,7 +8,7 @@ use Rattle.link_core.specs.Link.{LinkState, offered_of}
 use Rattle.link_core.specs.Outbox.{all_offered, can_offer}
 use Rattle.link_core.specs.declared.outbox.Outbox.{Outbox}
 use Rattle.link_laws.proofs.TiedLink.{TiedLink, is_offered, offer_stands, offered_tied}
-use Rattle.mux_conn.specs.Connection.{Work, acted, with_link, has_ended}
+use Rattle.mux_conn.specs.Connection.{Work, acted, with_link}
 use Rattle.mux_conn.specs.Turn.{written, written_at}
 use Rattle.mux_conn.specs.declared.act.LinkAct.TheVariants as act
 use Rattle.mux_conn.specs.declared.life.Life.{Life}
@@ -23,7 +23,7 @@ use Rattle.session_laws.proofs.Moved.{HasMoved}
 use Rattle.session_laws.proofs.Settle.{book_of_more, holds_more, seen, trace_of_acts}
 use Rattle.session_laws.proofs.Start.{not_dialing, on_link}
 use Rattle.session_laws.proofs.States.{IsWhole}
-use Rattle.session_laws.proofs.Tied.{Inner, Tied, TiedLife, link_in, owner_of}
+use Rattle.session_laws.proofs.Tied.{Inner, Tied, TiedLife, link_in, owner_of, has_ended}
 use Rattle.session_laws.proofs.Told.{NoneTold}
 
 -- an offer
