@@ -1,11 +1,11 @@
 -- A connection does the same where one request's outcome is looked away from, once its message has left the queue.
 use Rattle.std.proofs.Common.{◌≡◌, ◌≢◌, ℕ, ◌<◌, ◌==◌, Bool, true, false, List, [], ◌∷◌, ◌++◌, length, if◌then◌else◌, refl, sym, ap, ◌∙◌, append_assoc, Some, None}
+use Rattle.std.proofs.lemmas.List.{append-nil}
+use Rattle.containers.proofs.Choices.{by_test, chosen, either, either_by, taken_if, left_if, eq_from, ne_from, eq_test, ne_test}
 use Rattle.redis_error.specs.declared.fault_kind.FaultKind.TheVariants as kinds
 use Rattle.redis_error.specs.declared.fault_kind.FaultKind.{FaultKind}
 use Rattle.redis_error.specs.declared.redis_error.RedisError.TheVariants as error
 use Rattle.redis_error.specs.declared.redis_error.RedisError.{RedisError}
-use Rattle.std.proofs.lemmas.List.{append-nil}
-use Rattle.containers.proofs.Choices.{by_test, chosen, either, either_by, taken_if, left_if, eq_from, ne_from, eq_test, ne_test}
 use Rattle.resp_value.specs.declared.value.Value.TheVariants.{Nil}
 use Rattle.driver_model.specs.declared.action.WaitKind.TheVariants as wait
 use Rattle.driver_model.specs.declared.news.LinkFault.{LinkFault}

@@ -1,10 +1,10 @@
 -- What each part of a turn keeps: a fact of the requests, of the link's life, and of what the turn has shown.
 use Rattle.std.proofs.Common.{◌≡◌, ℕ, ◌==◌, true, List, [], ◌∷◌, ◌++◌, length, Option, Some, None, slice_get, if◌then◌else◌, refl}
+use Rattle.containers.proofs.Choices.{chosen}
+use Rattle.redis_error.specs.declared.redis_error.RedisError.TheVariants as error
 use Rattle.redis_error.specs.declared.fault_kind.FaultKind.TheVariants as kinds
 use Rattle.redis_error.specs.declared.fault_kind.FaultKind.{FaultKind}
 use Rattle.redis_error.specs.declared.redis_error.RedisError.{RedisError}
-use Rattle.containers.proofs.Choices.{chosen}
-use Rattle.redis_error.specs.declared.redis_error.RedisError.TheVariants as error
 use Rattle.resp_value.specs.declared.value.Value.TheVariants.{Nil}
 use Rattle.driver_model.specs.declared.action.WaitKind.TheVariants as wait
 use Rattle.driver_model.specs.declared.event.EventKind.{EventKind}

@@ -1,13 +1,13 @@
 -- The connection's link ends: it is closed, and all its requests are answered.
 use Rattle.std.proofs.Common.{◌≡◌, ◌≢◌, inl, inr, ℕ, ◌-◌, ◌<◌, List, [], ◌∷◌, ◌++◌, length, Option, Some, None, refl, sym, ap, ◌∙◌, subst, append_assoc, arith, false}
-use Rattle.driver_model.specs.declared.outcome.Outcome.TheVariants as outcome
-use Rattle.redis_error.specs.declared.redis_error.RedisError.TheVariants as error
-use Rattle.redis_error.specs.declared.redis_error.RedisError.{RedisError}
 use Rattle.std.specs.List.{AllByRecursion}
 use Rattle.std.proofs.lemmas.List.{append-nil}
+use Rattle.redis_error.specs.declared.redis_error.RedisError.TheVariants as error
+use Rattle.redis_error.specs.declared.redis_error.RedisError.{RedisError}
 use Rattle.driver_model.specs.declared.action.Action.{Action}
 use Rattle.driver_model.specs.declared.action.Action.TheVariants as action
 use Rattle.driver_model.specs.declared.outcome.Outcome.{Outcome}
+use Rattle.driver_model.specs.declared.outcome.Outcome.TheVariants as outcome
 use Rattle.link_core.specs.declared.message.Settled.{Settled}
 use Rattle.link_core.specs.Link.{LinkState}
 use Rattle.link_laws.specs.Settles.{settled_ids, wanted, awaited_ids, IsOwed}

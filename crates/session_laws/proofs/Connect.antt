@@ -1,21 +1,29 @@
 -- The opening of the connection's link ends: its connect succeeds, is refused, or isn't answered in time.
 use Rattle.std.proofs.Common.{◌≡◌, ℕ, ◌+◌, Bool, true, false, ◌&&◌, not, List, [], ◌∷◌, ◌++◌, Option, None, is_some, refl, sym, ap, ◌∙◌, subst, arith, if◌then◌else◌, ◌≢◌, ◌-◌, Some}
-use Rattle.mux_conn.specs.Connection.{Work, acted, at_life}
+use Rattle.std.proofs.lemmas.List.{append-nil}
 use Rattle.containers.proofs.Choices.{chosen, taken_if, left_if}
+use Rattle.redis_error.specs.declared.fault_kind.FaultKind.{FaultKind}
+use Rattle.redis_error.specs.declared.fault_kind.FaultKind.TheVariants as kinds
+use Rattle.redis_error.specs.declared.redis_error.RedisError.{RedisError}
+use Rattle.redis_error.specs.declared.redis_error.RedisError.TheVariants as error
 use Rattle.driver_model.specs.declared.action.Action.{Action}
 use Rattle.driver_model.specs.declared.action.Action.TheVariants as action
 use Rattle.driver_model.specs.declared.event.EventKind.{EventKind}
 use Rattle.driver_model.specs.News.{connected, news_of, News, refused, overdue}
 use Rattle.link_core.specs.Link.{LinkState}
 use Rattle.link_laws.proofs.TiedLink.{TiedLink, connected_tied, told_tied}
+use Rattle.link_laws.specs.Settles.{wanted, awaited_ids}
 use Rattle.mux_conn.specs.declared.life.Life.{Life}
 use Rattle.mux_conn.specs.declared.life.Life.TheVariants.{Dialing, Ready, Ended}
 use Rattle.mux_conn.specs.Effects.{new_link, connected_at, opening_failed, refused_at, overdue_at}
+use Rattle.mux_conn.specs.Connection.{Work, acted, at_life}
+use Rattle.mux_conn.specs.declared.act.LinkAct.TheVariants as act
+use Rattle.mux_conn.specs.declared.connection.MultiplexedConnection.{MultiplexedConnection}
 use Rattle.shared_session.specs.declared.core_state.Core.{Core}
 use Rattle.shared_session.specs.Turn.{with_work, is_bad}
 use Rattle.legal_trace.specs.Ledger.{Ledger, Ending, hears, noted, ending, ending_asked, is_over, by_opening, ends, dials, refused_in, failure_in, failure_of, ending_or_shutdown}
 use Rattle.legal_trace.specs.Book.{Book, blank_book, book, entered}
-use Rattle.legal_trace.specs.Legal.{AllStand, NoneEnds, MayBeCreated, MayFail}
+use Rattle.legal_trace.specs.Legal.{AllStand, NoneEnds, VerdictsAreShown, FailuresAreShown, MayBeCreated, MayFail}
 use Rattle.session_laws.proofs.Tied.{link_in, owner_of, TiedLife, TiedLines, Tied, Sound, has_ended}
 use Rattle.session_laws.proofs.States.{IsWhole, Between, HasApplied}
 use Rattle.session_laws.proofs.Entered.{all_stand-append, book_more, sound_more, shown_more}
@@ -24,14 +32,6 @@ use Rattle.session_laws.proofs.Settle.{seen, trace_of_acts, Holds, book_of_more}
 use Rattle.session_laws.proofs.Announce.{turn_of, turned, IsNewsKind, heard_book, heard_is, heard_starts, heard_tied, may_turn}
 use Rattle.session_laws.proofs.Heard.{heard_by, book_news, lives_as, none_ends, leads_on, quiet_applied, ended_quiet}
 use Rattle.session_laws.proofs.End.{up_tied, plain_begins}
-use Rattle.std.proofs.lemmas.List.{append-nil}
-use Rattle.redis_error.specs.declared.fault_kind.FaultKind.{FaultKind}
-use Rattle.redis_error.specs.declared.fault_kind.FaultKind.TheVariants as kinds
-use Rattle.redis_error.specs.declared.redis_error.RedisError.{RedisError}
-use Rattle.redis_error.specs.declared.redis_error.RedisError.TheVariants as error
-use Rattle.link_laws.specs.Settles.{wanted, awaited_ids}
-use Rattle.mux_conn.specs.declared.act.LinkAct.TheVariants as act
-use Rattle.mux_conn.specs.declared.connection.MultiplexedConnection.{MultiplexedConnection}
 use Rattle.session_laws.proofs.Answer.{after_end}
 use Rattle.session_laws.proofs.Kept.{mine_noted}
 use Rattle.session_laws.proofs.Close.{may_close, close_tied, waiting_ends, ended_applied}
@@ -139,9 +139,12 @@ failing_may trace f conn e started h = record {
   fails = h.fails;
   in_order = λ m less. ap failure_in (h.tied.others m (λ same. omega arith)).end;
   once = h.unshown;
-  ended = (after_end (entered (book trace) (action.Created (Some e))) (seen f (record conn { life = Ended e }) [] started) h.tied refl).0;
-  answered = (after_end (entered (book trace) (action.Created (Some e))) (seen f (record conn { life = Ended e }) [] started) h.tied refl).1;
+  ended = over.0;
+  answered = over.1;
 }
+  where
+    over : NoneEnds (book trace) × VerdictsAreShown (book trace) × FailuresAreShown (entered (book trace) (action.Created (Some e)))
+    over = after_end (entered (book trace) (action.Created (Some e))) (seen f (record conn { life = Ended e }) [] started) h.tied refl
 
 -- and is
 failing_shown : (before : List Action) (f : Core) (w : Work) (e : RedisError) (started : List ℕ) → IsFailing (trace_of_acts before f w.acts) f w.conn e started

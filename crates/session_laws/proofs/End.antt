@@ -1,8 +1,8 @@
 -- A fault ends the connection's link, or the shutdown does.
 use Rattle.std.proofs.Common.{◌≡◌, ◌≢◌, ℕ, ◌-◌, true, false, List, [], ◌∷◌, ◌++◌, Some, None, refl, sym, ap, ◌∙◌, subst, ◌&&◌, not, is_some, arith}
-use Rattle.redis_error.specs.declared.redis_error.RedisError.TheVariants as error
 use Rattle.std.specs.List.{AllByRecursion}
 use Rattle.containers.proofs.Choices.{taken_if, left_if}
+use Rattle.redis_error.specs.declared.redis_error.RedisError.TheVariants as error
 use Rattle.driver_model.specs.declared.action.Action.{Action}
 use Rattle.driver_model.specs.declared.action.Owner.{Owner}
 use Rattle.driver_model.specs.declared.event.EventKind.{EventKind}

@@ -1,13 +1,13 @@
 -- The turn of an event with news: how it begins, and where no act follows.
 use Rattle.std.proofs.Common.{◌≡◌, ◌≢◌, ℕ, ◌==◌, false, ◌&&◌, not, List, [], ◌∷◌, ◌++◌, Option, None, if◌then◌else◌, refl, sym, ap, ◌∙◌, subst, arith, Bool, true}
-use Rattle.driver_model.specs.declared.action.Purpose.{Purpose}
-use Rattle.driver_model.specs.declared.outcome.Outcome.TheVariants as outcome
+use Rattle.containers.proofs.Choices.{by_test, chosen, if_false, left_if, eq_from, ne_from, not_both}
 use Rattle.redis_error.specs.declared.redis_error.RedisError.TheVariants as error
 use Rattle.redis_error.specs.declared.redis_error.RedisError.{RedisError}
-use Rattle.containers.proofs.Choices.{by_test, chosen, if_false, left_if, eq_from, ne_from, not_both}
 use Rattle.driver_model.specs.declared.action.Action.{Action}
+use Rattle.driver_model.specs.declared.action.Purpose.{Purpose}
 use Rattle.driver_model.specs.declared.event.EventKind.{EventKind}
 use Rattle.driver_model.specs.News.{News, silence, connected, took, came, failed, shut, news_of, refused, overdue}
+use Rattle.driver_model.specs.declared.outcome.Outcome.TheVariants as outcome
 use Rattle.link_laws.proofs.TiedLink.{TiedLink, unheard_tied}
 use Rattle.mux_conn.specs.declared.connection.MultiplexedConnection.{MultiplexedConnection}
 use Rattle.mux_conn.specs.declared.life.Life.{Life}
@@ -128,7 +128,7 @@ ended_quiet before c started word kind n error h good k is over =
     ))
     (over_no_end (noted l (hears c.turns n)) b.created error after) h.whole
 
--- a link whose connect isn't answered hears but of that, and of the shutdown
+-- a link whose connect isn't answered hears but of that, of the end of its time, and of the shutdown
 --
 -- news of a link that is up
 abbrev pub IsOfAnother : News → Type 0

@@ -1,15 +1,15 @@
 -- Whose message may start.
 use Rattle.std.proofs.Common.{List, [], ap, arith, inl, inr, length, refl, subst, sym, true, ℕ, ◌++◌, ◌<◌, ◌∙◌, ◌∷◌, ◌≡◌, ◌≢◌, false}
-use Rattle.legal_trace.specs.Ledger.{Ledger}
-use Rattle.mux_conn.specs.declared.life.Life.{Life}
 use Rattle.containers.proofs.Choices.{not_both}
 use Rattle.link_laws.proofs.Started.{row_open}
 use Rattle.link_laws.specs.Settles.{StandsAs, wanted}
 use Rattle.mux_conn.specs.Requests.{name_at}
 use Rattle.mux_conn.specs.declared.life.Life.TheVariants.{Dialing, Ready, Ended}
+use Rattle.mux_conn.specs.declared.life.Life.{Life}
 use Rattle.legal_trace.specs.Book.{Book}
 use Rattle.legal_trace.specs.Legal.{CanMove, IsFirstToMove, IsOpen, IsTold, link_of}
 use Rattle.legal_trace.specs.Story.{Try}
+use Rattle.legal_trace.specs.Ledger.{Ledger}
 use Rattle.session_laws.proofs.Behind.{IsBehind, alive_behind}
 use Rattle.session_laws.proofs.InLine.{first_is_least, line_of, open_in_line, row_ids, wanted_in}
 use Rattle.session_laws.proofs.Names.{earlier_name, open_within}

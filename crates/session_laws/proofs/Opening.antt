@@ -1,25 +1,24 @@
 -- The opening: the first link is asked for.
-use Rattle.std.proofs.Common.{List, None, Option, Some, [], ap, arith, false, refl, slice_get, subst, suc, sym, zero, ℕ, ◌+◌, ◌∙◌, ◌∷◌, ◌≡◌, ◌≢◌}
+use Rattle.std.proofs.Common.{List, None, Option, Some, [], ap, arith, false, refl, subst, suc, sym, zero, ℕ, ◌+◌, ◌∙◌, ◌∷◌, ◌≡◌, ◌≢◌}
 use Rattle.std.specs.Prelude.{◌==◌}
 use Rattle.containers.proofs.Choices.{chosen, left_if, ne_test}
-use Rattle.resp_value.specs.declared.value.Value.TheVariants.{Nil}
 use Rattle.connection_info.specs.declared.address.ConnectionInfo.{ConnectionInfo}
-use Rattle.driver_model.specs.Config.{address, connect_timeout, fault_in}
-use Rattle.driver_model.specs.declared.action.Action.{Action}
+use Rattle.resp_value.specs.declared.value.Value.TheVariants.{Nil}
 use Rattle.driver_model.specs.declared.action.Action.TheVariants as action
-use Rattle.driver_model.specs.declared.action.Cause.{Cause}
 use Rattle.driver_model.specs.declared.action.Cause.TheVariants as cause
-use Rattle.driver_model.specs.declared.action.Purpose.{Purpose}
-use Rattle.driver_model.specs.declared.action.Purpose.TheVariants as purpose
 use Rattle.driver_model.specs.declared.config.Config.{Config}
 use Rattle.driver_model.specs.declared.outcome.Outcome.TheVariants as outcome
+use Rattle.driver_model.specs.Config.{address, connect_timeout, fault_in}
+use Rattle.driver_model.specs.declared.action.Action.{Action}
+use Rattle.driver_model.specs.declared.action.Cause.{Cause}
+use Rattle.driver_model.specs.declared.action.Purpose.{Purpose}
 use Rattle.link_core.specs.Link.{no_boundary}
 use Rattle.link_laws.proofs.TiedLink.{asked_tied, fresh_tied}
 use Rattle.mux_conn.specs.Effects.{max_size, new_link}
-use Rattle.mux_conn.specs.declared.life.Life.TheVariants.{Dialing}
 use Rattle.mux_conn.specs.Turn.{dialing}
-use Rattle.shared_session.specs.declared.core_state.Core.{Core}
+use Rattle.mux_conn.specs.declared.life.Life.TheVariants.{Dialing}
 use Rattle.shared_session.specs.Replay.{IsSound, connect_asked, connect_timers, first_link, opening_core, opening_actions, timer_asked}
+use Rattle.shared_session.specs.declared.core_state.Core.{Core}
 use Rattle.legal_trace.specs.Book.{Book, blank_book, book, entered}
 use Rattle.legal_trace.specs.Ledger.{Ledger, Line, asks, blank_ledger, ending, noted_each}
 use Rattle.legal_trace.specs.Legal.{AllStand, IsSettled, NoneEnds}
@@ -27,7 +26,7 @@ use Rattle.legal_trace.specs.Story.{blank_story}
 use Rattle.session_laws.proofs.Going.{is_moved}
 use Rattle.session_laws.proofs.Settled.{IsBetween, is_settled}
 use Rattle.session_laws.proofs.States.{IsWholeIn}
-use Rattle.session_laws.proofs.Tied.{IsUnknown, Tied, TiedLines, TiedNames, TiedNumbers, TiedTries, inner, owner_of, owners_of}
+use Rattle.session_laws.proofs.Tied.{AreAimed, IsUnknown, Tied, TiedLines, TiedNames, TiedNumbers, TiedTries, inner, owner_of, owners_of}
 use Rattle.session_laws.proofs.Told.{NoneTold}
 use Rattle.session_laws.proofs.Write.{is_written}
 
@@ -64,7 +63,7 @@ bounded_timers None some none = some refl
 bounded_timers (Some ms) some none = cc
 
 -- the timers are for the first link
-first_aims : (timeout : Option ℕ) (k : ℕ) (what : Purpose) → slice_get (connect_timers timeout) k ≡ Some what → what ≡ purpose.Connect first_link
+first_aims : (timeout : Option ℕ) → AreAimed (connect_timers timeout) first_link
 first_aims None k what e = cc
 first_aims (Some ms) zero what e = cc
 first_aims (Some ms) (suc k) what e = cc

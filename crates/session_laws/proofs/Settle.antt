@@ -1,12 +1,12 @@
 -- Those that are to be answered are, one after another.
 use Rattle.std.proofs.Common.{is_some, ◌≡◌, inl, ℕ, suc, true, false, List, [], ◌∷◌, ◌++◌, length, Option, Some, refl, sym, ap, ◌∙◌, subst, arith}
-use Rattle.redis_error.specs.declared.redis_error.RedisError.{RedisError}
-use Rattle.driver_model.specs.declared.outcome.Outcome.TheVariants as outcome
 use Rattle.std.specs.List.{AllByRecursion}
 use Rattle.containers.proofs.Choices.{chosen, not_both}
+use Rattle.redis_error.specs.declared.redis_error.RedisError.{RedisError}
 use Rattle.driver_model.specs.declared.action.Action.{Action}
 use Rattle.driver_model.specs.declared.outcome.Outcome.{Outcome}
 use Rattle.driver_model.specs.Shape.{outcome_of}
+use Rattle.driver_model.specs.declared.outcome.Outcome.TheVariants as outcome
 use Rattle.link_core.specs.declared.message.Settled.{Settled}
 use Rattle.link_core.specs.Link.{LinkState}
 use Rattle.link_laws.specs.Settles.{settled_ids}

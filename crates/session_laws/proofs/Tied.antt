@@ -4,18 +4,18 @@ use Rattle.std.specs.List.{AllByRecursion}
 use Rattle.redis_error.specs.declared.redis_error.RedisError.{RedisError}
 use Rattle.resp_value.specs.declared.value.Value.TheVariants.{Nil}
 use Rattle.driver_model.specs.declared.action.Action.{Action}
-use Rattle.driver_model.specs.declared.action.Cause.{Cause}
-use Rattle.driver_model.specs.declared.action.Cause.TheVariants as cause
 use Rattle.driver_model.specs.declared.action.Owner.{Owner}
-use Rattle.driver_model.specs.declared.action.Owner.TheVariants as owner
+use Rattle.driver_model.specs.declared.action.Cause.{Cause}
 use Rattle.driver_model.specs.declared.action.Purpose.{Purpose}
-use Rattle.driver_model.specs.declared.action.Purpose.TheVariants as purpose
+use Rattle.driver_model.specs.declared.action.Owner.TheVariants as owner
 use Rattle.driver_model.specs.declared.action.WaitKind.TheVariants as wait
-use Rattle.driver_model.specs.declared.config.Config.{Config}
-use Rattle.driver_model.specs.declared.event.Event.{Event}
 use Rattle.driver_model.specs.declared.event.Submission.{Submission}
+use Rattle.driver_model.specs.declared.event.Event.{Event}
 use Rattle.driver_model.specs.declared.outcome.Outcome.TheVariants as outcome
 use Rattle.driver_model.specs.declared.outcome.Shape.{Shape}
+use Rattle.driver_model.specs.declared.action.Cause.TheVariants as cause
+use Rattle.driver_model.specs.declared.action.Purpose.TheVariants as purpose
+use Rattle.driver_model.specs.declared.config.Config.{Config}
 use Rattle.link_core.specs.declared.message.Entry.{Entry}
 use Rattle.link_core.specs.declared.message.Queued.{Queued}
 use Rattle.link_core.specs.Link.{LinkState}
@@ -32,8 +32,8 @@ use Rattle.shared_session.specs.declared.core_state.Core.{Core}
 use Rattle.legal_trace.specs.Ledger.{Ledger, Start, End, failure_in}
 use Rattle.legal_trace.specs.Story.{Story, blank_story, is_open, bytes_of, shape, is_awaited}
 use Rattle.legal_trace.specs.Book.{Book, blank_book, book}
-use Rattle.legal_trace.specs.Owed.{owed_unstarted}
 use Rattle.legal_trace.specs.Legal.{AllStand, IsTimed}
+use Rattle.legal_trace.specs.Owed.{owed_unstarted}
 use Rattle.session_laws.proofs.Numbers.{IsIn, Rising}
 
 -- what counts of a session in the middle of a turn: how many turns it has begun, how many links it has asked for and which
@@ -88,6 +88,10 @@ abbrev pub owners_each : List Request → List ℕ → List Owner
 owners_each requests [] = []
 owners_each requests (p ∷ ps) = owner_of requests p ∷ owners_each requests ps
 
+-- all timers are for this link
+abbrev pub AreAimed : List Purpose → ℕ → Type 0
+AreAimed timers link = (k : ℕ) (what : Purpose) → slice_get timers k ≡ Some what → what ≡ purpose.Connect link
+
 -- the numbers that the session gives are those of the book; its connection's link is the only one, which all timers are
 -- for, and the opening has asked for its timer
 pub record TiedNumbers (b : Book) (t : Inner) : Type 0 where
@@ -95,7 +99,7 @@ pub record TiedNumbers (b : Book) (t : Inner) : Type 0 where
   pub links : b.links ≡ t.links
   pub submissions : b.submissions ≡ length t.table
   pub timers : b.timers ≡ t.timers
-  pub aims : (k : ℕ) (what : Purpose) → slice_get t.timers k ≡ Some what → what ≡ purpose.Connect t.link
+  pub aims : AreAimed t.timers t.link
   pub timed : IsTimed b
   pub shut : b.shut ≡ t.shut
   pub one : t.links ≡ t.link + 1
