@@ -109,11 +109,14 @@ fn show_timer(timeout: Option<u64>, out: &mut Vec<Action>) -> Result<(), AllocEr
     ensures { OnOk result (out.new.items ≡ out.old.items ++ timer_asked timeout) }
 {
     match timeout {
-        Some(ms) => out.push(Action::Timer {
-            timer: 0,
-            ms,
-            purpose: Purpose::Connect { link: FIRST_LINK },
-        }),
+        Some(ms) => {
+            out.push(Action::Timer {
+                timer: 0,
+                ms,
+                purpose: Purpose::Connect { link: FIRST_LINK },
+            })?;
+            Ok(())
+        }
         None => Ok(()),
     }
 }

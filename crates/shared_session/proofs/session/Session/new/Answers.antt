@@ -6,14 +6,13 @@ pub invariant_of-result : goal.invariant_of-result
 invariant_of-result c =
     let config = c.args.config in
     let word = c.args.word in
-    let core = c.opened-core.result in
-    let is = c.opened-core.ensures config word in
+    let is = c.in_ok-core.ensures word in
     record {
       configured = c.in-Ok.ensures.sound;
-      core = λ _. opened_is core config word c.new-events.result is c.new-events.ensures;
+      core = λ _. opened_is _ config word c.new-events.result is c.new-events.ensures;
       outcomes = c.new.ensures ∙ rw c.new-events.ensures (sym (outcomes-none config word));
       few = omega (arith, ap length c.new-events.ensures);
-      unspent = λ _. unspent_opening core config word is;
-      fewer = λ _. fewer_opening core config word is;
-      sound = λ _. sound_opening core config word is;
+      unspent = λ _. unspent_opening _ config word is;
+      fewer = λ _. fewer_opening _ config word is;
+      sound = λ _. sound_opening _ config word is;
     }
