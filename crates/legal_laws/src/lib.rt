@@ -52,9 +52,10 @@ pub fn a_turn_has_five_segments()
     ensures { TurnsAreInOrder }
 {}
 
-/// Does nothing. Its contract: a legal trace shows the creation at most once. Where the opening of a
-/// link failed, it shows its error, which every submission without a message is then answered with,
-/// unless it came after a shutdown or has no bytes; and none of them is left open.
+/// Does nothing. Its contract: a legal trace shows the creation at most once. Where the opening of
+/// a link failed, and only there, it shows that error. With this error alone, and behind the
+/// creation, each submission of that link is answered that has bytes and no message and came before
+/// any shutdown; and none of these is left open.
 pub fn a_failed_opening_is_told()
     ensures { OfEachLegal TellsOfOpening }
 {}

@@ -1,20 +1,26 @@
 -- What is true of all numbers that a trace doesn't name: no submission has one that wasn't given out, and of links there is the first alone.
-use Rattle.std.proofs.Common.{◌≡◌, ℕ, ◌+◌, ◌<◌, ◌≤◌, ◌==◌, Bool, true, false, None, refl, arith}
-use Rattle.containers.proofs.Choices.{chosen, ne_test, eq_from}
+use Rattle.std.proofs.Common.{◌≡◌, ℕ, ◌+◌, ◌-◌, ◌<◌, ◌≤◌, ◌==◌, Bool, true, false, ◌&&◌, List, [], ◌∷◌, Option, Some, None, refl, arith}
+use Rattle.std.specs.Prelude.{slice_get}
+use Rattle.containers.proofs.Choices.{chosen, if_false, ne_test, eq_from, both_left, both_right}
 use Rattle.driver_model.specs.declared.action.Action.{Action}
 use Rattle.driver_model.specs.declared.action.Action.TheVariants as action
 use Rattle.driver_model.specs.declared.action.Cause.TheVariants as cause
 use Rattle.driver_model.specs.declared.action.Owner.TheVariants as owner
 use Rattle.driver_model.specs.declared.event.EventKind.{EventKind}
 use Rattle.driver_model.specs.declared.event.EventKind.TheVariants as event
-use Rattle.driver_model.specs.News.{News, took, came, failed, for_link, news_of}
-use Rattle.legal_trace.specs.Ledger.{Ledger, Line, asks, hears, with_news, noted, noted_each}
+use Rattle.driver_model.specs.declared.action.Purpose.{Purpose}
+use Rattle.driver_model.specs.declared.action.Purpose.TheVariants as purpose
+use Rattle.driver_model.specs.News.{News, refused, overdue, took, came, failed, for_link, of_timer, news_of}
+use Rattle.legal_trace.specs.Ledger.{Ledger, Line, asks, hears, ends, dials, with_news, noted, noted_each}
 use Rattle.legal_trace.specs.Story.{Story, is_open}
-use Rattle.legal_trace.specs.Book.{Book, blank_book, if_mine, lines_of, after_event, story_after, submitted_by, entered}
+use Rattle.legal_trace.proofs.Ledgers.{unasked_dials_not}
+use Rattle.legal_trace.specs.Book.{Book, blank_book, if_mine, lines_of, after_event, story_after, submitted_by, entered, entered_each}
 
 -- no link but the first is connected
 abbrev pub connects_first : EventKind → Bool
 connects_first (event.Connected l) = l == 0
+connects_first (event.Refused l f) = true
+connects_first (event.Fired t) = true
 connects_first (event.Submit what) = true
 connects_first (event.Cancel m) = true
 connects_first (event.Wrote l count) = true
@@ -24,22 +30,24 @@ connects_first (event.ReadFault l kind) = true
 connects_first (event.WriteFault l kind) = true
 connects_first event.Shutdown = true
 
--- no link but the first is asked for or connected
+-- no link but the first is asked for, connected or closed
 abbrev pub is_of_first : Action → Bool
 is_of_first (action.Turn k (cause.Opening config word)) = true
 is_of_first (action.Turn k (cause.Event e)) = connects_first e.kind
 is_of_first (action.Connect l host port) = l == 0
-is_of_first (action.Close l) = true
+is_of_first (action.Timer t ms what) = true
+is_of_first (action.Close l) = l == 0
 is_of_first (action.Write l bytes) = true
 is_of_first (action.Wait who kind) = true
 is_of_first (action.Start l k who count len) = true
-is_of_first action.Created = true
+is_of_first (action.Created e) = true
 is_of_first (action.Outcome n o) = true
 
 -- a link that wasn't asked for
 pub record IsIdle (l : Ledger) : Type 0 where
   pub down : l.up ≡ false
   pub unasked : l.asked ≡ false
+  pub lives : l.end ≡ None
 
 -- no submission has a number that wasn't given out, and every link but the first is idle
 pub record IsBounded (b : Book) : Type 0 where
@@ -48,7 +56,7 @@ pub record IsBounded (b : Book) : Type 0 where
 
 -- at first
 pub blank_bounded : IsBounded blank_book
-blank_bounded = record { absent = λ n l. refl; idle = λ l some. record { down = refl; unasked = refl } }
+blank_bounded = record { absent = λ n l. refl; idle = λ l some. record { down = refl; unasked = refl; lives = refl } }
 
 -- a change of the first link is no change of another
 mine_idle : (b : Book) (n l : ℕ) (x : Line) → 0 < n → (l == 0) ≡ true → IsIdle (b.link n) → IsIdle (noted_each (b.link n) (if_mine (l == n) x))
@@ -60,32 +68,40 @@ any_idle l true x h g = g
 any_idle l false x h g = h
 
 -- news that reach an idle link leave it so
-hears_idle : (l : Ledger) (mine : Bool) (x : News) → IsIdle l → IsIdle (with_news l x) → IsIdle (noted l (hears (for_link mine x)))
-hears_idle l true x h g = record { down = g.down; unasked = g.unasked }
-hears_idle l false x h g = record { down = h.down; unasked = h.unasked }
+hears_idle : (l : Ledger) (turn : ℕ) (mine : Bool) (x : News) → IsIdle l → IsIdle (with_news l turn x) → IsIdle (noted l (hears turn (for_link mine x)))
+hears_idle l turn true x h g = record { down = g.down; unasked = g.unasked; lives = g.lives }
+hears_idle l turn false x h g = record { down = h.down; unasked = h.unasked; lives = h.lives }
+
+-- so does a timer that fires
+fired_idle : (l : Ledger) (turn n : ℕ) (what : Option Purpose) → IsIdle l → IsIdle (noted l (hears turn (of_timer n what)))
+fired_idle l turn n None h = record { down = h.down; unasked = h.unasked; lives = h.lives }
+fired_idle l turn n (Some (purpose.Connect m)) h = hears_idle l turn (m == n) overdue h h
 
 -- so do the news of an event that doesn't connect it
-event_idle : (l : Ledger) (n : ℕ) (kind : EventKind) → 0 < n → connects_first kind ≡ true → IsIdle l → IsIdle (noted l (hears (news_of n kind)))
-event_idle l n (event.Connected m) some first h = rw (ne_test m n (λ e. absurd (omega (arith, eq_from m 0 first)))) (record { down = h.down; unasked = h.unasked })
-event_idle l n (event.Wrote m count) some first h = hears_idle l (m == n) (took count) h (chosen IsIdle l.up _ l (λ t. record { down = h.down; unasked = h.unasked }) (λ t. h))
-event_idle l n (event.Bytes m piece) some first h = hears_idle l (m == n) (came piece) h (chosen IsIdle l.up _ l (λ t. record { down = h.down; unasked = h.unasked }) (λ t. h))
-event_idle l n (event.Ended m) some first h = hears_idle l (m == n) (failed _) h h
-event_idle l n (event.ReadFault m kind) some first h = hears_idle l (m == n) (failed _) h h
-event_idle l n (event.WriteFault m kind) some first h = hears_idle l (m == n) (failed _) h h
-event_idle l n event.Shutdown some first h = record { down = h.down; unasked = h.unasked }
-event_idle l n (event.Submit what) some first h = record { down = h.down; unasked = h.unasked }
-event_idle l n (event.Cancel m) some first h = record { down = h.down; unasked = h.unasked }
+event_idle : (l : Ledger) (turn : ℕ) (timers : List Purpose) (n : ℕ) (kind : EventKind) → 0 < n → connects_first kind ≡ true → IsIdle l → IsIdle (noted l (hears turn (news_of timers n kind)))
+event_idle l turn timers n (event.Connected m) some first h = rw (ne_test m n (λ e. absurd (omega (arith, eq_from m 0 first)))) (record { down = h.down; unasked = h.unasked; lives = h.lives })
+event_idle l turn timers n (event.Refused m f) some first h = hears_idle l turn (m == n) (refused f) h (if_false IsIdle (dials l) _ l (unasked_dials_not l h.unasked) h)
+event_idle l turn timers n (event.Fired t) some first h = fired_idle l turn n (slice_get timers t) h
+event_idle l turn timers n (event.Wrote m count) some first h = hears_idle l turn (m == n) (took count) h (chosen IsIdle l.up _ l (λ t. record { down = h.down; unasked = h.unasked; lives = h.lives }) (λ t. h))
+event_idle l turn timers n (event.Bytes m piece) some first h = hears_idle l turn (m == n) (came piece) h (chosen IsIdle l.up _ l (λ t. record { down = h.down; unasked = h.unasked; lives = h.lives }) (λ t. h))
+event_idle l turn timers n (event.Ended m) some first h = hears_idle l turn (m == n) (failed _) h h
+event_idle l turn timers n (event.ReadFault m kind) some first h = hears_idle l turn (m == n) (failed _) h h
+event_idle l turn timers n (event.WriteFault m kind) some first h = hears_idle l turn (m == n) (failed _) h h
+event_idle l turn timers n event.Shutdown some first h = record { down = h.down; unasked = h.unasked; lives = h.lives }
+event_idle l turn timers n (event.Submit what) some first h = record { down = h.down; unasked = h.unasked; lives = h.lives }
+event_idle l turn timers n (event.Cancel m) some first h = record { down = h.down; unasked = h.unasked; lives = h.lives }
 
 -- a link that isn't the first stays idle
 still_idle : (b : Book) (n : ℕ) (a : Action) → 0 < n → is_of_first a ≡ true → IsIdle (b.link n) → IsIdle (noted_each (b.link n) (lines_of b n a))
 still_idle b n (action.Turn k (cause.Opening config word)) some first h = h
-still_idle b n (action.Turn k (cause.Event e)) some first h = event_idle (b.link n) n e.kind some first h
+still_idle b n (action.Turn k (cause.Event e)) some first h = event_idle (b.link n) k b.timers n e.kind some first h
 still_idle b n (action.Connect l host port) some first h = mine_idle b n l asks some first h
-still_idle b n (action.Close l) some first h = any_idle (b.link n) (l == n) _ h (record { down = refl; unasked = h.unasked })
-still_idle b n (action.Write l bytes) some first h = any_idle (b.link n) (l == n) _ h (record { down = h.down; unasked = h.unasked })
+still_idle b n (action.Timer t ms what) some first h = h
+still_idle b n (action.Close l) some first h = mine_idle b n l (ends (b.turns - 1)) some first h
+still_idle b n (action.Write l bytes) some first h = any_idle (b.link n) (l == n) _ h (record { down = h.down; unasked = h.unasked; lives = h.lives })
 still_idle b n (action.Wait who kind) some first h = h
-still_idle b n (action.Start l k who count len) some first h = any_idle (b.link n) (l == n) _ h (record { down = h.down; unasked = h.unasked })
-still_idle b n action.Created some first h = h
+still_idle b n (action.Start l k who count len) some first h = any_idle (b.link n) (l == n) _ h (record { down = h.down; unasked = h.unasked; lives = h.lives })
+still_idle b n (action.Created e) some first h = h
 still_idle b n (action.Outcome m o) some first h = h
 
 -- nothing is handed in under this number
@@ -97,6 +113,8 @@ event_absent : (b : Book) (n : ℕ) (kind : EventKind) → b.submissions + submi
 event_absent b n (event.Submit what) l h = rw (ne_test b.submissions n (λ e. absurd (omega arith))) h
 event_absent b n (event.Cancel m) l h = chosen IsAbsent (m == n) _ _ (λ t. chosen IsAbsent (is_open (b.story n)) _ _ (λ u. h) (λ u. h)) (λ t. h)
 event_absent b n (event.Connected m) l h = h
+event_absent b n (event.Refused m f) l h = h
+event_absent b n (event.Fired t) l h = h
 event_absent b n (event.Wrote m count) l h = h
 event_absent b n (event.Bytes m piece) l h = h
 event_absent b n (event.Ended m) l h = h
@@ -112,9 +130,10 @@ still_absent b n (action.Start m k (owner.Try i round) count len) l h = chosen I
 still_absent b n (action.Wait (owner.Try i round) kind) l h = chosen IsAbsent (i == n) _ _ (λ t. h n l) (λ t. h n l)
 still_absent b n (action.Outcome m o) l h = chosen IsAbsent (m == n) _ _ (λ t. h n l) (λ t. h n l)
 still_absent b n (action.Connect m host port) l h = h n l
+still_absent b n (action.Timer t ms what) l h = h n l
 still_absent b n (action.Close m) l h = h n l
 still_absent b n (action.Write m bytes) l h = h n l
-still_absent b n action.Created l h = h n l
+still_absent b n (action.Created e) l h = h n l
 
 -- the book of one more action
 pub still_bounded : (b : Book) (a : Action) → is_of_first a ≡ true → IsBounded b → IsBounded (entered b a)
@@ -122,3 +141,14 @@ still_bounded b a first h = record {
   absent = λ n l. still_absent b n a l h.absent;
   idle = λ n some. still_idle b n a some first (h.idle n some);
 }
+
+-- these actions are all of the first link
+abbrev pub all_of_first : List Action → Bool
+all_of_first [] = true
+all_of_first (a ∷ more) = is_of_first a && all_of_first more
+
+-- their book
+pub bounded_behind : (b : Book) (t : List Action) → all_of_first t ≡ true → IsBounded b → IsBounded (entered_each b t)
+bounded_behind b [] e h = h
+bounded_behind b (a ∷ more) e h =
+    bounded_behind (entered b a) more (both_right (is_of_first a) (all_of_first more) e) (still_bounded b a (both_left (is_of_first a) (all_of_first more) e) h)

@@ -14,16 +14,21 @@ use Rattle.driver_model.specs.declared.config.Config.{Config}
 use Rattle.driver_model.specs.declared.event.Event.{Event}
 use Rattle.driver_model.specs.declared.outcome.Outcome.{Outcome}
 use Rattle.driver_model.specs.declared.outcome.Outcome.TheVariants as outcome
+use Rattle.driver_model.specs.declared.action.Purpose.{Purpose}
+use Rattle.driver_model.specs.declared.action.Purpose.TheVariants as purpose
+use Rattle.driver_model.specs.Config.{address, connect_timeout, first_fault}
+use Rattle.connection_info.specs.declared.address.ConnectionInfo.{ConnectionInfo}
+use Rattle.redis_error.specs.declared.redis_error.RedisError.{RedisError}
 use Rattle.driver_model.specs.Shape.{need_of}
-use Rattle.legal_trace.specs.Ledger.{Ending, is_over, ending, unwritten}
+use Rattle.legal_trace.specs.Ledger.{Ending, is_over, ending, failure_in, unwritten}
 use Rattle.legal_trace.specs.Story.{is_open, is_awaited, bytes_of, shape}
-use Rattle.legal_trace.specs.Book.{Book, blank_book, book, entered, entered_each}
+use Rattle.legal_trace.specs.Book.{Book, blank_book, book, current, entered, entered_each}
 use Rattle.legal_trace.specs.Owed.{owed}
 use Rattle.legal_trace.specs.Events.{is_bad_event}
-use Rattle.legal_trace.specs.Legal.{IsOpen, link_of, IsTold, MayTurn, MayConnect, MayClose, MayBeCreated, MayAnswer, MayTell, MayStart, MayWrite, MayWait, MayStand, AllStand, causes, event_causes, Legal}
+use Rattle.legal_trace.specs.Legal.{IsOpen, link_of, IsTold, MayTurn, MayConnect, MayTimer, MayClose, MayBeCreated, MayFail, MayAnswer, MayTell, MayStart, MayWrite, MayWait, MayStand, AllStand, causes, event_causes, Legal}
 use Rattle.trace_examples.proofs.Bounded.{IsBounded, is_of_first, still_bounded, blank_bounded}
 use Rattle.trace_examples.proofs.Checks.{holds_if, held, none_from, is_empty, empty_from, filled_from, each_below, below, is_told, told_from}
-use Rattle.trace_examples.proofs.Settled.{is_quiet, quiet, all_quiet, none_is_owed, all_shown, verdicts_are_shown, none_ends, no_end, is_applied, applied, can_move, moves, all_stay, none_before, is_moved, moved, is_written, written, wait_holds, holds, is_settled, settled}
+use Rattle.trace_examples.proofs.Settled.{is_quiet, quiet, all_quiet, none_is_owed, all_shown, verdicts_are_shown, none_ends, no_end, failure_shown, failures_are_shown, is_applied, applied, can_move, moves, all_stay, none_before, is_moved, moved, is_written, written, wait_holds, holds, is_settled, settled}
 
 -- a turn
 abbrev pub turn_due : Book → ℕ → Cause → Bool
@@ -108,6 +113,47 @@ start_stands b l k n count len bounded e = record {
     wanted true t = inl refl
     wanted false t = inr (told_from (b.story n) t)
 
+-- the timer of the opening; for how long and for what is left to be said
+abbrev pub timer_due : Book → ℕ → Bool
+timer_due b t = not (b.links == 0) && is_empty b.timers && (t == length b.timers)
+
+-- that a connect may take so long, and is what the timer is for
+abbrev pub IsTime : Book → Option Cause → ℕ → Purpose → Type 0
+IsTime b None ms what = ⊥
+IsTime b (Some (cause.Event e)) ms what = ⊥
+IsTime b (Some (cause.Opening config word)) ms what = (connect_timeout config ≡ Some ms) × (what ≡ purpose.Connect (current b))
+
+timer_stands : (b : Book) (t ms : ℕ) (what : Purpose) → timer_due b t ≡ true → IsTime b b.running ms what → MayTimer b t ms what
+timer_stands b t ms what e said = of_cause b.running refl said
+  where
+    of_cause : (c : Option Cause) → b.running ≡ c → IsTime b c ms what → MayTimer b t ms what
+    of_cause None same s = absurd s
+    of_cause (Some (cause.Event event)) same s = absurd s
+    of_cause (Some (cause.Opening config word)) same s = record {
+      config = config;
+      word = word;
+      opens = same;
+      bounded = s.0;
+      asked = ne_from b.links 0 (not-true (b.links == 0) (search (both_left, both_right)));
+      first = empty_from b.timers (search (both_left, both_right));
+      next = eq_from t (length b.timers) (search (both_left, both_right));
+      is_for = s.1;
+    }
+
+-- a creation that failed; with which error is left to be said
+abbrev pub failure_due : Book → Bool
+failure_due b = (b.created == 0) && none_ends b && all_shown b
+
+failure_stands : (b : Book) (e : RedisError) → IsBounded b → failure_due b ≡ true → failure_in (b.link 0).end ≡ Some e → MayFail b e
+failure_stands b e bounded t fails = record {
+  l = 0;
+  fails = fails;
+  in_order = λ m below. absurd (omega arith);
+  once = eq_from b.created 0 (search (both_left, both_right));
+  ended = no_end b bounded (search (both_left, both_right));
+  answered = verdicts_are_shown b bounded (search (both_left, both_right));
+}
+
 -- the creation
 abbrev pub created_due : Book → Bool
 created_due b = (b.link 0).up && (b.created == 0) && all_quiet b && none_ends b
@@ -123,7 +169,7 @@ created_stands b bounded e = record {
 
 -- an outcome: what is owed, or where nothing is, the Nil of a command whose reply nobody awaits; which it is is left to be said
 abbrev pub outcome_due : Book → ℕ → Option Outcome → Bool
-outcome_due b n (Some o) = each_below (λ m. is_quiet b m) n && holds_if (is_over (link_of b n)) (none_ends b && all_shown b)
+outcome_due b n (Some o) = each_below (λ m. is_quiet b m) n && holds_if (is_over (link_of b n)) (none_ends b && all_shown b && failure_shown b)
 outcome_due b n None = is_applied b && not (is_awaited (b.story n)) && can_move b n && all_stay b n
 
 -- what is said is what is owed, or Nil
@@ -143,8 +189,11 @@ outcome_stands b n o bounded e said = of_owed (owed b n) refl (both_right (is_op
       owes = same ∙ ap Some (sym s);
       in_order = λ m l open_too alike. quiet b m (below (λ m. is_quiet b m) n m (search both_left) l) open_too;
       after_closes = λ over.
-          let done = held (is_over (link_of b n)) (none_ends b && all_shown b) (search (both_left, both_right)) over in
-          (no_end b bounded (both_left (none_ends b) (all_shown b) done), verdicts_are_shown b bounded (both_right (none_ends b) (all_shown b) done));
+          let done = held (is_over (link_of b n)) (none_ends b && all_shown b && failure_shown b) (search (both_left, both_right)) over in (
+            no_end b bounded (search (both_left, both_right)),
+            verdicts_are_shown b bounded (search (both_left, both_right)),
+            failures_are_shown b bounded (search (both_left, both_right)),
+          );
     })
     of_owed None same t s = inr (record {
       applied = applied b bounded (search (both_left, both_right));
@@ -159,11 +208,13 @@ outcome_stands b n o bounded e said = of_owed (owed b n) refl (both_right (is_op
 abbrev pub due : Book → Action → Bool
 due b (action.Turn k c) = turn_due b k c
 due b (action.Connect l host port) = (b.links == 0) && (l == 0)
+due b (action.Timer t ms what) = timer_due b t
 due b (action.Close l) = close_due b l
 due b (action.Write l bytes) = write_due b l bytes
 due b (action.Wait (owner.Try n round) kind) = (round == 0) && wait_due b n kind
 due b (action.Start l k (owner.Try n round) count len) = (round == 0) && start_due b l k n count len
-due b action.Created = created_due b
+due b (action.Created None) = created_due b
+due b (action.Created (Some e)) = failure_due b
 due b (action.Outcome n o) = is_open (b.story n) && outcome_due b n (owed b n)
 
 -- and so are all of these
@@ -171,22 +222,40 @@ abbrev pub all_due : Book → List Action → Bool
 all_due b [] = true
 all_due b (a ∷ more) = due b a && is_of_first a && all_due (entered b a) more
 
--- what is left to be said is the address of the opening, the bytes that are offered, and the outcomes: this is the address
+-- what is left to be said is the address of the opening and the time of its connect, the error with which it failed, the
+-- bytes that are offered, and the outcomes: this is the address
+pub record IsPlace (config : Config) (host : List ℕ) (port : ℕ) : Type 0 where
+  pub sound : first_fault config ≡ None
+  pub info : ConnectionInfo
+  pub configured : address config ≡ Some info
+  pub is : (host ≡ info.host) × (port ≡ info.port)
+
+-- that of the opening which runs
 abbrev pub IsAddress : Option Cause → List ℕ → ℕ → Type 0
 IsAddress None host port = ⊥
 IsAddress (Some (cause.Event e)) host port = ⊥
-IsAddress (Some (cause.Opening config word)) host port = (host ≡ config.host) × (port ≡ config.port)
+IsAddress (Some (cause.Opening config word)) host port = IsPlace config host port
 
 -- the opening asks for the first link
 connect_stands : (b : Book) (l : ℕ) (host : List ℕ) (port : ℕ) → ((b.links == 0) && (l == 0)) ≡ true → IsAddress b.running host port → MayConnect b l host port
-connect_stands b l host port e address = of_cause b.running refl address
+connect_stands b l host port e place = of_cause b.running refl place
   where
     of_cause : (c : Option Cause) → b.running ≡ c → IsAddress c host port → MayConnect b l host port
     of_cause None same a = absurd a
     of_cause (Some (cause.Event e)) same a = absurd a
     of_cause (Some (cause.Opening config word)) same a =
         let none : b.links ≡ 0 = eq_from b.links 0 (search both_left) in
-        record { config = config; word = word; opens = same; first = none; next = eq_from l 0 (search (both_left, both_right)) ∙ sym none; address = a }
+        record {
+          config = config;
+          word = word;
+          opens = same;
+          sound = a.sound;
+          first = none;
+          next = eq_from l 0 (search (both_left, both_right)) ∙ sym none;
+          info = a.info;
+          configured = a.configured;
+          address = a.is;
+        }
 
 -- what is left to be said of all of these
 abbrev pub AllSaid : Book → List Action → Type 0
@@ -195,22 +264,26 @@ AllSaid b (action.Connect l host port ∷ more) = IsAddress b.running host port 
 AllSaid b (action.Write l bytes ∷ more) = (bytes ≡ unwritten (b.link l)) × AllSaid (entered b (action.Write l bytes)) more
 AllSaid b (action.Outcome n o ∷ more) = IsSaid o (owed b n) × AllSaid (entered b (action.Outcome n o)) more
 AllSaid b (action.Turn k c ∷ more) = AllSaid (entered b (action.Turn k c)) more
+AllSaid b (action.Timer t ms what ∷ more) = IsTime b b.running ms what × AllSaid (entered b (action.Timer t ms what)) more
 AllSaid b (action.Close l ∷ more) = AllSaid (entered b (action.Close l)) more
 AllSaid b (action.Wait who kind ∷ more) = AllSaid (entered b (action.Wait who kind)) more
 AllSaid b (action.Start l k who count len ∷ more) = AllSaid (entered b (action.Start l k who count len)) more
-AllSaid b (action.Created ∷ more) = AllSaid (entered b action.Created) more
+AllSaid b (action.Created None ∷ more) = AllSaid (entered b (action.Created None)) more
+AllSaid b (action.Created (Some e) ∷ more) = (failure_in (b.link 0).end ≡ Some e) × AllSaid (entered b (action.Created (Some e))) more
 
 -- the first of these may stand
 first_stands : (b : Book) (a : Action) (more : List Action) → IsBounded b → due b a ≡ true → AllSaid b (a ∷ more) → MayStand b a × AllSaid (entered b a) more
 first_stands b (action.Turn k c) more bounded e said = (turn_stands b k c bounded e, said)
 first_stands b (action.Connect l host port) more bounded e said = (connect_stands b l host port e said.0, said.1)
+first_stands b (action.Timer t ms what) more bounded e said = (timer_stands b t ms what e said.0, said.1)
 first_stands b (action.Close l) more bounded e said = (close_stands b l bounded e, said)
 first_stands b (action.Write l bytes) more bounded e said = (write_stands b l bytes bounded e said.0, said.1)
 first_stands b (action.Wait (owner.Try n round) kind) more bounded e said =
     ((eq_from round 0 (both_left (round == 0) (wait_due b n kind) e), wait_stands b n kind bounded (both_right (round == 0) (wait_due b n kind) e)), said)
 first_stands b (action.Start l k (owner.Try n round) count len) more bounded e said =
     ((eq_from round 0 (both_left (round == 0) (start_due b l k n count len) e), start_stands b l k n count len bounded (both_right (round == 0) (start_due b l k n count len) e)), said)
-first_stands b action.Created more bounded e said = (created_stands b bounded e, said)
+first_stands b (action.Created None) more bounded e said = (created_stands b bounded e, said)
+first_stands b (action.Created (Some x)) more bounded e said = (failure_stands b x bounded e said.0, said.1)
 first_stands b (action.Outcome n o) more bounded e said = (outcome_stands b n o bounded e said.0, said.1)
 
 -- and so may all

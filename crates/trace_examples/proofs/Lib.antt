@@ -2,9 +2,12 @@ pub mod Bounded
 pub mod Checks
 pub mod Settled
 pub mod Due
+pub mod Server
 pub mod Allowed
+pub mod Opened
 pub mod Stood
 pub mod Refused
 pub mod Misplaced
+pub mod Unopened
 pub mod LeftOut
 pub mod Fronts

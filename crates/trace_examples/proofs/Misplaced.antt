@@ -1,5 +1,5 @@
 -- Actions that stand where they may not: whatever comes after these fronts, no trace that begins so is legal.
-use Rattle.std.proofs.Common.{length, ap, ◌≢◌, ℕ, List, ◌∷◌, ◌++◌, refl, inl, inr, arith}
+use Rattle.std.proofs.Common.{length, ap, ◌≢◌, ℕ, List, ◌∷◌, ◌++◌, None, refl, inl, inr, arith}
 use Rattle.std.specs.Fmt.{digits}
 use Rattle.resp_value.specs.declared.value.Value.TheVariants.{Nil}
 use Rattle.resp_read.specs.Grammar.{max_depth}
@@ -171,7 +171,7 @@ took_too_much config word events after h =
 
 -- a creation that is shown twice
 pub created_twice : (config : Config) (word : ℕ) (events : List Event) (after : List Action)
-    → Legal config word events (came_up config word ++ action.Created ∷ after) → ⊥
+    → Legal config word events (came_up config word ++ action.Created None ∷ after) → ⊥
 created_twice config word events after h =
-    let m = may_stand config word events (came_up config word) after action.Created h in
+    let m = may_stand config word events (came_up config word) after (action.Created None) h in
     cc m.once

@@ -3,14 +3,18 @@ use Rattle.std.proofs.Common.{◌≡◌, ◌≢◌, ◌⊎◌, ℕ, ◌<◌, ◌
 use Rattle.std.specs.Option.{is_none}
 use Rattle.std.proofs.lemmas.Bool.{not-true}
 use Rattle.containers.proofs.Choices.{by_test, not_both, eq_from, ne_from, lt_from, not_lt_from, left_if, both_left, both_right}
+use Rattle.redis_error.specs.declared.redis_error.RedisError.{RedisError}
+use Rattle.driver_model.specs.Config.{connect_timeout}
+use Rattle.driver_model.specs.declared.action.Cause.{Cause}
+use Rattle.driver_model.specs.declared.action.Cause.TheVariants as cause
 use Rattle.driver_model.specs.declared.action.WaitKind.{WaitKind}
 use Rattle.driver_model.specs.declared.action.WaitKind.TheVariants as wait
 use Rattle.driver_model.specs.declared.event.Submission.{Submission}
-use Rattle.legal_trace.specs.Ledger.{Ledger, IsOffered, is_over, ending, unwritten}
+use Rattle.legal_trace.specs.Ledger.{Ledger, IsOffered, is_over, ending, failure_in, unwritten}
 use Rattle.legal_trace.specs.Story.{Try, last_of, is_open, is_awaited, awaited_in}
 use Rattle.legal_trace.specs.Book.{Book}
 use Rattle.legal_trace.specs.Owed.{owed, is_full}
-use Rattle.legal_trace.specs.Legal.{IsOpen, link_of, NoneIsOwed, VerdictsAreShown, NoneEnds, IsApplied, IsTold, CanMove, IsMoved, IsWritten, WaitHolds, IsStarted, IsWaiting, IsSettled}
+use Rattle.legal_trace.specs.Legal.{IsOpen, link_of, NoneIsOwed, VerdictsAreShown, NoneEnds, FailuresAreShown, IsTimed, IsApplied, IsTold, CanMove, IsMoved, IsWritten, WaitHolds, IsStarted, IsWaiting, IsSettled}
 use Rattle.trace_examples.proofs.Bounded.{IsBounded, IsIdle}
 use Rattle.trace_examples.proofs.Checks.{holds_if, held, none_from, is_empty, empty_from, filled_from, each_below, below, is_told, told_from, nil_told}
 
@@ -53,7 +57,7 @@ verdicts_are_shown b bounded e n o lives = of_open b (owed b n ≡ None) n bound
     (λ l. quiet b n (held (not (is_over (link_of b n))) (is_quiet b n) (below (λ m. is_shown b m) b.submissions n e l) (ap not lives)) o) o
 
 -- a fact of the first link, and of every idle one
-first_and_idle : (b : Book) (P : ℕ → Type 0) (l : ℕ) → IsBounded b → P 0 → (IsIdle (b.link l) → P l) → P l
+pub first_and_idle : (b : Book) (P : ℕ → Type 0) (l : ℕ) → IsBounded b → P 0 → (IsIdle (b.link l) → P l) → P l
 first_and_idle b P l bounded first idle = by_test (l == 0) (P l) (λ e. subst P (sym (eq_from l 0 e)) first) (λ e. idle (bounded.idle l (some l e)))
   where
     some : (l : ℕ) → (l == 0) ≡ false → 0 < l
@@ -78,9 +82,44 @@ no_end b bounded e l = first_and_idle b (λ m. ending (b.link m) ≡ None) l bou
 of_up : (b : Book) (P : ℕ → Type 0) (l : ℕ) → IsBounded b → ((b.link 0).up ≡ true → P 0) → (b.link l).up ≡ true → P l
 of_up b P l bounded f u = first_and_idle b (λ m. (b.link m).up ≡ true → P m) l bounded f (λ idle t. absurd (not_both (b.link l).up idle.down t)) u
 
+-- not zero
+other_than_zero : (n : ℕ) → not (n == 0) ≡ true → n ≢ 0
+other_than_zero n e = ne_from n 0 (not-true (n == 0) e)
+
+-- an idle link's opening hasn't failed
+pub failed_idle : (l : Ledger) (e : RedisError) → IsIdle l → failure_in l.end ≡ Some e → ⊥
+failed_idle l e idle fails = let none : failure_in None ≡ Some e = ap failure_in (sym idle.lives) ∙ fails in cc none
+
+-- where the opening of the link failed, this was shown
+abbrev pub failure_shown : Book → Bool
+failure_shown b = holds_if (is_some (failure_in (b.link 0).end)) (not (b.created == 0))
+
+pub failures_are_shown : (b : Book) → IsBounded b → failure_shown b ≡ true → FailuresAreShown b
+failures_are_shown b bounded t l e = first_and_idle b (λ m. failure_in (b.link m).end ≡ Some e → b.created ≢ 0) l bounded
+    (λ fails. other_than_zero b.created (held (is_some (failure_in (b.link 0).end)) (not (b.created == 0)) t (ap is_some fails)))
+    (λ idle fails. absurd (failed_idle (b.link l) e idle fails))
+
+-- where the turn of this cause is an opening with a bounded connect, there are timers
+abbrev pub is_timed_in : Option Cause → Bool → Bool
+is_timed_in (Some (cause.Opening config word)) asked = holds_if (is_some (connect_timeout config)) asked
+is_timed_in _ asked = true
+
+-- the opening asked for its timer
+abbrev pub is_timed : Book → Bool
+is_timed b = is_timed_in b.running (not (is_empty b.timers))
+
+pub timed : (b : Book) → is_timed b ≡ true → IsTimed b
+timed b e config word opens bounded =
+    filled_from b.timers (held (is_some (connect_timeout config)) (not (is_empty b.timers))
+    (ap (λ c. is_timed_in c (not (is_empty b.timers))) (sym opens) ∙ e) (some_from (connect_timeout config) bounded))
+  where
+    some_from : (o : Option ℕ) → o ≢ None → is_some o ≡ true
+    some_from None n = absurd (n refl)
+    some_from (Some x) n = refl
+
 -- the event has had its own effect
 abbrev pub is_applied : Book → Bool
-is_applied b = all_quiet b && none_ends b && not (b.links == 0) && holds_if (b.link 0).up (not (b.created == 0))
+is_applied b = all_quiet b && none_ends b && not (b.links == 0) && holds_if (b.link 0).up (not (b.created == 0)) && failure_shown b && is_timed b
 
 pub applied : (b : Book) → IsBounded b → is_applied b ≡ true → IsApplied b
 applied b bounded e = record {
@@ -89,11 +128,10 @@ applied b bounded e = record {
   created = record {
     asked = other_than_zero b.links (search (both_left, both_right));
     shown = λ l u. of_up b (λ m. b.created ≢ 0) l bounded (λ t. other_than_zero b.created (held (b.link 0).up (not (b.created == 0)) (search (both_left, both_right)) t)) u;
+    failed = failures_are_shown b bounded (search (both_left, both_right));
   };
+  timed = timed b (search (both_left, both_right));
 }
-  where
-    other_than_zero : (n : ℕ) → not (n == 0) ≡ true → n ≢ 0
-    other_than_zero n e = ne_from n 0 (not-true (n == 0) e)
 
 -- its message has not started and may
 abbrev pub can_move : Book → ℕ → Bool

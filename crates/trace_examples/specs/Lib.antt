@@ -1,4 +1,5 @@
 pub mod Parts
 pub mod Traces
+pub mod Openings
 pub mod Fronts
 pub mod Claims

@@ -1,17 +1,29 @@
--- What the traces are made of: turns, submissions, the bytes of replies, and outcomes. The commands have one word, G or H, of 11 bytes when packed.
-use Rattle.std.specs.Prelude.{ℕ, List, [], ◌∷◌, None, codes}
+-- What the traces are made of: configurations, turns, submissions, the bytes of replies, and outcomes. The commands have one word, G or H, of 11 bytes when packed.
+use Rattle.std.specs.Prelude.{ℕ, List, [], ◌∷◌, Option, Some, None, codes}
 use Rattle.resp_value.specs.declared.server_error.ServerError.{ServerError}
 use Rattle.resp_value.specs.Data.{simple}
 use Rattle.resp_value.specs.View.{value_of}
 use Rattle.driver_model.specs.declared.action.Action.{Action}
 use Rattle.driver_model.specs.declared.action.Action.TheVariants as action
 use Rattle.driver_model.specs.declared.action.Cause.TheVariants as cause
+use Rattle.driver_model.specs.declared.config.Config.{Config}
 use Rattle.driver_model.specs.declared.event.Event.{Event}
 use Rattle.driver_model.specs.declared.event.EventKind.{EventKind}
 use Rattle.driver_model.specs.declared.event.Submission.{Submission}
 use Rattle.driver_model.specs.declared.event.Submission.TheVariants as submission
 use Rattle.driver_model.specs.declared.outcome.Outcome.{Outcome}
 use Rattle.driver_model.specs.declared.outcome.Outcome.TheVariants as outcome
+
+-- the server at h:6379, and what is said of the time of a connect
+abbrev pub at_server : Option (Option ℕ) → Config
+at_server connect = record { url = codes "redis://h:6379"; connect = connect }
+
+-- a connect that may take any time, and one that may take what it may where nothing is said: 1,000 milliseconds
+abbrev pub unbounded : Config
+unbounded = at_server (Some None)
+
+abbrev pub bounded : Config
+bounded = at_server None
 
 -- these events, one after another
 abbrev pub history : List EventKind → List Event

@@ -1,5 +1,5 @@
 -- The fronts of a few traces.
-use Rattle.std.specs.Prelude.{ℕ, List, [], ◌∷◌, ◌++◌}
+use Rattle.std.specs.Prelude.{ℕ, List, [], ◌∷◌, ◌++◌, None, codes}
 use Rattle.redis_error.specs.declared.fault_kind.FaultKind.TheVariants.{Reset}
 use Rattle.redis_error.specs.declared.redis_error.RedisError.TheVariants.{Io}
 use Rattle.resp_value.specs.declared.value.Value.TheVariants.{Nil}
@@ -16,13 +16,13 @@ use Rattle.driver_model.specs.declared.outcome.Outcome.TheVariants as outcome
 use Rattle.driver_model.specs.Request.{packed_bytes}
 use Rattle.trace_examples.specs.Parts.{turn, command, unawaited, one_atomic, one_skipped, reply, one_reply, replies, replies_alike, a_reply_and_more, spoiled_behind, okay_line, a_push, refusals, multi_refused, exec_refused, executed}
 
--- the opening
+-- the opening, which asks for the first link
 abbrev pub opening : Config → ℕ → List Action
-opening config word = action.Turn 0 (cause.Opening config word) ∷ action.Connect 0 config.host config.port ∷ []
+opening config word = action.Turn 0 (cause.Opening config word) ∷ action.Connect 0 (codes "h") 6379 ∷ []
 
 -- and the link came up
 abbrev pub came_up : Config → ℕ → List Action
-came_up config word = opening config word ++ turn 1 (event.Connected 0) ∷ action.Created ∷ []
+came_up config word = opening config word ++ turn 1 (event.Connected 0) ∷ action.Created None ∷ []
 
 -- a request was handed in, and nothing more was done
 abbrev pub arrived : Config → ℕ → Submission → List Action
@@ -157,7 +157,7 @@ abbrev pub both_in_wait : Config → ℕ → Submission → List Action
 both_in_wait config word s =
     in_wait config word (command 71) ++
     turn 2 (event.Submit s) ∷ action.Wait (owner.Try 1 0) wait.Connect ∷
-    turn 3 (event.Connected 0) ∷ action.Created ∷ []
+    turn 3 (event.Connected 0) ∷ action.Created None ∷ []
 
 -- two commands waited, and the first of them started
 abbrev pub first_of_both : Config → ℕ → List Action
@@ -172,7 +172,7 @@ abbrev pub heard_early : Config → ℕ → List Action
 heard_early config word =
     opening config word ++
     turn 1 (event.Bytes 0 a_reply_and_more) ∷
-    turn 2 (event.Connected 0) ∷ action.Created ∷
+    turn 2 (event.Connected 0) ∷ action.Created None ∷
     turn 3 (event.Submit (command 71)) ∷ action.Start 0 0 (owner.Try 0 0) 1 11 ∷ action.Write 0 (packed_bytes (command 71)) ∷
     turn 4 (event.Bytes 0 okay_line) ∷ []
 

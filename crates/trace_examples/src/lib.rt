@@ -1,9 +1,11 @@
 //! Traces that can be relied on, and traces that cannot, each with the proof.
 #![tactic(auto)]
 
-ghost use Rattle.std.specs.Prelude.{◌≢◌, ℕ, List, [], ◌∷◌, ◌++◌, drop, pos};
+ghost use Rattle.std.specs.Prelude.{◌≡◌, ◌≢◌, ℕ, List, [], ◌∷◌, ◌++◌, Option, Some, None, drop};
+ghost use Rattle.std.specs.Prelude.{pos};
 ghost use Rattle.redis_error.specs.declared.fault_kind.FaultKind.{FaultKind};
-ghost use Rattle.redis_error.specs.declared.fault_kind.FaultKind.TheVariants.{Reset};
+ghost use Rattle.redis_error.specs.declared.fault_kind.FaultKind.TheVariants.{Reset, TimedOut};
+ghost use Rattle.redis_error.specs.declared.redis_error.RedisError.{RedisError};
 ghost use Rattle.redis_error.specs.declared.redis_error.RedisError.TheVariants as error;
 ghost use Rattle.resp_value.specs.declared.value.Value.{Value};
 ghost use Rattle.resp_value.specs.declared.value.Value.TheVariants.{Okay, Nil};
@@ -11,6 +13,8 @@ ghost use Rattle.resp_value.specs.Data.{Data, array, int, items_of};
 ghost use Rattle.driver_model.specs.declared.action.Action.TheVariants as action;
 ghost use Rattle.driver_model.specs.declared.action.Cause.{Cause};
 ghost use Rattle.driver_model.specs.declared.action.Owner.TheVariants as owner;
+ghost use Rattle.driver_model.specs.Config.{connect_timeout};
+ghost use Rattle.driver_model.specs.declared.action.Purpose.{Purpose};
 ghost use Rattle.driver_model.specs.declared.action.WaitKind.{WaitKind};
 ghost use Rattle.driver_model.specs.declared.action.WaitKind.TheVariants as wait;
 ghost use Rattle.driver_model.specs.declared.config.Config.{Config};
@@ -20,6 +24,7 @@ ghost use Rattle.driver_model.specs.declared.outcome.Outcome.{Outcome};
 ghost use Rattle.driver_model.specs.declared.outcome.Outcome.TheVariants as outcome;
 ghost use Rattle.driver_model.specs.Request.{packed_bytes};
 ghost use Rattle.trace_examples.specs.Parts.{turn, command, unawaited, two_together, one_atomic};
+ghost use Rattle.trace_examples.specs.Parts.{unbounded, bounded};
 ghost use Rattle.trace_examples.specs.Parts.{one_skipped, one_nameless, nameless_atomic};
 ghost use Rattle.trace_examples.specs.Parts.{nameless_skipped, reply, an_error, one_reply, replies};
 ghost use Rattle.trace_examples.specs.Parts.{a_reply_and_more, spoiled_behind, okay_line, refusals};
@@ -35,7 +40,12 @@ ghost use Rattle.trace_examples.specs.Traces.{shut_in_wait, up_in_wait, both_in_
 ghost use Rattle.trace_examples.specs.Traces.{first_of_both, too_late, heard_early, said_nothing};
 ghost use Rattle.trace_examples.specs.Fronts.{EachStands, answered_fronts, unanswered_fronts};
 ghost use Rattle.trace_examples.specs.Fronts.{ended_fronts, waiting_fronts, begun_fronts};
-ghost use Rattle.trace_examples.specs.Claims.{IsTraceOf, NoneBegins, NoneIs};
+ghost use Rattle.trace_examples.specs.Fronts.{refused_fronts, overdue_fronts};
+ghost use Rattle.trace_examples.specs.Openings.{timed_opening, connect_refused, refusal_shown};
+ghost use Rattle.trace_examples.specs.Openings.{refused_at_first, overdue, timed_out};
+ghost use Rattle.trace_examples.specs.Traces.{opening};
+ghost use Rattle.trace_examples.specs.Claims.{IsTraceOf, IsTraceIn};
+ghost use Rattle.trace_examples.specs.Claims.{NoneBegins, NoneBeginsIn, NoneIs};
 
 /// Does nothing. Its contract: these traces are legal. A transaction is aborted by the error of its
 /// command; a command whose reply nobody awaits is answered at its place, and its item is not given
@@ -191,7 +201,7 @@ pub fn nor_are_these_steps()
         → NoneBegins started_unoffered (action.Wait (owner.Try n round) kind) }
     ensures waits_out_of_order { NoneBegins both_left_out
         (action.Wait (owner.Try 1 0) wait.Connect) }
-    ensures created_twice { NoneBegins came_up action.Created }
+    ensures created_twice { NoneBegins came_up (action.Created None) }
 {}
 
 /// Does nothing. Its contract: the same of starts on a link that isn't up, or with the need or the
@@ -226,14 +236,64 @@ pub fn nobody_is_left_out()
     ensures held_back_last { NoneIs held_back }
 {}
 
+/// Does nothing. Its contract: these are legal too. Where the time of a connect is over, or the
+/// connect fails, the commands that wait get that error, and so does each one that comes later,
+/// unless it is empty or came after a shutdown; and once a link is up, its timer and a refusal
+/// change nothing.
+pub fn so_are_these_openings()
+    ensures timed_out { IsTraceIn bounded
+        (event.Submit (command 71) ∷ event.Fired 0 ∷ event.Submit (command 72)
+        ∷ event.Connected 0 ∷ []) timed_out
+        (action.Outcome 0 (outcome.Fault (error.Io TimedOut)) ∷ turn 3 (event.Submit (command 72))
+        ∷ action.Outcome 1 (outcome.Fault (error.Io TimedOut)) ∷ turn 4 (event.Connected 0) ∷ []) }
+    ensures all_refused { IsTraceOf
+        (event.Submit (command 71) ∷ event.Submit (command 72) ∷ event.Refused 0 Reset
+        ∷ event.Submit (command 73) ∷ []) refusal_shown
+        (action.Outcome 0 (outcome.Fault (error.Io Reset))
+        ∷ action.Outcome 1 (outcome.Fault (error.Io Reset)) ∷ turn 4 (event.Submit (command 73))
+        ∷ action.Outcome 2 (outcome.Fault (error.Io Reset)) ∷ []) }
+    ensures empty_and_late { IsTraceOf
+        (event.Refused 0 Reset ∷ event.Submit (submission.Cmd []) ∷ event.Shutdown
+        ∷ event.Submit (command 71) ∷ []) refused_at_first
+        (turn 2 (event.Submit (submission.Cmd []))
+        ∷ action.Outcome 0 (outcome.Fault error.EmptyCommand) ∷ turn 3 event.Shutdown
+        ∷ turn 4 (event.Submit (command 71)) ∷ action.Outcome 1 (outcome.Fault error.Closed) ∷ []) }
+    ensures up_in_time { IsTraceIn bounded
+        (event.Connected 0 ∷ event.Fired 0 ∷ event.Refused 0 Reset ∷ []) timed_opening
+        (turn 1 (event.Connected 0) ∷ action.Created None ∷ turn 2 (event.Fired 0)
+        ∷ turn 3 (event.Refused 0 Reset) ∷ []) }
+{}
+
+/// Does nothing. Its contract: no trace that begins so is legal, whatever its events were and
+/// whatever comes after: outcomes, creations, closes and timers that aren't due around an opening.
+pub fn nor_are_these_openings()
+    ensures closed_in_place { NoneBegins timed_out
+        (action.Outcome 0 (outcome.Fault error.Closed)) }
+    ensures answered_before_the_failure { (o : Outcome)
+        → NoneBegins connect_refused (action.Outcome 0 o) }
+    ensures second_before_the_first { (o : Outcome)
+        → NoneBegins refusal_shown (action.Outcome 1 o) }
+    ensures shown_again { (e : Option RedisError) → NoneBegins refusal_shown (action.Created e) }
+    ensures failed_before_the_close { (e : Option RedisError)
+        → NoneBegins overdue (action.Created e) }
+    ensures created_when_refused { NoneBegins connect_refused (action.Created None) }
+    ensures another_error { NoneBegins connect_refused (action.Created (Some error.Closed)) }
+    ensures closed_when_refused { NoneBegins connect_refused (action.Close 0) }
+    ensures timer_unasked { (config : Config) (t ms : ℕ) (what : Purpose)
+        → connect_timeout config ≡ None → NoneBeginsIn config opening (action.Timer t ms what) }
+    ensures timer_left_out { (config : Config) (number : ℕ) (c : Cause)
+        → connect_timeout config ≢ None → NoneBeginsIn config opening (action.Turn number c) }
+{}
+
 /// Does nothing. Its contract: each action of these fronts stands where it may. So the traces that
 /// begin with them are refused for what comes next. One front of those above isn't among them: a
 /// wait can be due before an earlier one only behind a turn that began too soon.
 pub fn their_fronts_stand()
-    ensures answered { (config : Config) (word : ℕ) → EachStands (answered_fronts config word) }
-    ensures unanswered { (config : Config) (word : ℕ)
-        → EachStands (unanswered_fronts config word) }
-    ensures ended { (config : Config) (word : ℕ) → EachStands (ended_fronts config word) }
-    ensures waiting { (config : Config) (word : ℕ) → EachStands (waiting_fronts config word) }
-    ensures begun { (config : Config) (word : ℕ) → EachStands (begun_fronts config word) }
+    ensures answered { (word : ℕ) → EachStands (answered_fronts unbounded word) }
+    ensures unanswered { (word : ℕ) → EachStands (unanswered_fronts unbounded word) }
+    ensures ended { (word : ℕ) → EachStands (ended_fronts unbounded word) }
+    ensures waiting { (word : ℕ) → EachStands (waiting_fronts unbounded word) }
+    ensures begun { (word : ℕ) → EachStands (begun_fronts unbounded word) }
+    ensures refused { (word : ℕ) → EachStands (refused_fronts unbounded word) }
+    ensures overdue { (word : ℕ) → EachStands (overdue_fronts bounded word) }
 {}

@@ -1,0 +1,102 @@
+-- Actions around an opening that fails, where they may not stand: whatever comes after these fronts, no trace that begins so
+-- is legal.
+use Rattle.std.proofs.Common.{◌≡◌, ◌≢◌, ℕ, Option, Some, None, true, refl, sym, ◌∙◌, ap, arith}
+use Rattle.std.specs.Fmt.{digits}
+use Rattle.redis_error.specs.declared.fault_kind.FaultKind.TheVariants.{Reset}
+use Rattle.redis_error.specs.declared.redis_error.RedisError.{RedisError}
+use Rattle.redis_error.specs.declared.redis_error.RedisError.TheVariants as error
+use Rattle.driver_model.specs.Config.{connect_timeout}
+use Rattle.driver_model.specs.declared.action.Action.TheVariants as action
+use Rattle.driver_model.specs.declared.action.Cause.{Cause}
+use Rattle.driver_model.specs.declared.action.Cause.TheVariants as cause
+use Rattle.driver_model.specs.declared.action.Purpose.{Purpose}
+use Rattle.driver_model.specs.declared.config.Config.{Config}
+use Rattle.driver_model.specs.declared.outcome.Outcome.{Outcome}
+use Rattle.driver_model.specs.declared.outcome.Outcome.TheVariants as outcome
+use Rattle.legal_trace.specs.Book.{blank_book}
+use Rattle.legal_trace.specs.Ledger.{failure_in}
+use Rattle.legal_trace.specs.Legal.{MayTurn, MayShowCreation}
+use Rattle.trace_examples.specs.Traces.{opening}
+use Rattle.trace_examples.specs.Openings.{connect_refused, refusal_shown, overdue, timed_out}
+use Rattle.trace_examples.specs.Claims.{NoneBegins, NoneBeginsIn}
+use Rattle.trace_examples.proofs.Bounded.{IsBounded, blank_bounded, bounded_behind}
+use Rattle.trace_examples.proofs.Settled.{first_and_idle, failed_idle}
+use Rattle.trace_examples.proofs.Stood.{book_of, may_stand, answer}
+
+-- a command that waited, answered with the closed connection
+pub closed_in_place : NoneBegins timed_out (action.Outcome 0 (outcome.Fault error.Closed))
+unfolding digits
+closed_in_place config word events after h = cc (answer config word events (timed_out config word) after 0 (outcome.Fault error.Closed) refl h).owes
+
+-- an outcome before it was shown that the connect failed
+pub answered_before_the_failure : (o : Outcome) → NoneBegins connect_refused (action.Outcome 0 o)
+unfolding digits
+answered_before_the_failure o config word events after h =
+    let m = answer config word events (connect_refused config word) after 0 o refl h in
+    (m.after_closes refl).2 0 (error.Io Reset) refl refl
+
+-- and an outcome before an earlier one
+pub second_before_the_first : (o : Outcome) → NoneBegins refusal_shown (action.Outcome 1 o)
+unfolding digits
+second_before_the_first o config word events after h =
+    let m = answer config word events (refusal_shown config word) after 1 o refl h in
+    cc (m.in_order 0 (omega arith) refl refl)
+
+-- a failed creation, and a second one of any sort
+pub shown_again : (e : Option RedisError) → NoneBegins refusal_shown (action.Created e)
+shown_again e config word events after h = of_error e (may_stand config word events (refusal_shown config word) after (action.Created e) h)
+  where
+    of_error : (e : Option RedisError) → MayShowCreation (book_of (refusal_shown config word)) e → ⊥
+    of_error None m = cc m.once
+    of_error (Some x) m = cc m.once
+
+-- a creation that is shown before the link is closed
+pub failed_before_the_close : (e : Option RedisError) → NoneBegins overdue (action.Created e)
+failed_before_the_close e config word events after h = of_error e (may_stand config word events (overdue config word) after (action.Created e) h)
+  where
+    of_error : (e : Option RedisError) → MayShowCreation (book_of (overdue config word)) e → ⊥
+    of_error None m = cc (m.ended 0)
+    of_error (Some x) m = cc (m.ended 0)
+
+-- a failed connect has one link
+refused_is_bounded : (config : Config) (word : ℕ) → IsBounded (book_of (connect_refused config word))
+refused_is_bounded config word = bounded_behind blank_book (connect_refused config word) refl blank_bounded
+
+-- a connect that failed, shown as one that didn't
+pub created_when_refused : NoneBegins connect_refused (action.Created None)
+created_when_refused config word events after h =
+    let m = may_stand config word events (connect_refused config word) after (action.Created None) h in
+    let b = book_of (connect_refused config word) in
+    first_and_idle b (λ l. (b.link l).up ≡ true → ⊥) m.l (refused_is_bounded config word) (λ up. cc up) (λ idle up. cc (sym idle.down ∙ up)) m.up
+
+-- or with another error
+pub another_error : NoneBegins connect_refused (action.Created (Some error.Closed))
+another_error config word events after h =
+    let m = may_stand config word events (connect_refused config word) after (action.Created (Some error.Closed)) h in
+    let b = book_of (connect_refused config word) in
+    first_and_idle b (λ l. failure_in (b.link l).end ≡ Some error.Closed → ⊥) m.l (refused_is_bounded config word) (λ fails. cc fails)
+    (λ idle fails. failed_idle (b.link m.l) error.Closed idle fails) m.fails
+
+-- a close of a link whose connect failed
+pub closed_when_refused : NoneBegins connect_refused (action.Close 0)
+closed_when_refused config word events after h = cc (may_stand config word events (connect_refused config word) after (action.Close 0) h).ends
+
+-- an opening has one configuration
+same_config : (c d : Config) (v w : ℕ) → Some (cause.Opening c v) ≡ Some (cause.Opening d w) → c ≡ d
+same_config c d v w e = cc
+
+-- a timer of a connect that may take any time
+pub timer_unasked : (config : Config) (t ms : ℕ) (what : Purpose) → connect_timeout config ≡ None → NoneBeginsIn config opening (action.Timer t ms what)
+timer_unasked config t ms what none word events after h =
+    let m = may_stand config word events (opening config word) after (action.Timer t ms what) h in
+    let same : config ≡ m.config = same_config config m.config word m.word m.opens in
+    let both : ◌≡◌ {A = Option ℕ} None (Some ms) = sym none ∙ (ap connect_timeout same ∙ m.bounded) in
+    cc both
+
+-- a turn behind an opening without a timer, where the time of the connect is bounded
+pub timer_left_out : (config : Config) (number : ℕ) (c : Cause) → connect_timeout config ≢ None → NoneBeginsIn config opening (action.Turn number c)
+timer_left_out config number c bounded word events after h = of_cause c (may_stand config word events (opening config word) after (action.Turn number c) h)
+  where
+    of_cause : (c : Cause) → MayTurn (book_of (opening config word)) number c → ⊥
+    of_cause (cause.Opening other draws) m = cc m.is_for
+    of_cause (cause.Event e) m = m.is_for.1.written.moved.applied.timed config word refl bounded refl
