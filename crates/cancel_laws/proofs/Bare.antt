@@ -1,7 +1,11 @@
 -- A connection does the same where one request's outcome is looked away from, once its message has left the queue.
-use Rattle.std.proofs.Common.{◌≡◌, ◌≢◌, ℕ, ◌<◌, ◌==◌, Bool, true, false, List, [], ◌∷◌, ◌++◌, length, if◌then◌else◌, refl, sym, ap, ◌∙◌, append_assoc}
+use Rattle.std.proofs.Common.{◌≡◌, ◌≢◌, ℕ, ◌<◌, ◌==◌, Bool, true, false, List, [], ◌∷◌, ◌++◌, length, if◌then◌else◌, refl, sym, ap, ◌∙◌, append_assoc, Some, None}
 use Rattle.std.proofs.lemmas.List.{append-nil}
 use Rattle.containers.proofs.Choices.{by_test, chosen, either, either_by, taken_if, left_if, eq_from, ne_from, eq_test, ne_test}
+use Rattle.redis_error.specs.declared.fault_kind.FaultKind.TheVariants as kinds
+use Rattle.redis_error.specs.declared.fault_kind.FaultKind.{FaultKind}
+use Rattle.redis_error.specs.declared.redis_error.RedisError.TheVariants as error
+use Rattle.redis_error.specs.declared.redis_error.RedisError.{RedisError}
 use Rattle.resp_value.specs.declared.value.Value.TheVariants.{Nil}
 use Rattle.driver_model.specs.declared.action.WaitKind.TheVariants as wait
 use Rattle.driver_model.specs.declared.news.LinkFault.{LinkFault}
@@ -9,7 +13,7 @@ use Rattle.driver_model.specs.declared.news.LinkFault.TheVariants as fault
 use Rattle.driver_model.specs.declared.outcome.Outcome.{Outcome}
 use Rattle.driver_model.specs.declared.outcome.Outcome.TheVariants as outcome
 use Rattle.driver_model.specs.declared.outcome.Shape.{Shape}
-use Rattle.driver_model.specs.News.{News, silence, connected, took, failed, shut}
+use Rattle.driver_model.specs.News.{News, silence, connected, took, failed, shut, refused, overdue}
 use Rattle.driver_model.specs.News.{came}
 use Rattle.driver_model.specs.Shape.{outcome_of}
 use Rattle.link_core.specs.declared.message.Settled.{Settled}
@@ -28,7 +32,7 @@ use Rattle.mux_conn.specs.declared.request.Request.{Request}
 use Rattle.mux_conn.specs.declared.request.Waiting.{Waiting}
 use Rattle.mux_conn.specs.Connection.{Work, acted, at_life, with_link, awaits_connect, moves_none}
 use Rattle.mux_conn.specs.Requests.{is_open_at, is_waiting_at, name_at, at_progress, progressed, answered, waiting_of, asked}
-use Rattle.mux_conn.specs.Effects.{new_link, settled_each, closed, closed_each, waiting_closed, ended, connected_at, taken_at, failed_at, broken_at, read_to, read_at, shut_at, applied, cancelled_in, left}
+use Rattle.mux_conn.specs.Effects.{new_link, settled_each, failed_each, waiting_failed, ended, opening_failed, connected_at, refused_at, overdue_at, taken_at, failed_at, broken_at, read_to, read_at, shut_at, applied, cancelled_in, left}
 use Rattle.mux_conn.specs.Passes.{shown_each, starts_with, started_at, started, message_of, placed_at, told_at_place, moved_at, moved, still_waiting, moved_each, moved_all, passed}
 use Rattle.mux_conn.specs.Turn.{written_at, written, wait_shown, waits_each, waits_shown, flushed}
 use Rattle.cancel_laws.specs.ButFor.{hushed_link, hushed_life}
@@ -160,21 +164,34 @@ bare_settled_same n p w ss later h e =
     let f = own_closed w.conn.requests p in
     bare_settled n p w ss h ∙ sym (others_settled (bare n p w) p ss f) ∙ ap (settled_each (bare n p w)) e ∙ others_settled (bare n p w) p later f
 
--- those that wait, on a link that has ended
-bare_closed : (n p : ℕ) (w : Work) (qs : List Waiting) → At (There (IsGone n p)) w → bare n p (closed_each w qs) ≡ closed_each (bare n p w) qs
-bare_closed n p w [] h = refl
-bare_closed n p w (q ∷ qs) h =
-    bare_closed n p (answered w q.number closed) qs (answered_kept (gone_kept n p) w q.number closed h) ∙ ap (λ (x : Work). closed_each x qs) (bare_answered n p w q.number closed h)
+-- requests that get an error
+bare_failed_each : (n p : ℕ) (w : Work) (e : RedisError) (qs : List Waiting) → At (There (IsGone n p)) w → bare n p (failed_each w e qs) ≡ failed_each (bare n p w) e qs
+bare_failed_each n p w e [] h = refl
+bare_failed_each n p w e (q ∷ qs) h =
+    bare_failed_each n p (answered w q.number (outcome.Fault e)) e qs (answered_kept (gone_kept n p) w q.number (outcome.Fault e) h)
+    ∙ ap (λ (x : Work). failed_each x e qs) (bare_answered n p w q.number (outcome.Fault e) h)
+
+-- those that wait
+bare_waiting : (n p : ℕ) (w : Work) (e : RedisError) → At (There (IsGone n p)) w → bare n p (waiting_failed w e) ≡ waiting_failed (bare n p w) e
+bare_waiting n p w e h = bare_failed_each n p (record w { conn = record w.conn { waiting = [] } }) e w.conn.waiting h
 
 -- the end of a link
 bare_ended : (n p : ℕ) (w : Work) (ss later : List Settled) → At (There (IsGone n p)) w → others p ss ≡ others p later → bare n p (ended w ss) ≡ ended (bare n p w) later
 bare_ended n p w ss later h e =
-    let d = acted (at_life w Ended) act.Close in
-    let g : At (There (IsGone n p)) d = over_kept (gone_kept n p) w h in
+    let d = acted (at_life w (Ended error.Closed)) act.Close in
+    let g : At (There (IsGone n p)) d = over_kept (gone_kept n p) w error.Closed act.Close (λ m. refl) h in
     let v = settled_each d ss in
     let k : At (There (IsGone n p)) v = settled_kept (gone_kept n p) d ss g in
-    bare_closed n p (record v { conn = record v.conn { waiting = [] } }) v.conn.waiting k
-    ∙ ap waiting_closed (bare_settled_same n p d ss later g e ∙ ap (λ (x : Work). settled_each x later) (bare_acted n p (at_life w Ended) act.Close (λ m. refl)))
+    bare_waiting n p v error.Closed k
+    ∙ ap (λ (x : Work). waiting_failed x error.Closed)
+    (bare_settled_same n p d ss later g e ∙ ap (λ (x : Work). settled_each x later) (bare_acted n p (at_life w (Ended error.Closed)) act.Close (λ m. refl)))
+
+-- the end of an opening
+bare_opening : (n p : ℕ) (w : Work) (e : RedisError) → At (There (IsGone n p)) w → bare n p (opening_failed w e) ≡ opening_failed (bare n p w) e
+bare_opening n p w e h =
+    let a = act.Created (Some e) in
+    let g : At (There (IsGone n p)) (acted (at_life w (Ended e)) a) = over_kept (gone_kept n p) w e a (λ m. refl) h in
+    bare_waiting n p (acted (at_life w (Ended e)) a) e g ∙ ap (λ (x : Work). waiting_failed x e) (bare_acted n p (at_life w (Ended e)) a (λ m. refl))
 
 -- news
 --
@@ -182,19 +199,32 @@ bare_ended n p w ss later h e =
 bare_failed : (n p : ℕ) (w : Work) (f : LinkFault) (life : Life) → At (There (IsGone n p)) w → bare n p (failed_at w f life) ≡ failed_at (bare n p w) f (hushed_life p life)
 bare_failed n p w f (Ready l) h = bare_ended n p w _ _ h (fault_alike p f l (hushed_link p l) [] [] (alike_hushed p l) refl).out
 bare_failed n p w f Dialing h = refl
-bare_failed n p w f Ended h = refl
+bare_failed n p w f (Ended e) h = refl
 
 -- the connect
 bare_connected : (n p : ℕ) (w : Work) (life : Life) → bare n p (connected_at w life) ≡ connected_at (bare n p w) (hushed_life p life)
-bare_connected n p w Dialing = bare_acted n p (with_link w new_link) act.Created (λ m. refl)
+bare_connected n p w Dialing = bare_acted n p (with_link w new_link) (act.Created None) (λ m. refl)
 bare_connected n p w (Ready l) = refl
-bare_connected n p w Ended = refl
+bare_connected n p w (Ended e) = refl
+
+-- the connect is refused
+bare_refused : (n p : ℕ) (w : Work) (f : FaultKind) (life : Life) → At (There (IsGone n p)) w → bare n p (refused_at w f life) ≡ refused_at (bare n p w) f (hushed_life p life)
+bare_refused n p w f Dialing h = bare_opening n p w (error.Io f) h
+bare_refused n p w f (Ready l) h = refl
+bare_refused n p w f (Ended e) h = refl
+
+-- the time to connect is over
+bare_overdue : (n p : ℕ) (w : Work) (life : Life) → At (There (IsGone n p)) w → bare n p (overdue_at w life) ≡ overdue_at (bare n p w) (hushed_life p life)
+bare_overdue n p w Dialing h =
+    bare_opening n p (acted w act.Close) (error.Io kinds.TimedOut) h ∙ ap (λ (x : Work). opening_failed x (error.Io kinds.TimedOut)) (bare_acted n p w act.Close (λ m. refl))
+bare_overdue n p w (Ready l) h = refl
+bare_overdue n p w (Ended e) h = refl
 
 -- bytes were taken
 bare_taken : (n p : ℕ) (w : Work) (count : ℕ) (life : Life) → bare n p (taken_at w count life) ≡ taken_at (bare n p w) count (hushed_life p life)
 bare_taken n p w count Dialing = refl
 bare_taken n p w count (Ready l) = refl
-bare_taken n p w count Ended = refl
+bare_taken n p w count (Ended e) = refl
 
 -- bytes that begin no value
 bare_broken : (n p : ℕ) (b : Bool) (w : Work) → At (There (IsGone n p)) w → bare n p (broken_at b w) ≡ broken_at b (bare n p w)
@@ -214,18 +244,20 @@ bare_came n p w piece (Ready l) h =
     bare_read n p w (piece_dealt (record { link = l; out = [] }) piece) (piece_dealt (record { link = hushed_link p l; out = [] }) piece) ((gone_kept n p).come w.conn.requests l w.acts piece h)
     (hushed_came p l piece) (bytes_alike p l (hushed_link p l) [] [] piece (alike_hushed p l) refl).out
 bare_came n p w piece Dialing h = refl
-bare_came n p w piece Ended h = refl
+bare_came n p w piece (Ended e) h = refl
 
 -- the shutdown
 bare_shut : (n p : ℕ) (w : Work) (life : Life) → At (There (IsGone n p)) w → bare n p (shut_at w life) ≡ shut_at (bare n p w) (hushed_life p life)
 bare_shut n p w (Ready l) h = bare_ended n p w _ _ h (close_alike p l (hushed_link p l) [] [] (alike_hushed p l) refl).out
 bare_shut n p w Dialing h = bare_ended n p w [] [] h refl
-bare_shut n p w Ended h = refl
+bare_shut n p w (Ended e) h = refl
 
 -- all news
 pub bare_applied : (n p : ℕ) (w : Work) (what : News) → At (There (IsGone n p)) w → bare n p (applied w what) ≡ applied (bare n p w) what
 bare_applied n p w silence h = refl
 bare_applied n p w connected h = bare_connected n p w w.conn.life
+bare_applied n p w (refused f) h = bare_refused n p w f w.conn.life h
+bare_applied n p w overdue h = bare_overdue n p w w.conn.life h
 bare_applied n p w (took count) h = bare_taken n p w count w.conn.life
 bare_applied n p w (came piece) h = bare_came n p w piece w.conn.life h
 bare_applied n p w (failed f) h = bare_failed n p w f w.conn.life h
@@ -246,7 +278,7 @@ bare_asked p c name packed shape awaited l =
 own_life : (p : ℕ) (life : Life) → NoneQueued p life → hushed_life p (cancelled_in life p) ≡ hushed_life p life
 own_life p Dialing h = refl
 own_life p (Ready l) h = ap Ready (own_cancelled p l (none_leaves p l.queue h))
-own_life p Ended h = refl
+own_life p (Ended e) h = refl
 
 -- so nothing else changes
 pub own_left : (p : ℕ) (c : MultiplexedConnection) → NoneQueued p c.life → bare_conn p (left c p) ≡ bare_conn p c
@@ -264,7 +296,7 @@ own_left p c none =
 other_life : (p q : ℕ) (life : Life) → hushed_life p (cancelled_in life q) ≡ cancelled_in (hushed_life p life) q
 other_life p q Dialing = refl
 other_life p q (Ready l) = ap Ready (hushed_cancelled p q l)
-other_life p q Ended = refl
+other_life p q (Ended e) = refl
 
 -- and in the connection
 other_left : (p q : ℕ) (c : MultiplexedConnection) → q ≢ p → bare_conn p (left c q) ≡ left (bare_conn p c) q
@@ -306,7 +338,7 @@ bare_started_at n p w (Ready l) none =
     let out = (start_alike p l (hushed_link p l) [] (alike_hushed p l)).out in
     bare_shown n p (with_link w s.link) s.out ∙ (λ i. starts_with (bare n p w) (record { link = link i; out = out i }))
 bare_started_at n p w Dialing none = refl
-bare_started_at n p w Ended none = refl
+bare_started_at n p w (Ended e) none = refl
 
 -- on the link that the connection has
 bare_started : (n p : ℕ) (w : Work) → At (There (IsGone n p)) w → bare n p (started w) ≡ started (bare n p w)
@@ -331,7 +363,7 @@ bare_moved_at n p w q (Ready l) t g h =
     let k : At (There (IsGone n p)) d = (gone_kept n p).place w.conn.requests l w.acts q t g in
     bare_started n p (told_at_place d q) (told_kept (gone_kept n p) d q k) ∙ ap started (bare_told n p d q k)
     ∙ ap (λ (x : Work). started (told_at_place x q)) (bare_placed n p w q l (other_number w.conn.requests q.number p t g.past))
-bare_moved_at n p w q Ended t g h = bare_answered n p w q.number closed h
+bare_moved_at n p w q (Ended e) t g h = bare_answered n p w q.number (outcome.Fault e) h
 bare_moved_at n p w q Dialing t g h = refl
 
 -- and any other stays
@@ -346,7 +378,7 @@ bare_moved n p w q h =
 stuck_same : (p : ℕ) (life : Life) → moves_none life ≡ moves_none (hushed_life p life)
 stuck_same p Dialing = refl
 stuck_same p (Ready l) = refl
-stuck_same p Ended = refl
+stuck_same p (Ended e) = refl
 
 -- all that wait are moved
 bare_moved_each : (n p : ℕ) (w : Work) (qs : List Waiting) → At (There (IsGone n p)) w → bare n p (moved_each w qs) ≡ moved_each (bare n p w) qs
@@ -368,13 +400,13 @@ bare_written_at : (n p : ℕ) (w : Work) (life : Life) → bare n p (written_at 
 bare_written_at n p w (Ready l) =
     either (bare n p) (can_offer l.outbox) _ w _ (bare n p w) (λ t. bare_acted n p (with_link w (offered_of l)) (act.Write l.outbox.unwritten) (λ m. refl)) (λ f. refl)
 bare_written_at n p w Dialing = refl
-bare_written_at n p w Ended = refl
+bare_written_at n p w (Ended e) = refl
 
 -- nor does it whether the connect is answered
 dialing_same : (p : ℕ) (life : Life) → awaits_connect life ≡ awaits_connect (hushed_life p life)
 dialing_same p Dialing = refl
 dialing_same p (Ready l) = refl
-dialing_same p Ended = refl
+dialing_same p (Ended e) = refl
 
 -- a wait is shown
 bare_wait : (n p : ℕ) (w : Work) (q : ℕ) → At (There (IsGone n p)) w → bare n p (wait_shown w q) ≡ wait_shown (bare n p w) q

@@ -249,7 +249,7 @@ same_items config word draw n before after h =
 too_much_same : (p count : ℕ) (life : Life) → exceeds_offer life count ≡ exceeds_offer (hushed_life p life) count
 too_much_same p count Dialing = refl
 too_much_same p count (Ready l) = refl
-too_much_same p count Ended = refl
+too_much_same p count (Ended e) = refl
 
 -- nor does it which events are bad
 bare_bad : (p : ℕ) (c : Core) (kind : EventKind) → is_bad c kind ≡ is_bad (bare_core p c) kind
@@ -257,6 +257,8 @@ unfolding is_bad
 bare_bad p c (event.Submit s) = refl
 bare_bad p c (event.Cancel m) = refl
 bare_bad p c (event.Connected l) = refl
+bare_bad p c (event.Refused l f) = refl
+bare_bad p c (event.Fired n) = refl
 bare_bad p c (event.Wrote l count) = ap (λ (b : Bool). nat_le c.links l || ((l == c.single.link) && b)) (too_much_same p count c.single.connection.life)
 bare_bad p c (event.Bytes l piece) = refl
 bare_bad p c (event.Ended l) = refl

@@ -20,13 +20,13 @@ use Rattle.cancel_laws.proofs.Kept.{IsKept, IsKeptThere, There, kept_there, CanA
 abbrev pub NoneQueued : ℕ → Life → Type 0
 NoneQueued p Dialing = Unit {0}
 NoneQueued p (Ready l) = NoneOf p l.queue
-NoneQueued p Ended = Unit {0}
+NoneQueued p (Ended e) = Unit {0}
 
 -- nor in its row
 abbrev pub NoneInRow : ℕ → Life → Type 0
 NoneInRow p Dialing = Unit {0}
 NoneInRow p (Ready l) = NoneWanted p l.row
-NoneInRow p Ended = Unit {0}
+NoneInRow p (Ended e) = Unit {0}
 
 -- request p has the name n, doesn't wait for its place, and isn't in the queue
 pub record IsGone (n p : ℕ) (r : List Request) (life : Life) : Type 0 where
@@ -49,7 +49,7 @@ within_kept r p q now l = omega (arith, progress_count r q now)
 none_cancelled : (p q : ℕ) (life : Life) → NoneQueued p life → NoneQueued p (cancelled_in life q)
 none_cancelled p q Dialing h = h
 none_cancelled p q (Ready l) h = none_without p q l.queue h
-none_cancelled p q Ended h = h
+none_cancelled p q (Ended e) h = h
 
 -- a message of another request is another one
 not_awaited : (p q : ℕ) (awaited : Bool) → q ≢ p → ((q == p) && awaited) ≡ false
@@ -76,7 +76,7 @@ gone_there n p = record {
   offer = λ r l h. record { there = h.there; own = h.own; past = h.past; none = h.none };
   write = λ r l k h. record { there = h.there; own = h.own; past = h.past; none = h.none };
   come = λ r l piece h. record { there = h.there; own = h.own; past = h.past; none = none_came p l piece h.none };
-  end = λ r life h. record { there = h.there; own = h.own; past = h.past; none = tt };
+  end = λ r life e h. record { there = h.there; own = h.own; past = h.past; none = tt };
 }
 
 -- so each part of a turn does
@@ -109,7 +109,7 @@ pub record IsHushed (n p : ℕ) (r : List Request) (life : Life) : Type 0 where
 quiet_cancelled : (p q : ℕ) (life : Life) → NoneInRow p life → NoneInRow p (cancelled_in life q)
 quiet_cancelled p q Dialing h = h
 quiet_cancelled p q (Ready l) h = quiet_silenced p q l.row h
-quiet_cancelled p q Ended h = h
+quiet_cancelled p q (Ended e) h = h
 
 -- each single change keeps that too
 hushed_there : (n p : ℕ) → IsKeptThere (IsHushed n p)
@@ -122,7 +122,7 @@ hushed_there n p = record {
   offer = λ r l h. record { gone = (gone_there n p).offer r l h.gone; quiet = h.quiet };
   write = λ r l k h. record { gone = (gone_there n p).write r l k h.gone; quiet = h.quiet };
   come = λ r l piece h. record { gone = (gone_there n p).come r l piece h.gone; quiet = quiet_came p l piece h.quiet };
-  end = λ r life h. record { gone = (gone_there n p).end r life h.gone; quiet = tt };
+  end = λ r life e h. record { gone = (gone_there n p).end r life e h.gone; quiet = tt };
 }
 
 -- so each part of a turn does
@@ -137,4 +137,4 @@ hushed_asks n p m o = record { ask = λ r life xs h. record { gone = gone_asked 
 pub quiet_life : (p : ℕ) (life : Life) → NoneInRow p life → hushed_life p life ≡ life
 quiet_life p Dialing h = refl
 quiet_life p (Ready l) h = ap (λ (row : List Entry). Ready (record l { row = row })) (quiet_stays p l.row h)
-quiet_life p Ended h = refl
+quiet_life p (Ended e) h = refl

@@ -2,6 +2,9 @@
 use Rattle.std.proofs.Common.{◌≡◌, ℕ, ◌==◌, true, List, [], ◌∷◌, ◌++◌, length, Option, Some, None, slice_get, if◌then◌else◌, refl}
 use Rattle.containers.proofs.Choices.{chosen}
 use Rattle.redis_error.specs.declared.redis_error.RedisError.TheVariants as error
+use Rattle.redis_error.specs.declared.fault_kind.FaultKind.TheVariants as kinds
+use Rattle.redis_error.specs.declared.fault_kind.FaultKind.{FaultKind}
+use Rattle.redis_error.specs.declared.redis_error.RedisError.{RedisError}
 use Rattle.resp_value.specs.declared.value.Value.TheVariants.{Nil}
 use Rattle.driver_model.specs.declared.action.WaitKind.TheVariants as wait
 use Rattle.driver_model.specs.declared.event.EventKind.{EventKind}
@@ -11,7 +14,7 @@ use Rattle.driver_model.specs.declared.news.LinkFault.{LinkFault}
 use Rattle.driver_model.specs.declared.news.LinkFault.TheVariants as fault
 use Rattle.driver_model.specs.declared.outcome.Outcome.{Outcome}
 use Rattle.driver_model.specs.declared.outcome.Outcome.TheVariants as outcome
-use Rattle.driver_model.specs.News.{News, news_of, silence, connected, took, failed, shut}
+use Rattle.driver_model.specs.News.{News, news_of, silence, connected, took, failed, shut, refused, overdue}
 use Rattle.driver_model.specs.News.{came}
 use Rattle.driver_model.specs.Request.{packed_bytes}
 use Rattle.driver_model.specs.Shape.{outcome_of}
@@ -30,7 +33,7 @@ use Rattle.mux_conn.specs.declared.request.Request.{Request}
 use Rattle.mux_conn.specs.declared.request.Waiting.{Waiting}
 use Rattle.mux_conn.specs.Connection.{Work, acted, at_life, with_link, awaits_connect, moves_none}
 use Rattle.mux_conn.specs.Requests.{is_open_at, is_waiting_at, name_at, at_progress, answered}
-use Rattle.mux_conn.specs.Effects.{new_link, settled_each, closed, closed_each, ended, connected_at, taken_at, failed_at, read_to, read_at, shut_at, applied, cancelled_in, left}
+use Rattle.mux_conn.specs.Effects.{new_link, settled_each, failed_each, waiting_failed, ended, opening_failed, connected_at, refused_at, overdue_at, taken_at, failed_at, read_to, read_at, shut_at, applied, cancelled_in, left}
 use Rattle.mux_conn.specs.Passes.{shown_each, started_at, started, message_of, placed_at, told_at_place, moved_at, moved, still_waiting, moved_each, passed}
 use Rattle.mux_conn.specs.Turn.{written_at, written, wait_shown, waits_each, flushed}
 use Rattle.shared_session.specs.declared.core_state.Core.{Core}
@@ -38,7 +41,7 @@ use Rattle.shared_session.specs.Turn.{Turning, work_of, heard, counted, submitte
 
 -- what an act shows, if it is not the outcome of submission n
 abbrev pub other_act : ℕ → LinkAct → List LinkAct
-other_act n act.Created = act.Created ∷ []
+other_act n (act.Created e) = act.Created e ∷ []
 other_act n act.Close = act.Close ∷ []
 other_act n (act.Write bytes) = act.Write bytes ∷ []
 other_act n (act.Wait m kind) = act.Wait m kind ∷ []
@@ -59,7 +62,7 @@ pub record IsKept (P : List Request → Life → List LinkAct → Type 0) : Type
   pub offer : (r : List Request) (l : LinkState) (xs : List LinkAct) → P r (Ready l) xs → P r (Ready (offered_of l)) xs
   pub write : (r : List Request) (l : LinkState) (xs : List LinkAct) (k : ℕ) → P r (Ready l) xs → P r (Ready (wrote_of l k)) xs
   pub come : (r : List Request) (l : LinkState) (xs : List LinkAct) (piece : List ℕ) → P r (Ready l) xs → P r (Ready (piece_dealt (record { link = l; out = [] }) piece).link) xs
-  pub end : (r : List Request) (life : Life) (xs : List LinkAct) → P r life xs → P r Ended xs
+  pub end : (r : List Request) (life : Life) (xs : List LinkAct) (e : RedisError) → P r life xs → P r (Ended e) xs
   pub show : (r : List Request) (life : Life) (xs : List LinkAct) (a : LinkAct) → IsPlain a → P r life xs → P r life (xs ++ a ∷ [])
 
 -- the same of the requests and the life alone
@@ -72,7 +75,7 @@ pub record IsKeptThere (P : List Request → Life → Type 0) : Type 0 where
   pub offer : (r : List Request) (l : LinkState) → P r (Ready l) → P r (Ready (offered_of l))
   pub write : (r : List Request) (l : LinkState) (k : ℕ) → P r (Ready l) → P r (Ready (wrote_of l k))
   pub come : (r : List Request) (l : LinkState) (piece : List ℕ) → P r (Ready l) → P r (Ready (piece_dealt (record { link = l; out = [] }) piece).link)
-  pub end : (r : List Request) (life : Life) → P r life → P r Ended
+  pub end : (r : List Request) (life : Life) (e : RedisError) → P r life → P r (Ended e)
 
 -- a fact of the requests and the life, whatever a turn has shown
 abbrev pub There : (List Request → Life → Type 0) → List Request → Life → List LinkAct → Type 0
@@ -89,7 +92,7 @@ kept_there k = record {
   offer = λ r l xs h. k.offer r l h;
   write = λ r l xs n h. k.write r l n h;
   come = λ r l xs piece h. k.come r l piece h;
-  end = λ r life xs h. k.end r life h;
+  end = λ r life xs e h. k.end r life e h;
   show = λ r life xs a p h. h;
 }
 
@@ -108,41 +111,60 @@ pub settled_kept : {P : List Request → Life → List LinkAct → Type 0} → I
 settled_kept k w [] h = h
 settled_kept k w (s ∷ ss) h = settled_kept k (answered w s.id (outcome_of s.verdict)) ss (answered_kept k w s.id (outcome_of s.verdict) h)
 
--- those that wait, on a link that has ended
-closed_kept : {P : List Request → Life → List LinkAct → Type 0} → IsKept P → (w : Work) (qs : List Waiting) → At P w → At P (closed_each w qs)
-closed_kept k w [] h = h
-closed_kept k w (q ∷ qs) h = closed_kept k (answered w q.number closed) qs (answered_kept k w q.number closed h)
+-- requests that get an error
+failed_each_kept : {P : List Request → Life → List LinkAct → Type 0} → IsKept P → (w : Work) (e : RedisError) (qs : List Waiting) → At P w → At P (failed_each w e qs)
+failed_each_kept k w e [] h = h
+failed_each_kept k w e (q ∷ qs) h = failed_each_kept k (answered w q.number (outcome.Fault e)) e qs (answered_kept k w q.number (outcome.Fault e) h)
 
--- the link is over
-pub over_kept : {P : List Request → Life → List LinkAct → Type 0} → IsKept P → (w : Work) → At P w → At P (acted (at_life w Ended) act.Close)
-over_kept k w h = k.show w.conn.requests Ended w.acts act.Close (λ n. refl) (k.end w.conn.requests w.conn.life w.acts h)
+-- those that wait
+waiting_kept : {P : List Request → Life → List LinkAct → Type 0} → IsKept P → (w : Work) (e : RedisError) → At P w → At P (waiting_failed w e)
+waiting_kept k w e h = failed_each_kept k (record w { conn = record w.conn { waiting = [] } }) e w.conn.waiting h
+
+-- the link is over, which is shown
+pub over_kept : {P : List Request → Life → List LinkAct → Type 0} → IsKept P → (w : Work) (e : RedisError) (a : LinkAct) → IsPlain a → At P w → At P (acted (at_life w (Ended e)) a)
+over_kept k w e a plain h = k.show w.conn.requests (Ended e) w.acts a plain (k.end w.conn.requests w.conn.life w.acts e h)
 
 -- the end of the link
 ended_kept : {P : List Request → Life → List LinkAct → Type 0} → IsKept P → (w : Work) (out : List Settled) → At P w → At P (ended w out)
 ended_kept k w out h =
-    let d = acted (at_life w Ended) act.Close in
-    let e = settled_each d out in
-    closed_kept k (record e { conn = record e.conn { waiting = [] } }) e.conn.waiting (settled_kept k d out (over_kept k w h))
+    let d = acted (at_life w (Ended error.Closed)) act.Close in
+    waiting_kept k (settled_each d out) error.Closed (settled_kept k d out (over_kept k w error.Closed act.Close (λ n. refl) h))
+
+-- the end of an opening
+opening_kept : {P : List Request → Life → List LinkAct → Type 0} → IsKept P → (w : Work) (e : RedisError) → At P w → At P (opening_failed w e)
+opening_kept k w e h = waiting_kept k (acted (at_life w (Ended e)) (act.Created (Some e))) e (over_kept k w e (act.Created (Some e)) (λ n. refl) h)
 
 -- news
 --
 -- a function of the life that a connection has is looked at with any life of which the fact is true
 connected_kept : {P : List Request → Life → List LinkAct → Type 0} → IsKept P → (w : Work) (life : Life) → P w.conn.requests life w.acts → At P w → At P (connected_at w life)
-connected_kept k w Dialing g h = k.show w.conn.requests (Ready new_link) w.acts act.Created (λ n. refl) (k.connect w.conn.requests w.acts g)
+connected_kept k w Dialing g h = k.show w.conn.requests (Ready new_link) w.acts (act.Created None) (λ n. refl) (k.connect w.conn.requests w.acts g)
 connected_kept k w (Ready l) g h = h
-connected_kept k w Ended g h = h
+connected_kept k w (Ended e) g h = h
+
+-- the connect is refused
+refused_kept : {P : List Request → Life → List LinkAct → Type 0} → IsKept P → (w : Work) (f : FaultKind) (life : Life) → At P w → At P (refused_at w f life)
+refused_kept k w f Dialing h = opening_kept k w (error.Io f) h
+refused_kept k w f (Ready l) h = h
+refused_kept k w f (Ended e) h = h
+
+-- the time to connect is over
+overdue_kept : {P : List Request → Life → List LinkAct → Type 0} → IsKept P → (w : Work) (life : Life) → At P w → At P (overdue_at w life)
+overdue_kept k w Dialing h = opening_kept k (acted w act.Close) (error.Io kinds.TimedOut) (k.show w.conn.requests w.conn.life w.acts act.Close (λ n. refl) h)
+overdue_kept k w (Ready l) h = h
+overdue_kept k w (Ended e) h = h
 
 -- bytes were taken
 taken_kept : {P : List Request → Life → List LinkAct → Type 0} → IsKept P → (w : Work) (count : ℕ) (life : Life) → P w.conn.requests life w.acts → At P w → At P (taken_at w count life)
 taken_kept k w count (Ready l) g h = k.write w.conn.requests l w.acts count g
 taken_kept k w count Dialing g h = h
-taken_kept k w count Ended g h = h
+taken_kept k w count (Ended e) g h = h
 
 -- a fault
 failed_kept : {P : List Request → Life → List LinkAct → Type 0} → IsKept P → (w : Work) (f : LinkFault) (life : Life) → At P w → At P (failed_at w f life)
 failed_kept k w f (Ready l) h = ended_kept k w (faulted (record { link = l; out = [] }) f).out h
 failed_kept k w f Dialing h = h
-failed_kept k w f Ended h = h
+failed_kept k w f (Ended e) h = h
 
 -- what the link settled by bytes
 read_kept : {P : List Request → Life → List LinkAct → Type 0} → IsKept P → (w : Work) (s : Settling) → P w.conn.requests (Ready s.link) w.acts → At P (read_to w s)
@@ -155,18 +177,20 @@ read_kept {P = P} k w s h =
 came_kept : {P : List Request → Life → List LinkAct → Type 0} → IsKept P → (w : Work) (piece : List ℕ) (life : Life) → P w.conn.requests life w.acts → At P w → At P (read_at w piece life)
 came_kept k w piece (Ready l) g h = read_kept k w (piece_dealt (record { link = l; out = [] }) piece) (k.come w.conn.requests l w.acts piece g)
 came_kept k w piece Dialing g h = h
-came_kept k w piece Ended g h = h
+came_kept k w piece (Ended e) g h = h
 
 -- the shutdown
 shut_kept : {P : List Request → Life → List LinkAct → Type 0} → IsKept P → (w : Work) (life : Life) → At P w → At P (shut_at w life)
 shut_kept k w (Ready l) h = ended_kept k w (closed_all (record { link = l; out = [] })).out h
 shut_kept k w Dialing h = ended_kept k w [] h
-shut_kept k w Ended h = h
+shut_kept k w (Ended e) h = h
 
 -- all news
 applied_kept : {P : List Request → Life → List LinkAct → Type 0} → IsKept P → (w : Work) (what : News) → At P w → At P (applied w what)
 applied_kept k w silence h = h
 applied_kept k w connected h = connected_kept k w w.conn.life h h
+applied_kept k w (refused f) h = refused_kept k w f w.conn.life h
+applied_kept k w overdue h = overdue_kept k w w.conn.life h
 applied_kept k w (took count) h = taken_kept k w count w.conn.life h h
 applied_kept k w (came piece) h = came_kept k w piece w.conn.life h h
 applied_kept k w (failed f) h = failed_kept k w f w.conn.life h
@@ -187,7 +211,7 @@ started_at_kept k w (Ready l) g h =
     let s = started_all (record { link = l; out = [] }) in
     shown_kept k (with_link w s.link) s.out (k.start w.conn.requests l w.acts g)
 started_at_kept k w Dialing g h = h
-started_at_kept k w Ended g h = h
+started_at_kept k w (Ended e) g h = h
 
 -- on the link that the connection has
 pub started_kept : {P : List Request → Life → List LinkAct → Type 0} → IsKept P → (w : Work) → At P w → At P (started w)
@@ -202,7 +226,7 @@ moved_at_kept : {P : List Request → Life → List LinkAct → Type 0} → IsKe
 moved_at_kept k w q (Ready l) t g h =
     let d = placed_at w q (Ready l) in
     started_kept k (told_at_place d q) (told_kept k d q (k.place w.conn.requests l w.acts q t g))
-moved_at_kept k w q Ended t g h = answered_kept k w q.number closed h
+moved_at_kept k w q (Ended e) t g h = answered_kept k w q.number (outcome.Fault e) h
 moved_at_kept k w q Dialing t g h = h
 
 -- and any other stays
@@ -227,7 +251,7 @@ written_at_kept {P = P} k w (Ready l) g h =
     (λ t. k.show w.conn.requests (Ready (offered_of l)) w.acts (act.Write l.outbox.unwritten) (λ n. refl) (k.offer w.conn.requests l w.acts g))
     (λ f. h)
 written_at_kept k w Dialing g h = h
-written_at_kept k w Ended g h = h
+written_at_kept k w (Ended e) g h = h
 
 -- on the link that the connection has
 pub written_kept : {P : List Request → Life → List LinkAct → Type 0} → IsKept P → (w : Work) → At P w → At P (written w)
@@ -258,7 +282,7 @@ pub record CanAsk (P : List Request → Life → List LinkAct → Type 0) (m : �
 
 -- the connection hears its link's news
 pub heard_kept : {P : List Request → Life → List LinkAct → Type 0} → IsKept P → (t : Turning) (kind : EventKind) → At P (work_of t) → At P (work_of (heard t kind))
-heard_kept k t kind h = applied_kept k (work_of t) (news_of t.core.single.link kind) h
+heard_kept k t kind h = applied_kept k (work_of t) (news_of t.core.timers t.core.single.link kind) h
 
 -- a request is left
 left_kept : {P : List Request → Life → List LinkAct → Type 0} → IsKept P → (c : MultiplexedConnection) (xs : List LinkAct) (q : ℕ) → P c.requests c.life xs → P (left c q).requests (left c q).life xs
@@ -274,7 +298,7 @@ left_by_kept k t (Some (Some p)) h = left_kept k t.core.single.connection t.acts
 submitted_kept : {P : List Request → Life → List LinkAct → Type 0} → (t : Turning) → CanAsk P (length t.core.table) → (s : Submission) → At P (work_of t) → At P (work_of (submitted t s))
 submitted_kept {P = P} t k s h =
     let c = t.core.single.connection in
-    chosen (λ (x : Turning). At P (work_of x)) t.core.shut _ _ (λ u. k.refuse c.requests c.life t.acts closed h)
+    chosen (λ (x : Turning). At P (work_of x)) t.core.shut _ _ (λ u. k.refuse c.requests c.life t.acts (outcome.Fault error.Closed) h)
     (λ f. chosen (λ (x : Turning). At P (work_of x)) (length (packed_bytes s) == 0) _ _ (λ u. k.refuse c.requests c.life t.acts (outcome.Fault error.EmptyCommand) h) (λ g. k.ask c.requests c.life t.acts h))
 
 -- what an event is to the submissions
@@ -282,6 +306,8 @@ requested_kept : {P : List Request → Life → List LinkAct → Type 0} → IsK
 requested_kept k t a (event.Submit s) h = submitted_kept t a s h
 requested_kept k t a (event.Cancel n) h = left_by_kept k t (slice_get t.core.table n) h
 requested_kept k t a (event.Connected l) h = h
+requested_kept k t a (event.Refused l f) h = h
+requested_kept k t a (event.Fired n) h = h
 requested_kept k t a (event.Wrote l count) h = h
 requested_kept k t a (event.Bytes l piece) h = h
 requested_kept k t a (event.Ended l) h = h

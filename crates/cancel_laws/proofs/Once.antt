@@ -44,7 +44,7 @@ places p (q ∷ qs) = one p q.id + places p qs
 abbrev pub all_of : ℕ → Life → ℕ
 all_of p Dialing = 0
 all_of p (Ready l) = times p l.row + places p l.queue
-all_of p Ended = 0
+all_of p (Ended e) = 0
 
 -- how often it may, by its progress
 abbrev pub share_by : Progress → ℕ
@@ -149,7 +149,7 @@ starts_same p s (q ∷ qs) =
 cancelled_once : (p q : ℕ) (life : Life) → all_of p (cancelled_in life q) ≤ all_of p life
 cancelled_once p q Dialing = omega arith
 cancelled_once p q (Ready l) = omega (arith, times_silenced p q l.row, places_without p q l.queue)
-cancelled_once p q Ended = omega arith
+cancelled_once p q (Ended e) = omega arith
 
 -- a request that takes its place brings one, and may have it
 placed_once : (p q : ℕ) (r : List Request) (before : ℕ) → is_waiting_at r q ≡ true → before ≤ share r p → before + one p q ≤ share (at_progress r q progress.Placed) p
@@ -173,7 +173,7 @@ once_there p = record {
   write = λ r l k h. record { within = h.within };
   come = λ r l piece h. chosen (λ (x : Settling). IsOnce p r (Ready x.link)) l.broken _ _ (λ t. h)
       (λ f. record { within = omega (arith, h.within, times_dealt p (record { row = l.row; out = [] }) (items (l.rest ++ piece))) });
-  end = λ r life h. record { within = omega arith };
+  end = λ r life e h. record { within = omega arith };
 }
 
 -- so each part of a turn does

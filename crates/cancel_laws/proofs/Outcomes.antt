@@ -24,11 +24,12 @@ told_unnumbered : (os : List (Option Outcome)) (a : Action) → told os (unnumbe
 told_unnumbered os (action.Turn k (cause.Opening config word)) = refl
 told_unnumbered os (action.Turn k (cause.Event e)) = refl
 told_unnumbered os (action.Connect l host port) = refl
+told_unnumbered os (action.Timer t ms what) = refl
 told_unnumbered os (action.Close l) = refl
 told_unnumbered os (action.Write l bytes) = refl
 told_unnumbered os (action.Wait who kind) = refl
 told_unnumbered os (action.Start l k who need len) = refl
-told_unnumbered os action.Created = refl
+told_unnumbered os (action.Created e) = refl
 told_unnumbered os (action.Outcome n o) = refl
 
 -- and all
@@ -51,6 +52,8 @@ erased_room : (n : ℕ) (os : List (Option Outcome)) (kind : EventKind) → eras
 erased_room n os (event.Submit s) = set_push_same os n None
 erased_room n os (event.Cancel m) = refl
 erased_room n os (event.Connected l) = refl
+erased_room n os (event.Refused l f) = refl
+erased_room n os (event.Fired t) = refl
 erased_room n os (event.Wrote l count) = refl
 erased_room n os (event.Bytes l piece) = refl
 erased_room n os (event.Ended l) = refl
@@ -72,11 +75,12 @@ erased_one : (n : ℕ) (os : List (Option Outcome)) (a : Action) → erased n (t
 erased_one n os (action.Turn k (cause.Opening config word)) = refl
 erased_one n os (action.Turn k (cause.Event e)) = erased_room n os e.kind
 erased_one n os (action.Connect l host port) = refl
+erased_one n os (action.Timer t ms what) = refl
 erased_one n os (action.Close l) = refl
 erased_one n os (action.Write l bytes) = refl
 erased_one n os (action.Wait who kind) = refl
 erased_one n os (action.Start l k who need len) = refl
-erased_one n os action.Created = refl
+erased_one n os (action.Created e) = refl
 erased_one n os (action.Outcome m o) = erased_outcome n m os o
 
 -- and all
@@ -100,6 +104,8 @@ none_in_room : (os : List (Option Outcome)) (kind : EventKind) (n : ℕ) → out
 none_in_room os (event.Submit s) n = none_placed os n
 none_in_room os (event.Cancel m) n = refl
 none_in_room os (event.Connected l) n = refl
+none_in_room os (event.Refused l f) n = refl
+none_in_room os (event.Fired t) n = refl
 none_in_room os (event.Wrote l count) n = refl
 none_in_room os (event.Bytes l piece) n = refl
 none_in_room os (event.Ended l) n = refl
@@ -112,11 +118,12 @@ none_one : (n : ℕ) (os : List (Option Outcome)) (a : Action) → outcome_at (t
 none_one n os (action.Turn k (cause.Opening config word)) = refl
 none_one n os (action.Turn k (cause.Event e)) = none_in_room os e.kind n
 none_one n os (action.Connect l host port) = refl
+none_one n os (action.Timer t ms what) = refl
 none_one n os (action.Close l) = refl
 none_one n os (action.Write l bytes) = refl
 none_one n os (action.Wait who kind) = refl
 none_one n os (action.Start l k who need len) = refl
-none_one n os action.Created = refl
+none_one n os (action.Created e) = refl
 none_one n os (action.Outcome m o) =
     chosen (λ (xs : List Action). outcome_at (told_each os xs) n ≡ outcome_at os n) (m == n) [] (action.Outcome m o ∷ []) (λ t. refl)
     (λ f. ap if_placed (get_set_other os m n (Some o) (ne_from m n f)))

@@ -1,5 +1,5 @@
 -- What is true of a session after each history.
-use Rattle.std.proofs.Common.{◌≡◌, ℕ, ◌+◌, ◌==◌, List, [], ◌∷◌, ◌++◌, length, Option, Some, None, slice_get, refl, sym, ◌∙◌, subst, arith}
+use Rattle.std.proofs.Common.{◌≡◌, ℕ, ◌==◌, List, [], ◌∷◌, ◌++◌, length, Option, Some, None, slice_get, refl, sym, ◌∙◌, subst, arith}
 use Rattle.containers.proofs.Choices.{chosen}
 use Rattle.driver_model.specs.declared.config.Config.{Config}
 use Rattle.driver_model.specs.declared.event.Event.{Event}
@@ -37,7 +37,7 @@ names_there ns = record {
   offer = λ r l h. h;
   write = λ r l k h. h;
   come = λ r l piece h. h;
-  end = λ r life h. h;
+  end = λ r life e h. h;
 }
 
 -- so each part of a turn does
@@ -72,6 +72,8 @@ named_requested t (event.Submit s) h =
     (λ g. subst (AreNamed (t.core.table ++ Some (record { number = length r }) ∷ [])) (sym (names_push r x)) (named_asked t.core.table (names r) (length r) (names_count r) h)))
 named_requested t (event.Cancel n) h = named_left_by t (slice_get t.core.table n) h
 named_requested t (event.Connected l) h = h
+named_requested t (event.Refused l f) h = h
+named_requested t (event.Fired n) h = h
 named_requested t (event.Wrote l count) h = h
 named_requested t (event.Bytes l piece) h = h
 named_requested t (event.Ended l) h = h

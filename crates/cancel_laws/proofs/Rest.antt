@@ -28,7 +28,7 @@ pub record IsWideLink (l : LinkState) : Type 0 where
 abbrev pub IsWide : Life → Type 0
 IsWide Dialing = Unit {0}
 IsWide (Ready l) = IsWideLink l
-IsWide Ended = Unit {0}
+IsWide (Ended e) = Unit {0}
 
 -- and whatever the requests are
 abbrev pub Wide : List Request → Life → Type 0
@@ -45,7 +45,7 @@ wide_starts s (q ∷ qs) h =
 wide_cancelled : (q : ℕ) (life : Life) → IsWide life → IsWide (cancelled_in life q)
 wide_cancelled q Dialing h = h
 wide_cancelled q (Ready l) h = record { size = h.size; free = h.free }
-wide_cancelled q Ended h = h
+wide_cancelled q (Ended e) h = h
 
 -- each single change keeps that
 wide_there : IsKeptThere Wide
@@ -58,7 +58,7 @@ wide_there = record {
   offer = λ r l h. record { size = h.size; free = h.free };
   write = λ r l k h. record { size = h.size; free = h.free };
   come = λ r l piece h. chosen (λ (x : Settling). IsWideLink x.link) l.broken _ _ (λ t. h) (λ f. record { size = h.size; free = h.free });
-  end = λ r life h. tt;
+  end = λ r life e h. tt;
 }
 
 -- so each part of a turn does
@@ -75,13 +75,13 @@ wide_asks m = record { ask = λ r life xs h. h; refuse = λ r life xs o h. h }
 abbrev pub HasStartedAll : Life → Type 0
 HasStartedAll Dialing = Unit {0}
 HasStartedAll (Ready l) = l.queue ≡ []
-HasStartedAll Ended = Unit {0}
+HasStartedAll (Ended e) = Unit {0}
 
 -- and the bytes
 abbrev pub HasOffered : Life → Type 0
 HasOffered Dialing = Unit {0}
 HasOffered (Ready l) = can_offer l.outbox ≡ false
-HasOffered Ended = Unit {0}
+HasOffered (Ended e) = Unit {0}
 
 -- where nothing is left to do
 pub record IsIdle (c : MultiplexedConnection) : Type 0 where
@@ -113,7 +113,7 @@ started_from w (Ready l) e h =
     let s = started_all (record { link = l; out = [] }) in
     life_shown HasStartedAll (with_link w s.link) s.out (queue_starts (record { link = l; out = [] }) l.queue h.free)
 started_from w Dialing e h = subst HasStartedAll (sym e) tt
-started_from w Ended e h = subst HasStartedAll (sym e) tt
+started_from w (Ended x) e h = subst HasStartedAll (sym e) tt
 
 -- all messages start on the link that the connection has
 all_started : (w : Work) → At (There Wide) w → HasStartedAll (started w).conn.life
@@ -124,7 +124,7 @@ one_moved_at : (w : Work) (q : Waiting) (life : Life) → IsWide life → HasSta
 one_moved_at w q (Ready l) h e =
     let d = placed_at w q (Ready l) in
     all_started (told_at_place d q) (told_kept wide_kept d q (record { size = h.size; free = h.free }))
-one_moved_at w q Ended h e = chosen (λ (x : Work). HasStartedAll x.conn.life) (is_open_at w.conn.requests q.number) _ w (λ t. e) (λ f. e)
+one_moved_at w q (Ended x) h e = chosen (λ (x : Work). HasStartedAll x.conn.life) (is_open_at w.conn.requests q.number) _ w (λ t. e) (λ f. e)
 one_moved_at w q Dialing h e = e
 
 -- and behind one that isn't
@@ -139,7 +139,7 @@ not_full l s e = ap (λ (q : List Queued). nat_le l.size (length q)) e ∙ not_l
 stuck_dials : (life : Life) → IsWide life → HasStartedAll life → moves_none life ≡ true → awaits_connect life ≡ true
 stuck_dials Dialing h e t = refl
 stuck_dials (Ready l) h e t = absurd (not_both (is_full l) (not_full l h.size e) t)
-stuck_dials Ended h e t = t
+stuck_dials (Ended x) h e t = t
 
 -- all has moved that can
 record IsMoved (w : Work) : Type 0 where
@@ -178,7 +178,7 @@ written_from w (Ready l) e h =
     })
     (λ f. record { moved = h; offered = subst HasOffered (sym e) f })
 written_from w Dialing e h = record { moved = h; offered = subst HasOffered (sym e) tt }
-written_from w Ended e h = record { moved = h; offered = subst HasOffered (sym e) tt }
+written_from w (Ended x) e h = record { moved = h; offered = subst HasOffered (sym e) tt }
 
 -- a wait that is shown changes no connection
 wait_conn : (w : Work) (q : ℕ) → (wait_shown w q).conn ≡ w.conn
@@ -210,7 +210,7 @@ started_stays w (Ready l) e h =
     ap (λ (queue : List Queued). starts_with w (started_each (record { link = l; out = [] }) queue)) h
     ∙ ap (λ (queue : List Queued). with_link w (record l { queue = queue })) (sym h) ∙ ap (at_life w) (sym e)
 started_stays w Dialing e h = refl
-started_stays w Ended e h = refl
+started_stays w (Ended x) e h = refl
 
 -- no request is moved
 none_moved : (w : Work) (qs : List Waiting) → (awaits_connect w.conn.life ≡ false → qs ≡ []) → moved_each w qs ≡ still_waiting w qs
@@ -220,13 +220,13 @@ none_moved w (q ∷ qs) h = taken_if (moves_none w.conn.life) _ _ (dials_stuck w
     dials_stuck : (life : Life) → (awaits_connect life ≡ false → ⊥) → moves_none life ≡ true
     dials_stuck Dialing f = refl
     dials_stuck (Ready l) f = absurd (f refl)
-    dials_stuck Ended f = absurd (f refl)
+    dials_stuck (Ended e) f = absurd (f refl)
 
 -- no bytes are offered
 written_stays : (w : Work) (life : Life) → HasOffered life → written_at w life ≡ w
 written_stays w (Ready l) h = left_if (can_offer l.outbox) _ w h
 written_stays w Dialing h = refl
-written_stays w Ended h = refl
+written_stays w (Ended e) h = refl
 
 -- no wait is shown
 waits_stays : (w : Work) → w.conn.fresh ≡ [] → waits_shown w ≡ w
@@ -246,14 +246,14 @@ left_idle c p h = chosen IsIdle (is_open_at c.requests p) _ c (λ t. record { fr
     queue_left : (life : Life) → HasStartedAll life → HasStartedAll (cancelled_in life p)
     queue_left Dialing e = e
     queue_left (Ready l) e = ap (λ (q : List Queued). without q p) e
-    queue_left Ended e = e
+    queue_left (Ended x) e = e
 
     dials_left : (life : Life) → awaits_connect (cancelled_in life p) ≡ false → awaits_connect life ≡ false
     dials_left Dialing f = f
     dials_left (Ready l) f = f
-    dials_left Ended f = f
+    dials_left (Ended x) f = f
 
     offered_left : (life : Life) → HasOffered life → HasOffered (cancelled_in life p)
     offered_left Dialing e = e
     offered_left (Ready l) e = e
-    offered_left Ended e = e
+    offered_left (Ended x) e = e

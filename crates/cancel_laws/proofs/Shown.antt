@@ -38,7 +38,7 @@ shown-append l (a ∷ xs) ys = ap (λ (zs : List Action). shown l a ∷ zs) (sho
 --
 -- one act
 other_shown : (n l : ℕ) (a : LinkAct) → shown_of n (shown l a) ≡ shown_each l (other_act n a)
-other_shown n l act.Created = refl
+other_shown n l (act.Created e) = refl
 other_shown n l act.Close = refl
 other_shown n l (act.Write bytes) = refl
 other_shown n l (act.Wait m kind) = refl
@@ -58,7 +58,7 @@ numberless l [] = refl
 numberless l (a ∷ xs) = ap (λ (b : Action). b ∷ all_unnumbered (shown_each l xs)) (one_numberless a) ∙ ap (λ (ys : List Action). shown l a ∷ ys) (numberless l xs)
   where
     one_numberless : (a : LinkAct) → unnumbered (shown l a) ≡ shown l a
-    one_numberless act.Created = refl
+    one_numberless (act.Created e) = refl
     one_numberless act.Close = refl
     one_numberless (act.Write bytes) = refl
     one_numberless (act.Wait m kind) = refl

@@ -51,7 +51,7 @@ silent_kept n p = record {
   offer = λ r l xs h. record { there = h.there; own = h.own; closed = h.closed; unshown = h.unshown };
   write = λ r l xs k h. record { there = h.there; own = h.own; closed = h.closed; unshown = h.unshown };
   come = λ r l xs piece h. record { there = h.there; own = h.own; closed = h.closed; unshown = h.unshown };
-  end = λ r life xs h. record { there = h.there; own = h.own; closed = h.closed; unshown = h.unshown };
+  end = λ r life xs e h. record { there = h.there; own = h.own; closed = h.closed; unshown = h.unshown };
   show = λ r life xs a plain h. record { there = h.there; own = h.own; closed = h.closed; unshown = unshown_more n xs a (acts_plain n xs a plain) h.unshown };
 }
 

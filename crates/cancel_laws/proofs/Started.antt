@@ -53,7 +53,7 @@ written_from p w (Ready l) e h =
     })
     (λ f. h)
 written_from p w Dialing e h = h
-written_from p w Ended e h = h
+written_from p w (Ended x) e h = h
 
 -- what a turn ends with leaves a started message as it is
 all_flushed : (p : ℕ) (w : Work) → IsStarted p w.conn → IsStarted p (flushed w).conn

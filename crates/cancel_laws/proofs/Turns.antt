@@ -35,7 +35,7 @@ bare_turning n p t = record { core = bare_core p t.core; acts = other_acts n t.a
 -- the connection hears its link's news
 bare_heard : (n p : ℕ) (t : Turning) (kind : EventKind) → At (There (IsGone n p)) (work_of t) → bare_turning n p (heard t kind) ≡ heard (bare_turning n p t) kind
 bare_heard n p t kind h =
-    ap (with_work (bare_turning n p (record t { core = shut_by t.core kind }))) (bare_applied n p (work_of t) (news_of t.core.single.link kind) h)
+    ap (with_work (bare_turning n p (record t { core = shut_by t.core kind }))) (bare_applied n p (work_of t) (news_of t.core.timers t.core.single.link kind) h)
 
 -- the next submission is another one
 pub above : (n : ℕ) (table : List (Option Pending)) → n < length table → length table ≢ n
@@ -76,6 +76,8 @@ bare_requested : (n p : ℕ) (t : Turning) (kind : EventKind) → n < length t.c
 bare_requested n p t (event.Submit s) l h = bare_submitted n p t s l h.there
 bare_requested n p t (event.Cancel m) l h = bare_left_by n p t (slice_get t.core.table m) h
 bare_requested n p t (event.Connected m) l h = refl
+bare_requested n p t (event.Refused m f) l h = refl
+bare_requested n p t (event.Fired m) l h = refl
 bare_requested n p t (event.Wrote m count) l h = refl
 bare_requested n p t (event.Bytes m piece) l h = refl
 bare_requested n p t (event.Ended m) l h = refl
@@ -116,6 +118,8 @@ more_requested n t (event.Cancel m) l = more_left (slice_get t.core.table m)
     more_left (Some None) = l
     more_left (Some (Some p)) = l
 more_requested n t (event.Connected m) l = l
+more_requested n t (event.Refused m f) l = l
+more_requested n t (event.Fired m) l = l
 more_requested n t (event.Wrote m count) l = l
 more_requested n t (event.Bytes m piece) l = l
 more_requested n t (event.Ended m) l = l

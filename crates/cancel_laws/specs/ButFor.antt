@@ -11,11 +11,12 @@ use Rattle.mux_conn.specs.declared.life.Life.TheVariants.{Dialing, Ready, Ended}
 abbrev pub unnumbered : Action → Action
 unnumbered (action.Turn k c) = action.Turn 0 c
 unnumbered (action.Connect l host port) = action.Connect l host port
+unnumbered (action.Timer t ms what) = action.Timer t ms what
 unnumbered (action.Close l) = action.Close l
 unnumbered (action.Write l bytes) = action.Write l bytes
 unnumbered (action.Wait who kind) = action.Wait who kind
 unnumbered (action.Start l k who need len) = action.Start l k who need len
-unnumbered action.Created = action.Created
+unnumbered (action.Created e) = action.Created e
 unnumbered (action.Outcome n o) = action.Outcome n o
 
 -- all actions in order, but for the numbers of turns
@@ -27,11 +28,12 @@ all_unnumbered (a ∷ more) = unnumbered a ∷ all_unnumbered more
 abbrev pub shown_of : ℕ → Action → List Action
 shown_of n (action.Turn k c) = action.Turn 0 c ∷ []
 shown_of n (action.Connect l host port) = action.Connect l host port ∷ []
+shown_of n (action.Timer t ms what) = action.Timer t ms what ∷ []
 shown_of n (action.Close l) = action.Close l ∷ []
 shown_of n (action.Write l bytes) = action.Write l bytes ∷ []
 shown_of n (action.Wait who kind) = action.Wait who kind ∷ []
 shown_of n (action.Start l k who need len) = action.Start l k who need len ∷ []
-shown_of n action.Created = action.Created ∷ []
+shown_of n (action.Created e) = action.Created e ∷ []
 shown_of n (action.Outcome m o) = if m == n then [] else action.Outcome m o ∷ []
 
 -- all actions in order, but for the numbers of turns and for the outcomes of submission n
@@ -56,4 +58,4 @@ hushed_link p l = record l { row = hushed_each p l.row }
 abbrev pub hushed_life : ℕ → Life → Life
 hushed_life p Dialing = Dialing
 hushed_life p (Ready l) = Ready (hushed_link p l)
-hushed_life p Ended = Ended
+hushed_life p (Ended e) = Ended e

@@ -1,14 +1,17 @@
 -- A turn of an event: where it may stand, and what its link and the others hear.
-use Rattle.std.proofs.Common.{◌≡◌, ◌≢◌, ◌⊎◌, inl, inr, ℕ, ◌+◌, ◌<◌, ◌==◌, nat_lt, nat_le, false, ◌&&◌, ◌||◌, not, is_some, List, [], ◌∷◌, ◌++◌, length, slice_get, Some, refl, sym, ap, ◌∙◌, subst, arith, length-take}
+use Rattle.std.proofs.Common.{◌≡◌, ◌≢◌, ◌⊎◌, inl, inr, ℕ, ◌+◌, ◌<◌, ◌==◌, nat_lt, nat_le, false, ◌&&◌, ◌||◌, not, is_some, List, [], ◌∷◌, ◌++◌, length, slice_get, Some, refl, sym, ap, ◌∙◌, subst, arith, length-take, None, Option}
 use Rattle.std.proofs.lemmas.List.{append-nil}
 use Rattle.containers.proofs.Choices.{by_test, chosen, taken_if, left_if, eq_test, ne_test, not_le_from, or_left}
+use Rattle.redis_error.specs.declared.redis_error.RedisError.TheVariants as error
 use Rattle.driver_model.specs.declared.action.Action.{Action}
+use Rattle.driver_model.specs.declared.action.Purpose.{Purpose}
 use Rattle.driver_model.specs.declared.action.Action.TheVariants as action
 use Rattle.driver_model.specs.declared.action.Cause.TheVariants as cause
 use Rattle.driver_model.specs.declared.event.EventKind.{EventKind}
 use Rattle.driver_model.specs.declared.event.EventKind.TheVariants as event
 use Rattle.driver_model.specs.declared.news.LinkFault.TheVariants as fault
-use Rattle.driver_model.specs.News.{News, silence, connected, took, came, failed, shut, for_link, news_of}
+use Rattle.driver_model.specs.News.{News, silence, connected, took, came, failed, shut, for_link, news_of, refused, overdue, of_timer}
+use Rattle.driver_model.specs.declared.outcome.Outcome.TheVariants as outcome
 use Rattle.link_core.specs.Link.{LinkState}
 use Rattle.link_laws.proofs.TiedLink.{TiedLink}
 use Rattle.mux_conn.specs.declared.connection.MultiplexedConnection.{MultiplexedConnection}
@@ -17,17 +20,18 @@ use Rattle.mux_conn.specs.declared.life.Life.TheVariants.{Dialing, Ready, Ended}
 use Rattle.mux_conn.specs.declared.request.Request.{Request}
 use Rattle.shared_session.specs.declared.core_state.Core.{Core}
 use Rattle.shared_session.specs.Turn.{is_shutdown, shut_by, exceeds_offer, is_no_link, is_bad}
-use Rattle.legal_trace.specs.Ledger.{Ledger, hears, noted, is_over, bytes_came}
+use Rattle.legal_trace.specs.Ledger.{Ledger, hears, noted, is_over, bytes_came, dials, refused_in}
 use Rattle.legal_trace.specs.Story.{Story}
 use Rattle.legal_trace.specs.Book.{Book, book, entered}
 use Rattle.legal_trace.specs.Events.{is_bad_event}
 use Rattle.legal_trace.specs.Legal.{MayTurn}
-use Rattle.session_laws.proofs.Tied.{owners_of, Inner, inner, link_in, owner_of, IsUnknown, TiedLife, TiedTries, TiedLines, TiedWaits, Tied, Sound}
+use Rattle.session_laws.proofs.Tied.{AreAimed, owners_of, Inner, inner, link_in, owner_of, IsUnknown, TiedLife, TiedTries, TiedLines, TiedWaits, Tied, Sound, no_opening, has_ended}
 use Rattle.session_laws.proofs.States.{Between}
 use Rattle.session_laws.proofs.Entered.{book_more, sound_more}
 use Rattle.session_laws.proofs.Answer.{some_end}
 use Rattle.session_laws.proofs.Kept.{tied_by}
 use Rattle.session_laws.proofs.Settle.{seen, trace_of_acts, Holds}
+use Rattle.session_laws.proofs.Names.{get_some}
 
 -- bad events
 --
@@ -36,10 +40,10 @@ offered_length : (l : Ledger) (s : LinkState) (requests : List Request) → Tied
 offered_length l s requests h = ap length h.offer ∙ (let e = length-take s.outbox.offered s.outbox.unwritten in let b = h.bound in omega arith)
 
 -- the connection's link can't take so much
-too_much : (l : Ledger) (created : ℕ) (life : Life) (requests : List Request) (count : ℕ) → TiedLife l created life → (life ≢ Ended → TiedLink (owner_of requests) l (link_in life)) → (not (is_over l) && nat_lt (length l.offer) count) ≡ exceeds_offer life count
-too_much l created Dialing requests count h link = (λ i. not (is_some (h.2 i)) && nat_lt (offered_length l (link_in Dialing) requests (link (λ e. cc)) i) count)
-too_much l created (Ready s) requests count h link = (λ i. not (is_some (h.2 i)) && nat_lt (offered_length l s requests (link (λ e. cc)) i) count)
-too_much l created Ended requests count h link = ap (λ o. not o && nat_lt (length l.offer) count) (some_end l.end h.1)
+too_much : (l : Ledger) (created : ℕ) (life : Life) (requests : List Request) (count : ℕ) → TiedLife l created life → (has_ended life ≡ false → TiedLink (owner_of requests) l (link_in life)) → (not (is_over l) && nat_lt (length l.offer) count) ≡ exceeds_offer life count
+too_much l created Dialing requests count h link = (λ i. not (is_some (h.2 i)) && nat_lt (offered_length l (link_in Dialing) requests (link refl) i) count)
+too_much l created (Ready s) requests count h link = (λ i. not (is_some (h.2 i)) && nat_lt (offered_length l s requests (link refl) i) count)
+too_much l created (Ended e) requests count h link = ap (λ o. not o && nat_lt (length l.offer) count) (some_end l.end (outcome.Fault e) h.1)
 
 -- an event is bad after a trace where it is bad for its session
 pub same_badness : (b : Book) (c : Core) (started : List ℕ) (kind : EventKind) → Tied b (inner c started) → is_bad_event b kind ≡ is_bad c kind
@@ -47,6 +51,8 @@ unfolding is_bad_event is_bad
 same_badness b c started (event.Submit what) h = refl
 same_badness b c started (event.Cancel n) h = ap (λ k. nat_le k n) h.numbers.submissions
 same_badness b c started (event.Connected l) h = ap (λ k. nat_le k l) h.numbers.links
+same_badness b c started (event.Refused l f) h = ap (λ k. nat_le k l) h.numbers.links
+same_badness b c started (event.Fired n) h = ap (λ (ts : List Purpose). nat_le (length ts) n) h.numbers.timers
 same_badness b c started (event.Bytes l piece) h = ap (λ k. nat_le k l) h.numbers.links
 same_badness b c started (event.Ended l) h = ap (λ k. nat_le k l) h.numbers.links
 same_badness b c started (event.ReadFault l kind) h = ap (λ k. nat_le k l) h.numbers.links
@@ -83,40 +89,60 @@ may_turn before c started word kind h good =
 elsewhere_of : (c : Core) (l m : ℕ) (n : News) → ((k : ℕ) → k < c.links → k ≡ c.single.link) → is_no_link c l ≡ false → m ≢ c.single.link → for_link (l == m) n ≡ silence
 elsewhere_of c l m n only here other = left_if (l == m) n silence (ne_test l m (λ e. other (sym e ∙ only l (not_le_from c.links l here))))
 
+-- what another link sees of a timer
+elsewhere_fired : (link m n : ℕ) (timers : List Purpose) → AreAimed timers link → m ≢ link → of_timer m (slice_get timers n) ≡ silence
+elsewhere_fired link m n timers aims other = by_timer (slice_get timers n) refl
+  where
+    by_timer : (x : Option Purpose) → slice_get timers n ≡ x → of_timer m x ≡ silence
+    by_timer None e = refl
+    by_timer (Some what) e = ap (λ (x : Purpose). of_timer m (Some x)) (aims n what e) ∙ left_if (link == m) overdue silence (ne_test link m (λ same. other (sym same)))
+
 -- whatever the event is
-elsewhere : (c : Core) (m : ℕ) (kind : EventKind) → ((k : ℕ) → k < c.links → k ≡ c.single.link) → is_bad c kind ≡ false → m ≢ c.single.link → (news_of m kind ≡ silence) ⊎ (news_of m kind ≡ shut)
+elsewhere : (c : Core) (m : ℕ) (kind : EventKind) → ((k : ℕ) → k < c.links → k ≡ c.single.link) → AreAimed c.timers c.single.link → is_bad c kind ≡ false → m ≢ c.single.link → (news_of c.timers m kind ≡ silence) ⊎ (news_of c.timers m kind ≡ shut)
 unfolding is_bad
-elsewhere c m (event.Submit what) only good other = inl refl
-elsewhere c m (event.Cancel n) only good other = inl refl
-elsewhere c m (event.Connected l) only good other = inl (elsewhere_of c l m connected only good other)
-elsewhere c m (event.Wrote l count) only good other = inl (elsewhere_of c l m (took count) only (or_left (is_no_link c l) _ good) other)
-elsewhere c m (event.Bytes l piece) only good other = inl (elsewhere_of c l m (came piece) only good other)
-elsewhere c m (event.Ended l) only good other = inl (elsewhere_of c l m (failed fault.Ended) only good other)
-elsewhere c m (event.ReadFault l kind) only good other = inl (elsewhere_of c l m (failed (fault.Io kind)) only good other)
-elsewhere c m (event.WriteFault l kind) only good other = inl (elsewhere_of c l m (failed (fault.Io kind)) only good other)
-elsewhere c m event.Shutdown only good other = inr refl
+elsewhere c m (event.Submit what) only aims good other = inl refl
+elsewhere c m (event.Cancel n) only aims good other = inl refl
+elsewhere c m (event.Connected l) only aims good other = inl (elsewhere_of c l m connected only good other)
+elsewhere c m (event.Refused l f) only aims good other = inl (elsewhere_of c l m (refused f) only good other)
+elsewhere c m (event.Fired n) only aims good other = inl (elsewhere_fired c.single.link m n c.timers aims other)
+elsewhere c m (event.Wrote l count) only aims good other = inl (elsewhere_of c l m (took count) only (or_left (is_no_link c l) _ good) other)
+elsewhere c m (event.Bytes l piece) only aims good other = inl (elsewhere_of c l m (came piece) only good other)
+elsewhere c m (event.Ended l) only aims good other = inl (elsewhere_of c l m (failed fault.Ended) only good other)
+elsewhere c m (event.ReadFault l kind) only aims good other = inl (elsewhere_of c l m (failed (fault.Io kind)) only good other)
+elsewhere c m (event.WriteFault l kind) only aims good other = inl (elsewhere_of c l m (failed (fault.Io kind)) only good other)
+elsewhere c m event.Shutdown only aims good other = inr refl
 
 -- and stay unknown
-unknown_heard : (l : Ledger) (n : News) → (n ≡ silence) ⊎ (n ≡ shut) → IsUnknown l → IsUnknown (noted l (hears n))
-unknown_heard l n (inl e) h = subst (λ (x : News). IsUnknown (noted l (hears x))) (sym e) (record { asked = h.asked; up = h.up; end = h.end; starts = h.starts })
-unknown_heard l n (inr e) h = subst (λ (x : News). IsUnknown (noted l (hears x))) (sym e) (record { asked = h.asked; up = h.up; end = h.end; starts = h.starts })
+unknown_heard : (l : Ledger) (turn : ℕ) (n : News) → (n ≡ silence) ⊎ (n ≡ shut) → IsUnknown l → IsUnknown (noted l (hears turn n))
+unknown_heard l turn n (inl e) h = subst (λ (x : News). IsUnknown (noted l (hears turn x))) (sym e) (record { asked = h.asked; up = h.up; end = h.end; starts = h.starts })
+unknown_heard l turn n (inr e) h = subst (λ (x : News). IsUnknown (noted l (hears turn x))) (sym e) (record { asked = h.asked; up = h.up; end = h.end; starts = h.starts })
 
 -- so all other links stay unknown
-pub others_heard : (b : Book) (c : Core) (started : List ℕ) (kind : EventKind) → Tied b (inner c started) → is_bad c kind ≡ false → (m : ℕ) → m ≢ c.single.link → IsUnknown (noted (b.link m) (hears (news_of m kind)))
-others_heard b c started kind h good m other = unknown_heard (b.link m) (news_of m kind) (elsewhere c m kind h.numbers.only good other) (h.others m other)
+pub others_heard : (b : Book) (c : Core) (started : List ℕ) (kind : EventKind) → Tied b (inner c started) → is_bad c kind ≡ false → (m : ℕ) → m ≢ c.single.link → IsUnknown (noted (b.link m) (hears c.turns (news_of b.timers m kind)))
+others_heard b c started kind h good m other =
+    unknown_heard (b.link m) c.turns (news_of b.timers m kind)
+    (subst (λ (ts : List Purpose). (news_of ts m kind ≡ silence) ⊎ (news_of ts m kind ≡ shut)) (sym h.numbers.timers) (elsewhere c m kind h.numbers.only h.numbers.aims good other)) (h.others m other)
 
 -- the event that names a link names the connection's
 pub own_news : (c : Core) (l : ℕ) (n : News) → ((k : ℕ) → k < c.links → k ≡ c.single.link) → is_no_link c l ≡ false → for_link (l == c.single.link) n ≡ n
 own_news c l n only here = taken_if (l == c.single.link) n silence (eq_test l c.single.link (only l (not_le_from c.links l here)))
 
+-- a timer that was asked for is one for it
+pub own_timer : (c : Core) (n : ℕ) → AreAimed c.timers c.single.link → nat_le (length c.timers) n ≡ false → of_timer c.single.link (slice_get c.timers n) ≡ overdue
+own_timer c n aims good =
+    let g = get_some c.timers n (not_le_from (length c.timers) n good) in
+    ap (of_timer c.single.link) (g.1 ∙ ap Some (aims n g.0 g.1)) ∙ taken_if (c.single.link == c.single.link) overdue silence (eq_test c.single.link c.single.link refl)
+
 -- news start nothing
-pub heard_starts : (l : Ledger) (n : News) → (noted l (hears n)).starts ≡ l.starts
-heard_starts l silence = refl
-heard_starts l connected = chosen (λ (x : Ledger). x.starts ≡ l.starts) (is_over l) l _ (λ t. refl) (λ f. refl)
-heard_starts l (took count) = chosen (λ (x : Ledger). x.starts ≡ l.starts) l.up _ l (λ t. refl) (λ f. refl)
-heard_starts l (came piece) = chosen (λ (x : Ledger). x.starts ≡ l.starts) l.up (bytes_came l piece) l (λ t. refl) (λ f. refl)
-heard_starts l (failed f) = refl
-heard_starts l shut = refl
+pub heard_starts : (l : Ledger) (turn : ℕ) (n : News) → (noted l (hears turn n)).starts ≡ l.starts
+heard_starts l turn silence = refl
+heard_starts l turn (refused f) = chosen (λ (x : Ledger). x.starts ≡ l.starts) (dials l) (refused_in l turn (error.Io f)) l (λ t. refl) (λ d. refl)
+heard_starts l turn overdue = refl
+heard_starts l turn connected = chosen (λ (x : Ledger). x.starts ≡ l.starts) (is_over l) l _ (λ t. refl) (λ f. refl)
+heard_starts l turn (took count) = chosen (λ (x : Ledger). x.starts ≡ l.starts) l.up _ l (λ t. refl) (λ f. refl)
+heard_starts l turn (came piece) = chosen (λ (x : Ledger). x.starts ≡ l.starts) l.up (bytes_came l piece) l (λ t. refl) (λ f. refl)
+heard_starts l turn (failed f) = refl
+heard_starts l turn shut = refl
 
 -- the turn of an event that neither hands in nor cancels
 --
@@ -125,6 +151,8 @@ abbrev pub IsNewsKind : EventKind → Type 0
 IsNewsKind (event.Submit what) = ⊥
 IsNewsKind (event.Cancel n) = ⊥
 IsNewsKind (event.Connected l) = Unit {0}
+IsNewsKind (event.Refused l f) = Unit {0}
+IsNewsKind (event.Fired n) = Unit {0}
 IsNewsKind (event.Wrote l count) = Unit {0}
 IsNewsKind (event.Bytes l piece) = Unit {0}
 IsNewsKind (event.Ended l) = Unit {0}
@@ -133,29 +161,31 @@ IsNewsKind (event.WriteFault l kind) = Unit {0}
 IsNewsKind event.Shutdown = Unit {0}
 
 -- leaves the stories
-abbrev pub heard_book : Book → ℕ → EventKind → Book
-heard_book b word kind = record b {
+abbrev pub heard_book : Book → ℕ → ℕ → EventKind → Book
+heard_book b number word kind = record b {
   turns = b.turns + 1;
   running = Some (cause.Event (record { word = word; kind = kind }));
   shut = b.shut || is_shutdown kind;
-  link = λ m. noted (b.link m) (hears (news_of m kind));
+  link = λ m. noted (b.link m) (hears number (news_of b.timers m kind));
 }
 
 -- with as many submissions as before
-still_as_many : (b : Book) (word : ℕ) (kind : EventKind) → record (heard_book b word kind) { submissions = b.submissions + 0 } ≡ heard_book b word kind
-still_as_many b word kind = let e : b.submissions + 0 ≡ b.submissions = omega arith in λ i. record (heard_book b word kind) { submissions = e i }
+still_as_many : (b : Book) (number word : ℕ) (kind : EventKind) → record (heard_book b number word kind) { submissions = b.submissions + 0 } ≡ heard_book b number word kind
+still_as_many b number word kind = let e : b.submissions + 0 ≡ b.submissions = omega arith in λ i. record (heard_book b number word kind) { submissions = e i }
 
 -- the book with its turn is that book
-pub heard_is : (b : Book) (number word : ℕ) (kind : EventKind) → IsNewsKind kind → entered b (action.Turn number (cause.Event (record { word = word; kind = kind }))) ≡ heard_book b word kind
+pub heard_is : (b : Book) (number word : ℕ) (kind : EventKind) → IsNewsKind kind → entered b (action.Turn number (cause.Event (record { word = word; kind = kind }))) ≡ heard_book b number word kind
 heard_is b number word (event.Submit what) k = absurd k
 heard_is b number word (event.Cancel n) k = absurd k
-heard_is b number word (event.Connected l) k = still_as_many b word (event.Connected l)
-heard_is b number word (event.Wrote l count) k = still_as_many b word (event.Wrote l count)
-heard_is b number word (event.Bytes l piece) k = still_as_many b word (event.Bytes l piece)
-heard_is b number word (event.Ended l) k = still_as_many b word (event.Ended l)
-heard_is b number word (event.ReadFault l kind) k = still_as_many b word (event.ReadFault l kind)
-heard_is b number word (event.WriteFault l kind) k = still_as_many b word (event.WriteFault l kind)
-heard_is b number word event.Shutdown k = still_as_many b word event.Shutdown
+heard_is b number word (event.Connected l) k = still_as_many b number word (event.Connected l)
+heard_is b number word (event.Refused l f) k = still_as_many b number word (event.Refused l f)
+heard_is b number word (event.Fired n) k = still_as_many b number word (event.Fired n)
+heard_is b number word (event.Wrote l count) k = still_as_many b number word (event.Wrote l count)
+heard_is b number word (event.Bytes l piece) k = still_as_many b number word (event.Bytes l piece)
+heard_is b number word (event.Ended l) k = still_as_many b number word (event.Ended l)
+heard_is b number word (event.ReadFault l kind) k = still_as_many b number word (event.ReadFault l kind)
+heard_is b number word (event.WriteFault l kind) k = still_as_many b number word (event.WriteFault l kind)
+heard_is b number word event.Shutdown k = still_as_many b number word event.Shutdown
 
 -- tries are of the starts
 tries_by : (l after : Ledger) (story : ℕ → Story) (requests : List Request) (link : ℕ) (started : List ℕ) → after.starts ≡ l.starts → TiedTries l story requests link started → TiedTries after story requests link started
@@ -171,15 +201,15 @@ abbrev pub turned : Core → EventKind → Core
 turned c kind = shut_by (record c { turns = c.turns + 1 }) kind
 
 -- the session tied to that book, by what its link hears and has come to; the creation may be shown with it
-pub heard_tied : (b : Book) (c : Core) (started : List ℕ) (word created : ℕ) (kind : EventKind) (life : Life) (pending : List ℕ) (l : Ledger) → Tied b (inner c started) → is_bad c kind ≡ false → noted (b.link c.single.link) (hears (news_of c.single.link kind)) ≡ l
-    → l.starts ≡ (b.link c.single.link).starts → TiedLife l created life → (life ≢ Ended → TiedLink (owner_of c.single.connection.requests) l (link_in life))
+pub heard_tied : (b : Book) (c : Core) (started : List ℕ) (word created : ℕ) (kind : EventKind) (life : Life) (pending : List ℕ) (l : Ledger) → Tied b (inner c started) → is_bad c kind ≡ false → noted (b.link c.single.link) (hears c.turns (news_of b.timers c.single.link kind)) ≡ l
+    → l.starts ≡ (b.link c.single.link).starts → TiedLife l created life → (has_ended life ≡ false → TiedLink (owner_of c.single.connection.requests) l (link_in life))
     → TiedLines b.story c.single.connection.requests (link_in life) c.single.connection.waiting pending started → TiedWaits b.story c.single.connection.requests life c.single.connection.fresh
-    → Tied (record (heard_book b word kind) { created = created }) (seen (turned c kind) (record c.single.connection { life = life }) pending started)
+    → Tied (record (heard_book b c.turns word kind) { created = created }) (seen (turned c kind) (record c.single.connection { life = life }) pending started)
 heard_tied b c started word created kind life pending l h good is same lived linked lines waits =
-    let after = record (heard_book b word kind) { created = created } in
+    let after = record (heard_book b c.turns word kind) { created = created } in
     let t = seen (turned c kind) (record c.single.connection { life = life }) pending started in
     tied_by after t l is (record {
-      numbers = record { turns = ap (λ n. n + 1) h.numbers.turns; links = h.numbers.links; submissions = h.numbers.submissions; shut = ap (λ s. s || is_shutdown kind) h.numbers.shut; one = h.numbers.one; only = h.numbers.only };
+      numbers = record { turns = ap (λ n. n + 1) h.numbers.turns; links = h.numbers.links; timers = h.numbers.timers; aims = h.numbers.aims; timed = λ config other opens bounded none. no_opening _ config other opens; submissions = h.numbers.submissions; shut = ap (λ s. s || is_shutdown kind) h.numbers.shut; one = h.numbers.one; only = h.numbers.only };
       others = others_heard b c started kind h good;
       life = lived;
       link = linked;

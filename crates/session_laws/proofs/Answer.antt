@@ -21,20 +21,20 @@ use Rattle.legal_trace.specs.Ledger.{End, ending_up, ending_asked, Ledger, is_ov
 use Rattle.legal_trace.specs.Story.{Story, Try, last_of, packed_in, shape_in, bytes_of, answered}
 use Rattle.legal_trace.specs.Book.{Book, entered}
 use Rattle.legal_trace.specs.Owed.{owed, owed_to_try, owed_to_message, owed_unstarted}
-use Rattle.legal_trace.specs.Legal.{NoneEnds, VerdictsAreShown, MayAnswer}
+use Rattle.legal_trace.specs.Legal.{NoneEnds, VerdictsAreShown, MayAnswer, FailuresAreShown}
 use Rattle.session_laws.proofs.Numbers.{IsIn, in_right, in_left, Rising, rising_in}
-use Rattle.session_laws.proofs.Tied.{Inner, link_in, queue_ids, waiting_ids, IsUnknown, TiedLife, TiedNames, IsEntry, TiedLines, Tied, relined}
+use Rattle.session_laws.proofs.Tied.{Inner, link_in, queue_ids, waiting_ids, IsUnknown, TiedLife, TiedNames, IsEntry, TiedLines, Tied, relined, has_ended}
 use Rattle.session_laws.proofs.Names.{open_within, earlier_name, owners_still, length_still, names_progressed, there_other, there_then}
 use Rattle.session_laws.proofs.InLine.{line_of, IsInLine, first_is_apart}
 use Rattle.session_laws.proofs.Closing.{Closes, with_closed, story_closed, tries_closed, packs_closed, queue_closed, waits_closed}
-use Rattle.session_laws.proofs.Owes.{request_story, open_request, answered_closed}
+use Rattle.session_laws.proofs.Owes.{request_story, open_request, answered_closed, failures_shown}
 
 -- where it may stand
 --
 -- an open request of its link is owed that; none before it is owed anything; and on a link that is over nothing is due before
 pub may_answer : (b : Book) (t : Inner) (p : ℕ) (o : Outcome) → Tied b t → is_open_at t.requests p ≡ true → owed b (name_at t.requests p) ≡ Some o
     → ((q : ℕ) → q < p → is_open_at t.requests q ≡ true → owed b (name_at t.requests q) ≡ None)
-    → (is_over (b.link t.link) ≡ true → NoneEnds b × VerdictsAreShown b) → MayAnswer b (name_at t.requests p) o
+    → (is_over (b.link t.link) ≡ true → NoneEnds b × VerdictsAreShown b × FailuresAreShown b) → MayAnswer b (name_at t.requests p) o
 may_answer b t p o h e owes before after =
     let l = open_within t.requests p e in
     let r = request_story b t p h l in
@@ -56,33 +56,33 @@ not_up_ends l down no_dial = left_if l.up (ending_up l l.heard) _ down ∙ left_
 pub unknown_ends : (l : Ledger) → IsUnknown l → ending l ≡ None
 unknown_ends l h = not_up_ends l h.up (ap (λ a. a && not (is_over l)) h.asked)
 
--- what is not none is some
-pub some_end : (x : Option End) → x ≢ None → is_some x ≡ true
-some_end None n = absurd (n refl)
-some_end (Some e) n = refl
+-- an end that owes something is one
+pub some_end : (x : Option End) (o : Outcome) → owed_unstarted x ≡ Some o → is_some x ≡ true
+some_end None o owes = cc
+some_end (Some e) o owes = refl
 
 -- what is over is not waited for
-pub over_not_asked : (l : Ledger) → l.end ≢ None → (l.asked && not (is_over l)) ≡ false
-over_not_asked l n = ap (λ o. l.asked && not o) (some_end l.end n) ∙ none_of l.asked
+pub over_not_asked : (l : Ledger) → is_over l ≡ true → (l.asked && not (is_over l)) ≡ false
+over_not_asked l over = ap (λ o. l.asked && not o) over ∙ none_of l.asked
   where
     none_of : (a : Bool) → (a && false) ≡ false
     none_of true = refl
     none_of false = refl
 
 -- a connection that has ended has a link that is over
-ended_over : (l : Ledger) (created : ℕ) (life : Life) → life ≡ Ended → TiedLife l created life → is_over l ≡ true
+ended_over : (l : Ledger) (created : ℕ) (life : Life) → has_ended life ≡ true → TiedLife l created life → is_over l ≡ true
 ended_over l created Dialing over h = cc
 ended_over l created (Ready link) over h = cc
-ended_over l created Ended over h = some_end l.end h.1
+ended_over l created (Ended e) over h = some_end l.end (outcome.Fault e) h.1
 
 -- what has ended need not end
-ended_ends : (l : Ledger) (created : ℕ) (life : Life) → life ≡ Ended → TiedLife l created life → ending l ≡ None
+ended_ends : (l : Ledger) (created : ℕ) (life : Life) → has_ended life ≡ true → TiedLife l created life → ending l ≡ None
 ended_ends l created Dialing over h = cc
 ended_ends l created (Ready link) over h = cc
-ended_ends l created Ended over h = not_up_ends l h.0 (over_not_asked l h.1)
+ended_ends l created (Ended e) over h = not_up_ends l h.0 (over_not_asked l (some_end l.end (outcome.Fault e) h.1))
 
 -- on a link that has ended
-pub after_end : (b : Book) (t : Inner) → Tied b t → t.life ≡ Ended → NoneEnds b × VerdictsAreShown b
+pub after_end : (b : Book) (t : Inner) → Tied b t → has_ended t.life ≡ true → NoneEnds b × VerdictsAreShown b × FailuresAreShown b
 after_end b t h over = (
   (λ m. by_test (m == t.link) _
       (λ same. let e = eq_from m t.link same in subst (λ n. ending (b.link n) ≡ None) (sym e) (ended_ends (b.link t.link) b.created t.life over h.life))
@@ -92,6 +92,7 @@ after_end b t h over = (
       let r = request_story b t q.number h (open_within t.requests q.number q.open_at) in
       let on : (b.story n).link ≡ t.link = ap (λ m. (b.story m).link) (sym q.named) ∙ r.on in
       absurd (not_both (is_over (b.link t.link)) (subst (λ m. is_over (b.link m) ≡ false) on alive) (ended_over (b.link t.link) b.created t.life over h.life))),
+  failures_shown b t h,
 )
 
 -- what it leaves
@@ -174,7 +175,7 @@ answer_apart b t p pending o l apart h =
     let closed : ℕ → Story = λ n. answered (b.story n) o in
     let c : (n : ℕ) → Closes (b.story n) (closed n) = λ n. answer_closes (b.story n) o in
     record {
-      numbers = record { turns = h.numbers.turns; links = h.numbers.links; submissions = h.numbers.submissions; shut = h.numbers.shut; one = h.numbers.one; only = h.numbers.only };
+      numbers = record { turns = h.numbers.turns; links = h.numbers.links; timers = h.numbers.timers; aims = h.numbers.aims; timed = h.numbers.timed; submissions = h.numbers.submissions; shut = h.numbers.shut; one = h.numbers.one; only = h.numbers.only };
       others = h.others;
       life = h.life;
       link = λ n. subst (λ name. TiedLink name (b.link t.link) (link_in t.life)) (sym (owners_still t.requests p progress.Closed)) (h.link n);

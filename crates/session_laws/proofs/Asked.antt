@@ -23,7 +23,7 @@ use Rattle.legal_trace.specs.Story.{Story}
 use Rattle.legal_trace.specs.Book.{Book, blank_book, book, entered}
 use Rattle.legal_trace.specs.Legal.{AllStand, NoneEnds, MayAnswer}
 use Rattle.session_laws.proofs.Numbers.{IsIn, in_left, in_right, Rising, rising_next}
-use Rattle.session_laws.proofs.Tied.{inner, link_in, owner_of, queue_ids, waiting_ids, IsOf, IsRequest, IsPacked, IsNew, TiedLines, TiedWaits, Tied}
+use Rattle.session_laws.proofs.Tied.{inner, link_in, owner_of, queue_ids, waiting_ids, IsOf, IsRequest, IsPacked, IsNew, TiedLines, TiedWaits, Tied, no_opening}
 use Rattle.session_laws.proofs.States.{Between, HasApplied}
 use Rattle.session_laws.proofs.Entered.{all_stand-append, book_more, sound_more}
 use Rattle.session_laws.proofs.Names.{there_within, names_asked}
@@ -46,11 +46,11 @@ refused_applied before c started word what e h good why =
     let book_is : book front ≡ now = book_more before (turn_of c word (event.Submit what)) in
     let all : AllStand blank_book front = all_stand-append before (turn_of c word (event.Submit what) ∷ []) h.sound.stands (may_turn before c started word (event.Submit what) h good, tt) in
     let applied = h.settled.written.moved.applied in
-    let may : MayAnswer now (length c.table) (outcome.Fault e) = may_refuse b c started word what e h.sound.tied applied.answered applied.ended why in
+    let may : MayAnswer now (length c.table) (outcome.Fault e) = may_refuse b c started word what e h.sound.tied applied.answered applied.ended applied.created.failed why in
     record {
       sound = sound_more front a t all (inl (subst (λ (x : Book). MayAnswer x (length c.table) (outcome.Fault e)) (sym book_is) may))
           (subst (λ (x : Book). Tied (entered x a) t) (sym book_is) (refused_tied b c started word what e h.sound.tied h.fresh));
-      ended = subst NoneEnds (sym (book_more front a ∙ ap (λ (x : Book). entered x a) book_is)) (λ m. silent_no_end (b.link m));
+      ended = subst NoneEnds (sym (book_more front a ∙ ap (λ (x : Book). entered x a) book_is)) (λ m. silent_no_end (b.link m) c.turns);
       began = λ z. absurd (omega arith);
       whole = h.whole;
     }
@@ -173,7 +173,7 @@ asked_tied b c started word what h no_fresh up some =
     let named : length c.table ≡ r.name = sym (last_named c) ∙ ap (name_at (more_requests c)) (sym is) ∙ ap name_or_none i in
     ap after (sym named) ∙ story_is_new b c started what h) in
     record {
-      numbers = record { turns = ap (λ m. m + 1) h.numbers.turns; links = h.numbers.links; submissions = (let k = h.numbers.submissions in omega (arith, length-append c.table (next ∷ []))); shut = ap (λ s. s || false) h.numbers.shut; one = h.numbers.one; only = h.numbers.only };
+      numbers = record { turns = ap (λ m. m + 1) h.numbers.turns; links = h.numbers.links; timers = h.numbers.timers; aims = h.numbers.aims; timed = λ config other opens bounded none. no_opening _ config other opens; submissions = (let k = h.numbers.submissions in omega (arith, length-append c.table (next ∷ []))); shut = ap (λ s. s || false) h.numbers.shut; one = h.numbers.one; only = h.numbers.only };
       others = λ m other. let u = h.others m other in record { asked = u.asked; up = u.up; end = u.end; starts = u.starts };
       life = told_life ledger b.created conn.life silence h.life;
       link = λ alive. told_tied (owner_of (more_requests c)) ledger (link_in conn.life) ledger.asked ledger.up silence
@@ -201,7 +201,7 @@ pub asked_applied : (before : List Action) (c : Core) (started : List ℕ) (word
     → HasApplied (before ++ turn_of c word (event.Submit what) ∷ []) (asked_for (heard (counted c) (event.Submit what)) what) started
 asked_applied before c started word what h good up some =
     let b = book before in
-    silent_applied before c started word (event.Submit what) (core_asked c what) (asked c.single.connection (length c.table) (packed_bytes what) (shape_of what) (is_reply_awaited what)) h good (λ m. silent_no_end (b.link m)) (λ z. absurd (omega arith)) h.whole
+    silent_applied before c started word (event.Submit what) (core_asked c what) (asked c.single.connection (length c.table) (packed_bytes what) (shape_of what) (is_reply_awaited what)) h good (λ m. silent_no_end (b.link m) c.turns) (λ z. absurd (omega arith)) h.whole
     (asked_tied b c started word what h.sound.tied h.fresh up some)
 
 -- one or the other

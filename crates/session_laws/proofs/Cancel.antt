@@ -29,7 +29,7 @@ use Rattle.legal_trace.specs.Ledger.{Ledger}
 use Rattle.legal_trace.specs.Story.{Story, is_open, left}
 use Rattle.legal_trace.specs.Book.{Book, book, entered, if_own}
 use Rattle.session_laws.proofs.Numbers.{IsIn, in_left, in_right, in_either, Rising, rising_in, rising_right}
-use Rattle.session_laws.proofs.Tied.{inner, link_in, owner_of, queue_ids, waiting_ids, IsQueued, IsEntry, TiedLife, TiedStory, TiedLines, Tied}
+use Rattle.session_laws.proofs.Tied.{inner, link_in, owner_of, queue_ids, waiting_ids, IsQueued, IsEntry, TiedLife, TiedStory, TiedLines, Tied, no_opening, has_ended}
 use Rattle.session_laws.proofs.States.{IsWhole, IsWholeIn, Between, HasApplied}
 use Rattle.session_laws.proofs.Names.{open_within, name_of_some, owners_still, length_still, names_progressed, there_other, there_then}
 use Rattle.session_laws.proofs.InLine.{row_ids, wanted_in}
@@ -120,19 +120,19 @@ left_lines story requests link waiting p started closed l empty c r h =
 left_life : (l : Ledger) (created : ℕ) (life : Life) (p : ℕ) → TiedLife l created life → TiedLife (record l { heard = silence }) created (cancelled_in life p)
 left_life l created Dialing p h = h
 left_life l created (Ready link) p h = h
-left_life l created Ended p h = h
+left_life l created (Ended e) p h = h
 
 -- and tied to its ledger
-left_link : (name : ℕ → Owner) (l : Ledger) (life : Life) (p : ℕ) → (life ≢ Ended → TiedLink name l (link_in life)) → cancelled_in life p ≢ Ended → TiedLink name (record l { heard = silence }) (link_in (cancelled_in life p))
-left_link name l Dialing p h n = told_tied name l (link_in Dialing) l.asked l.up silence (h (λ e. cc))
-left_link name l (Ready link) p h n = told_tied name l (cancelled link p) l.asked l.up silence (cancelled_tied name l link p (h (λ e. cc)))
-left_link name l Ended p h n = absurd (n refl)
+left_link : (name : ℕ → Owner) (l : Ledger) (life : Life) (p : ℕ) → (has_ended life ≡ false → TiedLink name l (link_in life)) → has_ended (cancelled_in life p) ≡ false → TiedLink name (record l { heard = silence }) (link_in (cancelled_in life p))
+left_link name l Dialing p h n = told_tied name l (link_in Dialing) l.asked l.up silence (h refl)
+left_link name l (Ready link) p h n = told_tied name l (cancelled link p) l.asked l.up silence (cancelled_tied name l link p (h refl))
+left_link name l (Ended e) p h n = cc
 
 -- what dials has dialled before
 still_dials : (life : Life) (p : ℕ) → cancelled_in life p ≡ Dialing → life ≡ Dialing
 still_dials Dialing p e = refl
 still_dials (Ready link) p e = cc
-still_dials Ended p e = cc
+still_dials (Ended x) p e = cc
 
 -- a link without messages stays as it is
 bare_lines : (story : ℕ → Story) (requests : List Request) (waiting : List Waiting) (p : ℕ) (started : List ℕ) (closed : ℕ → Story) → p < length requests → ((n : ℕ) → Closes (story n) (closed n)) → TiedLines story requests new_link waiting [] started
@@ -143,16 +143,16 @@ bare_lines story requests waiting p started closed l c h =
 
 -- the lines of the others, by the life of the link
 left_lines_in : (story : ℕ → Story) (requests : List Request) (life : Life) (waiting : List Waiting) (p : ℕ) (started : List ℕ) (closed : ℕ → Story) → p < length requests → IsWholeIn life → ((n : ℕ) → Closes (story n) (closed n))
-    → (life ≢ Ended → Rising 0 (row_ids (link_in life).row ++ (queue_ids (link_in life).queue ++ waiting_ids waiting)) (length requests)) → TiedLines story requests (link_in life) waiting [] started
+    → (has_ended life ≡ false → Rising 0 (row_ids (link_in life).row ++ (queue_ids (link_in life).queue ++ waiting_ids waiting)) (length requests)) → TiedLines story requests (link_in life) waiting [] started
     → TiedLines (with_closed story requests p closed) (at_progress requests p progress.Closed) (link_in (cancelled_in life p)) waiting [] started
-left_lines_in story requests (Ready link) waiting p started closed l whole c r h = left_lines story requests link waiting p started closed l (whole link refl).empty c (r (λ e. cc)) h
+left_lines_in story requests (Ready link) waiting p started closed l whole c r h = left_lines story requests link waiting p started closed l (whole link refl).empty c (r refl) h
 left_lines_in story requests Dialing waiting p started closed l whole c r h = bare_lines story requests waiting p started closed l c h
-left_lines_in story requests Ended waiting p started closed l whole c r h = bare_lines story requests waiting p started closed l c h
+left_lines_in story requests (Ended e) waiting p started closed l whole c r h = bare_lines story requests waiting p started closed l c h
 
 -- the link is whole
 left_whole : (life : Life) (p : ℕ) → IsWholeIn life → IsWholeIn (cancelled_in life p)
 left_whole Dialing p h = h
-left_whole Ended p h = h
+left_whole (Ended e) p h = h
 left_whole (Ready link) p h = λ x e.
     let same : cancelled link p ≡ x = cc in
     let k = h link refl in
@@ -170,7 +170,7 @@ gone_tied b c started word p n h good whole l named =
     let ledger = b.link c.single.link in
     subst (λ m. Tied (entered b (turn_of c word (event.Cancel m))) (seen (turned c (event.Cancel m)) (record conn { requests = at_progress conn.requests p progress.Closed; life = cancelled_in conn.life p }) [] started)) named
     (record {
-      numbers = record { turns = ap (λ m. m + 1) h.numbers.turns; links = h.numbers.links; submissions = (let e = h.numbers.submissions in omega arith); shut = ap (λ s. s || false) h.numbers.shut; one = h.numbers.one; only = h.numbers.only };
+      numbers = record { turns = ap (λ m. m + 1) h.numbers.turns; links = h.numbers.links; timers = h.numbers.timers; aims = h.numbers.aims; timed = λ config other opens bounded none. no_opening _ config other opens; submissions = (let e = h.numbers.submissions in omega arith); shut = ap (λ s. s || false) h.numbers.shut; one = h.numbers.one; only = h.numbers.only };
       others = λ m other. let u = h.others m other in record { asked = u.asked; up = u.up; end = u.end; starts = u.starts };
       life = left_life ledger b.created conn.life p h.life;
       link = λ alive. left_link (owner_of (at_progress conn.requests p progress.Closed)) ledger conn.life p (λ up. subst (λ name. TiedLink name ledger (link_in conn.life)) (sym (owners_still conn.requests p progress.Closed)) (h.link up)) alive;
@@ -196,7 +196,7 @@ unmoved_tied b c started word n h f =
     let stories : b.story ≡ (λ m. if_own (n == m) (left (b.story m)) (b.story m)) = λ i m. sym (stays_left b n f m) i in
     subst (λ (story : ℕ → Story). Tied (record (entered b (turn_of c word (event.Cancel n))) { story = story }) t) stories
     (record {
-      numbers = record { turns = ap (λ m. m + 1) h.numbers.turns; links = h.numbers.links; submissions = (let e = h.numbers.submissions in omega arith); shut = ap (λ s. s || false) h.numbers.shut; one = h.numbers.one; only = h.numbers.only };
+      numbers = record { turns = ap (λ m. m + 1) h.numbers.turns; links = h.numbers.links; timers = h.numbers.timers; aims = h.numbers.aims; timed = λ config other opens bounded none. no_opening _ config other opens; submissions = (let e = h.numbers.submissions in omega arith); shut = ap (λ s. s || false) h.numbers.shut; one = h.numbers.one; only = h.numbers.only };
       others = λ m other. let u = h.others m other in record { asked = u.asked; up = u.up; end = u.end; starts = u.starts };
       life = told_life ledger b.created conn.life silence h.life;
       link = λ alive. told_tied (owner_of conn.requests) ledger (link_in conn.life) ledger.asked ledger.up silence (h.link alive);
@@ -215,7 +215,7 @@ cancel_applied before c started word n h good = by_entry (slice_get c.table n) r
     b = book before
 
     still : is_open (b.story n) ≡ false → HasApplied (before ++ turn_of c word (event.Cancel n) ∷ []) (with_work (record { core = turned c (event.Cancel n); acts = [] }) (record { conn = c.single.connection; acts = [] })) started
-    still f = silent_applied before c started word (event.Cancel n) (turned c (event.Cancel n)) c.single.connection h good (λ m. silent_no_end (b.link m)) (λ z. absurd (omega arith)) h.whole (unmoved_tied b c started word n h.sound.tied f)
+    still f = silent_applied before c started word (event.Cancel n) (turned c (event.Cancel n)) c.single.connection h good (λ m. silent_no_end (b.link m) c.turns) (λ z. absurd (omega arith)) h.whole (unmoved_tied b c started word n h.sound.tied f)
 
     by_entry : (x : Option (Option Pending)) → slice_get c.table n ≡ x → TiedStory (b.story n) c.single.connection.requests c.single.link x → HasApplied (before ++ turn_of c word (event.Cancel n) ∷ []) (left_by (heard (counted c) (event.Cancel n)) x) started
     by_entry None e s = still (ap is_open s)
@@ -227,6 +227,6 @@ cancel_applied before c started word n h good = by_entry (slice_get c.table n) r
         chosen (λ (x : MultiplexedConnection). HasApplied (before ++ turn_of c word (event.Cancel n) ∷ []) (with_work (record { core = turned c (event.Cancel n); acts = [] }) (record { conn = x; acts = [] })) started)
         (is_open_at conn.requests p.number) (record conn { requests = at_progress conn.requests p.number progress.Closed; life = cancelled_in conn.life p.number }) conn
         (λ t. silent_applied before c started word (event.Cancel n) (turned c (event.Cancel n)) (record conn { requests = at_progress conn.requests p.number progress.Closed; life = cancelled_in conn.life p.number }) h good
-        (λ m. silent_no_end (b.link m)) (λ z. absurd (omega arith)) (left_whole conn.life p.number h.whole)
+        (λ m. silent_no_end (b.link m) c.turns) (λ z. absurd (omega arith)) (left_whole conn.life p.number h.whole)
         (gone_tied b c started word p.number n h.sound.tied good h.whole (open_within conn.requests p.number t) named))
         (λ f. still (s.open_is ∙ f))

@@ -1,10 +1,13 @@
 -- The connection's link ends: it is closed, and all its requests are answered.
-use Rattle.std.proofs.Common.{◌≡◌, ◌≢◌, inl, inr, ℕ, ◌-◌, ◌<◌, List, [], ◌∷◌, ◌++◌, length, Option, Some, None, refl, sym, ap, ◌∙◌, subst, append_assoc, arith}
+use Rattle.std.proofs.Common.{◌≡◌, ◌≢◌, inl, inr, ℕ, ◌-◌, ◌<◌, List, [], ◌∷◌, ◌++◌, length, Option, Some, None, refl, sym, ap, ◌∙◌, subst, append_assoc, arith, false}
 use Rattle.std.specs.List.{AllByRecursion}
 use Rattle.std.proofs.lemmas.List.{append-nil}
+use Rattle.redis_error.specs.declared.redis_error.RedisError.TheVariants as error
+use Rattle.redis_error.specs.declared.redis_error.RedisError.{RedisError}
 use Rattle.driver_model.specs.declared.action.Action.{Action}
 use Rattle.driver_model.specs.declared.action.Action.TheVariants as action
 use Rattle.driver_model.specs.declared.outcome.Outcome.{Outcome}
+use Rattle.driver_model.specs.declared.outcome.Outcome.TheVariants as outcome
 use Rattle.link_core.specs.declared.message.Settled.{Settled}
 use Rattle.link_core.specs.Link.{LinkState}
 use Rattle.link_laws.specs.Settles.{settled_ids, wanted, awaited_ids, IsOwed}
@@ -15,27 +18,27 @@ use Rattle.mux_conn.specs.declared.request.Request.{Request}
 use Rattle.mux_conn.specs.declared.request.Waiting.{Waiting}
 use Rattle.mux_conn.specs.Connection.{Work, acted, at_life}
 use Rattle.mux_conn.specs.Requests.{name_at}
-use Rattle.mux_conn.specs.Effects.{waiting_closed, closed, new_link, settled_each, ended}
+use Rattle.mux_conn.specs.Effects.{waiting_failed, new_link, settled_each, ended}
 use Rattle.shared_session.specs.declared.core_state.Core.{Core}
 use Rattle.shared_session.specs.Turn.{with_work}
-use Rattle.legal_trace.specs.Ledger.{Ledger, End, Ending, ends, noted, ending}
+use Rattle.legal_trace.specs.Ledger.{Ledger, Ending, ends, noted, ending, ending_or_shutdown, failure_of}
 use Rattle.legal_trace.specs.Story.{Story}
 use Rattle.legal_trace.specs.Book.{Book, book, entered}
-use Rattle.legal_trace.specs.Owed.{owed, owed_unstarted}
+use Rattle.legal_trace.specs.Owed.{owed, owed_unstarted, unstarted_error}
 use Rattle.legal_trace.specs.Legal.{MayClose}
 use Rattle.session_laws.proofs.Numbers.{IsIn, in_left, in_right, Rising, rising_in, rising_within, rising_right, rising_tail}
-use Rattle.session_laws.proofs.Tied.{Inner, link_in, owner_of, queue_ids, waiting_ids, TiedLines, Tied, relined}
+use Rattle.session_laws.proofs.Tied.{Inner, link_in, owner_of, queue_ids, waiting_ids, TiedLines, Tied, relined, FailureIsShown, TiedLife, has_ended}
 use Rattle.session_laws.proofs.States.{HasApplied}
 use Rattle.session_laws.proofs.InLine.{line_of, IsInLine, awaited_rises}
 use Rattle.session_laws.proofs.Owes.{none_owed, in_line, later_unstarted, owed_none_started, settled_owed}
 use Rattle.session_laws.proofs.Kept.{mine_noted, others_kept, tied_by}
 use Rattle.session_laws.proofs.Answer.{unknown_ends, after_end}
-use Rattle.session_laws.proofs.Settle.{book_of_more, seen, trace_of_acts, Holds, holds_more, IsAnswering, answering, IsDue, IsDueClosed, settled_holds, closed_holds, settled_leaves, closed_leaves}
+use Rattle.session_laws.proofs.Settle.{book_of_more, seen, trace_of_acts, Holds, holds_more, IsAnswering, answering, IsDue, IsDueError, settled_holds, failed_holds, settled_leaves, failed_leaves}
 
 -- the link is closed
 --
 -- where it must end, and nothing is to be answered
-pub may_close : (b : Book) (t : Inner) (why : Ending) → Tied b t → t.pending ≡ [] → t.life ≢ Ended → ending (b.link t.link) ≡ Some why → MayClose b t.link
+pub may_close : (b : Book) (t : Inner) (why : Ending) → Tied b t → t.pending ≡ [] → has_ended t.life ≡ false → ending (b.link t.link) ≡ Some why → MayClose b t.link
 may_close b t why h none n must = record {
   why = why;
   ends = must;
@@ -57,16 +60,26 @@ close_lines story requests link waiting pending started ids h = record {
   ];
 }
 
--- the session is tied to the book with the end of the link
-pub close_tied : (b : Book) (t : Inner) (pending : List ℕ) → pending ≡ wanted (link_in t.life).row ++ awaited_ids (link_in t.life).queue → Tied b (record t { pending = [] })
-    → Tied (entered b (action.Close t.link)) (record t { life = Ended; pending = pending })
-close_tied b t pending ids h =
+-- what a submission without a message is owed then
+ends_owed : (l : Ledger) (turn : ℕ) (why : Ending) (e : RedisError) → ending l ≡ Some why → unstarted_error why ≡ e → owed_unstarted (noted l (ends turn)).end ≡ Some (outcome.Fault e)
+ends_owed l turn why e must is = ap (λ w. Some (outcome.Fault (unstarted_error (ending_or_shutdown w)))) must ∙ ap (λ x. Some (outcome.Fault x)) is
+
+-- and what its failure is
+ends_failed : (l : Ledger) (turn created : ℕ) (why : Ending) → ending l ≡ Some why → ((e : RedisError) → failure_of why ≡ Some e → created ≢ 0) → FailureIsShown (noted l (ends turn)).end created
+ends_failed l turn created why must shown e fails = shown e (sym (ap (λ w. failure_of (ending_or_shutdown w)) must) ∙ fails)
+
+-- the session is tied to the book with the end of the link; the creation may be shown with it
+pub close_tied : (b : Book) (t : Inner) (created : ℕ) (why : Ending) (e : RedisError) (pending : List ℕ) → pending ≡ wanted (link_in t.life).row ++ awaited_ids (link_in t.life).queue → ending (b.link t.link) ≡ Some why → unstarted_error why ≡ e
+    → ((f : RedisError) → failure_of why ≡ Some f → created ≢ 0) → Tied b (record t { pending = [] })
+    → Tied (record (entered b (action.Close t.link)) { created = created }) (record t { life = Ended e; pending = pending })
+close_tied b t created why e pending ids must is shown h =
     let turn = b.turns - 1 in
-    tied_by (entered b (action.Close t.link)) (record t { life = Ended; pending = pending }) (noted (b.link t.link) (ends turn)) (mine_noted (b.link t.link) t.link (ends turn)) (record {
-      numbers = record { turns = h.numbers.turns; links = h.numbers.links; submissions = h.numbers.submissions; shut = h.numbers.shut; one = h.numbers.one; only = h.numbers.only };
+    let after = record (entered b (action.Close t.link)) { created = created } in
+    tied_by after (record t { life = Ended e; pending = pending }) (noted (b.link t.link) (ends turn)) (mine_noted (b.link t.link) t.link (ends turn)) (record {
+      numbers = record { turns = h.numbers.turns; links = h.numbers.links; timers = h.numbers.timers; aims = h.numbers.aims; timed = h.numbers.timed; submissions = h.numbers.submissions; shut = h.numbers.shut; one = h.numbers.one; only = h.numbers.only };
       others = others_kept b t.link (ends turn) h.others;
-      life = (refl, λ e. cc);
-      link = λ n. absurd (n refl);
+      life = (refl, ends_owed (b.link t.link) turn why e must is, ends_failed (b.link t.link) turn created why must shown);
+      link = λ n. cc;
       names = h.names;
       story = h.story;
       tries = record { owners = h.tries.owners; shapes = h.tries.shapes; tried = h.tries.tried; untried = h.tries.untried };
@@ -95,24 +108,19 @@ pub pending_due : (b : Book) (t : Inner) (ss : List Settled) → Tied b t → Is
     → AllByRecursion (IsDue (owed b) (name_at t.requests)) ss
 pending_due b t ss h r all = due_each b t ss h (λ n i. let k = rising_in 0 (settled_ids ss ++ line_of (link_in t.life) t.waiting) (length t.requests) n r (in_left n (settled_ids ss) (line_of (link_in t.life) t.waiting) i) in k.1) all
 
--- an end is owed as the closed connection
-end_closes : (x : Option End) → x ≢ None → owed_unstarted x ≡ Some closed
-end_closes None n = absurd (n refl)
-end_closes (Some e) n = refl
-
--- those that wait are due the closed connection
-waiting_due : (b : Book) (t : Inner) (qs : List Waiting) → Tied b t → (b.link t.link).end ≢ None → ((n : ℕ) → IsIn n (waiting_ids qs) → (n < length t.requests) × (IsIn n t.started → ⊥)) → AllByRecursion (IsDueClosed (owed b) (name_at t.requests)) qs
-waiting_due b t [] h over all = tt
-waiting_due b t (q ∷ qs) h over all = (
-  (let k = all q.number (inl refl) in owed_none_started b t q.number h k.0 k.1 ∙ end_closes (b.link t.link).end over),
-  waiting_due b t qs h over (λ n i. all n (inr i)),
+-- those that wait are due the error of the end
+waiting_due : (b : Book) (t : Inner) (e : RedisError) (qs : List Waiting) → Tied b t → owed_unstarted (b.link t.link).end ≡ Some (outcome.Fault e) → ((n : ℕ) → IsIn n (waiting_ids qs) → (n < length t.requests) × (IsIn n t.started → ⊥)) → AllByRecursion (IsDueError (owed b) (name_at t.requests) e) qs
+waiting_due b t e [] h over all = tt
+waiting_due b t e (q ∷ qs) h over all = (
+  (let k = all q.number (inl refl) in owed_none_started b t q.number h k.0 k.1 ∙ over),
+  waiting_due b t e qs h over (λ n i. all n (inr i)),
 )
 
 -- and so all that wait are
-pub all_waiting_due : (b : Book) (t : Inner) → Tied b t → (b.link t.link).end ≢ None → AllByRecursion (IsDueClosed (owed b) (name_at t.requests)) t.waiting
-all_waiting_due b t h over =
+pub all_waiting_due : (b : Book) (t : Inner) (e : RedisError) → Tied b t → owed_unstarted (b.link t.link).end ≡ Some (outcome.Fault e) → AllByRecursion (IsDueError (owed b) (name_at t.requests) e) t.waiting
+all_waiting_due b t e h over =
     let later = queue_ids (link_in t.life).queue ++ waiting_ids t.waiting in
-    waiting_due b t t.waiting h over (λ n i.
+    waiting_due b t e t.waiting h over (λ n i.
     let j = in_right n (queue_ids (link_in t.life).queue) (waiting_ids t.waiting) i in
     ((let k = rising_in 0 (t.started ++ later) (length t.requests) n h.lines.line (in_right n t.started later j) in k.1), later_unstarted b t n h j))
 
@@ -138,20 +146,20 @@ waiting_tied b t h =
     relined b (record t { pending = [] }) [] t.fresh (waiting_ids t.waiting ++ []) h (waiting_lines b.story t.requests (link_in t.life) t.waiting t.started h.lines) h.waits
 
 -- and they are in line
-waiting_in_line : (requests : List Request) (life : Life) (waiting : List Waiting) → life ≡ Ended → IsInLine requests (link_in life) waiting [] → IsInLine requests (link_in life) [] (waiting_ids waiting ++ [])
-waiting_in_line requests life waiting over r =
+waiting_in_line : (requests : List Request) (life : Life) (waiting : List Waiting) (e : RedisError) → life ≡ Ended e → IsInLine requests (link_in life) waiting [] → IsInLine requests (link_in life) [] (waiting_ids waiting ++ [])
+waiting_in_line requests life waiting e over r =
     let last = waiting_ids waiting in
     subst (λ (x : Life). IsInLine requests (link_in x) [] (last ++ [])) (sym over)
     (subst (λ ns. Rising 0 ns (length requests)) (sym (append-nil (last ++ []) ∙ append-nil last)) (subst (λ (x : Life). IsInLine requests (link_in x) waiting []) over r))
 
 -- all that wait are answered
-pub waiting_closed_holds : (before : List Action) (f : Core) (ledger : Ledger) (owes : ℕ → Option Outcome) (name : ℕ → ℕ) (w : Work) (started : List ℕ) → w.conn.life ≡ Ended → AllByRecursion (IsDueClosed owes name) w.conn.waiting → IsAnswering before f ledger owes name w [] started
-    → IsAnswering before f ledger owes name (waiting_closed w) [] started
-waiting_closed_holds before f ledger owes name w started over due h =
-    closed_holds before f ledger owes name (record w { conn = record w.conn { waiting = [] } }) w.conn.waiting [] started due
+waiting_failed_holds : (before : List Action) (f : Core) (ledger : Ledger) (owes : ℕ → Option Outcome) (name : ℕ → ℕ) (w : Work) (e : RedisError) (started : List ℕ) → w.conn.life ≡ Ended e → AllByRecursion (IsDueError owes name e) w.conn.waiting
+    → IsAnswering before f ledger owes name w [] started → IsAnswering before f ledger owes name (waiting_failed w e) [] started
+waiting_failed_holds before f ledger owes name w e started over due h =
+    failed_holds before f ledger owes name (record w { conn = record w.conn { waiting = [] } }) e w.conn.waiting [] started due
     (record {
       holds = record { stands = h.holds.stands; tied = waiting_tied (book (trace_of_acts before f w.acts)) (seen f w.conn [] started) h.holds.tied };
-      line = waiting_in_line w.conn.requests w.conn.life w.conn.waiting over h.line;
+      line = waiting_in_line w.conn.requests w.conn.life w.conn.waiting e over h.line;
       ledger_is = h.ledger_is;
       owed_is = h.owed_is;
       named = h.named;
@@ -159,43 +167,65 @@ waiting_closed_holds before f ledger owes name w started over due h =
 
 -- the end
 --
--- a link that must end is closed, and all that it has settled is answered, and then all that wait
-pub record HasEnded (before : List Action) (f : Core) (w : Work) (started : List ℕ) : Type 0 where
+-- the link has ended, and none waits
+pub record HasEnded (before : List Action) (f : Core) (w : Work) (e : RedisError) (started : List ℕ) : Type 0 where
   pub holds : Holds before f w [] started
-  pub over : w.conn.life ≡ Ended
+  pub over : w.conn.life ≡ Ended e
   pub none_waits : w.conn.waiting ≡ []
 
--- the link is closed, and all are answered
-pub ended_holds : (before : List Action) (f : Core) (w : Work) (out : List Settled) (why : Ending) (started : List ℕ) → Holds before f w [] started → w.conn.life ≢ Ended → (let b = book (trace_of_acts before f w.acts) in let l = b.link f.single.link in
-    (ending l ≡ Some why) × AllByRecursion (IsOwed (owner_of w.conn.requests) (noted l (ends (b.turns - 1)))) out)
-    → settled_ids out ≡ wanted (link_in w.conn.life).row ++ awaited_ids (link_in w.conn.life).queue → HasEnded before f (ended w out) started
-ended_holds before f w out why started h alive must ids =
+-- those that wait are answered, where the others were
+rest_ends : (before : List Action) (f : Core) (ledger : Ledger) (owes : ℕ → Option Outcome) (name : ℕ → ℕ) (w : Work) (e : RedisError) (started : List ℕ) → w.conn.life ≡ Ended e → AllByRecursion (IsDueError owes name e) w.conn.waiting
+    → IsAnswering before f ledger owes name w [] started → HasEnded before f (waiting_failed w e) e started
+rest_ends before f ledger owes name w e started over due h =
+    let rest : Work = record w { conn = record w.conn { waiting = [] } } in
+    let m = failed_leaves rest e w.conn.waiting in
+    record { holds = (waiting_failed_holds before f ledger owes name w e started over due h).holds; over = m.life ∙ over; none_waits = m.waiting }
+
+-- of a link that is over, where only those that wait are open
+pub waiting_ends : (before : List Action) (f : Core) (w : Work) (e : RedisError) (started : List ℕ) → Holds before f w [] started → w.conn.life ≡ Ended e → HasEnded before f (waiting_failed w e) e started
+waiting_ends before f w e started h over =
     let b = book (trace_of_acts before f w.acts) in
     let t = seen f w.conn [] started in
-    let v = acted (at_life w Ended) act.Close in
+    let down = subst (λ (x : Life). TiedLife (b.link f.single.link) b.created x) over h.tied.life in
+    let line = subst (λ (x : Life). IsInLine w.conn.requests (link_in x) w.conn.waiting []) (sym over)
+    (rising_right 0 started (waiting_ids w.conn.waiting) (length w.conn.requests) (subst (λ (x : Life). Rising 0 (started ++ (queue_ids (link_in x).queue ++ waiting_ids w.conn.waiting)) (length w.conn.requests)) over h.tied.lines.line)) in
+    rest_ends before f (b.link f.single.link) (owed b) (name_at w.conn.requests) w e started over (all_waiting_due b t e h.tied down.1) (answering before f w [] started h line)
+
+-- a link that must end is closed, and all that it has settled is answered, and then all that wait
+pub ended_holds : (before : List Action) (f : Core) (w : Work) (out : List Settled) (why : Ending) (started : List ℕ) → Holds before f w [] started → has_ended w.conn.life ≡ false → unstarted_error why ≡ error.Closed → failure_of why ≡ None
+    → (let b = book (trace_of_acts before f w.acts) in let l = b.link f.single.link in
+    (ending l ≡ Some why) × AllByRecursion (IsOwed (owner_of w.conn.requests) (noted l (ends (b.turns - 1)))) out)
+    → settled_ids out ≡ wanted (link_in w.conn.life).row ++ awaited_ids (link_in w.conn.life).queue → HasEnded before f (ended w out) error.Closed started
+ended_holds before f w out why started h alive closes opened must ids =
+    let b = book (trace_of_acts before f w.acts) in
+    let t = seen f w.conn [] started in
+    let v = acted (at_life w (Ended error.Closed)) act.Close in
     let ns = settled_ids out in
-    let held : Holds before f v ns started = holds_more before f w act.Close (record w.conn { life = Ended }) [] ns started h (may_close b t why h.tied refl alive must.0) (close_tied b t ns ids h.tied) in
+    let held : Holds before f v ns started =
+    holds_more before f w act.Close (record w.conn { life = Ended error.Closed }) [] ns started h (may_close b t why h.tied refl alive must.0)
+    (close_tied b t b.created why error.Closed ns ids must.0 closes (λ e fails. absurd (no_failure e (sym opened ∙ fails))) h.tied) in
     let line : IsInLine w.conn.requests new_link w.conn.waiting ns = close_in_line w.conn.requests (link_in w.conn.life) w.conn.waiting ns ids (in_line b t h.tied alive) in
     let c = book (trace_of_acts before f v.acts) in
     let s = seen f v.conn ns started in
     let link_is : c.link f.single.link ≡ noted (b.link f.single.link) (ends (b.turns - 1)) = ap (λ (x : Book). x.link f.single.link) (book_of_more before f w.acts act.Close) ∙ mine_noted (b.link f.single.link) f.single.link (ends (b.turns - 1)) in
     let owed_all = subst (λ (x : Ledger). AllByRecursion (IsOwed (owner_of w.conn.requests) x) out) (sym link_is) must.1 in
     let due = pending_due c s out held.tied line owed_all in
-    let later = all_waiting_due c s held.tied held.tied.life.1 in
+    let later = all_waiting_due c s error.Closed held.tied held.tied.life.1 in
     let a = answering before f v (ns ++ []) started (subst (λ ms. Holds before f v ms started) (sym (append-nil ns)) held) (subst (IsInLine w.conn.requests new_link w.conn.waiting) (sym (append-nil ns)) line) in
     let u = settled_each v out in
     let k = settled_leaves v out in
     let settled = settled_holds before f (c.link f.single.link) (owed c) (name_at w.conn.requests) v out [] started due a in
-    let done = waiting_closed_holds before f (c.link f.single.link) (owed c) (name_at w.conn.requests) u started k.life (subst (AllByRecursion (IsDueClosed (owed c) (name_at w.conn.requests))) (sym k.waiting) later) settled in
-    let rest : Work = record u { conn = record u.conn { waiting = [] } } in
-    let m = closed_leaves rest u.conn.waiting in
-    record { holds = done.holds; over = m.life ∙ k.life; none_waits = m.waiting }
+    rest_ends before f (c.link f.single.link) (owed c) (name_at w.conn.requests) u error.Closed started k.life
+    (subst (AllByRecursion (IsDueError (owed c) (name_at w.conn.requests) error.Closed)) (sym k.waiting) later) settled
+  where
+    no_failure : (e : RedisError) → ◌≡◌ {A = Option RedisError} None (Some e) → ⊥
+    no_failure e is = cc
 
 -- so the event has had its effect
-pub ended_applied : (before : List Action) (f : Core) (w : Work) (started : List ℕ) → f.turns ≢ 0 → HasEnded before f w started → HasApplied before (with_work (record { core = f; acts = [] }) w) started
-ended_applied before f w started began h = record {
+pub ended_applied : (before : List Action) (f : Core) (w : Work) (e : RedisError) (started : List ℕ) → f.turns ≢ 0 → HasEnded before f w e started → HasApplied before (with_work (record { core = f; acts = [] }) w) started
+ended_applied before f w e started began h = record {
   sound = h.holds;
-  ended = (after_end (book (trace_of_acts before f w.acts)) (seen f w.conn [] started) h.holds.tied h.over).0;
+  ended = (after_end (book (trace_of_acts before f w.acts)) (seen f w.conn [] started) h.holds.tied (ap has_ended h.over)).0;
   began = began;
-  whole = λ link e. let no : Ended ≡ Ready link = sym h.over ∙ e in cc;
+  whole = λ link is. let no : Ended e ≡ Ready link = sym h.over ∙ is in cc;
 }

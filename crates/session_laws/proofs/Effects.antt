@@ -5,15 +5,15 @@ use Rattle.driver_model.specs.declared.action.Action.{Action}
 use Rattle.driver_model.specs.declared.event.EventKind.{EventKind}
 use Rattle.driver_model.specs.declared.event.EventKind.TheVariants as event
 use Rattle.driver_model.specs.declared.news.LinkFault.TheVariants as fault
-use Rattle.driver_model.specs.News.{News, connected, took, came, failed, news_of}
+use Rattle.driver_model.specs.News.{News, connected, took, came, failed, news_of, refused, overdue}
 use Rattle.mux_conn.specs.declared.life.Life.{Life}
 use Rattle.mux_conn.specs.declared.life.Life.TheVariants.{Dialing, Ready, Ended}
 use Rattle.mux_conn.specs.Effects.{CanTake, applied}
 use Rattle.shared_session.specs.declared.core_state.Core.{Core}
 use Rattle.shared_session.specs.Turn.{with_work, heard, effect, counted, is_no_link, exceeds_offer, is_bad}
 use Rattle.session_laws.proofs.States.{Between, HasApplied}
-use Rattle.session_laws.proofs.Announce.{turn_of, turned, own_news}
-use Rattle.session_laws.proofs.Connect.{connected_applied}
+use Rattle.session_laws.proofs.Announce.{turn_of, turned, own_news, own_timer}
+use Rattle.session_laws.proofs.Connect.{connected_applied, refused_applied, overdue_applied}
 use Rattle.session_laws.proofs.Took.{took_applied}
 use Rattle.session_laws.proofs.Read.{read_applied}
 use Rattle.session_laws.proofs.End.{failed_applied, shut_applied}
@@ -30,7 +30,7 @@ by_news before c started word kind heard n e h = subst (λ (x : News). HasApplie
 can_take : (life : Life) (count : ℕ) → exceeds_offer life count ≡ false → CanTake life count
 can_take Dialing count f = tt
 can_take (Ready link) count f = not_lt_from link.outbox.offered count f
-can_take Ended count f = tt
+can_take (Ended e) count f = tt
 
 -- of the link that the event names
 can_take_from : (c : Core) (l count : ℕ) → l ≡ c.single.link → ((l == c.single.link) && exceeds_offer c.single.connection.life count) ≡ false → CanTake c.single.connection.life count
@@ -43,23 +43,29 @@ effect_holds before c started word (event.Submit what) h good = submit_applied b
 effect_holds before c started word (event.Cancel n) h good = cancel_applied before c started word n h good
 effect_holds before c started word (event.Connected l) h good =
     let own = own_news c l connected h.sound.tied.numbers.only good in
-    by_news before c started word (event.Connected l) (news_of c.single.link (event.Connected l)) connected own (connected_applied before c started word (event.Connected l) h good tt own)
+    by_news before c started word (event.Connected l) (news_of c.timers c.single.link (event.Connected l)) connected own (connected_applied before c started word (event.Connected l) h good tt own)
+effect_holds before c started word (event.Refused l f) h good =
+    let own = own_news c l (refused f) h.sound.tied.numbers.only good in
+    by_news before c started word (event.Refused l f) (news_of c.timers c.single.link (event.Refused l f)) (refused f) own (refused_applied before c started word (event.Refused l f) f h good tt own)
+effect_holds before c started word (event.Fired n) h good =
+    let own = own_timer c n h.sound.tied.numbers.aims good in
+    by_news before c started word (event.Fired n) (news_of c.timers c.single.link (event.Fired n)) overdue own (overdue_applied before c started word (event.Fired n) h good tt own)
 effect_holds before c started word (event.Wrote l count) h good =
     let here = or_left (is_no_link c l) _ good in
     let few = or_right (is_no_link c l) _ good in
     let own = own_news c l (took count) h.sound.tied.numbers.only here in
-    by_news before c started word (event.Wrote l count) (news_of c.single.link (event.Wrote l count)) (took count) own
+    by_news before c started word (event.Wrote l count) (news_of c.timers c.single.link (event.Wrote l count)) (took count) own
     (took_applied before c started word count (event.Wrote l count) h good tt own (can_take_from c l count (h.sound.tied.numbers.only l (not_le_from c.links l here)) few))
 effect_holds before c started word (event.Bytes l piece) h good =
     let own = own_news c l (came piece) h.sound.tied.numbers.only good in
-    by_news before c started word (event.Bytes l piece) (news_of c.single.link (event.Bytes l piece)) (came piece) own (read_applied before c started word (event.Bytes l piece) piece h good tt own)
+    by_news before c started word (event.Bytes l piece) (news_of c.timers c.single.link (event.Bytes l piece)) (came piece) own (read_applied before c started word (event.Bytes l piece) piece h good tt own)
 effect_holds before c started word (event.Ended l) h good =
     let own = own_news c l (failed fault.Ended) h.sound.tied.numbers.only good in
-    by_news before c started word (event.Ended l) (news_of c.single.link (event.Ended l)) (failed fault.Ended) own (failed_applied before c started word (event.Ended l) fault.Ended h good tt own)
+    by_news before c started word (event.Ended l) (news_of c.timers c.single.link (event.Ended l)) (failed fault.Ended) own (failed_applied before c started word (event.Ended l) fault.Ended h good tt own)
 effect_holds before c started word (event.ReadFault l kind) h good =
     let own = own_news c l (failed (fault.Io kind)) h.sound.tied.numbers.only good in
-    by_news before c started word (event.ReadFault l kind) (news_of c.single.link (event.ReadFault l kind)) (failed (fault.Io kind)) own (failed_applied before c started word (event.ReadFault l kind) (fault.Io kind) h good tt own)
+    by_news before c started word (event.ReadFault l kind) (news_of c.timers c.single.link (event.ReadFault l kind)) (failed (fault.Io kind)) own (failed_applied before c started word (event.ReadFault l kind) (fault.Io kind) h good tt own)
 effect_holds before c started word (event.WriteFault l kind) h good =
     let own = own_news c l (failed (fault.Io kind)) h.sound.tied.numbers.only good in
-    by_news before c started word (event.WriteFault l kind) (news_of c.single.link (event.WriteFault l kind)) (failed (fault.Io kind)) own (failed_applied before c started word (event.WriteFault l kind) (fault.Io kind) h good tt own)
+    by_news before c started word (event.WriteFault l kind) (news_of c.timers c.single.link (event.WriteFault l kind)) (failed (fault.Io kind)) own (failed_applied before c started word (event.WriteFault l kind) (fault.Io kind) h good tt own)
 effect_holds before c started word event.Shutdown h good = shut_applied before c started word event.Shutdown h good tt refl

@@ -2,11 +2,12 @@
 use Rattle.std.proofs.Common.{◌≡◌, ◌≢◌, ℕ, ◌-◌, true, false, List, [], ◌∷◌, ◌++◌, Some, None, refl, sym, ap, ◌∙◌, subst, ◌&&◌, not, is_some, arith}
 use Rattle.std.specs.List.{AllByRecursion}
 use Rattle.containers.proofs.Choices.{taken_if, left_if}
+use Rattle.redis_error.specs.declared.redis_error.RedisError.TheVariants as error
 use Rattle.driver_model.specs.declared.action.Action.{Action}
 use Rattle.driver_model.specs.declared.action.Owner.{Owner}
 use Rattle.driver_model.specs.declared.event.EventKind.{EventKind}
 use Rattle.driver_model.specs.declared.news.LinkFault.{LinkFault}
-use Rattle.driver_model.specs.News.{News, silence, connected, took, came, failed, shut, news_of}
+use Rattle.driver_model.specs.News.{News, silence, connected, took, came, failed, shut, news_of, refused, overdue}
 use Rattle.link_core.specs.declared.message.Queued.{Queued}
 use Rattle.link_core.specs.declared.message.Settled.{Settled}
 use Rattle.link_core.specs.Ends.{row_closed, row_hit, queue_closed}
@@ -24,7 +25,7 @@ use Rattle.shared_session.specs.declared.core_state.Core.{Core}
 use Rattle.shared_session.specs.Turn.{with_work, is_bad}
 use Rattle.legal_trace.specs.Ledger.{Ledger, by_fault, by_shutdown, ends, noted, ending, is_over}
 use Rattle.legal_trace.specs.Book.{book}
-use Rattle.session_laws.proofs.Tied.{link_in, owner_of, TiedLife}
+use Rattle.session_laws.proofs.Tied.{link_in, owner_of, TiedLife, has_ended}
 use Rattle.session_laws.proofs.States.{Between, HasApplied}
 use Rattle.session_laws.proofs.Settle.{trace_of_acts, Holds}
 use Rattle.session_laws.proofs.Close.{HasEnded, ended_holds, ended_applied}
@@ -48,7 +49,7 @@ pub record IsUp (name : ℕ → Owner) (l : Ledger) (created : ℕ) (link : Link
   pub tied : TiedLink name l link
 
 -- the link of a connection that is ready is up
-pub up_tied : (name : ℕ → Owner) (l : Ledger) (created : ℕ) (life : Life) (link : LinkState) → life ≡ Ready link → TiedLife l created life → (life ≢ Ended → TiedLink name l (link_in life)) → IsUp name l created link
+pub up_tied : (name : ℕ → Owner) (l : Ledger) (created : ℕ) (life : Life) (link : LinkState) → life ≡ Ready link → TiedLife l created life → (has_ended life ≡ false → TiedLink name l (link_in life)) → IsUp name l created link
 up_tied name l created life link is h tied =
     let lived = subst (λ (x : Life). TiedLife l created x) is h in
     record {
@@ -56,12 +57,12 @@ up_tied name l created life link is h tied =
       up = lived.1;
       alive = lived.2;
       shown = lived.3;
-      tied = subst (λ (x : Life). TiedLink name l (link_in x)) is (tied (λ over. let no : Ended ≡ Ready link = sym over ∙ is in cc));
+      tied = subst (λ (x : Life). TiedLink name l (link_in x)) is (tied (ap has_ended is));
     }
 
 -- the link ends by a fault
 pub fault_ends : (before : List Action) (f : Core) (w : Work) (link : LinkState) (fault : LinkFault) (started : List ℕ) → Holds before f w [] started → w.conn.life ≡ Ready link → link.queue ≡ []
-    → ending ((book (trace_of_acts before f w.acts)).link f.single.link) ≡ Some (by_fault fault) → HasEnded before f (ended_by w link fault) started
+    → ending ((book (trace_of_acts before f w.acts)).link f.single.link) ≡ Some (by_fault fault) → HasEnded before f (ended_by w link fault) error.Closed started
 fault_ends before f w link fault started h is empty must =
     let b = book (trace_of_acts before f w.acts) in
     let l = b.link f.single.link in
@@ -71,11 +72,11 @@ fault_ends before f w link fault started h is empty must =
     let row = row_hit_owed name l link turn fault must tied.alive tied.tied in
     let out = row_hit fault link.row ++ queue_closed link.queue in
     let due = all_append (IsOwed name (noted l (ends turn))) (row_hit fault link.row) (queue_closed link.queue) row (none_queued (IsOwed name (noted l (ends turn))) link.queue empty) in
-    ended_holds before f w out (by_fault fault) started h (λ over. let no : Ended ≡ Ready link = sym over ∙ is in cc) (must, due) (ready_ids w.conn.life link (settled_ids out) is (hit_ids fault link.row link.queue))
+    ended_holds before f w out (by_fault fault) started h (ap has_ended is) refl refl (must, due) (ready_ids w.conn.life link (settled_ids out) is (hit_ids fault link.row link.queue))
 
 -- or by the shutdown
 pub shutdown_ends : (before : List Action) (f : Core) (w : Work) (link : LinkState) (started : List ℕ) → Holds before f w [] started → w.conn.life ≡ Ready link → link.queue ≡ []
-    → ending ((book (trace_of_acts before f w.acts)).link f.single.link) ≡ Some by_shutdown → HasEnded before f (shut_at w (Ready link)) started
+    → ending ((book (trace_of_acts before f w.acts)).link f.single.link) ≡ Some by_shutdown → HasEnded before f (shut_at w (Ready link)) error.Closed started
 shutdown_ends before f w link started h is empty must =
     let b = book (trace_of_acts before f w.acts) in
     let l = b.link f.single.link in
@@ -85,13 +86,13 @@ shutdown_ends before f w link started h is empty must =
     let row = row_closed_owed name l link turn must tied.alive tied.tied in
     let out = row_closed link.row ++ queue_closed link.queue in
     let due = all_append (IsOwed name (noted l (ends turn))) (row_closed link.row) (queue_closed link.queue) row (none_queued (IsOwed name (noted l (ends turn))) link.queue empty) in
-    ended_holds before f w out by_shutdown started h (λ over. let no : Ended ≡ Ready link = sym over ∙ is in cc) (must, due) (ready_ids w.conn.life link (settled_ids out) is (closed_ids link.row link.queue))
+    ended_holds before f w out by_shutdown started h (ap has_ended is) refl refl (must, due) (ready_ids w.conn.life link (settled_ids out) is (closed_ids link.row link.queue))
 
 -- also before its connect is answered
 pub dial_ends : (before : List Action) (f : Core) (w : Work) (started : List ℕ) → Holds before f w [] started → w.conn.life ≡ Dialing → ending ((book (trace_of_acts before f w.acts)).link f.single.link) ≡ Some by_shutdown
-    → HasEnded before f (shut_at w Dialing) started
+    → HasEnded before f (shut_at w Dialing) error.Closed started
 dial_ends before f w started h is must =
-    ended_holds before f w [] by_shutdown started h (λ over. let no : Ended ≡ Dialing = sym over ∙ is in cc) (must, tt)
+    ended_holds before f w [] by_shutdown started h (ap has_ended is) refl refl (must, tt)
     (ap (λ (x : Life). wanted (link_in x).row ++ awaited_ids (link_in x).queue) (sym is))
 
 -- the turns of these events
@@ -100,6 +101,8 @@ dial_ends before f w started h is must =
 abbrev pub IsPlain : News → Type 0
 IsPlain (failed f) = Unit {0}
 IsPlain shut = Unit {0}
+IsPlain overdue = Unit {0}
+IsPlain (refused f) = ⊥
 IsPlain _ = ⊥
 
 -- the link stays as it is
@@ -114,32 +117,34 @@ plain_leads before c started n k h = by_news n k
     by_news connected j = absurd j
     by_news (took count) j = absurd j
     by_news (came piece) j = absurd j
+    by_news (refused f) j = absurd j
+    by_news overdue j = leads_on before c started overdue h (told_life l (book before).created c.single.connection.life overdue h.sound.tied.life, λ alive. told_tied (owner_of c.single.connection.requests) l (link_in c.single.connection.life) l.asked l.up overdue (h.sound.tied.link alive))
     by_news (failed f) j = leads_on before c started (failed f) h (told_life l (book before).created c.single.connection.life (failed f) h.sound.tied.life, λ alive. told_tied (owner_of c.single.connection.requests) l (link_in c.single.connection.life) l.asked l.up (failed f) (h.sound.tied.link alive))
     by_news shut j = leads_on before c started shut h (told_life l (book before).created c.single.connection.life shut h.sound.tied.life, λ alive. told_tied (owner_of c.single.connection.requests) l (link_in c.single.connection.life) l.asked l.up shut (h.sound.tied.link alive))
 
 -- the turn of such an event begins with its link as it was
-plain_begins : (before : List Action) (c : Core) (started : List ℕ) (word : ℕ) (kind : EventKind) (n : News) → IsPlain n → Between before c started → is_bad c kind ≡ false → IsNewsKind kind → news_of c.single.link kind ≡ n
+pub plain_begins : (before : List Action) (c : Core) (started : List ℕ) (word : ℕ) (kind : EventKind) (n : News) → IsPlain n → Between before c started → is_bad c kind ≡ false → IsNewsKind kind → news_of c.timers c.single.link kind ≡ n
     → Begins (before ++ turn_of c word kind ∷ []) (turned c kind) c.single.connection (heard_by (book before) c n) [] started
 plain_begins before c started word kind n p h good k is = heard_begins before c started word kind n c.single.connection.life [] h good k is (plain_leads before c started n p h)
 
 -- a fault, or the peer's end
-pub failed_applied : (before : List Action) (c : Core) (started : List ℕ) (word : ℕ) (kind : EventKind) (f : LinkFault) → Between before c started → is_bad c kind ≡ false → IsNewsKind kind → news_of c.single.link kind ≡ failed f
+pub failed_applied : (before : List Action) (c : Core) (started : List ℕ) (word : ℕ) (kind : EventKind) (f : LinkFault) → Between before c started → is_bad c kind ≡ false → IsNewsKind kind → news_of c.timers c.single.link kind ≡ failed f
     → HasApplied (before ++ turn_of c word kind ∷ []) (with_work (record { core = turned c kind; acts = [] }) (failed_at (record { conn = c.single.connection; acts = [] }) f c.single.connection.life)) started
 failed_applied before c started word kind f h good k is = by_life c.single.connection.life refl
   where
     by_life : (x : Life) → c.single.connection.life ≡ x → HasApplied (before ++ turn_of c word kind ∷ []) (with_work (record { core = turned c kind; acts = [] }) (failed_at (record { conn = c.single.connection; acts = [] }) f x)) started
     by_life Dialing e = dialing_quiet before c started word kind (failed f) tt h good k is e
-    by_life Ended e = ended_quiet before c started word kind (failed f) h good k is e
+    by_life (Ended x) e = ended_quiet before c started word kind (failed f) x h good k is e
     by_life (Ready link) e =
         let begins = plain_begins before c started word kind (failed f) tt h good k is in
         let l = (book before).link c.single.link in
         let up = (up_tied (owner_of c.single.connection.requests) l (book before).created c.single.connection.life link e h.sound.tied.life h.sound.tied.link).up in
         let must = ap ending begins.ledger ∙ taken_if l.up (Some (by_fault f)) _ up in
-        ended_applied (before ++ turn_of c word kind ∷ []) (turned c kind) (failed_at (record { conn = c.single.connection; acts = [] }) f (Ready link)) started (λ z. absurd (omega arith))
+        ended_applied (before ++ turn_of c word kind ∷ []) (turned c kind) (failed_at (record { conn = c.single.connection; acts = [] }) f (Ready link)) error.Closed started (λ z. absurd (omega arith))
         (fault_ends (before ++ turn_of c word kind ∷ []) (turned c kind) (record { conn = c.single.connection; acts = [] }) link f started begins.holds e (h.whole link e).empty must)
 
 -- everything is shut down
-pub shut_applied : (before : List Action) (c : Core) (started : List ℕ) (word : ℕ) (kind : EventKind) → Between before c started → is_bad c kind ≡ false → IsNewsKind kind → news_of c.single.link kind ≡ shut
+pub shut_applied : (before : List Action) (c : Core) (started : List ℕ) (word : ℕ) (kind : EventKind) → Between before c started → is_bad c kind ≡ false → IsNewsKind kind → news_of c.timers c.single.link kind ≡ shut
     → HasApplied (before ++ turn_of c word kind ∷ []) (with_work (record { core = turned c kind; acts = [] }) (shut_at (record { conn = c.single.connection; acts = [] }) c.single.connection.life)) started
 shut_applied before c started word kind h good k is = by_life c.single.connection.life refl
   where
@@ -150,15 +155,15 @@ shut_applied before c started word kind h good k is = by_life c.single.connectio
     begins = plain_begins before c started word kind shut tt h good k is
 
     by_life : (x : Life) → c.single.connection.life ≡ x → HasApplied (before ++ turn_of c word kind ∷ []) (with_work (record { core = turned c kind; acts = [] }) (shut_at (record { conn = c.single.connection; acts = [] }) x)) started
-    by_life Ended e = ended_quiet before c started word kind shut h good k is e
+    by_life (Ended x) e = ended_quiet before c started word kind shut x h good k is e
     by_life Dialing e =
         let lived = subst (λ (x : Life). TiedLife l (book before).created x) e h.sound.tied.life in
         let asked : (l.asked && not (is_over l)) ≡ true = (λ i. lived.0 i && not (is_some (lived.2 i))) in
         let must = ap ending begins.ledger ∙ left_if l.up (Some by_shutdown) _ lived.1 ∙ taken_if (l.asked && not (is_over l)) (Some by_shutdown) None asked in
-        ended_applied (before ++ turn_of c word kind ∷ []) (turned c kind) (shut_at (record { conn = c.single.connection; acts = [] }) Dialing) started (λ z. absurd (omega arith))
+        ended_applied (before ++ turn_of c word kind ∷ []) (turned c kind) (shut_at (record { conn = c.single.connection; acts = [] }) Dialing) error.Closed started (λ z. absurd (omega arith))
         (dial_ends (before ++ turn_of c word kind ∷ []) (turned c kind) (record { conn = c.single.connection; acts = [] }) started begins.holds e must)
     by_life (Ready link) e =
         let up = (up_tied (owner_of c.single.connection.requests) l (book before).created c.single.connection.life link e h.sound.tied.life h.sound.tied.link).up in
         let must = ap ending begins.ledger ∙ taken_if l.up (Some by_shutdown) _ up in
-        ended_applied (before ++ turn_of c word kind ∷ []) (turned c kind) (shut_at (record { conn = c.single.connection; acts = [] }) (Ready link)) started (λ z. absurd (omega arith))
+        ended_applied (before ++ turn_of c word kind ∷ []) (turned c kind) (shut_at (record { conn = c.single.connection; acts = [] }) (Ready link)) error.Closed started (λ z. absurd (omega arith))
         (shutdown_ends (before ++ turn_of c word kind ∷ []) (turned c kind) (record { conn = c.single.connection; acts = [] }) link started begins.holds e (h.whole link e).empty must)

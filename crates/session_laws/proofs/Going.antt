@@ -2,6 +2,7 @@
 use Rattle.std.proofs.Common.{List, None, [], ap, false, refl, subst, sym, ℕ, ◌++◌, ◌∙◌, ◌∷◌, ◌≡◌, ◌≢◌}
 use Rattle.std.specs.Prelude.{◌==◌}
 use Rattle.containers.proofs.Choices.{chosen, not_both}
+use Rattle.redis_error.specs.declared.redis_error.RedisError.{RedisError}
 use Rattle.driver_model.specs.declared.action.Action.{Action}
 use Rattle.mux_conn.specs.declared.life.Life.{Life}
 use Rattle.mux_conn.specs.declared.life.Life.TheVariants.{Dialing, Ended, Ready}
@@ -13,7 +14,7 @@ use Rattle.session_laws.proofs.Entered.{book_more, sound_more}
 use Rattle.session_laws.proofs.Moves.{AreQueued, none_moves}
 use Rattle.session_laws.proofs.Owes.{created_is, none_open, none_owed}
 use Rattle.session_laws.proofs.States.{IsWholeIn}
-use Rattle.session_laws.proofs.Tied.{Inner, Sound, Tied, TiedLife, link_in, queue_ids, waiting_ids}
+use Rattle.session_laws.proofs.Tied.{Inner, Sound, Tied, TiedLife, link_in, queue_ids, waiting_ids, has_ended}
 use Rattle.session_laws.proofs.Told.{NoneTold}
 
 -- nothing must end, and who was told and has not started is in the queue
@@ -31,15 +32,16 @@ going_more trace a t stands may tied none told = record {
 }
 
 -- the event has had its effect, while nothing is to be answered and the link has not ended
-pub applied_up : (b : Book) (t : Inner) → Tied b t → t.pending ≡ [] → t.life ≢ Ended → NoneEnds b → IsApplied b
-applied_up b t h none up ended = record { answered = none_owed b t h none up; ended = ended; created = created_is b t h }
+pub applied_up : (b : Book) (t : Inner) → Tied b t → t.pending ≡ [] → has_ended t.life ≡ false → NoneEnds b → IsApplied b
+applied_up b t h none up ended = record { answered = none_owed b t h none up; ended = ended; created = created_is b t h; timed = h.numbers.timed }
 
 -- or none waits
-pub applied_over : (b : Book) (t : Inner) → Tied b t → t.pending ≡ [] → t.life ≡ Ended → t.waiting ≡ [] → NoneEnds b → IsApplied b
-applied_over b t h none over empty ended = record {
-  answered = λ n o. absurd (none_open b t n h none over empty o);
+pub applied_over : (b : Book) (t : Inner) (e : RedisError) → Tied b t → t.pending ≡ [] → t.life ≡ Ended e → t.waiting ≡ [] → NoneEnds b → IsApplied b
+applied_over b t e h none over empty ended = record {
+  answered = λ n o. absurd (none_open b t e n h none over empty o);
   ended = ended;
   created = created_is b t h;
+  timed = h.numbers.timed;
 }
 
 -- a line of one link that ends none
@@ -58,7 +60,7 @@ down_moves_none b t h down n m =
 dialing_down : (l : Ledger) (created : ℕ) (life : Life) → life ≡ Dialing → TiedLife l created life → l.up ≡ false
 dialing_down l created Dialing e h = h.1
 dialing_down l created (Ready link) e h = cc
-dialing_down l created Ended e h = h.0
+dialing_down l created (Ended x) e h = cc
 
 -- where none waits but for the connect, and none is told that has not started
 pub is_moved : (b : Book) (t : Inner) → Tied b t → t.pending ≡ [] → NoneEnds b → NoneTold b → IsWholeIn t.life → (t.life ≢ Dialing → t.waiting ≡ []) → IsMoved b
@@ -66,15 +68,15 @@ is_moved b t h none ends told whole waits = by_life t.life refl
   where
     by_life : (life : Life) → t.life ≡ life → IsMoved b
     by_life Dialing e = record {
-      applied = applied_up b t h none (λ x. (let no : Dialing ≡ Ended = sym e ∙ x in cc)) ends;
+      applied = applied_up b t h none (ap has_ended e) ends;
       moved = down_moves_none b t h (dialing_down (b.link t.link) b.created t.life e h.life);
     }
     by_life (Ready link) e = record {
-      applied = applied_up b t h none (λ x. (let no : Ready link ≡ Ended = sym e ∙ x in cc)) ends;
+      applied = applied_up b t h none (ap has_ended e) ends;
       moved = none_moves b t h none (λ n is untried. absurd (told n is untried))
           ((λ i. queue_ids (link_in (e i)).queue ++ waiting_ids (waits (λ x. (let no : Ready link ≡ Dialing = sym e ∙ x in cc)) i)) ∙ ap (λ qs. queue_ids qs ++ []) (whole link e).empty);
     }
-    by_life Ended e = record {
-      applied = applied_over b t h none e (waits (λ x. (let no : Ended ≡ Dialing = sym e ∙ x in cc))) ends;
+    by_life (Ended x) e = record {
+      applied = applied_over b t x h none e (waits (λ d. (let no : Ended x ≡ Dialing = sym e ∙ d in cc))) ends;
       moved = down_moves_none b t h (subst (λ (x : Life). TiedLife (b.link t.link) b.created x) e h.life).0;
     }

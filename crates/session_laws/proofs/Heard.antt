@@ -1,19 +1,23 @@
 -- The turn of an event with news: how it begins, and where no act follows.
-use Rattle.std.proofs.Common.{◌≡◌, ◌≢◌, ℕ, ◌==◌, false, ◌&&◌, not, List, [], ◌∷◌, ◌++◌, Option, None, if◌then◌else◌, refl, sym, ap, ◌∙◌, subst, arith}
+use Rattle.std.proofs.Common.{◌≡◌, ◌≢◌, ℕ, ◌==◌, false, ◌&&◌, not, List, [], ◌∷◌, ◌++◌, Option, None, if◌then◌else◌, refl, sym, ap, ◌∙◌, subst, arith, Bool, true}
 use Rattle.containers.proofs.Choices.{by_test, chosen, if_false, left_if, eq_from, ne_from, not_both}
+use Rattle.redis_error.specs.declared.redis_error.RedisError.TheVariants as error
+use Rattle.redis_error.specs.declared.redis_error.RedisError.{RedisError}
 use Rattle.driver_model.specs.declared.action.Action.{Action}
+use Rattle.driver_model.specs.declared.action.Purpose.{Purpose}
 use Rattle.driver_model.specs.declared.event.EventKind.{EventKind}
-use Rattle.driver_model.specs.News.{News, silence, connected, took, came, failed, shut, news_of}
+use Rattle.driver_model.specs.News.{News, silence, connected, took, came, failed, shut, news_of, refused, overdue}
+use Rattle.driver_model.specs.declared.outcome.Outcome.TheVariants as outcome
 use Rattle.link_laws.proofs.TiedLink.{TiedLink, unheard_tied}
 use Rattle.mux_conn.specs.declared.connection.MultiplexedConnection.{MultiplexedConnection}
 use Rattle.mux_conn.specs.declared.life.Life.{Life}
 use Rattle.mux_conn.specs.declared.life.Life.TheVariants.{Dialing, Ready, Ended}
 use Rattle.shared_session.specs.declared.core_state.Core.{Core}
 use Rattle.shared_session.specs.Turn.{with_work, is_bad}
-use Rattle.legal_trace.specs.Ledger.{Ledger, Ending, hears, noted, ending, ending_up, ending_asked, is_over, bytes_came}
+use Rattle.legal_trace.specs.Ledger.{Ledger, Ending, hears, noted, ending, ending_up, ending_asked, is_over, bytes_came, dials, refused_in}
 use Rattle.legal_trace.specs.Book.{Book, book, entered}
 use Rattle.legal_trace.specs.Legal.{NoneEnds}
-use Rattle.session_laws.proofs.Tied.{Inner, link_in, owner_of, TiedLife, TiedLines, TiedWaits, Tied}
+use Rattle.session_laws.proofs.Tied.{Inner, link_in, owner_of, TiedLife, TiedLines, TiedWaits, Tied, has_ended}
 use Rattle.session_laws.proofs.States.{IsWholeIn, Between, HasApplied}
 use Rattle.session_laws.proofs.Answer.{unknown_ends, not_up_ends, over_not_asked, some_end}
 use Rattle.session_laws.proofs.Settle.{seen, trace_of_acts, Holds}
@@ -21,7 +25,7 @@ use Rattle.session_laws.proofs.Announce.{turn_of, turned, IsNewsKind, heard_book
 
 -- what a turn of news does to the ledger of the connection's link
 abbrev pub heard_by : Book → Core → News → Ledger
-heard_by b c n = noted (b.link c.single.link) (hears n)
+heard_by b c n = noted (b.link c.single.link) (hears c.turns n)
 
 -- the session with its link in that life
 abbrev pub lives_as : Core → Life → MultiplexedConnection
@@ -41,27 +45,31 @@ pub record Begins (before : List Action) (f : Core) (conn : MultiplexedConnectio
 -- what the turn of news needs of the life that it leads to
 pub record Leads (b : Book) (c : Core) (n : News) (life : Life) (pending started : List ℕ) : Type 0 where
   pub lived : TiedLife (heard_by b c n) b.created life
-  pub linked : life ≢ Ended → TiedLink (owner_of c.single.connection.requests) (heard_by b c n) (link_in life)
+  pub linked : has_ended life ≡ false → TiedLink (owner_of c.single.connection.requests) (heard_by b c n) (link_in life)
   pub lines : TiedLines b.story c.single.connection.requests (link_in life) c.single.connection.waiting pending started
   pub waits : TiedWaits b.story c.single.connection.requests life c.single.connection.fresh
 
+-- the news by the timers of the book
+pub book_news : (b : Book) (c : Core) (kind : EventKind) (n : News) → b.timers ≡ c.timers → news_of c.timers c.single.link kind ≡ n → news_of b.timers c.single.link kind ≡ n
+book_news b c kind n same is = ap (λ (ts : List Purpose). news_of ts c.single.link kind) same ∙ is
+
 -- the turn begins so
-pub heard_begins : (before : List Action) (c : Core) (started : List ℕ) (word : ℕ) (kind : EventKind) (n : News) (life : Life) (pending : List ℕ) → Between before c started → is_bad c kind ≡ false → IsNewsKind kind → news_of c.single.link kind ≡ n
+pub heard_begins : (before : List Action) (c : Core) (started : List ℕ) (word : ℕ) (kind : EventKind) (n : News) (life : Life) (pending : List ℕ) → Between before c started → is_bad c kind ≡ false → IsNewsKind kind → news_of c.timers c.single.link kind ≡ n
     → Leads (book before) c n life pending started → Begins (before ++ turn_of c word kind ∷ []) (turned c kind) (lives_as c life) (heard_by (book before) c n) pending started
 heard_begins before c started word kind n life pending h good k is g =
     let b = book before in
     let l = heard_by b c n in
     let t = seen (turned c kind) (lives_as c life) pending started in
-    let same : noted (b.link c.single.link) (hears (news_of c.single.link kind)) ≡ l = ap (λ (x : News). heard_by b c x) is in
-    let tied : Tied (heard_book b word kind) t = heard_tied b c started word b.created kind life pending l h.sound.tied good same (heard_starts (b.link c.single.link) n) g.lived g.linked g.lines g.waits in
-    let book_is : entered b (turn_of c word kind) ≡ heard_book b word kind = heard_is b c.turns word kind k in
+    let same : noted (b.link c.single.link) (hears c.turns (news_of b.timers c.single.link kind)) ≡ l = ap (λ (x : News). heard_by b c x) (book_news b c kind n h.sound.tied.numbers.timers is) in
+    let tied : Tied (heard_book b c.turns word kind) t = heard_tied b c started word b.created kind life pending l h.sound.tied good same (heard_starts (b.link c.single.link) c.turns n) g.lived g.linked g.lines g.waits in
+    let book_is : entered b (turn_of c word kind) ≡ heard_book b c.turns word kind = heard_is b c.turns word kind k in
     record {
       holds = holds_first (before ++ turn_of c word kind ∷ []) (turned c kind) (lives_as c life) pending started (announced_sound before c started word kind t h good (subst (λ (x : Book). Tied x t) (sym book_is) tied));
       ledger = ap (λ (x : Book). x.link c.single.link) (first_book before (turn_of c word kind) (turned c kind) ∙ book_is) ∙ same;
     }
 
 -- where the link need not end then, and no act follows, the event has had its effect
-pub quiet_applied : (before : List Action) (c : Core) (started : List ℕ) (word : ℕ) (kind : EventKind) (n : News) (life : Life) → Between before c started → is_bad c kind ≡ false → IsNewsKind kind → news_of c.single.link kind ≡ n
+pub quiet_applied : (before : List Action) (c : Core) (started : List ℕ) (word : ℕ) (kind : EventKind) (n : News) (life : Life) → Between before c started → is_bad c kind ≡ false → IsNewsKind kind → news_of c.timers c.single.link kind ≡ n
     → Leads (book before) c n life [] started → ending (heard_by (book before) c n) ≡ None → IsWholeIn life
     → HasApplied (before ++ turn_of c word kind ∷ []) (with_work (record { core = turned c kind; acts = [] }) (record { conn = lives_as c life; acts = [] })) started
 quiet_applied before c started word kind n life h good k is g no_end whole =
@@ -75,38 +83,52 @@ quiet_applied before c started word kind n life h good k is g no_end whole =
 
 -- what is alike of any life
 pub leads_on : (before : List Action) (c : Core) (started : List ℕ) (n : News) → Between before c started → (let l = heard_by (book before) c n in let life = c.single.connection.life in
-    TiedLife l (book before).created life × (life ≢ Ended → TiedLink (owner_of c.single.connection.requests) l (link_in life)))
+    TiedLife l (book before).created life × (has_ended life ≡ false → TiedLink (owner_of c.single.connection.requests) l (link_in life)))
     → Leads (book before) c n c.single.connection.life [] started
 leads_on before c started n h g = record { lived = g.0; linked = g.1; lines = h.sound.tied.lines; waits = h.sound.tied.waits }
 
 -- a link that has ended hears nothing
 --
+-- what is over isn't dialling
+over_dials : (l : Ledger) → is_over l ≡ true → dials l ≡ false
+over_dials l over = ap (λ o. l.asked && not l.up && not o) over ∙ none_of l.asked l.up
+  where
+    none_of : (a b : Bool) → (a && not b && false) ≡ false
+    none_of true true = refl
+    none_of true false = refl
+    none_of false b = refl
+
 -- a link that has ended stays as it is
-ended_hears : (l : Ledger) (created : ℕ) (n : News) → TiedLife l created Ended → TiedLife (noted l (hears n)) created Ended
-ended_hears l created silence h = h
-ended_hears l created connected h = chosen (λ (x : Ledger). TiedLife x created Ended) (is_over l) l _ (λ t. h) (λ f. absurd (not_both (is_over l) f (some_end l.end h.1)))
-ended_hears l created (took count) h = if_false (λ (x : Ledger). TiedLife x created Ended) l.up _ l h.0 h
-ended_hears l created (came piece) h = if_false (λ (x : Ledger). TiedLife x created Ended) l.up (bytes_came l piece) l h.0 h
-ended_hears l created (failed f) h = h
-ended_hears l created shut h = h
+ended_hears : (l : Ledger) (created : ℕ) (e : RedisError) (turn : ℕ) (n : News) → TiedLife l created (Ended e) → TiedLife (noted l (hears turn n)) created (Ended e)
+ended_hears l created e turn silence h = h
+ended_hears l created e turn overdue h = h
+ended_hears l created e turn (refused f) h = if_false (λ (x : Ledger). TiedLife x created (Ended e)) (dials l) (refused_in l turn (error.Io f)) l (over_dials l (some_end l.end (outcome.Fault e) h.1)) h
+ended_hears l created e turn connected h = chosen (λ (x : Ledger). TiedLife x created (Ended e)) (is_over l) l _ (λ t. h) (λ f. absurd (not_both (is_over l) f (some_end l.end (outcome.Fault e) h.1)))
+ended_hears l created e turn (took count) h = if_false (λ (x : Ledger). TiedLife x created (Ended e)) l.up _ l h.0 h
+ended_hears l created e turn (came piece) h = if_false (λ (x : Ledger). TiedLife x created (Ended e)) l.up (bytes_came l piece) l h.0 h
+ended_hears l created e turn (failed f) h = h
+ended_hears l created e turn shut h = h
 
 -- and need not end again
-over_no_end : (l : Ledger) (created : ℕ) → TiedLife l created Ended → ending l ≡ None
-over_no_end l created h = not_up_ends l h.0 (over_not_asked l h.1)
+over_no_end : (l : Ledger) (created : ℕ) (e : RedisError) → TiedLife l created (Ended e) → ending l ≡ None
+over_no_end l created e h = not_up_ends l h.0 (over_not_asked l (some_end l.end (outcome.Fault e) h.1))
 
 -- an event that names a link that has ended has no effect
-pub ended_quiet : (before : List Action) (c : Core) (started : List ℕ) (word : ℕ) (kind : EventKind) (n : News) → Between before c started → is_bad c kind ≡ false → IsNewsKind kind → news_of c.single.link kind ≡ n → c.single.connection.life ≡ Ended
+pub ended_quiet : (before : List Action) (c : Core) (started : List ℕ) (word : ℕ) (kind : EventKind) (n : News) (error : RedisError) → Between before c started → is_bad c kind ≡ false → IsNewsKind kind → news_of c.timers c.single.link kind ≡ n → c.single.connection.life ≡ Ended error
     → HasApplied (before ++ turn_of c word kind ∷ []) (with_work (record { core = turned c kind; acts = [] }) (record { conn = c.single.connection; acts = [] })) started
-ended_quiet before c started word kind n h good k is over =
+ended_quiet before c started word kind n error h good k is over =
     let b = book before in
     let l = b.link c.single.link in
     let life = subst (λ (x : Life). TiedLife l b.created x) over h.sound.tied.life in
-    let after = ended_hears l b.created n life in
+    let after = ended_hears l b.created error c.turns n life in
     quiet_applied before c started word kind n c.single.connection.life h good k is
-    (leads_on before c started n h (subst (λ (x : Life). TiedLife (noted l (hears n)) b.created x) (sym over) after, λ alive. absurd (alive over)))
-    (over_no_end (noted l (hears n)) b.created after) h.whole
+    (leads_on before c started n h (
+      subst (λ (x : Life). TiedLife (noted l (hears c.turns n)) b.created x) (sym over) after,
+      λ alive. absurd (not_both (has_ended c.single.connection.life) alive (ap has_ended over)),
+    ))
+    (over_no_end (noted l (hears c.turns n)) b.created error after) h.whole
 
--- a link whose connect isn't answered hears but of that, and of the shutdown
+-- a link whose connect isn't answered hears but of that, of the end of its time, and of the shutdown
 --
 -- news of a link that is up
 abbrev pub IsOfAnother : News → Type 0
@@ -114,21 +136,27 @@ IsOfAnother (took count) = Unit {0}
 IsOfAnother (came piece) = Unit {0}
 IsOfAnother (failed f) = Unit {0}
 IsOfAnother silence = ⊥
+IsOfAnother (refused f) = ⊥
+IsOfAnother overdue = ⊥
 IsOfAnother connected = ⊥
 IsOfAnother shut = ⊥
 
 -- a link whose connect is not answered stays as it is
-dialing_hears : (l : Ledger) (created : ℕ) (n : News) → IsOfAnother n → TiedLife l created Dialing → TiedLife (noted l (hears n)) created Dialing
-dialing_hears l created silence k h = absurd k
-dialing_hears l created connected k h = absurd k
-dialing_hears l created (took count) k h = if_false (λ (x : Ledger). TiedLife x created Dialing) l.up _ l h.1 h
-dialing_hears l created (came piece) k h = if_false (λ (x : Ledger). TiedLife x created Dialing) l.up (bytes_came l piece) l h.1 h
-dialing_hears l created (failed f) k h = h
-dialing_hears l created shut k h = absurd k
+dialing_hears : (l : Ledger) (created turn : ℕ) (n : News) → IsOfAnother n → TiedLife l created Dialing → TiedLife (noted l (hears turn n)) created Dialing
+dialing_hears l created turn silence k h = absurd k
+dialing_hears l created turn (refused f) k h = absurd k
+dialing_hears l created turn overdue k h = absurd k
+dialing_hears l created turn connected k h = absurd k
+dialing_hears l created turn (took count) k h = if_false (λ (x : Ledger). TiedLife x created Dialing) l.up _ l h.1 h
+dialing_hears l created turn (came piece) k h = if_false (λ (x : Ledger). TiedLife x created Dialing) l.up (bytes_came l piece) l h.1 h
+dialing_hears l created turn (failed f) k h = h
+dialing_hears l created turn shut k h = absurd k
 
 -- such news end no link that is not up
 asked_on : (n : News) → IsOfAnother n → ending_asked n ≡ None
 asked_on silence k = refl
+asked_on (refused f) k = refl
+asked_on overdue k = absurd k
 asked_on connected k = refl
 asked_on (took count) k = refl
 asked_on (came piece) k = refl
@@ -136,35 +164,35 @@ asked_on (failed f) k = refl
 asked_on shut k = absurd k
 
 -- so it need not end
-dialing_no_end : (l : Ledger) (created : ℕ) (n : News) → IsOfAnother n → TiedLife l created Dialing → ending (noted l (hears n)) ≡ None
-dialing_no_end l created n k h =
-    let after = noted l (hears n) in
-    left_if after.up (ending_up after n) _ (dialing_hears l created n k h).1
+dialing_no_end : (l : Ledger) (created turn : ℕ) (n : News) → IsOfAnother n → TiedLife l created Dialing → ending (noted l (hears turn n)) ≡ None
+dialing_no_end l created turn n k h =
+    let after = noted l (hears turn n) in
+    left_if after.up (ending_up after n) _ (dialing_hears l created turn n k h).1
     ∙ chosen (λ (x : Option Ending). x ≡ None) (after.asked && not (is_over after)) (ending_asked n) None (λ t. asked_on n k) (λ f. refl)
 
 -- and the event has no effect
-pub dialing_quiet : (before : List Action) (c : Core) (started : List ℕ) (word : ℕ) (kind : EventKind) (n : News) → IsOfAnother n → Between before c started → is_bad c kind ≡ false → IsNewsKind kind → news_of c.single.link kind ≡ n → c.single.connection.life ≡ Dialing
+pub dialing_quiet : (before : List Action) (c : Core) (started : List ℕ) (word : ℕ) (kind : EventKind) (n : News) → IsOfAnother n → Between before c started → is_bad c kind ≡ false → IsNewsKind kind → news_of c.timers c.single.link kind ≡ n → c.single.connection.life ≡ Dialing
     → HasApplied (before ++ turn_of c word kind ∷ []) (with_work (record { core = turned c kind; acts = [] }) (record { conn = c.single.connection; acts = [] })) started
-dialing_quiet before c started word kind n o h good k is dials =
+dialing_quiet before c started word kind n o h good k is dialing =
     let b = book before in
     let l = b.link c.single.link in
-    let life = subst (λ (x : Life). TiedLife l b.created x) dials h.sound.tied.life in
+    let life = subst (λ (x : Life). TiedLife l b.created x) dialing h.sound.tied.life in
     quiet_applied before c started word kind n c.single.connection.life h good k is
     (leads_on before c started n h (
-      subst (λ (x : Life). TiedLife (noted l (hears n)) b.created x) (sym dials) (dialing_hears l b.created n o life),
-      λ alive. unheard_tied (owner_of c.single.connection.requests) l (link_in c.single.connection.life) n life.1 (h.sound.tied.link alive),
+      subst (λ (x : Life). TiedLife (noted l (hears c.turns n)) b.created x) (sym dialing) (dialing_hears l b.created c.turns n o life),
+      λ alive. unheard_tied (owner_of c.single.connection.requests) l (link_in c.single.connection.life) c.turns n life.1 (h.sound.tied.link alive),
     ))
-    (dialing_no_end l b.created n o life) h.whole
+    (dialing_no_end l b.created c.turns n o life) h.whole
 
 -- what the news are is of no account for how far a link has come
 pub told_life : (l : Ledger) (created : ℕ) (life : Life) (n : News) → TiedLife l created life → TiedLife (record l { heard = n }) created life
 told_life l created Dialing n h = h
 told_life l created (Ready link) n h = h
-told_life l created Ended n h = h
+told_life l created (Ended e) n h = h
 
 -- a link that hears nothing need not end
-pub silent_no_end : (l : Ledger) → ending (noted l (hears silence)) ≡ None
-silent_no_end l =
+pub silent_no_end : (l : Ledger) (turn : ℕ) → ending (noted l (hears turn silence)) ≡ None
+silent_no_end l turn =
     chosen (λ (x : Option Ending). x ≡ None) l.up None (if l.asked && not (is_over l) then None else None)
     (λ t. refl)
     (λ f. chosen (λ (x : Option Ending). x ≡ None) (l.asked && not (is_over l)) None None (λ t. refl) (λ g. refl))

@@ -1,5 +1,5 @@
 -- What one action of a turn leaves as it is.
-use Rattle.std.proofs.Common.{Bool, List, [], ap, length, refl, slice_get, subst, sym, ℕ, ◌<◌, ◌∙◌, ◌∷◌, ◌≡◌, ◌≢◌}
+use Rattle.std.proofs.Common.{Bool, List, [], ap, length, refl, slice_get, subst, sym, ℕ, ◌<◌, ◌∙◌, ◌∷◌, ◌≡◌, ◌≢◌, false}
 use Rattle.std.specs.List.{AllByRecursion}
 use Rattle.std.specs.Prelude.{◌==◌}
 use Rattle.containers.proofs.Choices.{chosen, eq_from, eq_test, if_false, ne_test, taken_if}
@@ -8,7 +8,6 @@ use Rattle.link_core.specs.declared.message.Queued.{Queued}
 use Rattle.link_laws.proofs.TiedLink.{TiedLink}
 use Rattle.mux_conn.specs.Requests.{name_at}
 use Rattle.mux_conn.specs.declared.life.Life.{Life}
-use Rattle.mux_conn.specs.declared.life.Life.TheVariants.{Ended}
 use Rattle.mux_conn.specs.declared.request.Request.{Request}
 use Rattle.mux_conn.specs.declared.request.Waiting.{Waiting}
 use Rattle.legal_trace.specs.Book.{Book, if_mine, if_own}
@@ -16,14 +15,14 @@ use Rattle.legal_trace.specs.Ledger.{Ledger, Line, noted, noted_each}
 use Rattle.legal_trace.specs.Story.{Story, awaited_in, packed_in, shape_in, tried}
 use Rattle.session_laws.proofs.Names.{name_placed}
 use Rattle.session_laws.proofs.Owes.{request_story}
-use Rattle.session_laws.proofs.Tied.{Inner, IsOf, IsPacked, IsQueued, IsRequest, IsUnknown, Tied, TiedLife, TiedLines, TiedNames, TiedNumbers, TiedStory, TiedTries, TiedWaits, link_in, owner_of}
+use Rattle.session_laws.proofs.Tied.{Inner, IsOf, IsPacked, IsQueued, IsRequest, IsUnknown, Tied, TiedLife, TiedLines, TiedNames, TiedNumbers, TiedStory, TiedTries, TiedWaits, link_in, owner_of, has_ended}
 
 -- a session and the ledger of its link, which is that of the book
 pub record TiedBy (b : Book) (t : Inner) (l : Ledger) : Type 0 where
   pub numbers : TiedNumbers b t
   pub others : (m : ℕ) → m ≢ t.link → IsUnknown (b.link m)
   pub life : TiedLife l b.created t.life
-  pub link : t.life ≢ Ended → TiedLink (owner_of t.requests) l (link_in t.life)
+  pub link : has_ended t.life ≡ false → TiedLink (owner_of t.requests) l (link_in t.life)
   pub names : TiedNames t.table t.requests
   pub story : (n : ℕ) → TiedStory (b.story n) t.requests t.link (slice_get t.table n)
   pub tries : TiedTries l b.story t.requests t.link t.started
@@ -58,6 +57,9 @@ pub numbers_kept : (b : Book) (link : ℕ → Ledger) (story : ℕ → Story) (t
 numbers_kept b link story t life requests waiting fresh pending started h = record {
   turns = h.turns;
   links = h.links;
+  timers = h.timers;
+  aims = h.aims;
+  timed = h.timed;
   submissions = h.submissions;
   shut = h.shut;
   one = h.one;

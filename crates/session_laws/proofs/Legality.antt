@@ -3,8 +3,10 @@ use Rattle.std.proofs.Common.{List, None, Option, Some, [], ap, append_assoc, fa
 use Rattle.std.proofs.lemmas.List.{append-nil}
 use Rattle.std.specs.Prelude.{if◌then◌else◌, ◌==◌}
 use Rattle.containers.proofs.Choices.{chosen}
+use Rattle.connection_info.specs.declared.address.ConnectionInfo.{ConnectionInfo}
 use Rattle.redis_error.specs.declared.redis_error.RedisError.TheVariants as error
 use Rattle.driver_model.specs.Request.{packed_bytes}
+use Rattle.driver_model.specs.Config.{address, connect_timeout}
 use Rattle.driver_model.specs.declared.action.Action.{Action}
 use Rattle.driver_model.specs.declared.action.Action.TheVariants as action
 use Rattle.driver_model.specs.declared.action.Cause.TheVariants as cause
@@ -16,7 +18,7 @@ use Rattle.driver_model.specs.declared.event.Submission.{Submission}
 use Rattle.mux_conn.specs.declared.act.LinkAct.{LinkAct}
 use Rattle.mux_conn.specs.declared.act.LinkAct.TheVariants as act
 use Rattle.mux_conn.specs.declared.request.Pending.{Pending}
-use Rattle.shared_session.specs.Replay.{AreGood, AreGoodOn, is_bad_after, opening_core, opening_actions, outcome_at, outcomes_in, run_on, state_after, trace_of, turns_on}
+use Rattle.shared_session.specs.Replay.{AreGood, AreGoodOn, is_bad_after, opening_core, opening_actions, outcome_at, outcomes_in, run_on, state_after, trace_of, turns_on, IsSound, connect_asked}
 use Rattle.shared_session.specs.Turn.{Turning, actions_of, asked_for, counted, effect, heard, is_bad, left_by, moved_on, refused_with, shown_each, submitted, next_turn}
 use Rattle.shared_session.specs.declared.core_state.Core.{Core}
 use Rattle.legal_trace.specs.Book.{Book, book, entered_each}
@@ -52,6 +54,8 @@ effect_link : (c : Core) (kind : EventKind) → (effect (counted c) kind).core.s
 effect_link c (event.Submit what) = refused_link (heard (counted c) (event.Submit what)) what
 effect_link c (event.Cancel n) = left_link (heard (counted c) (event.Cancel n)) (slice_get c.table n)
 effect_link c (event.Connected l) = refl
+effect_link c (event.Refused l f) = refl
+effect_link c (event.Fired n) = refl
 effect_link c (event.Wrote l count) = refl
 effect_link c (event.Bytes l piece) = refl
 effect_link c (event.Ended l) = refl
@@ -90,9 +94,9 @@ turns_between before c (e ∷ es) h good =
     (turns_between (before ++ actions_of c e) (next_turn c e.kind).core es (turn_between before c e h good.0) good.1)
 
 -- the session after a history, and its trace
-pub replay_between : (config : Config) (word : ℕ) (events : List Event) → AreGood config word events → IsBetween (trace_of config word events) (state_after config word events)
+pub replay_between : (config : Config) (word : ℕ) (events : List Event) → IsSound config → AreGood config word events → IsBetween (trace_of config word events) (state_after config word events)
 unfolding trace_of state_after AreGood
-replay_between config word events good = turns_between (opening_actions config word) (opening_core config word) events (opening_between config word) good
+replay_between config word events sound good = turns_between (opening_actions config word) (opening_core config word) events (opening_between config word sound) good
 
 -- the causes of its turns
 --
@@ -104,7 +108,7 @@ causes-append (_ ∷ xs) ys = causes-append xs ys
 -- acts are no causes
 no_causes : (l : ℕ) (acts : List LinkAct) → causes (shown_each l acts) ≡ []
 no_causes l [] = refl
-no_causes l (act.Created ∷ acts) = no_causes l acts
+no_causes l (act.Created e ∷ acts) = no_causes l acts
 no_causes l (act.Close ∷ acts) = no_causes l acts
 no_causes l (act.Write bytes ∷ acts) = no_causes l acts
 no_causes l (act.Wait n kind ∷ acts) = no_causes l acts
@@ -119,23 +123,29 @@ turns_causes c (e ∷ es) =
     (causes-append (shown_each c.single.link (next_turn c e.kind).acts) (turns_on (next_turn c e.kind).core es)
     ∙ (λ i. no_causes c.single.link (next_turn c e.kind).acts i ++ turns_causes (next_turn c e.kind).core es i))
 
+-- the opening asks for what it asks, and is the cause of all of it
+opening_causes : (x : Option ConnectionInfo) (timeout : Option ℕ) (rest : List Action) → causes (connect_asked x timeout ++ rest) ≡ causes rest
+opening_causes None timeout rest = refl
+opening_causes (Some info) None rest = refl
+opening_causes (Some info) (Some ms) rest = refl
+
 -- behind the opening
 replay_causes : (config : Config) (word : ℕ) (events : List Event) → causes (trace_of config word events) ≡ cause.Opening config word ∷ event_causes events
 unfolding trace_of
-replay_causes config word events = ap (λ cs. cause.Opening config word ∷ cs) (turns_causes (opening_core config word) events)
+replay_causes config word events = ap (λ cs. cause.Opening config word ∷ cs) (opening_causes (address config) (connect_timeout config) (turns_on (opening_core config word) events) ∙ turns_causes (opening_core config word) events)
 
 -- every replay is legal
-pub replay_legal : (config : Config) (word : ℕ) (events : List Event) → AreGood config word events → Legal config word events (trace_of config word events)
-replay_legal config word events good =
-    let h = replay_between config word events good in
+pub replay_legal : (config : Config) (word : ℕ) (events : List Event) → IsSound config → AreGood config word events → Legal config word events (trace_of config word events)
+replay_legal config word events sound good =
+    let h = replay_between config word events sound good in
     record { turns = replay_causes config word events; each = h.between.sound.stands; settled = h.between.settled }
 
 -- behind it, the bad events are those of its book
-pub bad_of_the_book : (config : Config) (word : ℕ) (events : List Event) (e : Event) → AreGood config word events → is_bad_after config word events e ≡ is_bad_event (book (trace_of config word events)) e.kind
-bad_of_the_book config word events e good =
-    let h = replay_between config word events good in
+pub bad_of_the_book : (config : Config) (word : ℕ) (events : List Event) (e : Event) → IsSound config → AreGood config word events → is_bad_after config word events e ≡ is_bad_event (book (trace_of config word events)) e.kind
+bad_of_the_book config word events e sound good =
+    let h = replay_between config word events sound good in
     sym (same_badness (book (trace_of config word events)) (state_after config word events) h.started e.kind h.between.sound.tied)
 
 -- and its outcomes are those of its book
-pub replay_outcomes : (config : Config) (word : ℕ) (events : List Event) (n : ℕ) → AreGood config word events → outcome_at (outcomes_in (trace_of config word events)) n ≡ last_outcome ((book (trace_of config word events)).story n).outcomes
-replay_outcomes config word events n good = let h = replay_between config word events good in last_told (trace_of config word events) n h.between.sound.stands
+pub replay_outcomes : (config : Config) (word : ℕ) (events : List Event) (n : ℕ) → IsSound config → AreGood config word events → outcome_at (outcomes_in (trace_of config word events)) n ≡ last_outcome ((book (trace_of config word events)).story n).outcomes
+replay_outcomes config word events n sound good = let h = replay_between config word events sound good in last_told (trace_of config word events) n h.between.sound.stands

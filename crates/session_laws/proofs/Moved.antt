@@ -1,14 +1,15 @@
 -- All requests of a connection are moved.
-use Rattle.std.proofs.Common.{Bool, List, [], ap, false, inl, inr, length, refl, subst, sym, true, ℕ, ◌++◌, ◌∙◌, ◌∷◌, ◌≡◌, ◌≢◌}
+use Rattle.std.proofs.Common.{Bool, List, [], ap, false, inl, inr, refl, subst, sym, true, ℕ, ◌++◌, ◌∙◌, ◌∷◌, ◌≡◌, ◌≢◌}
 use Rattle.std.proofs.lemmas.List.{append-nil}
 use Rattle.containers.proofs.Choices.{chosen, left_if, not_both, taken_if}
-use Rattle.redis_error.specs.declared.redis_error.RedisError.TheVariants as error
+use Rattle.redis_error.specs.declared.redis_error.RedisError.{RedisError}
 use Rattle.driver_model.specs.declared.action.Action.{Action}
 use Rattle.driver_model.specs.declared.outcome.Outcome.{Outcome}
+use Rattle.driver_model.specs.declared.outcome.Outcome.TheVariants as outcome
 use Rattle.link_core.specs.Link.{LinkState, started_all}
 use Rattle.link_laws.specs.Settles.{awaited_ids, wanted}
 use Rattle.mux_conn.specs.Connection.{Work, moves_none, with_link}
-use Rattle.mux_conn.specs.Effects.{closed, closed_each, waiting_closed}
+use Rattle.mux_conn.specs.Effects.{failed_each, waiting_failed}
 use Rattle.mux_conn.specs.Passes.{moved, moved_all, moved_at, moved_each, passed, started_at, still_waiting}
 use Rattle.mux_conn.specs.Requests.{answered, at_progress, is_open as is_open_progress, is_open_at, is_waiting, is_waiting_at, name_at}
 use Rattle.mux_conn.specs.declared.act.LinkAct.TheVariants as act
@@ -20,18 +21,16 @@ use Rattle.mux_conn.specs.declared.request.Waiting.{Waiting}
 use Rattle.shared_session.specs.declared.core_state.Core.{Core}
 use Rattle.legal_trace.specs.Book.{Book, book}
 use Rattle.legal_trace.specs.Legal.{NoneEnds}
-use Rattle.legal_trace.specs.Owed.{owed}
 use Rattle.session_laws.proofs.Answer.{after_end}
-use Rattle.session_laws.proofs.Close.{all_waiting_due, waiting_closed_holds}
+use Rattle.session_laws.proofs.Close.{waiting_ends}
 use Rattle.session_laws.proofs.Going.{IsGoing}
-use Rattle.session_laws.proofs.InLine.{IsInLine}
 use Rattle.session_laws.proofs.Names.{open_within, there_other, there_then}
-use Rattle.session_laws.proofs.Numbers.{IsIn, Rising, rising_right}
+use Rattle.session_laws.proofs.Numbers.{IsIn}
 use Rattle.session_laws.proofs.Passes.{IsUp, moved_all_up, moved_none_waits, moving, started_up}
-use Rattle.session_laws.proofs.Settle.{Holds, answered_leaves, answering, book_of_more, closed_leaves, seen, trace_of_acts}
+use Rattle.session_laws.proofs.Settle.{Holds, answered_leaves, book_of_more, failed_leaves, seen, trace_of_acts}
 use Rattle.session_laws.proofs.Starts.{shown_is}
 use Rattle.session_laws.proofs.States.{IsWhole, IsWholeIn}
-use Rattle.session_laws.proofs.Tied.{Inner, Sound, Tied, TiedLife, link_in, queue_ids, waiting_ids}
+use Rattle.session_laws.proofs.Tied.{Inner, Sound, Tied, link_in, queue_ids, has_ended}
 use Rattle.session_laws.proofs.Told.{NoneTold, fault_told}
 
 -- the event has had its effect, all messages that may start have started, and none waits but for the connect
@@ -115,8 +114,8 @@ abbrev OpenWaits : List Request → Type 0
 OpenWaits requests = (p : ℕ) → is_open_at requests p ≡ true → is_waiting_at requests p ≡ true
 
 -- so it is on a link that has ended
-open_waits : (b : Book) (t : Inner) → Tied b t → t.pending ≡ [] → t.life ≡ Ended → OpenWaits t.requests
-open_waits b t h none over p e = elim (h.lines.there p e) [
+open_waits : (b : Book) (t : Inner) (error : RedisError) → Tied b t → t.pending ≡ [] → t.life ≡ Ended error → OpenWaits t.requests
+open_waits b t error h none over p e = elim (h.lines.there p e) [
   | inl i ↦ absurd (subst (λ (x : Life). IsIn p ([] ++ (wanted (link_in x).row ++ awaited_ids (link_in x).queue))) over (subst (λ ns. IsIn p (ns ++ (wanted (link_in t.life).row ++ awaited_ids (link_in t.life).queue))) none i))
   | inr w ↦ w.0
 ]
@@ -137,64 +136,58 @@ waiting_false true b h e = absurd (not_both b e (h refl))
 waiting_false false b h e = refl
 
 -- one that is moved is answered
-moved_over : (w : Work) (q : Waiting) → w.conn.life ≡ Ended → OpenWaits w.conn.requests → moved w q ≡ answered w q.number closed
-moved_over w q over h =
-    chosen (λ (x : Work). x ≡ answered w q.number closed) (is_waiting_at w.conn.requests q.number) (moved_at w q w.conn.life) w
+moved_over : (w : Work) (e : RedisError) (q : Waiting) → w.conn.life ≡ Ended e → OpenWaits w.conn.requests → moved w q ≡ answered w q.number (outcome.Fault e)
+moved_over w e q over h =
+    chosen (λ (x : Work). x ≡ answered w q.number (outcome.Fault e)) (is_waiting_at w.conn.requests q.number) (moved_at w q w.conn.life) w
     (λ t. ap (moved_at w q) over)
     (λ f. sym (left_if (is_open_at w.conn.requests q.number) _ w (waiting_false (is_open_at w.conn.requests q.number) (is_waiting_at w.conn.requests q.number) (h q.number) f)))
 
 -- and so is each
-each_over : (w : Work) (qs : List Waiting) → w.conn.life ≡ Ended → OpenWaits w.conn.requests → moved_each w qs ≡ still_waiting (closed_each w qs) []
-each_over w [] over h = refl
-each_over w (q ∷ qs) over h =
+each_over : (w : Work) (e : RedisError) (qs : List Waiting) → w.conn.life ≡ Ended e → OpenWaits w.conn.requests → moved_each w qs ≡ still_waiting (failed_each w e qs) []
+each_over w e [] over h = refl
+each_over w e (q ∷ qs) over h =
     left_if (moves_none w.conn.life) _ (moved_each (moved w q) qs) (ap moves_none over)
-    ∙ ap (λ (x : Work). moved_each x qs) (moved_over w q over h)
-    ∙ each_over (answered w q.number closed) qs ((answered_leaves w q.number closed).life ∙ over) (answered_waits w q.number closed h)
+    ∙ ap (λ (x : Work). moved_each x qs) (moved_over w e q over h)
+    ∙ each_over (answered w q.number (outcome.Fault e)) e qs ((answered_leaves w q.number (outcome.Fault e)).life ∙ over) (answered_waits w q.number (outcome.Fault e) h)
 
 -- all that wait are answered
-passed_over_is : (w : Work) → w.conn.life ≡ Ended → OpenWaits w.conn.requests → passed w ≡ waiting_closed w
-passed_over_is w over h =
+passed_over_is : (w : Work) (e : RedisError) → w.conn.life ≡ Ended e → OpenWaits w.conn.requests → passed w ≡ waiting_failed w e
+passed_over_is w e over h =
     let v = still_waiting w [] in
-    let c = closed_each v w.conn.waiting in
+    let c = failed_each v e w.conn.waiting in
     ap (λ (x : Life). moved_all (started_at w x)) over
-    ∙ each_over v w.conn.waiting over h
-    ∙ ap (λ ws. record c { conn = record c.conn { waiting = ws } }) (sym (closed_leaves v w.conn.waiting).waiting)
+    ∙ each_over v e w.conn.waiting over h
+    ∙ ap (λ ws. record c { conn = record c.conn { waiting = ws } }) (sym (failed_leaves v e w.conn.waiting).waiting)
 
 -- and none is told
-answered_told : (before : List Action) (f : Core) (w : Work) (p : ℕ) → NoneTold (book (trace_of_acts before f w.acts)) → NoneTold (book (trace_of_acts before f (answered w p closed).acts))
-answered_told before f w p h =
+answered_told : (before : List Action) (f : Core) (w : Work) (p : ℕ) (e : RedisError) → NoneTold (book (trace_of_acts before f w.acts)) → NoneTold (book (trace_of_acts before f (answered w p (outcome.Fault e)).acts))
+answered_told before f w p e h =
     chosen (λ (x : Work). NoneTold (book (trace_of_acts before f x.acts))) (is_open_at w.conn.requests p) _ w
-    (λ t. subst NoneTold (sym (book_of_more before f w.acts (act.Outcome (name_at w.conn.requests p) closed))) (fault_told (book (trace_of_acts before f w.acts)) (name_at w.conn.requests p) error.Closed h))
-    (λ e. h)
+    (λ t. subst NoneTold (sym (book_of_more before f w.acts (act.Outcome (name_at w.conn.requests p) (outcome.Fault e)))) (fault_told (book (trace_of_acts before f w.acts)) (name_at w.conn.requests p) e h))
+    (λ n. h)
 
 -- of all that wait
-each_told : (before : List Action) (f : Core) (w : Work) (qs : List Waiting) → NoneTold (book (trace_of_acts before f w.acts)) → NoneTold (book (trace_of_acts before f (closed_each w qs).acts))
-each_told before f w [] h = h
-each_told before f w (q ∷ qs) h = each_told before f (answered w q.number closed) qs (answered_told before f w q.number h)
+each_told : (before : List Action) (f : Core) (w : Work) (e : RedisError) (qs : List Waiting) → NoneTold (book (trace_of_acts before f w.acts)) → NoneTold (book (trace_of_acts before f (failed_each w e qs).acts))
+each_told before f w e [] h = h
+each_told before f w e (q ∷ qs) h = each_told before f (answered w q.number (outcome.Fault e)) e qs (answered_told before f w q.number e h)
 
 -- all are moved there
-over_moved : (before : List Action) (f : Core) (w : Work) (started : List ℕ) → w.conn.life ≡ Ended → IsReady before f w started → HasMoved before f (passed w)
-over_moved before f w started over h =
-    let b = book (trace_of_acts before f w.acts) in
+over_moved : (before : List Action) (f : Core) (w : Work) (e : RedisError) (started : List ℕ) → w.conn.life ≡ Ended e → IsReady before f w started → HasMoved before f (passed w)
+over_moved before f w e started over h =
     let t = seen f w.conn [] started in
     let v = still_waiting w [] in
-    let u = waiting_closed w in
-    let tied = h.holds.tied in
-    let down = subst (λ (x : Life). TiedLife (b.link f.single.link) b.created x) over tied.life in
-    let line = subst (λ (x : Life). IsInLine w.conn.requests (link_in x) w.conn.waiting []) (sym over) (rising_right 0 started (waiting_ids w.conn.waiting) (length w.conn.requests) (subst (λ (x : Life). Rising 0 (started ++ (queue_ids (link_in x).queue ++ waiting_ids w.conn.waiting)) (length w.conn.requests)) over tied.lines.line)) in
-    let done = waiting_closed_holds before f (b.link f.single.link) (owed b) (name_at w.conn.requests) w started over (all_waiting_due b t tied down.1) (answering before f w [] started h.holds line) in
-    let k = closed_leaves v w.conn.waiting in
+    let u = waiting_failed w e in
+    let done = waiting_ends before f w e started h.holds over in
     let c = book (trace_of_acts before f u.acts) in
     let s = seen f u.conn [] started in
-    let still = k.life ∙ over in
-    let ends = after_end c s done.holds.tied still in
-    subst (HasMoved before f) (sym (passed_over_is w over (open_waits b t tied refl over))) (record {
+    let ends = after_end c s done.holds.tied (ap has_ended done.over) in
+    subst (HasMoved before f) (sym (passed_over_is w e over (open_waits (book (trace_of_acts before f w.acts)) t e h.holds.tied refl over))) (record {
       started = started;
       holds = done.holds;
       ended = ends.0;
-      whole = λ link e. (let no : Ended ≡ Ready link = sym still ∙ e in cc);
-      waiting = λ e. k.waiting;
-      told = each_told before f v w.conn.waiting h.told;
+      whole = λ link is. (let no : Ended e ≡ Ready link = sym done.over ∙ is in cc);
+      waiting = λ is. done.none_waits;
+      told = each_told before f v e w.conn.waiting h.told;
     })
 
 -- all requests are moved
@@ -204,4 +197,4 @@ passed_moved before f w started h = by_life w.conn.life refl
     by_life : (life : Life) → w.conn.life ≡ life → HasMoved before f (passed w)
     by_life Dialing e = dialing_moved before f w started e h
     by_life (Ready link) e = ready_moved before f w started link e h
-    by_life Ended e = over_moved before f w started e h
+    by_life (Ended x) e = over_moved before f w x started e h

@@ -1,19 +1,21 @@
 -- Whose message may start.
-use Rattle.std.proofs.Common.{List, [], ap, arith, inl, inr, length, refl, subst, sym, true, ℕ, ◌++◌, ◌<◌, ◌∙◌, ◌∷◌, ◌≡◌, ◌≢◌}
+use Rattle.std.proofs.Common.{List, [], ap, arith, inl, inr, length, refl, subst, sym, true, ℕ, ◌++◌, ◌<◌, ◌∙◌, ◌∷◌, ◌≡◌, ◌≢◌, false}
 use Rattle.containers.proofs.Choices.{not_both}
 use Rattle.link_laws.proofs.Started.{row_open}
 use Rattle.link_laws.specs.Settles.{StandsAs, wanted}
 use Rattle.mux_conn.specs.Requests.{name_at}
-use Rattle.mux_conn.specs.declared.life.Life.TheVariants.{Ended}
+use Rattle.mux_conn.specs.declared.life.Life.TheVariants.{Dialing, Ready, Ended}
+use Rattle.mux_conn.specs.declared.life.Life.{Life}
 use Rattle.legal_trace.specs.Book.{Book}
 use Rattle.legal_trace.specs.Legal.{CanMove, IsFirstToMove, IsOpen, IsTold, link_of}
 use Rattle.legal_trace.specs.Story.{Try}
+use Rattle.legal_trace.specs.Ledger.{Ledger}
 use Rattle.session_laws.proofs.Behind.{IsBehind, alive_behind}
 use Rattle.session_laws.proofs.InLine.{first_is_least, line_of, open_in_line, row_ids, wanted_in}
 use Rattle.session_laws.proofs.Names.{earlier_name, open_within}
 use Rattle.session_laws.proofs.Numbers.{IsIn, Rising, in_either, in_left, rising_in, rising_right}
 use Rattle.session_laws.proofs.Owes.{lives, open_request, stands_started, wanted_entry}
-use Rattle.session_laws.proofs.Tied.{Inner, Tied, TiedLife, link_in, owner_of, queue_ids, waiting_ids}
+use Rattle.session_laws.proofs.Tied.{Inner, Tied, TiedLife, link_in, owner_of, queue_ids, waiting_ids, has_ended}
 
 -- who was told at its place and has not started has a place in the queue
 abbrev pub AreQueued : Book → Inner → Type 0
@@ -27,7 +29,7 @@ pub record IsLater (t : Inner) (n : ℕ) : Type 0 where
   pub later : IsIn p (queue_ids (link_in t.life).queue ++ waiting_ids t.waiting)
 
 -- what is in the row has started
-row_started : (b : Book) (t : Inner) (p : ℕ) → Tied b t → t.life ≢ Ended → p < length t.requests → IsIn p (row_ids (link_in t.life).row) → (b.story (name_at t.requests p)).tries ≢ []
+row_started : (b : Book) (t : Inner) (p : ℕ) → Tied b t → has_ended t.life ≡ false → p < length t.requests → IsIn p (row_ids (link_in t.life).row) → (b.story (name_at t.requests p)).tries ≢ []
 row_started b t p h n within i e =
     let l = b.link t.link in
     let alive = lives l b.created t.life h.life n in
@@ -40,7 +42,7 @@ row_started b t p h n within i e =
     some_tries e = cc
 
 -- where nothing is to be answered, an open submission without a message is in the queue or waits
-pub open_later : (b : Book) (t : Inner) (n : ℕ) → Tied b t → t.pending ≡ [] → t.life ≢ Ended → (b.story n).tries ≡ [] → IsOpen b n → IsLater t n
+pub open_later : (b : Book) (t : Inner) (n : ℕ) → Tied b t → t.pending ≡ [] → has_ended t.life ≡ false → (b.story n).tries ≡ [] → IsOpen b n → IsLater t n
 open_later b t n h none up unstarted o =
     let r = open_request b t n h o in
     let within = open_within t.requests r.number r.open_at in
@@ -52,11 +54,13 @@ open_later b t n h none up unstarted o =
     ]
 
 -- a submission whose link is up is one of this link, which has not ended
-up_here : (b : Book) (t : Inner) (n : ℕ) → Tied b t → IsBehind b t n → (link_of b n).up ≡ true → t.life ≢ Ended
-up_here b t n h a up over =
-    let at : (b.link t.link).up ≡ true = ap (λ l. (b.link l).up) (sym a.is.on) ∙ up in
-    let down : TiedLife (b.link t.link) b.created Ended = subst (λ life. TiedLife (b.link t.link) b.created life) over h.life in
-    not_both (b.link t.link).up down.0 at
+up_here : (b : Book) (t : Inner) (n : ℕ) → Tied b t → IsBehind b t n → (link_of b n).up ≡ true → has_ended t.life ≡ false
+up_here b t n h a up = by_life (b.link t.link) b.created t.life (ap (λ l. (b.link l).up) (sym a.is.on) ∙ up) h.life
+  where
+    by_life : (l : Ledger) (created : ℕ) (life : Life) → l.up ≡ true → TiedLife l created life → has_ended life ≡ false
+    by_life l created Dialing u h = refl
+    by_life l created (Ready link) u h = refl
+    by_life l created (Ended e) u h = absurd (not_both l.up h.0 u)
 
 -- and so is one that may start
 pub can_move_later : (b : Book) (t : Inner) (n : ℕ) → Tied b t → t.pending ≡ [] → AreQueued b t → CanMove b n → IsLater t n

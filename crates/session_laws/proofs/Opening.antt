@@ -1,39 +1,86 @@
 -- The opening: the first link is asked for.
-use Rattle.std.proofs.Common.{List, None, [], ap, arith, refl, subst, sym, ℕ, ◌∙◌, ◌∷◌, ◌≡◌, ◌≢◌}
+use Rattle.std.proofs.Common.{List, None, Option, Some, [], ap, arith, false, refl, subst, suc, sym, zero, ℕ, ◌+◌, ◌∙◌, ◌∷◌, ◌≡◌, ◌≢◌}
 use Rattle.std.specs.Prelude.{◌==◌}
 use Rattle.containers.proofs.Choices.{chosen, left_if, ne_test}
+use Rattle.connection_info.specs.declared.address.ConnectionInfo.{ConnectionInfo}
 use Rattle.resp_value.specs.declared.value.Value.TheVariants.{Nil}
 use Rattle.driver_model.specs.declared.action.Action.TheVariants as action
 use Rattle.driver_model.specs.declared.action.Cause.TheVariants as cause
 use Rattle.driver_model.specs.declared.config.Config.{Config}
 use Rattle.driver_model.specs.declared.outcome.Outcome.TheVariants as outcome
+use Rattle.driver_model.specs.Config.{address, connect_timeout, fault_in}
+use Rattle.driver_model.specs.declared.action.Action.{Action}
+use Rattle.driver_model.specs.declared.action.Cause.{Cause}
+use Rattle.driver_model.specs.declared.action.Purpose.{Purpose}
 use Rattle.link_core.specs.Link.{no_boundary}
 use Rattle.link_laws.proofs.TiedLink.{asked_tied, fresh_tied}
 use Rattle.mux_conn.specs.Effects.{max_size, new_link}
+use Rattle.mux_conn.specs.Turn.{dialing}
 use Rattle.mux_conn.specs.declared.life.Life.TheVariants.{Dialing}
-use Rattle.shared_session.specs.Replay.{first_link, opening_core, opening_actions}
+use Rattle.shared_session.specs.Replay.{IsSound, connect_asked, connect_timers, first_link, opening_core, opening_actions, timer_asked}
+use Rattle.shared_session.specs.declared.core_state.Core.{Core}
 use Rattle.legal_trace.specs.Book.{Book, blank_book, book, entered}
 use Rattle.legal_trace.specs.Ledger.{Ledger, Line, asks, blank_ledger, ending, noted_each}
-use Rattle.legal_trace.specs.Legal.{AllStand, NoneEnds}
+use Rattle.legal_trace.specs.Legal.{AllStand, IsSettled, NoneEnds}
 use Rattle.legal_trace.specs.Story.{blank_story}
 use Rattle.session_laws.proofs.Going.{is_moved}
 use Rattle.session_laws.proofs.Settled.{IsBetween, is_settled}
 use Rattle.session_laws.proofs.States.{IsWholeIn}
-use Rattle.session_laws.proofs.Tied.{IsUnknown, Tied, TiedLines, TiedNames, TiedNumbers, TiedTries, inner, owner_of, owners_of}
+use Rattle.session_laws.proofs.Tied.{AreAimed, IsUnknown, Tied, TiedLines, TiedNames, TiedNumbers, TiedTries, inner, owner_of, owners_of}
 use Rattle.session_laws.proofs.Told.{NoneTold}
 use Rattle.session_laws.proofs.Write.{is_written}
 
--- the book of the opening
-abbrev opened : Config → ℕ → Book
-opened config word = entered (entered blank_book (action.Turn 0 (cause.Opening config word))) (action.Connect first_link config.host config.port)
+-- what timers the opening has asked for
+abbrev asks_timers : List Purpose → Book → Book
+asks_timers timers b = record b { timers = timers }
+
+-- the book of the opening, which has asked for these timers
+abbrev opened : Config → ℕ → ConnectionInfo → List Purpose → Book
+opened config word info timers = asks_timers timers (entered (entered blank_book (action.Turn 0 (cause.Opening config word))) (action.Connect first_link info.host info.port))
+
+-- the session then
+abbrev opened_core : List Purpose → Core
+opened_core timers = record {
+  turns = 1;
+  links = first_link + 1;
+  shut = false;
+  timers = timers;
+  table = [];
+  single = record { link = first_link; connection = dialing };
+}
 
 -- no other link is told of
-opened_link : (config : Config) (word : ℕ) (m : ℕ) → m ≢ first_link → (opened config word).link m ≡ blank_ledger
-opened_link config word m other = ap (noted_each blank_ledger) (left_if (first_link == m) (asks ∷ []) [] (ne_test first_link m (λ e. other (sym e))))
+opened_link : (config : Config) (word : ℕ) (info : ConnectionInfo) (timers : List Purpose) (m : ℕ) → m ≢ first_link → (opened config word info timers).link m ≡ blank_ledger
+opened_link config word info timers m other = ap (noted_each blank_ledger) (left_if (first_link == m) (asks ∷ []) [] (ne_test first_link m (λ e. other (sym e))))
+
+-- the opening that runs is its own
+own_opening : (config other : Config) (word another : ℕ) → ◌≡◌ {A = Option Cause} (Some (cause.Opening config word)) (Some (cause.Opening other another)) → config ≡ other
+own_opening config other word another e = cc
+
+-- a bounded connect has a timer
+bounded_timers : (timeout : Option ℕ) → timeout ≢ None → connect_timers timeout ≢ []
+bounded_timers None some none = some refl
+bounded_timers (Some ms) some none = cc
+
+-- the timers are for the first link
+first_aims : (timeout : Option ℕ) → AreAimed (connect_timers timeout) first_link
+first_aims None k what e = cc
+first_aims (Some ms) zero what e = cc
+first_aims (Some ms) (suc k) what e = cc
 
 -- its numbers
-opening_numbers : (config : Config) (word : ℕ) → TiedNumbers (opened config word) (inner (opening_core config word) [])
-opening_numbers config word = record { turns = refl; links = refl; submissions = refl; shut = refl; one = refl; only = λ m less. omega arith }
+opening_numbers : (config : Config) (word : ℕ) (info : ConnectionInfo) (timeout : Option ℕ) → connect_timeout config ≡ timeout → TiedNumbers (opened config word info (connect_timers timeout)) (inner (opened_core (connect_timers timeout)) [])
+opening_numbers config word info timeout is = record {
+  turns = refl;
+  links = refl;
+  timers = refl;
+  aims = first_aims timeout;
+  timed = λ other another opens bounded. bounded_timers timeout (λ none. bounded (ap connect_timeout (sym (own_opening config other word another opens)) ∙ is ∙ none));
+  submissions = refl;
+  shut = refl;
+  one = refl;
+  only = λ m less. omega arith;
+}
 
 -- its lines
 opening_lines : TiedLines (λ n. blank_story) [] new_link [] [] []
@@ -48,52 +95,80 @@ opening_tries : (l : Ledger) → l.starts ≡ [] → TiedTries l (λ n. blank_st
 opening_tries l none = record { owners = ap owners_of none; shapes = λ k p s e i. cc; tried = λ k p e. cc; untried = λ p r e out. cc }
 
 -- the session is tied to it
-pub opening_tied : (config : Config) (word : ℕ) → Tied (opened config word) (inner (opening_core config word) [])
-opening_tied config word = record {
-  numbers = opening_numbers config word;
-  others = λ m other. subst IsUnknown (sym (opened_link config word m other)) (record { asked = refl; up = refl; end = refl; starts = refl });
+opening_tied : (config : Config) (word : ℕ) (info : ConnectionInfo) (timeout : Option ℕ) → connect_timeout config ≡ timeout → Tied (opened config word info (connect_timers timeout)) (inner (opened_core (connect_timers timeout)) [])
+opening_tied config word info timeout is = record {
+  numbers = opening_numbers config word info timeout is;
+  others = λ m other. subst IsUnknown (sym (opened_link config word info (connect_timers timeout) m other)) (record { asked = refl; up = refl; end = refl; starts = refl });
   life = (refl, refl, refl, refl);
   link = λ e. asked_tied (owner_of []) blank_ledger new_link (fresh_tied (owner_of []) max_size no_boundary);
   names = opening_names;
   story = λ n. refl;
-  tries = opening_tries ((opened config word).link first_link) refl;
+  tries = opening_tries ((opened config word info (connect_timers timeout)).link first_link) refl;
   lines = opening_lines;
   waits = record { new = tt; shown = λ p w e. cc };
 }
 
 -- no link must end
-opening_ends : (config : Config) (word : ℕ) → NoneEnds (opened config word)
-opening_ends config word m = chosen (λ (ls : List Line). ending (noted_each blank_ledger ls) ≡ None) (first_link == m) (asks ∷ []) [] (λ t. refl) (λ f. refl)
+opening_ends : (config : Config) (word : ℕ) (info : ConnectionInfo) (timers : List Purpose) → NoneEnds (opened config word info timers)
+opening_ends config word info timers m = chosen (λ (ls : List Line). ending (noted_each blank_ledger ls) ≡ None) (first_link == m) (asks ∷ []) [] (λ t. refl) (λ f. refl)
 
 -- none is told without an outcome
 not_told : (b : Book) → ((n : ℕ) → (b.story n).outcomes ≡ []) → NoneTold b
 not_told b none n told untried = let no : [] ≡ outcome.One Nil ∷ [] = sym (none n) ∙ told.told in cc
 
--- its actions may stand
-opening_stands : (config : Config) (word : ℕ) → AllStand blank_book (opening_actions config word)
-opening_stands config word = (record { next = refl; is_for = refl }, (record { config = config; word = word; opens = refl; first = refl; next = refl; address = (refl, refl) }, tt))
+-- what the opening shows
+abbrev opened_actions : Config → ℕ → ConnectionInfo → Option ℕ → List Action
+opened_actions config word info timeout = action.Turn 0 (cause.Opening config word) ∷ action.Connect first_link info.host info.port ∷ timer_asked timeout
 
--- the session after the opening
-pub opening_between : (config : Config) (word : ℕ) → IsBetween (opening_actions config word) (opening_core config word)
+-- its book is that
+opening_book : (config : Config) (word : ℕ) (info : ConnectionInfo) (timeout : Option ℕ) → book (opened_actions config word info timeout) ≡ opened config word info (connect_timers timeout)
 unfolding book
-opening_between config word =
-    let b = opened config word in
-    let c = opening_core config word in
+opening_book config word info None = refl
+opening_book config word info (Some ms) = refl
+
+-- its timer may stand
+timer_stands : (config : Config) (word : ℕ) (info : ConnectionInfo) (timeout : Option ℕ) → connect_timeout config ≡ timeout → AllStand (opened config word info []) (timer_asked timeout)
+timer_stands config word info None is = tt
+timer_stands config word info (Some ms) is = (record { config = config; word = word; opens = refl; bounded = is; asked = λ e. cc; first = refl; next = refl; is_for = refl }, tt)
+
+-- and so its actions may
+opening_stands : (config : Config) (word : ℕ) (info : ConnectionInfo) (timeout : Option ℕ) → IsSound config → address config ≡ Some info → connect_timeout config ≡ timeout → AllStand blank_book (opened_actions config word info timeout)
+opening_stands config word info timeout sound at is = (
+  record { next = refl; is_for = refl },
+  (record { config = config; word = word; opens = refl; sound = sound; first = refl; next = refl; info = info; configured = at; address = (refl, refl) }, timer_stands config word info timeout is),
+)
+
+-- the session after an opening with an address
+opened_between : (config : Config) (word : ℕ) (info : ConnectionInfo) (timeout : Option ℕ) → IsSound config → address config ≡ Some info → connect_timeout config ≡ timeout → IsBetween (opened_actions config word info timeout) (opened_core (connect_timers timeout))
+opened_between config word info timeout sound at is =
+    let timers = connect_timers timeout in
+    let b = opened config word info timers in
+    let c = opened_core timers in
     let t = inner c [] in
-    let tied = opening_tied config word in
+    let tied = opening_tied config word info timeout is in
     let told = not_told b (λ n. refl) in
     let whole : IsWholeIn t.life = λ link e. cc in
     let waiting : t.life ≢ Dialing → t.waiting ≡ [] = λ e. refl in
-    let moved = is_moved b t tied refl (opening_ends config word) told whole waiting in
+    let moved = is_moved b t tied refl (opening_ends config word info timers) told whole waiting in
+    let book_is = sym (opening_book config word info timeout) in
     record {
       started = [];
       between = record {
-        sound = record { stands = opening_stands config word; tied = tied };
-        settled = is_settled b t tied refl refl whole waiting (is_written b t tied moved (λ link e. cc));
+        sound = record { stands = opening_stands config word info timeout sound at is; tied = subst (λ (x : Book). Tied x t) book_is tied };
+        settled = subst IsSettled book_is (is_settled b t tied refl refl whole waiting (is_written b t tied moved (λ link e. cc)));
         began = λ e. cc;
         fresh = refl;
         whole = whole;
         waiting = waiting;
       };
-      told = told;
+      told = subst NoneTold book_is told;
     }
+
+-- and after that of a sound configuration
+pub opening_between : (config : Config) (word : ℕ) → IsSound config → IsBetween (opening_actions config word) (opening_core config word)
+opening_between config word sound = by_address (address config) refl sound
+  where
+    by_address : (x : Option ConnectionInfo) → address config ≡ x → fault_in x ≡ None
+        → IsBetween (action.Turn 0 (cause.Opening config word) ∷ connect_asked x (connect_timeout config)) (opening_core config word)
+    by_address None at none = cc
+    by_address (Some info) at none = opened_between config word info (connect_timeout config) sound at refl

@@ -102,6 +102,8 @@ event_outcomes : (os : List (Option Outcome)) (b : Book) (number word : ℕ) (ki
 event_outcomes os b number word (event.Submit what) h = submit_outcomes os b number word what h
 event_outcomes os b number word (event.Cancel k) h = cancel_outcomes os b number word k h
 event_outcomes os b number word (event.Connected l) h = same_outcomes os b (action.Turn number (cause.Event (record { word = word; kind = event.Connected l }))) (omega arith) (λ n. (refl, refl)) h
+event_outcomes os b number word (event.Refused l f) h = same_outcomes os b (action.Turn number (cause.Event (record { word = word; kind = event.Refused l f }))) (omega arith) (λ n. (refl, refl)) h
+event_outcomes os b number word (event.Fired k) h = same_outcomes os b (action.Turn number (cause.Event (record { word = word; kind = event.Fired k }))) (omega arith) (λ n. (refl, refl)) h
 event_outcomes os b number word (event.Wrote l count) h = same_outcomes os b (action.Turn number (cause.Event (record { word = word; kind = event.Wrote l count }))) (omega arith) (λ n. (refl, refl)) h
 event_outcomes os b number word (event.Bytes l piece) h = same_outcomes os b (action.Turn number (cause.Event (record { word = word; kind = event.Bytes l piece }))) (omega arith) (λ n. (refl, refl)) h
 event_outcomes os b number word (event.Ended l) h = same_outcomes os b (action.Turn number (cause.Event (record { word = word; kind = event.Ended l }))) (omega arith) (λ n. (refl, refl)) h
@@ -123,11 +125,12 @@ action_outcomes : (os : List (Option Outcome)) (b : Book) (a : Action) → MaySt
 action_outcomes os b (action.Turn number (cause.Opening config word)) may h = same_outcomes os b (action.Turn number (cause.Opening config word)) refl (λ n. (refl, refl)) h
 action_outcomes os b (action.Turn number (cause.Event e)) may h = event_outcomes os b number e.word e.kind h
 action_outcomes os b (action.Connect l host port) may h = same_outcomes os b (action.Connect l host port) refl (λ n. (refl, refl)) h
+action_outcomes os b (action.Timer t ms what) may h = same_outcomes os b (action.Timer t ms what) refl (λ n. (refl, refl)) h
 action_outcomes os b (action.Close l) may h = same_outcomes os b (action.Close l) refl (λ n. (refl, refl)) h
 action_outcomes os b (action.Write l bytes) may h = same_outcomes os b (action.Write l bytes) refl (λ n. (refl, refl)) h
 action_outcomes os b (action.Wait (owner.Try m round) kind) may h = same_outcomes os b (action.Wait (owner.Try m round) kind) refl (wait_same b m round kind) h
 action_outcomes os b (action.Start l k (owner.Try m round) count len) may h = same_outcomes os b (action.Start l k (owner.Try m round) count len) refl (start_same b l k m round count len) h
-action_outcomes os b action.Created may h = same_outcomes os b action.Created refl (λ n. (refl, refl)) h
+action_outcomes os b (action.Created e) may h = same_outcomes os b (action.Created e) refl (λ n. (refl, refl)) h
 action_outcomes os b (action.Outcome n o) (inl may) h = answer_outcomes os b n o may.asked h
 action_outcomes os b (action.Outcome n o) (inr may) h = answer_outcomes os b n o may.asked h
 

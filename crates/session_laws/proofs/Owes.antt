@@ -3,6 +3,7 @@ use Rattle.std.proofs.Common.{◌≡◌, ◌≢◌, inl, inr, ℕ, zero, suc, �
 use Rattle.std.specs.List.{AllByRecursion}
 use Rattle.std.proofs.lemmas.List.{nil_from_length}
 use Rattle.containers.proofs.Choices.{by_test, left_if, eq_from, ne_from, ne_test, not_both}
+use Rattle.redis_error.specs.declared.redis_error.RedisError.{RedisError}
 use Rattle.driver_model.specs.declared.action.Owner.{Owner}
 use Rattle.driver_model.specs.declared.outcome.Outcome.{Outcome}
 use Rattle.driver_model.specs.declared.outcome.Outcome.TheVariants as outcome
@@ -17,13 +18,13 @@ use Rattle.mux_conn.specs.declared.life.Life.TheVariants.{Dialing, Ready, Ended}
 use Rattle.mux_conn.specs.declared.request.Pending.{Pending}
 use Rattle.mux_conn.specs.declared.request.Request.{Request}
 use Rattle.mux_conn.specs.Requests.{name_at, is_open_at}
-use Rattle.legal_trace.specs.Ledger.{full_count, Ledger, Start}
+use Rattle.legal_trace.specs.Ledger.{full_count, Ledger, Start, End, failure_in}
 use Rattle.legal_trace.specs.Story.{Story, bytes_of, shape, last_of, is_open}
 use Rattle.legal_trace.specs.Book.{Book}
 use Rattle.legal_trace.specs.Owed.{owed, owed_to_message, owed_unstarted, owed_to_try}
-use Rattle.legal_trace.specs.Legal.{IsOpen, NoneIsOwed, IsCreated}
+use Rattle.legal_trace.specs.Legal.{IsOpen, NoneIsOwed, IsCreated, FailuresAreShown}
 use Rattle.session_laws.proofs.Numbers.{Rising, IsIn, in_either, rising_in, rising_left, rising_apart}
-use Rattle.session_laws.proofs.Tied.{IsEntry, Inner, link_in, owner_of, owners_of, owners_each, queue_ids, waiting_ids, IsRequest, TiedStory, TiedLife, Tied}
+use Rattle.session_laws.proofs.Tied.{IsEntry, Inner, link_in, owner_of, owners_of, owners_each, queue_ids, waiting_ids, IsRequest, TiedStory, TiedLife, Tied, FailureIsShown, has_ended}
 use Rattle.session_laws.proofs.Names.{get_some, open_within, name_of_some, name_placed, same_name}
 use Rattle.session_laws.proofs.InLine.{AtPlaces, IsInLine, wanted_rises, places_rise, row_ids, wanted_in, line_of, open_in_line}
 
@@ -146,13 +147,13 @@ wanted_entry name l k (e ∷ es) p all (inl same) = record { entry = e; number =
 wanted_entry name l k (e ∷ es) p all (inr i) = let w = wanted_entry name l (suc k) es p all.1 i in record { entry = w.entry; number = w.number; is = w.is; open_as = w.open_as }
 
 -- how far a link has come that has not ended
-pub lives : (l : Ledger) (created : ℕ) (life : Life) → TiedLife l created life → life ≢ Ended → l.end ≡ None
+pub lives : (l : Ledger) (created : ℕ) (life : Life) → TiedLife l created life → has_ended life ≡ false → l.end ≡ None
 lives l created Dialing h n = h.2
 lives l created (Ready link) h n = h.2
-lives l created Ended h n = absurd (n refl)
+lives l created (Ended e) h n = cc
 
 -- nothing is owed to a message that takes items
-row_unowed : (b : Book) (t : Inner) (p : ℕ) → Tied b t → t.life ≢ Ended → p < length t.requests → IsIn p (row_ids (link_in t.life).row) → owed b (name_at t.requests p) ≡ None
+row_unowed : (b : Book) (t : Inner) (p : ℕ) → Tied b t → has_ended t.life ≡ false → p < length t.requests → IsIn p (row_ids (link_in t.life).row) → owed b (name_at t.requests p) ≡ None
 row_unowed b t p h n l i =
     let ledger = b.link t.link in
     let alive = lives ledger b.created t.life h.life n in
@@ -161,18 +162,18 @@ row_unowed b t p h n l i =
     owed_started b t p w.number w.entry.shape h l place ∙ open_unowed (owner_of t.requests) ledger w.number w.entry alive w.open_as
 
 -- nor to one that waits
-later_unowed : (b : Book) (t : Inner) (p : ℕ) → Tied b t → t.life ≢ Ended → p < length t.requests → IsIn p (queue_ids (link_in t.life).queue ++ waiting_ids t.waiting) → owed b (name_at t.requests p) ≡ None
+later_unowed : (b : Book) (t : Inner) (p : ℕ) → Tied b t → has_ended t.life ≡ false → p < length t.requests → IsIn p (queue_ids (link_in t.life).queue ++ waiting_ids t.waiting) → owed b (name_at t.requests p) ≡ None
 later_unowed b t p h n l i = owed_none_started b t p h l (later_unstarted b t p h i) ∙ ap owed_unstarted (lives (b.link t.link) b.created t.life h.life n)
 
 -- and so to none of the line
-pub line_unowed : (b : Book) (t : Inner) (p : ℕ) → Tied b t → t.life ≢ Ended → p < length t.requests → IsIn p (line_of (link_in t.life) t.waiting) → owed b (name_at t.requests p) ≡ None
+pub line_unowed : (b : Book) (t : Inner) (p : ℕ) → Tied b t → has_ended t.life ≡ false → p < length t.requests → IsIn p (line_of (link_in t.life) t.waiting) → owed b (name_at t.requests p) ≡ None
 line_unowed b t p h n l i = elim (in_either p (wanted (link_in t.life).row) (queue_ids (link_in t.life).queue ++ waiting_ids t.waiting) i) [
   | inl j ↦ row_unowed b t p h n l (wanted_in p (link_in t.life).row j)
   | inr j ↦ later_unowed b t p h n l j
 ]
 
 -- where nothing is to be answered, no open submission is owed an outcome
-pub none_owed : (b : Book) (t : Inner) → Tied b t → t.pending ≡ [] → t.life ≢ Ended → NoneIsOwed b
+pub none_owed : (b : Book) (t : Inner) → Tied b t → t.pending ≡ [] → has_ended t.life ≡ false → NoneIsOwed b
 none_owed b t h none n m o =
     let r = open_request b t m h o in
     let i = open_in_line b.story t.requests (link_in t.life) t.waiting t.pending t.started r.number h.lines r.open_at in
@@ -180,27 +181,46 @@ none_owed b t h none n m o =
     ap (owed b) (sym r.named) ∙ line_unowed b t r.number h n (open_within t.requests r.number r.open_at) j
 
 -- on a link that has ended, where none waits, none is open
-pub none_open : (b : Book) (t : Inner) (n : ℕ) → Tied b t → t.pending ≡ [] → t.life ≡ Ended → t.waiting ≡ [] → IsOpen b n → ⊥
-none_open b t m h none over empty o =
+pub none_open : (b : Book) (t : Inner) (e : RedisError) (n : ℕ) → Tied b t → t.pending ≡ [] → t.life ≡ Ended e → t.waiting ≡ [] → IsOpen b n → ⊥
+none_open b t e m h none over empty o =
     let r = open_request b t m h o in
     let i = open_in_line b.story t.requests (link_in t.life) t.waiting t.pending t.started r.number h.lines r.open_at in
     let j = subst (λ ns. IsIn r.number (ns ++ line_of (link_in t.life) t.waiting)) none i in
     let k = subst (λ life. IsIn r.number (line_of (link_in life) t.waiting)) over j in
     subst (λ ws. IsIn r.number (waiting_ids ws)) empty k
 
--- a link was asked for, and where it is up, the creation was shown
+-- where the opening of a link failed, this was shown
+--
+-- what has not ended has not failed
+alive_failure : (end : Option End) (created : ℕ) → end ≡ None → FailureIsShown end created
+alive_failure end created none e fails = absurd (let no : ◌≡◌ {A = Option RedisError} None (Some e) = sym (ap failure_in none) ∙ fails in cc)
+
+-- by how far the link has come
+failure_shown : (l : Ledger) (created : ℕ) (life : Life) → TiedLife l created life → FailureIsShown l.end created
+failure_shown l created Dialing h = alive_failure l.end created h.2
+failure_shown l created (Ready link) h = alive_failure l.end created h.2
+failure_shown l created (Ended e) h = h.2
+
+-- of any link
+pub failures_shown : (b : Book) (t : Inner) → Tied b t → FailuresAreShown b
+failures_shown b t h m = by_test (m == t.link) (FailureIsShown (b.link m).end b.created)
+    (λ same. subst (λ k. FailureIsShown (b.link k).end b.created) (sym (eq_from m t.link same)) (failure_shown (b.link t.link) b.created t.life h.life))
+    (λ other. alive_failure (b.link m).end b.created (h.others m (ne_from m t.link other)).end)
+
+-- a link was asked for, and where it is up, or its opening failed, the creation was shown
 pub created_is : (b : Book) (t : Inner) → Tied b t → IsCreated b
 created_is b t h = record {
   asked = λ e. let asked = h.numbers.links in let one = h.numbers.one in omega arith;
   shown = λ m up. by_test (m == t.link) _
       (λ same. up_created (b.link t.link) b.created t.life h.life (subst (λ k. (b.link k).up ≡ true) (eq_from m t.link same) up))
       (λ other. absurd (not_both (b.link m).up (h.others m (ne_from m t.link other)).up up));
+  failed = failures_shown b t h;
 }
   where
     up_created : (l : Ledger) (created : ℕ) (life : Life) → TiedLife l created life → l.up ≡ true → created ≢ 0
     up_created l created Dialing k up = absurd (not_both l.up k.1 up)
     up_created l created (Ready link) k up = k.3
-    up_created l created Ended k up = absurd (not_both l.up k.0 up)
+    up_created l created (Ended e) k up = absurd (not_both l.up k.0 up)
 
 -- the entries of a row are started one after another
 row_places : (b : Book) (t : Inner) (k : ℕ) (row : List Entry) → Tied b t → AllByRecursion (IsEntry t.requests) row → OpenFrom (owner_of t.requests) (b.link t.link) k row → AtPlaces t.started k (row_ids row)
@@ -208,7 +228,7 @@ row_places b t k [] h all open_all = tt
 row_places b t k (e ∷ es) h all open_all = (stands_started b t e.id k e.shape h all.0.below open_all.0.place, row_places b t (suc k) es h all.1 open_all.1)
 
 -- the entries and all behind them rise, on a link that has not ended
-pub row_in_line : (b : Book) (t : Inner) → Tied b t → t.life ≢ Ended → Rising 0 (row_ids (link_in t.life).row ++ (queue_ids (link_in t.life).queue ++ waiting_ids t.waiting)) (length t.requests)
+pub row_in_line : (b : Book) (t : Inner) → Tied b t → has_ended t.life ≡ false → Rising 0 (row_ids (link_in t.life).row ++ (queue_ids (link_in t.life).queue ++ waiting_ids t.waiting)) (length t.requests)
 row_in_line b t h n =
     let ledger = b.link t.link in
     let row = (link_in t.life).row in
@@ -218,5 +238,5 @@ row_in_line b t h n =
     places_rise 0 t.started (full_count ledger.starts ledger.dealt) (row_ids row) later (length t.requests) places h.lines.line
 
 -- and so does the line
-pub in_line : (b : Book) (t : Inner) → Tied b t → t.life ≢ Ended → IsInLine t.requests (link_in t.life) t.waiting []
+pub in_line : (b : Book) (t : Inner) → Tied b t → has_ended t.life ≡ false → IsInLine t.requests (link_in t.life) t.waiting []
 in_line b t h n = wanted_rises 0 (link_in t.life).row (queue_ids (link_in t.life).queue ++ waiting_ids t.waiting) (length t.requests) (row_in_line b t h n)

@@ -96,7 +96,7 @@ tell_may b t link q qs w not_awaited h ends told =
     let r = request_story b was p h within in
     let g = get_some t.requests p within in
     record {
-      applied = applied_up b was h refl (λ e. cc e) ends;
+      applied = applied_up b was h refl refl ends;
       asked = r.open_is ∙ o;
       unawaited = sym h.lines.packs.0.awaited_is ∙ not_awaited;
       moves = record {

@@ -139,7 +139,7 @@ place_tied b t link q qs w yes_awaited h =
       numbers = numbers_kept b _ _ (with_waiting t (with_queue link []) (q ∷ qs)) _ _ _ _ _ _ h.numbers;
       others = h.others;
       life = h.life;
-      link = λ e. subst (λ x. TiedLink x (b.link t.link) (with_queue link (message_of q ∷ []))) (sym (owners_still t.requests p progress.Placed)) (queue_tied name (b.link t.link) (with_queue link []) (message_of q ∷ []) (h.link (λ e. cc e)));
+      link = λ e. subst (λ x. TiedLink x (b.link t.link) (with_queue link (message_of q ∷ []))) (sym (owners_still t.requests p progress.Placed)) (queue_tied name (b.link t.link) (with_queue link []) (message_of q ∷ []) (h.link refl));
       names = names_progressed t.table t.requests p progress.Placed h.names;
       story = λ n. story_placed (b.story n) t.requests t.link p (slice_get t.table n) o (h.story n);
       tries = tries_placed (b.link t.link) b.story t.requests t.link p t.started h.tries;
@@ -185,7 +185,7 @@ enqueue_tied b t link m queued line h = record {
   numbers = numbers_kept b _ _ (on_link t (with_queue link [])) _ _ _ _ _ _ h.numbers;
   others = h.others;
   life = h.life;
-  link = λ e. queue_tied (owner_of t.requests) (b.link t.link) (with_queue link []) (m ∷ []) (h.link (λ e. cc e));
+  link = λ e. queue_tied (owner_of t.requests) (b.link t.link) (with_queue link []) (m ∷ []) (h.link refl);
   names = h.names;
   story = h.story;
   tries = h.tries;
@@ -205,7 +205,7 @@ enqueue_tied b t link m queued line h = record {
 -- it is none of the others
 apart_from_line : (b : Book) (t : Inner) (link : LinkState) (q : Waiting) (qs : List Waiting) → Tied b (with_waiting t (with_queue link []) (q ∷ qs)) → IsIn q.number (wanted link.row ++ ([] ++ waiting_ids qs)) → ⊥
 apart_from_line b t link q qs h i =
-    let line = in_line b (with_waiting t (with_queue link []) (q ∷ qs)) h (λ e. cc e) in
+    let line = in_line b (with_waiting t (with_queue link []) (q ∷ qs)) h refl in
     elim (in_either q.number (wanted link.row) (waiting_ids qs) i) [
       | inl j ↦ let k = rising_apart 0 (wanted link.row) (q.number ∷ waiting_ids qs) (length t.requests) q.number q.number line j (inl refl) in omega arith
       | inr j ↦ first_is_apart 0 q.number (waiting_ids qs) (length t.requests) (rising_right 0 (wanted link.row) (q.number ∷ waiting_ids qs) (length t.requests) line) j

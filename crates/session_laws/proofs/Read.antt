@@ -3,6 +3,7 @@ use Rattle.std.proofs.Common.{◌≡◌, inl, inr, ℕ, nat_lt, Bool, true, fals
 use Rattle.std.specs.List.{AllByRecursion}
 use Rattle.std.proofs.lemmas.List.{append-nil}
 use Rattle.containers.proofs.Choices.{chosen, taken_if, left_if}
+use Rattle.redis_error.specs.declared.redis_error.RedisError.TheVariants as error
 use Rattle.resp_value.specs.Data.{Data}
 use Rattle.resp_read.specs.Values.{is_spoiled}
 use Rattle.resp_read.specs.Items.{items}
@@ -33,7 +34,7 @@ use Rattle.legal_trace.specs.Story.{Story}
 use Rattle.legal_trace.specs.Book.{book}
 use Rattle.legal_trace.specs.Owed.{owed}
 use Rattle.session_laws.proofs.Numbers.{IsIn, Rising}
-use Rattle.session_laws.proofs.Tied.{inner, link_in, owner_of, queue_ids, waiting_ids, IsEntry, TiedLife, TiedLines}
+use Rattle.session_laws.proofs.Tied.{inner, link_in, owner_of, queue_ids, waiting_ids, IsEntry, TiedLife, TiedLines, has_ended}
 use Rattle.session_laws.proofs.States.{IsWhole, Between, HasApplied}
 use Rattle.session_laws.proofs.InLine.{IsInLine}
 use Rattle.session_laws.proofs.Owes.{in_line}
@@ -101,7 +102,7 @@ read_whole link piece h sound x e = let same : has_read link piece ≡ x = cc in
 -- the link that is up
 --
 -- the turn begins, with those to be answered that the bytes settle
-read_begins : (before : List Action) (c : Core) (started : List ℕ) (word : ℕ) (kind : EventKind) (piece : List ℕ) (link : LinkState) → Between before c started → is_bad c kind ≡ false → IsNewsKind kind → news_of c.single.link kind ≡ came piece
+read_begins : (before : List Action) (c : Core) (started : List ℕ) (word : ℕ) (kind : EventKind) (piece : List ℕ) (link : LinkState) → Between before c started → is_bad c kind ≡ false → IsNewsKind kind → news_of c.timers c.single.link kind ≡ came piece
     → c.single.connection.life ≡ Ready link
     → Begins (before ++ turn_of c word kind ∷ []) (turned c kind) (lives_as c (Ready (has_read link piece))) (has_heard ((book before).link c.single.link) piece) (settled_ids (deals link piece).out) started
 read_begins before c started word kind piece link h good k is e =
@@ -110,7 +111,7 @@ read_begins before c started word kind piece link h good k is e =
     let conn = c.single.connection in
     let name = owner_of conn.requests in
     let u = up_tied name l b.created conn.life link e h.sound.tied.life h.sound.tied.link in
-    let same : heard_by b c (came piece) ≡ has_heard l piece = heard_is l piece u.up in
+    let same : heard_by b c (came piece) ≡ has_heard l piece = heard_is l c.turns piece u.up in
     let begins = heard_begins before c started word kind (came piece) (Ready (has_read link piece)) (settled_ids (deals link piece).out) h good k is (record {
       lived = subst (λ (x : Ledger). TiedLife x b.created (Ready (has_read link piece))) (sym same) (u.asked, u.up, u.alive, u.shown);
       linked = λ n. subst (λ (x : Ledger). TiedLink name x (has_read link piece)) (sym same) (read_tied name l link piece u.alive u.tied);
@@ -124,7 +125,7 @@ abbrev reads : Core → LinkState → List ℕ → Work
 reads c link piece = record { conn = lives_as c (Ready (has_read link piece)); acts = [] }
 
 -- what the bytes settle is answered
-read_answered : (before : List Action) (c : Core) (started : List ℕ) (word : ℕ) (kind : EventKind) (piece : List ℕ) (link : LinkState) → Between before c started → is_bad c kind ≡ false → IsNewsKind kind → news_of c.single.link kind ≡ came piece
+read_answered : (before : List Action) (c : Core) (started : List ℕ) (word : ℕ) (kind : EventKind) (piece : List ℕ) (link : LinkState) → Between before c started → is_bad c kind ≡ false → IsNewsKind kind → news_of c.timers c.single.link kind ≡ came piece
     → c.single.connection.life ≡ Ready link
     → (let front = before ++ turn_of c word kind ∷ [] in let f = turned c kind in
     IsAnswering front f ((book (trace_of_acts front f [])).link c.single.link) (owed (book (trace_of_acts front f []))) (name_at c.single.connection.requests) (settled_each (reads c link piece) (deals link piece).out) [] started)
@@ -141,7 +142,7 @@ read_answered before c started word kind piece link h good k is e =
     let w = reads c link piece in
     let out = (deals link piece).out in
     let ids = settled_ids out in
-    let before_line = subst (λ (x : Life). IsInLine conn.requests (link_in x) conn.waiting []) e (in_line b (inner c started) h.sound.tied (λ over. let no : Ended ≡ Ready link = sym over ∙ e in cc)) in
+    let before_line = subst (λ (x : Life). IsInLine conn.requests (link_in x) conn.waiting []) e (in_line b (inner c started) h.sound.tied (ap has_ended e)) in
     let line : IsInLine conn.requests (has_read link piece) conn.waiting ids = read_in_line conn.requests link piece conn.waiting before_line in
     let all = subst (λ (x : Ledger). AllByRecursion (IsOwed name x) out) (sym begins.ledger) (read_owed name l link piece u.alive u.tied) in
     let due = pending_due now (seen f w.conn ids started) out begins.holds.tied line all in
@@ -149,7 +150,7 @@ read_answered before c started word kind piece link h good k is e =
     (answering front f w (ids ++ []) started (subst (λ ns. Holds front f w ns started) (sym (append-nil ids)) begins.holds) (subst (IsInLine conn.requests (has_read link piece) conn.waiting) (sym (append-nil ids)) line))
 
 -- a link that is up reads on, or is broken and ends
-read_on : (before : List Action) (c : Core) (started : List ℕ) (word : ℕ) (kind : EventKind) (piece : List ℕ) (link : LinkState) → Between before c started → is_bad c kind ≡ false → IsNewsKind kind → news_of c.single.link kind ≡ came piece
+read_on : (before : List Action) (c : Core) (started : List ℕ) (word : ℕ) (kind : EventKind) (piece : List ℕ) (link : LinkState) → Between before c started → is_bad c kind ≡ false → IsNewsKind kind → news_of c.timers c.single.link kind ≡ came piece
     → c.single.connection.life ≡ Ready link
     → HasApplied (before ++ turn_of c word kind ∷ []) (with_work (record { core = turned c kind; acts = [] }) (read_to (record { conn = c.single.connection; acts = [] }) (record { link = has_read link piece; out = (deals link piece).out }))) started
 read_on before c started word kind piece link h good k is e =
@@ -166,8 +167,8 @@ read_on before c started word kind piece link h good k is e =
     let still = settled_leaves (reads c link piece) (deals link piece).out in
     let ends_so = ap ending (a.ledger_is ∙ begins.ledger) ∙ read_ending name l link piece u.up (read_tied name l link piece u.alive u.tied) in
     chosen (λ (x : Work). HasApplied front (with_work (record { core = f; acts = [] }) x) started) after.broken (failed_at v fault.Parse v.conn.life) v
-    (λ t. ended_applied front f (failed_at v fault.Parse v.conn.life) started (λ z. absurd (omega arith))
-    (subst (λ (x : Life). HasEnded front f (failed_at v fault.Parse x) started) (sym still.life)
+    (λ t. ended_applied front f (failed_at v fault.Parse v.conn.life) error.Closed started (λ z. absurd (omega arith))
+    (subst (λ (x : Life). HasEnded front f (failed_at v fault.Parse x) error.Closed started) (sym still.life)
     (fault_ends front f v after fault.Parse started a.holds still.life (h.whole link e).empty (ends_so ∙ taken_if after.broken (Some (by_fault fault.Parse)) None t))))
     (λ n. record {
       sound = a.holds;
@@ -177,13 +178,13 @@ read_on before c started word kind piece link h good k is e =
     })
 
 -- bytes come
-pub read_applied : (before : List Action) (c : Core) (started : List ℕ) (word : ℕ) (kind : EventKind) (piece : List ℕ) → Between before c started → is_bad c kind ≡ false → IsNewsKind kind → news_of c.single.link kind ≡ came piece
+pub read_applied : (before : List Action) (c : Core) (started : List ℕ) (word : ℕ) (kind : EventKind) (piece : List ℕ) → Between before c started → is_bad c kind ≡ false → IsNewsKind kind → news_of c.timers c.single.link kind ≡ came piece
     → HasApplied (before ++ turn_of c word kind ∷ []) (with_work (record { core = turned c kind; acts = [] }) (read_at (record { conn = c.single.connection; acts = [] }) piece c.single.connection.life)) started
 read_applied before c started word kind piece h good k is = by_life c.single.connection.life refl
   where
     by_life : (x : Life) → c.single.connection.life ≡ x → HasApplied (before ++ turn_of c word kind ∷ []) (with_work (record { core = turned c kind; acts = [] }) (read_at (record { conn = c.single.connection; acts = [] }) piece x)) started
     by_life Dialing e = dialing_quiet before c started word kind (came piece) tt h good k is e
-    by_life Ended e = ended_quiet before c started word kind (came piece) h good k is e
+    by_life (Ended x) e = ended_quiet before c started word kind (came piece) x h good k is e
     by_life (Ready link) e =
         subst (λ (s : Settling). HasApplied (before ++ turn_of c word kind ∷ []) (with_work (record { core = turned c kind; acts = [] }) (read_to (record { conn = c.single.connection; acts = [] }) s)) started)
         (sym (reads_on link [] piece (h.whole link e).sound)) (read_on before c started word kind piece link h good k is e)

@@ -6,11 +6,12 @@ use Rattle.containers.proofs.Places.{get_within}
 use Rattle.containers.proofs.Choices.{by_test, eq_from, le_from, le_test, ne_from}
 use Rattle.driver_model.specs.declared.config.Config.{Config}
 use Rattle.driver_model.specs.declared.event.Event.{Event}
+use Rattle.driver_model.specs.declared.action.Purpose.{Purpose}
 use Rattle.mux_conn.specs.Connection.{is_spent_in, started_in}
 use Rattle.mux_conn.specs.declared.life.Life.{Life}
 use Rattle.mux_conn.specs.declared.life.Life.TheVariants.{Dialing, Ended, Ready}
 use Rattle.mux_conn.specs.declared.request.Request.{Request}
-use Rattle.shared_session.specs.Replay.{AreGood, AreGoodOn, is_bad_after, is_spent_after, opening_core, run_on, state_after, trace_of}
+use Rattle.shared_session.specs.Replay.{AreGood, AreGoodOn, is_bad_after, is_spent_after, opening_core, run_on, state_after, trace_of, IsSound}
 use Rattle.shared_session.specs.Turn.{is_bad, has_run_out, spends, next_turn}
 use Rattle.shared_session.specs.declared.core_state.Core.{Core}
 use Rattle.legal_trace.specs.Book.{Book, book}
@@ -20,7 +21,7 @@ use Rattle.shared_session.proofs.Replays.{state_after-more, turns_after}
 use Rattle.session_laws.proofs.Legality.{replay_between}
 use Rattle.session_laws.proofs.Numbers.{Rising, rising_left}
 use Rattle.session_laws.proofs.Start.{owners_length}
-use Rattle.session_laws.proofs.Tied.{Inner, Tied, inner, link_in, queue_ids, waiting_ids}
+use Rattle.session_laws.proofs.Tied.{Inner, Tied, inner, link_in, queue_ids, waiting_ids, has_ended}
 
 -- one event more
 --
@@ -92,19 +93,20 @@ started_here b t h = by_life t.life refl
   where
     by_life : (life : Life) → t.life ≡ life → started_in t.life ≤ length (b.link t.link).starts
     by_life Dialing e = let z = ap started_in e in omega arith
-    by_life Ended e = let z = ap started_in e in omega arith
+    by_life (Ended x) e = let z = ap started_in e in omega arith
     by_life (Ready link) e =
         let z = ap started_in e in
-        let k = h.link (λ x. (let no : Ready link ≡ Ended = sym e ∙ x in cc)) in
+        let k = h.link (ap has_ended e) in
         let s = k.started in
         let i = ap (λ (x : Life). (link_in x).started) e in
         omega arith
 
--- one of three tests
-either_true : (a b c : Bool) → (a || (b || c)) ≡ true → (a ≡ true) ⊎ ((b ≡ true) ⊎ (c ≡ true))
-either_true true b c e = inl refl
-either_true false true c e = inr (inl refl)
-either_true false false c e = inr (inr e)
+-- one of four tests
+either_true : (a b c d : Bool) → (a || (b || (c || d))) ≡ true → (a ≡ true) ⊎ ((b ≡ true) ⊎ ((c ≡ true) ⊎ (d ≡ true)))
+either_true true b c d e = inl refl
+either_true false true c d e = inr (inl refl)
+either_true false false true d e = inr (inr (inl refl))
+either_true false false false d e = inr (inr (inr e))
 
 -- over any bound
 turns_out : (bound turns now next : ℕ) → bound ≤ turns → now ≡ next → next ≡ turns + 1 → bound < now
@@ -119,27 +121,38 @@ as_many : (bound n m : ℕ) → bound ≤ n → m ≡ n → bound ≤ m
 as_many bound n m l e = omega arith
 
 -- by the numbers of the session
-pub run_out_of : (b : Book) (t : Inner) (turns : ℕ) → Tied b t → t.turns ≡ turns + 1 → (nat_le (2 ^ 32) turns || (is_spent_in t.life || nat_le (2 ^ 32) (length t.table))) ≡ true → HasRunOut b
+pub run_out_of : (b : Book) (t : Inner) (turns : ℕ) → Tied b t → t.turns ≡ turns + 1 → (nat_le (2 ^ 32) turns || (is_spent_in t.life || (nat_le (2 ^ 32) (length t.table) || nat_le (2 ^ 32) (length t.timers)))) ≡ true → HasRunOut b
 run_out_of b t turns h count e =
-    elim (either_true (nat_le (2 ^ 32) turns) (is_spent_in t.life) (nat_le (2 ^ 32) (length t.table)) e) [
+    elim (either_true (nat_le (2 ^ 32) turns) (is_spent_in t.life) (nat_le (2 ^ 32) (length t.table)) (nat_le (2 ^ 32) (length t.timers)) e) [
       | inl x ↦ inl (turns_out (2 ^ 32) turns b.turns t.turns (le_from (2 ^ 32) turns x) h.numbers.turns count)
       | inr x ↦ elim x [
-        | inl y ↦ inr (inr (inr (t.link, at_least (2 ^ 32) (started_in t.life) (length (b.link t.link).starts) (le_from (2 ^ 32) (started_in t.life) y) (started_here b t h))))
-        | inr y ↦ inr (inl (as_many (2 ^ 32) (length t.table) b.submissions (le_from (2 ^ 32) (length t.table) y) h.numbers.submissions))
+        | inl y ↦ inr (inr (inr (inr (t.link, at_least (2 ^ 32) (started_in t.life) (length (b.link t.link).starts) (le_from (2 ^ 32) (started_in t.life) y) (started_here b t h)))))
+        | inr y ↦ elim y [
+          | inl z ↦ inr (inl (as_many (2 ^ 32) (length t.table) b.submissions (le_from (2 ^ 32) (length t.table) z) h.numbers.submissions))
+          | inr z ↦ inr (inr (inr (inl (subst (λ (ts : List Purpose). 2 ^ 32 ≤ length ts) (sym h.numbers.timers) (le_from (2 ^ 32) (length t.timers) z)))))
+        ]
       ]
     ]
 
 -- and where they have, it is
 --
-first_true : (a b c : Bool) → a ≡ true → (a || (b || c)) ≡ true
-first_true true b c e = refl
-first_true false b c e = cc
+first_true : (a b c d : Bool) → a ≡ true → (a || (b || (c || d))) ≡ true
+first_true true b c d e = refl
+first_true false b c d e = cc
 
--- the last of three tests
-third_true : (a b c : Bool) → c ≡ true → (a || (b || c)) ≡ true
-third_true true b c e = refl
-third_true false true c e = refl
-third_true false false c e = e
+-- the third of four tests
+third_true : (a b c d : Bool) → c ≡ true → (a || (b || (c || d))) ≡ true
+third_true true b c d e = refl
+third_true false true c d e = refl
+third_true false false true d e = refl
+third_true false false false d e = cc
+
+-- and the last
+last_true : (a b c d : Bool) → d ≡ true → (a || (b || (c || d))) ≡ true
+last_true true b c d e = refl
+last_true false true c d e = refl
+last_true false false true d e = refl
+last_true false false false d e = e
 
 -- the turn before
 turns_then : (bound turns now next : ℕ) → bound < now → now ≡ next → next ≡ turns + 1 → bound ≤ turns
@@ -163,23 +176,27 @@ none_started_many : (starts : List Start) → starts ≡ [] → 2 ^ 32 ≤ lengt
 none_started_many starts e many = let z : length starts ≡ 0 = ap length e in omega arith
 
 -- by the numbers of the session
-pub spent_of : (b : Book) (t : Inner) (turns : ℕ) → Tied b t → t.turns ≡ turns + 1 → HasRunOut b → (nat_le (2 ^ 32) turns || (is_spent_in t.life || nat_le (2 ^ 32) (length t.table))) ≡ true
+pub spent_of : (b : Book) (t : Inner) (turns : ℕ) → Tied b t → t.turns ≡ turns + 1 → HasRunOut b → (nat_le (2 ^ 32) turns || (is_spent_in t.life || (nat_le (2 ^ 32) (length t.table) || nat_le (2 ^ 32) (length t.timers)))) ≡ true
 spent_of b t turns h count out =
     let first = nat_le (2 ^ 32) turns in
     let second = is_spent_in t.life in
     let third = nat_le (2 ^ 32) (length t.table) in
+    let last = nat_le (2 ^ 32) (length t.timers) in
     elim out [
-      | inl l ↦ first_true first second third (le_test (2 ^ 32) turns (turns_then (2 ^ 32) turns b.turns t.turns l h.numbers.turns count))
+      | inl l ↦ first_true first second third last (le_test (2 ^ 32) turns (turns_then (2 ^ 32) turns b.turns t.turns l h.numbers.turns count))
       | inr x ↦ elim x [
-        | inl l ↦ third_true first second third (le_test (2 ^ 32) (length t.table) (as_many (2 ^ 32) b.submissions (length t.table) l (sym h.numbers.submissions)))
+        | inl l ↦ third_true first second third last (le_test (2 ^ 32) (length t.table) (as_many (2 ^ 32) b.submissions (length t.table) l (sym h.numbers.submissions)))
         | inr y ↦ elim y [
           | inl l ↦ absurd (one_link b t h l)
-          | inr m ↦ by_test (m.0 == t.link) _
-              (λ e.
-              let here = subst (λ l. 2 ^ 32 ≤ length (b.link l).starts) (eq_from m.0 t.link e) m.1 in
-              let within = at_least (2 ^ 32) (length t.requests) (length t.table) (at_least (2 ^ 32) (length (b.link t.link).starts) (length t.requests) here (starts_fewer b t h)) (requests_fewer b t h) in
-              third_true first second third (le_test (2 ^ 32) (length t.table) within))
-              (λ o. absurd (none_started_many (b.link m.0).starts (h.others m.0 (ne_from m.0 t.link o)).starts m.1))
+          | inr z ↦ elim z [
+            | inl l ↦ last_true first second third last (le_test (2 ^ 32) (length t.timers) (subst (λ (ts : List Purpose). 2 ^ 32 ≤ length ts) h.numbers.timers l))
+            | inr m ↦ by_test (m.0 == t.link) _
+                (λ e.
+                let here = subst (λ l. 2 ^ 32 ≤ length (b.link l).starts) (eq_from m.0 t.link e) m.1 in
+                let within = at_least (2 ^ 32) (length t.requests) (length t.table) (at_least (2 ^ 32) (length (b.link t.link).starts) (length t.requests) here (starts_fewer b t h)) (requests_fewer b t h) in
+                third_true first second third last (le_test (2 ^ 32) (length t.table) within))
+                (λ o. absurd (none_started_many (b.link m.0).starts (h.others m.0 (ne_from m.0 t.link o)).starts m.1))
+          ]
         ]
       ]
     ]
@@ -187,24 +204,24 @@ spent_of b t turns h count out =
 -- the last number
 --
 -- the session behind one more event, and the book of its trace
-next_tied : (config : Config) (word : ℕ) (events : List Event) (e : Event) → AreGood config word events → is_bad_after config word events e ≡ false
+next_tied : (config : Config) (word : ℕ) (events : List Event) (e : Event) → IsSound config → AreGood config word events → is_bad_after config word events e ≡ false
     → (started : List ℕ) × Tied (book (trace_of config word (events ++ e ∷ []))) (inner (next_turn (state_after config word events) e.kind).core started)
-next_tied config word events e good fine =
-    let h = replay_between config word (events ++ e ∷ []) (are_good_more config word events e good fine) in
+next_tied config word events e sound good fine =
+    let h = replay_between config word (events ++ e ∷ []) sound (are_good_more config word events e good fine) in
     (h.started, subst (λ c. Tied (book (trace_of config word (events ++ e ∷ []))) (inner c h.started)) (state_after-more config word events e) h.between.sound.tied)
 
 -- a spent step gives out the last number
-pub spent_run_out : (config : Config) (word : ℕ) (events : List Event) (e : Event) → AreGood config word events → is_bad_after config word events e ≡ false → is_spent_after config word events e ≡ true → HasRunOut (book (trace_of config word (events ++ e ∷ [])))
+pub spent_run_out : (config : Config) (word : ℕ) (events : List Event) (e : Event) → IsSound config → AreGood config word events → is_bad_after config word events e ≡ false → is_spent_after config word events e ≡ true → HasRunOut (book (trace_of config word (events ++ e ∷ [])))
 unfolding spends has_run_out
-spent_run_out config word events e good fine spent =
+spent_run_out config word events e sound good fine spent =
     let c = state_after config word events in
-    let h = next_tied config word events e good fine in
+    let h = next_tied config word events e sound good fine in
     run_out_of (book (trace_of config word (events ++ e ∷ []))) (inner (next_turn c e.kind).core h.0) c.turns h.1 (turn_counted config word events e) spent
 
 -- and one that gives it out is spent
-pub run_out_spent : (config : Config) (word : ℕ) (events : List Event) (e : Event) → AreGood config word events → is_bad_after config word events e ≡ false → HasRunOut (book (trace_of config word (events ++ e ∷ []))) → is_spent_after config word events e ≡ true
+pub run_out_spent : (config : Config) (word : ℕ) (events : List Event) (e : Event) → IsSound config → AreGood config word events → is_bad_after config word events e ≡ false → HasRunOut (book (trace_of config word (events ++ e ∷ []))) → is_spent_after config word events e ≡ true
 unfolding spends has_run_out
-run_out_spent config word events e good fine out =
+run_out_spent config word events e sound good fine out =
     let c = state_after config word events in
-    let h = next_tied config word events e good fine in
+    let h = next_tied config word events e sound good fine in
     spent_of (book (trace_of config word (events ++ e ∷ []))) (inner (next_turn c e.kind).core h.0) c.turns h.1 (turn_counted config word events e) out

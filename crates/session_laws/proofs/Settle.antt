@@ -2,9 +2,11 @@
 use Rattle.std.proofs.Common.{is_some, ◌≡◌, inl, ℕ, suc, true, false, List, [], ◌∷◌, ◌++◌, length, Option, Some, refl, sym, ap, ◌∙◌, subst, arith}
 use Rattle.std.specs.List.{AllByRecursion}
 use Rattle.containers.proofs.Choices.{chosen, not_both}
+use Rattle.redis_error.specs.declared.redis_error.RedisError.{RedisError}
 use Rattle.driver_model.specs.declared.action.Action.{Action}
 use Rattle.driver_model.specs.declared.outcome.Outcome.{Outcome}
 use Rattle.driver_model.specs.Shape.{outcome_of}
+use Rattle.driver_model.specs.declared.outcome.Outcome.TheVariants as outcome
 use Rattle.link_core.specs.declared.message.Settled.{Settled}
 use Rattle.link_core.specs.Link.{LinkState}
 use Rattle.link_laws.specs.Settles.{settled_ids}
@@ -18,7 +20,7 @@ use Rattle.mux_conn.specs.declared.request.Request.{Request}
 use Rattle.mux_conn.specs.declared.request.Waiting.{Waiting}
 use Rattle.mux_conn.specs.Connection.{Work}
 use Rattle.mux_conn.specs.Requests.{is_open_at, name_at, at_progress, answered}
-use Rattle.mux_conn.specs.Effects.{closed, settled_each, closed_each}
+use Rattle.mux_conn.specs.Effects.{settled_each, failed_each}
 use Rattle.shared_session.specs.declared.core_state.Core.{Core}
 use Rattle.shared_session.specs.Turn.{shown, shown_each}
 use Rattle.legal_trace.specs.Ledger.{Ledger, is_over}
@@ -26,7 +28,7 @@ use Rattle.legal_trace.specs.Book.{Book, book, entered}
 use Rattle.legal_trace.specs.Owed.{owed}
 use Rattle.legal_trace.specs.Legal.{MayStand, MayAnswer}
 use Rattle.session_laws.proofs.Numbers.{Rising, rising_from}
-use Rattle.session_laws.proofs.Tied.{Inner, link_in, TiedLife, Tied, Sound, waiting_ids}
+use Rattle.session_laws.proofs.Tied.{Inner, link_in, TiedLife, Tied, Sound, waiting_ids, has_ended}
 use Rattle.session_laws.proofs.Entered.{book_more, sound_more, shown_more}
 use Rattle.session_laws.proofs.Names.{open_within, name_still, length_still}
 use Rattle.session_laws.proofs.InLine.{line_of, IsInLine, open_in_line, first_is_least}
@@ -38,6 +40,7 @@ seen f conn pending started = record {
   turns = f.turns;
   links = f.links;
   link = f.single.link;
+  timers = f.timers;
   shut = f.shut;
   table = f.table;
   life = conn.life;
@@ -82,10 +85,10 @@ pub answering : (before : List Action) (f : Core) (w : Work) (pending started : 
 answering before f w pending started h line = record { holds = h; line = line; ledger_is = refl; owed_is = λ n. refl; named = λ p. refl }
 
 -- a link that is over has ended
-over_life : (l : Ledger) (created : ℕ) (life : Life) → TiedLife l created life → is_over l ≡ true → life ≡ Ended
+over_life : (l : Ledger) (created : ℕ) (life : Life) → TiedLife l created life → is_over l ≡ true → has_ended life ≡ true
 over_life l created Dialing h over = absurd (not_both (is_over l) (ap is_some h.2) over)
 over_life l created (Ready link) h over = absurd (not_both (is_over l) (ap is_some h.2) over)
-over_life l created Ended h over = refl
+over_life l created (Ended e) h over = refl
 
 -- the first of those that are to be answered may be
 pub first_may : (b : Book) (t : Inner) (p : ℕ) (pending : List ℕ) (o : Outcome) → Tied b (record t { pending = p ∷ pending }) → IsInLine t.requests (link_in t.life) t.waiting (p ∷ pending) → is_open_at t.requests p ≡ true
@@ -140,13 +143,13 @@ answered_holds before f ledger owes name w p o pending started due h =
     (λ t. one_answered before f ledger owes name w p o pending started due t h)
     (λ e. one_skipped before f ledger owes name w p pending started e h)
 
--- a message that was settled is due what it came to, and a request that waits the closed connection
+-- a message that was settled is due what it came to
 abbrev pub IsDue : (ℕ → Option Outcome) → (ℕ → ℕ) → Settled → Type 0
 IsDue owes name s = owes (name s.id) ≡ Some (outcome_of s.verdict)
 
--- a request that waits is due the closed connection
-abbrev pub IsDueClosed : (ℕ → Option Outcome) → (ℕ → ℕ) → Waiting → Type 0
-IsDueClosed owes name q = owes (name q.number) ≡ Some closed
+-- a request that waits is due this error
+abbrev pub IsDueError : (ℕ → Option Outcome) → (ℕ → ℕ) → RedisError → Waiting → Type 0
+IsDueError owes name e q = owes (name q.number) ≡ Some (outcome.Fault e)
 
 -- each that was settled is answered
 pub settled_holds : (before : List Action) (f : Core) (ledger : Ledger) (owes : ℕ → Option Outcome) (name : ℕ → ℕ) (w : Work) (ss : List Settled) (pending started : List ℕ) → AllByRecursion (IsDue owes name) ss
@@ -155,12 +158,13 @@ settled_holds before f ledger owes name w [] pending started due h = h
 settled_holds before f ledger owes name w (s ∷ ss) pending started due h =
     settled_holds before f ledger owes name (answered w s.id (outcome_of s.verdict)) ss pending started due.1 (answered_holds before f ledger owes name w s.id (outcome_of s.verdict) (settled_ids ss ++ pending) started due.0 h)
 
--- each of these requests is answered with the closed connection
-pub closed_holds : (before : List Action) (f : Core) (ledger : Ledger) (owes : ℕ → Option Outcome) (name : ℕ → ℕ) (w : Work) (qs : List Waiting) (pending started : List ℕ) → AllByRecursion (IsDueClosed owes name) qs
-    → IsAnswering before f ledger owes name w (waiting_ids qs ++ pending) started → IsAnswering before f ledger owes name (closed_each w qs) pending started
-closed_holds before f ledger owes name w [] pending started due h = h
-closed_holds before f ledger owes name w (q ∷ qs) pending started due h =
-    closed_holds before f ledger owes name (answered w q.number closed) qs pending started due.1 (answered_holds before f ledger owes name w q.number closed (waiting_ids qs ++ pending) started due.0 h)
+-- each of these requests is answered with this error
+pub failed_holds : (before : List Action) (f : Core) (ledger : Ledger) (owes : ℕ → Option Outcome) (name : ℕ → ℕ) (w : Work) (e : RedisError) (qs : List Waiting) (pending started : List ℕ) → AllByRecursion (IsDueError owes name e) qs
+    → IsAnswering before f ledger owes name w (waiting_ids qs ++ pending) started → IsAnswering before f ledger owes name (failed_each w e qs) pending started
+failed_holds before f ledger owes name w e [] pending started due h = h
+failed_holds before f ledger owes name w e (q ∷ qs) pending started due h =
+    failed_holds before f ledger owes name (answered w q.number (outcome.Fault e)) e qs pending started due.1
+    (answered_holds before f ledger owes name w q.number (outcome.Fault e) (waiting_ids qs ++ pending) started due.0 h)
 
 -- what answers leave as it was
 pub record Leaves (w v : Work) : Type 0 where
@@ -184,8 +188,8 @@ settled_leaves w (s ∷ ss) =
     leaves_on w v (settled_each v ss) (answered_leaves w s.id (outcome_of s.verdict)) (settled_leaves v ss)
 
 -- and those to what waited
-pub closed_leaves : (w : Work) (qs : List Waiting) → Leaves w (closed_each w qs)
-closed_leaves w [] = record { life = refl; waiting = refl; fresh = refl }
-closed_leaves w (q ∷ qs) =
-    let v = answered w q.number closed in
-    leaves_on w v (closed_each v qs) (answered_leaves w q.number closed) (closed_leaves v qs)
+pub failed_leaves : (w : Work) (e : RedisError) (qs : List Waiting) → Leaves w (failed_each w e qs)
+failed_leaves w e [] = record { life = refl; waiting = refl; fresh = refl }
+failed_leaves w e (q ∷ qs) =
+    let v = answered w q.number (outcome.Fault e) in
+    leaves_on w v (failed_each v e qs) (answered_leaves w q.number (outcome.Fault e)) (failed_leaves v e qs)

@@ -1,6 +1,6 @@
 -- The waits of a turn are shown, and the turn is settled.
 use Rattle.mux_conn.specs.Turn.{written}
-use Rattle.std.proofs.Common.{List, [], ap, inl, inr, refl, subst, sym, true, ℕ, ◌++◌, ◌∙◌, ◌∷◌, ◌≡◌, ◌≢◌, ◌⊎◌}
+use Rattle.std.proofs.Common.{List, [], ap, inl, inr, refl, subst, sym, true, ℕ, ◌++◌, ◌∙◌, ◌∷◌, ◌≡◌, ◌≢◌, ◌⊎◌, false}
 use Rattle.std.specs.Prelude.{if◌then◌else◌}
 use Rattle.containers.proofs.Choices.{chosen, not_both}
 use Rattle.driver_model.specs.declared.action.Action.{Action}
@@ -28,7 +28,7 @@ use Rattle.session_laws.proofs.Owes.{lives, none_open, open_request, stands_star
 use Rattle.session_laws.proofs.Place.{waiting_open}
 use Rattle.session_laws.proofs.Settle.{book_of_more, holds_more, seen, trace_of_acts}
 use Rattle.session_laws.proofs.States.{Between, HasApplied, IsWholeIn, trace_with}
-use Rattle.session_laws.proofs.Tied.{Inner, IsNew, Tied, TiedLife, link_in, owner_of, queue_ids, waiting_ids}
+use Rattle.session_laws.proofs.Tied.{Inner, IsNew, Tied, TiedLife, link_in, owner_of, queue_ids, waiting_ids, has_ended}
 use Rattle.session_laws.proofs.Told.{NoneTold, wait_told}
 use Rattle.session_laws.proofs.Waits.{dialing_holds, dialing_waits, unshown_tied, wait_may, wait_tied, with_fresh}
 use Rattle.session_laws.proofs.Write.{HasWritten, is_written, moved_book, written_holds}
@@ -63,7 +63,7 @@ same_shown before f w h tied = record {
 dialing_is : (life : Life) → awaits_connect life ≡ true → life ≡ Dialing
 dialing_is Dialing e = refl
 dialing_is (Ready link) e = cc
-dialing_is Ended e = cc
+dialing_is (Ended x) e = cc
 
 -- and back
 is_dialing_of : (life : Life) → life ≡ Dialing → awaits_connect life ≡ true
@@ -128,7 +128,7 @@ row_goes : (b : Book) (t : Inner) (n : ℕ) → Tied b t → t.pending ≡ [] �
 row_goes b t n h none written link life queue waiting asked =
     let l = b.link t.link in
     let name = owner_of t.requests in
-    let alive : t.life ≢ Ended = λ e. (let no : Ready link ≡ Ended = sym life ∙ e in cc) in
+    let alive : has_ended t.life ≡ false = ap has_ended life in
     let r = open_request b t n h asked in
     let within = open_within t.requests r.number r.open_at in
     let i = open_in_line b.story t.requests (link_in t.life) t.waiting t.pending t.started r.number h.lines r.open_at in
@@ -169,7 +169,7 @@ is_settled b t h none fresh whole waits written = record { written = written; go
     by_life : (life : Life) → t.life ≡ life → (n : ℕ) → IsOpen b n → IsStarted b n ⊎ IsWaiting b n
     by_life Dialing e n asked = inr (dialing_goes b t n h none fresh e asked)
     by_life (Ready link) e n asked = inl (row_goes b t n h none written link e (whole link e).empty (waits (λ x. (let no : Ready link ≡ Dialing = sym e ∙ x in cc))) asked)
-    by_life Ended e n asked = absurd (none_open b t n h none e (waits (λ x. (let no : Ended ≡ Dialing = sym e ∙ x in cc))) asked)
+    by_life (Ended y) e n asked = absurd (none_open b t y n h none e (waits (λ x. (let no : Ended y ≡ Dialing = sym e ∙ x in cc))) asked)
 
 -- a turn's end
 --

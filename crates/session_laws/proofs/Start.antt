@@ -176,7 +176,7 @@ start_tied b t link q qs h =
     let within = first_within b.story t.requests link t.waiting t.started q qs h.lines in
     let new = first_new b.story t.requests link t.waiting t.started q qs h.lines in
     let s = start_from name q in
-    let up = h.link (λ e. cc e) in
+    let up = h.link refl in
     let g = get_some t.requests q.id within in
     tied_by (entered b (start_action t link q)) (after_start t link q qs) (noted l (begins s))
     (mine_noted l t.link (begins (message_of b (name q.id))) ∙ ap (λ x. noted l (begins x)) (same_start b t.requests q is))

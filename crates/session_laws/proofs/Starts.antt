@@ -48,7 +48,7 @@ start_may b t link q qs h ended told =
     (λ y. inl (r.open_is ∙ is.open_at y))
     (λ f. inr (record { unawaited = sym is.is_of.awaited_is ∙ f; told = is.told f })) in
     record {
-      applied = applied_up b was h refl (λ e. cc e) ended;
+      applied = applied_up b was h refl refl ended;
       wanted = either;
       moves = record {
         unstarted = ap (λ x. (b.story x).tries) (name_of_some t.requests q.id g.0 g.1) ∙ h.tries.untried q.id g.0 g.1 (first_new b.story t.requests link t.waiting t.started q qs h.lines);
@@ -57,7 +57,7 @@ start_may b t link q qs h ended told =
       };
       in_order = first_to_move b was q.id (queue_ids qs ++ waiting_ids t.waiting) h refl told refl;
       on_its_link = sym r.on;
-      next = (h.link (λ e. cc e)).started;
+      next = (h.link refl).started;
       needs_its_items = ap need_of is.is_of.shape_is;
       long_as_its_bytes = ap length is.is_of.packs;
     }

@@ -18,9 +18,9 @@ use Rattle.legal_trace.specs.Ledger.{is_over}
 use Rattle.legal_trace.specs.Story.{Story, Try, blank_story, is_open, bytes_of, handed_in, answered, last_of}
 use Rattle.legal_trace.specs.Book.{Book, entered, if_own, current}
 use Rattle.legal_trace.specs.Owed.{owed, owed_to_try}
-use Rattle.legal_trace.specs.Legal.{IsOpen, link_of, NoneIsOwed, NoneEnds, MayAnswer}
+use Rattle.legal_trace.specs.Legal.{IsOpen, link_of, NoneIsOwed, NoneEnds, MayAnswer, FailuresAreShown}
 use Rattle.session_laws.proofs.Numbers.{IsIn, in_left, in_right, Rising, rising_in}
-use Rattle.session_laws.proofs.Tied.{inner, link_in, owner_of, queue_ids, waiting_ids, IsRefused, TiedStory, IsNew, Tied}
+use Rattle.session_laws.proofs.Tied.{inner, link_in, owner_of, queue_ids, waiting_ids, IsRefused, TiedStory, IsNew, Tied, no_opening}
 use Rattle.session_laws.proofs.Names.{there_within, names_refused}
 use Rattle.session_laws.proofs.Owes.{started_within}
 use Rattle.session_laws.proofs.Answer.{owed_in}
@@ -86,8 +86,8 @@ new_owed b now what e (inr h) =
     left_if b.shut (Some (outcome.Fault error.Closed)) _ h.0 ∙ taken_if (length (packed_bytes what) == 0) (Some (outcome.Fault error.EmptyCommand)) _ h.1 ∙ ap (λ x. Some (outcome.Fault x)) (sym h.2)
 
 -- its outcome may stand
-pub may_refuse : (b : Book) (c : Core) (started : List ℕ) (word : ℕ) (what : Submission) (e : RedisError) → Tied b (inner c started) → NoneIsOwed b → NoneEnds b → IsErrorOf b.shut what e → MayAnswer (entered b (turn_of c word (event.Submit what))) (length c.table) (outcome.Fault e)
-may_refuse b c started word what e h none no_end why =
+pub may_refuse : (b : Book) (c : Core) (started : List ℕ) (word : ℕ) (what : Submission) (e : RedisError) → Tied b (inner c started) → NoneIsOwed b → NoneEnds b → FailuresAreShown b → IsErrorOf b.shut what e → MayAnswer (entered b (turn_of c word (event.Submit what))) (length c.table) (outcome.Fault e)
+may_refuse b c started word what e h none no_end shown why =
     let now = entered b (turn_of c word (event.Submit what)) in
     let size = length c.table in
     let own = story_is_new b c started what h in
@@ -99,10 +99,11 @@ may_refuse b c started word what e h none no_end why =
       owes = ap (owed_in now) own ∙ new_owed b now what e why;
       in_order = λ m less asked same. others m (λ x. absurd (omega arith)) asked;
       after_closes = λ over. (
-        (λ l. silent_no_end (b.link l)),
+        (λ l. silent_no_end (b.link l) c.turns),
         (λ m asked alive. by_test (m == size) _
             (λ t. absurd (not_both (is_over (link_of now size)) (subst (λ k. is_over (link_of now k) ≡ false) (eq_from m size t) alive) over))
             (λ o. others m (ne_from m size o) asked)),
+        shown,
       );
     }
 
@@ -138,7 +139,7 @@ refused_tied b c started word what e h no_fresh =
     let at : (p : ℕ) → IsIn p (started ++ (queue ++ last)) → p < length conn.requests = λ p i. within_line conn.requests started queue last p h.lines.line i in
     let story = story_at c.table b.story after conn.requests conn.requests in
     record {
-      numbers = record { turns = ap (λ m. m + 1) h.numbers.turns; links = h.numbers.links; submissions = (let k = h.numbers.submissions in omega (arith, length-append c.table (None ∷ []))); shut = ap (λ s. s || false) h.numbers.shut; one = h.numbers.one; only = h.numbers.only };
+      numbers = record { turns = ap (λ m. m + 1) h.numbers.turns; links = h.numbers.links; timers = h.numbers.timers; aims = h.numbers.aims; timed = λ config other opens bounded none. no_opening _ config other opens; submissions = (let k = h.numbers.submissions in omega (arith, length-append c.table (None ∷ []))); shut = ap (λ s. s || false) h.numbers.shut; one = h.numbers.one; only = h.numbers.only };
       others = λ m other. let u = h.others m other in record { asked = u.asked; up = u.up; end = u.end; starts = u.starts };
       life = told_life ledger b.created conn.life silence h.life;
       link = λ alive. told_tied (owner_of conn.requests) ledger (link_in conn.life) ledger.asked ledger.up silence (h.link alive);

@@ -5,11 +5,17 @@ use Rattle.redis_error.specs.declared.redis_error.RedisError.{RedisError}
 use Rattle.resp_value.specs.declared.value.Value.TheVariants.{Nil}
 use Rattle.driver_model.specs.declared.action.Action.{Action}
 use Rattle.driver_model.specs.declared.action.Owner.{Owner}
+use Rattle.driver_model.specs.declared.action.Cause.{Cause}
+use Rattle.driver_model.specs.declared.action.Purpose.{Purpose}
 use Rattle.driver_model.specs.declared.action.Owner.TheVariants as owner
 use Rattle.driver_model.specs.declared.action.WaitKind.TheVariants as wait
 use Rattle.driver_model.specs.declared.event.Submission.{Submission}
+use Rattle.driver_model.specs.declared.event.Event.{Event}
 use Rattle.driver_model.specs.declared.outcome.Outcome.TheVariants as outcome
 use Rattle.driver_model.specs.declared.outcome.Shape.{Shape}
+use Rattle.driver_model.specs.declared.action.Cause.TheVariants as cause
+use Rattle.driver_model.specs.declared.action.Purpose.TheVariants as purpose
+use Rattle.driver_model.specs.declared.config.Config.{Config}
 use Rattle.link_core.specs.declared.message.Entry.{Entry}
 use Rattle.link_core.specs.declared.message.Queued.{Queued}
 use Rattle.link_core.specs.Link.{LinkState}
@@ -23,20 +29,23 @@ use Rattle.mux_conn.specs.declared.request.Waiting.{Waiting}
 use Rattle.mux_conn.specs.Requests.{name_at, is_open_at, is_waiting_at}
 use Rattle.mux_conn.specs.Effects.{new_link}
 use Rattle.shared_session.specs.declared.core_state.Core.{Core}
-use Rattle.legal_trace.specs.Ledger.{Ledger, Start}
+use Rattle.legal_trace.specs.Ledger.{Ledger, Start, End, failure_in}
 use Rattle.legal_trace.specs.Story.{Story, blank_story, is_open, bytes_of, shape, is_awaited}
 use Rattle.legal_trace.specs.Book.{Book, blank_book, book}
-use Rattle.legal_trace.specs.Legal.{AllStand}
+use Rattle.legal_trace.specs.Legal.{AllStand, IsTimed}
+use Rattle.legal_trace.specs.Owed.{owed_unstarted}
 use Rattle.session_laws.proofs.Numbers.{IsIn, Rising}
 
 -- what counts of a session in the middle of a turn: how many turns it has begun, how many links it has asked for and which
--- of them is its connection's, whether everything was shut down, the request of each submission; its connection's life and
+-- of them is its connection's, what each timer was asked for, whether everything was shut down, the request of each
+-- submission; its connection's life and
 -- requests, those that still wait to be moved, those whose wait isn't shown yet; the requests that are settled and not
 -- answered yet; and the requests whose messages started, in order
 pub record Inner : Type 0 where
   pub turns : ℕ
   pub links : ℕ
   pub link : ℕ
+  pub timers : List Purpose
   pub shut : Bool
   pub table : List (Option Pending)
   pub life : Life
@@ -50,7 +59,13 @@ pub record Inner : Type 0 where
 abbrev pub link_in : Life → LinkState
 link_in Dialing = new_link
 link_in (Ready link) = link
-link_in Ended = new_link
+link_in (Ended e) = new_link
+
+-- it takes no more messages
+abbrev pub has_ended : Life → Bool
+has_ended Dialing = false
+has_ended (Ready link) = false
+has_ended (Ended e) = true
 
 -- whose message a request's is
 abbrev pub owner_of : List Request → ℕ → Owner
@@ -73,11 +88,19 @@ abbrev pub owners_each : List Request → List ℕ → List Owner
 owners_each requests [] = []
 owners_each requests (p ∷ ps) = owner_of requests p ∷ owners_each requests ps
 
--- the numbers that the session gives are those of the book, and its connection's link is the only one
+-- all timers are for this link
+abbrev pub AreAimed : List Purpose → ℕ → Type 0
+AreAimed timers link = (k : ℕ) (what : Purpose) → slice_get timers k ≡ Some what → what ≡ purpose.Connect link
+
+-- the numbers that the session gives are those of the book; its connection's link is the only one, which all timers are
+-- for, and the opening has asked for its timer
 pub record TiedNumbers (b : Book) (t : Inner) : Type 0 where
   pub turns : b.turns ≡ t.turns
   pub links : b.links ≡ t.links
   pub submissions : b.submissions ≡ length t.table
+  pub timers : b.timers ≡ t.timers
+  pub aims : AreAimed t.timers t.link
+  pub timed : IsTimed b
   pub shut : b.shut ≡ t.shut
   pub one : t.links ≡ t.link + 1
   pub only : (m : ℕ) → m < t.links → m ≡ t.link
@@ -89,11 +112,15 @@ pub record IsUnknown (l : Ledger) : Type 0 where
   pub end : l.end ≡ None
   pub starts : l.starts ≡ []
 
--- how far the link has come
+-- where the opening failed, this was shown
+abbrev pub FailureIsShown : Option End → ℕ → Type 0
+FailureIsShown end created = (e : RedisError) → failure_in end ≡ Some e → created ≢ 0
+
+-- how far the link has come; where it has ended, a submission without a message gets this error
 abbrev pub TiedLife : Ledger → ℕ → Life → Type 0
 TiedLife l created Dialing = (l.asked ≡ true) × (l.up ≡ false) × (l.end ≡ None) × (created ≡ 0)
 TiedLife l created (Ready link) = (l.asked ≡ true) × (l.up ≡ true) × (l.end ≡ None) × (created ≢ 0)
-TiedLife l created Ended = (l.up ≡ false) × (l.end ≢ None)
+TiedLife l created (Ended e) = (l.up ≡ false) × (owed_unstarted l.end ≡ Some (outcome.Fault e)) × FailureIsShown l.end created
 
 -- each request has the name of a submission, whose request it is, and names rise with the requests
 pub record TiedNames (table : List (Option Pending)) (requests : List Request) : Type 0 where
@@ -176,7 +203,7 @@ pub record Tied (b : Book) (t : Inner) : Type 0 where
   pub numbers : TiedNumbers b t
   pub others : (m : ℕ) → m ≢ t.link → IsUnknown (b.link m)
   pub life : TiedLife (b.link t.link) b.created t.life
-  pub link : t.life ≢ Ended → TiedLink (owner_of t.requests) (b.link t.link) (link_in t.life)
+  pub link : has_ended t.life ≡ false → TiedLink (owner_of t.requests) (b.link t.link) (link_in t.life)
   pub names : TiedNames t.table t.requests
   pub story : (n : ℕ) → TiedStory (b.story n) t.requests t.link (slice_get t.table n)
   pub tries : TiedTries (b.link t.link) b.story t.requests t.link t.started
@@ -194,6 +221,7 @@ inner c started = record {
   turns = c.turns;
   links = c.links;
   link = c.single.link;
+  timers = c.timers;
   shut = c.shut;
   table = c.table;
   life = c.single.connection.life;
@@ -204,13 +232,17 @@ inner c started = record {
   started = started;
 }
 
+-- a turn of an event isn't the opening
+pub no_opening : (e : Event) (config : Config) (word : ℕ) → ◌≡◌ {A = Option Cause} (Some (cause.Event e)) (Some (cause.Opening config word)) → ⊥
+no_opening e config word is = cc
+
 -- requests move between those that wait, those whose wait isn't shown yet, and those that are to be answered: the session
 -- stays tied where its lines and its waits are
 pub relined : (b : Book) (t : Inner) (waiting : List Waiting) (fresh pending : List ℕ) → Tied b t
     → TiedLines b.story t.requests (link_in t.life) waiting pending t.started → TiedWaits b.story t.requests t.life fresh
     → Tied b (record t { waiting = waiting; fresh = fresh; pending = pending })
 relined b t waiting fresh pending h lines waits = record {
-  numbers = record { turns = h.numbers.turns; links = h.numbers.links; submissions = h.numbers.submissions; shut = h.numbers.shut; one = h.numbers.one; only = h.numbers.only };
+  numbers = record { turns = h.numbers.turns; links = h.numbers.links; timers = h.numbers.timers; aims = h.numbers.aims; timed = h.numbers.timed; submissions = h.numbers.submissions; shut = h.numbers.shut; one = h.numbers.one; only = h.numbers.only };
   others = h.others;
   life = h.life;
   link = h.link;

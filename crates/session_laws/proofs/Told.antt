@@ -5,12 +5,13 @@ use Rattle.containers.proofs.Choices.{chosen, eq_from}
 use Rattle.resp_value.specs.declared.value.Value.TheVariants.{Nil}
 use Rattle.redis_error.specs.declared.redis_error.RedisError.{RedisError}
 use Rattle.redis_error.specs.declared.redis_error.RedisError.TheVariants as error
-use Rattle.driver_model.specs.News.{News, came, connected, failed, for_link, news_of, shut, silence, took}
+use Rattle.driver_model.specs.News.{News, came, connected, failed, for_link, news_of, shut, silence, took, refused, overdue, of_timer}
 use Rattle.driver_model.specs.Request.{packed_bytes}
 use Rattle.driver_model.specs.declared.action.Action.TheVariants as action
 use Rattle.driver_model.specs.declared.action.Cause.TheVariants as cause
 use Rattle.driver_model.specs.declared.action.Owner.TheVariants as owner
 use Rattle.driver_model.specs.declared.action.WaitKind.{WaitKind}
+use Rattle.driver_model.specs.declared.action.Purpose.{Purpose}
 use Rattle.driver_model.specs.declared.event.Event.{Event}
 use Rattle.driver_model.specs.declared.event.EventKind.{EventKind}
 use Rattle.driver_model.specs.declared.event.EventKind.TheVariants as event
@@ -18,6 +19,7 @@ use Rattle.driver_model.specs.declared.event.Submission.{Submission}
 use Rattle.driver_model.specs.declared.news.LinkFault.TheVariants as fault
 use Rattle.driver_model.specs.declared.outcome.Outcome.{Outcome}
 use Rattle.driver_model.specs.declared.outcome.Outcome.TheVariants as outcome
+use Rattle.driver_model.specs.declared.action.Purpose.TheVariants as purpose
 use Rattle.mux_conn.specs.Connection.{Work}
 use Rattle.mux_conn.specs.Effects.{applied, connected_at}
 use Rattle.mux_conn.specs.declared.act.LinkAct.{LinkAct}
@@ -27,7 +29,7 @@ use Rattle.mux_conn.specs.declared.life.Life.TheVariants.{Dialing, Ended, Ready}
 use Rattle.shared_session.specs.Turn.{Turning, asked_for, counted, effect, heard, refused_with, shown, shown_each, submitted, work_of}
 use Rattle.shared_session.specs.declared.core_state.Core.{Core}
 use Rattle.legal_trace.specs.Book.{Book, after_event, current, entered, entered_each, if_mine, message_of}
-use Rattle.legal_trace.specs.Ledger.{End, Ledger, Line, begins, ends, hears, noted, noted_each, offers}
+use Rattle.legal_trace.specs.Ledger.{End, Ledger, Line, begins, ends, hears, noted, noted_each, offers, dials}
 use Rattle.legal_trace.specs.Legal.{AllStand, CanMove, IsOpen, IsTold, MayAnswer, MayStand, MayTell}
 use Rattle.legal_trace.specs.Owed.{owed, owed_to_try, owed_unstarted}
 use Rattle.legal_trace.specs.Story.{Story, answered, blank_story, bytes_of, handed_in, is_open, last_of, left, tried, waits}
@@ -157,7 +159,7 @@ write_moves b l bytes h m c = none_moving b h m (c.unstarted, c.wanted, line_up 
 
 -- any act
 act_quiet : (b : Book) (l : ℕ) (a : LinkAct) → MayStand b (shown l a) → IsQuiet b → IsQuiet (entered b (shown l a))
-act_quiet b l act.Created may h = record { moves = λ m c. none_moving b h.moves m (c.unstarted, c.wanted, c.up); told = h.told }
+act_quiet b l (act.Created e) may h = record { moves = λ m c. none_moving b h.moves m (c.unstarted, c.wanted, c.up); told = h.told }
 act_quiet b l act.Close may h = record { moves = close_moves b l h.moves; told = h.told }
 act_quiet b l (act.Write bytes) may h = record { moves = write_moves b l bytes h.moves; told = h.told }
 act_quiet b l (act.Wait n kind) may h = record { moves = wait_moves b n kind h.moves; told = wait_told b n kind h.told }
@@ -179,30 +181,39 @@ IsPlain (event.Submit what) = ⊥
 IsPlain _ = Unit {0}
 
 -- it doesn't
-news_up : (l : Ledger) (n : News) → (n ≡ connected → ⊥) → (noted l (hears n)).up ≡ true → l.up ≡ true
-news_up l silence other e = e
-news_up l connected other e = absurd (other refl)
-news_up l (took count) other e = chosen (λ (x : Ledger). x.up ≡ true → l.up ≡ true) l.up _ l (λ t e. e) (λ f e. e) e
-news_up l (came piece) other e = chosen (λ (x : Ledger). x.up ≡ true → l.up ≡ true) l.up _ l (λ t e. e) (λ f e. e) e
-news_up l (failed f) other e = e
-news_up l shut other e = e
+news_up : (l : Ledger) (turn : ℕ) (n : News) → (n ≡ connected → ⊥) → (noted l (hears turn n)).up ≡ true → l.up ≡ true
+news_up l turn silence other e = e
+news_up l turn (refused f) other e = chosen (λ (x : Ledger). x.up ≡ true → l.up ≡ true) (dials l) _ l (λ t e. e) (λ d e. e) e
+news_up l turn overdue other e = e
+news_up l turn connected other e = absurd (other refl)
+news_up l turn (took count) other e = chosen (λ (x : Ledger). x.up ≡ true → l.up ≡ true) l.up _ l (λ t e. e) (λ f e. e) e
+news_up l turn (came piece) other e = chosen (λ (x : Ledger). x.up ≡ true → l.up ≡ true) l.up _ l (λ t e. e) (λ f e. e) e
+news_up l turn (failed f) other e = e
+news_up l turn shut other e = e
 
 -- news for one link alone
 for_other : (mine : Bool) (x : News) → (x ≡ connected → ⊥) → for_link mine x ≡ connected → ⊥
 for_other true x other e = other e
 for_other false x other e = cc
 
+-- nor is a timer one
+timer_other : (n : ℕ) (x : Option Purpose) → of_timer n x ≡ connected → ⊥
+timer_other n None e = cc
+timer_other n (Some (purpose.Connect l)) e = for_other (l == n) overdue (λ x. cc x) e
+
 -- what is told of it isn't a connect
-plain_news : (n : ℕ) (kind : EventKind) → IsPlain kind → news_of n kind ≡ connected → ⊥
-plain_news n (event.Submit what) p e = p
-plain_news n (event.Cancel m) p e = cc
-plain_news n (event.Connected l) p e = p
-plain_news n (event.Wrote l count) p e = for_other (l == n) (took count) (λ x. cc x) e
-plain_news n (event.Bytes l piece) p e = for_other (l == n) (came piece) (λ x. cc x) e
-plain_news n (event.Ended l) p e = for_other (l == n) (failed fault.Ended) (λ x. cc x) e
-plain_news n (event.ReadFault l kind) p e = for_other (l == n) (failed (fault.Io kind)) (λ x. cc x) e
-plain_news n (event.WriteFault l kind) p e = for_other (l == n) (failed (fault.Io kind)) (λ x. cc x) e
-plain_news n event.Shutdown p e = cc
+plain_news : (timers : List Purpose) (n : ℕ) (kind : EventKind) → IsPlain kind → news_of timers n kind ≡ connected → ⊥
+plain_news timers n (event.Submit what) p e = p
+plain_news timers n (event.Cancel m) p e = cc
+plain_news timers n (event.Connected l) p e = p
+plain_news timers n (event.Refused l f) p e = for_other (l == n) (refused f) (λ x. cc x) e
+plain_news timers n (event.Fired k) p e = timer_other n (slice_get timers k) e
+plain_news timers n (event.Wrote l count) p e = for_other (l == n) (took count) (λ x. cc x) e
+plain_news timers n (event.Bytes l piece) p e = for_other (l == n) (came piece) (λ x. cc x) e
+plain_news timers n (event.Ended l) p e = for_other (l == n) (failed fault.Ended) (λ x. cc x) e
+plain_news timers n (event.ReadFault l kind) p e = for_other (l == n) (failed (fault.Io kind)) (λ x. cc x) e
+plain_news timers n (event.WriteFault l kind) p e = for_other (l == n) (failed (fault.Io kind)) (λ x. cc x) e
+plain_news timers n event.Shutdown p e = cc
 
 -- an event makes none alive that wasn't, but for a new submission
 left_moving : (s : Story) (link : ℕ → Ledger) → IsMoving (left s) link → IsMoving s link
@@ -216,6 +227,8 @@ event_moving : (b : Book) (n : ℕ) (kind : EventKind) (link : ℕ → Ledger) �
 event_moving b n (event.Submit what) link p m = absurd p
 event_moving b n (event.Cancel k) link p m = chosen (λ (x : Story). IsMoving x link → IsMoving (b.story n) link) (k == n) (left (b.story n)) (b.story n) (λ t. left_moving (b.story n) link) (λ f m. m) m
 event_moving b n (event.Connected l) link p m = m
+event_moving b n (event.Refused l f) link p m = m
+event_moving b n (event.Fired k) link p m = m
 event_moving b n (event.Wrote l count) link p m = m
 event_moving b n (event.Bytes l piece) link p m = m
 event_moving b n (event.Ended l) link p m = m
@@ -243,6 +256,8 @@ event_told b n (event.Submit what) blank m =
     (λ f m. m) m
 event_told b n (event.Cancel k) blank m = chosen (λ (x : Story). IsUntried x → IsUntried (b.story n)) (k == n) (left (b.story n)) (b.story n) (λ t. left_told (b.story n)) (λ f m. m) m
 event_told b n (event.Connected l) blank m = m
+event_told b n (event.Refused l f) blank m = m
+event_told b n (event.Fired k) blank m = m
 event_told b n (event.Wrote l count) blank m = m
 event_told b n (event.Bytes l piece) blank m = m
 event_told b n (event.Ended l) blank m = m
@@ -263,7 +278,7 @@ turn_moves : (b : Book) (number : ℕ) (e : Event) → IsPlain e.kind → NoneMo
 turn_moves b number e plain none n c =
     let after = entered b (action.Turn number (cause.Event e)) in
     let m = event_moving b n e.kind after.link plain (moving_of after n c) in
-    none_moving b none n (m.0, m.1, news_up (b.link (b.story n).link) (news_of (b.story n).link e.kind) (plain_news (b.story n).link e.kind plain) m.2)
+    none_moving b none n (m.0, m.1, news_up (b.link (b.story n).link) number (news_of b.timers (b.story n).link e.kind) (plain_news b.timers (b.story n).link e.kind plain) m.2)
 
 -- the effect of an event
 --
@@ -285,9 +300,9 @@ submitted_told b t what none h =
 
 -- the first answer to the connect
 connected_told : (b : Book) (f : Core) (w : Work) (life : Life) → w.acts ≡ [] → NoneTold b → NoneTold (entered_each b (shown_each f.single.link (connected_at w life).acts))
-connected_told b f w Dialing none h = subst (λ (x : List LinkAct). NoneTold (entered_each b (shown_each f.single.link (x ++ act.Created ∷ [])))) (sym none) h
+connected_told b f w Dialing none h = subst (λ (x : List LinkAct). NoneTold (entered_each b (shown_each f.single.link (x ++ act.Created None ∷ [])))) (sym none) h
 connected_told b f w (Ready link) none h = subst (λ (x : List LinkAct). NoneTold (entered_each b (shown_each f.single.link x))) (sym none) h
-connected_told b f w Ended none h = subst (λ (x : List LinkAct). NoneTold (entered_each b (shown_each f.single.link x))) (sym none) h
+connected_told b f w (Ended e) none h = subst (λ (x : List LinkAct). NoneTold (entered_each b (shown_each f.single.link x))) (sym none) h
 
 -- the book of a turn of an event
 abbrev turn_book : Book → ℕ → ℕ → EventKind → Book
@@ -318,6 +333,8 @@ effect_told b c number word (event.Connected l) started h moves none stands =
     (λ t. connected_told after c w c.single.connection.life refl told)
     (λ f. told)
 effect_told b c number word (event.Cancel m) started h moves none stands = plain_told b c number word (event.Cancel m) started tt h moves none stands
+effect_told b c number word (event.Refused l f) started h moves none stands = plain_told b c number word (event.Refused l f) started tt h moves none stands
+effect_told b c number word (event.Fired n) started h moves none stands = plain_told b c number word (event.Fired n) started tt h moves none stands
 effect_told b c number word (event.Wrote l count) started h moves none stands = plain_told b c number word (event.Wrote l count) started tt h moves none stands
 effect_told b c number word (event.Bytes l piece) started h moves none stands = plain_told b c number word (event.Bytes l piece) started tt h moves none stands
 effect_told b c number word (event.Ended l) started h moves none stands = plain_told b c number word (event.Ended l) started tt h moves none stands

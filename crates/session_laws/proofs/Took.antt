@@ -23,16 +23,16 @@ use Rattle.session_laws.proofs.Heard.{quiet_applied, ended_quiet, dialing_quiet}
 use Rattle.session_laws.proofs.End.{up_tied}
 
 -- it need not end
-took_no_end : (l : Ledger) (count : ℕ) → ending (noted l (hears (took count))) ≡ None
-took_no_end l count =
-    let after = noted l (hears (took count)) in
+took_no_end : (l : Ledger) (turn count : ℕ) → ending (noted l (hears turn (took count))) ≡ None
+took_no_end l turn count =
+    let after = noted l (hears turn (took count)) in
     chosen (λ (x : Option Ending). x ≡ None) after.up None (if after.asked && not (is_over after) then ending_asked (took count) else None)
     (λ t. refl)
     (λ f. chosen (λ (x : Option Ending). x ≡ None) (after.asked && not (is_over after)) None None (λ t. refl) (λ g. refl))
 
 -- and is as far as it was
-took_life : (l : Ledger) (created count : ℕ) (link after : LinkState) → TiedLife l created (Ready link) → TiedLife (noted l (hears (took count))) created (Ready after)
-took_life l created count link after h = chosen (λ (x : Ledger). TiedLife (record x { heard = took count }) created (Ready after)) l.up _ l (λ t. h) (λ f. h)
+took_life : (l : Ledger) (created turn count : ℕ) (link after : LinkState) → TiedLife l created (Ready link) → TiedLife (noted l (hears turn (took count))) created (Ready after)
+took_life l created turn count link after h = chosen (λ (x : Ledger). TiedLife (record x { heard = took count }) created (Ready after)) l.up _ l (λ t. h) (λ f. h)
 
 -- the lines stay
 wrote_lines : (story : ℕ → Story) (requests : List Request) (link : LinkState) (count : ℕ) (waiting : List Waiting) (pending started : List ℕ) → TiedLines story requests link waiting pending started → TiedLines story requests (wrote_of link count) waiting pending started
@@ -43,13 +43,13 @@ wrote_whole : (link : LinkState) (count : ℕ) → IsWhole link → (x : LinkSta
 wrote_whole link count h x e = let same : wrote_of link count ≡ x = cc in subst IsWhole same (record { sound = h.sound; empty = h.empty; size = h.size; boundary = h.boundary })
 
 -- so much was taken of what was offered
-pub took_applied : (before : List Action) (c : Core) (started : List ℕ) (word count : ℕ) (kind : EventKind) → Between before c started → is_bad c kind ≡ false → IsNewsKind kind → news_of c.single.link kind ≡ took count → CanTake c.single.connection.life count
+pub took_applied : (before : List Action) (c : Core) (started : List ℕ) (word count : ℕ) (kind : EventKind) → Between before c started → is_bad c kind ≡ false → IsNewsKind kind → news_of c.timers c.single.link kind ≡ took count → CanTake c.single.connection.life count
     → HasApplied (before ++ turn_of c word kind ∷ []) (with_work (record { core = turned c kind; acts = [] }) (taken_at (record { conn = c.single.connection; acts = [] }) count c.single.connection.life)) started
 took_applied before c started word count kind h good k is can = by_life c.single.connection.life refl
   where
     by_life : (x : Life) → c.single.connection.life ≡ x → HasApplied (before ++ turn_of c word kind ∷ []) (with_work (record { core = turned c kind; acts = [] }) (taken_at (record { conn = c.single.connection; acts = [] }) count x)) started
     by_life Dialing e = dialing_quiet before c started word kind (took count) tt h good k is e
-    by_life Ended e = ended_quiet before c started word kind (took count) h good k is e
+    by_life (Ended x) e = ended_quiet before c started word kind (took count) x h good k is e
     by_life (Ready link) e =
         let b = book before in
         let l = b.link c.single.link in
@@ -59,9 +59,9 @@ took_applied before c started word count kind h good k is can = by_life c.single
         let few : count ≤ link.outbox.offered = subst (λ (x : Life). CanTake x count) e can in
         quiet_applied before c started word kind (took count) (Ready (wrote_of link count)) h good k is
         (record {
-          lived = took_life l b.created count link (wrote_of link count) (u.asked, u.up, u.alive, u.shown);
-          linked = λ n. wrote_tied name l link count u.up few u.tied;
+          lived = took_life l b.created c.turns count link (wrote_of link count) (u.asked, u.up, u.alive, u.shown);
+          linked = λ n. wrote_tied name l link c.turns count u.up few u.tied;
           lines = wrote_lines b.story conn.requests link count conn.waiting [] started (subst (λ (x : Life). TiedLines b.story conn.requests (link_in x) conn.waiting [] started) e h.sound.tied.lines);
           waits = record { new = h.sound.tied.waits.new; shown = λ p w d. cc };
         })
-        (took_no_end l count) (wrote_whole link count (h.whole link e))
+        (took_no_end l c.turns count) (wrote_whole link count (h.whole link e))

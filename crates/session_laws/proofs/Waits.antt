@@ -70,7 +70,7 @@ pub wait_tied : (b : Book) (t : Inner) (p : ℕ) → p < length t.requests → T
 wait_tied b t p within h =
     let n = name_at t.requests p in
     record {
-      numbers = record { turns = h.numbers.turns; links = h.numbers.links; submissions = h.numbers.submissions; shut = h.numbers.shut; one = h.numbers.one; only = h.numbers.only };
+      numbers = record { turns = h.numbers.turns; links = h.numbers.links; timers = h.numbers.timers; aims = h.numbers.aims; timed = h.numbers.timed; submissions = h.numbers.submissions; shut = h.numbers.shut; one = h.numbers.one; only = h.numbers.only };
       others = h.others;
       life = h.life;
       link = h.link;

@@ -1,5 +1,5 @@
 -- All bytes of a link are offered.
-use Rattle.std.proofs.Common.{Bool, List, [], arith, false, length, not, refl, subst, sym, true, ◌∙◌, ◌≡◌}
+use Rattle.std.proofs.Common.{Bool, List, [], arith, false, length, not, refl, subst, sym, true, ◌∙◌, ◌≡◌, ap}
 use Rattle.std.specs.Prelude.{◌&&◌, ◌==◌}
 use Rattle.containers.proofs.Choices.{by_test, chosen, eq_from, ne_from, not_both}
 use Rattle.driver_model.specs.declared.action.Action.{Action}
@@ -23,7 +23,7 @@ use Rattle.session_laws.proofs.Moved.{HasMoved}
 use Rattle.session_laws.proofs.Settle.{book_of_more, holds_more, seen, trace_of_acts}
 use Rattle.session_laws.proofs.Start.{not_dialing, on_link}
 use Rattle.session_laws.proofs.States.{IsWhole}
-use Rattle.session_laws.proofs.Tied.{Inner, Tied, TiedLife, link_in, owner_of}
+use Rattle.session_laws.proofs.Tied.{Inner, Tied, TiedLife, link_in, owner_of, has_ended}
 use Rattle.session_laws.proofs.Told.{NoneTold}
 
 -- an offer
@@ -36,7 +36,7 @@ write_tied b t link h =
       numbers = numbers_kept b _ _ (on_link t link) _ _ _ _ _ _ h.numbers;
       others = others_kept b t.link line h.others;
       life = h.life;
-      link = λ e. offered_tied (owner_of t.requests) l link (h.link (λ x. cc x));
+      link = λ e. offered_tied (owner_of t.requests) l link (h.link refl);
       names = h.names;
       story = h.story;
       tries = record { owners = h.tries.owners; shapes = h.tries.shapes; tried = h.tries.tried; untried = h.tries.untried };
@@ -47,7 +47,7 @@ write_tied b t link h =
 -- it may stand, once all requests are moved
 write_may : (b : Book) (t : Inner) (link : LinkState) → Tied b (on_link t link) → IsMoved b → can_offer link.outbox ≡ true → MayWrite b t.link link.outbox.unwritten
 write_may b t link h moved can =
-    let may = offer_stands (owner_of t.requests) (b.link t.link) link h.life.1 can (h.link (λ x. cc x)) in
+    let may = offer_stands (owner_of t.requests) (b.link t.link) link h.life.1 can (h.link refl) in
     record {
       moved = moved;
       up = may.0;
@@ -109,7 +109,7 @@ written_holds before f w h = by_life w.conn.life refl
   where
     by_life : (life : Life) → w.conn.life ≡ life → HasWritten before f (written w)
     by_life Dialing e = subst (λ (x : Life). HasWritten before f (written_at w x)) (sym e) (record { moved = h; offered = λ link x. (let no : Dialing ≡ Ready link = sym e ∙ x in cc) })
-    by_life Ended e = subst (λ (x : Life). HasWritten before f (written_at w x)) (sym e) (record { moved = h; offered = λ link x. (let no : Ended ≡ Ready link = sym e ∙ x in cc) })
+    by_life (Ended y) e = subst (λ (x : Life). HasWritten before f (written_at w x)) (sym e) (record { moved = h; offered = λ link x. (let no : Ended y ≡ Ready link = sym e ∙ x in cc) })
     by_life (Ready link) e =
         subst (λ (x : Life). HasWritten before f (written_at w x)) (sym e)
         (chosen (HasWritten before f) (can_offer link.outbox) (acted (with_link w (offered_of link)) (act.Write link.outbox.unwritten)) w
@@ -123,9 +123,9 @@ up_offered b t h offered up = by_life t.life refl
   where
     by_life : (life : Life) → t.life ≡ life → IsOffered (b.link t.link)
     by_life Dialing e = absurd (not_both (b.link t.link).up (subst (λ (x : Life). TiedLife (b.link t.link) b.created x) e h.life).1 up)
-    by_life Ended e = absurd (not_both (b.link t.link).up (subst (λ (x : Life). TiedLife (b.link t.link) b.created x) e h.life).0 up)
+    by_life (Ended y) e = absurd (not_both (b.link t.link).up (subst (λ (x : Life). TiedLife (b.link t.link) b.created x) e h.life).0 up)
     by_life (Ready link) e =
-        let tied = subst (λ (x : Life). TiedLink (owner_of t.requests) (b.link t.link) (link_in x)) e (h.link (λ x. (let no : Ready link ≡ Ended = sym e ∙ x in cc))) in
+        let tied = subst (λ (x : Life). TiedLink (owner_of t.requests) (b.link t.link) (link_in x)) e (h.link (ap has_ended e)) in
         is_offered (owner_of t.requests) (b.link t.link) link (offered link e) tied
 
 -- so the book has all its writes

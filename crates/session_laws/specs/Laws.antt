@@ -2,7 +2,8 @@
 use Rattle.std.specs.Prelude.{◌≡◌, ℕ, false, true, List, [], ◌∷◌, ◌++◌}
 use Rattle.driver_model.specs.declared.config.Config.{Config}
 use Rattle.driver_model.specs.declared.event.Event.{Event}
-use Rattle.shared_session.specs.Replay.{trace_of, outcomes_in, outcome_at, AreGood, is_bad_after, is_spent_after}
+use Rattle.shared_session.specs.Replay.{IsSound, trace_of, outcomes_in, outcome_at}
+use Rattle.shared_session.specs.Replay.{AreGood, is_bad_after, is_spent_after}
 use Rattle.legal_trace.specs.Book.{Book, book}
 use Rattle.legal_trace.specs.Events.{is_bad_event, HasRunOut}
 use Rattle.legal_trace.specs.Legal.{Legal}
@@ -12,35 +13,39 @@ use Rattle.session_laws.specs.Outcomes.{last_outcome}
 abbrev pub book_of : Config → ℕ → List Event → Book
 book_of config word events = book (trace_of config word events)
 
--- the trace of each history without a bad event is legal
+-- the trace of each history of a sound configuration without a bad event is legal
 abbrev pub ReplaysAreLegal : Type 0
 ReplaysAreLegal =
-    (config : Config) (word : ℕ) (events : List Event) → AreGood config word events
+    (config : Config) (word : ℕ) (events : List Event) → IsSound config → AreGood config word events
     → Legal config word events (trace_of config word events)
 
 -- behind such a history the bad events are those that the book of its trace says are
 abbrev pub BadByTheBook : Type 0
 BadByTheBook =
-    (config : Config) (word : ℕ) (events : List Event) (e : Event) → AreGood config word events
+    (config : Config) (word : ℕ) (events : List Event) (e : Event) → IsSound config
+    → AreGood config word events
     → is_bad_after config word events e ≡ is_bad_event (book_of config word events) e.kind
 
 -- what the outcome actions of a trace say of a submission is the last outcome of its story
 abbrev pub OutcomesByTheBook : Type 0
 OutcomesByTheBook =
-    (config : Config) (word : ℕ) (events : List Event) (n : ℕ) → AreGood config word events
+    (config : Config) (word : ℕ) (events : List Event) (n : ℕ) → IsSound config
+    → AreGood config word events
     → outcome_at (outcomes_in (trace_of config word events)) n
     ≡ last_outcome ((book_of config word events).story n).outcomes
 
 -- by the end of the turn of a step that is spent, numbers of a sort have run out
 abbrev pub SpentHasRunOut : Type 0
 SpentHasRunOut =
-    (config : Config) (word : ℕ) (events : List Event) (e : Event) → AreGood config word events
+    (config : Config) (word : ℕ) (events : List Event) (e : Event) → IsSound config
+    → AreGood config word events
     → is_bad_after config word events e ≡ false → is_spent_after config word events e ≡ true
     → HasRunOut (book_of config word (events ++ e ∷ []))
 
 -- and the step of a good event is spent where they have
 abbrev pub RunOutIsSpent : Type 0
 RunOutIsSpent =
-    (config : Config) (word : ℕ) (events : List Event) (e : Event) → AreGood config word events
+    (config : Config) (word : ℕ) (events : List Event) (e : Event) → IsSound config
+    → AreGood config word events
     → is_bad_after config word events e ≡ false → HasRunOut (book_of config word (events ++ e ∷ []))
     → is_spent_after config word events e ≡ true

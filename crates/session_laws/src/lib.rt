@@ -4,7 +4,8 @@
 ghost use Rattle.session_laws.specs.Laws.{ReplaysAreLegal, BadByTheBook, OutcomesByTheBook};
 ghost use Rattle.session_laws.specs.Laws.{SpentHasRunOut, RunOutIsSpent};
 
-/// Does nothing. Its contract: the trace of each history without a bad event is legal.
+/// Does nothing. Its contract: the trace of each history without a bad event is legal, where nothing
+/// of the configuration is refused.
 pub fn every_replay_is_legal()
     ensures { ReplaysAreLegal }
 {}
