@@ -2,7 +2,7 @@ ghost use Rattle.std.specs.Prelude.{◌≡◌, ◌==◌, ◌+◌, ℕ, List, IfS
 ghost use Rattle.driver_model.specs.declared.action.Purpose.{Purpose};
 ghost use Rattle.driver_model.specs.News.{news_of, told};
 ghost use Rattle.legal_trace.specs.Book.{Book, blank_book, book, entered, entered_each, if_mine};
-ghost use Rattle.legal_trace.specs.Ledger.{Ledger, asks, noted_each, with_news};
+ghost use Rattle.legal_trace.specs.Ledger.{Ledger, asks, dials, noted_each, with_news};
 ghost use Rattle.session_tool.specs.Notes.{bad_reason, wrote_reason};
 ghost use Rattle.session_tool.specs.Offers.{IsOfferIn, IsOfferOf};
 
@@ -37,6 +37,13 @@ impl Offer {
         }
     }
 
+    /// Whether the connect of the first link was asked for and isn't answered.
+    fn dials(self) -> bool
+        ensures { (l : Ledger) → IsOfferIn self l → result ≡ dials l }
+    {
+        self.asked && !self.up && !self.over
+    }
+
     /// After news of the first link.
     fn after_news(self, news: LinkNews<'_>) -> Offer
         ensures links { result.links ≡ self.links }
@@ -52,7 +59,7 @@ impl Offer {
                 }
             }
             LinkNews::Refused { fault: _ } => {
-                if self.asked && !self.up && !self.over {
+                if self.dials() {
                     Offer { over: true, ..self }
                 } else {
                     self
