@@ -1,5 +1,5 @@
 -- The values that words give a key.
-use Rattle.std.proofs.Common.{◌≡◌, ℕ, false, not, ◌==◌, List, [], ◌∷◌, length, Option, Some, None, option_map, refl, ap, arith}
+use Rattle.std.proofs.Common.{◌≡◌, ℕ, not, ◌==◌, List, [], ◌∷◌, length, Option, Some, None, option_map, refl, ap, arith}
 use Rattle.std.specs.Prelude.{is_some, is_none}
 use Rattle.containers.proofs.Choices.{ne_test}
 use Rattle.script_text.specs.ConfigLine.{only, time_limit, allows_connect}

@@ -1,5 +1,5 @@
 -- The words of a cause are bytes, and its numbers are read back.
-use Rattle.std.proofs.Common.{◌≡◌, ℕ, zero, suc, ◌+◌, ◌/◌, ◌%◌, ◌^◌, ◌<◌, ◌≤◌, true, false, not, ◌&&◌, ◌||◌, ◌==◌, nat_lt, nat_le, List, [], ◌∷◌, length, get_or, All, Option, Some, None, codes, decimal, bytes_eq, refl, ap, ◌∙◌, if◌then◌else◌, arith}
+use Rattle.std.proofs.Common.{◌≡◌, ℕ, zero, suc, ◌+◌, ◌/◌, ◌%◌, ◌^◌, ◌<◌, ◌≤◌, true, false, not, ◌&&◌, ◌||◌, ◌==◌, nat_lt, nat_le, List, [], ◌∷◌, ◌++◌, length, get_or, All, Option, Some, None, codes, decimal, bytes_eq, refl, ap, ◌∙◌, if◌then◌else◌, arith}
 use Rattle.std.specs.Fmt.{digits, digits_onto, digit_glyph}
 use Rattle.std.specs.List.{list_all}
 use Rattle.std.specs.Str.{all_ascii_digits}
