@@ -7,11 +7,7 @@ use Rattle.script_text.specs.EventLine.{by_first, submissions, others, events, e
 use Rattle.script_text.specs.Faults.{FindsFault}
 use Rattle.script_text.specs.Words.{LineWords}
 use Rattle.script_text.proofs.Forms.{event_refused}
-
--- what is found is nothing exactly where nothing is found
-none_mapped : {A B : Type 0} (f : A → B) (x : Option A) → is_none (option_map f x) ≡ is_none x
-none_mapped f None = refl
-none_mapped f (Some a) = refl
+use Rattle.script_text.proofs.Values.{none_mapped}
 
 -- a fault of the words of an event is one of the event
 pub finds_event : (line : LineWords) (found : Option Fault) → FindsFault found (by_first events line.words line.more) → FindsFault found (event_of line)

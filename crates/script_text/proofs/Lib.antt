@@ -8,3 +8,4 @@ pub mod Glued
 pub mod Late
 pub mod Limited
 pub mod Lines
+pub mod Values

@@ -1,11 +1,10 @@
 -- Which configuration the words of a line are.
-use Rattle.std.specs.Prelude.{ℕ, Bool, false, ◌&&◌, ◌||◌, ◌==◌, List, [], ◌∷◌, ◌++◌, take, drop, Option, Some, None, option_map, option_and_then, bytes_eq, codes, if◌then◌else◌}
+use Rattle.std.specs.Prelude.{ℕ, Bool, true, false, ◌&&◌, List, [], ◌∷◌, ◌++◌, Option, Some, None, is_some, option_map, option_and_then, bytes_eq, codes, if◌then◌else◌}
 use Rattle.std.specs.Option.{option_to_list}
 use Rattle.std.specs.List.{list_all, list_any}
-use Rattle.std.specs.Char.{is_ascii_lowercase, is_ascii_digit}
 use Rattle.driver_model.specs.declared.config.Config.{Config}
 use Rattle.script_text.specs.Words.{LineWords, cut_at}
-use Rattle.script_text.specs.Numbers.{number, max_u16}
+use Rattle.script_text.specs.Numbers.{number, max_u64}
 use Rattle.script_text.specs.EventLine.{Forms, by_first, whole}
 
 -- the key is one of these
@@ -40,32 +39,27 @@ is_value (Some value) text = bytes_eq value text
 abbrev pub gives : List (List ℕ) → List ℕ → List ℕ → Bool
 gives words key value = is_value (only (values key words)) value
 
--- a-z, 0-9, `.` or `-`
-abbrev pub is_host_byte : ℕ → Bool
-is_host_byte b = is_ascii_lowercase b || is_ascii_digit b || b == 46 || b == 45
-
--- one or more of these
-abbrev pub is_host : List ℕ → Bool
-is_host [] = false
-is_host (b ∷ bs) = list_all is_host_byte (b ∷ bs)
-
--- the two sides of the colon
-abbrev pub host_and_port : List ℕ × List ℕ → Option Config
-host_and_port c = if is_host c.0 then option_map (λ port. record { host = c.0; port = port }) (number max_u16 c.1) else None
-
--- redis://HOST:PORT
-abbrev pub address : List ℕ → Option Config
-address url = if bytes_eq (take 8 url) (codes "redis://") then option_and_then host_and_port (cut_at 58 (drop 8 url)) else None
-
 -- the keys of one connection
 abbrev pub keys : List (List ℕ)
 keys = codes "url" ∷ codes "connect" ∷ codes "response" ∷ codes "lib" ∷ []
 
--- one connection: each key just once, in any order, all but the address with the only value that there is
+-- how long the connect may take: so many milliseconds, or `none` for any number
+abbrev pub time_limit : List ℕ → Option (Option ℕ)
+time_limit value = if bytes_eq value (codes "none") then Some None else option_map Some (number max_u64 value)
+
+-- these values of a key are none, or one alone that is such a time
+abbrev pub allows_connect : List (List ℕ) → Bool
+allows_connect [] = true
+allows_connect (value ∷ []) = is_some (time_limit value)
+allows_connect _ = false
+
+-- one connection: each key once at most, in any order, and all but `connect` there. What `url` says is any text, and
+-- `response` and `lib` have the only value that there is
 abbrev pub single : List (List ℕ) → Option Config
 single words =
-    if list_all (is_setting keys) words && gives words (codes "connect") (codes "none") && gives words (codes "response") (codes "none") && gives words (codes "lib") (codes "off")
-    then option_and_then address (only (values (codes "url") words)) else None
+    let connect = values (codes "connect") words in
+    if list_all (is_setting keys) words && allows_connect connect && gives words (codes "response") (codes "none") && gives words (codes "lib") (codes "off")
+    then option_map (λ url. record { url = url; connect = option_and_then time_limit (only connect) }) (only (values (codes "url") words)) else None
 
 -- the kinds of sessions
 abbrev pub kinds : Forms Config

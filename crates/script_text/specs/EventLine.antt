@@ -2,11 +2,11 @@
 use Rattle.std.specs.Prelude.{ℕ, List, [], ◌∷◌, Option, Some, None, option_map, option_and_then, bytes_eq, codes, if◌then◌else◌}
 use Rattle.driver_model.specs.declared.event.Event.{Event}
 use Rattle.driver_model.specs.declared.event.EventKind.{EventKind}
-use Rattle.driver_model.specs.declared.event.EventKind.TheVariants.{Submit, Cancel, Connected, Wrote, Bytes, Ended, ReadFault, WriteFault, Shutdown}
+use Rattle.driver_model.specs.declared.event.EventKind.TheVariants.{Submit, Cancel, Connected, Refused, Wrote, Bytes, Ended, ReadFault, WriteFault, Fired, Shutdown}
 use Rattle.driver_model.specs.declared.event.Submission.{Submission}
 use Rattle.driver_model.specs.declared.event.Submission.TheVariants.{Cmd, NoReply, Pipe, Multi, Packed}
 use Rattle.redis_error.specs.declared.fault_kind.FaultKind.{FaultKind}
-use Rattle.redis_error.specs.declared.fault_kind.FaultKind.TheVariants.{Refused, Reset, Aborted, NotConnected, BrokenPipe, Eof, TimedOut, Interrupted, Denied, Other}
+use Rattle.redis_error.specs.declared.fault_kind.FaultKind.TheVariants as fault
 use Rattle.redis_error.specs.Names.{fault_name}
 use Rattle.script_text.specs.Numbers.{number, max_u32, max_u64}
 use Rattle.script_text.specs.Words.{LineWords}
@@ -48,7 +48,7 @@ alone a _ = None
 
 -- the kinds of faults
 abbrev pub faults : List FaultKind
-faults = Refused ∷ Reset ∷ Aborted ∷ NotConnected ∷ BrokenPipe ∷ Eof ∷ TimedOut ∷ Interrupted ∷ Denied ∷ Other ∷ []
+faults = fault.Refused ∷ fault.Reset ∷ fault.Aborted ∷ fault.NotConnected ∷ fault.BrokenPipe ∷ fault.Eof ∷ fault.TimedOut ∷ fault.Interrupted ∷ fault.Denied ∷ fault.Other ∷ []
 
 -- the first of these kinds with that name
 abbrev pub fault_among : List FaultKind → List ℕ → Option FaultKind
@@ -85,11 +85,13 @@ unfoldable pub others : Forms EventKind
 others =
     (codes "cancel", whole (numbered Cancel))
     ∷ (codes "connected", whole (numbered Connected))
+    ∷ (codes "refused", whole (failed Refused))
     ∷ (codes "wrote", whole wrote)
     ∷ (codes "bytes", whole came)
     ∷ (codes "ended", whole (numbered Ended))
     ∷ (codes "read-fault", whole (failed ReadFault))
     ∷ (codes "write-fault", whole (failed WriteFault))
+    ∷ (codes "fired", whole (numbered Fired))
     ∷ (codes "shutdown", whole (alone Shutdown))
     ∷ []
 

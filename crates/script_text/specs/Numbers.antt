@@ -12,10 +12,7 @@ is_decimal (d ∷ ds) = all_ascii_digits (d ∷ ds) && (not (d == 48) || length 
 abbrev pub number : ℕ → List ℕ → Option ℕ
 number most word = if is_decimal word && nat_le (digits_value 10 word) most then Some (digits_value 10 word) else None
 
--- the greatest numbers of 16, 32 and 64 bits
-abbrev pub max_u16 : ℕ
-max_u16 = 65_535
-
+-- the greatest numbers of 32 and 64 bits
 abbrev pub max_u32 : ℕ
 max_u32 = 4_294_967_295
 

@@ -1,13 +1,13 @@
-ghost use Rattle.std.specs.Prelude.{◌≡◌, ◌==◌, not, length, is_some, option_and_then, codes};
+ghost use Rattle.std.specs.Prelude.{◌≡◌, not, is_some, is_none, codes};
 ghost use Rattle.std.specs.List.{list_all};
 ghost use Rattle.script_text.specs.ConfigLine.{keys, is_setting, values, only, gives};
-ghost use Rattle.script_text.specs.ConfigLine.{address, single, config_of};
+ghost use Rattle.script_text.specs.ConfigLine.{allows_connect, single, config_of};
 ghost use Rattle.script_text.specs.Faults.{FindsFault, values_reason};
 
-use crate::config_line::{gives_only, is_host_name, is_known_setting, only_value, value};
+use crate::config_line::{allows_connect, gives_only, has_value, is_known_setting, only_value};
+use crate::config_line::value;
 use crate::fault::Fault;
 use crate::line::Line;
-use crate::number::number_u16;
 use crate::reason::{ConfigReason, LineReason, Reason};
 use crate::words::cut;
 use containers::Bytes;
@@ -32,18 +32,6 @@ fn setting_fault(words: &[Bytes]) -> Option<Fault>
         }
     }
     None
-}
-
-/// Whether words give the key some value.
-fn has_value(words: &[Bytes], key: &[u8]) -> bool
-    ensures { result ≡ (not (length (values key.now words.now) == 0)) }
-{
-    for word in words {
-        if value(word.as_slice(), key).is_some() {
-            return true;
-        }
-    }
-    false
 }
 
 /// The last of the words that gives the key a value, or how many words there are.
@@ -91,41 +79,37 @@ fn only_fault(words: &[Bytes], key: &[u8], value: &[u8], reason: ConfigReason) -
     Some(values_fault(words, key, Reason::Config(reason)))
 }
 
-/// Whether a text is an address.
-fn is_address(url: &[u8]) -> bool
-    ensures { result ≡ is_some (address url.now) }
+/// What is wrong with how long the connect may take.
+fn connect_fault(words: &[Bytes]) -> Option<Fault>
+    ensures { is_some result ≡ not (allows_connect (values (codes "connect") words.now)) }
 {
-    let Some(rest) = url.strip_prefix(b"redis://".as_slice()) else {
-        return false;
-    };
-    match cut(rest, b':') {
-        Some((host, port)) => is_host_name(host) && number_u16(port).is_some(),
-        None => false,
-    }
-}
-
-/// What is wrong with the address.
-fn url_fault(words: &[Bytes]) -> Option<Fault>
-    ensures { FindsFault result (option_and_then address (only (values (codes "url") words.now))) }
-{
-    let sound = match only_value(words, b"url") {
-        Some(url) => is_address(url),
-        None => false,
-    };
-    if sound {
+    if allows_connect(words) {
         return None;
     }
-    Some(values_fault(words, b"url", Reason::Config(ConfigReason::Url)))
+    let wrong = Reason::Config(ConfigReason::Connect);
+    Some(values_fault(words, b"connect", wrong))
+}
+
+/// What is wrong with the URL: that it doesn't stand just once. Whether it is an address is no matter of the script.
+fn url_fault(words: &[Bytes]) -> Option<Fault>
+    ensures { is_some result ≡ is_none (only (values (codes "url") words.now)) }
+{
+    if only_value(words, b"url").is_some() {
+        return None;
+    }
+    let missing = Reason::Config(ConfigReason::NoKey);
+    Some(values_fault(words, b"url", missing))
 }
 
 /// What is wrong with the settings of one connection.
+#[tactic(auto, using(crate::proofs::Values::none_mapped))]
 fn single_fault(words: &[Bytes]) -> Option<Fault>
     ensures { FindsFault result (single words.now) }
 {
     if let Some(fault) = setting_fault(words) {
         return Some(fault);
     }
-    if let Some(fault) = only_fault(words, b"connect", b"none", ConfigReason::OnlyNone) {
+    if let Some(fault) = connect_fault(words) {
         return Some(fault);
     }
     if let Some(fault) = only_fault(words, b"response", b"none", ConfigReason::OnlyNone) {

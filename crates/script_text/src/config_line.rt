@@ -1,10 +1,11 @@
-ghost use Rattle.std.specs.Prelude.{◌≡◌, MatchOption, Some, None, IfOk};
+ghost use Rattle.std.specs.Prelude.{◌≡◌, ◌==◌, not, length, MatchOption, Some, None, IfOk};
+ghost use Rattle.std.specs.Prelude.{option_and_then, codes};
 ghost use Rattle.std.specs.List.{list_all};
 ghost use Rattle.script_text.specs.ConfigLine.{keys, is_setting, value_of, values, only, gives};
-ghost use Rattle.script_text.specs.ConfigLine.{is_host, address, single, config_of};
+ghost use Rattle.script_text.specs.ConfigLine.{time_limit, allows_connect, single, config_of};
 
 use crate::line::Line;
-use crate::number::number_u16;
+use crate::number::number_u64;
 use crate::words::cut;
 use containers::Bytes;
 use driver_model::Config;
@@ -72,35 +73,46 @@ pub fn gives_only(words: &[Bytes], key: &[u8], value: &[u8]) -> bool
     }
 }
 
-pub fn is_host_name(text: &[u8]) -> bool
-    ensures { result ≡ is_host text.now }
+/// Whether words give the key some value.
+pub fn has_value(words: &[Bytes], key: &[u8]) -> bool
+    ensures { result ≡ (not (length (values key.now words.now) == 0)) }
 {
-    for b in text {
-        if !matches!(*b, b'a'..=b'z' | b'0'..=b'9' | b'.' | b'-') {
-            return false;
+    for word in words {
+        if value(word.as_slice(), key).is_some() {
+            return true;
         }
     }
-    !text.is_empty()
+    false
 }
 
-/// The configuration with the address `redis://HOST:PORT`.
-fn read_address(alloc: Global, url: &[u8]) -> Result<Option<Config>, AllocError>
-    ensures { IfOk result (λ c. c ≡ address url.now) }
+/// How long a connect may take: so many milliseconds, or `Some(None)`, any number.
+fn time_limit(value: &[u8]) -> Option<Option<u64>>
+    ensures { result ≡ time_limit value.now }
 {
-    let Some(rest) = url.strip_prefix(b"redis://".as_slice()) else {
-        return Ok(None);
-    };
-    let Some((host, port)) = cut(rest, b':') else {
-        return Ok(None);
-    };
-    if !is_host_name(host) {
-        return Ok(None);
+    if value == b"none".as_slice() {
+        return Some(None);
     }
-    let Some(port) = number_u16(port) else {
-        return Ok(None);
-    };
-    let host = Bytes::from_slice(alloc, host)?;
-    Ok(Some(Config { host, port }))
+    let ms = number_u64(value)?;
+    Some(Some(ms))
+}
+
+/// How long the connect may take, where words give just one value for it.
+fn connect_limit(words: &[Bytes]) -> Option<Option<u64>>
+    ensures { result
+        ≡ option_and_then time_limit (only (values (codes "connect") words.now)) }
+{
+    time_limit(only_value(words, b"connect")?)
+}
+
+/// Whether words leave the time of the connect open, or give it once.
+#[tactic(auto, using(crate::proofs::Values::allowed_once, crate::proofs::Values::allowed_never))]
+pub fn allows_connect(words: &[Bytes]) -> bool
+    ensures { result ≡ allows_connect (values (codes "connect") words.now) }
+{
+    match only_value(words, b"connect") {
+        Some(value) => time_limit(value).is_some(),
+        None => !has_value(words, b"connect"),
+    }
 }
 
 /// One connection.
@@ -108,16 +120,18 @@ fn read_single(alloc: Global, words: &[Bytes]) -> Result<Option<Config>, AllocEr
     ensures { IfOk result (λ c. c ≡ single words.now) }
 {
     if !are_settings(words)
-        || !gives_only(words, b"connect", b"none")
+        || !allows_connect(words)
         || !gives_only(words, b"response", b"none")
         || !gives_only(words, b"lib", b"off")
     {
         return Ok(None);
     }
-    match only_value(words, b"url") {
-        Some(url) => read_address(alloc, url),
-        None => Ok(None),
-    }
+    let Some(url) = only_value(words, b"url") else {
+        return Ok(None);
+    };
+    let url = Bytes::from_slice(alloc, url)?;
+    let connect = connect_limit(words);
+    Ok(Some(Config { url, connect }))
 }
 
 /// The configuration that the words of a line are.

@@ -153,6 +153,9 @@ fn other_fault(name: &[u8], words: &[Bytes]) -> Option<Fault>
     if name == b"connected".as_slice() {
         return numbered_fault(words, Form::Connected);
     }
+    if name == b"refused".as_slice() {
+        return failed_fault(words, Form::Refused);
+    }
     if name == b"wrote".as_slice() {
         return wrote_fault(words);
     }
@@ -167,6 +170,9 @@ fn other_fault(name: &[u8], words: &[Bytes]) -> Option<Fault>
     }
     if name == b"write-fault".as_slice() {
         return failed_fault(words, Form::WriteFault);
+    }
+    if name == b"fired".as_slice() {
+        return numbered_fault(words, Form::Fired);
     }
     if name == b"shutdown".as_slice() {
         return shutdown_fault(words);

@@ -1,7 +1,9 @@
 ghost use Rattle.std.specs.Prelude.{◌≡◌, ◌∷◌, [], ℕ, List, drop, option_map, MatchOption, IfOk, Some, None};
 ghost use Rattle.driver_model.specs.declared.event.EventKind.TheVariants.{Submit, Cancel, Connected};
 ghost use Rattle.driver_model.specs.declared.event.EventKind.TheVariants.{Ended, Shutdown};
-ghost use Rattle.driver_model.specs.declared.event.EventKind.TheVariants.{ReadFault, WriteFault};
+ghost use Rattle.driver_model.specs.declared.event.EventKind.TheVariants.{Refused, ReadFault, WriteFault, Fired};
+ghost use Rattle.driver_model.specs.declared.event.EventKind.{EventKind};
+ghost use Rattle.redis_error.specs.declared.fault_kind.FaultKind.{FaultKind};
 ghost use Rattle.driver_model.specs.declared.event.Submission.TheVariants.{Cmd, NoReply, Packed};
 ghost use Rattle.script_text.specs.EventLine.{by_first, whole, numbered, wrote, came, alone, faults};
 ghost use Rattle.script_text.specs.EventLine.{fault_among, failed, commands, packed, submissions};
@@ -90,25 +92,37 @@ pub fn fault(name: &[u8]) -> Option<FaultKind>
     fault_among(&FAULTS, name)
 }
 
-fn read_fault(words: &[Bytes]) -> Option<EventKind>
-    ensures { result ≡ failed ReadFault words.now }
+/// A link, and the kind of what failed there.
+fn link_fault(words: &[Bytes]) -> Option<(u32, FaultKind)>
+    ensures { MatchOption result ((f : ℕ → FaultKind → EventKind) → failed f words.now ≡ None)
+        (λ c. (f : ℕ → FaultKind → EventKind) → failed f words.now ≡ Some (f c.0 c.1)) }
 {
     let [link, name] = words else {
         return None;
     };
     let link = number_u32(link.as_slice())?;
     let fault = fault(name.as_slice())?;
+    Some((link, fault))
+}
+
+fn refused(words: &[Bytes]) -> Option<EventKind>
+    ensures { result ≡ failed Refused words.now }
+{
+    let (link, fault) = link_fault(words)?;
+    Some(EventKind::Refused { link, fault })
+}
+
+fn read_fault(words: &[Bytes]) -> Option<EventKind>
+    ensures { result ≡ failed ReadFault words.now }
+{
+    let (link, fault) = link_fault(words)?;
     Some(EventKind::ReadFault { link, fault })
 }
 
 fn write_fault(words: &[Bytes]) -> Option<EventKind>
     ensures { result ≡ failed WriteFault words.now }
 {
-    let [link, name] = words else {
-        return None;
-    };
-    let link = number_u32(link.as_slice())?;
-    let fault = fault(name.as_slice())?;
+    let (link, fault) = link_fault(words)?;
     Some(EventKind::WriteFault { link, fault })
 }
 
@@ -257,6 +271,14 @@ fn ended(words: &[Bytes]) -> Option<EventKind>
     })
 }
 
+fn fired(words: &[Bytes]) -> Option<EventKind>
+    ensures { result ≡ numbered Fired words.now }
+{
+    Some(EventKind::Fired {
+        timer: only_number(words)?,
+    })
+}
+
 fn shutdown(words: &[Bytes]) -> Option<EventKind>
     ensures { result ≡ alone Shutdown words.now }
 {
@@ -277,6 +299,9 @@ fn other(name: &[u8], words: Vec<Bytes>) -> Option<EventKind>
     if name == b"connected".as_slice() {
         return connected(words.as_slice());
     }
+    if name == b"refused".as_slice() {
+        return refused(words.as_slice());
+    }
     if name == b"wrote".as_slice() {
         return read_wrote(words.as_slice());
     }
@@ -291,6 +316,9 @@ fn other(name: &[u8], words: Vec<Bytes>) -> Option<EventKind>
     }
     if name == b"write-fault".as_slice() {
         return write_fault(words.as_slice());
+    }
+    if name == b"fired".as_slice() {
+        return fired(words.as_slice());
     }
     if name == b"shutdown".as_slice() {
         return shutdown(words.as_slice());

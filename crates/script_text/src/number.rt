@@ -1,6 +1,6 @@
 ghost use Rattle.std.specs.Prelude.{◌≡◌, ◌≤◌, ◌<◌, ◌+◌, ◌*◌, IfSome};
 ghost use Rattle.std.specs.Option.{SomeIff};
-ghost use Rattle.script_text.specs.Numbers.{number, max_u16, max_u32, max_u64};
+ghost use Rattle.script_text.specs.Numbers.{number, max_u32, max_u64};
 
 /// A number with one more digit, if it is one of at most that.
 fn with_digit(n: u64, digit: u64, most: u64) -> Option<u64>
@@ -48,12 +48,4 @@ pub fn number_u64(word: &[u8]) -> Option<u64>
     ensures { result ≡ number max_u64 word.now }
 {
     number_within(word, u64::MAX)
-}
-
-/// The number that a word is, of at most 16 bits.
-pub fn number_u16(word: &[u8]) -> Option<u16>
-    ensures { result ≡ number max_u16 word.now }
-{
-    let n = number_within(word, u64::from(u16::MAX))?;
-    Some(n as u16)
 }

@@ -50,12 +50,12 @@ pub enum ConfigReason {
     UnknownKey,
     KeyTwice,
     NoKey,
+    /// How long the connect may take: neither a number nor `none`.
+    Connect,
     /// A value other than `none`.
     OnlyNone,
     /// A value other than `off`.
     OnlyOff,
-    /// No address.
-    Url,
 }
 
 /// Why the words of a line are no event.
@@ -78,11 +78,13 @@ pub enum EventReason {
 pub enum Form {
     Cancel,
     Connected,
+    Refused,
     Wrote,
     Bytes,
     Ended,
     ReadFault,
     WriteFault,
+    Fired,
     Shutdown,
     Packed,
 }
@@ -134,18 +136,18 @@ impl ConfigReason {
     fn sentence(self) -> &'static [u8] {
         match self {
             ConfigReason::Name => {
-                b"the first line is config single url=redis://HOST:PORT connect=none response=none lib=off"
+                b"the first line is config single url=URL response=none lib=off, with connect=MS or connect=none where wanted"
             }
             ConfigReason::Kind => b"only single is supported yet",
             ConfigReason::Setting => b"a setting is KEY=VALUE, with url, connect, response or lib",
             ConfigReason::UnknownKey => b"the keys are url, connect, response and lib",
             ConfigReason::KeyTwice => b"each key stands once",
-            ConfigReason::NoKey => b"each of url, connect, response and lib stands once",
+            ConfigReason::NoKey => b"each of url, response and lib stands once",
+            ConfigReason::Connect => {
+                b"connect is a number of milliseconds, at most 18446744073709551615, or none"
+            }
             ConfigReason::OnlyNone => b"only none is supported yet",
             ConfigReason::OnlyOff => b"only off is supported yet",
-            ConfigReason::Url => {
-                b"url is redis://HOST:PORT, HOST of a-z, 0-9, . and -, PORT at most 65535"
-            }
         }
     }
 }
@@ -154,7 +156,7 @@ impl EventReason {
     fn sentence(self) -> &'static [u8] {
         match self {
             EventReason::Name => {
-                b"an event is submit, cancel, connected, wrote, bytes, ended, read-fault, write-fault or shutdown, and the last line is end"
+                b"an event is submit, cancel, connected, refused, wrote, bytes, ended, read-fault, write-fault, fired or shutdown, and the last line is end"
             }
             EventReason::Submission => b"submit takes cmd, noreply, pipe, multi or packed",
             EventReason::Number => {
@@ -175,11 +177,13 @@ impl Form {
         match self {
             Form::Cancel => b"this event is cancel SUBMISSION",
             Form::Connected => b"this event is connected LINK",
+            Form::Refused => b"this event is refused LINK KIND",
             Form::Wrote => b"this event is wrote LINK COUNT",
             Form::Bytes => b"this event is bytes LINK BYTES",
             Form::Ended => b"this event is ended LINK",
             Form::ReadFault => b"this event is read-fault LINK KIND",
             Form::WriteFault => b"this event is write-fault LINK KIND",
+            Form::Fired => b"this event is fired TIMER",
             Form::Shutdown => b"this event is shutdown alone",
             Form::Packed => b"this event is submit packed OFFSET COUNT ARG..",
         }

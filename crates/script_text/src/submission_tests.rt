@@ -113,39 +113,55 @@ fn submissions_as_given(rt: HostRuntime) -> Result<(), Fail> {
     Ok(())
 }
 
-/// Lines of faults, each with whether it is one of a read, and its name.
-const FAULTS: [(&[u8], bool, &[u8]); 12] = [
-    (b"read-fault 7 refused", true, b"refused"),
-    (b"read-fault 7 reset", true, b"reset"),
-    (b"read-fault 7 aborted", true, b"aborted"),
-    (b"read-fault 7 not-connected", true, b"not-connected"),
-    (b"read-fault 7 broken-pipe", true, b"broken-pipe"),
-    (b"read-fault 7 eof", true, b"eof"),
-    (b"read-fault 7 timed-out", true, b"timed-out"),
-    (b"read-fault 7 interrupted", true, b"interrupted"),
-    (b"read-fault 7 denied", true, b"denied"),
-    (b"read-fault 7 other", true, b"other"),
-    (b"write-fault 7 broken-pipe", false, b"broken-pipe"),
-    (b"write-fault 7 o%74her", false, b"other"),
+/// What failed.
+#[derive(Clone, Copy, PartialEq, Eq)]
+enum Failed {
+    Connect,
+    Read,
+    Write,
+}
+
+/// Lines of faults, each with what failed, and the name of the fault.
+const FAULTS: [(&[u8], Failed, &[u8]); 14] = [
+    (b"read-fault 7 refused", Failed::Read, b"refused"),
+    (b"read-fault 7 reset", Failed::Read, b"reset"),
+    (b"read-fault 7 aborted", Failed::Read, b"aborted"),
+    (
+        b"read-fault 7 not-connected",
+        Failed::Read,
+        b"not-connected",
+    ),
+    (b"read-fault 7 broken-pipe", Failed::Read, b"broken-pipe"),
+    (b"read-fault 7 eof", Failed::Read, b"eof"),
+    (b"read-fault 7 timed-out", Failed::Read, b"timed-out"),
+    (b"read-fault 7 interrupted", Failed::Read, b"interrupted"),
+    (b"read-fault 7 denied", Failed::Read, b"denied"),
+    (b"read-fault 7 other", Failed::Read, b"other"),
+    (b"write-fault 7 broken-pipe", Failed::Write, b"broken-pipe"),
+    (b"write-fault 7 o%74her", Failed::Write, b"other"),
+    (b"refused 7 refused", Failed::Connect, b"refused"),
+    (b"refused 7 timed-out", Failed::Connect, b"timed-out"),
 ];
 
-fn is_fault(events: &[Event], of_read: bool, name: &[u8]) -> bool {
+fn is_fault(events: &[Event], failed: Failed, name: &[u8]) -> bool {
     let [event] = events else {
         return false;
     };
-    match &event.kind {
-        EventKind::ReadFault { link: 7, fault } => of_read && fault.name().as_bytes() == name,
-        EventKind::WriteFault { link: 7, fault } => !of_read && fault.name().as_bytes() == name,
-        _ => false,
-    }
+    let (found, fault) = match &event.kind {
+        EventKind::Refused { link: 7, fault } => (Failed::Connect, *fault),
+        EventKind::ReadFault { link: 7, fault } => (Failed::Read, *fault),
+        EventKind::WriteFault { link: 7, fault } => (Failed::Write, *fault),
+        _ => return false,
+    };
+    found == failed && fault.name().as_bytes() == name
 }
 
 #[test]
 fn faults_as_given(rt: HostRuntime) -> Result<(), Fail> {
-    for (line, of_read, name) in FAULTS {
+    for (line, failed, name) in FAULTS {
         let text = script_of(rt.alloc(), line)?;
         let script = read_script(rt.alloc(), text.as_slice())?;
-        assert!(rt; is_fault(script.events.as_slice(), of_read, name));
+        assert!(rt; is_fault(script.events.as_slice(), failed, name));
     }
     Ok(())
 }

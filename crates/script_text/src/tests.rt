@@ -24,7 +24,7 @@ fn fault_behind(alloc: Global, rest: &[u8]) -> Result<u32, ScriptError> {
 }
 
 /// Whole texts, each with its line at fault, or 0.
-const FIRST_LINES: [(&[u8], u32); 22] = [
+const FIRST_LINES: [(&[u8], u32); 28] = [
     (b"", 1),
     (b"\n", 1),
     (b"end\n", 1),
@@ -82,25 +82,34 @@ const FIRST_LINES: [(&[u8], u32); 22] = [
         1,
     ),
     (
-        b"config single url=redis://h:6379 connect=1000 response=none lib=off\nend\n",
+        b"config single url=redis://h:6379 connect=5s response=none lib=off\nend\n",
         1,
     ),
     (
-        b"config single url=redis://h:65536 connect=none response=none lib=off\nend\n",
+        b"config single url=redis://h:6379 connect=01 response=none lib=off\nend\n",
         1,
     ),
     (
-        b"config single url=redis://h:06379 connect=none response=none lib=off\nend\n",
+        b"config single url=redis://h:6379 connect= response=none lib=off\nend\n",
         1,
     ),
     (
-        b"config single url=redis://:6379 connect=none response=none lib=off\nend\n",
+        b"config single url=redis://h:6379 connect=18446744073709551616 response=none lib=off\nend\n",
         1,
     ),
     (
-        b"config single url=redis://H:6379 connect=none response=none lib=off\nend\n",
+        b"config single url=redis://h:6379 connect=none connect=5 response=none lib=off\nend\n",
         1,
     ),
+    (
+        b"config single url=redis://h url=redis://h response=none lib=off\nend\n",
+        1,
+    ),
+    (b"config single url=redis://h response=5 lib=off\nend\n", 1),
+    (b"config single url=redis://h response=none lib=on\nend\n", 1),
+    (b"config single url response=none lib=off\nend\n", 1),
+    (b"config single url=no%20address response=none lib=off\nend\n", 0),
+    (b"config single url= response=none lib=off\nend\n", 0),
 ];
 
 #[test]
@@ -113,7 +122,7 @@ fn first_lines(rt: HostRuntime) -> Result<(), Fail> {
 }
 
 /// Texts behind a configuration, each with its line at fault, or 0.
-const LATER_LINES: [(&[u8], u32); 47] = [
+const LATER_LINES: [(&[u8], u32); 55] = [
     (
         b"connected 0\nsubmit cmd GET a\nwrote 0 20\nbytes 0 +x%0D%0A\nend\n",
         0,
@@ -149,6 +158,14 @@ const LATER_LINES: [(&[u8], u32); 47] = [
     (b"cancel +7\nend\n", 2),
     (b"cancel -7\nend\n", 2),
     (b"cancel %-\nend\n", 2),
+    (b"refused 4294967295 reset\nfired 4294967295\nend\n", 0),
+    (b"refused 4294967296 reset\nend\n", 2),
+    (b"refused 0 gone\nend\n", 2),
+    (b"refused 0\nend\n", 2),
+    (b"refused 0 reset ; x\nend\n", 2),
+    (b"fired 4294967296\nend\n", 2),
+    (b"fired\nend\n", 2),
+    (b"fired 0 0\nend\n", 2),
     (b"wrote 0 18446744073709551615\nend\n", 0),
     (b"wrote 0 18446744073709551616\nend\n", 2),
     (b"wrote 0\nend\n", 2),
@@ -220,8 +237,35 @@ fn events_as_given(rt: HostRuntime) -> Result<(), Fail> {
     let text =
         b"config single lib=off response=none url=redis://h.1:7 connect=none\nconnected 8\nsubmit cmd GET %25%3b\nwrote 8 20\nbytes 8 +x%0D%0a\nend\n";
     let script = read_script(rt.alloc(), text)?;
-    assert!(rt; script.config.host.as_slice() == b"h.1".as_slice() && script.config.port == 7);
+    assert!(rt; script.config.url.as_slice() == b"redis://h.1:7".as_slice());
+    assert!(rt; script.config.connect == Some(None));
     assert!(rt; are_as_given(script.events.as_slice()));
+    Ok(())
+}
+
+/// Settings, each line with its URL and with how long the connect may take.
+const SETTINGS: [(&[u8], &[u8], Option<Option<u64>>); 5] = [
+    (b"url=a response=none lib=off", b"a", None),
+    (b"lib=off url=%00=%3B response=none", b"\x00=;", None),
+    (b"connect=none response=none url= lib=off", b"", Some(None)),
+    (b"connect=0 response=none url=a lib=off", b"a", Some(Some(0))),
+    (
+        b"url=a connect=18446744073709551615 response=none lib=off",
+        b"a",
+        Some(Some(u64::MAX)),
+    ),
+];
+
+#[test]
+fn settings_as_given(rt: HostRuntime) -> Result<(), Fail> {
+    for (settings, url, connect) in SETTINGS {
+        let mut text = Bytes::from_slice(rt.alloc(), b"config single ")?;
+        text.extend_from_slice(settings)?;
+        text.extend_from_slice(b"\nend\n")?;
+        let config = read_script(rt.alloc(), text.as_slice())?.config;
+        assert!(rt; config.url.as_slice() == url);
+        assert!(rt; config.connect == connect);
+    }
     Ok(())
 }
 

@@ -7,18 +7,19 @@ use Rattle.session_tool.specs.declared.command.Command.{Command}
 use Rattle.session_tool.specs.declared.command.Command.TheVariants.{Replay, Help, Version, Unknown}
 use Rattle.session_tool.specs.declared.status.Status.{Status}
 use Rattle.session_tool.specs.declared.status.Status.TheVariants as status
-use Rattle.session_tool.specs.Does.{Does, EndsWell, Prints}
+use Rattle.session_tool.specs.Does.{Does, EndsWell, EndsRefused}
 use Rattle.session_tool.specs.Headline.{Headline}
 use Rattle.session_tool.specs.Lines.{read_fault_line, usage_line, help_text, version_line}
-use Rattle.session_tool.specs.Runs.{IsReplay, IsRefusal, IsBadRun, IsSpentRun, IsWholeRun, IsCutRun, IsSound}
+use Rattle.session_tool.specs.Runs.{IsReplay, IsRefusal, IsConfigRun, IsBadRun, IsSpentRun, IsWholeRun, IsCutRun}
 use Rattle.session_tool.specs.Sides.{Side, Fails, IfTold}
-use Rattle.session_tool.proofs.Sound.{not_bad, not_spent, not_refused}
+use Rattle.session_tool.proofs.Sound.{not_bad, not_spent, not_fault, not_unsound, not_sound, no_fault_in}
 
 -- what a replay comes to, status by status
 abbrev pub Comes : Status → Side → Side → Side → Side → Type 0
 Comes status.Done source source' sink sink' = IfTold source (λ bytes. IsReplay bytes source'.bytes sink.bytes sink'.bytes × Headline bytes)
 Comes status.Usage source source' sink sink' = ⊥
 Comes status.Script source source' sink sink' = IfTold source (λ bytes. IsRefusal bytes sink.bytes sink'.bytes)
+Comes status.Config source source' sink sink' = IfTold source (λ bytes. IsConfigRun bytes sink.bytes sink'.bytes)
 Comes status.BadEvent source source' sink sink' = IfTold source (λ bytes. IsBadRun bytes sink.bytes sink'.bytes)
 Comes status.NoMemory source source' sink sink' = IfTold source (λ bytes. IsWholeRun bytes sink.bytes sink'.bytes)
 Comes status.ReadFault source source' sink sink' = Gained sink.bytes sink'.bytes read_fault_line × Fails source source'
@@ -29,12 +30,25 @@ Comes status.Spent source source' sink sink' = IfTold source (λ bytes. IsSpentR
 ends_well : (s : Status) (source source' sink sink' : Side) → Comes s source source' sink sink' → IfTold source (λ bytes. EndsWell bytes s source source' sink sink')
 ends_well status.Done source source' sink sink' comes bytes told sound read wrote = inl refl
 ends_well status.Usage source source' sink sink' comes bytes told sound read wrote = absurd comes
-ends_well status.Script source source' sink sink' comes bytes told sound read wrote = let h = comes bytes told in absurd (not_refused bytes h.line h.fault sound)
+ends_well status.Script source source' sink sink' comes bytes told sound read wrote = let h = comes bytes told in absurd (not_fault bytes h.line h.fault sound)
+ends_well status.Config source source' sink sink' comes bytes told sound read wrote = let h = comes bytes told in absurd (not_unsound bytes h.config sound)
 ends_well status.BadEvent source source' sink sink' comes bytes told sound read wrote = let h = comes bytes told in absurd (not_bad bytes h.script h.reads h.told.index h.told.first sound)
 ends_well status.NoMemory source source' sink sink' comes bytes told sound read wrote = inr refl
 ends_well status.ReadFault source source' sink sink' comes bytes told sound read wrote = absurd (read comes.1)
 ends_well status.WriteFault source source' sink sink' comes bytes told sound read wrote = absurd (wrote comes.1)
 ends_well status.Spent source source' sink sink' comes bytes told sound read wrote = let h = comes bytes told in absurd (not_spent bytes h.script h.reads h.told.index h.told.first sound)
+
+-- the replay of a script whose configuration is refused ends with that status, or memory was refused
+ends_refused : (s : Status) (source source' sink sink' : Side) → Comes s source source' sink sink' → IfTold source (λ bytes. EndsRefused bytes s source source' sink sink')
+ends_refused status.Done source source' sink sink' comes bytes told refused read wrote = let h = (comes bytes told).0 in absurd (not_sound bytes h.script h.reads h.sound refused)
+ends_refused status.Usage source source' sink sink' comes bytes told refused read wrote = absurd comes
+ends_refused status.Script source source' sink sink' comes bytes told refused read wrote = let h = comes bytes told in absurd (no_fault_in bytes h.line h.fault refused)
+ends_refused status.Config source source' sink sink' comes bytes told refused read wrote = inl refl
+ends_refused status.BadEvent source source' sink sink' comes bytes told refused read wrote = let h = comes bytes told in absurd (not_sound bytes h.script h.reads h.told.first.before.sound refused)
+ends_refused status.NoMemory source source' sink sink' comes bytes told refused read wrote = inr refl
+ends_refused status.ReadFault source source' sink sink' comes bytes told refused read wrote = absurd (read comes.1)
+ends_refused status.WriteFault source source' sink sink' comes bytes told refused read wrote = absurd (wrote comes.1)
+ends_refused status.Spent source source' sink sink' comes bytes told refused read wrote = let h = comes bytes told in absurd (not_sound bytes h.script h.reads h.told.first.before.sound refused)
 
 -- a replay does what it comes to
 pub replay_does : (s : Status) (source source' sink sink' : Side) → Comes s source source' sink sink' → Does Replay s source source' sink sink'
@@ -49,6 +63,8 @@ replay_does s source source' sink sink' comes =
       unknown = λ other. cc;
       usage = λ is. absurd (at status.Usage is);
       script = at status.Script;
+      refused = at status.Config;
+      exact = λ replay. ends_refused s source source' sink sink' comes;
       bad = at status.BadEvent;
       free = λ is. refl;
       whole = at status.NoMemory;

@@ -6,7 +6,7 @@ use Rattle.driver_model.specs.declared.config.Config.{Config}
 use Rattle.driver_model.specs.declared.event.Event.{Event}
 use Rattle.script_text.specs.Script.{script_of}
 use Rattle.script_text.specs.declared.script.Script.{Script}
-use Rattle.shared_session.specs.Replay.{trace_of, AreGood}
+use Rattle.shared_session.specs.Replay.{trace_of, AreGood, IsSound}
 use Rattle.legal_trace.specs.Ledger.{Ledger, stream, joined}
 use Rattle.legal_trace.specs.Legal.{Legal}
 use Rattle.legal_laws.specs.Links.{IsPrefix}
@@ -39,16 +39,16 @@ own_text text script small reads =
 
 -- the turns of events that were taken are legal
 pub legal_up_to : (script : Script) (index : ℕ) → AreTaken script.config script.word script.events index → IsLegalUpTo script index
-legal_up_to script index taken = replay_legal script.config script.word (take index script.events) taken.good
+legal_up_to script index taken = replay_legal script.config script.word (take index script.events) taken.sound taken.good
 
 -- a text of bytes is kept of all that is read, which says the same script
-pub headline : (kept bytes : List ℕ) (script : Script) → AreBytes kept → script_of kept ≡ Ok script → script_of bytes ≡ Ok script → AreGood script.config script.word script.events → Headline bytes
-headline kept bytes script small reads says good =
+pub headline : (kept bytes : List ℕ) (script : Script) → AreBytes kept → script_of kept ≡ Ok script → script_of bytes ≡ Ok script → IsSound script.config → AreGood script.config script.word script.events → Headline bytes
+headline kept bytes script small reads says sound good =
     let config = script.config in
     let word = script.word in
     let events = script.events in
     let trace = trace_of config word events in
-    let h = replay_legal config word events good in
+    let h = replay_legal config word events sound good in
     record {
       legal = record { script = script; reads = says; legal = h };
       in_order = record { script = script; reads = says; holds = takes_in_order config word events trace h };

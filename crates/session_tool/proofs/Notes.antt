@@ -1,10 +1,12 @@
 -- The notes of a replay, from what its parts said.
-use Rattle.std.proofs.Common.{◌≡◌, ◌⊎◌, ◌<◌, inl, inr, ℕ, List, [], Option, ◌∙◌, ap, subst}
+use Rattle.std.proofs.Common.{◌≡◌, ◌⊎◌, ◌<◌, inl, inr, ℕ, List, [], Option, Some, ◌∙◌, ap, subst}
 use Rattle.std.specs.Prelude.{Ok, Err, IfSome}
+use Rattle.redis_error.specs.declared.config_name.ConfigName.{ConfigName}
+use Rattle.driver_model.specs.Config.{first_fault}
 use Rattle.script_text.specs.Script.{script_of}
 use Rattle.script_text.specs.declared.script.Script.{Script}
 use Rattle.session_tool.specs.declared.status.Status.TheVariants as status
-use Rattle.session_tool.specs.Notes.{IsOwn, IsLineNote, IsBadNoteOf, IsCountNote, open_count, open_note}
+use Rattle.session_tool.specs.Notes.{IsOwn, IsLineNote, IsBadNoteOf, IsCountNote, open_count, open_note, config_words, line_note}
 use Rattle.session_tool.specs.Reading.{Decides}
 use Rattle.session_tool.specs.Sides.{Side}
 
@@ -21,6 +23,13 @@ own_done source left kept script count own decides reads counted (inr note) =
       some = subst (λ (n : ℕ). 0 < n) is note.some;
       is = note.is ∙ ap open_note is;
     })
+
+-- the note of a refused configuration
+pub own_config : (source : Side) (left : Option (List ℕ)) (kept : List ℕ) (script : Script) (name : ConfigName) (own : List ℕ) → Decides source.bytes left kept → script_of kept ≡ Ok script
+    → first_fault script.config ≡ Some name → (own ≡ []) ⊎ (own ≡ line_note 1 (config_words name)) → IsOwn status.Config source own
+own_config source left kept script name own decides reads refused (inl none) = inl none
+own_config source left kept script name own decides reads refused (inr note) =
+    inr (λ bytes told. record { config = record { script = script; reads = decides.same bytes told ∙ reads; name = name; refused = refused }; is = note })
 
 -- the note of the first bad event
 pub own_bad : (source : Side) (left : Option (List ℕ)) (kept : List ℕ) (script : Script) (own : List ℕ) → Decides source.bytes left kept → script_of kept ≡ Ok script

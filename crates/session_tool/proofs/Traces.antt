@@ -6,12 +6,13 @@ use Rattle.std.proofs.lemmas.Grind.{flat_map-append}
 use Rattle.std.proofs.Math.Seq.{take-append-add, take-length}
 use Rattle.std.specs.Prelude.{slice_get, take, codes}
 use Rattle.outside.specs.Ends.{Gained, GainedPart}
+use Rattle.redis_error.specs.declared.config_name.ConfigName.{ConfigName}
 use Rattle.driver_model.specs.declared.action.Action.{Action}
 use Rattle.driver_model.specs.declared.config.Config.{Config}
 use Rattle.driver_model.specs.declared.event.Event.{Event}
 use Rattle.shared_session.specs.declared.session.Failure.TheVariants.{Sound, Spent}
 use Rattle.shared_session.specs.History.{History}
-use Rattle.shared_session.specs.Replay.{opening_actions, state_after, trace_of, AreGood, AreUnspent, is_bad_after, is_spent_after}
+use Rattle.shared_session.specs.Replay.{opening_actions, state_after, trace_of, AreGood, AreUnspent, is_bad_after, is_spent_after, IsSound}
 use Rattle.shared_session.specs.Turn.{actions_of}
 use Rattle.shared_session.specs.Stops.{IsSpentAt, IsSpentBy}
 use Rattle.shared_session.proofs.Replays.{Kept, kept_none, kept_more, taken_count, spent_stops, trace_of-none, trace_of-more}
@@ -19,8 +20,8 @@ use Rattle.trace_text.specs.Show.{action_line, show}
 use Rattle.session_tool.specs.Streaming.{Sent}
 use Rattle.session_tool.specs.declared.replaying.Stop.{Stop}
 use Rattle.session_tool.specs.declared.replaying.Stop.TheVariants as stop
-use Rattle.session_tool.specs.Stops.{AreTaken, AreTurns, IsFirstBad, IsFirstSpent, EndsAt, EndsBadly, EndsSpent, ToldAt, SentTurns, GainedTurns, GainedFront, Ends, Told, IsReplayText, EndsWith, turns_before, event_line, stop_line}
-use Rattle.session_tool.specs.Lines.{numbered_line}
+use Rattle.session_tool.specs.Stops.{AreTaken, AreTurns, IsFirstBad, IsFirstSpent, EndsAt, EndsBadly, EndsSpent, EndsRefused, IsToldRefused, IsNotOpened, ToldAt, SentTurns, GainedTurns, GainedFront, Ends, Told, IsReplayText, EndsWith, turns_before, event_line, stop_line}
+use Rattle.session_tool.specs.Lines.{numbered_line, config_line}
 
 -- the text of two lists of actions
 pub show-append : (xs ys : List Action) → show (xs ++ ys) ≡ show xs ++ show ys
@@ -75,12 +76,14 @@ sent_part {old} {mid} {new} rest text more one last =
 
 -- what a replay into a sink keeps from event to event: the session has taken these events, and the sink and the rest have their trace
 pub record Streams (config : Config) (word : ℕ) (taken : List Event) (s : History) (old new : Option (List ℕ)) (rest : List ℕ) : Type 0 where
+  pub sound : IsSound config
   pub kept : Kept config word taken [] s (trace_of config word taken)
   pub sent : Sent old new rest (show (trace_of config word taken))
 
 pub streams_none : {held : Option (List ℕ)} (config : Config) (word : ℕ) (s : History) (before rest : List ℕ) → s ≡ record { config = config; word = word; events = []; failure = Sound }
-    → before ≡ [] → rest ≡ before ++ show (opening_actions config word) → Streams config word [] s held held rest
-streams_none {held} config word s before rest made empty shown = record {
+    → IsSound config → before ≡ [] → rest ≡ before ++ show (opening_actions config word) → Streams config word [] s held held rest
+streams_none {held} config word s before rest made sound empty shown = record {
+  sound = sound;
   kept = kept_none config word [] (trace_of config word []) s made (trace_of-none config word);
   sent = sent_none rest (show (trace_of config word [])) (shown ∙ ap (λ (xs : List ℕ). xs ++ show (opening_actions config word)) empty ∙ ap (λ (acts : List Action). show acts) (sym (trace_of-none config word)));
 }
@@ -102,6 +105,7 @@ streams_more {old} {mid} {new} config word taken s t e rest grown after h made g
     let same : actions_of (state_after s.config s.word s.events) e ≡ acts = ap (λ (x : History). actions_of (state_after x.config x.word x.events) e) h.kept.made in
     let next : trace_of config word (taken ++ e ∷ []) ≡ trace_of config word taken ++ acts = trace_of-more config word taken e in
     record {
+      sound = h.sound;
       kept = kept_next config word taken s t e h.kept made good unspent;
       sent = subst (λ (xs : List ℕ). Sent old new after xs) (sym (ap (λ (acted : List Action). show acted) next ∙ show-append (trace_of config word taken) acts))
           (sent_more rest grown after (show (trace_of config word taken)) (show acts) h.sent (shown ∙ ap (λ (acted : List Action). rest ++ show acted) same) sent);
@@ -109,7 +113,7 @@ streams_more {old} {mid} {new} config word taken s t e rest grown after h made g
 
 -- the events so far are taken
 taken_before : {old new : Option (List ℕ)} (config : Config) (word : ℕ) (all : List Event) (index : ℕ) (s : History) (rest : List ℕ) → index ≤ length all → Streams config word (take index all) s old new rest → AreTaken config word all index
-taken_before {old} {new} config word all index s rest l h = record { within = l; good = h.kept.good; unspent = h.kept.unspent }
+taken_before {old} {new} config word all index s rest l h = record { within = l; sound = h.sound; good = h.kept.good; unspent = h.kept.unspent }
 
 -- a bad event ends a replay into a sink
 pub ends_badly : {old new : Option (List ℕ)} (config : Config) (word : ℕ) (all : List Event) (index number : ℕ) (s : History) (e : Event) (before after : List ℕ) →
@@ -155,8 +159,16 @@ sent_turns {old} {new} config word all index s before after l h same = record {
 }
 
 -- and where nothing was shown
-pub sent_nothing : {held : Option (List ℕ)} (config : Config) (word : ℕ) (all : List Event) (before after : List ℕ) → before ≡ [] → after ≡ before → SentTurns config word all held held after
+sent_nothing : {held : Option (List ℕ)} (config : Config) (word : ℕ) (all : List Event) (before after : List ℕ) → before ≡ [] → after ≡ before → SentTurns config word all held held after
 sent_nothing {held} config word all before after none same = record { text = []; turns = inl refl; sent = sent_none after [] (same ∙ none) }
+
+-- no session was made
+pub not_opened : {held : Option (List ℕ)} (config : Config) (word : ℕ) (all : List Event) (why : Stop) (before after : List ℕ) → IsNotOpened why config → before ≡ [] → after ≡ before → Ends why config word all held held after
+not_opened config word all (stop.Config name) before after refused none same = record { refused = refused; sent = sent_none after [] (same ∙ none) }
+not_opened config word all (stop.BadEvent n) before after refused none same = absurd refused
+not_opened config word all (stop.Spent n) before after refused none same = absurd refused
+not_opened config word all stop.NoMemory before after refused none same = sent_nothing config word all before after none same
+not_opened config word all stop.WriteFault before after refused none same = absurd refused
 
 -- the front of whole turns
 front_of_turns : {old new : Option (List ℕ)} (config : Config) (word : ℕ) (all : List Event) (text : List ℕ) → AreTurns config word all text → GainedPart old new text → GainedFront config word all old new
@@ -172,6 +184,7 @@ cut_short {old} {mid} {new} config word all index s e before grown l next h good
     let kept = kept_next config word taken s (record s { events = s.events ++ e ∷ [] }) e h.kept refl good unspent in
     let more_taken : AreTaken config word all (index + 1) = record {
       within = omega arith;
+      sound = h.sound;
       good = subst (λ (es : List Event). AreGood config word es) (sym next) kept.good;
       unspent = subst (λ (es : List Event). AreUnspent config word es) (sym next) kept.unspent;
     } in
@@ -184,12 +197,13 @@ cut_short {old} {mid} {new} config word all index s e before grown l next h good
     (sent_part before (turns_before config word all index) (show acts) h.sent (subst (λ (xs : List ℕ). GainedPart mid new xs) more part))
 
 -- the sink failed at the end of a whole replay
-pub cut_whole : {old mid new : Option (List ℕ)} (config : Config) (word : ℕ) (all taken : List Event) (rest : List ℕ) → taken ≡ all → AreGood config word taken → AreUnspent config word taken
+pub cut_whole : {old mid new : Option (List ℕ)} (config : Config) (word : ℕ) (all taken : List Event) (rest : List ℕ) → taken ≡ all → IsSound config → AreGood config word taken → AreUnspent config word taken
     → Sent old mid rest (show (trace_of config word taken)) → GainedPart mid new rest → GainedFront config word all old new
-cut_whole {old} {mid} {new} config word all taken rest same good unspent sent part =
+cut_whole {old} {mid} {new} config word all taken rest same sound good unspent sent part =
     let is : taken ≡ take (length all) all = same ∙ sym (take-length all) in
     let all_taken : AreTaken config word all (length all) = record {
       within = le_refl (length all);
+      sound = sound;
       good = subst (λ (es : List Event). AreGood config word es) is good;
       unspent = subst (λ (es : List Event). AreUnspent config word es) is unspent;
     } in
@@ -245,6 +259,21 @@ taken_before_bad config word all k h = h.before
 taken_before_spent : (config : Config) (word : ℕ) (all : List Event) (k : ℕ) → IsFirstSpent config word all k → AreTaken config word all k
 taken_before_spent config word all k h = h.before
 
+-- the line of a refused configuration is written
+told_refused : {old mid new : Option (List ℕ)} (config : Config) (name : ConfigName) (rest : List ℕ) → EndsRefused config name old mid rest → Gained mid new (rest ++ config_line name) → IsToldRefused config name old new
+told_refused config name rest h told = record { refused = h.refused; gained = sent_end_more rest [] (config_line name) h.sent told }
+
+-- or nothing
+told_nothing : {old mid new : Option (List ℕ)} (config : Config) (word : ℕ) (all : List Event) (name : ConfigName) (rest : List ℕ) → EndsRefused config name old mid rest → Gained mid new (rest ++ []) → GainedTurns config word all old new
+told_nothing config word all name rest h told = record { text = []; turns = inl refl; gained = sent_end_more rest [] [] h.sent told }
+
+-- or its front
+front_refused : {old mid new : Option (List ℕ)} (config : Config) (word : ℕ) (all : List Event) (name : ConfigName) (rest : List ℕ) →
+    EndsRefused config name old mid rest → GainedPart mid new (rest ++ config_line name) ⊎ GainedPart mid new (rest ++ []) → GainedFront config word all old new
+front_refused config word all name rest h (inl part) =
+    record { text = config_line name; is = inr (inr (inr (record { name = name; refused = h.refused; is = refl }))); part = sent_part rest [] (config_line name) h.sent part }
+front_refused config word all name rest h (inr part) = front_of_turns config word all [] (inl refl) (sent_part rest [] [] h.sent part)
+
 no_fault : stop.NoMemory ≡ stop.WriteFault → ⊥
 no_fault is = cc
 
@@ -255,6 +284,8 @@ either_part {mid} {new} rest (inr part) = part
 -- the stop stays, and its line was written
 told_same : (old mid new : Option (List ℕ)) (config : Config) (word : ℕ) (all : List Event) (s : Stop) (rest : List ℕ) → Ends s config word all old mid rest
     → (s ≡ stop.WriteFault → new ≡ mid) → (s ≡ stop.WriteFault) ⊎ Gained mid new (rest ++ stop_line s) → Told s config word all old new
+told_same old mid new config word all (stop.Config name) rest ends same (inr told) = told_refused config name rest ends told
+told_same old mid new config word all (stop.Config name) rest ends same (inl is) = cc
 told_same old mid new config word all (stop.BadEvent n) rest ends same (inr told) = told_at (IsFirstBad config word all) (turns_before config word all) (codes "bad event") n rest ends told
 told_same old mid new config word all (stop.BadEvent n) rest ends same (inl is) = cc
 told_same old mid new config word all (stop.Spent n) rest ends same (inr told) = told_at (IsFirstSpent config word all) (turns_before config word all) (codes "spent event") n rest ends told
@@ -267,6 +298,7 @@ told_same old mid new config word all stop.WriteFault rest ends same told = subs
 -- memory was refused for its line
 told_less : (old mid new : Option (List ℕ)) (config : Config) (word : ℕ) (all : List Event) (s : Stop) (rest : List ℕ) → Ends s config word all old mid rest → (s ≡ stop.WriteFault → ⊥)
     → Gained mid new (rest ++ []) → GainedTurns config word all old new
+told_less old mid new config word all (stop.Config name) rest ends not_fault told = told_nothing config word all name rest ends told
 told_less old mid new config word all (stop.BadEvent n) rest ends not_fault told = turns_first config word all (IsFirstBad config word all) n rest (taken_before_bad config word all) ends told
 told_less old mid new config word all (stop.Spent n) rest ends not_fault told = turns_first config word all (IsFirstSpent config word all) n rest (taken_before_spent config word all) ends told
 told_less old mid new config word all stop.NoMemory rest ends not_fault told =
@@ -277,11 +309,13 @@ told_less old mid new config word all stop.WriteFault rest ends not_fault told =
 told_cut : (old mid new : Option (List ℕ)) (config : Config) (word : ℕ) (all : List Event) (s : Stop) (rest : List ℕ) → Ends s config word all old mid rest → (s ≡ stop.WriteFault → new ≡ mid)
     → (s ≡ stop.WriteFault) ⊎ (GainedPart mid new (rest ++ stop_line s) ⊎ GainedPart mid new (rest ++ [])) → GainedFront config word all old new
 told_cut old mid new config word all stop.WriteFault rest ends same cut = subst (λ (x : Option (List ℕ)). GainedFront config word all old x) (sym (same refl)) ends
+told_cut old mid new config word all (stop.Config name) rest ends same (inr cut) = front_refused config word all name rest ends cut
+told_cut old mid new config word all (stop.Config name) rest ends same (inl is) = cc
 told_cut old mid new config word all (stop.BadEvent n) rest ends same (inr cut) =
     front_first config word all (IsFirstBad config word all) (codes "bad event") n rest (λ text is. inr (inl is)) (taken_before_bad config word all) ends cut
 told_cut old mid new config word all (stop.BadEvent n) rest ends same (inl is) = cc
 told_cut old mid new config word all (stop.Spent n) rest ends same (inr cut) =
-    front_first config word all (IsFirstSpent config word all) (codes "spent event") n rest (λ text is. inr (inr is)) (taken_before_spent config word all) ends cut
+    front_first config word all (IsFirstSpent config word all) (codes "spent event") n rest (λ text is. inr (inr (inl is))) (taken_before_spent config word all) ends cut
 told_cut old mid new config word all (stop.Spent n) rest ends same (inl is) = cc
 told_cut old mid new config word all stop.NoMemory rest ends same (inr cut) =
     front_of_turns config word all (ends.text ++ []) (subst (λ (xs : List ℕ). AreTurns config word all xs) (sym (append-nil ends.text)) ends.turns)
@@ -308,8 +342,9 @@ pub stopped_turn : {old new : Option (List ℕ)} (config : Config) (word : ℕ) 
     index < length all → slice_get all index ≡ Some e → Streams config word (take index all) s old new before → after ≡ before
     → ((n : ℕ) → why ≡ stop.BadEvent n → is_bad_after s.config s.word s.events e ≡ true) → ((n : ℕ) → why ≡ stop.BadEvent n → n ≡ length s.events + 1)
     → ((n : ℕ) → why ≡ stop.Spent n → (s.failure ≡ Spent) ⊎ IsSpentBy s e) → ((n : ℕ) → why ≡ stop.Spent n → n ≡ length s.events + 1)
-    → (why ≡ stop.WriteFault → ⊥) → Ends why config word all old new after
-stopped_turn {old} {new} config word all index s e (stop.BadEvent n) before after l is h same bad number spent count writes = ends_badly config word all index n s e before after l is h same (bad n refl) (number n refl)
-stopped_turn {old} {new} config word all index s e (stop.Spent n) before after l is h same bad number spent count writes = ends_spent config word all index n s e before after l is h same (spent n refl) (count n refl)
-stopped_turn {old} {new} config word all index s e stop.NoMemory before after l is h same bad number spent count writes = sent_turns config word all index s before after (omega arith) h same
-stopped_turn {old} {new} config word all index s e stop.WriteFault before after l is h same bad number spent count writes = absurd (writes refl)
+    → (why ≡ stop.WriteFault → ⊥) → ((name : ConfigName) → why ≡ stop.Config name → ⊥) → Ends why config word all old new after
+stopped_turn {old} {new} config word all index s e (stop.Config name) before after l is h same bad number spent count writes opened = absurd (opened name refl)
+stopped_turn {old} {new} config word all index s e (stop.BadEvent n) before after l is h same bad number spent count writes opened = ends_badly config word all index n s e before after l is h same (bad n refl) (number n refl)
+stopped_turn {old} {new} config word all index s e (stop.Spent n) before after l is h same bad number spent count writes opened = ends_spent config word all index n s e before after l is h same (spent n refl) (count n refl)
+stopped_turn {old} {new} config word all index s e stop.NoMemory before after l is h same bad number spent count writes opened = sent_turns config word all index s before after (omega arith) h same
+stopped_turn {old} {new} config word all index s e stop.WriteFault before after l is h same bad number spent count writes opened = absurd (writes refl)

@@ -7,7 +7,7 @@ use Rattle.session_tool.specs.declared.status.Status.{Status}
 use Rattle.session_tool.specs.declared.status.Status.TheVariants as status
 use Rattle.session_tool.specs.Headline.{Headline}
 use Rattle.session_tool.specs.Lines.{read_fault_line, usage_line, help_text, version_line}
-use Rattle.session_tool.specs.Runs.{IsReplay, IsRefusal, IsBadRun, IsSpentRun, IsWholeRun, IsCutRun, IsSound}
+use Rattle.session_tool.specs.Runs.{IsReplay, IsRefusal, IsConfigRun, IsBadRun, IsSpentRun, IsWholeRun, IsCutRun, HasRefusedConfig, IsSoundScript}
 use Rattle.session_tool.specs.Sides.{Side, Fails, IfTold}
 
 -- the sink gained the front of what the command writes; of a replay this is said where the source tells its bytes
@@ -17,11 +17,17 @@ IsCut Help source source' sink sink' = GainedPart sink.bytes sink'.bytes help_te
 IsCut Version source source' sink sink' = GainedPart sink.bytes sink'.bytes version_line
 IsCut Unknown source source' sink sink' = GainedPart sink.bytes sink'.bytes usage_line
 
--- where the bytes are a script without a bad event or a spent step, and no count of faults rose, the replay is done, or
--- memory was refused
+-- where the bytes are a script of which nothing is refused, without a bad event or a spent step, and no count of faults rose,
+-- the replay is done, or memory was refused
 abbrev pub EndsWell : List ℕ → Status → Side → Side → Side → Side → Type 0
 EndsWell bytes s source source' sink sink' =
-    IsSound bytes → (Fails source source' → ⊥) → (Fails sink sink' → ⊥) → (s ≡ status.Done) ⊎ (s ≡ status.NoMemory)
+    IsSoundScript bytes → (Fails source source' → ⊥) → (Fails sink sink' → ⊥) → (s ≡ status.Done) ⊎ (s ≡ status.NoMemory)
+
+-- where the bytes are a script whose configuration is refused, and no count of faults rose, that is the status, or memory was
+-- refused
+abbrev pub EndsRefused : List ℕ → Status → Side → Side → Side → Side → Type 0
+EndsRefused bytes s source source' sink sink' =
+    HasRefusedConfig bytes → (Fails source source' → ⊥) → (Fails sink sink' → ⊥) → (s ≡ status.Config) ⊎ (s ≡ status.NoMemory)
 
 -- a line was written, with which a command ends with its status; or its front, and the sink failed
 abbrev pub Prints : Status → List ℕ → Status → Side → Side → Type 0
@@ -43,6 +49,8 @@ pub record Does (command : Command) (s : Status) (source source' sink sink' : Si
   pub usage : s ≡ status.Usage → Gained sink.bytes sink'.bytes usage_line
   -- 2
   pub script : s ≡ status.Script → IfTold source (λ bytes. IsRefusal bytes sink.bytes sink'.bytes)
+  -- 3
+  pub refused : s ≡ status.Config → IfTold source (λ bytes. IsConfigRun bytes sink.bytes sink'.bytes)
   -- 4
   pub bad : s ≡ status.BadEvent → IfTold source (λ bytes. IsBadRun bytes sink.bytes sink'.bytes)
   -- 5
@@ -56,5 +64,7 @@ pub record Does (command : Command) (s : Status) (source source' sink sink' : Si
   pub write : s ≡ status.WriteFault → Fails sink sink'
   -- 8
   pub spent : s ≡ status.Spent → IfTold source (λ bytes. IsSpentRun bytes sink.bytes sink'.bytes)
+  -- 3 or 5
+  pub exact : command ≡ Replay → IfTold source (λ bytes. EndsRefused bytes s source source' sink sink')
   -- 0 or 5
   pub complete : command ≡ Replay → IfTold source (λ bytes. EndsWell bytes s source source' sink sink')

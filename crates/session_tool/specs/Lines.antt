@@ -1,9 +1,15 @@
 -- The last lines of a run.
 use Rattle.std.specs.Prelude.{ℕ, List, [], ◌∷◌, ◌++◌, decimal, codes}
+use Rattle.redis_error.specs.Names.{config_name}
+use Rattle.redis_error.specs.declared.config_name.ConfigName.{ConfigName}
 
 -- words, a space and a number as a line
 unfoldable pub numbered_line : List ℕ → ℕ → List ℕ
 numbered_line words number = words ++ 32 ∷ decimal number ++ 10 ∷ []
+
+-- the line where a configuration is refused, for what it says of this name
+unfoldable pub config_line : ConfigName → List ℕ
+config_line name = codes "config " ++ config_name name ++ 10 ∷ []
 
 -- the line where the words are no command
 abbrev pub usage_line : List ℕ
@@ -26,7 +32,7 @@ help_text =
     ++ codes "gen N and live CONFIG are not in this version: they answer 1\n"
     ++ codes "\n"
     ++ codes "A script, each line an example:\n"
-    ++ codes "config single url=redis://HOST:PORT connect=none response=none lib=off\n"
+    ++ codes "config single url=redis://HOST:PORT response=none lib=off\n"
     ++ codes "submit cmd GET a                         a command\n"
     ++ codes "submit noreply SET k 1                   a command whose reply nobody awaits\n"
     ++ codes "submit pipe GET a ; GET b                a pipeline\n"
@@ -34,13 +40,16 @@ help_text =
     ++ codes "submit packed 1 2 GET a ; GET b ; GET c  a pipeline, 1 reply skipped and 2 kept\n"
     ++ codes "cancel 0                                 the caller of submission 0 drops its request\n"
     ++ codes "connected 0                              the connect of link 0 succeeded\n"
+    ++ codes "refused 0 timed-out                      the connect of link 0 failed\n"
     ++ codes "wrote 0 20                               20 of the offered bytes were taken\n"
     ++ codes "bytes 0 +OK%0D%0A                        bytes came, and %0D is the byte 13\n"
     ++ codes "ended 0                                  the peer closed the link\n"
     ++ codes "read-fault 0 reset                       a read failed\n"
     ++ codes "write-fault 0 broken-pipe                a write failed\n"
+    ++ codes "fired 0                                  the time of timer 0 is over\n"
     ++ codes "shutdown                                 everything is closed\n"
     ++ codes "end                                      the last line\n"
     ++ codes "\n"
+    ++ codes "The time of the connect is 1000 ms, or what connect=MS or connect=none says in the first line.\n"
     ++ codes "A fault is refused, reset, aborted, not-connected, broken-pipe, eof, timed-out, interrupted, denied or other.\n"
-    ++ codes "Status: 0 done, 1 no command, 2 no script, 4 bad event, 5 no memory, 6 no input, 7 no output, 8 no more numbers.\n"
+    ++ codes "Status: 0 done, 1 no command, 2 no script, 3 refused configuration, 4 bad event, 5 no memory, 6 no input, 7 no output, 8 no more numbers.\n"

@@ -1,5 +1,8 @@
 -- What is said on the side of a run: what to mend, and what is left open.
 use Rattle.std.specs.Prelude.{◌≡◌, ◌⊎◌, ℕ, ◌+◌, ◌<◌, Bool, true, false, ◌&&◌, List, [], ◌∷◌, ◌++◌, decimal, codes, take, length, slice_set, Option, Some, Err, Ok, is_none, if◌then◌else◌}
+use Rattle.redis_error.specs.declared.config_name.ConfigName.{ConfigName}
+use Rattle.redis_error.specs.declared.config_name.ConfigName.TheVariants as name
+use Rattle.redis_error.specs.Names.{config_name}
 use Rattle.driver_model.specs.declared.config.Config.{Config}
 use Rattle.driver_model.specs.declared.event.Event.{Event}
 use Rattle.driver_model.specs.declared.event.EventKind.{EventKind}
@@ -13,9 +16,10 @@ use Rattle.script_text.specs.Script.{script_of}
 use Rattle.script_text.specs.declared.script.Script.{Script}
 use Rattle.shared_session.specs.Replay.{trace_of, outcomes_in, outcome_at}
 use Rattle.session_tool.specs.declared.bad.BadReason.{BadReason}
-use Rattle.session_tool.specs.declared.bad.BadReason.TheVariants.{NoName, NoSubmission, NoLink, OnlyOffered}
+use Rattle.session_tool.specs.declared.bad.BadReason.TheVariants.{NoName, NoSubmission, NoLink, NoTimer, OnlyOffered}
 use Rattle.session_tool.specs.declared.status.Status.{Status}
 use Rattle.session_tool.specs.declared.status.Status.TheVariants as status
+use Rattle.session_tool.specs.Runs.{HasRefusedConfig}
 use Rattle.session_tool.specs.Sides.{Side, Fails, IfTold}
 use Rattle.session_tool.specs.Stops.{IsFirstBad}
 
@@ -35,16 +39,29 @@ pub record IsScriptNote (bytes text : List ℕ) : Type 0 where
   pub fault : script_of bytes ≡ Err line
   pub note : IsLineNote line text
 
+-- what of a configuration is to be mended, by the name of what is refused
+abbrev pub config_words : ConfigName → List ℕ
+config_words name.Url = codes "the URL is no address: it has the scheme redis or valkey, a host, and behind them no more than a port, a database and a protocol"
+config_words name.Kind = codes "this address asks for a password, a protocol or a database, which this version doesn't set up"
+config_words other = codes "the configuration is refused for its " ++ config_name other
+
+-- the configuration in the first line is refused, and this note says what to mend
+pub record IsConfigNote (bytes text : List ℕ) : Type 0 where
+  pub config : HasRefusedConfig bytes
+  pub is : text ≡ line_note 1 (config_words config.name)
+
 -- an event, as far as its numbers
 abbrev pub event_words : EventKind → List ℕ
 event_words (event.Submit what) = codes "submit"
 event_words (event.Cancel n) = codes "cancel " ++ decimal n
 event_words (event.Connected l) = codes "connected " ++ decimal l
+event_words (event.Refused l kind) = codes "refused " ++ decimal l
 event_words (event.Wrote l count) = codes "wrote " ++ decimal l ++ codes " " ++ decimal count
 event_words (event.Bytes l piece) = codes "bytes " ++ decimal l
 event_words (event.Ended l) = codes "ended " ++ decimal l
 event_words (event.ReadFault l kind) = codes "read-fault " ++ decimal l
 event_words (event.WriteFault l kind) = codes "write-fault " ++ decimal l
+event_words (event.Fired t) = codes "fired " ++ decimal t
 event_words event.Shutdown = codes "shutdown"
 
 -- why an event is bad, in words
@@ -52,6 +69,7 @@ abbrev pub bad_words : BadReason → List ℕ
 bad_words NoName = codes ": the one command of a list needs a name"
 bad_words NoSubmission = codes ": no submission has this number yet"
 bad_words NoLink = codes ": no link has this number"
+bad_words NoTimer = codes ": no timer has this number"
 bad_words (OnlyOffered count) = codes ": only " ++ decimal count ++ codes " bytes were offered"
 
 -- why bytes that a link took are too many
@@ -63,11 +81,13 @@ abbrev pub bad_reason : Book → EventKind → BadReason
 bad_reason b (event.Submit what) = NoName
 bad_reason b (event.Cancel n) = NoSubmission
 bad_reason b (event.Connected l) = NoLink
+bad_reason b (event.Refused l kind) = NoLink
 bad_reason b (event.Wrote l count) = wrote_reason b l
 bad_reason b (event.Bytes l piece) = NoLink
 bad_reason b (event.Ended l) = NoLink
 bad_reason b (event.ReadFault l kind) = NoLink
 bad_reason b (event.WriteFault l kind) = NoLink
+bad_reason b (event.Fired t) = NoTimer
 bad_reason b event.Shutdown = NoLink
 
 -- an event that is bad after what is in this book, in words
@@ -91,11 +111,13 @@ abbrev pub kept_by : List Bool → EventKind → List Bool
 kept_by kept (event.Submit what) = kept ++ true ∷ []
 kept_by kept (event.Cancel n) = slice_set kept n false
 kept_by kept (event.Connected l) = kept
+kept_by kept (event.Refused l kind) = kept
 kept_by kept (event.Wrote l count) = kept
 kept_by kept (event.Bytes l piece) = kept
 kept_by kept (event.Ended l) = kept
 kept_by kept (event.ReadFault l kind) = kept
 kept_by kept (event.WriteFault l kind) = kept
+kept_by kept (event.Fired t) = kept
 kept_by kept event.Shutdown = kept
 
 abbrev pub kept_each : List Bool → List Event → List Bool
@@ -129,11 +151,12 @@ pub record IsOpenNote (bytes text : List ℕ) : Type 0 where
   pub some : 0 < open_count script.config script.word script.events
   pub is : text ≡ open_note (open_count script.config script.word script.events)
 
--- what is said of a status whatever the script is; of 0, 2 and 4 nothing
+-- what is said of a status whatever the script is; of 0, 2, 3 and 4 nothing
 abbrev pub fixed_note : Status → List ℕ
 fixed_note status.Done = []
 fixed_note status.Usage = codes "this version has the words replay, --help and --version: gen and live are not in it" ++ codes "\n"
 fixed_note status.Script = []
+fixed_note status.Config = []
 fixed_note status.BadEvent = []
 fixed_note status.NoMemory = codes "memory was refused: standard output has whole turns at most" ++ codes "\n"
 fixed_note status.ReadFault = codes "standard input could not be read to its end" ++ codes "\n"
@@ -145,6 +168,7 @@ abbrev pub IsTold : Status → Side → List ℕ → Type 0
 IsTold status.Done source text = IfTold source (λ bytes. IsOpenNote bytes text)
 IsTold status.Usage source text = ⊥
 IsTold status.Script source text = IfTold source (λ bytes. IsScriptNote bytes text)
+IsTold status.Config source text = IfTold source (λ bytes. IsConfigNote bytes text)
 IsTold status.BadEvent source text = IfTold source (λ bytes. IsBadNote bytes text)
 IsTold status.NoMemory source text = ⊥
 IsTold status.ReadFault source text = ⊥

@@ -4,8 +4,9 @@ use Rattle.legal_trace.specs.Book.{Book}
 use Rattle.legal_trace.specs.Ledger.{Ledger, is_over}
 use Rattle.session_tool.specs.declared.offer.Offer.{Offer}
 
--- of a link: whether it is up, whether it has ended, and how many bytes its offer has
+-- of a link: whether it was asked for, whether it is up, whether it has ended, and how many bytes its offer has
 pub record IsOfferIn (o : Offer) (l : Ledger) : Type 0 where
+  pub asked : o.asked ≡ l.asked
   pub up : o.up ≡ l.up
   pub over : o.over ≡ is_over l
   pub count : o.count ≡ length l.offer

@@ -2,21 +2,24 @@
 use Rattle.std.specs.Prelude.{◌≡◌, ◌⊎◌, ℕ, List, [], Option, Some, Ok, Err, codes}
 use Rattle.script_text.specs.Script.{script_of}
 use Rattle.script_text.specs.declared.script.Script.{Script}
-use Rattle.shared_session.specs.Replay.{trace_of, AreGood, AreUnspent}
+use Rattle.redis_error.specs.declared.config_name.ConfigName.{ConfigName}
+use Rattle.driver_model.specs.Config.{first_fault}
+use Rattle.shared_session.specs.Replay.{trace_of, AreGood, AreUnspent, IsSound}
 use Rattle.trace_text.specs.Show.{show}
 use Rattle.outside.specs.Ends.{Gained, GainedPart}
-use Rattle.session_tool.specs.Lines.{numbered_line, read_fault_line}
+use Rattle.session_tool.specs.Lines.{numbered_line, config_line, read_fault_line}
 use Rattle.session_tool.specs.Headline.{IsLegalUpTo}
 use Rattle.session_tool.specs.Sides.{Side, Fails}
 use Rattle.session_tool.specs.Stops.{IsToldBad, IsToldSpent, AreTurns, IsReplayText}
 
--- the bytes are a script without a bad event or a spent step, they were read to their end, and the sink gained the
--- script's trace
+-- the bytes are a script of which nothing is refused, without a bad event or a spent step, they were read to their end, and
+-- the sink gained the script's trace
 pub record IsReplay (bytes : List ℕ) (left old new : Option (List ℕ)) : Type 0 where
   pub script : Script
   pub reads : script_of bytes ≡ Ok script
   pub ended : left ≡ Some []
   pub trace : Gained old new (show (trace_of script.config script.word script.events))
+  pub sound : IsSound script.config
   pub good : AreGood script.config script.word script.events
   pub unspent : AreUnspent script.config script.word script.events
 
@@ -25,6 +28,18 @@ pub record IsRefusal (bytes : List ℕ) (old new : Option (List ℕ)) : Type 0 w
   pub line : ℕ
   pub fault : script_of bytes ≡ Err line
   pub told : Gained old new (numbered_line (codes "script line") line)
+
+-- the bytes are a script whose configuration is refused, first for what it says of this name
+pub record HasRefusedConfig (bytes : List ℕ) : Type 0 where
+  pub script : Script
+  pub reads : script_of bytes ≡ Ok script
+  pub name : ConfigName
+  pub refused : first_fault script.config ≡ Some name
+
+-- so they are, and the sink gained that name, and nothing else
+pub record IsConfigRun (bytes : List ℕ) (old new : Option (List ℕ)) : Type 0 where
+  pub config : HasRefusedConfig bytes
+  pub told : Gained old new (config_line config.name)
 
 -- an event of the script is the first bad one, and no step before it is spent: the sink gained the turns before it, which
 -- are legal, and its number
@@ -74,9 +89,10 @@ pub record IsCutRun (bytes : List ℕ) (source source' sink sink' : Side) : Type
   pub output : IsOutput bytes source source' text
   pub part : GainedPart sink.bytes sink'.bytes text
 
--- the bytes are a script, no event is bad, and no step is spent
-pub record IsSound (bytes : List ℕ) : Type 0 where
+-- the bytes are a script, nothing of its configuration is refused, no event is bad, and no step is spent
+pub record IsSoundScript (bytes : List ℕ) : Type 0 where
   pub script : Script
   pub reads : script_of bytes ≡ Ok script
+  pub sound : IsSound script.config
   pub good : AreGood script.config script.word script.events
   pub unspent : AreUnspent script.config script.word script.events

@@ -1,7 +1,7 @@
 ghost use Rattle.std.specs.Prelude.{◌≡◌, ◌⊎◌, ◌<◌, ◌+◌, ◌^◌, ℕ, ◌∷◌, [], ◌++◌, true, false, decimal};
 ghost use Rattle.std.specs.Prelude.{OnOk, OnSome, IfOk, IfSome, IsErrOf};
 ghost use Rattle.legal_trace.specs.Book.{Book, book, entered_each};
-ghost use Rattle.shared_session.specs.Replay.{opening_actions, state_after};
+ghost use Rattle.shared_session.specs.Replay.{opening_actions, state_after, IsSound};
 ghost use Rattle.shared_session.specs.Replay.{is_bad_after, is_spent_after};
 ghost use Rattle.shared_session.specs.Turn.{actions_of};
 ghost use Rattle.shared_session.specs.declared.session.Failure.TheVariants.{Sound};
@@ -26,6 +26,8 @@ pub enum BadReason {
     NoSubmission,
     /// It names a link that was never asked for.
     NoLink,
+    /// It names a timer that was never asked for.
+    NoTimer,
     /// It says that more bytes were taken than were offered.
     OnlyOffered { count: u64 },
 }
@@ -55,6 +57,7 @@ fn push_event(text: &mut Bytes, kind: &EventKind) -> Result<(), AllocError>
         EventKind::Submit { submission: _ } => text.extend_from_slice(b"submit"),
         EventKind::Cancel { submission } => push_words(text, b"cancel ", u64::from(*submission)),
         EventKind::Connected { link } => push_words(text, b"connected ", u64::from(*link)),
+        EventKind::Refused { link, fault: _ } => push_words(text, b"refused ", u64::from(*link)),
         EventKind::Wrote { link, count } => {
             push_words(text, b"wrote ", u64::from(*link))?;
             push_words(text, b" ", *count)
@@ -67,6 +70,7 @@ fn push_event(text: &mut Bytes, kind: &EventKind) -> Result<(), AllocError>
         EventKind::WriteFault { link, fault: _ } => {
             push_words(text, b"write-fault ", u64::from(*link))
         }
+        EventKind::Fired { timer } => push_words(text, b"fired ", u64::from(*timer)),
         EventKind::Shutdown => text.extend_from_slice(b"shutdown"),
     }
 }
@@ -81,6 +85,7 @@ fn push_reason(text: &mut Bytes, reason: BadReason) -> Result<(), AllocError>
             text.extend_from_slice(b": no submission has this number yet")
         }
         BadReason::NoLink => text.extend_from_slice(b": no link has this number"),
+        BadReason::NoTimer => text.extend_from_slice(b": no timer has this number"),
         BadReason::OnlyOffered { count } => {
             push_words(text, b": only ", count)?;
             text.extend_from_slice(b" bytes were offered")
@@ -109,6 +114,7 @@ fn bad_line(
 fn open_quietly(alloc: Global, config: &Config, word: u64, offer: &mut Offer) -> Option<Session>
     ensures made { IfSome result (λ s.
         s ≡ record { config = config.now; word = word; events = []; failure = Sound }) }
+    ensures sound { OnSome result (IsSound config.now) }
     ensures offer { OnSome result (
         IsOfferOf offer.new (book (opening_actions config.now word))
         ) }

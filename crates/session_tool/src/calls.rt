@@ -100,10 +100,11 @@ fn no_call_comes_after_one_that_failed(rt: HostRuntime) -> Result<(), Fail> {
     Ok(())
 }
 
-const NUMBERS: [(Status, u8); 8] = [
+const NUMBERS: [(Status, u8); 9] = [
     (Status::Done, 0),
     (Status::Usage, 1),
     (Status::Script, 2),
+    (Status::Config, 3),
     (Status::BadEvent, 4),
     (Status::NoMemory, 5),
     (Status::ReadFault, 6),

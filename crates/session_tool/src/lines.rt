@@ -1,9 +1,10 @@
 ghost use Rattle.std.specs.Prelude.{◌≡◌, ◌++◌, decimal, OnOk, OnErr, IfOk};
-ghost use Rattle.session_tool.specs.Lines.{help_text, numbered_line};
+ghost use Rattle.session_tool.specs.Lines.{config_line, help_text, numbered_line};
 ghost use Rattle.session_tool.specs.Notes.{line_note};
 
 use containers::Bytes;
 use itoa::Buffer;
+use redis_error::ConfigName;
 use std::alloc::{AllocError, Global};
 
 /// The line where the words are no command.
@@ -17,7 +18,7 @@ session_tool --version  the version
 gen N and live CONFIG are not in this version: they answer 1
 
 A script, each line an example:
-config single url=redis://HOST:PORT connect=none response=none lib=off
+config single url=redis://HOST:PORT response=none lib=off
 submit cmd GET a                         a command
 submit noreply SET k 1                   a command whose reply nobody awaits
 submit pipe GET a ; GET b                a pipeline
@@ -25,16 +26,19 @@ submit multi SET k 1 ; GET k             a transaction
 submit packed 1 2 GET a ; GET b ; GET c  a pipeline, 1 reply skipped and 2 kept
 cancel 0                                 the caller of submission 0 drops its request
 connected 0                              the connect of link 0 succeeded
+refused 0 timed-out                      the connect of link 0 failed
 wrote 0 20                               20 of the offered bytes were taken
 bytes 0 +OK%0D%0A                        bytes came, and %0D is the byte 13
 ended 0                                  the peer closed the link
 read-fault 0 reset                       a read failed
 write-fault 0 broken-pipe                a write failed
+fired 0                                  the time of timer 0 is over
 shutdown                                 everything is closed
 end                                      the last line
 
+The time of the connect is 1000 ms, or what connect=MS or connect=none says in the first line.
 A fault is refused, reset, aborted, not-connected, broken-pipe, eof, timed-out, interrupted, denied or other.
-Status: 0 done, 1 no command, 2 no script, 4 bad event, 5 no memory, 6 no input, 7 no output, 8 no more numbers.
+Status: 0 done, 1 no command, 2 no script, 3 refused configuration, 4 bad event, 5 no memory, 6 no input, 7 no output, 8 no more numbers.
 ";
 
 /// The program's version.
@@ -95,5 +99,29 @@ pub fn push_line(
     ensures err { OnErr result (text.new ≡ text.old) }
 {
     let line = numbered_line(alloc, words, number)?;
+    text.extend_from_slice(line.as_slice())
+}
+
+/// The line of a configuration that is refused for what it says of this name.
+#[tactic(auto, unfolding(crate::specs::Lines::config_line))]
+fn config_line(alloc: Global, name: ConfigName) -> Result<Bytes, AllocError>
+    ensures { IfOk result (λ line. line ≡ config_line name) }
+{
+    let mut line = Bytes::from_slice(alloc, b"config ")?;
+    line.extend_from_slice(name.name().as_bytes())?;
+    line.push(b'\n')?;
+    Ok(line)
+}
+
+/// Appends that line. An error leaves the text as it was.
+pub fn push_config_line(
+    alloc: Global,
+    text: &mut Bytes,
+    name: ConfigName,
+) -> Result<(), AllocError>
+    ensures ok { OnOk result (text.new ≡ text.old ++ config_line name) }
+    ensures err { OnErr result (text.new ≡ text.old) }
+{
+    let line = config_line(alloc, name)?;
     text.extend_from_slice(line.as_slice())
 }

@@ -11,6 +11,8 @@ mod lines;
 mod note_tests;
 mod noting;
 mod offer;
+#[cfg(test)]
+mod opening_tests;
 mod reading;
 mod replaying;
 mod running;

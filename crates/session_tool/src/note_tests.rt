@@ -11,7 +11,7 @@ const CONFIG: &[u8] = b"config single url=redis://h:6379 connect=none response=n
 const FIRST_LINES: [(&[u8], &[u8]); 13] = [
     (
         b"end\n",
-        b"line 1: end: the first line is config single url=redis://HOST:PORT connect=none response=none lib=off\n",
+        b"line 1: end: the first line is config single url=URL response=none lib=off, with connect=MS or connect=none where wanted\n",
     ),
     (
         b"config manager url=redis://h:6379 connect=none response=none lib=off\n",
@@ -19,7 +19,7 @@ const FIRST_LINES: [(&[u8], &[u8]); 13] = [
     ),
     (
         b"config single url=redis://h:6379 connect=5s response=none lib=off\n",
-        b"line 1: config single url=redis://h:6379 connect=5s: only none is supported yet\n",
+        b"line 1: config single url=redis://h:6379 connect=5s: connect is a number of milliseconds, at most 18446744073709551615, or none\n",
     ),
     (
         b"config single url=redis://h:6379 connect=none response=5s lib=off\n",
@@ -42,12 +42,12 @@ const FIRST_LINES: [(&[u8], &[u8]); 13] = [
         b"line 1: config single url=redis://h:6379 connect=none connect=none: each key stands once\n",
     ),
     (
-        b"config single url=redis://h:6379 response=none lib=off\n",
-        b"line 1: config single url=redis://h:6379 response=none lib=off: each of url, connect, response and lib stands once\n",
+        b"config single url=redis://h:6379 connect=none lib=off\n",
+        b"line 1: config single url=redis://h:6379 connect=none lib=off: each of url, response and lib stands once\n",
     ),
     (
-        b"config single url=redis://H:6379 connect=none response=none lib=off\n",
-        b"line 1: config single url=redis://H:6379: url is redis://HOST:PORT, HOST of a-z, 0-9, . and -, PORT at most 65535\n",
+        b"config single connect=none response=none lib=off\n",
+        b"line 1: config single connect=none response=none lib=off: each of url, response and lib stands once\n",
     ),
     (
         b"config single url=redis://h:6379 ; connect=none response=none lib=off\n",
@@ -64,7 +64,7 @@ const FIRST_LINES: [(&[u8], &[u8]); 13] = [
 ];
 
 /// Second lines of scripts, and the notes on them.
-const LATER_LINES: [(&[u8], &[u8]); 36] = [
+const LATER_LINES: [(&[u8], &[u8]); 40] = [
     (
         b"\n",
         b"line 2: this line is empty: a line has words, one space between two\n",
@@ -107,11 +107,11 @@ const LATER_LINES: [(&[u8], &[u8]); 36] = [
     ),
     (
         b"subscribe a\n",
-        b"line 2: subscribe: an event is submit, cancel, connected, wrote, bytes, ended, read-fault, write-fault or shutdown, and the last line is end\n",
+        b"line 2: subscribe: an event is submit, cancel, connected, refused, wrote, bytes, ended, read-fault, write-fault, fired or shutdown, and the last line is end\n",
     ),
     (
         b"; a\n",
-        b"line 2: ;: an event is submit, cancel, connected, wrote, bytes, ended, read-fault, write-fault or shutdown, and the last line is end\n",
+        b"line 2: ;: an event is submit, cancel, connected, refused, wrote, bytes, ended, read-fault, write-fault, fired or shutdown, and the last line is end\n",
     ),
     (
         b"submit get a\n",
@@ -148,6 +148,19 @@ const LATER_LINES: [(&[u8], &[u8]); 36] = [
     (
         b"connected\n",
         b"line 2: connected: this event is connected LINK\n",
+    ),
+    (
+        b"refused 0\n",
+        b"line 2: refused 0: this event is refused LINK KIND\n",
+    ),
+    (
+        b"refused 0 gone\n",
+        b"line 2: refused 0 gone: a fault is refused, reset, aborted, not-connected, broken-pipe, eof, timed-out, interrupted, denied or other\n",
+    ),
+    (b"fired\n", b"line 2: fired: this event is fired TIMER\n"),
+    (
+        b"fired a\n",
+        b"line 2: fired a: a number has digits alone, no leading zero, and is at most 4294967295\n",
     ),
     (
         b"wrote 0\n",
@@ -238,7 +251,7 @@ const TEXTS: [(&[u8], &[u8]); 7] = [
 ];
 
 /// Events with a bad one, and the notes on it.
-const BAD_EVENTS: [(&[u8], &[u8]); 11] = [
+const BAD_EVENTS: [(&[u8], &[u8]); 14] = [
     (
         b"cancel 0\n",
         b"line 2: cancel 0: no submission has this number yet\n",
@@ -277,13 +290,59 @@ const BAD_EVENTS: [(&[u8], &[u8]); 11] = [
         b"line 2: write-fault 7: no link has this number\n",
     ),
     (
+        b"refused 1 reset\n",
+        b"line 2: refused 1: no link has this number\n",
+    ),
+    (b"fired 0\n", b"line 2: fired 0: no timer has this number\n"),
+    (
+        b"refused 0 reset\nwrote 0 9\nwrote 1 0\n",
+        b"line 4: wrote 1 0: no link has this number\n",
+    ),
+    (
         b"connected 0\nsubmit cmd GET a\ncancel 1\n",
         b"line 4: cancel 1: no submission has this number yet\n",
     ),
 ];
 
+/// URLs that are refused, and the notes on them.
+const REFUSED: [(&[u8], &[u8]); 5] = [
+    (
+        b"http://h",
+        b"line 1: the URL is no address: it has the scheme redis or valkey, a host, and behind them no more than a port, a database and a protocol\n",
+    ),
+    (
+        b"",
+        b"line 1: the URL is no address: it has the scheme redis or valkey, a host, and behind them no more than a port, a database and a protocol\n",
+    ),
+    (
+        b"redis://:pass@h",
+        b"line 1: this address asks for a password, a protocol or a database, which this version doesn't set up\n",
+    ),
+    (
+        b"redis://h/1",
+        b"line 1: this address asks for a password, a protocol or a database, which this version doesn't set up\n",
+    ),
+    (
+        b"redis://h?protocol=3",
+        b"line 1: this address asks for a password, a protocol or a database, which this version doesn't set up\n",
+    ),
+];
+
+#[test]
+fn a_refused_configuration_is_explained(rt: HostRuntime) -> Result<(), Fail> {
+    for (url, note) in REFUSED {
+        let mut line = Bytes::from_slice(rt.alloc(), b"config single response=none lib=off url=")?;
+        line.extend_from_slice(url)?;
+        line.push(b'\n')?;
+        let (status, notes) = noted_behind(rt.alloc(), line.as_slice(), b"fired 9\n")?;
+        assert_eq!(rt; status, 3);
+        assert_eq!(rt; notes.as_slice(), note);
+    }
+    Ok(())
+}
+
 /// Events, and the notes on what is open after them.
-const OPEN: [(&[u8], &[u8]); 5] = [
+const OPEN: [(&[u8], &[u8]); 6] = [
     (b"", b""),
     (
         b"submit cmd GET a\n",
@@ -298,6 +357,7 @@ const OPEN: [(&[u8], &[u8]); 5] = [
         b"",
     ),
     (b"submit cmd GET a\nsubmit cmd GET b\nshutdown\n", b""),
+    (b"submit cmd GET a\nrefused 0 reset\n", b""),
 ];
 
 /// The status of a replay of a text, and its notes, of which twenty bytes are taken at a time.
@@ -383,11 +443,11 @@ fn noted_long(alloc: Global, length: u32) -> Result<(u8, MemSink), AllocError> {
 const LONG: [(u32, &[u8]); 3] = [
     (
         60,
-        b"line 2: aaaaaaaaaaaaaaaaaaaaaaaaaaaaaaaaaaaaaaaaaaaaaaaaaaaaaaaaaaaa: an event is submit, cancel, connected, wrote, bytes, ended, read-fault, write-fault or shutdown, and the last line is end\n",
+        b"line 2: aaaaaaaaaaaaaaaaaaaaaaaaaaaaaaaaaaaaaaaaaaaaaaaaaaaaaaaaaaaa: an event is submit, cancel, connected, refused, wrote, bytes, ended, read-fault, write-fault, fired or shutdown, and the last line is end\n",
     ),
     (
         61,
-        b"line 2: ..aaaaaaaaaaaaaaaaaaaaaaaaaaaaaaaaaaaaaaaaaaaaaaaaaaaaaaaaaaaa: an event is submit, cancel, connected, wrote, bytes, ended, read-fault, write-fault or shutdown, and the last line is end\n",
+        b"line 2: ..aaaaaaaaaaaaaaaaaaaaaaaaaaaaaaaaaaaaaaaaaaaaaaaaaaaaaaaaaaaa: an event is submit, cancel, connected, refused, wrote, bytes, ended, read-fault, write-fault, fired or shutdown, and the last line is end\n",
     ),
     (
         1_048_577,

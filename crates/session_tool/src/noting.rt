@@ -1,11 +1,13 @@
 ghost use Rattle.std.specs.Prelude.{◌≡◌, ◌⊎◌, [], IfOk};
-ghost use Rattle.session_tool.specs.Notes.{IsLineNote, IsNote, IsOwn, IsWritten, fixed_note};
+ghost use Rattle.session_tool.specs.Notes.{IsLineNote, IsNote, IsOwn, IsWritten, config_words};
+ghost use Rattle.session_tool.specs.Notes.{fixed_note, line_note};
 ghost use Rattle.session_tool.specs.Sides.{Side, side};
 
 use crate::lines::reason_line;
 use crate::status::Status;
 use containers::Bytes;
 use outside::{Sink, write_all};
+use redis_error::ConfigName;
 use script_text::explain_line;
 use std::alloc::{AllocError, Global};
 
@@ -25,6 +27,14 @@ const WRITE_NOTE: &[u8] = b"standard output took no more: what it has is a front
 /// Where a number has run out.
 const SPENT_NOTE: &[u8] = b"a number of 32 bits has run out: split the script\n";
 
+/// Where a URL is no address.
+const URL_WORDS: &[u8] =
+    b"the URL is no address: it has the scheme redis or valkey, a host, and behind them no more than a port, a database and a protocol";
+
+/// Where an address asks for what a session doesn't make yet.
+const KIND_WORDS: &[u8] =
+    b"this address asks for a password, a protocol or a database, which this version doesn't set up";
+
 /// The sentence of a status that says all by itself.
 fn fixed_note(status: Status) -> &'static [u8]
     ensures { result.now ≡ fixed_note status }
@@ -33,6 +43,7 @@ fn fixed_note(status: Status) -> &'static [u8]
         Status::Done => b"",
         Status::Usage => USAGE_NOTE,
         Status::Script => b"",
+        Status::Config => b"",
         Status::BadEvent => b"",
         Status::NoMemory => MEMORY_NOTE,
         Status::ReadFault => READ_NOTE,
@@ -54,6 +65,39 @@ pub fn script_note(alloc: Global, text: &[u8], line: u32) -> Bytes
     ensures { (result ≡ []) ⊎ IsLineNote line result }
 {
     match explained(alloc, text, line) {
+        Ok(note) => note,
+        Err(_) => Bytes::new(alloc),
+    }
+}
+
+/// What of a configuration is to be mended, by the name of what is refused.
+fn config_words(alloc: Global, name: ConfigName) -> Result<Bytes, AllocError>
+    ensures { IfOk result (λ words. words ≡ config_words name) }
+{
+    match name {
+        ConfigName::Url => Bytes::from_slice(alloc, URL_WORDS),
+        ConfigName::Kind => Bytes::from_slice(alloc, KIND_WORDS),
+        _ => {
+            let mut words = Bytes::from_slice(alloc, b"the configuration is refused for its ")?;
+            words.extend_from_slice(name.name().as_bytes())?;
+            Ok(words)
+        }
+    }
+}
+
+/// The line that says what to mend in a configuration.
+fn config_mended(alloc: Global, name: ConfigName) -> Result<Bytes, AllocError>
+    ensures { IfOk result (λ note. note ≡ line_note 1 (config_words name)) }
+{
+    let words = config_words(alloc, name)?;
+    reason_line(alloc, 1, words.as_slice())
+}
+
+/// The note of a configuration that is refused for what it says of this name: nothing, where memory was refused for it.
+pub fn config_note(alloc: Global, name: ConfigName) -> Bytes
+    ensures { (result ≡ []) ⊎ (result ≡ line_note 1 (config_words name)) }
+{
+    match config_mended(alloc, name) {
         Ok(note) => note,
         Err(_) => Bytes::new(alloc),
     }

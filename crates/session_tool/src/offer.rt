@@ -1,7 +1,8 @@
-ghost use Rattle.std.specs.Prelude.{◌≡◌, ◌+◌, ℕ, IfSome};
-ghost use Rattle.driver_model.specs.News.{told};
-ghost use Rattle.legal_trace.specs.Book.{Book, blank_book, book, entered, entered_each};
-ghost use Rattle.legal_trace.specs.Ledger.{Ledger, with_news};
+ghost use Rattle.std.specs.Prelude.{◌≡◌, ◌==◌, ◌+◌, ℕ, List, IfSome};
+ghost use Rattle.driver_model.specs.declared.action.Purpose.{Purpose};
+ghost use Rattle.driver_model.specs.News.{news_of, told};
+ghost use Rattle.legal_trace.specs.Book.{Book, blank_book, book, entered, entered_each, if_mine};
+ghost use Rattle.legal_trace.specs.Ledger.{Ledger, asks, dials, noted_each, with_news};
 ghost use Rattle.session_tool.specs.Notes.{bad_reason, wrote_reason};
 ghost use Rattle.session_tool.specs.Offers.{IsOfferIn, IsOfferOf};
 
@@ -11,11 +12,12 @@ use driver_model::{Action, Cause, EventKind, LinkNews};
 /// The number of the first link.
 const FIRST_LINK: u32 = 0;
 
-/// What actions tell of links: how many were asked for, up to two, and of the first whether it is up, whether it has
-/// ended, and how many bytes are offered to it.
+/// What actions tell of links: how many were asked for, up to two, and of the first whether it was asked for, whether it is
+/// up, whether it has ended, and how many bytes are offered to it.
 #[derive(Clone, Copy)]
 pub struct Offer {
     links: u8,
+    asked: bool,
     up: bool,
     over: bool,
     count: u64,
@@ -28,17 +30,25 @@ impl Offer {
     {
         Offer {
             links: 0,
+            asked: false,
             up: false,
             over: false,
             count: 0,
         }
     }
 
+    /// Whether the connect of the first link was asked for and isn't answered.
+    fn dials(self) -> bool
+        ensures { (l : Ledger) → IsOfferIn self l → result ≡ dials l }
+    {
+        self.asked && !self.up && !self.over
+    }
+
     /// After news of the first link.
     fn after_news(self, news: LinkNews<'_>) -> Offer
         ensures links { result.links ≡ self.links }
-        ensures first { (l : Ledger) → IsOfferIn self l
-            → IsOfferIn result (with_news l (told news.entry)) }
+        ensures first { (l : Ledger) (turn : ℕ) → IsOfferIn self l
+            → IsOfferIn result (with_news l turn (told news.entry)) }
     {
         match news {
             LinkNews::Connected => {
@@ -46,6 +56,13 @@ impl Offer {
                     self
                 } else {
                     Offer { up: true, ..self }
+                }
+            }
+            LinkNews::Refused { fault: _ } => {
+                if self.dials() {
+                    Offer { over: true, ..self }
+                } else {
+                    self
                 }
             }
             LinkNews::Took { count: _ } => {
@@ -56,6 +73,7 @@ impl Offer {
                 }
             }
             LinkNews::Silence => self,
+            LinkNews::Overdue => self,
             LinkNews::Came { piece: _ } => self,
             LinkNews::Failed { fault: _ } => self,
             LinkNews::Shut => self,
@@ -77,6 +95,31 @@ impl Offer {
         }
     }
 
+    /// After the connect of this link was asked for.
+    fn asking(self, link: u32) -> Offer
+        ensures links { result.links ≡ self.links }
+        ensures first { (l : Ledger) → IsOfferIn self l
+            → IsOfferIn result (noted_each l (if_mine (link == 0) asks)) }
+    {
+        if link == FIRST_LINK {
+            Offer {
+                asked: true,
+                ..self
+            }
+        } else {
+            self
+        }
+    }
+
+    /// After an event: whatever timers there are, that one fires changes nothing here.
+    fn after_event(self, kind: &EventKind) -> Offer
+        ensures links { result.links ≡ self.links }
+        ensures first { (l : Ledger) (turn : ℕ) (timers : List Purpose) → IsOfferIn self l
+            → IsOfferIn result (with_news l turn (news_of timers 0 kind.now)) }
+    {
+        self.after_news(kind.news(&[], FIRST_LINK))
+    }
+
     /// After one more action.
     fn after(self, action: &Action) -> Offer
         ensures { (b : Book) → IsOfferOf self b → IsOfferOf result (entered b action.now) }
@@ -84,13 +127,13 @@ impl Offer {
         match action {
             Action::Turn { number: _, cause } => match cause {
                 Cause::Opening { config: _, word: _ } => self,
-                Cause::Event { event } => self.after_news(event.kind.news(FIRST_LINK)),
+                Cause::Event { event } => self.after_event(&event.kind),
             },
             Action::Connect {
-                link: _,
+                link,
                 host: _,
                 port: _,
-            } => self.with_link(),
+            } => self.with_link().asking(*link),
             Action::Write { link, bytes } => {
                 if *link == FIRST_LINK {
                     Offer {
@@ -143,6 +186,7 @@ impl Offer {
             EventKind::Submit { submission: _ } => Some(BadReason::NoName),
             EventKind::Cancel { submission: _ } => Some(BadReason::NoSubmission),
             EventKind::Wrote { link, count: _ } => self.reason_of_wrote(*link),
+            EventKind::Fired { timer: _ } => Some(BadReason::NoTimer),
             _ => Some(BadReason::NoLink),
         }
     }

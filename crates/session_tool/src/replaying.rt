@@ -1,7 +1,7 @@
 ghost use Rattle.std.specs.Prelude.{◌≡◌, ◌⊎◌, ℕ, ◌+◌, ◌≤◌, ◌++◌, [], ◌∷◌, length, true, false};
 ghost use Rattle.std.specs.Prelude.{OnOk, OnErr, IfOk, IfErr, IfSome, IsErrOf};
 ghost use Rattle.outside.specs.Ends.{Rose};
-ghost use Rattle.shared_session.specs.Replay.{opening_actions, state_after, trace_of};
+ghost use Rattle.shared_session.specs.Replay.{opening_actions, state_after, trace_of, IsSound};
 ghost use Rattle.shared_session.specs.Replay.{is_bad_after, is_spent_after, AreGood, AreUnspent};
 ghost use Rattle.shared_session.specs.Turn.{actions_of};
 ghost use Rattle.shared_session.specs.declared.session.Failure.TheVariants.{Sound, Spent};
@@ -9,19 +9,22 @@ ghost use Rattle.shared_session.specs.Stops.{IsSpentBy};
 ghost use Rattle.trace_text.specs.Show.{show};
 ghost use Rattle.session_tool.specs.Streaming.{Sent};
 ghost use Rattle.session_tool.specs.Notes.{open_count};
-ghost use Rattle.session_tool.specs.Stops.{Ends};
+ghost use Rattle.session_tool.specs.Stops.{Ends, IsNotOpened};
 
 use crate::counting::open_after;
 use crate::streaming::{show_turn, write_large};
 use containers::Bytes;
 use driver_model::{Config, Event};
 use outside::Sink;
+use redis_error::ConfigName;
 use shared_session::{MakeError, Session, StepError};
 use std::alloc::{AllocError, Global};
 
 /// Why a replay ended before its last event. The text has the lines of the finished turns that are not written yet.
-#[derive(Clone, Copy, Debug, PartialEq, Eq)]
+#[derive(Clone, Copy, PartialEq, Eq)]
 pub enum Stop {
+    /// The configuration is refused, first for what it says of this name.
+    Config(ConfigName),
     /// This event is the first bad one. Events are counted from 1.
     BadEvent(u64),
     /// A number ran out at this event.
@@ -48,18 +51,21 @@ fn open_session(
     config: &Config,
     word: u64,
     text: &mut Bytes,
-) -> Result<Session, AllocError>
+) -> Result<Session, Stop>
     ensures made { IfOk result (λ s.
         s ≡ record { config = config.now; word = word; events = []; failure = Sound }
         ) }
+    ensures sound { OnOk result (IsSound config.now) }
     ensures shown { OnOk result (text.new ≡ text.old ++ show (opening_actions config.now word)) }
+    ensures stops { IfErr result (λ stop. IsNotOpened stop config.now) }
     ensures err { OnErr result (text.new ≡ text.old) }
 {
     let config = config.clone(alloc)?;
     let mut actions = Vec::new(alloc);
     let session = match Session::new(alloc, config, word, &mut actions) {
         Ok(session) => session,
-        Err(MakeError::NoMemory) => return Err(AllocError),
+        Err(MakeError::Config { name }) => return Err(Stop::Config(name)),
+        Err(MakeError::NoMemory) => return Err(Stop::NoMemory),
     };
     show_turn(alloc, text, actions.as_slice())?;
     Ok(session)
@@ -94,6 +100,7 @@ fn take_turn(
     ensures count { (n : ℕ) → IsErrOf result (Stop.Spent n)
         → n ≡ length session.old.events + 1 }
     ensures writes { IsErrOf result Stop.WriteFault → ⊥ }
+    ensures opened { (name : ConfigName) → IsErrOf result (Stop.Config name) → ⊥ }
     ensures err { OnErr result (text.new ≡ text.old) }
 {
     let event = event.clone(alloc)?;
@@ -124,6 +131,7 @@ pub fn replay_into<K: Sink>(
         Sent (K.held sink.old) (K.held sink.new) text.new
         (show (trace_of config.now word events.now))
         ) }
+    ensures sound { OnOk result (IsSound config.now) }
     ensures good { OnOk result (AreGood config.now word events.now) }
     ensures unspent { OnOk result (AreUnspent config.now word events.now) }
     ensures counted { IfOk result (λ count. IfSome count (λ n.
@@ -137,7 +145,7 @@ pub fn replay_into<K: Sink>(
 {
     let mut session = match open_session(alloc, config, word, text) {
         Ok(session) => session,
-        Err(_) => return Err(Stop::NoMemory),
+        Err(stop) => return Err(stop),
     };
     for event in events {
         match take_turn(alloc, &mut session, event, text) {

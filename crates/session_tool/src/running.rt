@@ -1,7 +1,7 @@
 ghost use Rattle.std.specs.Prelude.{◌≡◌, ◌⊎◌, ◌≤◌, ◌++◌, ℕ, List, [], true, false, codes};
 ghost use Rattle.std.specs.Prelude.{OnOk, IfOk, IfErr, IfSome, IsErrOf};
 ghost use Rattle.outside.specs.Ends.{Rose, Gained, GainedPart};
-ghost use Rattle.shared_session.specs.Replay.{trace_of, AreGood, AreUnspent};
+ghost use Rattle.shared_session.specs.Replay.{trace_of, AreGood, AreUnspent, IsSound};
 ghost use Rattle.trace_text.specs.Show.{show};
 ghost use Rattle.session_tool.specs.Does.{Does, Prints};
 ghost use Rattle.session_tool.specs.Lines.{numbered_line};
@@ -13,8 +13,8 @@ ghost use Rattle.session_tool.specs.Words.{command_of};
 use crate::bad::bad_note;
 use crate::command::{Command, command_of};
 use crate::counting::done_note;
-use crate::lines::{READ_FAULT, USAGE, VERSION, help_text, push_line};
-use crate::noting::{note_of, script_note, write_note};
+use crate::lines::{READ_FAULT, USAGE, VERSION, help_text, push_config_line, push_line};
+use crate::noting::{config_note, note_of, script_note, write_note};
 use crate::reading::{ReadError, read_text};
 use crate::replaying::{Stop, replay_into};
 use crate::status::Status;
@@ -90,12 +90,13 @@ fn refuse_script<K: Sink>(alloc: Global, line: u32, sink: &mut K) -> Result<(), 
     }
 }
 
-/// Appends the line of the event at which a replay stopped. Where memory is refused it stopped for that.
+/// Appends the line of why a replay stopped. Where memory is refused it stopped for that.
 fn push_stop(alloc: Global, text: &mut Bytes, stop: Stop) -> Stop
     ensures text { text.new ≡ text.old ++ stop_line result }
     ensures kept { (result ≡ stop) ⊎ (result ≡ Stop.NoMemory) }
 {
     let pushed = match stop {
+        Stop::Config(name) => push_config_line(alloc, text, name),
         Stop::BadEvent(number) => push_line(alloc, text, b"bad event", number),
         Stop::Spent(number) => push_line(alloc, text, b"spent event", number),
         Stop::NoMemory => return stop,
@@ -139,6 +140,7 @@ fn replay_script<K: Sink>(alloc: Global, script: &Script, sink: &mut K) -> Resul
         Gained (K.held sink.old) (K.held sink.new)
         (show (trace_of script.now.config script.now.word script.now.events))
         ) }
+    ensures sound { OnOk result (IsSound script.now.config) }
     ensures good { OnOk result (AreGood script.now.config script.now.word script.now.events) }
     ensures unspent { OnOk result (AreUnspent script.now.config script.now.word script.now.events) }
     ensures counted { IfOk result (λ count. IfSome count (λ n.
@@ -201,6 +203,7 @@ fn replay_source<S: Source, K: Sink>(alloc: Global, source: &mut S, sink: &mut K
     drop(intake);
     match replay_script(alloc, &script, sink) {
         Ok(count) => (Status::Done, done_note(alloc, count)),
+        Err(Stop::Config(name)) => (Status::Config, config_note(alloc, name)),
         Err(Stop::BadEvent(_)) => (Status::BadEvent, bad_note(alloc, &script)),
         Err(Stop::NoMemory) => (Status::NoMemory, Bytes::new(alloc)),
         Err(Stop::WriteFault) => (Status::WriteFault, Bytes::new(alloc)),

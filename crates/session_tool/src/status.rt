@@ -12,6 +12,8 @@ pub enum Status {
     Usage,
     /// The script is at fault.
     Script,
+    /// The configuration is refused.
+    Config,
     /// An event is bad.
     BadEvent,
     /// Memory was refused.
@@ -34,6 +36,7 @@ impl Status {
             Status::Done => 0,
             Status::Usage => 1,
             Status::Script => 2,
+            Status::Config => 3,
             Status::BadEvent => 4,
             Status::NoMemory => 5,
             Status::ReadFault => 6,

@@ -1,5 +1,5 @@
 ghost use Rattle.std.specs.Prelude.{◌≡◌, ◌⊎◌, ℕ, List, Some};
-ghost use Rattle.session_tool.specs.Runs.{IsSound};
+ghost use Rattle.session_tool.specs.Runs.{IsSoundScript};
 ghost use Rattle.session_tool.specs.Words.{command_of};
 
 use super::command::Command;
@@ -19,7 +19,7 @@ session_tool --version  the version
 gen N and live CONFIG are not in this version: they answer 1
 
 A script, each line an example:
-config single url=redis://HOST:PORT connect=none response=none lib=off
+config single url=redis://HOST:PORT response=none lib=off
 submit cmd GET a                         a command
 submit noreply SET k 1                   a command whose reply nobody awaits
 submit pipe GET a ; GET b                a pipeline
@@ -27,24 +27,27 @@ submit multi SET k 1 ; GET k             a transaction
 submit packed 1 2 GET a ; GET b ; GET c  a pipeline, 1 reply skipped and 2 kept
 cancel 0                                 the caller of submission 0 drops its request
 connected 0                              the connect of link 0 succeeded
+refused 0 timed-out                      the connect of link 0 failed
 wrote 0 20                               20 of the offered bytes were taken
 bytes 0 +OK%0D%0A                        bytes came, and %0D is the byte 13
 ended 0                                  the peer closed the link
 read-fault 0 reset                       a read failed
 write-fault 0 broken-pipe                a write failed
+fired 0                                  the time of timer 0 is over
 shutdown                                 everything is closed
 end                                      the last line
 
+The time of the connect is 1000 ms, or what connect=MS or connect=none says in the first line.
 A fault is refused, reset, aborted, not-connected, broken-pipe, eof, timed-out, interrupted, denied or other.
-Status: 0 done, 1 no command, 2 no script, 4 bad event, 5 no memory, 6 no input, 7 no output, 8 no more numbers.
+Status: 0 done, 1 no command, 2 no script, 3 refused configuration, 4 bad event, 5 no memory, 6 no input, 7 no output, 8 no more numbers.
 ";
 
 /// A script, the output of its replay, and the status.
 #[derive(Clone, Copy)]
 pub struct Row {
     pub script: &'static [u8],
-    output: &'static [u8],
-    status: u8,
+    pub output: &'static [u8],
+    pub status: u8,
 }
 
 /// No event.
@@ -474,7 +477,7 @@ pub fn numbers(alloc: Global, number: Option<u64>) -> Result<Seq<u64>, AllocErro
 }
 
 /// The status of a run of these words, and what its sink holds. Ten bytes are read at a time, and twenty written.
-fn answer(
+pub fn answer(
     alloc: Global,
     words: &[&str],
     script: &[u8],
@@ -489,8 +492,8 @@ fn answer(
     Ok((status.number(), sink))
 }
 
-/// A run over a source and a sink that never fail. The replay of a script without a bad event or a spent step ends well,
-/// or for want of memory.
+/// A run over a source and a sink that never fail. The replay of a script of which nothing is refused, without a bad event
+/// or a spent step, ends well, or for want of memory.
 fn run_surely(
     alloc: Global,
     words: &[String],
@@ -498,7 +501,7 @@ fn run_surely(
     sink: &mut SureSink,
 ) -> Status
     ensures { command_of words.now ≡ Command.Replay → (bytes : List ℕ)
-        → ⟦<SureSource as Source>⟧.left source.old ≡ Some bytes → IsSound bytes
+        → ⟦<SureSource as Source>⟧.left source.old ≡ Some bytes → IsSoundScript bytes
         → (result ≡ Status.Done) ⊎ (result ≡ Status.NoMemory) }
 {
     let mut notes = SureSink::new();

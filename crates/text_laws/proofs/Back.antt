@@ -1,6 +1,7 @@
 -- The configuration, the word and the events are read back from the words of their causes.
-use Rattle.std.proofs.Common.{◌≡◌, ◌≢◌, ℕ, false, ◌<◌, ◌^◌, ◌==◌, List, [], ◌∷◌, ◌++◌, All, Some, None, map, drop, option_map, option_and_then, decimal, refl, sym, ap, ◌∙◌, if◌then◌else◌, arith}
+use Rattle.std.proofs.Common.{◌≡◌, ℕ, true, false, ◌&&◌, ◌<◌, ◌^◌, ◌==◌, List, [], ◌∷◌, ◌++◌, All, Option, Some, None, map, option_map, option_and_then, decimal, refl, sym, ap, ◌∙◌, if◌then◌else◌, arith}
 use Rattle.std.proofs.lemmas.List.Elements.{All-head, All-tail}
+use Rattle.std.specs.Prelude.{is_some}
 use Rattle.driver_model.specs.declared.action.Cause.TheVariants as cause
 use Rattle.driver_model.specs.declared.config.Config.{Config}
 use Rattle.driver_model.specs.declared.event.Event.{Event}
@@ -12,15 +13,16 @@ use Rattle.driver_model.specs.Request.{is_single_nameless, has_no_form}
 use Rattle.redis_error.specs.declared.fault_kind.FaultKind.{FaultKind}
 use Rattle.redis_error.specs.declared.fault_kind.FaultKind.TheVariants as fault
 use Rattle.redis_error.specs.Names.{fault_name}
-use Rattle.script_text.specs.Numbers.{number, max_u16, max_u32, max_u64}
+use Rattle.script_text.specs.Numbers.{number, max_u32, max_u64}
+use Rattle.script_text.specs.ConfigLine.{time_limit, config_of}
 use Rattle.script_text.specs.EventLine.{by_first, commands, submissions, faults, fault_among, failed, others, event_of}
 use Rattle.script_text.specs.Words.{LineWords, all_of}
 use Rattle.legal_trace.specs.Legal.{event_causes}
 use Rattle.trace_text.specs.Show.{url, draw_words, config_words, first_of, behind_first, submission_words, submission_more, event_words, event_more}
-use Rattle.containers.proofs.Choices.{chosen, eq_from, eq_test, ne_test}
-use Rattle.text_laws.specs.Fits.{FitsSubmission, FitsKind, FitsEvent, FitsConfig, FitsHistory, HasForm, HaveForms}
-use Rattle.text_laws.specs.History.{drawn, onto_cut, cut_at_last, config_from, config_in, opening_in, drawing, event_in, script_with, history_in}
-use Rattle.text_laws.proofs.Bytes.{number_back, decimal_no_colon}
+use Rattle.containers.proofs.Choices.{chosen, eq_from}
+use Rattle.text_laws.specs.Fits.{FitsSubmission, FitsKind, FitsEvent, FitsLimit, FitsConfig, FitsHistory, HasForm, HaveForms}
+use Rattle.text_laws.specs.History.{drawn, opening_in, drawing, event_in, script_with, history_in}
+use Rattle.text_laws.proofs.Bytes.{number_back, decimal_is_no_none}
 use Rattle.text_laws.proofs.Turns.{cause_line}
 
 small_number : (n : ℕ) → n < 2 ^ 32 → number max_u32 (decimal n) ≡ Some n
@@ -74,6 +76,7 @@ unfolding event_of others undrawn
 kind_back (event.Submit s) fits form = ap (λ o. option_map undrawn (option_map event.Submit o)) (submission_back s fits form)
 kind_back (event.Cancel s) fits form = ap (λ o. option_map undrawn (option_map event.Cancel o)) (small_number s fits)
 kind_back (event.Connected link) fits form = ap (λ o. option_map undrawn (option_map event.Connected o)) (small_number link fits)
+kind_back (event.Refused link kind) fits form = ap (option_map undrawn) (failed_back event.Refused link kind fits)
 kind_back (event.Wrote link count) fits form =
     ap (λ o. option_map undrawn (option_and_then (λ l. option_map (event.Wrote l) (number max_u64 (decimal count))) o)) (small_number link fits.0)
     ∙ ap (λ o. option_map undrawn (option_map (event.Wrote link) o)) (long_number count fits.1)
@@ -81,6 +84,7 @@ kind_back (event.Bytes link piece) fits form = ap (λ o. option_map undrawn (opt
 kind_back (event.Ended link) fits form = ap (λ o. option_map undrawn (option_map event.Ended o)) (small_number link fits)
 kind_back (event.ReadFault link kind) fits form = ap (option_map undrawn) (failed_back event.ReadFault link kind fits)
 kind_back (event.WriteFault link kind) fits form = ap (option_map undrawn) (failed_back event.WriteFault link kind fits)
+kind_back (event.Fired timer) fits form = ap (λ o. option_map undrawn (option_map event.Fired o)) (small_number timer fits)
 kind_back event.Shutdown fits form = refl
 
 -- words that begin with no draw
@@ -91,11 +95,13 @@ kind_undrawn : (kind : EventKind) → IsUndrawn (event_words kind)
 kind_undrawn (event.Submit s) = refl
 kind_undrawn (event.Cancel s) = refl
 kind_undrawn (event.Connected link) = refl
+kind_undrawn (event.Refused link kind) = refl
 kind_undrawn (event.Wrote link count) = refl
 kind_undrawn (event.Bytes link piece) = refl
 kind_undrawn (event.Ended link) = refl
 kind_undrawn (event.ReadFault link kind) = refl
 kind_undrawn (event.WriteFault link kind) = refl
+kind_undrawn (event.Fired timer) = refl
 kind_undrawn event.Shutdown = refl
 
 -- a draw before them
@@ -110,31 +116,31 @@ event_back e fits form =
     ap (option_and_then (λ d. option_map (drawing d.0) (event_of (record { words = d.1; more = event_more e.kind })))) (drawn_back e.word (event_words e.kind) fits.word (kind_undrawn e.kind))
     ∙ ap (option_map (drawing e.word)) (kind_back e.kind fits.kind form)
 
--- the last of the bytes b is found
-last_cut : (b : ℕ) (front rest : List ℕ) → cut_at_last b rest ≡ None → cut_at_last b (front ++ b ∷ rest) ≡ Some (front, rest)
-last_cut b [] rest none = ap (onto_cut b b rest) none ∙ ap (λ t. if t then Some ([], rest) else None) (eq_test b b refl)
-last_cut b (x ∷ front) rest none = ap (onto_cut b x (front ++ b ∷ rest)) (last_cut b front rest none)
+-- a time is read back
+time_back : (ms : ℕ) → ms < 2 ^ 64 → time_limit (decimal ms) ≡ Some (Some ms)
+time_back ms small =
+    ap (λ b. if b then Some None else option_map Some (number max_u64 (decimal ms))) (decimal_is_no_none ms) ∙ ap (option_map Some) (long_number ms small)
 
-no_cut : (b : ℕ) (xs : List ℕ) → All (λ x. x ≢ b) xs → cut_at_last b xs ≡ None
-no_cut b [] none = refl
-no_cut b (x ∷ xs) none =
-    ap (onto_cut b x xs) (no_cut b xs (All-tail (λ y. y ≢ b) x xs none)) ∙ ap (λ t. if t then Some ([], xs) else None) (ne_test x b (All-head (λ y. y ≢ b) x xs none))
+-- the words of a configuration
+abbrev config_line : List ℕ → Option (Option ℕ) → LineWords
+config_line address connect = record { words = config_words (record { url = address; connect = connect }); more = [] }
 
-address_back : (config : Config) → FitsConfig config → option_and_then config_from (cut_at_last 58 (drop 12 (url config))) ≡ Some config
-unfolding url
-address_back config fits =
-    ap (option_and_then config_from) (last_cut 58 config.host (decimal config.port) (no_cut 58 (decimal config.port) (decimal_no_colon config.port)))
-    ∙ ap (option_map (λ port. record { host = config.host; port = port })) (number_back max_u16 config.port (omega (arith, fits.port)) (omega (arith, fits.port)))
+settings_back : (address : List ℕ) (connect : Option (Option ℕ)) → FitsLimit connect → config_of (config_line address connect) ≡ Some (record { url = address; connect = connect })
+unfolding url config_of
+settings_back address None fits = refl
+settings_back address (Some None) fits = refl
+settings_back address (Some (Some ms)) fits =
+    ap (λ (limit : Option (Option ℕ)). if is_some limit && true && true then Some (record { url = address; connect = limit }) else None) (time_back ms fits)
 
-config_back : (config : Config) → FitsConfig config → config_in (config_words config) ≡ Some config
-config_back config fits = address_back config fits
+config_back : (config : Config) → FitsConfig config → config_of (config_line config.url config.connect) ≡ Some config
+config_back config fits = settings_back config.url config.connect fits.connect
 
 config_undrawn : (config : Config) → IsUndrawn (config_words config)
 config_undrawn config = refl
 
 opening_back : (config : Config) (word : ℕ) → FitsConfig config → word < 2 ^ 64 → opening_in (cause_line (cause.Opening config word)) ≡ Some (config, word)
 opening_back config word fits small =
-    ap (option_and_then (λ d. option_map (λ c. (c, d.0)) (config_in d.1))) (drawn_back word (config_words config) small (config_undrawn config))
+    ap (option_and_then (λ d. option_map (λ c. (c, d.0)) (config_of (record { words = d.1; more = [] })))) (drawn_back word (config_words config) small (config_undrawn config))
     ∙ ap (option_map (λ c. (c, word))) (config_back config fits)
 
 abbrev WithForm : Event → Type 0

@@ -1,5 +1,5 @@
 -- The words of a cause are bytes, and its numbers are read back.
-use Rattle.std.proofs.Common.{◌≡◌, ◌≢◌, ℕ, zero, suc, ◌+◌, ◌/◌, ◌%◌, ◌^◌, ◌<◌, ◌≤◌, true, false, not, ◌&&◌, ◌||◌, ◌==◌, nat_lt, nat_le, List, [], ◌∷◌, length, get_or, All, Some, None, codes, decimal, refl, ap, ◌∙◌, if◌then◌else◌, arith}
+use Rattle.std.proofs.Common.{◌≡◌, ℕ, zero, suc, ◌+◌, ◌/◌, ◌%◌, ◌^◌, ◌<◌, ◌≤◌, true, false, not, ◌&&◌, ◌||◌, ◌==◌, nat_lt, nat_le, List, [], ◌∷◌, ◌++◌, length, get_or, All, Option, Some, None, codes, decimal, bytes_eq, refl, ap, ◌∙◌, if◌then◌else◌, arith}
 use Rattle.std.specs.Fmt.{digits, digits_onto, digit_glyph}
 use Rattle.std.specs.List.{list_all}
 use Rattle.std.specs.Str.{all_ascii_digits}
@@ -20,8 +20,8 @@ use Rattle.redis_error.specs.declared.fault_kind.FaultKind.{FaultKind}
 use Rattle.redis_error.specs.declared.fault_kind.FaultKind.TheVariants as fault
 use Rattle.redis_error.specs.Names.{fault_name}
 use Rattle.script_text.specs.Numbers.{is_decimal, number}
-use Rattle.trace_text.specs.Show.{address, url, bare_words, draw_words, config_words, first_of, behind_first, submission_words, submission_more, event_words, event_more, cause_words, cause_more}
-use Rattle.containers.proofs.Choices.{chosen, lt_from, not_lt_from, le_test}
+use Rattle.trace_text.specs.Show.{url, connect_words, plain_words, draw_words, config_words, first_of, behind_first, submission_words, submission_more, event_words, event_more, cause_words, cause_more}
+use Rattle.containers.proofs.Choices.{chosen, lt_from, not_lt_from, le_test, ne_test}
 use Rattle.text_laws.specs.Fits.{IsByte, AreBytes, FitsSubmission, FitsKind, FitsEvent, FitsConfig}
 
 -- a text whose bytes were looked at one by one
@@ -51,8 +51,13 @@ decimal_digits n = onto_digits 64 n [] (All-nil IsDigit)
 pub decimal_bytes : (n : ℕ) → AreBytes (decimal n)
 decimal_bytes n = All-weaker IsDigit IsByte (λ b d. omega (arith, d.1)) (decimal n) (decimal_digits n)
 
-pub decimal_no_colon : (n : ℕ) → All (λ b. b ≢ 58) (decimal n)
-decimal_no_colon n = All-weaker IsDigit (λ b. b ≢ 58) (λ b d e. omega (arith, d.1, e)) (decimal n) (decimal_digits n)
+no_none : (ds : List ℕ) → All IsDigit ds → bytes_eq ds (codes "none") ≡ false
+no_none [] each = refl
+no_none (d ∷ ds) each = ap (λ b. b && bytes_eq ds (codes "one")) (ne_test d 110 (λ e. let first = All-head IsDigit d ds each in omega (arith, first.1, e)))
+
+-- a number is never the word `none`
+pub decimal_is_no_none : (n : ℕ) → bytes_eq (decimal n) (codes "none") ≡ false
+decimal_is_no_none n = no_none (decimal n) (decimal_digits n)
 
 -- a number is read back
 decimal_by : (ds : List ℕ) → 0 < length ds → all_ascii_digits ds ≡ true → 48 < get_or ds 0 0 → is_decimal ds ≡ true
@@ -133,6 +138,7 @@ kind_bytes : (kind : EventKind) → FitsKind kind → All AreBytes (event_words 
 kind_bytes (event.Submit s) fits = word_and (codes "submit") (submission_words s) (looked (codes "submit") refl) (submission_bytes s fits)
 kind_bytes (event.Cancel s) fits = one_number (codes "cancel") s (looked (codes "cancel") refl)
 kind_bytes (event.Connected link) fits = one_number (codes "connected") link (looked (codes "connected") refl)
+kind_bytes (event.Refused link kind) fits = failed_bytes (codes "refused") link kind (looked (codes "refused") refl)
 kind_bytes (event.Wrote link count) fits =
     word_and (codes "wrote") (decimal link ∷ decimal count ∷ []) (looked (codes "wrote") refl) (one_number (decimal link) count (decimal_bytes link))
 kind_bytes (event.Bytes link piece) fits =
@@ -140,17 +146,20 @@ kind_bytes (event.Bytes link piece) fits =
 kind_bytes (event.Ended link) fits = one_number (codes "ended") link (looked (codes "ended") refl)
 kind_bytes (event.ReadFault link kind) fits = failed_bytes (codes "read-fault") link kind (looked (codes "read-fault") refl)
 kind_bytes (event.WriteFault link kind) fits = failed_bytes (codes "write-fault") link kind (looked (codes "write-fault") refl)
+kind_bytes (event.Fired timer) fits = one_number (codes "fired") timer (looked (codes "fired") refl)
 kind_bytes event.Shutdown fits = word_and (codes "shutdown") [] (looked (codes "shutdown") refl) no_words
 
 kind_more_bytes : (kind : EventKind) → FitsKind kind → All (All AreBytes) (event_more kind)
 kind_more_bytes (event.Submit s) fits = submission_more_bytes s fits
 kind_more_bytes (event.Cancel s) fits = All-nil (All AreBytes)
 kind_more_bytes (event.Connected link) fits = All-nil (All AreBytes)
+kind_more_bytes (event.Refused link kind) fits = All-nil (All AreBytes)
 kind_more_bytes (event.Wrote link count) fits = All-nil (All AreBytes)
 kind_more_bytes (event.Bytes link piece) fits = All-nil (All AreBytes)
 kind_more_bytes (event.Ended link) fits = All-nil (All AreBytes)
 kind_more_bytes (event.ReadFault link kind) fits = All-nil (All AreBytes)
 kind_more_bytes (event.WriteFault link kind) fits = All-nil (All AreBytes)
+kind_more_bytes (event.Fired timer) fits = All-nil (All AreBytes)
 kind_more_bytes event.Shutdown fits = All-nil (All AreBytes)
 
 draw_bytes : (w : ℕ) → All AreBytes (draw_words w)
@@ -158,19 +167,23 @@ draw_bytes w = chosen (All AreBytes) (w == 0) [] ((64 ∷ decimal w) ∷ []) (λ
 
 url_bytes : (config : Config) → FitsConfig config → AreBytes (url config)
 unfolding url
-url_bytes config fits =
-    All-append IsByte (codes "url=redis://") (address config.host config.port) (looked (codes "url=redis://") refl)
-    (All-append IsByte config.host (58 ∷ decimal config.port) fits.host (All-cons IsByte 58 (decimal config.port) (omega arith) (decimal_bytes config.port)))
+url_bytes config fits = All-append IsByte (codes "url=") config.url (looked (codes "url=") refl) fits.url
 
-bare_bytes : All AreBytes bare_words
-bare_bytes =
-    word_and (codes "connect=none") (codes "response=none" ∷ codes "lib=off" ∷ []) (looked (codes "connect=none") refl)
-    (word_and (codes "response=none") (codes "lib=off" ∷ []) (looked (codes "response=none") refl) (word_and (codes "lib=off") [] (looked (codes "lib=off") refl) no_words))
+connect_bytes : (connect : Option (Option ℕ)) → All AreBytes (connect_words connect)
+connect_bytes None = no_words
+connect_bytes (Some None) = word_and (codes "connect=none") [] (looked (codes "connect=none") refl) no_words
+connect_bytes (Some (Some ms)) =
+    word_and (codes "connect=" ++ decimal ms) [] (All-append IsByte (codes "connect=") (decimal ms) (looked (codes "connect=") refl) (decimal_bytes ms)) no_words
+
+plain_bytes : All AreBytes plain_words
+plain_bytes = word_and (codes "response=none") (codes "lib=off" ∷ []) (looked (codes "response=none") refl) (word_and (codes "lib=off") [] (looked (codes "lib=off") refl) no_words)
 
 config_bytes : (config : Config) → FitsConfig config → All AreBytes (config_words config)
 config_bytes config fits =
-    word_and (codes "config") (codes "single" ∷ url config ∷ bare_words) (looked (codes "config") refl)
-    (word_and (codes "single") (url config ∷ bare_words) (looked (codes "single") refl) (word_and (url config) bare_words (url_bytes config fits) bare_bytes))
+    let settings = connect_words config.connect ++ plain_words in
+    word_and (codes "config") (codes "single" ∷ url config ∷ settings) (looked (codes "config") refl)
+    (word_and (codes "single") (url config ∷ settings) (looked (codes "single") refl)
+    (word_and (url config) settings (url_bytes config fits) (All-append AreBytes (connect_words config.connect) plain_words (connect_bytes config.connect) plain_bytes)))
 
 -- a cause that its type holds
 abbrev pub FitsCause : Cause → Type 0

@@ -1,45 +1,65 @@
 -- The configurations of scripts are configurations that their type holds.
-use Rattle.std.proofs.Common.{◌≡◌, ℕ, ◌≤◌, true, List, [], ◌∷◌, take, drop, All, IfSome, bytes_eq, option_map, option_and_then, codes, arith}
-use Rattle.std.specs.List.{list_all}
-use Rattle.std.proofs.lemmas.Bool.{and_parts}
-use Rattle.std.proofs.lemmas.Bool.Decides.{nat_tests}
-use Rattle.std.proofs.lemmas.List.Elements.{All-nil, All-cons}
+use Rattle.std.proofs.Common.{◌≡◌, ℕ, ◌≤◌, ◌==◌, List, [], ◌∷◌, All, Option, Some, None, IfSome, bytes_eq, option_map, option_and_then, codes, if◌then◌else◌, arith}
+use Rattle.std.specs.Option.{option_to_list}
+use Rattle.std.proofs.lemmas.List.Elements.{All-nil, All-cons, All-head, All-tail, All-append}
+use Rattle.containers.proofs.Choices.{chosen}
 use Rattle.script_text.specs.Words.{LineWords, cut_at}
-use Rattle.script_text.specs.Numbers.{number, max_u16}
+use Rattle.script_text.specs.Numbers.{number, max_u64}
 use Rattle.script_text.specs.EventLine.{by_first}
-use Rattle.script_text.specs.ConfigLine.{values, only, is_host_byte, is_host, host_and_port, address, single, kinds, config_of}
-use Rattle.text_laws.specs.Fits.{IsByte, AreBytes, FitsConfig}
-use Rattle.text_laws.proofs.Held.{mapped, then_read, any_read, if_read, number_within}
+use Rattle.script_text.specs.ConfigLine.{value_of, values, only, time_limit, single, kinds, config_of}
+use Rattle.text_laws.specs.Fits.{IsByte, AreBytes, FitsLimit, FitsConfig}
+use Rattle.text_laws.proofs.Held.{mapped, then_read, if_read, number_within}
 use Rattle.text_laws.proofs.ScriptEvents.{IsByteLine, by_form, whole_fits}
 
-abbrev Anything : List ℕ → Type 0
-Anything word = Unit {0}
+-- the second of two texts is bytes
+abbrev SecondBytes : List ℕ × List ℕ → Type 0
+SecondBytes c = AreBytes c.1
 
-host_byte : (b : ℕ) → is_host_byte b ≡ true → IsByte b
-host_byte b e = grind (arith, nat_tests)
+cut_bytes : (b : ℕ) (word : List ℕ) → AreBytes word → IfSome (cut_at b word) SecondBytes
+cut_bytes b [] small = tt
+cut_bytes b (x ∷ xs) small =
+    let rest = All-tail IsByte x xs small in
+    chosen (λ o. IfSome o SecondBytes) (x == b) (Some ([], xs)) (option_map (λ c. (x ∷ c.0, c.1)) (cut_at b xs)) (λ t. rest)
+    (λ f. mapped SecondBytes SecondBytes (λ c. (x ∷ c.0, c.1)) (λ c h. h) (cut_at b xs) (cut_bytes b xs rest))
 
-host_bytes_by : (host : List ℕ) → list_all is_host_byte host ≡ true → AreBytes host
-host_bytes_by [] e = All-nil IsByte
-host_bytes_by (b ∷ bs) e = let parts = and_parts (is_host_byte b) (list_all is_host_byte bs) e in All-cons IsByte b bs (host_byte b parts.0) (host_bytes_by bs parts.1)
+value_bytes : (key word : List ℕ) → AreBytes word → IfSome (value_of key word) AreBytes
+value_bytes key word small =
+    then_read SecondBytes AreBytes (λ c. if bytes_eq c.0 key then Some c.1 else None) (λ c h. if_read AreBytes (bytes_eq c.0 key) (Some c.1) (λ t. h)) (cut_at 61 word) (cut_bytes 61 word small)
 
-host_bytes : (host : List ℕ) → is_host host ≡ true → AreBytes host
-host_bytes [] e = All-nil IsByte
-host_bytes (b ∷ bs) e = host_bytes_by (b ∷ bs) e
+one_bytes : (o : Option (List ℕ)) → IfSome o AreBytes → All AreBytes (option_to_list o)
+one_bytes None h = All-nil AreBytes
+one_bytes (Some value) h = All-cons AreBytes value [] h (All-nil AreBytes)
 
-sides_fit : (c : List ℕ × List ℕ) → IfSome (host_and_port c) FitsConfig
-sides_fit c =
-    if_read FitsConfig (is_host c.0) (option_map (λ port. record { host = c.0; port = port }) (number max_u16 c.1))
-    (λ t. mapped (λ n. n ≤ max_u16) FitsConfig (λ port. record { host = c.0; port = port }) (λ port l. record { host = host_bytes c.0 t; port = omega arith }) (number max_u16 c.1) (number_within max_u16 c.1))
+values_bytes : (key : List ℕ) (words : List (List ℕ)) → All AreBytes words → All AreBytes (values key words)
+values_bytes key [] small = All-nil AreBytes
+values_bytes key (word ∷ words) small =
+    All-append AreBytes (option_to_list (value_of key word)) (values key words) (one_bytes (value_of key word) (value_bytes key word (All-head AreBytes word words small)))
+    (values_bytes key words (All-tail AreBytes word words small))
 
-address_fits : (word : List ℕ) → IfSome (address word) FitsConfig
-address_fits word =
-    if_read FitsConfig (bytes_eq (take 8 word) (codes "redis://")) (option_and_then host_and_port (cut_at 58 (drop 8 word)))
-    (λ t. then_read (λ _. Unit {0}) FitsConfig host_and_port (λ c any. sides_fit c) (cut_at 58 (drop 8 word)) (any_read (cut_at 58 (drop 8 word))))
+only_bytes : (texts : List (List ℕ)) → All AreBytes texts → IfSome (only texts) AreBytes
+only_bytes [] small = tt
+only_bytes (text ∷ []) small = All-head AreBytes text [] small
+only_bytes (text ∷ next ∷ more) small = tt
+
+number_fits : (o : Option ℕ) → IfSome o (λ n. n ≤ max_u64) → FitsLimit (option_map Some o)
+number_fits None within = tt
+number_fits (Some n) within = omega (arith, within)
+
+time_fits : (value : List ℕ) → FitsLimit (time_limit value)
+time_fits value =
+    chosen FitsLimit (bytes_eq value (codes "none")) (Some None) (option_map Some (number max_u64 value)) (λ t. tt) (λ f. number_fits (number max_u64 value) (number_within max_u64 value))
+
+limit_fits : (value : Option (List ℕ)) → FitsLimit (option_and_then time_limit value)
+limit_fits None = tt
+limit_fits (Some value) = time_fits value
 
 single_fits : (words : List (List ℕ)) → All AreBytes words → IfSome (single words) FitsConfig
 single_fits words small =
-    if_read FitsConfig _ (option_and_then address (only (values (codes "url") words)))
-    (λ t. then_read Anything FitsConfig address (λ word any. address_fits word) (only (values (codes "url") words)) (any_read (only (values (codes "url") words))))
+    let connect = option_and_then time_limit (only (values (codes "connect") words)) in
+    let url = only (values (codes "url") words) in
+    if_read FitsConfig _ (option_map (λ text. record { url = text; connect = connect }) url)
+    (λ t. mapped AreBytes FitsConfig (λ text. record { url = text; connect = connect }) (λ text h. record { url = h; connect = limit_fits (only (values (codes "connect") words)) }) url
+    (only_bytes (values (codes "url") words) (values_bytes (codes "url") words small)))
 
 pub config_fits : (line : LineWords) → IsByteLine line → IfSome (config_of line) FitsConfig
 unfolding config_of

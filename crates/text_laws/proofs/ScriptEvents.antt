@@ -3,7 +3,7 @@ use Rattle.std.proofs.Common.{◌≡◌, ℕ, ◌<◌, ◌≤◌, ◌^◌, false
 use Rattle.std.proofs.lemmas.List.Elements.{All-cons, All-head, All-tail}
 use Rattle.driver_model.specs.declared.event.Event.{Event}
 use Rattle.driver_model.specs.declared.event.EventKind.{EventKind}
-use Rattle.driver_model.specs.declared.event.EventKind.TheVariants.{Submit, Cancel, Connected, Wrote, Bytes, Ended, ReadFault, WriteFault, Shutdown}
+use Rattle.driver_model.specs.declared.event.EventKind.TheVariants.{Submit, Cancel, Connected, Refused, Wrote, Bytes, Ended, ReadFault, WriteFault, Fired, Shutdown}
 use Rattle.driver_model.specs.declared.event.Submission.{Submission}
 use Rattle.driver_model.specs.declared.event.Submission.TheVariants.{Packed}
 use Rattle.driver_model.specs.Request.{is_single_nameless, has_no_form}
@@ -129,12 +129,18 @@ others_fit = (
   (
     plain _ (one_number Connected (λ n l. (l, tt))),
     (
-      plain _ wrote_fits,
+      plain _ (failed_fits Refused (λ l kind small. (small, tt))),
       (
-        plain _ came_fits,
+        plain _ wrote_fits,
         (
-          plain _ (one_number Ended (λ n l. (l, tt))),
-          (plain _ (failed_fits ReadFault (λ l kind small. (small, tt))), (plain _ (failed_fits WriteFault (λ l kind small. (small, tt))), (plain _ alone_fits, tt))),
+          plain _ came_fits,
+          (
+            plain _ (one_number Ended (λ n l. (l, tt))),
+            (
+              plain _ (failed_fits ReadFault (λ l kind small. (small, tt))),
+              (plain _ (failed_fits WriteFault (λ l kind small. (small, tt))), (plain _ (one_number Fired (λ n l. (l, tt))), (plain _ alone_fits, tt))),
+            ),
+          ),
         ),
       ),
     ),

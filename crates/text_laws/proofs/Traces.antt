@@ -1,12 +1,14 @@
 -- The turns of a replay's trace are those of its history, and its text tells them.
-use Rattle.std.proofs.Common.{◌≡◌, ℕ, false, List, [], ◌∷◌, ◌++◌, All, Some, map, refl, ap, ◌∙◌}
+use Rattle.std.proofs.Common.{◌≡◌, ℕ, false, List, [], ◌∷◌, ◌++◌, All, Option, Some, None, map, refl, ap, ◌∙◌}
 use Rattle.std.specs.Prelude.{option_and_then}
 use Rattle.std.proofs.lemmas.List.Elements.{All-nil, All-cons, All-head, All-tail, All-same}
 use Rattle.driver_model.specs.declared.action.Action.{Action}
 use Rattle.driver_model.specs.declared.action.Action.TheVariants as action
 use Rattle.driver_model.specs.declared.action.Cause.{Cause}
 use Rattle.driver_model.specs.declared.action.Cause.TheVariants as cause
+use Rattle.connection_info.specs.declared.address.ConnectionInfo.{ConnectionInfo}
 use Rattle.driver_model.specs.declared.config.Config.{Config}
+use Rattle.driver_model.specs.Config.{address, connect_timeout}
 use Rattle.driver_model.specs.declared.event.Event.{Event}
 use Rattle.driver_model.specs.declared.event.EventKind.{EventKind}
 use Rattle.driver_model.specs.declared.event.EventKind.TheVariants as event
@@ -14,7 +16,7 @@ use Rattle.mux_conn.specs.declared.act.LinkAct.{LinkAct}
 use Rattle.mux_conn.specs.declared.act.LinkAct.TheVariants as act
 use Rattle.shared_session.specs.declared.core_state.Core.{Core}
 use Rattle.shared_session.specs.Turn.{next_turn, is_bad, shown_each, actions_of}
-use Rattle.shared_session.specs.Replay.{opening_core, turns_on, trace_of, AreGoodOn, AreGood}
+use Rattle.shared_session.specs.Replay.{opening_core, connect_asked, turns_on, trace_of, AreGoodOn, AreGood}
 use Rattle.legal_trace.specs.Legal.{causes, event_causes}
 use Rattle.trace_text.specs.Show.{show}
 use Rattle.text_laws.specs.Fits.{FitsEvent, FitsHistory, HasForm, HaveForms}
@@ -26,7 +28,7 @@ use Rattle.text_laws.proofs.Turns.{cause_line, turns_told}
 -- what a connection shows begins no turn
 no_causes : (l : ℕ) (acts : List LinkAct) → causes (shown_each l acts) ≡ []
 no_causes l [] = refl
-no_causes l (act.Created ∷ more) = no_causes l more
+no_causes l (act.Created error ∷ more) = no_causes l more
 no_causes l (act.Close ∷ more) = no_causes l more
 no_causes l (act.Write bytes ∷ more) = no_causes l more
 no_causes l (act.Wait n kind ∷ more) = no_causes l more
@@ -37,11 +39,12 @@ causes_append : (xs ys : List Action) → causes (xs ++ ys) ≡ causes xs ++ cau
 causes_append [] ys = refl
 causes_append (action.Turn k c ∷ xs) ys = ap (λ (cs : List Cause). c ∷ cs) (causes_append xs ys)
 causes_append (action.Connect link host port ∷ xs) ys = causes_append xs ys
+causes_append (action.Timer timer ms what ∷ xs) ys = causes_append xs ys
 causes_append (action.Close link ∷ xs) ys = causes_append xs ys
 causes_append (action.Write link bytes ∷ xs) ys = causes_append xs ys
 causes_append (action.Wait owner kind ∷ xs) ys = causes_append xs ys
 causes_append (action.Start link message owner need len ∷ xs) ys = causes_append xs ys
-causes_append (action.Created ∷ xs) ys = causes_append xs ys
+causes_append (action.Created error ∷ xs) ys = causes_append xs ys
 causes_append (action.Outcome s outcome ∷ xs) ys = causes_append xs ys
 
 -- a turn has its own cause alone
@@ -55,10 +58,20 @@ causes_on c (e ∷ es) =
     causes_append (actions_of c e) (turns_on next es) ∙ ap (λ (cs : List Cause). cs ++ causes (turns_on next es)) (one_cause c e)
     ∙ ap (λ (cs : List Cause). cause.Event e ∷ cs) (causes_on next es)
 
+-- nor does what an opening asks for
+no_asking_causes : (info : Option ConnectionInfo) (timeout : Option ℕ) → causes (connect_asked info timeout) ≡ []
+no_asking_causes None timeout = refl
+no_asking_causes (Some info) None = refl
+no_asking_causes (Some info) (Some ms) = refl
+
 -- also where an event is bad
 pub turns_of_history : (config : Config) (word : ℕ) (events : List Event) → causes (trace_of config word events) ≡ cause.Opening config word ∷ event_causes events
 unfolding trace_of
-turns_of_history config word events = ap (λ (cs : List Cause). cause.Opening config word ∷ cs) (causes_on (opening_core config word) events)
+turns_of_history config word events =
+    let asked = connect_asked (address config) (connect_timeout config) in
+    let rest = turns_on (opening_core config word) events in
+    ap (λ (cs : List Cause). cause.Opening config word ∷ cs)
+    (causes_append asked rest ∙ ap (λ (cs : List Cause). cs ++ causes rest) (no_asking_causes (address config) (connect_timeout config)) ∙ causes_on (opening_core config word) events)
 
 events_fit : (es : List Event) → All FitsEvent es → All FitsCause (event_causes es)
 events_fit [] fits = All-nil FitsCause
@@ -82,11 +95,13 @@ unfolding is_bad
 good_form c (event.Submit what) good = good
 good_form c (event.Cancel n) good = tt
 good_form c (event.Connected l) good = tt
+good_form c (event.Refused l kind) good = tt
 good_form c (event.Wrote l count) good = tt
 good_form c (event.Bytes l piece) good = tt
 good_form c (event.Ended l) good = tt
 good_form c (event.ReadFault l kind) good = tt
 good_form c (event.WriteFault l kind) good = tt
+good_form c (event.Fired timer) good = tt
 good_form c event.Shutdown good = tt
 
 good_forms_on : (c : Core) (es : List Event) → AreGoodOn c es → HaveForms es

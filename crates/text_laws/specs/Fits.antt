@@ -1,6 +1,6 @@
 -- What the types of a history hold: each number is in the range of its type, and each byte is one. And which histories have
 -- submissions with forms alone.
-use Rattle.std.specs.Prelude.{◌≡◌, ℕ, ◌^◌, ◌<◌, false, List, All}
+use Rattle.std.specs.Prelude.{◌≡◌, ℕ, ◌^◌, ◌<◌, false, List, Option, Some, None, All}
 use Rattle.driver_model.specs.declared.config.Config.{Config}
 use Rattle.driver_model.specs.declared.event.Event.{Event}
 use Rattle.driver_model.specs.declared.event.EventKind.{EventKind}
@@ -34,11 +34,13 @@ abbrev pub FitsKind : EventKind → Type 0
 FitsKind (event.Submit s) = FitsSubmission s
 FitsKind (event.Cancel s) = s < 2 ^ 32
 FitsKind (event.Connected link) = link < 2 ^ 32
+FitsKind (event.Refused link kind) = link < 2 ^ 32
 FitsKind (event.Wrote link count) = (link < 2 ^ 32) × (count < 2 ^ 64)
 FitsKind (event.Bytes link piece) = (link < 2 ^ 32) × AreBytes piece
 FitsKind (event.Ended link) = link < 2 ^ 32
 FitsKind (event.ReadFault link kind) = link < 2 ^ 32
 FitsKind (event.WriteFault link kind) = link < 2 ^ 32
+FitsKind (event.Fired timer) = timer < 2 ^ 32
 FitsKind event.Shutdown = Unit {0}
 
 -- an event that its type holds
@@ -46,10 +48,16 @@ pub record FitsEvent (e : Event) : Type 0 where
   pub word : e.word < 2 ^ 64
   pub kind : FitsKind e.kind
 
+-- a number of milliseconds, where there is one, that its type holds
+abbrev pub FitsLimit : Option (Option ℕ) → Type 0
+FitsLimit None = Unit {0}
+FitsLimit (Some None) = Unit {0}
+FitsLimit (Some (Some ms)) = ms < 2 ^ 64
+
 -- a configuration that its type holds
 pub record FitsConfig (config : Config) : Type 0 where
-  pub host : AreBytes config.host
-  pub port : config.port < 2 ^ 16
+  pub url : AreBytes config.url
+  pub connect : FitsLimit config.connect
 
 -- a history that the types hold
 pub record FitsHistory (c : Config) (w : ℕ) (es : List Event) : Type 0 where
@@ -62,11 +70,13 @@ abbrev pub HasForm : EventKind → Type 0
 HasForm (event.Submit s) = has_no_form s ≡ false
 HasForm (event.Cancel s) = Unit {0}
 HasForm (event.Connected link) = Unit {0}
+HasForm (event.Refused link kind) = Unit {0}
 HasForm (event.Wrote link count) = Unit {0}
 HasForm (event.Bytes link piece) = Unit {0}
 HasForm (event.Ended link) = Unit {0}
 HasForm (event.ReadFault link kind) = Unit {0}
 HasForm (event.WriteFault link kind) = Unit {0}
+HasForm (event.Fired timer) = Unit {0}
 HasForm event.Shutdown = Unit {0}
 
 -- each submission has a form

@@ -5,7 +5,8 @@ use Rattle.driver_model.specs.declared.config.Config.{Config}
 use Rattle.driver_model.specs.declared.event.Event.{Event}
 use Rattle.script_text.specs.declared.script.Script.{Script}
 use Rattle.script_text.specs.Words.{LineWords, parts, all_of, words_of_line}
-use Rattle.script_text.specs.Numbers.{number, max_u16, max_u64}
+use Rattle.script_text.specs.Numbers.{number, max_u64}
+use Rattle.script_text.specs.ConfigLine.{config_of}
 use Rattle.script_text.specs.EventLine.{event_of}
 
 -- the first of these words is `turn`
@@ -35,34 +36,15 @@ abbrev pub drawn : List (List ℕ) → Option (ℕ × List (List ℕ))
 drawn [] = Some (0, [])
 drawn (word ∷ words) = if is_draw word then option_map (λ n. (n, words)) (number max_u64 (drop 1 word)) else Some (0, word ∷ words)
 
--- one more byte x before a text: its cut at the last b stays, and where it has none, x may be that b
-abbrev pub onto_cut : ℕ → ℕ → List ℕ → Option (List ℕ × List ℕ) → Option (List ℕ × List ℕ)
-onto_cut b x xs None = if x == b then Some ([], xs) else None
-onto_cut b x xs (Some c) = Some (x ∷ c.0, c.1)
-
--- what stands before the last byte b, and what stands behind it
-abbrev pub cut_at_last : ℕ → List ℕ → Option (List ℕ × List ℕ)
-cut_at_last b [] = None
-cut_at_last b (x ∷ xs) = onto_cut b x xs (cut_at_last b xs)
-
--- a host and a port
-abbrev pub config_from : List ℕ × List ℕ → Option Config
-config_from c = option_map (λ port. record { host = c.0; port = port }) (number max_u16 c.1)
-
--- the configuration of `config single url=redis://HOST:PORT ..`; a host may have any bytes, and a port has no colon
-abbrev pub config_in : List (List ℕ) → Option Config
-config_in (config ∷ single ∷ url ∷ settings) = option_and_then config_from (cut_at_last (byte ":") (drop 12 url))
-config_in _ = None
-
--- the configuration of the opening, and the word of its draws
+-- the configuration of the opening, and the word of its draws: its line goes on as a script's does
 abbrev pub opening_in : LineWords → Option (Config × ℕ)
-opening_in line = option_and_then (λ d. option_map (λ config. (config, d.0)) (config_in d.1)) (drawn line.words)
+opening_in line = option_and_then (λ d. option_map (λ config. (config, d.0)) (config_of (record { words = d.1; more = line.more }))) (drawn line.words)
 
 -- the event with that word
 abbrev pub drawing : ℕ → Event → Event
 drawing word e = record e { word = word }
 
--- the event of a turn: its line goes on as a script's does
+-- the event of a turn, likewise
 abbrev pub event_in : LineWords → Option Event
 event_in line = option_and_then (λ d. option_map (drawing d.0) (event_of (record { words = d.1; more = line.more }))) (drawn line.words)
 

@@ -1,8 +1,9 @@
 -- The text of a trace: for each action the line of its words.
-use Rattle.std.specs.Prelude.{ℕ, ◌==◌, List, [], ◌∷◌, ◌++◌, codes, decimal, flat_map, if◌then◌else◌}
+use Rattle.std.specs.Prelude.{ℕ, ◌==◌, List, [], ◌∷◌, ◌++◌, Option, Some, None, codes, decimal, flat_map, if◌then◌else◌}
 use Rattle.std.specs.Str.{byte}
 use Rattle.resp_value.specs.Data.{array, items_of}
 use Rattle.redis_error.specs.Names.{fault_name}
+use Rattle.redis_error.specs.declared.redis_error.RedisError.{RedisError}
 use Rattle.resp_value.specs.View.{data_of}
 use Rattle.driver_model.specs.declared.config.Config.{Config}
 use Rattle.driver_model.specs.declared.event.Submission.{Submission}
@@ -13,6 +14,8 @@ use Rattle.driver_model.specs.declared.action.Owner.{Owner}
 use Rattle.driver_model.specs.declared.action.Owner.TheVariants.{Try}
 use Rattle.driver_model.specs.declared.action.WaitKind.{WaitKind}
 use Rattle.driver_model.specs.declared.action.WaitKind.TheVariants as wait
+use Rattle.driver_model.specs.declared.action.Purpose.{Purpose}
+use Rattle.driver_model.specs.declared.action.Purpose.TheVariants as purpose
 use Rattle.driver_model.specs.declared.action.Cause.{Cause}
 use Rattle.driver_model.specs.declared.action.Cause.TheVariants.{Opening, Event}
 use Rattle.driver_model.specs.declared.action.Action.{Action}
@@ -42,17 +45,23 @@ wait_word wait.Connect = codes "connect"
 abbrev pub draw_words : ℕ → List (List ℕ)
 draw_words w = if w == 0 then [] else (byte "@" ∷ decimal w) ∷ []
 
--- no timers, and no setup
-abbrev pub bare_words : List (List ℕ)
-bare_words = codes "connect=none" ∷ codes "response=none" ∷ codes "lib=off" ∷ []
-
--- where a connection goes
+-- the server's address, as it was given
 unfoldable pub url : Config → List ℕ
-url c = codes "url=redis://" ++ address c.host c.port
+url c = codes "url=" ++ c.url
+
+-- how many milliseconds the connect may take, where it is given
+abbrev pub connect_words : Option (Option ℕ) → List (List ℕ)
+connect_words None = []
+connect_words (Some None) = codes "connect=none" ∷ []
+connect_words (Some (Some ms)) = (codes "connect=" ++ decimal ms) ∷ []
+
+-- no response timers, and no library named to the server
+abbrev pub plain_words : List (List ℕ)
+plain_words = codes "response=none" ∷ codes "lib=off" ∷ []
 
 -- the config line of one multiplexed connection
 abbrev pub config_words : Config → List (List ℕ)
-config_words c = codes "config" ∷ codes "single" ∷ url c ∷ bare_words
+config_words c = codes "config" ∷ codes "single" ∷ url c ∷ connect_words c.connect ++ plain_words
 
 -- the first of some commands, which has no words where there is none
 abbrev pub first_of : List (List (List ℕ)) → List (List ℕ)
@@ -83,11 +92,13 @@ abbrev pub event_words : EventKind → List (List ℕ)
 event_words (event.Submit s) = codes "submit" ∷ submission_words s
 event_words (event.Cancel s) = codes "cancel" ∷ decimal s ∷ []
 event_words (event.Connected link) = codes "connected" ∷ decimal link ∷ []
+event_words (event.Refused link kind) = codes "refused" ∷ decimal link ∷ fault_name kind ∷ []
 event_words (event.Wrote link count) = codes "wrote" ∷ decimal link ∷ decimal count ∷ []
 event_words (event.Bytes link piece) = codes "bytes" ∷ decimal link ∷ piece ∷ []
 event_words (event.Ended link) = codes "ended" ∷ decimal link ∷ []
 event_words (event.ReadFault link kind) = codes "read-fault" ∷ decimal link ∷ fault_name kind ∷ []
 event_words (event.WriteFault link kind) = codes "write-fault" ∷ decimal link ∷ fault_name kind ∷ []
+event_words (event.Fired timer) = codes "fired" ∷ decimal timer ∷ []
 event_words event.Shutdown = codes "shutdown" ∷ []
 
 abbrev pub event_more : EventKind → List (List (List ℕ))
@@ -108,15 +119,25 @@ outcome_words (One value) = codes "ok" ∷ canonical (data_of value) ∷ []
 outcome_words (Many values) = codes "many" ∷ canonical (array (items_of values)) ∷ []
 outcome_words (Fault error) = codes "err" ∷ error_words error
 
+-- what a timer is asked for
+abbrev pub purpose_words : Purpose → List (List ℕ)
+purpose_words (purpose.Connect link) = codes "connect" ∷ decimal link ∷ []
+
+-- how an opening went: its error, where it failed
+abbrev pub created_words : Option RedisError → List (List ℕ)
+created_words None = codes "ok" ∷ []
+created_words (Some error) = codes "err" ∷ error_words error
+
 -- the words of an action, as they are before any escape
 abbrev pub words_of : Action → List (List ℕ)
 words_of (action.Turn number cause) = codes "turn" ∷ decimal number ∷ cause_words cause
 words_of (action.Connect link host port) = codes "connect" ∷ decimal link ∷ address host port ∷ []
+words_of (action.Timer timer ms what) = codes "timer" ∷ decimal timer ∷ decimal ms ∷ purpose_words what
 words_of (action.Close link) = codes "close" ∷ decimal link ∷ []
 words_of (action.Write link bytes) = codes "write" ∷ decimal link ∷ bytes ∷ []
 words_of (action.Wait owner kind) = codes "wait" ∷ owner_word owner ∷ wait_word kind ∷ []
 words_of (action.Start link message owner need len) = codes "start" ∷ decimal link ∷ decimal message ∷ owner_word owner ∷ decimal need ∷ decimal len ∷ []
-words_of action.Created = codes "created" ∷ codes "ok" ∷ []
+words_of (action.Created error) = codes "created" ∷ created_words error
 words_of (action.Outcome s outcome) = codes "outcome" ∷ submission_word s ∷ outcome_words outcome
 
 -- those behind separators

@@ -1,11 +1,12 @@
 ghost use Rattle.std.specs.Prelude.{◌≡◌, ◌++◌, OnOk, OnErr, IfOk};
 ghost use Rattle.trace_text.specs.Words.{following};
-ghost use Rattle.trace_text.specs.Show.{show, action_line};
-ghost use Rattle.trace_text.specs.Writer.{Added};
+ghost use Rattle.trace_text.specs.Show.{show, action_line, created_words, purpose_words};
+ghost use Rattle.trace_text.specs.Writer.{Added, AddedWords};
 
 use crate::writer::Writer;
 use containers::Bytes;
-use driver_model::{Action, Cause, Outcome, Owner, WaitKind};
+use driver_model::{Action, Cause, Outcome, Owner, Purpose, WaitKind};
+use redis_error::RedisError;
 use std::alloc::{AllocError, Global};
 use std::mem;
 
@@ -34,7 +35,29 @@ impl Writer {
     {
         self.first(b"connect")?;
         self.number(u64::from(link))?;
-        self.address(alloc, b"", host, port)?;
+        self.address(alloc, host, port)?;
+        self.end_line()
+    }
+
+    /// What a timer is asked for.
+    fn purpose(&mut self, purpose: Purpose) -> Result<(), AllocError>
+        ensures before { self.new.before ≡ self.old.before }
+        ensures ok { OnOk result (AddedWords self.old self.new (purpose_words purpose)) }
+    {
+        let Purpose::Connect { link } = purpose;
+        self.word(b"connect")?;
+        self.number(u64::from(link))
+    }
+
+    fn timer(&mut self, timer: u32, ms: u64, purpose: Purpose) -> Result<(), AllocError>
+        ensures before { self.new.before ≡ self.old.before }
+        ensures ok { OnOk result
+            (Added self.old self.new (action_line (Action.Timer timer ms purpose))) }
+    {
+        self.first(b"timer")?;
+        self.number(u64::from(timer))?;
+        self.number(ms)?;
+        self.purpose(purpose)?;
         self.end_line()
     }
 
@@ -91,12 +114,27 @@ impl Writer {
         self.end_line()
     }
 
-    fn created(&mut self) -> Result<(), AllocError>
+    /// How an opening went.
+    fn creation(&mut self, alloc: Global, error: &Option<RedisError>) -> Result<(), AllocError>
         ensures before { self.new.before ≡ self.old.before }
-        ensures ok { OnOk result (Added self.old self.new (action_line Action.Created)) }
+        ensures ok { OnOk result (AddedWords self.old self.new (created_words error.now)) }
+    {
+        match error {
+            None => self.word(b"ok"),
+            Some(error) => {
+                self.word(b"err")?;
+                self.error(alloc, error)
+            }
+        }
+    }
+
+    fn created(&mut self, alloc: Global, error: &Option<RedisError>) -> Result<(), AllocError>
+        ensures before { self.new.before ≡ self.old.before }
+        ensures ok { OnOk result
+            (Added self.old self.new (action_line (Action.Created error.now))) }
     {
         self.first(b"created")?;
-        self.word(b"ok")?;
+        self.creation(alloc, error)?;
         self.end_line()
     }
 
@@ -124,6 +162,7 @@ impl Writer {
         match action {
             Action::Turn { number, cause } => self.turn(alloc, *number, cause),
             Action::Connect { link, host, port } => self.connect(alloc, *link, host, *port),
+            Action::Timer { timer, ms, purpose } => self.timer(*timer, *ms, *purpose),
             Action::Close { link } => self.close(*link),
             Action::Write { link, bytes } => self.write(*link, bytes),
             Action::Wait { owner, wait } => self.wait(alloc, *owner, *wait),
@@ -134,7 +173,7 @@ impl Writer {
                 need,
                 len,
             } => self.start(alloc, *link, *message, *owner, *need, *len),
-            Action::Created => self.created(),
+            Action::Created { error } => self.created(alloc, error),
             Action::Outcome {
                 submission,
                 outcome,

@@ -1,7 +1,8 @@
 ghost use Rattle.std.specs.Prelude.{◌≡◌, ◌++◌, ◌∷◌, [], OnOk, decimal};
 ghost use Rattle.redis_error.specs.Names.{fault_name};
 ghost use Rattle.trace_text.specs.Words.{following, separated};
-ghost use Rattle.trace_text.specs.Show.{bare_words, behind_first, config_words, first_of, url};
+ghost use Rattle.trace_text.specs.Show.{behind_first, config_words, connect_words, first_of};
+ghost use Rattle.trace_text.specs.Show.{plain_words, url};
 ghost use Rattle.trace_text.specs.Show.{cause_more, cause_words, event_more, event_words};
 ghost use Rattle.trace_text.specs.Show.{submission_more, submission_words};
 ghost use Rattle.trace_text.specs.Writer.{Added, AddedWords, AddedParts};
@@ -13,23 +14,43 @@ use redis_error::FaultKind;
 use std::alloc::{AllocError, Global};
 
 impl Writer {
-    /// The words of a connection without timers and setup.
-    fn bare_words(&mut self) -> Result<(), AllocError>
-        ensures before { self.new.before ≡ self.old.before }
-        ensures ok { OnOk result (AddedWords self.old self.new bare_words) }
-    {
-        self.word(b"connect=none")?;
-        self.word(b"response=none")?;
-        self.word(b"lib=off")
-    }
-
     /// The word of the address.
     #[tactic(auto, unfolding(crate::specs::Show::url))]
     fn url(&mut self, alloc: Global, config: &Config) -> Result<(), AllocError>
         ensures before { self.new.before ≡ self.old.before }
         ensures ok { OnOk result (AddedWords self.old self.new (url config.now ∷ [])) }
     {
-        self.address(alloc, b"url=redis://", &config.host, config.port)
+        let mut word = Bytes::from_slice(alloc, b"url=")?;
+        word.extend_from_slice(config.url.as_slice())?;
+        self.word(word.as_slice())
+    }
+
+    /// How long the connect may take, where it is given.
+    fn connect_limit(
+        &mut self,
+        alloc: Global,
+        connect: Option<Option<u64>>,
+    ) -> Result<(), AllocError>
+        ensures before { self.new.before ≡ self.old.before }
+        ensures ok { OnOk result (AddedWords self.old self.new (connect_words connect)) }
+    {
+        match connect {
+            None => Ok(()),
+            Some(None) => self.word(b"connect=none"),
+            Some(Some(ms)) => {
+                let word = format!(in alloc; "connect={ms}")?;
+                self.word(word.as_bytes())
+            }
+        }
+    }
+
+    /// The words that each config line has.
+    fn plain_words(&mut self) -> Result<(), AllocError>
+        ensures before { self.new.before ≡ self.old.before }
+        ensures ok { OnOk result (AddedWords self.old self.new plain_words) }
+    {
+        self.word(b"response=none")?;
+        self.word(b"lib=off")
     }
 
     /// The words of a config line.
@@ -40,7 +61,8 @@ impl Writer {
         self.word(b"config")?;
         self.word(b"single")?;
         self.url(alloc, config)?;
-        self.bare_words()
+        self.connect_limit(alloc, config.connect)?;
+        self.plain_words()
     }
 
     /// Each argument as a word.
@@ -116,12 +138,13 @@ impl Writer {
         }
     }
 
-    /// A link and its fault.
-    fn fault(&mut self, link: u32, fault: FaultKind) -> Result<(), AllocError>
+    /// The words of what failed: its name, a link and the kind of the fault.
+    fn fault(&mut self, name: &[u8], link: u32, fault: FaultKind) -> Result<(), AllocError>
         ensures before { self.new.before ≡ self.old.before }
         ensures ok { OnOk result
-            (AddedWords self.old self.new (decimal link ∷ fault_name fault ∷ [])) }
+            (AddedWords self.old self.new (name.now ∷ decimal link ∷ fault_name fault ∷ [])) }
     {
+        self.word(name)?;
         self.number(u64::from(link))?;
         self.word(fault.name().as_bytes())
     }
@@ -145,6 +168,7 @@ impl Writer {
                 self.word(b"connected")?;
                 self.number(u64::from(*link))
             }
+            EventKind::Refused { link, fault } => self.fault(b"refused", *link, *fault),
             EventKind::Wrote { link, count } => {
                 self.word(b"wrote")?;
                 self.number(u64::from(*link))?;
@@ -159,13 +183,11 @@ impl Writer {
                 self.word(b"ended")?;
                 self.number(u64::from(*link))
             }
-            EventKind::ReadFault { link, fault } => {
-                self.word(b"read-fault")?;
-                self.fault(*link, *fault)
-            }
-            EventKind::WriteFault { link, fault } => {
-                self.word(b"write-fault")?;
-                self.fault(*link, *fault)
+            EventKind::ReadFault { link, fault } => self.fault(b"read-fault", *link, *fault),
+            EventKind::WriteFault { link, fault } => self.fault(b"write-fault", *link, *fault),
+            EventKind::Fired { timer } => {
+                self.word(b"fired")?;
+                self.number(u64::from(*timer))
             }
             EventKind::Shutdown => self.word(b"shutdown"),
         }

@@ -10,21 +10,14 @@ use itoa::Buffer;
 use std::alloc::{AllocError, Global};
 
 impl Writer {
-    /// One more word: a host and a port behind a lead.
-    pub fn address(
-        &mut self,
-        alloc: Global,
-        lead: &[u8],
-        host: &Bytes,
-        port: u16,
-    ) -> Result<(), AllocError>
+    /// One more word: a host and a port.
+    pub fn address(&mut self, alloc: Global, host: &Bytes, port: u16) -> Result<(), AllocError>
         ensures before { self.new.before ≡ self.old.before }
         ensures ok { OnOk result
-            (AddedWords self.old self.new ((lead.now ++ address host.now port) ∷ [])) }
+            (AddedWords self.old self.new (address host.now port ∷ [])) }
     {
         let mut digits = Buffer::new();
-        let mut word = Bytes::from_slice(alloc, lead)?;
-        word.extend_from_slice(host.as_slice())?;
+        let mut word = host.clone(alloc)?;
         word.push(b':')?;
         word.extend_from_slice(digits.format(port).as_bytes())?;
         self.word(word.as_slice())

@@ -1,7 +1,8 @@
 use super::{append_action, show};
 use containers::{Bytes, Names, Seq};
 use driver_model::{
-    Action, Cause, Commands, Config, Event, EventKind, Outcome, Owner, Submission, WaitKind,
+    Action, Cause, Commands, Config, Event, EventKind, Outcome, Owner, Purpose, Submission,
+    WaitKind,
 };
 use redis_error::{FaultKind, RedisError};
 use resp_value::{ServerError, Value, Values};
@@ -34,7 +35,9 @@ outcome s0 err parse
 
 /// What these two do not show.
 const OTHERS: &[u8] =
-    b"turn 0 @18446744073709551615 config single url=redis://%25-:0 connect=none response=none lib=off
+    b"turn 0 @18446744073709551615 config single url=redis://%25-:0 response=none lib=off
+turn 0 config single url=%20; connect=0 response=none lib=off
+turn 0 config single url= connect=18446744073709551615 response=none lib=off
 turn 5 @7 submit cmd %- %3B ;; %20 %25
 turn 6 submit cmd
 turn 7 cancel 3
@@ -50,9 +53,14 @@ fn bytes(alloc: Global, text: &[u8]) -> Result<Bytes, AllocError> {
     Bytes::from_slice(alloc, text)
 }
 
-fn opening(alloc: Global, host: &[u8], port: u16, word: u64) -> Result<Action, AllocError> {
-    let host = bytes(alloc, host)?;
-    let config = Config { host, port };
+fn opening(
+    alloc: Global,
+    url: &[u8],
+    connect: Option<Option<u64>>,
+    word: u64,
+) -> Result<Action, AllocError> {
+    let url = bytes(alloc, url)?;
+    let config = Config { url, connect };
     let cause = Cause::Opening { config, word };
     Ok(Action::Turn { number: 0, cause })
 }
@@ -82,7 +90,7 @@ fn submit(alloc: Global, words: &[&[u8]]) -> Result<EventKind, AllocError> {
 }
 
 fn begin(alloc: Global, actions: &mut Seq<Action>) -> Result<(), AllocError> {
-    actions.push(opening(alloc, b"h", 6379, 0)?)?;
+    actions.push(opening(alloc, b"redis://h:6379", Some(None), 0)?)?;
     let host = bytes(alloc, b"h")?;
     let port = 6379;
     actions.push(Action::Connect {
@@ -91,7 +99,7 @@ fn begin(alloc: Global, actions: &mut Seq<Action>) -> Result<(), AllocError> {
         port,
     })?;
     actions.push(turn(1, 0, EventKind::Connected { link: 0 }))?;
-    actions.push(Action::Created)?;
+    actions.push(Action::Created { error: None })?;
     actions.push(turn(2, 0, submit(alloc, &[b"GET", b"a"])?))?;
     let owner = Owner::Try {
         submission: 0,
@@ -136,7 +144,9 @@ fn refused(alloc: Global, actions: &mut Seq<Action>) -> Result<(), AllocError> {
 }
 
 fn others(alloc: Global, actions: &mut Seq<Action>) -> Result<(), AllocError> {
-    actions.push(opening(alloc, b"%-", 0, u64::MAX)?)?;
+    actions.push(opening(alloc, b"redis://%-:0", None, u64::MAX)?)?;
+    actions.push(opening(alloc, b" ;", Some(Some(0)), 0)?)?;
+    actions.push(opening(alloc, b"", Some(Some(u64::MAX)), 0)?)?;
     actions.push(turn(5, 7, submit(alloc, &[b"", b";", b";;", b" ", b"%"])?))?;
     actions.push(turn(6, 0, submit(alloc, &[])?))?;
     actions.push(turn(7, 0, EventKind::Cancel { submission: 3 }))?;
@@ -287,6 +297,39 @@ fn traces_have_text(rt: HostRuntime) -> Result<(), AllocError> {
     actions.truncate(0);
     others(alloc, &mut actions)?;
     assert_eq!(rt; show(alloc, actions.as_slice())?.as_slice(), OTHERS);
+    Ok(())
+}
+
+/// Openings that fail.
+const FAILED: &[u8] = b"timer 4294967295 18446744073709551615 connect 7
+turn 1 refused 0 timed-out
+created err io timed-out
+turn 2 @3 fired 4294967295
+created err auth-failed %-
+";
+
+fn failed(alloc: Global, actions: &mut Seq<Action>) -> Result<(), AllocError> {
+    actions.push(Action::Timer {
+        timer: u32::MAX,
+        ms: u64::MAX,
+        purpose: Purpose::Connect { link: 7 },
+    })?;
+    let fault = FaultKind::TimedOut;
+    actions.push(turn(1, 0, EventKind::Refused { link: 0, fault }))?;
+    let error = Some(RedisError::Io { fault });
+    actions.push(Action::Created { error })?;
+    actions.push(turn(2, 3, EventKind::Fired { timer: u32::MAX }))?;
+    let text = Bytes::new(alloc);
+    let error = Some(RedisError::AuthFailed { text });
+    actions.push(Action::Created { error })
+}
+
+#[test]
+fn failed_openings_have_text(rt: HostRuntime) -> Result<(), AllocError> {
+    let alloc = rt.alloc();
+    let mut actions = Seq::new(alloc);
+    failed(alloc, &mut actions)?;
+    assert_eq!(rt; show(alloc, actions.as_slice())?.as_slice(), FAILED);
     Ok(())
 }
 

@@ -7,7 +7,7 @@ use Rattle.session_tool.proofs.Offers.{Follows, follows_none, follows_more, foun
 use Rattle.session_tool.proofs.bad.find_bad.Goals as goal
 
 pub loop-place-init : goal.loop-place-init
-loop-place-init c = follows_none c.args.config.now c.args.word c.in-Some.session c.open_quietly.new.offer c.in-Some.ensures.made c.in-Some.ensures.offer
+loop-place-init c = follows_none c.args.config.now c.args.word c.in-Some.session c.open_quietly.new.offer c.in-Some.ensures.made c.in-Some.ensures.sound c.in-Some.ensures.offer
 
 pub loop-place-preserved : goal.loop-place-preserved
 loop-place-preserved c =

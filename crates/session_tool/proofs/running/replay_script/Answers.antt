@@ -6,7 +6,7 @@ use Rattle.session_tool.proofs.running.replay_script.Goals as goal
 
 pub returns-in-Ok-clause-stops : goal.returns-in-Ok-clause-stops
 returns-in-Ok-clause-stops g c =
-    cut_whole c.args.script.now.config c.args.script.now.word c.args.script.now.events c.as_slice-events.result.now c.replay_into.new.text c.as_slice-events.ensures c.in-Ok.ensures.good c.in-Ok.ensures.unspent c.in-Ok.ensures.sent c.put.ensures.part
+    cut_whole c.args.script.now.config c.args.script.now.word c.args.script.now.events c.as_slice-events.result.now c.replay_into.new.text c.as_slice-events.ensures c.in-Ok.ensures.sound c.in-Ok.ensures.good c.in-Ok.ensures.unspent c.in-Ok.ensures.sent c.put.ensures.part
 
 pub returns-clause-stops : goal.returns-clause-stops
 returns-clause-stops g c =
