@@ -1,5 +1,5 @@
 -- Which links have a stream, and what the errors of the system are to a link.
-use Rattle.std.specs.Prelude.{ℕ, Bool, true, false, ◌==◌, if◌then◌else◌, is_some}
+use Rattle.std.specs.Prelude.{◌≡◌, ℕ, Bool, true, false, ◌==◌, if◌then◌else◌, is_some}
 use Rattle.std.specs.BTreeMap.{get}
 use Rattle.std.specs.Ordering.{nat_cmp}
 use Rattle.std.specs.declared.io.ErrorKind.{ErrorKind}
@@ -14,9 +14,13 @@ use Rattle.outside.specs.declared.world.Dialed.TheVariants as dialed
 abbrev pub has_stream : {S : Type 0} → Streams S → ℕ → Bool
 has_stream streams link = is_some (get nat_cmp streams.by_link link)
 
--- whether each link has a stream, where this one now has one or has none, and the others are as they were
-abbrev pub changed_at : ℕ → Bool → (ℕ → Bool) → ℕ → Bool
-changed_at link has before other = if link == other then has else before other
+-- the same links have a stream as before
+abbrev pub SameLinks : {S : Type 0} → Streams S → Streams S → Type 0
+SameLinks before now = (link : ℕ) → has_stream now link ≡ has_stream before link
+
+-- this link now has a stream, or has none, and the others are as they were
+abbrev pub ChangesLink : {S : Type 0} → Streams S → Streams S → ℕ → Bool → Type 0
+ChangesLink before now link has = (other : ℕ) → has_stream now other ≡ (if link == other then has else has_stream before other)
 
 -- whether a dial connected its link
 abbrev pub is_yes : Dialed → Bool

@@ -27,35 +27,34 @@ fn serve(listener: &TcpListener) -> io::Result<()> {
 }
 
 /// Reads until something has come, for some seconds at most.
-fn read_soon<W: World>(world: &mut W, room: &mut [u8; 8]) -> LinkGot {
+fn read_soon<W: World>(world: &mut W) -> (LinkGot, [u8; 4]) {
     for _ in 0..5_000 {
-        match world.read(7, room.as_mut_slice()) {
+        let mut room = [0u8; 4];
+        match world.read(7, &mut room) {
             LinkGot::NotYet => world.wait(1),
-            got => return got,
+            got => return (got, room),
         }
     }
-    LinkGot::NotYet
+    (LinkGot::NotYet, [0u8; 4])
 }
 
 /// Talks with `serve` over a link that is connected.
 fn talk<W: World>(rt: &impl Abort, world: &mut W) {
-    let mut room = [0u8; 8];
+    let mut room = [0u8; 4];
     assert_eq!(rt; world.read(7, &mut room), LinkGot::NotYet);
     assert_eq!(rt; world.write(7, b"PING"), LinkPut::Took(4));
-    assert_eq!(rt; read_soon(world, &mut room), LinkGot::Read(3));
-    assert_eq!(rt; room[..3], b"+PO"[..]);
+    assert_eq!(rt; read_soon(world), (LinkGot::Read(3), *b"+PO\0"));
     assert_eq!(rt; world.read(7, &mut room), LinkGot::NotYet);
     assert_eq!(rt; world.write(7, b"."), LinkPut::Took(1));
-    assert_eq!(rt; read_soon(world, &mut room), LinkGot::Read(3));
-    assert_eq!(rt; room[..3], b"NG!"[..]);
-    assert_eq!(rt; read_soon(world, &mut room), LinkGot::Ended);
+    assert_eq!(rt; read_soon(world), (LinkGot::Read(3), *b"NG!\0"));
+    assert_eq!(rt; read_soon(world), (LinkGot::Ended, [0u8; 4]));
 }
 
 /// Uses a link that isn't connected, by three calls that count.
 fn use_unconnected<W: World>(rt: &impl Abort, world: &mut W) {
     let faults = world.faults();
     let unconnected = FaultKind::NotConnected;
-    let mut room = [0u8; 8];
+    let mut room = [0u8; 4];
     assert_eq!(rt; world.read(7, &mut room), LinkGot::Failed(unconnected));
     assert_eq!(rt; world.write(7, b"PING"), LinkPut::Failed(unconnected));
     world.close(7);

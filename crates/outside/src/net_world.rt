@@ -1,8 +1,9 @@
 ghost use Rattle.std.specs.Prelude.{◌≡◌, ◌<◌, ◌≤◌, ℕ, false, None, length};
 ghost use Rattle.outside.specs.declared.world.Call.{Call};
 ghost use Rattle.outside.specs.Ends.{Rose};
-ghost use Rattle.outside.specs.World.{Adds, DialFailed, GotFailed, LinkGotWithin, LinkPutWithin, PutFailed, link_given};
-ghost use Rattle.outside.specs.NetWorld.{changed_at, has_stream, is_yes};
+ghost use Rattle.outside.specs.World.{Adds, DialFailed, GotFailed, LinkGotWithin, LinkPutWithin};
+ghost use Rattle.outside.specs.World.{PutFailed, link_given};
+ghost use Rattle.outside.specs.NetWorld.{ChangesLink, SameLinks, has_stream, is_yes};
 
 use crate::dialing::connect;
 use crate::fault_count::{after_dial, after_read, after_write};
@@ -37,7 +38,9 @@ fn reading<R: Clock>(rt: &R) -> Duration {
 pub struct NetWorld<'a, R: Net> {
     rt: &'a R,
     streams: Streams<R::Stream>,
+    /// The clock's reading as the world was made.
     start: Duration,
+    /// The last moment that was told.
     moment: u64,
     dial_limit_ms: u64,
     faults: u64,
@@ -68,9 +71,9 @@ impl<'a, R: Net + Clock + RandomSource> NetWorld<'a, R> {
     }
 
     fn connect_link(&mut self, link: u32, host: &str, port: u16) -> Dialed
-        ensures connected { (other : ℕ) → has_stream self.new.streams other
-            ≡ changed_at link (is_yes result) (has_stream self.old.streams) other }
+        ensures links { ChangesLink self.old.streams self.new.streams link (is_yes result) }
         ensures faults { self.new.faults ≡ self.old.faults }
+        ensures moment { self.new.moment ≡ self.old.moment }
     {
         self.streams.close(link);
         let limit = Duration::from_millis(self.dial_limit_ms);
@@ -98,8 +101,8 @@ impl<'a, R: Net + Clock + RandomSource> World for NetWorld<'a, R> {
         ensures later { self.old.faults ≤ self.new.faults }
         ensures cause { DialFailed result → Rose self.old.faults self.new.faults }
 
-        ensures connected { (other : ℕ) → has_stream self.new.streams other
-            ≡ changed_at link (is_yes result) (has_stream self.old.streams) other }
+        ensures links { ChangesLink self.old.streams self.new.streams link (is_yes result) }
+        ensures moment { self.new.moment ≡ self.old.moment }
     {
         let answer = self.connect_link(link, host, port);
         self.faults = after_dial(self.faults, answer);
@@ -116,7 +119,8 @@ impl<'a, R: Net + Clock + RandomSource> World for NetWorld<'a, R> {
 
         ensures unconnected { has_stream self.old.streams link ≡ false
             → result ≡ LinkGot.Failed FaultKind.NotConnected }
-        ensures stay { (other : ℕ) → has_stream self.new.streams other ≡ has_stream self.old.streams other }
+        ensures links { SameLinks self.old.streams self.new.streams }
+        ensures moment { self.new.moment ≡ self.old.moment }
     {
         let answer = self.streams.read(link, room);
         self.faults = after_read(self.faults, answer);
@@ -132,7 +136,8 @@ impl<'a, R: Net + Clock + RandomSource> World for NetWorld<'a, R> {
 
         ensures unconnected { has_stream self.old.streams link ≡ false
             → result ≡ LinkPut.Failed FaultKind.NotConnected }
-        ensures stay { (other : ℕ) → has_stream self.new.streams other ≡ has_stream self.old.streams other }
+        ensures links { SameLinks self.old.streams self.new.streams }
+        ensures moment { self.new.moment ≡ self.old.moment }
     {
         let answer = self.streams.write(link, piece);
         self.faults = after_write(self.faults, answer);
@@ -143,8 +148,8 @@ impl<'a, R: Net + Clock + RandomSource> World for NetWorld<'a, R> {
         ensures tells { Adds None None (Call.Close link) }
         ensures later { self.old.faults ≤ self.new.faults }
 
-        ensures closed { (other : ℕ) → has_stream self.new.streams other
-            ≡ changed_at link false (has_stream self.old.streams) other }
+        ensures links { ChangesLink self.old.streams self.new.streams link false }
+        ensures moment { self.new.moment ≡ self.old.moment }
     {
         self.streams.close(link);
     }
@@ -155,9 +160,9 @@ impl<'a, R: Net + Clock + RandomSource> World for NetWorld<'a, R> {
         ensures tells { Adds None None (Call.Now result) }
         ensures later { self.old.faults ≤ self.new.faults }
 
-        ensures goes_on { self.old.moment ≤ result }
-        ensures kept { self.new.moment ≡ result }
-        ensures stay { (other : ℕ) → has_stream self.new.streams other ≡ has_stream self.old.streams other }
+        ensures later_moment { self.old.moment ≤ result }
+        ensures moment { self.new.moment ≡ result }
+        ensures links { SameLinks self.old.streams self.new.streams }
     {
         let since = reading(self.rt).saturating_sub(self.start).as_millis();
         self.moment = self.moment.max(u64::try_from(since).unwrap_or(u64::MAX));
@@ -165,7 +170,13 @@ impl<'a, R: Net + Clock + RandomSource> World for NetWorld<'a, R> {
     }
 
     /// Random bits of the system, and 0 where it has none.
-    fn word(&mut self) -> u64 {
+    fn word(&mut self) -> u64
+        ensures tells { Adds None None (Call.Word result) }
+        ensures later { self.old.faults ≤ self.new.faults }
+
+        ensures links { SameLinks self.old.streams self.new.streams }
+        ensures moment { self.new.moment ≡ self.old.moment }
+    {
         let mut bytes = [0u8; 8];
         match self.rt.fill_bytes(&mut bytes) {
             Ok(()) => u64::from_ne_bytes(bytes),
@@ -173,7 +184,13 @@ impl<'a, R: Net + Clock + RandomSource> World for NetWorld<'a, R> {
         }
     }
 
-    fn wait(&mut self, ms: u64) {
+    fn wait(&mut self, ms: u64)
+        ensures tells { Adds None None (Call.Wait ms) }
+        ensures later { self.old.faults ≤ self.new.faults }
+
+        ensures links { SameLinks self.old.streams self.new.streams }
+        ensures moment { self.new.moment ≡ self.old.moment }
+    {
         thread::sleep(self.rt, Duration::from_millis(ms));
     }
 }

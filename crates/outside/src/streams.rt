@@ -1,5 +1,5 @@
 ghost use Rattle.std.specs.Prelude.{◌≡◌, ◌<◌, ℕ, true, false, length, OnOk, OnErr};
-ghost use Rattle.outside.specs.NetWorld.{changed_at, has_stream};
+ghost use Rattle.outside.specs.NetWorld.{ChangesLink, SameLinks, has_stream};
 ghost use Rattle.outside.specs.World.{LinkGotWithin, LinkPutWithin};
 
 use crate::fault_of::fault_of;
@@ -57,9 +57,8 @@ impl<S: Drop> Streams<S> {
 
     /// Gives a link a stream, in the place of the one that it had.
     pub(crate) fn put(&mut self, link: u32, stream: S) -> Result<(), AllocError>
-        ensures put { OnOk result ((other : ℕ)
-            → has_stream self.new other ≡ changed_at link true (has_stream self.old) other) }
-        ensures refused { OnErr result ((other : ℕ) → has_stream self.new other ≡ has_stream self.old other) }
+        ensures ok { OnOk result (ChangesLink self.old self.new link true) }
+        ensures err { OnErr result (SameLinks self.old self.new) }
     {
         self.by_link.insert(link, stream)?;
         Ok(())
@@ -67,8 +66,7 @@ impl<S: Drop> Streams<S> {
 
     /// Drops a link's stream, if it has one.
     pub(crate) fn close(&mut self, link: u32)
-        ensures closed { (other : ℕ)
-            → has_stream self.new other ≡ changed_at link false (has_stream self.old) other }
+        ensures closed { ChangesLink self.old self.new link false }
     {
         self.by_link.remove(&link);
     }
@@ -79,8 +77,9 @@ impl<S: Read> Streams<S> {
     pub(crate) fn read(&mut self, link: u32, room: &mut [u8]) -> LinkGot
         requires { 0 < length room.old }
         ensures within { LinkGotWithin (length room.old) result }
-        ensures unconnected { has_stream self.old link ≡ false → result ≡ LinkGot.Failed FaultKind.NotConnected }
-        ensures stay { (other : ℕ) → has_stream self.new other ≡ has_stream self.old other }
+        ensures unconnected { has_stream self.old link ≡ false
+            → result ≡ LinkGot.Failed FaultKind.NotConnected }
+        ensures links { SameLinks self.old self.new }
     {
         match self.by_link.get_mut(&link) {
             Some(stream) => read_once(stream, room),
@@ -93,8 +92,9 @@ impl<S: Write> Streams<S> {
     /// Writes to a link's stream once.
     pub(crate) fn write(&mut self, link: u32, piece: &[u8]) -> LinkPut
         ensures within { LinkPutWithin (length piece.now) result }
-        ensures unconnected { has_stream self.old link ≡ false → result ≡ LinkPut.Failed FaultKind.NotConnected }
-        ensures stay { (other : ℕ) → has_stream self.new other ≡ has_stream self.old other }
+        ensures unconnected { has_stream self.old link ≡ false
+            → result ≡ LinkPut.Failed FaultKind.NotConnected }
+        ensures links { SameLinks self.old self.new }
     {
         match self.by_link.get_mut(&link) {
             Some(stream) => write_once(stream, piece),
