@@ -1,3 +1,4 @@
 pub mod Spent
 pub mod Waits
 pub mod Entries
+pub mod Threads

@@ -20,3 +20,5 @@ pub use request::{Pending, Progress, Request, Waiting};
 
 #[cfg(test)]
 mod tests;
+#[cfg(test)]
+mod threads_tests;

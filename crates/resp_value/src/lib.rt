@@ -10,6 +10,8 @@ mod push_kind;
 mod redirect;
 mod retry_method;
 mod same;
+#[cfg(test)]
+mod same_tests;
 mod server_code;
 mod server_error;
 mod shown;

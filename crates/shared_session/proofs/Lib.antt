@@ -1,3 +1,4 @@
 pub mod Within
 pub mod Spent
 pub mod Replays
+pub mod Threads

@@ -14,3 +14,5 @@ pub use showing::Done;
 
 #[cfg(test)]
 mod tests;
+#[cfg(test)]
+mod threads_tests;

@@ -1,0 +1,26 @@
+-- A connection may go to another thread, and threads may share it. With `crossing` a search proves the same of what holds connections.
+use denote.Param.Send.{IsSend, IsSync}
+use Rattle.resp_value.proofs.Threads as values
+use Rattle.link_core.specs.contracts.link.LinkCore as Link
+use Rattle.mux_conn.specs.contracts.life.Life as Life
+use Rattle.mux_conn.specs.contracts.connection.MultiplexedConnection as Connection
+
+link_send : IsSend Link.the_field.row
+link_send = search values.crossing depth 60 fits 20000
+
+link_sync : IsSync Link.the_field.row
+link_sync = search values.crossing depth 60 fits 20000
+
+life_send : IsSend Life.the_field.row
+life_send = search (link_send, values.crossing) depth 60 fits 20000
+
+life_sync : IsSync Life.the_field.row
+life_sync = search (link_sync, values.crossing) depth 60 fits 20000
+
+pub connection_send : IsSend Connection.the_field.row
+connection_send = search (life_send, values.crossing) depth 60 fits 20000
+
+pub connection_sync : IsSync Connection.the_field.row
+connection_sync = search (life_sync, values.crossing) depth 60 fits 20000
+
+pub ruleset crossing = (connection_send, connection_sync, values.crossing)

@@ -1,0 +1,33 @@
+-- A session may go to another thread, and threads may share it. With `crossing` a search proves the same of what holds sessions.
+use denote.Param.Send.{IsSend, IsSync}
+use Rattle.driver_model.specs.contracts.event.Event as Event
+use Rattle.driver_model.specs.contracts.outcome.Outcome as Outcome
+use Rattle.mux_conn.proofs.Threads as connections
+use Rattle.shared_session.specs.contracts.core_state.Core as Core
+use Rattle.shared_session.specs.contracts.session.Session as Session
+
+event_send : IsSend Event.the_field.row
+event_send = search connections.crossing depth 60 fits 20000
+
+event_sync : IsSync Event.the_field.row
+event_sync = search connections.crossing depth 60 fits 20000
+
+outcome_send : IsSend Outcome.the_field.row
+outcome_send = search connections.crossing depth 60 fits 20000
+
+outcome_sync : IsSync Outcome.the_field.row
+outcome_sync = search connections.crossing depth 60 fits 20000
+
+core_send : IsSend Core.the_field.row
+core_send = search connections.crossing depth 60 fits 20000
+
+core_sync : IsSync Core.the_field.row
+core_sync = search connections.crossing depth 60 fits 20000
+
+pub session_send : IsSend Session.the_field.row
+session_send = search (event_send, outcome_send, core_send, connections.crossing) depth 60 fits 20000
+
+pub session_sync : IsSync Session.the_field.row
+session_sync = search (event_sync, outcome_sync, core_sync, connections.crossing) depth 60 fits 20000
+
+pub ruleset crossing = (session_send, session_sync, connections.crossing)
