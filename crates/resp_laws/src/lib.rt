@@ -2,12 +2,12 @@
 //! changes no value.
 #![tactic(auto)]
 
-ghost use Rattle.std.specs.Prelude.{◌≡◌, ◌⊎◌, ◌<◌, ℕ, List, [], ◌∷◌, ◌++◌, length};
+ghost use Rattle.std.specs.Prelude.{◌≡◌, ◌⊎◌, ◌<◌, ◌≤◌, ◌+◌, ℕ, List, [], ◌∷◌, ◌++◌, length};
 ghost use Rattle.std.specs.List.{All};
 ghost use Rattle.resp_value.specs.Data.{Data};
 ghost use Rattle.resp_read.specs.Reads.{Reads, IsProperPrefix, IsMalformed};
 ghost use Rattle.resp_read.specs.Reads.{ReadsWithin, IsProperPrefixWithin, IsMalformedWithin};
-ghost use Rattle.resp_read.specs.Limits.{AreAllowed};
+ghost use Rattle.resp_read.specs.Limits.{AreAllowed, longest_value};
 ghost use Rattle.resp_read.specs.declared.limits.Limits.{Limits};
 ghost use Rattle.resp_read.specs.Values.{values, left_over, is_spoiled};
 ghost use Rattle.resp_write.specs.Command.{CommandList};
@@ -89,6 +89,17 @@ pub fn more_bytes_change_no_value()
         → ReadsWithin limits (bytes ++ more) v (rest ++ more) }
     ensures malformed_within { (limits : Limits) (bytes more : List ℕ)
         → IsMalformedWithin limits bytes → IsMalformedWithin limits (bytes ++ more) }
+{}
+
+/// Does nothing. Its contract: a value that a reader finds within its limits has no more bytes than these limits let the
+/// longest one have, and neither has a text of which it wants more: so that much is the most that it holds of a value
+/// that is not whole.
+pub fn limits_bound_a_value()
+    ensures value { (limits : Limits) (bytes : List ℕ) (v : Data) (rest : List ℕ)
+        → AreAllowed limits → ReadsWithin limits bytes v rest
+        → length bytes ≤ length rest + longest_value limits limits.depth }
+    ensures underway { (limits : Limits) (bytes : List ℕ) → AreAllowed limits
+        → IsProperPrefixWithin limits bytes → length bytes ≤ longest_value limits limits.depth }
 {}
 
 /// Does nothing. Its contract: however a text is cut into pieces, the values read from it are those of the whole.

@@ -1,5 +1,5 @@
 -- The line at the front, where a value is asked for, is the line of its form.
-use Rattle.std.proofs.Common.{◌≡◌, ℕ, List, Option, Some, None, Bool, true, false, cond, refl, sym, ap, ◌∙◌, Err}
+use Rattle.std.proofs.Common.{◌≡◌, ℕ, List, Option, Bool, true, false, cond, refl, sym, ap, ◌∙◌, Err}
 use Rattle.std.specs.Prelude.{◌&&◌, is_some}
 use Rattle.resp_value.specs.Data.{Data}
 use Rattle.resp_read.specs.Grammar.{Limits, no_limits, fits}

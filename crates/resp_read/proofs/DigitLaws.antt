@@ -1,7 +1,7 @@
 -- What the code reads of decimal digits is what the grammar says.
 use Rattle.std.proofs.Common.{◌≡◌, ℕ, ◌+◌, ◌-◌, ◌*◌, ◌≤◌, ◌<◌, List, [], ◌∷◌, ◌++◌, Option, Some, None, Bool, true, false, cond, lit≤, refl, sym, ap, ◌∙◌, arith}
 use Rattle.std.proofs.lemmas.Bool.Decides.{nat_tests}
-use Rattle.std.specs.Prelude.{ℤ, pos, neg_ℤ, nat_le, option_map, ◌==◌, ◌||◌, is_some}
+use Rattle.std.specs.Prelude.{pos, neg_ℤ, nat_le, option_map, ◌==◌, ◌||◌, is_some}
 use Rattle.resp_read.specs.Grammar.{digits_and, is_big, is_digit, digits_after, at_most, natural, number, after_digits, is_end}
 use Rattle.resp_read.specs.Parser.{number_begun, big_begun}
 use Rattle.resp_read.specs.Digits.{greatest, kept, digit_to, digits_step, digits_run, natural_in, number_in, is_bare, are_digits}

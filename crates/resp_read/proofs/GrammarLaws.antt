@@ -1,7 +1,7 @@
 -- What the parser finds is what the grammar reads.
 use Rattle.std.proofs.Common.{◌≡◌, ℕ, zero, suc, ◌-◌, List, [], ◌∷◌, ◌++◌, length, take, drop, Option, Some, None, Bool, true, false, cond, refl, sym, ap, ◌∙◌}
 use Rattle.std.specs.Prelude.{◌==◌, nat_lt, option_map}
-use Rattle.resp_value.specs.Data.{Data, nil, bulk, array, dict, attribute, set, verbatim, push, items_of, members_of}
+use Rattle.resp_value.specs.Data.{Data, bulk, array, dict, attribute, set, verbatim, push, items_of, members_of}
 use Rattle.resp_value.specs.Kinds.{kind_of}
 use Rattle.resp_read.specs.Grammar.{Limits, fits, error_of, read_then, read_as, line_end, whole_line, line_of, so_many, before, before_end, text, bulk_or_nil, verbatim_text, several, two, array_or_nil, push_kind, push_values, with_attributes, Forms, plain_forms, nested_forms, innermost_forms, form_of, value_of, value_within}
 use Rattle.resp_read.specs.Parser.{Found, read, short, bad, found_and_then, found_map, Line, ended, held, unended, broken, after_return, byte_before, line, LineForm, found, line_found, line_as, fed, closed, body, simple_line, error_line, number_line, null_line, boolean_line, double_line, big_line, no_array_line, size_line, count_line, text_line, bulk_of, error_body, some_bytes, colon, format, text_of, verbatim_of, repeated, pair, array_of, set_of, map_of, attributed, attribute_of, kind, push_with, push_of, Table, plain, nested, innermost, chosen, form, parse_within}

@@ -18,3 +18,4 @@ pub mod FrameLaws
 pub mod DigitLaws
 pub mod WaitLaws
 pub mod AskedLaws
+pub mod SizeLaws

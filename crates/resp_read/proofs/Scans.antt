@@ -1,9 +1,9 @@
 -- Steps of the loops over a line.
-use Rattle.std.proofs.Common.{◌≡◌, ℕ, ◌+◌, ◌-◌, ◌*◌, ◌≤◌, ◌<◌, List, [], ◌∷◌, ◌++◌, length, take, drop, get_or, append_assoc, inl, inr, Option, Some, None, Bool, true, false, cond, refl, sym, ap, ◌∙◌, arith}
+use Rattle.std.proofs.Common.{◌≡◌, ℕ, ◌+◌, ◌-◌, ◌*◌, ◌≤◌, ◌<◌, List, [], ◌∷◌, ◌++◌, length, take, drop, get_or, append_assoc, Option, Some, None, Bool, true, false, cond, refl, sym, ap, ◌∙◌, arith}
 use Rattle.std.proofs.lemmas.List.{append-nil, drop_more, take_more, drop_all, take_all}
 use Rattle.std.proofs.lemmas.Bool.Decides.{nat_tests}
-use Rattle.std.specs.Prelude.{◌==◌, ◌⊎◌, ◌&&◌, nat_le}
-use Rattle.resp_read.specs.Grammar.{is_digit, digits_after, at_most, natural, before_space, after_space, after_digits, is_end}
+use Rattle.std.specs.Prelude.{◌==◌, nat_le}
+use Rattle.resp_read.specs.Grammar.{is_digit, digits_after, at_most, before_space, after_space}
 use Rattle.resp_read.specs.Parser.{ended, held, unended, broken, after_return, byte_before, line}
 use Rattle.resp_read.specs.Doubles.{step, run}
 use Rattle.resp_read.specs.declared.decimals.Seen.{Seen}

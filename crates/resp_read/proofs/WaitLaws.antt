@@ -1,14 +1,14 @@
 -- A line that has not ended, looked at bit by bit.
-use Rattle.std.proofs.Common.{◌≡◌, ℕ, zero, suc, ◌+◌, ◌≤◌, ◌<◌, List, [], ◌∷◌, ◌++◌, length, take, drop, get_or, Option, None, Bool, true, false, cond, refl, sym, ap, ◌∙◌, subst, arith, length-append}
-use Rattle.std.proofs.lemmas.List.{take-append-drop, take-append-le, drop-append-le, drop_all, take_rest}
+use Rattle.std.proofs.Common.{◌≡◌, ℕ, suc, ◌≤◌, List, [], ◌∷◌, ◌++◌, length, take, drop, Bool, true, false, cond, refl, sym, ap, ◌∙◌, subst, arith, length-append}
+use Rattle.std.proofs.lemmas.List.{take-append-drop, take-append-le, drop-append-le}
 use Rattle.std.proofs.lemmas.Bool.Decides.{nat_tests}
 use Rattle.std.specs.Prelude.{◌==◌, ◌||◌, is_some}
 use Rattle.memchr.specs.Find.{Nowhere, Passes, is_byte}
-use Rattle.resp_read.specs.Grammar.{number, is_double}
-use Rattle.resp_read.specs.Parser.{short, unended, after_return, byte_before, line, LineForm, line_found, line_as, simple_line, error_line, number_line, double_line, big_line, number_begun, big_begun, made_by, double_tails}
+use Rattle.resp_read.specs.Grammar.{is_double}
+use Rattle.resp_read.specs.Parser.{short, unended, after_return, byte_before, line, LineForm, line_found, line_as, simple_line, error_line, number_line, double_line, big_line, made_by, double_tails}
 use Rattle.resp_read.specs.Limits.{bounds, reading}
 use Rattle.resp_read.specs.declared.limits.Limits.{Limits}
-use Rattle.resp_read.specs.Digits.{digits_run, AreKept, is_bare, are_digits, number_in}
+use Rattle.resp_read.specs.Digits.{digits_run, is_bare, are_digits, number_in}
 use Rattle.resp_read.specs.Doubles.{run}
 use Rattle.resp_read.specs.declared.digits.Digits.{Digits}
 use Rattle.resp_read.specs.declared.digits.Digits.TheVariants.{Empty}

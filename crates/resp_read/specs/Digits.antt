@@ -1,5 +1,5 @@
 -- How the code reads decimal digits, byte by byte. What a number is stands in Grammar, and lemmas say that the two agree.
-use Rattle.std.specs.Prelude.{◌≤◌, ℕ, ◌+◌, ◌-◌, ◌*◌, ℤ, pos, neg_ℤ, Bool, true, false, ◌||◌, ◌==◌, nat_le, List, [], ◌∷◌, Option, Some, None, option_map, if◌then◌else◌}
+use Rattle.std.specs.Prelude.{◌≤◌, ℕ, ◌+◌, ◌-◌, ◌*◌, ℤ, pos, neg_ℤ, Bool, true, false, ◌==◌, nat_le, List, [], ◌∷◌, Option, Some, None, option_map, if◌then◌else◌}
 use Rattle.resp_read.specs.Grammar.{is_digit, at_most}
 use Rattle.resp_read.specs.declared.digits.Sign.{Sign}
 use Rattle.resp_read.specs.declared.digits.Sign.TheVariants.{NoSign, Plus, Minus}

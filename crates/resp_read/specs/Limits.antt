@@ -1,5 +1,5 @@
 -- What a reader takes at most.
-use Rattle.std.specs.Prelude.{ℕ, ◌≤◌, nat_lt, List, Some, if◌then◌else◌}
+use Rattle.std.specs.Prelude.{ℕ, zero, suc, ◌+◌, ◌*◌, ◌≤◌, nat_lt, List, Some, if◌then◌else◌}
 use Rattle.resp_value.specs.Data.{Data}
 use Rattle.resp_read.specs.Grammar.{Limits as GrammarLimits, max_line, max_bulk, max_count, max_depth}
 use Rattle.resp_read.specs.Parser.{Found, parse_within}
@@ -51,3 +51,12 @@ nearest_allowed limits = record {
   count = between least_count max_count limits.count;
   depth = between 0 max_depth limits.depth;
 }
+
+-- the most bytes of a value that holds no others: its first byte, and a line and a text with the ends of both
+abbrev pub longest_plain : Limits → ℕ
+longest_plain limits = limits.line + limits.bulk + 5
+
+-- the most bytes of a value, where nested forms stand in one another up to that number
+abbrev pub longest_value : Limits → ℕ → ℕ
+longest_value limits zero = longest_plain limits
+longest_value limits (suc n) = longest_plain limits + (2 * limits.count + 1) * longest_value limits n

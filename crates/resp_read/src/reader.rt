@@ -99,9 +99,10 @@ impl Reader {
 
     /// A reader that was fed nothing, with the allowed limits that are nearest to these. Takes no memory.
     ///
-    /// They bound the memory of a reply under way: it has at most `(2 * count + 1) ^ depth` values that hold no others, and
-    /// each of these at most the bytes of a line and of a bulk string. Where replies may be nested that is much: to bound
-    /// them further, compare `buffered_len` with a limit of your own after each piece.
+    /// They bound the memory of a reply under way. A value that holds no others has at most `line + bulk + 5` bytes; where
+    /// `depth` nested forms may stand in one another, a value has at most so many and `2 * count + 1` times as many as one of
+    /// a depth less. So much is held at most of a value that is not whole, as bytes and as the values read of it.
+    /// Where replies may be nested that is much: to bound them further, compare `buffered_len` with a limit of your own.
     pub fn with_limits(alloc: Global, limits: Limits) -> Reader
         ensures { result
             ≡ record { health = Sound; rest = []; limits = nearest_allowed limits } }

@@ -1,5 +1,5 @@
 use Rattle.resp_read.specs.Limits.{default_limits}
-use Rattle.resp_read.proofs.ReadLaws.{default_allowed, reads-append}
+use Rattle.resp_read.proofs.ReadLaws.{reads-append}
 use Rattle.resp_read.proofs.WithinLaws as within
 use Rattle.resp_laws.proofs.Texts.{still_malformed}
 use Rattle.resp_laws.proofs.more_bytes_change_no_value.Goals as goal
