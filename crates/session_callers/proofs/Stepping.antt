@@ -22,6 +22,8 @@ submits_one : (k : EventKind) → submits k ≤ 1
 submits_one (event.Submit what) = omega arith
 submits_one (event.Cancel n) = omega arith
 submits_one (event.Connected l) = omega arith
+submits_one (event.Refused l f) = omega arith
+submits_one (event.Fired t) = omega arith
 submits_one (event.Wrote l count) = omega arith
 submits_one (event.Bytes l piece) = omega arith
 submits_one (event.Ended l) = omega arith

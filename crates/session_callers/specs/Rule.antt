@@ -1,6 +1,6 @@
 -- The rule of the table, and what each step tells.
 -- Tickets are counted without end here, and the words have them modulo 2 ^ 64.
-use Rattle.std.specs.Prelude.{◌≡◌, ◌≢◌, ◌⊎◌, ℕ, suc, ◌+◌, ◌-◌, ◌%◌, ◌^◌, ◌<◌, ◌≤◌, ◌==◌, List, [], ◌∷◌, ◌++◌, length, Bool, true, false, Option, Some, if◌then◌else◌, max}
+use Rattle.std.specs.Prelude.{◌≡◌, ◌≢◌, ◌⊎◌, ℕ, suc, ◌+◌, ◌-◌, ◌%◌, ◌^◌, ◌<◌, ◌≤◌, ◌==◌, List, [], ◌∷◌, ◌++◌, length, Bool, true, false, Option, Some, None, if◌then◌else◌, max}
 use Rattle.driver_model.specs.declared.config.Config.{Config}
 use Rattle.driver_model.specs.declared.event.Event.{Event}
 use Rattle.driver_model.specs.declared.event.EventKind.{EventKind}
@@ -148,6 +148,8 @@ abbrev pub submits : EventKind → ℕ
 submits (event.Submit what) = 1
 submits (event.Cancel n) = 0
 submits (event.Connected l) = 0
+submits (event.Refused l f) = 0
+submits (event.Fired t) = 0
 submits (event.Wrote l count) = 0
 submits (event.Bytes l piece) = 0
 submits (event.Ended l) = 0
@@ -201,7 +203,7 @@ abbrev pub newcomer : Config → ℕ → ℕ → List Event → ℕ → View
 newcomer config word number seen dial = record { stage = Idle; drawn = 0; number = number ∷ []; made = 0; config = config; word = word; seen = seen; failure = Sound; mine = []; dial = dial; claims = []; ended = []; fronts = [] }
 
 abbrev pub no_config : Config
-no_config = record { host = []; port = 0 }
+no_config = record { url = []; connect = None }
 
 -- what a seat that was joined is left with
 abbrev pub nobody : View

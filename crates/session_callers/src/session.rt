@@ -1,5 +1,8 @@
 ghost use Rattle.std.specs.Prelude.{◌≡◌, ℕ, ◌+◌, ◌-◌, ◌^◌, ◌<◌, ◌≤◌, [], ◌∷◌, ◌++◌, IfOk, IfErr, OnOk, OnErr, length};
+ghost use Rattle.std.specs.Prelude.{Some, IsErrOf};
+ghost use Rattle.driver_model.specs.Config.{first_fault};
 ghost use Rattle.shared_session.specs.Replay.{opening_actions, trace_of, outcomes_in, outcome_at};
+ghost use Rattle.shared_session.specs.Replay.{IsSound};
 ghost use Rattle.shared_session.specs.declared.session.Failure.TheVariants.{Sound};
 ghost use Rattle.session_callers.specs.Rule.{history, newcomer};
 ghost use Rattle.session_callers.specs.Calls.{Turned, Added, Refused, submission_event, joined_by, with_claim};
@@ -14,6 +17,7 @@ use crate::steps::{dial, split};
 use crate::turn::{begin, end, end_made};
 use atomic_table::Table;
 use driver_model::{Action, Config, Event, EventKind, Outcome, Submission};
+use redis_error::ConfigName;
 use shared_session::{MakeError, Session, StepError};
 use std::alloc::{AllocError, Global};
 use std::sync::Wait;
@@ -67,8 +71,8 @@ fn seated(
 }
 
 impl SharedSession {
-    /// A session that has made its opening, whose actions `out` gains, and its first caller. After `NoMemory` `out` is
-    /// as it was.
+    /// A session that has made its opening, whose actions `out` gains, and its first caller. A configuration of which
+    /// something is refused makes none: `Config` tells what is refused first. After an error `out` is as it was.
     pub fn new(
         alloc: Global,
         config: Config,
@@ -82,12 +86,18 @@ impl SharedSession {
         ensures actions { OnOk result (
             out.new.items ≡ out.old.items ++ opening_actions config word
             ) }
+        ensures sound { OnOk result (IsSound config) }
+        ensures refused { (name : ConfigName) → IsErrOf result (MakeError.Config name)
+            → first_fault config ≡ Some name }
         ensures err { OnErr result (out.new.items ≡ out.old.items) }
     {
         let before = out.len();
         let copy = config.clone(alloc)?;
         let origin = Origin { config: copy, word };
-        let session = Session::new(alloc, config, word, out)?;
+        let session = match Session::new(alloc, config, word, out) {
+            Ok(session) => session,
+            Err(error) => return Err(error),
+        };
         match seated(alloc, &origin, session) {
             Ok(made) => Ok(made),
             Err(_) => {

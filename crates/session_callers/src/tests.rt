@@ -18,8 +18,9 @@ fn get(alloc: Global, key: &str) -> Result<Submission, AllocError> {
 fn start(alloc: Global, out: &mut Vec<Action>) -> Result<(SharedSession, Caller), AllocError>
     ensures { IfOk result (λ made. made.1.table ≡ made.0.table.shared.table_id) }
 {
-    let host = Bytes::from_slice(alloc, b"h")?;
-    let config = Config { host, port: 6379 };
+    let url = Bytes::from_slice(alloc, b"redis://h")?;
+    let connect = Some(None);
+    let config = Config { url, connect };
     match SharedSession::new(alloc, config, 0, out) {
         Ok(made) => Ok(made),
         Err(_) => Err(AllocError),
