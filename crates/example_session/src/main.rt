@@ -18,8 +18,8 @@ const SUBMISSION: u32 = 0;
 
 /// A session for one connection, whose opening `opening` gains.
 fn open(alloc: Global, opening: &mut Vec<driver_model::Action>) -> Result<Session, MakeError> {
-    let host = Bytes::from_slice(alloc, b"localhost")?;
-    let config = Config { host, port: 6379 };
+    let url = Bytes::from_slice(alloc, b"redis://localhost:6379")?;
+    let config = Config { url, connect: None };
     Session::new(alloc, config, 0, opening)
 }
 
@@ -83,8 +83,10 @@ fn print_outcome(rt: &impl Print, alloc: Global, outcome: Option<&Outcome>) -> i
 fn main(rt: HostRuntime) -> io::Result<()> {
     let alloc = rt.alloc();
     let mut opening = Vec::new(alloc);
-    let Ok(mut session) = open(alloc, &mut opening) else {
-        return println!(rt; "no memory");
+    let mut session = match open(alloc, &mut opening) {
+        Ok(session) => session,
+        Err(MakeError::Config { name }) => return println!(rt; "refused for its {}", name.name()),
+        Err(MakeError::NoMemory) => return println!(rt; "no memory"),
     };
     io::writer(&rt).write_all(show(alloc, opening.as_slice())?.as_slice())?;
     print_turns(&rt, alloc, &mut session, events(alloc)?)?;

@@ -407,8 +407,7 @@ fn a_refused_connect_answers_everyone(rt: HostRuntime) -> Result<(), AllocError>
         Call::Ask(3, "e"),
         Call::Turn,
     ];
-    let wanted =
-        "7 waits; created reset; 7 reset; 9 reset; moves; 5 reset; 4 reset; 3 reset; ";
+    let wanted = "7 waits; created reset; 7 reset; 9 reset; moves; 5 reset; 4 reset; 3 reset; ";
     run(&rt, rt.alloc(), calls.as_slice(), wanted)
 }
 
