@@ -163,12 +163,12 @@ sent_nothing : {held : Option (List ℕ)} (config : Config) (word : ℕ) (all : 
 sent_nothing {held} config word all before after none same = record { text = []; turns = inl refl; sent = sent_none after [] (same ∙ none) }
 
 -- no session was made
-pub not_opened : {held : Option (List ℕ)} (config : Config) (word : ℕ) (all : List Event) (why : Stop) (before after : List ℕ) → IsNotOpened why config → before ≡ [] → after ≡ before → Ends why config word all held held after
-not_opened config word all (stop.Config name) before after refused none same = record { refused = refused; sent = sent_none after [] (same ∙ none) }
-not_opened config word all (stop.BadEvent n) before after refused none same = absurd refused
-not_opened config word all (stop.Spent n) before after refused none same = absurd refused
-not_opened config word all stop.NoMemory before after refused none same = sent_nothing config word all before after none same
-not_opened config word all stop.WriteFault before after refused none same = absurd refused
+pub not_opened : (held : Option (List ℕ)) (config : Config) (word : ℕ) (all : List Event) (why : Stop) (before after : List ℕ) → IsNotOpened why config → before ≡ [] → after ≡ before → Ends why config word all held held after
+not_opened held config word all (stop.Config name) before after refused none same = record { refused = refused; sent = sent_none after [] (same ∙ none) }
+not_opened held config word all (stop.BadEvent n) before after refused none same = absurd refused
+not_opened held config word all (stop.Spent n) before after refused none same = absurd refused
+not_opened held config word all stop.NoMemory before after refused none same = sent_nothing config word all before after none same
+not_opened held config word all stop.WriteFault before after refused none same = absurd refused
 
 -- the front of whole turns
 front_of_turns : {old new : Option (List ℕ)} (config : Config) (word : ℕ) (all : List Event) (text : List ℕ) → AreTurns config word all text → GainedPart old new text → GainedFront config word all old new

@@ -27,7 +27,7 @@ loop-event-preserved g c =
 
 pub returns-in-Err-clause-stops : goal.returns-in-Err-clause-stops
 returns-in-Err-clause-stops g c =
-    not_opened c.args.config.now c.args.word c.args.events.now c.in-Err.stop c.args.text.now c.open_session.new.text c.in-Err.ensures.stops c.requires c.in-Err.ensures.err
+    not_opened _ c.args.config.now c.args.word c.args.events.now c.in-Err.stop c.args.text.now c.open_session.new.text c.in-Err.ensures.stops c.requires c.in-Err.ensures.err
 
 pub returns-in-Err-take_turn-clause-stops : goal.returns-in-Err-take_turn-clause-stops
 returns-in-Err-take_turn-clause-stops g c =
