@@ -1,6 +1,8 @@
 use crate::{MakeError, ReplayError, Session, StepError};
 use containers::{Bytes, Names};
-use driver_model::{Action, Commands, Config, Event, EventKind, Outcome, Owner, Purpose, Submission};
+use driver_model::{
+    Action, Commands, Config, Event, EventKind, Outcome, Owner, Purpose, Submission,
+};
 use redis_error::{ConfigName, FaultKind, RedisError};
 use resp_value::{Aborts, Value};
 use std::alloc::{AllocError, Global};
@@ -357,7 +359,10 @@ fn a_replay_ends_at_a_bad_event(rt: HostRuntime) -> Result<(), AllocError> {
         Told::Cancel(0),
     ];
     let mut actions = Vec::new(alloc);
-    assert_eq!(rt; replay(alloc, UNBOUNDED, list.as_slice(), &mut actions)?, None);
+    assert_eq!(rt;
+        replay(alloc, UNBOUNDED, list.as_slice(), &mut actions)?,
+        None
+    );
     let wanted = "turn 0; connect 0 6379; turn 1; wait 0; \
 turn 2; created; start 0 0 1 20; write *2\r\n$3\r\nGET\r\n$1\r\na\r\n; turn 3; close 0; 0 parse; turn 4; ";
     let log = show_all(alloc, actions.as_slice())?;
@@ -369,7 +374,10 @@ turn 2; created; start 0 0 1 20; write *2\r\n$3\r\nGET\r\n$1\r\na\r\n; turn 3; c
         Told::Shutdown,
     ];
     let mut actions = Vec::new(alloc);
-    assert_eq!(rt; replay(alloc, UNBOUNDED, list.as_slice(), &mut actions)?, Some(2));
+    assert_eq!(rt;
+        replay(alloc, UNBOUNDED, list.as_slice(), &mut actions)?,
+        Some(2)
+    );
     assert_eq!(rt; actions.len(), 7);
     Ok(())
 }
