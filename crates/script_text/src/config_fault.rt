@@ -4,8 +4,9 @@ ghost use Rattle.script_text.specs.ConfigLine.{keys, is_setting, values, only, g
 ghost use Rattle.script_text.specs.ConfigLine.{allows_connect, single, config_of};
 ghost use Rattle.script_text.specs.Faults.{FindsFault, values_reason};
 
-use crate::config_line::{allows_connect, gives_only, has_value, is_known_setting, only_value};
-use crate::config_line::value;
+use crate::config_line::{
+    allows_connect, gives_only, has_value, is_known_setting, only_value, value,
+};
 use crate::fault::Fault;
 use crate::line::Line;
 use crate::reason::{ConfigReason, LineReason, Reason};

@@ -106,9 +106,15 @@ const FIRST_LINES: [(&[u8], u32); 28] = [
         1,
     ),
     (b"config single url=redis://h response=5 lib=off\nend\n", 1),
-    (b"config single url=redis://h response=none lib=on\nend\n", 1),
+    (
+        b"config single url=redis://h response=none lib=on\nend\n",
+        1,
+    ),
     (b"config single url response=none lib=off\nend\n", 1),
-    (b"config single url=no%20address response=none lib=off\nend\n", 0),
+    (
+        b"config single url=no%20address response=none lib=off\nend\n",
+        0,
+    ),
     (b"config single url= response=none lib=off\nend\n", 0),
 ];
 
@@ -248,7 +254,11 @@ const SETTINGS: [(&[u8], &[u8], Option<Option<u64>>); 5] = [
     (b"url=a response=none lib=off", b"a", None),
     (b"lib=off url=%00=%3B response=none", b"\x00=;", None),
     (b"connect=none response=none url= lib=off", b"", Some(None)),
-    (b"connect=0 response=none url=a lib=off", b"a", Some(Some(0))),
+    (
+        b"connect=0 response=none url=a lib=off",
+        b"a",
+        Some(Some(0)),
+    ),
     (
         b"url=a connect=18446744073709551615 response=none lib=off",
         b"a",

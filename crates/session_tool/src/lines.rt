@@ -114,11 +114,7 @@ fn config_line(alloc: Global, name: ConfigName) -> Result<Bytes, AllocError>
 }
 
 /// Appends that line. An error leaves the text as it was.
-pub fn push_config_line(
-    alloc: Global,
-    text: &mut Bytes,
-    name: ConfigName,
-) -> Result<(), AllocError>
+pub fn push_config_line(alloc: Global, text: &mut Bytes, name: ConfigName) -> Result<(), AllocError>
     ensures ok { OnOk result (text.new ≡ text.old ++ config_line name) }
     ensures err { OnErr result (text.new ≡ text.old) }
 {
