@@ -50,11 +50,15 @@ fn copied(alloc: Global, action: &Action) -> Result<bool, AllocError> {
     Ok(is_get_turn(&copy))
 }
 
+/// Whether a copy of that turn is the same turn.
+fn turn_is_copied(alloc: Global) -> Result<bool, AllocError> {
+    let turn = get_turn(alloc)?;
+    copied(alloc, &turn)
+}
+
 #[test]
 fn turns_are_copied_whole(rt: HostRuntime) -> Result<(), AllocError> {
-    let alloc = rt.alloc();
-    let turn = get_turn(alloc)?;
-    assert!(rt; copied(alloc, &turn)?);
+    assert!(rt; turn_is_copied(rt.alloc())?);
     Ok(())
 }
 

@@ -160,6 +160,6 @@ fn openings_may_fail(rt: HostRuntime) -> Result<(), Fail> {
 fn a_refusal_is_written_or_the_sink_failed(rt: HostRuntime) -> Result<(), Fail> {
     let (status, sink) = answer(rt.alloc(), &["replay"], NO_ADDRESS.script, None, Some(0))?;
     assert_eq!(rt; status, 7);
-    assert_eq!(rt; sink.as_slice(), b"");
+    assert_eq!(rt; sink.as_slice(), b"".as_slice());
     Ok(())
 }
