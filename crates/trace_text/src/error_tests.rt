@@ -1,4 +1,4 @@
-use super::append_action;
+use crate::tests::line;
 use containers::Bytes;
 use driver_model::{Action, Outcome};
 use redis_error::{ConfigName, FaultKind, RedisError, RouteNumbers};
@@ -9,19 +9,19 @@ fn bytes(alloc: Global, text: &[u8]) -> Result<Bytes, AllocError> {
     Bytes::from_slice(alloc, text)
 }
 
+/// The line of an outcome with that error.
+fn error_line(alloc: Global, error: RedisError) -> Result<Bytes, AllocError> {
+    let outcome = Outcome::Fault(error);
+    let action = Action::Outcome {
+        submission: 7,
+        outcome,
+    };
+    line(alloc, &action)
+}
+
 /// Whether the line of an outcome with that error ends in these words.
 fn shows(alloc: Global, error: RedisError, words: &str) -> Result<bool, AllocError> {
-    let outcome = Outcome::Fault(error);
-    let submission = 7;
-    let mut text = Bytes::new(alloc);
-    append_action(
-        alloc,
-        &mut text,
-        &Action::Outcome {
-            submission,
-            outcome,
-        },
-    )?;
+    let text = error_line(alloc, error)?;
     let wanted = format!(in alloc; "outcome s7 err {words}\n")?;
     Ok(text.as_slice() == wanted.as_bytes())
 }

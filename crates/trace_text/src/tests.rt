@@ -333,13 +333,18 @@ fn failed_openings_have_text(rt: HostRuntime) -> Result<(), AllocError> {
     Ok(())
 }
 
+/// The line of an action.
+pub(crate) fn line(alloc: Global, action: &Action) -> Result<Bytes, AllocError> {
+    let mut text = Bytes::new(alloc);
+    append_action(alloc, &mut text, action)?;
+    Ok(text)
+}
+
 /// The line in which this byte is written.
 fn written(alloc: Global, byte: u8) -> Result<Bytes, AllocError> {
     let bytes = bytes(alloc, &[byte])?;
     let action = Action::Write { link: 9, bytes };
-    let mut text = Bytes::new(alloc);
-    append_action(alloc, &mut text, &action)?;
-    Ok(text)
+    line(alloc, &action)
 }
 
 #[test]
