@@ -1,5 +1,5 @@
 -- What the words of a configuration mean.
-use Rattle.std.specs.Prelude.{◌≡◌, ⊤, ℕ, ℤ, pos, zero, Bool, true, false, ◌||◌, not, Option, Some, None, is_some, unwrap_or, if◌then◌else◌}
+use Rattle.std.specs.Prelude.{◌≡◌, ⊤, ℕ, ℤ, pos, zero, ◌==◌, Bool, true, false, ◌||◌, not, Option, Some, None, is_some, unwrap_or, if◌then◌else◌}
 use Rattle.std.specs.Str.{is_utf8}
 use Rattle.redis_error.specs.declared.config_name.ConfigName.{ConfigName}
 use Rattle.redis_error.specs.declared.config_name.ConfigName.TheVariants as name
@@ -20,6 +20,14 @@ address c = if is_utf8 c.url then address_of c.url else None
 abbrev pub connect_timeout : Config → Option ℕ
 connect_timeout c = unwrap_or c.connect default_config.connection_timeout
 
+-- how many messages the queue of its link holds
+abbrev pub buffer_size : Config → ℕ
+buffer_size c = unwrap_or c.buffer default_config.pipeline_buffer_size
+
+-- at how many unwritten bytes no message of its link starts
+abbrev pub boundary : Config → ℕ
+boundary c = unwrap_or c.boundary default_config.write_backpressure_boundary
+
 abbrev pub is_zero : ℤ → Bool
 is_zero (pos zero) = true
 is_zero _ = false
@@ -29,14 +37,19 @@ is_zero _ = false
 abbrev pub has_setup : RedisConnectionInfo → Bool
 has_setup info = is_some info.password || is_resp3 info.protocol || not (is_zero info.db)
 
-abbrev pub fault_in : Option ConnectionInfo → Option ConfigName
-fault_in None = Some name.Url
-fault_in (Some info) = if has_setup info.redis then Some name.Kind else None
+-- a queue that holds nothing is refused
+abbrev pub buffer_fault : ℕ → Option ConfigName
+buffer_fault size = if size == 0 then Some name.Buffer else None
 
--- what of a configuration is refused first, if anything is: a URL that isn't an address, and an address that asks for a
--- setup, which a session doesn't make yet
+-- what is refused of an address, or none was, and of a queue of this size
+abbrev pub fault_in : Option ConnectionInfo → ℕ → Option ConfigName
+fault_in None size = Some name.Url
+fault_in (Some info) size = if has_setup info.redis then Some name.Kind else buffer_fault size
+
+-- what of a configuration is refused first, if anything is: a URL that isn't an address, an address that asks for a setup,
+-- which a session doesn't make yet, and a queue that holds nothing
 abbrev pub first_fault : Config → Option ConfigName
-first_fault c = fault_in (address c)
+first_fault c = fault_in (address c) (buffer_size c)
 
 -- either memory was wanted, or this is refused first
 abbrev pub RefusesConfig : Config → OpenError → Type 0

@@ -25,6 +25,10 @@ pub enum Owner {
 pub enum WaitKind {
     /// The connect of its link is not answered yet.
     Connect,
+    /// The queue of its link holds its size.
+    Place,
+    /// It has its place, and so many bytes of its link are unwritten that no message starts.
+    Room,
 }
 
 /// What a timer is asked for.

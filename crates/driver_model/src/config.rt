@@ -1,6 +1,6 @@
 ghost use Rattle.std.specs.Prelude.{◌≡◌, Some, None, OnOk, IfOk, IfErr};
-ghost use Rattle.driver_model.specs.Config.{address, has_setup, connect_timeout, first_fault};
-ghost use Rattle.driver_model.specs.Config.{RefusesConfig};
+ghost use Rattle.driver_model.specs.Config.{address, has_setup, connect_timeout, buffer_size};
+ghost use Rattle.driver_model.specs.Config.{boundary, first_fault, RefusesConfig};
 ghost use Rattle.connection_info.specs.Refusal.{RefusesUrl};
 
 use connection_info::{ConnectionInfo, IntoConnectionInfo, OpenError, RedisConnectionInfo};
@@ -15,6 +15,10 @@ pub struct Config {
     pub url: Bytes,
     /// How many milliseconds the connect may take, `Some(None)` for any number. 1,000 where nothing is given.
     pub connect: Option<Option<u64>>,
+    /// How many messages the queue of the link holds, at least one. 50 where nothing is given.
+    pub buffer: Option<u32>,
+    /// No message starts while bytes of the link are unwritten, and as many as these. 8,192 where nothing is given.
+    pub boundary: Option<u64>,
 }
 
 /// Whether anything is to be said to the server before the first request: a password, another protocol than RESP2, or
@@ -26,6 +30,19 @@ fn needs_setup(info: &RedisConnectionInfo) -> bool
 }
 
 impl Config {
+    /// A configuration of which nothing but the address is given.
+    pub fn new(url: Bytes) -> Config
+        ensures { result
+            ≡ record { url = url; connect = None; buffer = None; boundary = None } }
+    {
+        Config {
+            url,
+            connect: None,
+            buffer: None,
+            boundary: None,
+        }
+    }
+
     /// An equal value of its own.
     pub fn clone(&self, alloc: Global) -> Result<Config, AllocError>
         ensures { IfOk result (λ c. c ≡ self.now) }
@@ -34,6 +51,8 @@ impl Config {
         Ok(Config {
             url,
             connect: self.connect,
+            buffer: self.buffer,
+            boundary: self.boundary,
         })
     }
 
@@ -42,6 +61,20 @@ impl Config {
         ensures { result ≡ connect_timeout self.now }
     {
         self.connect.unwrap_or(Some(1000))
+    }
+
+    /// How many messages the queue of the link holds.
+    pub fn buffer_size(&self) -> u32
+        ensures { result ≡ buffer_size self.now }
+    {
+        self.buffer.unwrap_or(50)
+    }
+
+    /// At how many unwritten bytes no message of the link starts.
+    pub fn boundary(&self) -> u64
+        ensures { result ≡ boundary self.now }
+    {
+        self.boundary.unwrap_or(8192)
     }
 
     /// The server's address. A URL that isn't one is refused.
@@ -57,7 +90,8 @@ impl Config {
     }
 
     /// The server's address, where nothing of the configuration is refused. Else the name of what is refused first: a URL
-    /// that isn't an address, and an address that asks for a setup, which a session doesn't make yet.
+    /// that isn't an address, an address that asks for a setup, which a session doesn't make yet, and a queue that holds
+    /// nothing.
     pub fn info(&self, alloc: Global) -> Result<ConnectionInfo, OpenError>
         ensures ok { IfOk result (λ info. address self.now ≡ Some info) }
         ensures sound { OnOk result (first_fault self.now ≡ None) }
@@ -66,6 +100,9 @@ impl Config {
         let info = self.read_address(alloc)?;
         if needs_setup(&info.redis) {
             return Err(OpenError::Config(ConfigName::Kind));
+        }
+        if self.buffer_size() == 0 {
+            return Err(OpenError::Config(ConfigName::Buffer));
         }
         Ok(info)
     }

@@ -1,5 +1,6 @@
 -- The book of a trace: all that it says, by one fold over its actions. Links and submissions go by their numbers.
 use Rattle.std.specs.Prelude.{ℕ, ◌+◌, ◌-◌, ◌==◌, Bool, true, false, ◌||◌, List, [], ◌∷◌, ◌++◌, Option, Some, None, if◌then◌else◌}
+use Rattle.driver_model.specs.declared.config.Config.{Config}
 use Rattle.driver_model.specs.declared.action.Action.{Action}
 use Rattle.driver_model.specs.declared.action.Action.TheVariants as action
 use Rattle.driver_model.specs.declared.action.Cause.{Cause}
@@ -13,10 +14,11 @@ use Rattle.driver_model.specs.News.{news_of}
 use Rattle.legal_trace.specs.Ledger.{Ledger, Start, Line, asks, hears, begins, offers, ends, blank_ledger, noted_each}
 use Rattle.legal_trace.specs.Story.{Story, blank_story, bytes_of, shape, handed_in, left, tried, waits, answered}
 
--- how many links were asked for, and the ledger of each; how many submissions were handed in, and the story of each; what
--- each timer was asked for, in order; how often the creation was shown, or its failure; whether everything was shut down; how
--- many turns began, and what the turn that runs is the turn of
+-- the configuration, once the opening has told it; how many links were asked for, and the ledger of each; how many
+-- submissions were handed in, and the story of each; what each timer was asked for, in order; how often the creation was
+-- shown, or its failure; whether everything was shut down; how many turns began, and what the turn that runs is the turn of
 pub record Book : Type 0 where
+  pub config : Option Config
   pub links : ℕ
   pub link : ℕ → Ledger
   pub submissions : ℕ
@@ -28,7 +30,7 @@ pub record Book : Type 0 where
   pub running : Option Cause
 
 abbrev pub blank_book : Book
-blank_book = record { links = 0; link = λ n. blank_ledger; submissions = 0; story = λ n. blank_story; timers = []; created = 0; shut = false; turns = 0; running = None }
+blank_book = record { config = None; links = 0; link = λ n. blank_ledger; submissions = 0; story = λ n. blank_story; timers = []; created = 0; shut = false; turns = 0; running = None }
 
 -- a message as its owner has it: it carries the owner's bytes
 abbrev pub message_of : Book → Owner → Start
@@ -97,7 +99,7 @@ shuts _ = false
 
 -- what a turn's cause is to the counts of a book
 abbrev pub begun : Book → Cause → Book
-begun b (cause.Opening config word) = record b { turns = b.turns + 1; running = Some (cause.Opening config word) }
+begun b (cause.Opening config word) = record b { config = Some config; turns = b.turns + 1; running = Some (cause.Opening config word) }
 begun b (cause.Event e) = record b {
   turns = b.turns + 1;
   running = Some (cause.Event e);

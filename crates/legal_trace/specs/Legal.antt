@@ -13,7 +13,6 @@ use Rattle.driver_model.specs.declared.action.Owner.TheVariants as owner
 use Rattle.driver_model.specs.declared.action.Purpose.{Purpose}
 use Rattle.driver_model.specs.declared.action.Purpose.TheVariants as purpose
 use Rattle.driver_model.specs.declared.action.WaitKind.{WaitKind}
-use Rattle.driver_model.specs.declared.action.WaitKind.TheVariants as wait
 use Rattle.driver_model.specs.declared.config.Config.{Config}
 use Rattle.driver_model.specs.declared.event.Event.{Event}
 use Rattle.driver_model.specs.declared.outcome.Outcome.{Outcome}
@@ -21,9 +20,10 @@ use Rattle.driver_model.specs.declared.outcome.Outcome.TheVariants as outcome
 use Rattle.driver_model.specs.Config.{address, connect_timeout, first_fault}
 use Rattle.driver_model.specs.Shape.{need_of}
 use Rattle.legal_trace.specs.Ledger.{Ledger, Ending, IsOffered, is_over, ending, failure_in, unwritten}
-use Rattle.legal_trace.specs.Story.{Story, Try, last_of, is_open, is_awaited, bytes_of, shape}
+use Rattle.legal_trace.specs.Story.{Try, last_of, is_open, is_unstarted, bytes_of, shape}
 use Rattle.legal_trace.specs.Book.{Book, blank_book, book, entered, current}
 use Rattle.legal_trace.specs.Owed.{owed, is_full}
+use Rattle.legal_trace.specs.Steps.{waits, tells, starts, is_due, next_step}
 use Rattle.legal_trace.specs.Events.{is_bad_event}
 
 -- submission n is handed in, and neither answered nor cancelled
@@ -67,18 +67,12 @@ pub record IsApplied (b : Book) : Type 0 where
   pub created : IsCreated b
   pub timed : IsTimed b
 
--- a submission that was answered with Nil at its place, since nobody awaits its reply
-pub record IsTold (s : Story) : Type 0 where
-  pub unawaited : is_awaited s ≡ false
-  pub told : s.outcomes ≡ outcome.One Nil ∷ []
-
--- a submission whose message has not started and may: it is open, or it was answered at its place, and its link is up
+-- a submission whose message has not started, and which makes a step next
 pub record CanMove (b : Book) (n : ℕ) : Type 0 where
-  pub unstarted : (b.story n).tries ≡ []
-  pub wanted : IsOpen b n ⊎ IsTold (b.story n)
-  pub up : (link_of b n).up ≡ true
+  pub unstarted : is_unstarted (b.story n) ≡ true
+  pub due : is_due (next_step b n) ≡ true
 
--- all messages that may start have started
+-- every step that may be made was made
 pub record IsMoved (b : Book) : Type 0 where
   pub applied : IsApplied b
   pub moved : (n : ℕ) → CanMove b n → ⊥
@@ -88,9 +82,10 @@ pub record IsWritten (b : Book) : Type 0 where
   pub moved : IsMoved b
   pub offered : (l : ℕ) → (b.link l).up ≡ true → IsOffered (b.link l)
 
--- the wait that is true of a submission without a message: its link's connect isn't answered
+-- the wait that is true of a submission without a message: its link's connect isn't answered; the queue of its link has no
+-- place for it; or it has its place, and its link is held back
 abbrev pub WaitHolds : Book → ℕ → WaitKind → Type 0
-WaitHolds b n wait.Connect = ((link_of b n).asked ≡ true) × ((link_of b n).up ≡ false) × ((link_of b n).end ≡ None)
+WaitHolds b n kind = next_step b n ≡ waits kind
 
 -- its message is started on a link that is up, takes more items, and is offered with all bytes of the link
 pub record IsStarted (b : Book) (n : ℕ) : Type 0 where
@@ -107,8 +102,7 @@ pub record IsWaiting (b : Book) (n : ℕ) : Type 0 where
   pub shown : (b.story n).waiting ≡ Some kind
   pub holds : WaitHolds b n kind
 
--- what holds after each turn: the event has had its effect, all messages that may start have started, all bytes are
--- offered, and every open submission is started and offered, or truly in the wait that was shown
+-- what holds after each turn: the event has had its effect, all steps that may be made were made, all bytes are offered, and every open submission is started and offered, or truly in the wait that was shown
 pub record IsSettled (b : Book) : Type 0 where
   pub written : IsWritten b
   pub goes : (n : ℕ) → IsOpen b n → IsStarted b n ⊎ IsWaiting b n
@@ -183,7 +177,7 @@ pub record MayAnswer (b : Book) (n : ℕ) (o : Outcome) : Type 0 where
   pub in_order : (m : ℕ) → m < n → IsOpen b m → is_over (link_of b m) ≡ is_over (link_of b n) → owed b m ≡ None
   pub after_closes : is_over (link_of b n) ≡ true → NoneEnds b × VerdictsAreShown b × FailuresAreShown b
 
--- no submission before n has a message that may start
+-- no submission before n makes a step
 abbrev pub IsFirstToMove : Book → ℕ → Type 0
 IsFirstToMove b n = (m : ℕ) → m < n → CanMove b m → ⊥
 
@@ -191,17 +185,17 @@ IsFirstToMove b n = (m : ℕ) → m < n → CanMove b m → ⊥
 pub record MayTell (b : Book) (n : ℕ) (o : Outcome) : Type 0 where
   pub applied : IsApplied b
   pub asked : IsOpen b n
-  pub unawaited : is_awaited (b.story n) ≡ false
-  pub moves : CanMove b n
+  pub unstarted : is_unstarted (b.story n) ≡ true
+  pub tells : next_step b n ≡ tells
   pub in_order : IsFirstToMove b n
   pub nil : o ≡ outcome.One Nil
 
 -- a message starts on the link of its submission, in the order of submissions, with its number there, its need and its
--- length; where nobody awaits its reply, once this was told
+-- length
 pub record MayStart (b : Book) (l message n count len : ℕ) : Type 0 where
   pub applied : IsApplied b
-  pub wanted : (is_awaited (b.story n) ≡ true) ⊎ IsTold (b.story n)
-  pub moves : CanMove b n
+  pub unstarted : is_unstarted (b.story n) ≡ true
+  pub starts : next_step b n ≡ starts
   pub in_order : IsFirstToMove b n
   pub on_its_link : l ≡ (b.story n).link
   pub next : message ≡ length (b.link l).starts
@@ -217,14 +211,14 @@ pub record MayWrite (b : Book) (l : ℕ) (bytes : List ℕ) : Type 0 where
   pub some : bytes ≢ []
   pub in_order : (m : ℕ) → m < l → (b.link m).up ≡ true → IsOffered (b.link m)
 
--- a wait that is true is shown once, in the order of submissions
+-- a wait that is true and isn't the one that was shown is shown, in the order of submissions
 pub record MayWait (b : Book) (n : ℕ) (kind : WaitKind) : Type 0 where
   pub written : IsWritten b
   pub asked : IsOpen b n
   pub unstarted : (b.story n).tries ≡ []
-  pub new : (b.story n).waiting ≡ None
+  pub new : (b.story n).waiting ≢ Some kind
   pub holds : WaitHolds b n kind
-  pub in_order : (m : ℕ) → m < n → IsOpen b m → (b.story m).tries ≡ [] → (b.story m).waiting ≢ None
+  pub in_order : (m : ℕ) → m < n → IsOpen b m → (b.story m).tries ≡ [] → IsWaiting b m
 
 -- where each action may stand
 abbrev pub MayStand : Book → Action → Type 0

@@ -1,8 +1,9 @@
 -- What a trace says of one submission.
-use Rattle.std.specs.Prelude.{ℕ, ◌==◌, Bool, true, false, ◌&&◌, not, List, [], ◌∷◌, ◌++◌, length, Option, Some, None, is_some, if◌then◌else◌}
+use Rattle.std.specs.Prelude.{ℕ, ◌==◌, Bool, true, false, ◌&&◌, ◌||◌, not, List, [], ◌∷◌, ◌++◌, length, Option, Some, None, is_some, if◌then◌else◌}
 use Rattle.driver_model.specs.declared.action.WaitKind.{WaitKind}
 use Rattle.driver_model.specs.declared.event.Submission.{Submission}
 use Rattle.driver_model.specs.declared.outcome.Outcome.{Outcome}
+use Rattle.driver_model.specs.declared.outcome.Outcome.TheVariants as outcome
 use Rattle.driver_model.specs.declared.outcome.Shape.{Shape}
 use Rattle.driver_model.specs.declared.outcome.Shape.TheVariants.{Single}
 use Rattle.driver_model.specs.Request.{packed_bytes, shape_of, is_reply_awaited}
@@ -51,6 +52,22 @@ shape s = shape_in s.submission
 
 abbrev pub is_awaited : Story → Bool
 is_awaited s = awaited_in s.submission
+
+-- one outcome, and no error
+abbrev pub is_no_error : List Outcome → Bool
+is_no_error [] = false
+is_no_error (outcome.One value ∷ []) = true
+is_no_error (outcome.Many values ∷ []) = true
+is_no_error (outcome.Fault e ∷ []) = false
+is_no_error (o ∷ p ∷ more) = false
+
+-- it was answered at its place, since nobody awaits its reply
+abbrev pub is_told : Story → Bool
+is_told s = not (is_awaited s) && is_no_error s.outcomes
+
+-- its message has not started and is to: it is open, or was told at its place
+abbrev pub is_unstarted : Story → Bool
+is_unstarted s = (length s.tries == 0) && (is_open s || is_told s)
 
 -- it is handed in
 abbrev pub handed_in : Story → Submission → Bool → ℕ → Story

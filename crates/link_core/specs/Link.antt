@@ -1,5 +1,5 @@
 -- One link as plain data, and what each call does to it.
-use Rattle.std.specs.Prelude.{ℕ, ◌+◌, ◌^◌, nat_lt, nat_le, Bool, false, ◌&&◌, List, [], ◌∷◌, ◌++◌, length, if◌then◌else◌}
+use Rattle.std.specs.Prelude.{ℕ, ◌+◌, ◌^◌, nat_lt, nat_le, Bool, false, ◌&&◌, List, [], ◌∷◌, ◌++◌, length, Option, Some, None, if◌then◌else◌}
 use Rattle.resp_read.specs.Values.{values, left_over, is_spoiled}
 use Rattle.resp_read.specs.Items.{items}
 use Rattle.driver_model.specs.Shape.{need_of}
@@ -47,17 +47,18 @@ fresh size boundary = record {
 abbrev pub is_full : LinkState → Bool
 is_full s = nat_le s.size (length s.queue)
 
+-- who is the first of a queue
+abbrev pub first_in : List Queued → Option ℕ
+first_in [] = None
+first_in (q ∷ qs) = Some q.id
+
 -- a message takes the last place of the queue
 abbrev pub enqueued : LinkState → Queued → LinkState
 enqueued s q = record s { queue = s.queue ++ q ∷ [] }
 
--- the greatest boundary, which holds nothing back
-abbrev pub no_boundary : ℕ
-no_boundary = 18_446_744_073_709_551_615
-
 -- no message starts while bytes are unwritten, and as many as the boundary
 abbrev pub holds_back : LinkState → Bool
-holds_back s = nat_lt s.boundary no_boundary && (nat_lt 0 (length s.outbox.unwritten) && nat_le s.boundary (length s.outbox.unwritten))
+holds_back s = nat_lt 0 (length s.outbox.unwritten) && nat_le s.boundary (length s.outbox.unwritten)
 
 -- a link, and the starts of one call
 pub record Starting : Type 0 where

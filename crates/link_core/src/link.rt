@@ -64,7 +64,8 @@ impl Model for LinkCore {
 }
 
 impl LinkCore {
-    ghost use Rattle.link_core.specs.Link.{fresh, is_full, enqueued, starting_with, started_all};
+    ghost use Rattle.link_core.specs.Link.{fresh, is_full, first_in, enqueued, starting_with};
+    ghost use Rattle.link_core.specs.Link.{started_all};
     ghost use Rattle.link_core.specs.Link.{started_one, is_spent, offered_of, wrote_of, cancelled};
     ghost use Rattle.link_core.specs.Link.{settling_with, piece_dealt, came_all, pushes_of};
     ghost use Rattle.link_core.specs.Link.{pushes_came, closed_all, faulted};
@@ -72,7 +73,7 @@ impl LinkCore {
     ghost use Rattle.link_core.specs.Row.{lack_of_row};
 
     /// A link whose queue holds `size` messages, at least one, and on which no message starts while `boundary` bytes or
-    /// more, and at least one, are unwritten. The greatest boundary holds nothing back. Takes no memory.
+    /// more, and at least one, are unwritten. Takes no memory.
     pub fn new(alloc: Global, size: u32, boundary: u64) -> LinkCore
         ensures { result ≡ fresh size boundary }
     {
@@ -135,6 +136,16 @@ impl LinkCore {
         self.queue.len() >= self.size as usize
     }
 
+    /// The message that starts next, if one is in the queue.
+    pub fn first_queued(&self) -> Option<u64>
+        ensures { result ≡ first_in self.now.queue }
+    {
+        if self.queue.is_empty() {
+            return None;
+        }
+        Some(self.queue.at(0).id)
+    }
+
     fn try_enqueue(
         &mut self,
         alloc: Global,
@@ -191,7 +202,7 @@ impl LinkCore {
         ensures { result ≡ holds_back self.now }
     {
         let unwritten = self.outbox.unwritten.len() as u64;
-        self.boundary < u64::MAX && (unwritten > 0 && unwritten >= self.boundary)
+        unwritten > 0 && unwritten >= self.boundary
     }
 
     fn start_each(&mut self, alloc: Global, out: &mut Vec<Started>) -> Result<(), StartError>

@@ -1,6 +1,6 @@
 -- A connection in the middle of a turn, and its life.
-use Rattle.std.specs.Prelude.{ℕ, ◌^◌, nat_le, Bool, true, false, List, [], ◌∷◌, ◌++◌}
-use Rattle.link_core.specs.Link.{LinkState, is_full}
+use Rattle.std.specs.Prelude.{ℕ, ◌^◌, nat_le, Bool, true, false, not, List, [], ◌∷◌, ◌++◌, Option, None}
+use Rattle.link_core.specs.Link.{LinkState, is_full, first_in}
 use Rattle.mux_conn.specs.declared.act.LinkAct.{LinkAct}
 use Rattle.mux_conn.specs.declared.connection.MultiplexedConnection.{MultiplexedConnection}
 use Rattle.mux_conn.specs.declared.life.Life.{Life}
@@ -37,11 +37,23 @@ is_ready Dialing = false
 is_ready (Ready link) = true
 is_ready (Ended e) = false
 
--- no request can be moved
-abbrev pub moves_none : Life → Bool
-moves_none Dialing = true
-moves_none (Ready link) = is_full link
-moves_none (Ended e) = false
+-- no request that waits for the connection can be moved
+abbrev pub admits_none : Life → Bool
+admits_none Dialing = true
+admits_none (Ready link) = false
+admits_none (Ended e) = false
+
+-- it is up, and the queue holds less than its size
+abbrev pub has_room : Life → Bool
+has_room Dialing = false
+has_room (Ready link) = not (is_full link)
+has_room (Ended e) = false
+
+-- the message that starts next, where it is up and one is in the queue
+abbrev pub first_queued : Life → Option ℕ
+first_queued Dialing = None
+first_queued (Ready link) = first_in link.queue
+first_queued (Ended e) = None
 
 -- how many messages of a link that is up have started
 abbrev pub started_in : Life → ℕ

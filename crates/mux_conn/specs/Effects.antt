@@ -10,7 +10,7 @@ use Rattle.driver_model.specs.declared.outcome.Outcome.TheVariants as outcome
 use Rattle.driver_model.specs.News.{News, silence, connected, refused, overdue, took, came, failed, shut}
 use Rattle.driver_model.specs.Shape.{outcome_of}
 use Rattle.link_core.specs.declared.message.Settled.{Settled}
-use Rattle.link_core.specs.Link.{LinkState, Settling, fresh, no_boundary, wrote_of, cancelled, faulted, closed_all}
+use Rattle.link_core.specs.Link.{LinkState, Settling, fresh, wrote_of, cancelled, faulted, closed_all}
 use Rattle.link_core.specs.Link.{piece_dealt}
 use Rattle.mux_conn.specs.declared.act.LinkAct.TheVariants as act
 use Rattle.mux_conn.specs.declared.connection.MultiplexedConnection.{MultiplexedConnection}
@@ -21,13 +21,9 @@ use Rattle.mux_conn.specs.declared.request.Waiting.{Waiting}
 use Rattle.mux_conn.specs.Connection.{Work, acted, at_life, with_link}
 use Rattle.mux_conn.specs.Requests.{is_open_at, at_progress, answered}
 
--- a queue of any size, and no boundary
-abbrev pub max_size : ℕ
-max_size = 4_294_967_295
-
--- a link without messages
-abbrev pub new_link : LinkState
-new_link = fresh max_size no_boundary
+-- a link without messages, with the queue and the boundary of its connection
+abbrev pub new_link : MultiplexedConnection → LinkState
+new_link c = fresh c.size c.boundary
 
 -- each message that the link has settled is answered, in order
 abbrev pub settled_each : Work → List Settled → Work
@@ -39,24 +35,28 @@ abbrev pub failed_each : Work → RedisError → List Waiting → Work
 failed_each w e [] = w
 failed_each w e (q ∷ qs) = failed_each (answered w q.number (outcome.Fault e)) e qs
 
--- those that wait for a place are answered with it
-abbrev pub waiting_failed : Work → RedisError → Work
-waiting_failed w e = failed_each (record w { conn = record w.conn { waiting = [] } }) e w.conn.waiting
+-- nobody waits, for a place or for the connection
+abbrev pub nobody_waits : Work → Work
+nobody_waits w = record w { conn = record w.conn { waiting = []; admitted = [] } }
 
--- the link ends: it is closed, its messages are answered, and then those that wait for a place
+-- those that wait for a place are answered with it, and then those that wait for the connection
+abbrev pub waiting_failed : Work → RedisError → Work
+waiting_failed w e = failed_each (failed_each (nobody_waits w) e w.conn.admitted) e w.conn.waiting
+
+-- the link ends: it is closed, its messages are answered, and then those that have no place
 abbrev pub ended : Work → List Settled → Work
 ended w out = waiting_failed (settled_each (acted (at_life w (Ended error.Closed)) act.Close) out) error.Closed
 
 abbrev pub ended_by : Work → LinkState → LinkFault → Work
 ended_by w link f = ended w (faulted (record { link = link; out = [] }) f).out
 
--- the opening fails with this error, which is shown, and those that wait for a place are answered
+-- the opening fails with this error, which is shown, and those that have no place are answered
 abbrev pub opening_failed : Work → RedisError → Work
 opening_failed w e = waiting_failed (acted (at_life w (Ended e)) (act.Created (Some e))) e
 
 -- the first answer to the connect: it succeeded
 abbrev pub connected_at : Work → Life → Work
-connected_at w Dialing = acted (with_link w new_link) (act.Created None)
+connected_at w Dialing = acted (with_link w (new_link w.conn)) (act.Created None)
 connected_at w (Ready link) = w
 connected_at w (Ended e) = w
 

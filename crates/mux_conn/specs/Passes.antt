@@ -1,5 +1,5 @@
 -- Requests are moved as far as they can go.
-use Rattle.std.specs.Prelude.{ℕ, ◌==◌, Bool, true, false, ◌&&◌, not, List, [], ◌∷◌, Option, Some, None, remove, if◌then◌else◌}
+use Rattle.std.specs.Prelude.{ℕ, ◌==◌, Bool, true, false, ◌&&◌, not, List, [], ◌∷◌, ◌++◌, Option, Some, None, if◌then◌else◌}
 use Rattle.resp_value.specs.declared.value.Value.TheVariants.{Nil}
 use Rattle.driver_model.specs.declared.outcome.Outcome.TheVariants as outcome
 use Rattle.link_core.specs.declared.message.Queued.{Queued}
@@ -12,8 +12,8 @@ use Rattle.mux_conn.specs.declared.life.Life.{Life}
 use Rattle.mux_conn.specs.declared.life.Life.TheVariants.{Dialing, Ready, Ended}
 use Rattle.mux_conn.specs.declared.request.Progress.TheVariants as progress
 use Rattle.mux_conn.specs.declared.request.Waiting.{Waiting}
-use Rattle.mux_conn.specs.Connection.{Work, acted, with_link, moves_none}
-use Rattle.mux_conn.specs.Requests.{name_at, is_waiting_at, progressed, answered}
+use Rattle.mux_conn.specs.Connection.{Work, acted, with_link, admits_none, has_room}
+use Rattle.mux_conn.specs.Requests.{name_at, is_waiting_at, is_admitted_at, progressed, answered}
 
 -- each start is shown
 abbrev pub shown_each : Work → List Started → Work
@@ -35,9 +35,13 @@ started w = started_at w w.conn.life
 abbrev pub message_of : Waiting → Queued
 message_of q = record { id = q.number; packed = q.packed; shape = q.shape; awaited = q.awaited }
 
+-- request p was moved in this turn
+abbrev pub noted : Work → ℕ → Work
+noted w p = record w { conn = record w.conn { moved = w.conn.moved ++ p ∷ [] } }
+
 -- a request takes its place in the queue
 abbrev pub placed_at : Work → Waiting → Life → Work
-placed_at w q (Ready link) = with_link (progressed w q.number progress.Placed) (enqueued link (message_of q))
+placed_at w q (Ready link) = with_link (progressed (noted w q.number) q.number progress.Placed) (enqueued link (message_of q))
 placed_at w q Dialing = w
 placed_at w q (Ended e) = w
 
@@ -45,39 +49,64 @@ placed_at w q (Ended e) = w
 abbrev pub told_at_place : Work → Waiting → Work
 told_at_place w q = if q.awaited then w else answered w q.number (outcome.One Nil)
 
--- a request that still waits takes its place, and messages start; on a link that has ended it is answered
-abbrev pub moved_at : Work → Waiting → Life → Work
-moved_at w q (Ready link) = started (told_at_place (placed_at w q (Ready link)) q)
-moved_at w q (Ended e) = answered w q.number (outcome.Fault e)
-moved_at w q Dialing = w
+-- a request takes its place, and messages start
+abbrev pub seated : Work → Waiting → Work
+seated w q = started (told_at_place (placed_at w q w.conn.life) q)
 
-abbrev pub moved : Work → Waiting → Work
-moved w q = if is_waiting_at w.conn.requests q.number then moved_at w q w.conn.life else w
+-- those that wait for a place
+abbrev pub still_admitted : Work → List Waiting → Work
+still_admitted w qs = record w { conn = record w.conn { admitted = qs } }
 
+-- a request that still waits for a place takes it
+abbrev pub moved_up : Work → Waiting → Work
+moved_up w q = if is_admitted_at w.conn.requests q.number then seated w q else w
+
+-- those that wait for a place take theirs in order, as long as the queue has room
+abbrev pub moved_up_each : Work → List Waiting → Work
+moved_up_each w [] = still_admitted w []
+moved_up_each w (q ∷ qs) = if has_room w.conn.life then moved_up_each (moved_up w q) qs else still_admitted w (q ∷ qs)
+
+abbrev pub moved_up_all : Work → Work
+moved_up_all w = moved_up_each (still_admitted w []) w.conn.admitted
+
+-- a request waits for a place, behind the others
+abbrev pub put_behind : Work → Waiting → Work
+put_behind w q = still_admitted (noted w q.number) (w.conn.admitted ++ q ∷ [])
+
+-- a request takes its place at once where the queue has room, and else it waits for one
+abbrev pub seated_or_behind : Work → Waiting → Work
+seated_or_behind w q = if has_room w.conn.life then seated w q else put_behind w q
+
+-- a request that waits for the connection may take a place now; on a link that has ended it is answered
+abbrev pub admitted_at : Work → Waiting → Life → Work
+admitted_at w q (Ready link) = seated_or_behind (progressed w q.number progress.Admitted) q
+admitted_at w q (Ended e) = answered w q.number (outcome.Fault e)
+admitted_at w q Dialing = w
+
+abbrev pub admitted : Work → Waiting → Work
+admitted w q = if is_waiting_at w.conn.requests q.number then admitted_at w q w.conn.life else w
+
+-- those that wait for the connection
 abbrev pub still_waiting : Work → List Waiting → Work
 still_waiting w qs = record w { conn = record w.conn { waiting = qs } }
 
--- the requests that wait are moved in order, as long as they can be
-abbrev pub moved_each : Work → List Waiting → Work
-moved_each w [] = still_waiting w []
-moved_each w (q ∷ qs) = if moves_none w.conn.life then still_waiting w (q ∷ qs) else moved_each (moved w q) qs
+-- the requests that wait for the connection are moved in order, as long as they can be
+abbrev pub admitted_each : Work → List Waiting → Work
+admitted_each w [] = still_waiting w []
+admitted_each w (q ∷ qs) = if admits_none w.conn.life then still_waiting w (q ∷ qs) else admitted_each (admitted w q) qs
 
--- the entry at index i of those that wait leaves them, and is moved
-abbrev pub moved_from : Work → ℕ → Waiting → Work
-moved_from w i q = moved (still_waiting w (remove w.conn.waiting i)) q
+abbrev pub admitted_all : Work → Work
+admitted_all w = admitted_each (still_waiting w []) w.conn.waiting
 
-abbrev pub moved_all : Work → Work
-moved_all w = moved_each (still_waiting w []) w.conn.waiting
-
--- what waits in the queue starts, and then requests are moved
+-- what waits in the queue starts, then those that wait for a place are moved, and then those that wait for the connection
 abbrev pub passed : Work → Work
-passed w = moved_all (started w)
+passed w = admitted_all (moved_up_all (started w))
 
 -- it is the entry of request p
 abbrev pub has_number : ℕ → Waiting → Bool
 has_number p q = q.number == p
 
--- the entry of request p, if it waits for its place
+-- the entry of request p, if it is one of these
 abbrev pub entry_of : ℕ → List Waiting → Option Waiting
 entry_of p [] = None
 entry_of p (q ∷ qs) = if has_number p q then Some q else entry_of p qs
@@ -85,13 +114,21 @@ entry_of p (q ∷ qs) = if has_number p q then Some q else entry_of p qs
 abbrev pub without : ℕ → List Waiting → List Waiting
 without p qs = first_replaced (has_number p) (λ _. []) qs
 
-abbrev pub advanced_with : Work → ℕ → Option Waiting → Work
-advanced_with w p None = w
-advanced_with w p (Some q) = if moves_none w.conn.life then w else moved (still_waiting w (without p w.conn.waiting)) q
+-- request p alone is moved as far as it can go, where it waits for a place
+abbrev pub seated_alone : Work → ℕ → Option Waiting → Work
+seated_alone w p None = w
+seated_alone w p (Some q) = if has_room w.conn.life then moved_up (still_admitted w (without p w.conn.admitted)) q else w
+
+-- and where it waits for the connection
+abbrev pub admitted_alone : Work → ℕ → Option Waiting → Work
+admitted_alone w p None = w
+admitted_alone w p (Some q) = if admits_none w.conn.life then w else admitted (still_waiting w (without p w.conn.waiting)) q
 
 -- request p alone is moved as far as it can go
 abbrev pub advanced : Work → ℕ → Work
-advanced w p = advanced_with w p (entry_of p w.conn.waiting)
+advanced w p =
+    if is_admitted_at w.conn.requests p then seated_alone w p (entry_of p w.conn.admitted)
+    else if is_waiting_at w.conn.requests p then admitted_alone w p (entry_of p w.conn.waiting) else w
 
 abbrev pub is_there : Option Waiting → Bool
 is_there None = false
@@ -99,4 +136,6 @@ is_there (Some q) = true
 
 -- whether it moves
 abbrev pub can_advance : MultiplexedConnection → ℕ → Bool
-can_advance c p = is_there (entry_of p c.waiting) && (not (moves_none c.life) && is_waiting_at c.requests p)
+can_advance c p =
+    if is_admitted_at c.requests p then is_there (entry_of p c.admitted) && has_room c.life
+    else is_waiting_at c.requests p && (is_there (entry_of p c.waiting) && not (admits_none c.life))

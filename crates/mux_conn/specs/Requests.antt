@@ -13,13 +13,30 @@ use Rattle.mux_conn.specs.Connection.{Work, acted}
 -- neither answered nor left by its caller
 abbrev pub is_open : Progress → Bool
 is_open progress.Waiting = true
+is_open progress.Admitted = true
 is_open progress.Placed = true
 is_open progress.Closed = false
 
+-- it waits for the connection
 abbrev pub is_waiting : Progress → Bool
 is_waiting progress.Waiting = true
+is_waiting progress.Admitted = false
 is_waiting progress.Placed = false
 is_waiting progress.Closed = false
+
+-- it waits for a place
+abbrev pub is_admitted : Progress → Bool
+is_admitted progress.Waiting = false
+is_admitted progress.Admitted = true
+is_admitted progress.Placed = false
+is_admitted progress.Closed = false
+
+-- it is in the queue, or started
+abbrev pub is_placed : Progress → Bool
+is_placed progress.Waiting = false
+is_placed progress.Admitted = false
+is_placed progress.Placed = true
+is_placed progress.Closed = false
 
 abbrev pub if_there : (Progress → Bool) → Option Request → Bool
 if_there test None = false
@@ -30,6 +47,12 @@ is_open_at requests p = if_there is_open (slice_get requests p)
 
 abbrev pub is_waiting_at : List Request → ℕ → Bool
 is_waiting_at requests p = if_there is_waiting (slice_get requests p)
+
+abbrev pub is_admitted_at : List Request → ℕ → Bool
+is_admitted_at requests p = if_there is_admitted (slice_get requests p)
+
+abbrev pub is_placed_at : List Request → ℕ → Bool
+is_placed_at requests p = if_there is_placed (slice_get requests p)
 
 abbrev pub name_or_none : Option Request → ℕ
 name_or_none None = 0
@@ -53,7 +76,7 @@ answered w p o = if is_open_at w.conn.requests p then acted (progressed w p prog
 abbrev pub waiting_of : ℕ → List ℕ → Shape → Bool → Waiting
 waiting_of p packed shape awaited = record { number = p; packed = packed; shape = shape; awaited = awaited }
 
--- one more request, which waits for its place
+-- one more request, which waits for the connection
 abbrev pub asked : MultiplexedConnection → ℕ → List ℕ → Shape → Bool → MultiplexedConnection
 asked c name packed shape awaited = record c {
   requests = c.requests ++ record { name = name; progress = progress.Waiting } ∷ [];

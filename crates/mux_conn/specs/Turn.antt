@@ -1,5 +1,6 @@
 -- What a turn ends with, and a whole turn of a connection.
-use Rattle.std.specs.Prelude.{ℕ, None, List, [], ◌∷◌, if◌then◌else◌}
+use Rattle.std.specs.Prelude.{ℕ, nat_le, Bool, false, ◌&&◌, Option, None, Some, List, [], ◌∷◌, if◌then◌else◌}
+use Rattle.driver_model.specs.declared.action.WaitKind.{WaitKind}
 use Rattle.driver_model.specs.declared.action.WaitKind.TheVariants as wait
 use Rattle.driver_model.specs.News.{News}
 use Rattle.link_core.specs.Link.{LinkState, offered_of}
@@ -8,14 +9,24 @@ use Rattle.mux_conn.specs.declared.act.LinkAct.TheVariants as act
 use Rattle.mux_conn.specs.declared.connection.MultiplexedConnection.{MultiplexedConnection}
 use Rattle.mux_conn.specs.declared.life.Life.{Life}
 use Rattle.mux_conn.specs.declared.life.Life.TheVariants.{Dialing, Ready, Ended}
-use Rattle.mux_conn.specs.Connection.{Work, acted, with_link, awaits_connect}
-use Rattle.mux_conn.specs.Requests.{name_at, is_waiting_at}
+use Rattle.mux_conn.specs.Connection.{Work, acted, with_link, awaits_connect, first_queued}
+use Rattle.mux_conn.specs.Requests.{name_at, is_waiting_at, is_admitted_at, is_placed_at}
 use Rattle.mux_conn.specs.Effects.{applied}
 use Rattle.mux_conn.specs.Passes.{passed}
 
 -- a connection whose connect isn't answered, without requests
-abbrev pub dialing : MultiplexedConnection
-dialing = record { life = Dialing; requests = []; waiting = []; fresh = []; failure = None }
+abbrev pub dialing : ℕ → ℕ → MultiplexedConnection
+dialing size boundary = record {
+  size = size;
+  boundary = boundary;
+  life = Dialing;
+  requests = [];
+  waiting = [];
+  admitted = [];
+  fresh = [];
+  moved = [];
+  failure = None;
+}
 
 -- all unwritten bytes are offered, unless an offer is unanswered
 abbrev pub offers : Work → LinkState → Work
@@ -29,16 +40,43 @@ written_at w (Ended e) = w
 abbrev pub written : Work → Work
 written w = written_at w w.conn.life
 
--- a request of this turn that waits for the connect shows it
-abbrev pub wait_shown : Work → ℕ → Work
-wait_shown w p = if is_waiting_at w.conn.requests p then (if awaits_connect w.conn.life then acted w (act.Wait (name_at w.conn.requests p) wait.Connect) else w) else w
+-- the message p is that one, or stands behind it
+abbrev pub is_from : Option ℕ → ℕ → Bool
+is_from None p = false
+is_from (Some first) p = nat_le first p
 
-abbrev pub waits_each : Work → List ℕ → Work
-waits_each w [] = w
-waits_each w (p ∷ ps) = waits_each (wait_shown w p) ps
+-- what a request that was moved in this turn waits for, if it waits: a place, or, where it is in the queue, room
+abbrev pub moved_wait : MultiplexedConnection → ℕ → Option WaitKind
+moved_wait c p =
+    if is_admitted_at c.requests p then Some wait.Place
+    else if is_placed_at c.requests p && is_from (first_queued c.life) p then Some wait.Room else None
+
+-- what a request of this turn waits for, if it waits: the connect
+abbrev pub fresh_wait : MultiplexedConnection → ℕ → Option WaitKind
+fresh_wait c p = if is_waiting_at c.requests p && awaits_connect c.life then Some wait.Connect else None
+
+abbrev pub wait_shown : Work → ℕ → Option WaitKind → Work
+wait_shown w p None = w
+wait_shown w p (Some kind) = acted w (act.Wait (name_at w.conn.requests p) kind)
+
+-- the waits of requests that were moved in this turn are shown
+abbrev pub moved_each_shown : Work → List ℕ → Work
+moved_each_shown w [] = w
+moved_each_shown w (p ∷ ps) = moved_each_shown (wait_shown w p (moved_wait w.conn p)) ps
+
+abbrev pub moved_shown : Work → Work
+moved_shown w = moved_each_shown (record w { conn = record w.conn { moved = [] } }) w.conn.moved
+
+-- and those of requests that came in it
+abbrev pub fresh_each_shown : Work → List ℕ → Work
+fresh_each_shown w [] = w
+fresh_each_shown w (p ∷ ps) = fresh_each_shown (wait_shown w p (fresh_wait w.conn p)) ps
+
+abbrev pub fresh_shown : Work → Work
+fresh_shown w = fresh_each_shown (record w { conn = record w.conn { fresh = [] } }) w.conn.fresh
 
 abbrev pub waits_shown : Work → Work
-waits_shown w = waits_each (record w { conn = record w.conn { fresh = [] } }) w.conn.fresh
+waits_shown w = fresh_shown (moved_shown w)
 
 -- what a turn ends with: the link's one write, and the waits that began
 abbrev pub flushed : Work → Work

@@ -9,13 +9,18 @@ use containers::{Bytes, Queue, Seq};
 use driver_model::{Outcome, Shape};
 use std::alloc::{AllocError, Global};
 
-/// One multiplexed connection: its link's life, its requests by their numbers, those that wait for their place, in order
-/// and some that have gone since, and those that came in this turn.
+/// One multiplexed connection: how many messages the queue of its link holds, and at how many unwritten bytes none starts;
+/// its link's life; its requests by their numbers; those that wait for the connection, and those that wait for a place, in
+/// order and some that have gone since; those that came in this turn, and those that were moved in it.
 pub struct MultiplexedConnection {
+    pub size: u32,
+    pub boundary: u64,
     pub life: Life,
     pub requests: Seq<Request>,
     pub waiting: Queue<Waiting>,
+    pub admitted: Queue<Waiting>,
     pub fresh: Queue<u32>,
+    pub moved: Queue<u32>,
     /// Why every call fails, if it does: a call was refused memory, or a number has run out.
     pub failure: Option<ConnectionError>,
 }
@@ -23,16 +28,22 @@ pub struct MultiplexedConnection {
 impl Drop for MultiplexedConnection {
     fn drop(self) {
         let MultiplexedConnection {
+            size: _,
+            boundary: _,
             life,
             requests,
             waiting,
+            admitted,
             fresh,
+            moved,
             failure: _,
         } = self;
         drop(life);
         drop(requests);
         drop(waiting);
+        drop(admitted);
         drop(fresh);
+        drop(moved);
     }
 }
 

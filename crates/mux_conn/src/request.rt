@@ -10,8 +10,10 @@ pub struct Pending {
 /// How far a request has come.
 #[derive(Clone, Copy, PartialEq, Eq)]
 pub enum Progress {
-    /// It has no place in the queue yet.
+    /// It waits for its connection.
     Waiting,
+    /// It may take a place in the queue, and has none yet.
+    Admitted,
     /// It has its place, or is started.
     Placed,
     /// It is answered, or its caller has gone.
@@ -25,7 +27,7 @@ pub struct Request {
     pub progress: Progress,
 }
 
-/// A request that waits for its place.
+/// A request that has no place in the queue yet.
 #[derive(Drop)]
 pub struct Waiting {
     pub number: u32,
