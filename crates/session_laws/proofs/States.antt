@@ -1,35 +1,43 @@
 -- The session between two turns, and when the event of a turn has had its own effect.
-use Rattle.std.proofs.Common.{◌≡◌, ◌≢◌, ℕ, false, List, [], ◌++◌}
+use Rattle.std.proofs.Common.{◌≡◌, ◌≢◌, ◌⊎◌, ℕ, ◌≤◌, true, false, List, [], ◌++◌, length}
 use Rattle.driver_model.specs.declared.action.Action.{Action}
-use Rattle.link_core.specs.Link.{LinkState, no_boundary}
-use Rattle.mux_conn.specs.declared.life.Life.{Life}
+use Rattle.link_core.specs.Link.{LinkState, is_full, holds_back}
+use Rattle.mux_conn.specs.declared.connection.MultiplexedConnection.{MultiplexedConnection}
 use Rattle.mux_conn.specs.declared.life.Life.TheVariants.{Dialing, Ready}
-use Rattle.mux_conn.specs.Effects.{max_size}
 use Rattle.shared_session.specs.declared.core_state.Core.{Core}
 use Rattle.shared_session.specs.Turn.{Turning, shown_each}
 use Rattle.legal_trace.specs.Book.{book}
 use Rattle.legal_trace.specs.Legal.{NoneEnds, IsSettled}
 use Rattle.session_laws.proofs.Tied.{Sound, inner}
 
--- a link that reads on, that holds nothing back, and whose queue is empty and has room
-pub record IsWhole (link : LinkState) : Type 0 where
+-- a link that reads on, with a queue of this size and this boundary, and no more messages in the queue than that holds
+pub record IsFit (size bound : ℕ) (link : LinkState) : Type 0 where
   pub sound : link.broken ≡ false
-  pub empty : link.queue ≡ []
-  pub size : link.size ≡ max_size
-  pub boundary : link.boundary ≡ no_boundary
+  pub size_is : link.size ≡ size
+  pub bound_is : link.boundary ≡ bound
+  pub within : length link.queue ≤ size
 
--- where a link is up, it is so
-abbrev pub IsWholeIn : Life → Type 0
-IsWholeIn life = (link : LinkState) → life ≡ Ready link → IsWhole link
+-- where a link is up, it is so; and where none is up, nobody waits for a place
+pub record IsFitIn (c : MultiplexedConnection) : Type 0 where
+  pub link : (link : LinkState) → c.life ≡ Ready link → IsFit c.size c.boundary link
+  pub none : ((link : LinkState) → c.life ≡ Ready link → ⊥) → c.admitted ≡ []
 
--- between two turns: all is settled, no wait is to be shown, and nothing waits for a place but for the connect
+-- nothing moves: what is in the queue is held back, those that wait for a place find the queue full, and those that wait for
+-- the connection are there only while the connect isn't answered
+pub record IsStill (c : MultiplexedConnection) : Type 0 where
+  pub held : (link : LinkState) → c.life ≡ Ready link → (link.queue ≡ []) ⊎ (holds_back link ≡ true)
+  pub full : (link : LinkState) → c.life ≡ Ready link → (c.admitted ≡ []) ⊎ (is_full link ≡ true)
+  pub waiting : c.life ≢ Dialing → c.waiting ≡ []
+
+-- between two turns: all is settled, no wait is to be shown, and nothing moves
 pub record Between (before : List Action) (c : Core) (started : List ℕ) : Type 0 where
   pub sound : Sound before (inner c started)
   pub settled : IsSettled (book before)
   pub began : c.turns ≢ 0
   pub fresh : c.single.connection.fresh ≡ []
-  pub whole : IsWholeIn c.single.connection.life
-  pub waiting : c.single.connection.life ≢ Dialing → c.single.connection.waiting ≡ []
+  pub moved : c.single.connection.moved ≡ []
+  pub fit : IsFitIn c.single.connection
+  pub still : IsStill c.single.connection
 
 -- the trace of a turn up to its last act so far, behind what was shown before its acts
 abbrev pub trace_with : List Action → Turning → List Action
@@ -40,4 +48,5 @@ pub record HasApplied (before : List Action) (t : Turning) (started : List ℕ) 
   pub sound : Sound (trace_with before t) (inner t.core started)
   pub ended : NoneEnds (book (trace_with before t))
   pub began : t.core.turns ≢ 0
-  pub whole : IsWholeIn t.core.single.connection.life
+  pub moved : t.core.single.connection.moved ≡ []
+  pub fit : IsFitIn t.core.single.connection

@@ -8,6 +8,8 @@ use Rattle.driver_model.specs.declared.action.Owner.{Owner}
 use Rattle.driver_model.specs.declared.action.Cause.{Cause}
 use Rattle.driver_model.specs.declared.action.Purpose.{Purpose}
 use Rattle.driver_model.specs.declared.action.Owner.TheVariants as owner
+use Rattle.driver_model.specs.Config.{boundary}
+use Rattle.driver_model.specs.declared.action.WaitKind.{WaitKind}
 use Rattle.driver_model.specs.declared.action.WaitKind.TheVariants as wait
 use Rattle.driver_model.specs.declared.event.Submission.{Submission}
 use Rattle.driver_model.specs.declared.event.Event.{Event}
@@ -18,7 +20,7 @@ use Rattle.driver_model.specs.declared.action.Purpose.TheVariants as purpose
 use Rattle.driver_model.specs.declared.config.Config.{Config}
 use Rattle.link_core.specs.declared.message.Entry.{Entry}
 use Rattle.link_core.specs.declared.message.Queued.{Queued}
-use Rattle.link_core.specs.Link.{LinkState}
+use Rattle.link_core.specs.Link.{LinkState, fresh as fresh_link}
 use Rattle.link_laws.specs.Settles.{wanted, awaited_ids}
 use Rattle.link_laws.proofs.TiedLink.{TiedLink}
 use Rattle.mux_conn.specs.declared.life.Life.{Life}
@@ -26,21 +28,22 @@ use Rattle.mux_conn.specs.declared.life.Life.TheVariants.{Dialing, Ready, Ended}
 use Rattle.mux_conn.specs.declared.request.Pending.{Pending}
 use Rattle.mux_conn.specs.declared.request.Request.{Request}
 use Rattle.mux_conn.specs.declared.request.Waiting.{Waiting}
-use Rattle.mux_conn.specs.Requests.{name_at, is_open_at, is_waiting_at}
-use Rattle.mux_conn.specs.Effects.{new_link}
+use Rattle.mux_conn.specs.Requests.{name_at, is_open_at, is_waiting_at, is_admitted_at, is_placed_at}
 use Rattle.shared_session.specs.declared.core_state.Core.{Core}
 use Rattle.legal_trace.specs.Ledger.{Ledger, Start, End, failure_in}
-use Rattle.legal_trace.specs.Story.{Story, blank_story, is_open, bytes_of, shape, is_awaited}
+use Rattle.legal_trace.specs.Story.{Story, blank_story, is_open, is_told, bytes_of, shape, is_awaited}
 use Rattle.legal_trace.specs.Book.{Book, blank_book, book}
+use Rattle.legal_trace.specs.Steps.{configured, queue_size}
 use Rattle.legal_trace.specs.Legal.{AllStand, IsTimed}
 use Rattle.legal_trace.specs.Owed.{owed_unstarted}
 use Rattle.session_laws.proofs.Numbers.{IsIn, Rising}
 
 -- what counts of a session in the middle of a turn: how many turns it has begun, how many links it has asked for and which
 -- of them is its connection's, what each timer was asked for, whether everything was shut down, the request of each
--- submission; its connection's life and
--- requests, those that still wait to be moved, those whose wait isn't shown yet; the requests that are settled and not
--- answered yet; and the requests whose messages started, in order
+-- submission; how many messages the queue of its connection's link holds, and at how many unwritten bytes none starts; its
+-- connection's life and requests, those that wait for the connection, those that wait for a place, those that came in this
+-- turn and those that were moved in it, whose waits aren't shown yet; the requests that are settled and not answered yet; and
+-- the requests whose messages started, in order
 pub record Inner : Type 0 where
   pub turns : ℕ
   pub links : ℕ
@@ -48,18 +51,26 @@ pub record Inner : Type 0 where
   pub timers : List Purpose
   pub shut : Bool
   pub table : List (Option Pending)
+  pub size : ℕ
+  pub bound : ℕ
   pub life : Life
   pub requests : List Request
   pub waiting : List Waiting
+  pub admitted : List Waiting
   pub fresh : List ℕ
+  pub moved : List ℕ
   pub pending : List ℕ
   pub started : List ℕ
 
+-- a link without messages
+abbrev pub no_link : LinkState
+no_link = fresh_link 0 0
+
 -- the link of a connection, which has no messages where it isn't up
 abbrev pub link_in : Life → LinkState
-link_in Dialing = new_link
+link_in Dialing = no_link
 link_in (Ready link) = link
-link_in (Ended e) = new_link
+link_in (Ended e) = no_link
 
 -- it takes no more messages
 abbrev pub has_ended : Life → Bool
@@ -92,6 +103,12 @@ owners_each requests (p ∷ ps) = owner_of requests p ∷ owners_each requests p
 abbrev pub AreAimed : List Purpose → ℕ → Type 0
 AreAimed timers link = (k : ℕ) (what : Purpose) → slice_get timers k ≡ Some what → what ≡ purpose.Connect link
 
+-- the configuration that the book tells has a queue of this size, which is not none, and this boundary
+pub record IsConfigured (b : Book) (size bound : ℕ) : Type 0 where
+  pub size_is : queue_size b ≡ size
+  pub bound_is : configured boundary b.config ≡ bound
+  pub some : 0 < size
+
 -- the numbers that the session gives are those of the book; its connection's link is the only one, which all timers are
 -- for, and the opening has asked for its timer
 pub record TiedNumbers (b : Book) (t : Inner) : Type 0 where
@@ -102,6 +119,7 @@ pub record TiedNumbers (b : Book) (t : Inner) : Type 0 where
   pub aims : AreAimed t.timers t.link
   pub timed : IsTimed b
   pub shut : b.shut ≡ t.shut
+  pub settings : IsConfigured b t.size t.bound
   pub one : t.links ≡ t.link + 1
   pub only : (m : ℕ) → m < t.links → m ≡ t.link
 
@@ -164,10 +182,10 @@ pub record IsOf (s : Story) (bytes : List ℕ) (of_shape : Shape) (awaited : Boo
   pub shape_is : of_shape ≡ shape s
   pub awaited_is : awaited ≡ is_awaited s
 
--- a message of the queue: it is open while its reply is awaited, and else it was answered with Nil at its place
+-- a message of the queue: it has its place while its reply is awaited, and else it was answered with Nil there
 pub record IsQueued (story : ℕ → Story) (requests : List Request) (q : Queued) : Type 0 where
   pub is_of : IsOf (story (name_at requests q.id)) q.packed q.shape q.awaited
-  pub open_at : q.awaited ≡ true → is_open_at requests q.id ≡ true
+  pub placed_at : q.awaited ≡ true → is_placed_at requests q.id ≡ true
   pub told : q.awaited ≡ false → (story (name_at requests q.id)).outcomes ≡ outcome.One Nil ∷ []
 
 -- a started message that takes more items: it is open while its verdict is wanted
@@ -178,26 +196,46 @@ pub record IsEntry (requests : List Request) (e : Entry) : Type 0 where
 abbrev pub IsPacked : (ℕ → Story) → List Request → Waiting → Type 0
 IsPacked story requests w = IsOf (story (name_at requests w.number)) w.packed w.shape w.awaited
 
--- those that started, those that have a place in the queue and those that wait for one, in the order of their numbers; each
--- of them is as its submission says, and each open request is somewhere
-pub record TiedLines (story : ℕ → Story) (requests : List Request) (link : LinkState) (waiting : List Waiting) (pending started : List ℕ) : Type 0 where
-  pub line : Rising 0 (started ++ (queue_ids link.queue ++ waiting_ids waiting)) (length requests)
+-- it waits for a place, or for the connection
+abbrev pub IsKept : List Request → List Waiting → List Waiting → ℕ → Type 0
+IsKept requests waiting admitted p = ((is_admitted_at requests p ≡ true) × IsIn p (waiting_ids admitted)) ⊎ ((is_waiting_at requests p ≡ true) × IsIn p (waiting_ids waiting))
+
+-- those that started, those that have a place in the queue, those that wait for one and those that wait for the connection,
+-- in the order of their numbers; each of them is as its submission says, and each open request is somewhere
+pub record TiedLines (story : ℕ → Story) (requests : List Request) (link : LinkState) (waiting admitted : List Waiting) (pending started : List ℕ) : Type 0 where
+  pub line : Rising 0 (started ++ (queue_ids link.queue ++ (waiting_ids admitted ++ waiting_ids waiting))) (length requests)
   pub queued : AllByRecursion (IsQueued story requests) link.queue
   pub entries : AllByRecursion (IsEntry requests) link.row
   pub packs : AllByRecursion (IsPacked story requests) waiting
-  pub there : (p : ℕ) → is_open_at requests p ≡ true
-      → IsIn p (pending ++ (wanted link.row ++ awaited_ids link.queue)) ⊎ ((is_waiting_at requests p ≡ true) × IsIn p (waiting_ids waiting))
+  pub packed_in : AllByRecursion (IsPacked story requests) admitted
+  pub there : (p : ℕ) → is_open_at requests p ≡ true → IsIn p (pending ++ (wanted link.row ++ awaited_ids link.queue)) ⊎ IsKept requests waiting admitted p
+
+-- who was told at its place and has not started is in the queue
+abbrev pub AreQueued : (ℕ → Story) → List Request → LinkState → Type 0
+AreQueued story requests link = (n : ℕ) → is_told (story n) ≡ true → (story n).tries ≡ [] → (p : ℕ) × (p < length requests) × (name_at requests p ≡ n) × IsIn p (queue_ids link.queue)
+
+-- the wait that was shown of a request
+abbrev pub shown_wait : (ℕ → Story) → List Request → ℕ → Option WaitKind
+shown_wait story requests p = (story (name_at requests p)).waiting
 
 -- at most one request came in this turn, and its wait isn't shown
 abbrev pub IsNew : (ℕ → Story) → List Request → List ℕ → Type 0
 IsNew story requests [] = Unit {0}
-IsNew story requests (p ∷ []) = (story (name_at requests p)).waiting ≡ None
+IsNew story requests (p ∷ []) = shown_wait story requests p ≡ None
 IsNew story requests (p ∷ q ∷ ps) = ⊥
 
--- every other request that waits for the connect has shown it
-pub record TiedWaits (story : ℕ → Story) (requests : List Request) (life : Life) (fresh : List ℕ) : Type 0 where
+-- a request that waits for the connection has shown nothing or that it waits for the connect, and the latter where it did not
+-- come in this turn; one that waits for a place, or has one in the queue, was moved in this turn and its wait isn't shown
+-- yet, or has shown it
+pub record TiedWaits (story : ℕ → Story) (requests : List Request) (life : Life) (fresh moved : List ℕ) : Type 0 where
   pub new : IsNew story requests fresh
-  pub shown : (p : ℕ) → is_waiting_at requests p ≡ true → life ≡ Dialing → (fresh ≡ p ∷ []) ⊎ ((story (name_at requests p)).waiting ≡ Some wait.Connect)
+  pub early : (p : ℕ) → is_waiting_at requests p ≡ true → (shown_wait story requests p ≡ None) ⊎ (shown_wait story requests p ≡ Some wait.Connect)
+  pub connect : (p : ℕ) → is_waiting_at requests p ≡ true → life ≡ Dialing → (fresh ≡ p ∷ []) ⊎ (shown_wait story requests p ≡ Some wait.Connect)
+  pub place : (p : ℕ) → is_admitted_at requests p ≡ true → IsIn p moved ⊎ (shown_wait story requests p ≡ Some wait.Place)
+  pub room : (p : ℕ) → IsIn p (awaited_ids (link_in life).queue) → IsIn p moved ⊎ (shown_wait story requests p ≡ Some wait.Room)
+  pub rising : Rising 0 moved (length requests)
+  pub no_place : (p : ℕ) → IsIn p moved → is_admitted_at requests p ≡ true → shown_wait story requests p ≢ Some wait.Place
+  pub no_room : (p : ℕ) → IsIn p moved → IsIn p (awaited_ids (link_in life).queue) → shown_wait story requests p ≢ Some wait.Room
 
 pub record Tied (b : Book) (t : Inner) : Type 0 where
   pub numbers : TiedNumbers b t
@@ -207,8 +245,9 @@ pub record Tied (b : Book) (t : Inner) : Type 0 where
   pub names : TiedNames t.table t.requests
   pub story : (n : ℕ) → TiedStory (b.story n) t.requests t.link (slice_get t.table n)
   pub tries : TiedTries (b.link t.link) b.story t.requests t.link t.started
-  pub lines : TiedLines b.story t.requests (link_in t.life) t.waiting t.pending t.started
-  pub waits : TiedWaits b.story t.requests t.life t.fresh
+  pub lines : TiedLines b.story t.requests (link_in t.life) t.waiting t.admitted t.pending t.started
+  pub told : has_ended t.life ≡ false → AreQueued b.story t.requests (link_in t.life)
+  pub waits : TiedWaits b.story t.requests t.life t.fresh t.moved
 
 -- each action of the trace stands where it may, and the session is tied to its book
 pub record Sound (trace : List Action) (t : Inner) : Type 0 where
@@ -224,10 +263,14 @@ inner c started = record {
   timers = c.timers;
   shut = c.shut;
   table = c.table;
+  size = c.single.connection.size;
+  bound = c.single.connection.boundary;
   life = c.single.connection.life;
   requests = c.single.connection.requests;
   waiting = c.single.connection.waiting;
+  admitted = c.single.connection.admitted;
   fresh = c.single.connection.fresh;
+  moved = c.single.connection.moved;
   pending = [];
   started = started;
 }
@@ -236,13 +279,13 @@ inner c started = record {
 pub no_opening : (e : Event) (config : Config) (word : ℕ) → ◌≡◌ {A = Option Cause} (Some (cause.Event e)) (Some (cause.Opening config word)) → ⊥
 no_opening e config word is = cc
 
--- requests move between those that wait, those whose wait isn't shown yet, and those that are to be answered: the session
--- stays tied where its lines and its waits are
-pub relined : (b : Book) (t : Inner) (waiting : List Waiting) (fresh pending : List ℕ) → Tied b t
-    → TiedLines b.story t.requests (link_in t.life) waiting pending t.started → TiedWaits b.story t.requests t.life fresh
-    → Tied b (record t { waiting = waiting; fresh = fresh; pending = pending })
-relined b t waiting fresh pending h lines waits = record {
-  numbers = record { turns = h.numbers.turns; links = h.numbers.links; timers = h.numbers.timers; aims = h.numbers.aims; timed = h.numbers.timed; submissions = h.numbers.submissions; shut = h.numbers.shut; one = h.numbers.one; only = h.numbers.only };
+-- requests move between those that wait for the connection, those that wait for a place, those whose wait isn't shown yet,
+-- and those that are to be answered: the session stays tied where its lines and its waits are
+pub relined : (b : Book) (t : Inner) (waiting admitted : List Waiting) (fresh moved pending : List ℕ) → Tied b t
+    → TiedLines b.story t.requests (link_in t.life) waiting admitted pending t.started → TiedWaits b.story t.requests t.life fresh moved
+    → Tied b (record t { waiting = waiting; admitted = admitted; fresh = fresh; moved = moved; pending = pending })
+relined b t waiting admitted fresh moved pending h lines waits = record {
+  numbers = record { turns = h.numbers.turns; links = h.numbers.links; timers = h.numbers.timers; aims = h.numbers.aims; timed = h.numbers.timed; submissions = h.numbers.submissions; shut = h.numbers.shut; settings = h.numbers.settings; one = h.numbers.one; only = h.numbers.only };
   others = h.others;
   life = h.life;
   link = h.link;
@@ -250,5 +293,6 @@ relined b t waiting fresh pending h lines waits = record {
   story = h.story;
   tries = h.tries;
   lines = lines;
+  told = h.told;
   waits = waits;
 }
