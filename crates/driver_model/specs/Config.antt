@@ -20,6 +20,10 @@ address c = if is_utf8 c.url then address_of c.url else None
 abbrev pub connect_timeout : Config → Option ℕ
 connect_timeout c = unwrap_or c.connect default_config.connection_timeout
 
+-- within how many milliseconds a request is to be answered, if within any
+abbrev pub response_timeout : Config → Option ℕ
+response_timeout c = unwrap_or c.response default_config.response_timeout
+
 -- how many messages the queue of its link holds
 abbrev pub buffer_size : Config → ℕ
 buffer_size c = unwrap_or c.buffer default_config.pipeline_buffer_size
@@ -41,15 +45,20 @@ has_setup info = is_some info.password || is_resp3 info.protocol || not (is_zero
 abbrev pub buffer_fault : ℕ → Option ConfigName
 buffer_fault size = if size == 0 then Some name.Buffer else None
 
--- what is refused of an address, or none was, and of a queue of this size
-abbrev pub fault_in : Option ConnectionInfo → ℕ → Option ConfigName
-fault_in None size = Some name.Url
-fault_in (Some info) size = if has_setup info.redis then Some name.Kind else buffer_fault size
+-- a connection that never has a permit is refused, and then a queue that holds nothing
+abbrev pub room_fault : Option ℕ → ℕ → Option ConfigName
+room_fault None size = buffer_fault size
+room_fault (Some limit) size = if limit == 0 then Some name.Limit else buffer_fault size
+
+-- what is refused of an address, or none was, of a number of permits, and of a queue of this size
+abbrev pub fault_in : Option ConnectionInfo → Option ℕ → ℕ → Option ConfigName
+fault_in None limit size = Some name.Url
+fault_in (Some info) limit size = if has_setup info.redis then Some name.Kind else room_fault limit size
 
 -- what of a configuration is refused first, if anything is: a URL that isn't an address, an address that asks for a setup,
--- which a session doesn't make yet, and a queue that holds nothing
+-- which a session doesn't make yet, a limit of no permits, and a queue that holds nothing
 abbrev pub first_fault : Config → Option ConfigName
-first_fault c = fault_in (address c) (buffer_size c)
+first_fault c = fault_in (address c) c.limit (buffer_size c)
 
 -- either memory was wanted, or this is refused first
 abbrev pub RefusesConfig : Config → OpenError → Type 0

@@ -30,6 +30,7 @@ for_link mine news = if mine then news else silence
 abbrev pub of_timer : ℕ → Option Purpose → News
 of_timer n None = silence
 of_timer n (Some (purpose.Connect l)) = for_link (l == n) overdue
+of_timer n (Some (purpose.Response who)) = silence
 
 -- what the link of number n sees of an event, where these are the purposes of the timers by their numbers
 abbrev pub news_of : List Purpose → ℕ → EventKind → News
@@ -41,6 +42,7 @@ news_of timers n (event.Ended l) = for_link (l == n) (failed fault.Ended)
 news_of timers n (event.ReadFault l kind) = for_link (l == n) (failed (fault.Io kind))
 news_of timers n (event.WriteFault l kind) = for_link (l == n) (failed (fault.Io kind))
 news_of timers n (event.Fired t) = of_timer n (slice_get timers t)
+news_of timers n (event.Timeout ms) = silence
 news_of timers n event.Shutdown = shut
 news_of timers n (event.Submit s) = silence
 news_of timers n (event.Cancel s) = silence

@@ -1,5 +1,6 @@
 -- How many items a message takes, and what its items become.
 use Rattle.std.specs.Prelude.{ℕ, ◌+◌, ◌==◌, Bool, true, false, List, [], ◌∷◌, ◌++◌, take, drop, if◌then◌else◌}
+use Rattle.connection_setup.specs.Permits.{most_permits}
 use Rattle.redis_error.specs.declared.redis_error.RedisError.TheVariants as reason
 use Rattle.resp_value.specs.declared.server_error.ServerError.{ServerError}
 use Rattle.resp_value.specs.Data.{Data, nil, error}
@@ -19,6 +20,12 @@ one_at_least count = if count == 0 then 1 else count
 abbrev pub need_of : Shape → ℕ
 need_of Single = 1
 need_of (Pipeline offset count transaction) = offset + one_at_least count
+
+-- the most permits that a message of this shape takes of so many: one for a single command, and for a pipeline one for each
+-- reply that it keeps
+abbrev pub permits_for : Shape → ℕ → ℕ
+permits_for Single limit = 1
+permits_for (Pipeline offset count transaction) limit = most_permits count limit
 
 -- whether it is one command
 abbrev pub is_single : Shape → Bool

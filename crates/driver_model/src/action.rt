@@ -25,6 +25,8 @@ pub enum Owner {
 pub enum WaitKind {
     /// The connect of its link is not answered yet.
     Connect,
+    /// All permits of its connection are held.
+    Permit,
     /// The queue of its link holds its size.
     Place,
     /// It has its place, and so many bytes of its link are unwritten that no message starts.
@@ -36,6 +38,8 @@ pub enum WaitKind {
 pub enum Purpose {
     /// The link is to be connected by then.
     Connect { link: u32 },
+    /// The request is to be answered by then.
+    Response { owner: Owner },
 }
 
 /// What a turn asks of the outside, or tells it.
@@ -57,6 +61,12 @@ pub enum Action {
         timer: u32,
         ms: u64,
         purpose: Purpose,
+    },
+    /// A request takes so many permits of the link's connection.
+    Took {
+        owner: Owner,
+        link: u32,
+        count: u32,
     },
     /// The link ended, or is to be closed.
     Close {
@@ -147,6 +157,11 @@ impl Action {
                 timer: *timer,
                 ms: *ms,
                 purpose: *purpose,
+            }),
+            Action::Took { owner, link, count } => Ok(Action::Took {
+                owner: *owner,
+                link: *link,
+                count: *count,
             }),
             Action::Close { link } => Ok(Action::Close { link: *link }),
             Action::Write { link, bytes } => {

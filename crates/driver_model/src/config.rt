@@ -1,5 +1,6 @@
 ghost use Rattle.std.specs.Prelude.{◌≡◌, Some, None, OnOk, IfOk, IfErr};
 ghost use Rattle.driver_model.specs.Config.{address, has_setup, connect_timeout, buffer_size};
+ghost use Rattle.driver_model.specs.Config.{response_timeout};
 ghost use Rattle.driver_model.specs.Config.{boundary, first_fault, RefusesConfig};
 ghost use Rattle.connection_info.specs.Refusal.{RefusesUrl};
 
@@ -15,6 +16,10 @@ pub struct Config {
     pub url: Bytes,
     /// How many milliseconds the connect may take, `Some(None)` for any number. 1,000 where nothing is given.
     pub connect: Option<Option<u64>>,
+    /// Within how many milliseconds a request is to be answered, `Some(None)` for any number. 500 where nothing is given.
+    pub response: Option<Option<u64>>,
+    /// How many permits the connection has, at least one: a request holds one or more. Any number where nothing is given.
+    pub limit: Option<u32>,
     /// How many messages the queue of the link holds, at least one. 50 where nothing is given.
     pub buffer: Option<u32>,
     /// No message starts while bytes of the link are unwritten, and as many as these. 8,192 where nothing is given.
@@ -33,11 +38,15 @@ impl Config {
     /// A configuration of which nothing but the address is given.
     pub fn new(url: Bytes) -> Config
         ensures { result
-            ≡ record { url = url; connect = None; buffer = None; boundary = None } }
+            ≡ record {
+            url = url; connect = None; response = None; limit = None; buffer = None; boundary = None;
+        } }
     {
         Config {
             url,
             connect: None,
+            response: None,
+            limit: None,
             buffer: None,
             boundary: None,
         }
@@ -51,6 +60,8 @@ impl Config {
         Ok(Config {
             url,
             connect: self.connect,
+            response: self.response,
+            limit: self.limit,
             buffer: self.buffer,
             boundary: self.boundary,
         })
@@ -61,6 +72,13 @@ impl Config {
         ensures { result ≡ connect_timeout self.now }
     {
         self.connect.unwrap_or(Some(1000))
+    }
+
+    /// Within how many milliseconds a request is to be answered, if within any.
+    pub fn response_timeout(&self) -> Option<u64>
+        ensures { result ≡ response_timeout self.now }
+    {
+        self.response.unwrap_or(Some(500))
     }
 
     /// How many messages the queue of the link holds.
@@ -90,8 +108,8 @@ impl Config {
     }
 
     /// The server's address, where nothing of the configuration is refused. Else the name of what is refused first: a URL
-    /// that isn't an address, an address that asks for a setup, which a session doesn't make yet, and a queue that holds
-    /// nothing.
+    /// that isn't an address, an address that asks for a setup, which a session doesn't make yet, a limit of no permits, and
+    /// a queue that holds nothing.
     pub fn info(&self, alloc: Global) -> Result<ConnectionInfo, OpenError>
         ensures ok { IfOk result (λ info. address self.now ≡ Some info) }
         ensures sound { OnOk result (first_fault self.now ≡ None) }
@@ -100,6 +118,9 @@ impl Config {
         let info = self.read_address(alloc)?;
         if needs_setup(&info.redis) {
             return Err(OpenError::Config(ConfigName::Kind));
+        }
+        if self.limit == Some(0) {
+            return Err(OpenError::Config(ConfigName::Limit));
         }
         if self.buffer_size() == 0 {
             return Err(OpenError::Config(ConfigName::Buffer));

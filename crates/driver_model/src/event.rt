@@ -55,6 +55,8 @@ pub enum EventKind {
     WriteFault { link: u32, fault: FaultKind },
     /// The time of a timer is over.
     Fired { timer: u32 },
+    /// From now on a request that is handed in is to be answered within so many milliseconds, if within any.
+    Timeout { ms: Option<u64> },
     /// Everything is closed.
     Shutdown,
 }
@@ -140,6 +142,7 @@ impl EventKind {
                 fault: *fault,
             }),
             EventKind::Fired { timer } => Ok(EventKind::Fired { timer: *timer }),
+            EventKind::Timeout { ms } => Ok(EventKind::Timeout { ms: *ms }),
             EventKind::Shutdown => Ok(EventKind::Shutdown),
         }
     }

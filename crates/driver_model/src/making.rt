@@ -124,6 +124,13 @@ impl Event {
         Event::of(EventKind::Fired { timer })
     }
 
+    /// From now on a request that is handed in is to be answered within so many milliseconds, if within any.
+    pub fn timeout(ms: Option<u64>) -> Event
+        ensures { result ≡ record { word = 0; kind = EventKind.Timeout ms } }
+    {
+        Event::of(EventKind::Timeout { ms })
+    }
+
     /// Everything is closed.
     pub fn shutdown() -> Event
         ensures { result ≡ record { word = 0; kind = EventKind.Shutdown } }

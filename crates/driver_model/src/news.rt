@@ -52,11 +52,10 @@ fn fired(timers: &[Purpose], timer: u32, link: u32) -> LinkNews<'static>
     if place >= timers.len() {
         return LinkNews::Silence;
     }
-    let Purpose::Connect { link: named } = timers[place];
-    if named == link {
-        return LinkNews::Overdue;
+    match timers[place] {
+        Purpose::Connect { link: named } if named == link => LinkNews::Overdue,
+        _ => LinkNews::Silence,
     }
-    LinkNews::Silence
 }
 
 impl EventKind {

@@ -1,22 +1,25 @@
 -- The book of a trace: all that it says, by one fold over its actions. Links and submissions go by their numbers.
-use Rattle.std.specs.Prelude.{ℕ, ◌+◌, ◌-◌, ◌==◌, Bool, true, false, ◌||◌, List, [], ◌∷◌, ◌++◌, Option, Some, None, if◌then◌else◌}
+use Rattle.std.specs.Prelude.{ℕ, ◌+◌, ◌-◌, ◌==◌, Bool, true, false, ◌||◌, List, [], ◌∷◌, ◌++◌, Option, Some, None, slice_get, if◌then◌else◌}
 use Rattle.driver_model.specs.declared.config.Config.{Config}
 use Rattle.driver_model.specs.declared.action.Action.{Action}
 use Rattle.driver_model.specs.declared.action.Action.TheVariants as action
 use Rattle.driver_model.specs.declared.action.Cause.{Cause}
 use Rattle.driver_model.specs.declared.action.Cause.TheVariants as cause
 use Rattle.driver_model.specs.declared.action.Purpose.{Purpose}
+use Rattle.driver_model.specs.declared.action.Purpose.TheVariants as purpose
 use Rattle.driver_model.specs.declared.action.Owner.{Owner}
 use Rattle.driver_model.specs.declared.action.Owner.TheVariants as owner
 use Rattle.driver_model.specs.declared.event.EventKind.{EventKind}
 use Rattle.driver_model.specs.declared.event.EventKind.TheVariants as event
+use Rattle.driver_model.specs.Config.{response_timeout}
 use Rattle.driver_model.specs.News.{news_of}
 use Rattle.legal_trace.specs.Ledger.{Ledger, Start, Line, asks, hears, begins, offers, ends, blank_ledger, noted_each}
-use Rattle.legal_trace.specs.Story.{Story, blank_story, bytes_of, shape, handed_in, left, tried, waits, answered}
+use Rattle.legal_trace.specs.Story.{Story, blank_story, bytes_of, shape, handed_in, left, holds, clocked, fires, tried, waits, answered}
 
 -- the configuration, once the opening has told it; how many links were asked for, and the ledger of each; how many
 -- submissions were handed in, and the story of each; what each timer was asked for, in order; how often the creation was
--- shown, or its failure; whether everything was shut down; how many turns began, and what the turn that runs is the turn of
+-- shown, or its failure; within how many milliseconds a submission that is handed in now is to be answered, if within any;
+-- whether everything was shut down; how many turns began, and what the turn that runs is the turn of
 pub record Book : Type 0 where
   pub config : Option Config
   pub links : ℕ
@@ -25,12 +28,13 @@ pub record Book : Type 0 where
   pub story : ℕ → Story
   pub timers : List Purpose
   pub created : ℕ
+  pub timeout : Option ℕ
   pub shut : Bool
   pub turns : ℕ
   pub running : Option Cause
 
 abbrev pub blank_book : Book
-blank_book = record { config = None; links = 0; link = λ n. blank_ledger; submissions = 0; story = λ n. blank_story; timers = []; created = 0; shut = false; turns = 0; running = None }
+blank_book = record { config = None; links = 0; link = λ n. blank_ledger; submissions = 0; story = λ n. blank_story; timers = []; created = 0; timeout = None; shut = false; turns = 0; running = None }
 
 -- a message as its owner has it: it carries the owner's bytes
 abbrev pub message_of : Book → Owner → Start
@@ -46,6 +50,7 @@ lines_of b n (action.Turn number (cause.Opening config word)) = []
 lines_of b n (action.Turn number (cause.Event e)) = hears number (news_of b.timers n e.kind) ∷ []
 lines_of b n (action.Connect l host port) = if_mine (l == n) asks
 lines_of b n (action.Timer t ms what) = []
+lines_of b n (action.Took who l count) = []
 lines_of b n (action.Close l) = if_mine (l == n) (ends (b.turns - 1))
 lines_of b n (action.Write l bytes) = if_mine (l == n) (offers bytes)
 lines_of b n (action.Start l message who count len) = if_mine (l == n) (begins (message_of b who))
@@ -61,9 +66,15 @@ current b = b.links - 1
 abbrev pub if_own : Bool → Story → Story → Story
 if_own own changed s = if own then changed else s
 
+-- a timer that was asked for this is the one of submission n
+abbrev pub is_clock_of : ℕ → Option Purpose → Bool
+is_clock_of n None = false
+is_clock_of n (Some (purpose.Connect l)) = false
+is_clock_of n (Some (purpose.Response (owner.Try m round))) = m == n
+
 -- what an event is to submission n
 abbrev pub after_event : Book → ℕ → EventKind → Story
-after_event b n (event.Submit what) = if_own (b.submissions == n) (handed_in (b.story n) what b.shut (current b)) (b.story n)
+after_event b n (event.Submit what) = if_own (b.submissions == n) (handed_in (b.story n) what b.shut (current b) b.timeout) (b.story n)
 after_event b n (event.Cancel m) = if_own (m == n) (left (b.story n)) (b.story n)
 after_event b n (event.Connected l) = b.story n
 after_event b n (event.Refused l f) = b.story n
@@ -72,7 +83,8 @@ after_event b n (event.Bytes l piece) = b.story n
 after_event b n (event.Ended l) = b.story n
 after_event b n (event.ReadFault l kind) = b.story n
 after_event b n (event.WriteFault l kind) = b.story n
-after_event b n (event.Fired t) = b.story n
+after_event b n (event.Fired t) = if_own (is_clock_of n (slice_get b.timers t)) (fires (b.story n)) (b.story n)
+after_event b n (event.Timeout ms) = b.story n
 after_event b n event.Shutdown = b.story n
 
 -- what an action is to submission n
@@ -83,7 +95,8 @@ story_after b n (action.Start l message (owner.Try m round) count len) = if_own 
 story_after b n (action.Wait (owner.Try m round) kind) = if_own (m == n) (waits (b.story n) kind) (b.story n)
 story_after b n (action.Outcome m o) = if_own (m == n) (answered (b.story n) o) (b.story n)
 story_after b n (action.Connect l host port) = b.story n
-story_after b n (action.Timer t ms what) = b.story n
+story_after b n (action.Timer t ms what) = if_own (is_clock_of n (Some what)) (clocked (b.story n) t) (b.story n)
+story_after b n (action.Took (owner.Try m round) l count) = if_own (m == n) (holds (b.story n) count) (b.story n)
 story_after b n (action.Close l) = b.story n
 story_after b n (action.Write l bytes) = b.story n
 story_after b n (action.Created e) = b.story n
@@ -97,13 +110,19 @@ abbrev pub shuts : EventKind → Bool
 shuts event.Shutdown = true
 shuts _ = false
 
+-- the time that an event sets
+abbrev pub timeout_after : Option ℕ → EventKind → Option ℕ
+timeout_after old (event.Timeout ms) = ms
+timeout_after old _ = old
+
 -- what a turn's cause is to the counts of a book
 abbrev pub begun : Book → Cause → Book
-begun b (cause.Opening config word) = record b { config = Some config; turns = b.turns + 1; running = Some (cause.Opening config word) }
+begun b (cause.Opening config word) = record b { config = Some config; timeout = response_timeout config; turns = b.turns + 1; running = Some (cause.Opening config word) }
 begun b (cause.Event e) = record b {
   turns = b.turns + 1;
   running = Some (cause.Event e);
   submissions = b.submissions + submitted_by e.kind;
+  timeout = timeout_after b.timeout e.kind;
   shut = b.shut || shuts e.kind;
 }
 
@@ -112,6 +131,7 @@ abbrev pub counted : Book → Action → Book
 counted b (action.Turn number c) = begun b c
 counted b (action.Connect l host port) = record b { links = b.links + 1 }
 counted b (action.Timer t ms what) = record b { timers = b.timers ++ what ∷ [] }
+counted b (action.Took who l count) = b
 counted b (action.Created e) = record b { created = b.created + 1 }
 counted b (action.Close l) = b
 counted b (action.Write l bytes) = b

@@ -23,6 +23,7 @@ is_bad_event b (event.Ended l) = is_no_link b l
 is_bad_event b (event.ReadFault l kind) = is_no_link b l
 is_bad_event b (event.WriteFault l kind) = is_no_link b l
 is_bad_event b (event.Fired t) = nat_le (length b.timers) t
+is_bad_event b (event.Timeout ms) = false
 is_bad_event b event.Shutdown = false
 
 -- more numbers of a sort were given out than there are: a turn after the number 2^32 - 1, or that number itself to a

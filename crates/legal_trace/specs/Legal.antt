@@ -23,7 +23,7 @@ use Rattle.legal_trace.specs.Ledger.{Ledger, Ending, IsOffered, is_over, ending,
 use Rattle.legal_trace.specs.Story.{Try, last_of, is_open, is_unstarted, bytes_of, shape}
 use Rattle.legal_trace.specs.Book.{Book, blank_book, book, entered, current}
 use Rattle.legal_trace.specs.Owed.{owed, is_full}
-use Rattle.legal_trace.specs.Steps.{waits, tells, starts, is_due, next_step}
+use Rattle.legal_trace.specs.Steps.{waits, takes, asks, tells, starts, is_due, next_step}
 use Rattle.legal_trace.specs.Events.{is_bad_event}
 
 -- submission n is handed in, and neither answered nor cancelled
@@ -82,8 +82,8 @@ pub record IsWritten (b : Book) : Type 0 where
   pub moved : IsMoved b
   pub offered : (l : ℕ) → (b.link l).up ≡ true → IsOffered (b.link l)
 
--- the wait that is true of a submission without a message: its link's connect isn't answered; the queue of its link has no
--- place for it; or it has its place, and its link is held back
+-- the wait that is true of a submission without a message: its link's connect isn't answered; all permits are held; the queue
+-- of its link has no place for it; or it has its place, and its link is held back
 abbrev pub WaitHolds : Book → ℕ → WaitKind → Type 0
 WaitHolds b n kind = next_step b n ≡ waits kind
 
@@ -102,7 +102,8 @@ pub record IsWaiting (b : Book) (n : ℕ) : Type 0 where
   pub shown : (b.story n).waiting ≡ Some kind
   pub holds : WaitHolds b n kind
 
--- what holds after each turn: the event has had its effect, all steps that may be made were made, all bytes are offered, and every open submission is started and offered, or truly in the wait that was shown
+-- what holds after each turn: the event has had its effect, all steps that may be made were made, all bytes are offered, and
+-- every open submission is started and offered, or truly in the wait that was shown
 pub record IsSettled (b : Book) : Type 0 where
   pub written : IsWritten b
   pub goes : (n : ℕ) → IsOpen b n → IsStarted b n ⊎ IsWaiting b n
@@ -129,7 +130,7 @@ pub record MayConnect (b : Book) (l : ℕ) (host : List ℕ) (port : ℕ) : Type
   pub address : (host ≡ info.host) × (port ≡ info.port)
 
 -- the opening asks for a timer of the configured time, behind its link, where the connect is bounded
-pub record MayTimer (b : Book) (t ms : ℕ) (what : Purpose) : Type 0 where
+pub record MayTimeConnect (b : Book) (t ms : ℕ) (what : Purpose) : Type 0 where
   pub config : Config
   pub word : ℕ
   pub opens : b.running ≡ Some (cause.Opening config word)
@@ -220,11 +221,33 @@ pub record MayWait (b : Book) (n : ℕ) (kind : WaitKind) : Type 0 where
   pub holds : WaitHolds b n kind
   pub in_order : (m : ℕ) → m < n → IsOpen b m → (b.story m).tries ≡ [] → IsWaiting b m
 
+-- the timer of a submission is asked for, once it holds its permits, in the order of submissions
+pub record MayTime (b : Book) (t ms : ℕ) (what : Purpose) : Type 0 where
+  pub n : ℕ
+  pub applied : IsApplied b
+  pub unstarted : is_unstarted (b.story n) ≡ true
+  pub asks : next_step b n ≡ asks ms
+  pub in_order : IsFirstToMove b n
+  pub next : t ≡ length b.timers
+  pub is_for : what ≡ purpose.Response (owner.Try n 0)
+
+abbrev pub MayTimer : Book → ℕ → ℕ → Purpose → Type 0
+MayTimer b t ms what = MayTimeConnect b t ms what ⊎ MayTime b t ms what
+
+-- a submission takes its permits, in the order of submissions
+pub record MayTake (b : Book) (n l count : ℕ) : Type 0 where
+  pub applied : IsApplied b
+  pub unstarted : is_unstarted (b.story n) ≡ true
+  pub takes : next_step b n ≡ takes count
+  pub in_order : IsFirstToMove b n
+  pub on_its_link : l ≡ (b.story n).link
+
 -- where each action may stand
 abbrev pub MayStand : Book → Action → Type 0
 MayStand b (action.Turn number c) = MayTurn b number c
 MayStand b (action.Connect l host port) = MayConnect b l host port
 MayStand b (action.Timer t ms what) = MayTimer b t ms what
+MayStand b (action.Took (owner.Try n round) l count) = (round ≡ 0) × MayTake b n l count
 MayStand b (action.Close l) = MayClose b l
 MayStand b (action.Write l bytes) = MayWrite b l bytes
 MayStand b (action.Wait (owner.Try n round) kind) = (round ≡ 0) × MayWait b n kind

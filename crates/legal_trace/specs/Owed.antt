@@ -1,5 +1,6 @@
 -- What an open submission is owed: its outcome, with its cause.
 use Rattle.std.specs.Prelude.{ℕ, ◌+◌, ◌==◌, nat_le, Bool, List, length, take, drop, Option, Some, None, if◌then◌else◌}
+use Rattle.redis_error.specs.declared.fault_kind.FaultKind.TheVariants as kind
 use Rattle.redis_error.specs.declared.redis_error.RedisError.{RedisError}
 use Rattle.redis_error.specs.declared.redis_error.RedisError.TheVariants as error
 use Rattle.resp_value.specs.Data.{Data}
@@ -26,7 +27,7 @@ is_full l k = nat_le (reached l (k + 1)) (length l.dealt)
 -- the error that a fault is
 abbrev pub fault_error : LinkFault → RedisError
 fault_error fault.Ended = error.Closed
-fault_error (fault.Io kind) = error.Io kind
+fault_error (fault.Io f) = error.Io f
 fault_error fault.Parse = error.Parse
 
 -- the error of the oldest message that takes items: a single command gets the fault itself, and a pipeline the closed
@@ -66,9 +67,10 @@ owed_to_try b s None = owed_unstarted (b.link s.link).end
 owed_to_try b s (Some t) = owed_to_message (b.link t.link) t.message (shape s)
 
 -- what an open submission is owed, if it is: where it came after the shutdown, the closed connection; without bytes, the
--- empty command; else what its message comes to
+-- empty command; where its timer has fired, that its time is over; else what its message comes to
 abbrev pub owed : Book → ℕ → Option Outcome
 owed b n =
     if (b.story n).late then Some (outcome.Fault error.Closed)
     else if length (bytes_of (b.story n)) == 0 then Some (outcome.Fault error.EmptyCommand)
+    else if (b.story n).overdue then Some (outcome.Fault (error.Io kind.TimedOut))
     else owed_to_try b (b.story n) (last_of (b.story n).tries)

@@ -1,16 +1,20 @@
 -- What a submission does next whose message hasn't started: the wait that is true of it, or its next step.
-use Rattle.std.specs.Prelude.{ℕ, zero, suc, ◌+◌, ◌==◌, nat_lt, nat_le, Bool, true, false, ◌&&◌, Option, None, Some, length, if◌then◌else◌}
+use Rattle.std.specs.Prelude.{ℕ, zero, suc, ◌+◌, ◌-◌, ◌==◌, nat_lt, nat_le, min, Bool, true, false, ◌&&◌, ◌||◌, Option, None, Some, is_none, is_some, length, if◌then◌else◌}
 use Rattle.driver_model.specs.declared.action.WaitKind.{WaitKind}
 use Rattle.driver_model.specs.declared.action.WaitKind.TheVariants as wait
 use Rattle.driver_model.specs.declared.config.Config.{Config}
 use Rattle.driver_model.specs.Config.{buffer_size, boundary}
+use Rattle.driver_model.specs.Shape.{permits_for}
 use Rattle.legal_trace.specs.Ledger.{Ledger, dials, unwritten}
-use Rattle.legal_trace.specs.Story.{Story, is_awaited, is_told, is_unstarted}
+use Rattle.legal_trace.specs.Story.{Story, is_awaited, is_told, is_unstarted, shape}
 use Rattle.legal_trace.specs.Book.{Book}
 
--- it waits; it is answered with Nil at its place; its message starts; nothing, since its link has ended
+-- it waits; it takes so many permits; a timer of so many milliseconds is asked for it; it is answered with Nil at its place;
+-- its message starts; nothing, since its link has ended
 pub data Step : Type 0 where
   waits : WaitKind → Step
+  takes : ℕ → Step
+  asks : ℕ → Step
   tells : Step
   starts : Step
   nothing : Step
@@ -18,6 +22,8 @@ pub data Step : Type 0 where
 -- whether a step is to be made
 abbrev pub is_due : Step → Bool
 is_due (waits kind) = false
+is_due (takes count) = true
+is_due (asks ms) = true
 is_due tells = true
 is_due starts = true
 is_due nothing = false
@@ -39,36 +45,85 @@ is_held bound l = nat_lt 0 (length (unwritten l)) && nat_le bound (length (unwri
 abbrev pub is_held_back : Book → Ledger → Bool
 is_held_back b l = is_held (configured boundary b.config) l
 
--- it stands in line for that link
-abbrev pub is_in_line : ℕ → Story → Bool
-is_in_line l s = (s.link == l) && is_unstarted s
+-- how many permits the connection has, if they are counted
+abbrev pub permits_in : Option Config → Option ℕ
+permits_in None = None
+permits_in (Some config) = config.limit
+
+-- the permits of a connection that a submission of link l holds
+abbrev pub permits_on : ℕ → Story → ℕ
+permits_on l s = if s.link == l then s.permits else 0
+
+-- and those that the first n submissions hold
+abbrev pub permits_held : (ℕ → Story) → ℕ → ℕ → ℕ
+permits_held story l zero = 0
+permits_held story l (suc n) = permits_held story l n + permits_on l (story n)
+
+-- how many of so many permits nobody holds
+abbrev pub free_permits : Book → ℕ → ℕ → ℕ
+free_permits b l limit = limit - permits_held b.story l b.submissions
+
+-- it holds its permits, where they are counted, and its timer was asked for, where it is to be answered within a time
+abbrev pub is_let_in : Option ℕ → Story → Bool
+is_let_in limit s = (is_none limit || nat_lt 0 s.permits) && (is_none s.timeout || is_some s.clock)
+
+-- it stands in line for a place of that link: it was told at one, or may take one
+abbrev pub is_in_line : Option ℕ → ℕ → Story → Bool
+is_in_line limit l s = (s.link == l) && (is_unstarted s && (is_told s || is_let_in limit s))
 
 -- how many of the first n submissions stand in line for link l
-abbrev pub line_before : (ℕ → Story) → ℕ → ℕ → ℕ
-line_before story l zero = 0
-line_before story l (suc n) = line_before story l n + (if is_in_line l (story n) then 1 else 0)
+abbrev pub line_before : Option ℕ → (ℕ → Story) → ℕ → ℕ → ℕ
+line_before limit story l zero = 0
+line_before limit story l (suc n) = line_before limit story l n + (if is_in_line limit l (story n) then 1 else 0)
 
 -- as many stand in line before submission n as the queue of its link holds, so that it has no place
 abbrev pub is_outside : Book → ℕ → Bool
-is_outside b n = nat_le (queue_size b) (line_before b.story (b.story n).link n)
+is_outside b n = nat_le (queue_size b) (line_before (permits_in b.config) b.story (b.story n).link n)
 
 -- a message that has its place starts, or waits while its link is held back
 abbrev pub starts_or_waits : Bool → Step
 starts_or_waits true = waits wait.Room
 starts_or_waits false = starts
 
--- on a link that is up: whether it was told, stands outside, is awaited, and whether the link is held back
-abbrev pub step_up : Bool → Bool → Bool → Bool → Step
-step_up true outside awaited held = starts_or_waits held
-step_up false true awaited held = waits wait.Place
-step_up false false true held = starts_or_waits held
-step_up false false false held = tells
+-- of one that may take a place: whether it stands outside, is awaited, and whether the link is held back
+abbrev pub step_placed : Bool → Bool → Bool → Step
+step_placed true awaited held = waits wait.Place
+step_placed false true held = starts_or_waits held
+step_placed false false held = tells
+
+-- of one that holds its permits: its timer is asked for, if it is to be answered within a time, and then it comes to its place
+abbrev pub step_timed : Option ℕ → Option ℕ → Step → Step
+step_timed None clock next = next
+step_timed (Some ms) None next = asks ms
+step_timed (Some ms) (Some t) next = next
+
+-- it takes permits where some are free, of so many, and else waits for one
+abbrev pub step_taking : ℕ → ℕ → Step
+step_taking zero most = waits wait.Permit
+step_taking (suc free) most = takes (min (suc free) most)
+
+-- of one on a link that is up: where permits are counted it takes some first, if it holds none
+abbrev pub step_holding : Option ℕ → ℕ → (ℕ → Step) → Step → Step
+step_holding None held taking next = next
+step_holding (Some limit) zero taking next = taking limit
+step_holding (Some limit) (suc held) taking next = next
+
+-- whether it was told, and what else it does
+abbrev pub step_open : Bool → Bool → Step → Step
+step_open true held next = starts_or_waits held
+step_open false held next = next
+
+-- the next step of a submission on a link that is up
+abbrev pub step_ready : Book → ℕ → Story → Step
+step_ready b n s =
+    let held = is_held_back b (b.link s.link) in
+    step_open (is_told s) held
+    (step_holding (permits_in b.config) s.permits (λ limit. step_taking (free_permits b s.link limit) (permits_for (shape s) limit))
+    (step_timed s.timeout s.clock (step_placed (is_outside b n) (is_awaited s) held)))
 
 -- the next step of submission n
 abbrev pub next_step : Book → ℕ → Step
 next_step b n =
     let s = b.story n in
     let l = b.link s.link in
-    if dials l then waits wait.Connect
-    else if l.up then step_up (is_told s) (is_outside b n) (is_awaited s) (is_held_back b l)
-    else nothing
+    if dials l then waits wait.Connect else if l.up then step_ready b n s else nothing

@@ -13,19 +13,25 @@ pub record Try : Type 0 where
   pub link : ℕ
   pub message : ℕ
 
--- the submission itself, and whether it came after everything was shut down; the link that it goes to; its messages that
--- started, in order; the wait that was shown and stands; its outcomes; and whether its caller has gone
+-- the submission itself, and whether it came after everything was shut down; the link that it goes to; within how many
+-- milliseconds it is to be answered, if within any; the permits that it holds; the timer that was asked for it, and whether
+-- that fired while it was open; its messages that started, in order; the wait that was shown and stands; its outcomes; and
+-- whether its caller has gone
 pub record Story : Type 0 where
   pub submission : Option Submission
   pub late : Bool
   pub link : ℕ
+  pub timeout : Option ℕ
+  pub permits : ℕ
+  pub clock : Option ℕ
+  pub overdue : Bool
   pub tries : List Try
   pub waiting : Option WaitKind
   pub outcomes : List Outcome
   pub cancelled : Bool
 
 abbrev pub blank_story : Story
-blank_story = record { submission = None; late = false; link = 0; tries = []; waiting = None; outcomes = []; cancelled = false }
+blank_story = record { submission = None; late = false; link = 0; timeout = None; permits = 0; clock = None; overdue = false; tries = []; waiting = None; outcomes = []; cancelled = false }
 
 -- handed in, and neither answered nor cancelled
 abbrev pub is_open : Story → Bool
@@ -70,12 +76,24 @@ abbrev pub is_unstarted : Story → Bool
 is_unstarted s = (length s.tries == 0) && (is_open s || is_told s)
 
 -- it is handed in
-abbrev pub handed_in : Story → Submission → Bool → ℕ → Story
-handed_in s what late link = record s { submission = Some what; late = late; link = link }
+abbrev pub handed_in : Story → Submission → Bool → ℕ → Option ℕ → Story
+handed_in s what late link timeout = record s { submission = Some what; late = late; link = link; timeout = timeout }
 
--- its caller goes: while it is open, this ends it
+-- its caller goes: while it is open, this ends it, and its permits are free
 abbrev pub left : Story → Story
-left s = if is_open s then record s { cancelled = true; waiting = None } else s
+left s = if is_open s then record s { cancelled = true; permits = 0; waiting = None } else s
+
+-- it takes so many permits
+abbrev pub holds : Story → ℕ → Story
+holds s count = record s { permits = count }
+
+-- that timer was asked for it
+abbrev pub clocked : Story → ℕ → Story
+clocked s t = record s { clock = Some t }
+
+-- its timer fires
+abbrev pub fires : Story → Story
+fires s = if is_open s then record s { overdue = true } else s
 
 -- the last of these tries
 abbrev pub last_of : List Try → Option Try
@@ -91,6 +109,6 @@ tried s link message = record s { tries = s.tries ++ record { link = link; messa
 abbrev pub waits : Story → WaitKind → Story
 waits s kind = record s { waiting = Some kind }
 
--- it is answered
+-- it is answered, and its permits are free
 abbrev pub answered : Story → Outcome → Story
-answered s o = record s { outcomes = s.outcomes ++ o ∷ []; waiting = None }
+answered s o = record s { outcomes = s.outcomes ++ o ∷ []; permits = 0; waiting = None }

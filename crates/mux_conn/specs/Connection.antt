@@ -1,5 +1,5 @@
 -- A connection in the middle of a turn, and its life.
-use Rattle.std.specs.Prelude.{ℕ, ◌^◌, nat_le, Bool, true, false, not, List, [], ◌∷◌, ◌++◌, Option, None}
+use Rattle.std.specs.Prelude.{ℕ, ◌^◌, ◌==◌, nat_le, Bool, true, false, not, List, [], ◌∷◌, ◌++◌, Option, None, Some}
 use Rattle.link_core.specs.Link.{LinkState, is_full, first_in}
 use Rattle.mux_conn.specs.declared.act.LinkAct.{LinkAct}
 use Rattle.mux_conn.specs.declared.connection.MultiplexedConnection.{MultiplexedConnection}
@@ -37,11 +37,19 @@ is_ready Dialing = false
 is_ready (Ready link) = true
 is_ready (Ended e) = false
 
--- no request that waits for the connection can be moved
-abbrev pub admits_none : Life → Bool
-admits_none Dialing = true
-admits_none (Ready link) = false
-admits_none (Ended e) = false
+-- no permit is free, of so many, if they are counted
+abbrev pub has_no_permit : Option ℕ → ℕ → Bool
+has_no_permit None free = false
+has_no_permit (Some limit) free = free == 0
+
+-- no request that waits for the connection, or for a permit of it, can be moved
+abbrev pub admits_none_at : Life → Bool → Bool
+admits_none_at Dialing empty = true
+admits_none_at (Ready link) empty = empty
+admits_none_at (Ended e) empty = false
+
+abbrev pub admits_none : MultiplexedConnection → Bool
+admits_none c = admits_none_at c.life (has_no_permit c.limit c.free)
 
 -- it is up, and the queue holds less than its size
 abbrev pub has_room : Life → Bool

@@ -16,10 +16,9 @@ use Rattle.mux_conn.specs.declared.act.LinkAct.TheVariants as act
 use Rattle.mux_conn.specs.declared.connection.MultiplexedConnection.{MultiplexedConnection}
 use Rattle.mux_conn.specs.declared.life.Life.{Life}
 use Rattle.mux_conn.specs.declared.life.Life.TheVariants.{Dialing, Ready, Ended}
-use Rattle.mux_conn.specs.declared.request.Progress.TheVariants as progress
 use Rattle.mux_conn.specs.declared.request.Waiting.{Waiting}
 use Rattle.mux_conn.specs.Connection.{Work, acted, at_life, with_link}
-use Rattle.mux_conn.specs.Requests.{is_open_at, at_progress, answered}
+use Rattle.mux_conn.specs.Requests.{is_open_at, closed, answered}
 
 -- a link without messages, with the queue and the boundary of its connection
 abbrev pub new_link : MultiplexedConnection → LinkState
@@ -54,9 +53,18 @@ ended_by w link f = ended w (faulted (record { link = link; out = [] }) f).out
 abbrev pub opening_failed : Work → RedisError → Work
 opening_failed w e = waiting_failed (acted (at_life w (Ended e)) (act.Created (Some e))) e
 
+-- the numbers of requests that have no place
+abbrev pub numbers_of : List Waiting → List ℕ
+numbers_of [] = []
+numbers_of (q ∷ qs) = q.number ∷ numbers_of qs
+
+-- the waits of all that waited for the connect are to be shown anew
+abbrev pub all_fresh : Work → Work
+all_fresh w = record w { conn = record w.conn { fresh = numbers_of w.conn.waiting } }
+
 -- the first answer to the connect: it succeeded
 abbrev pub connected_at : Work → Life → Work
-connected_at w Dialing = acted (with_link w (new_link w.conn)) (act.Created None)
+connected_at w Dialing = acted (with_link (all_fresh w) (new_link w.conn)) (act.Created None)
 connected_at w (Ready link) = w
 connected_at w (Ended e) = w
 
@@ -136,4 +144,9 @@ cancelled_in (Ended e) p = Ended e
 
 -- the caller of request p has gone: its message leaves the queue, or is answered to nobody
 abbrev pub left : MultiplexedConnection → ℕ → MultiplexedConnection
-left c p = if is_open_at c.requests p then record c { requests = at_progress c.requests p progress.Closed; life = cancelled_in c.life p } else c
+left c p = if is_open_at c.requests p then record (closed c p) { life = cancelled_in c.life p } else c
+
+-- the time in which request p was to be answered is over: where it is open, it is answered with that, and its message leaves
+-- the queue, or is answered to nobody
+abbrev pub timed_out : Work → ℕ → Work
+timed_out w p = answered (if is_open_at w.conn.requests p then at_life w (cancelled_in w.conn.life p) else w) p (outcome.Fault (error.Io kind.TimedOut))

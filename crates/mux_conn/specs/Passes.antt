@@ -1,7 +1,9 @@
 -- Requests are moved as far as they can go.
-use Rattle.std.specs.Prelude.{ℕ, ◌==◌, Bool, true, false, ◌&&◌, not, List, [], ◌∷◌, ◌++◌, Option, Some, None, if◌then◌else◌}
+use Rattle.std.specs.Prelude.{ℕ, ◌-◌, ◌==◌, min, Bool, true, false, ◌&&◌, not, List, [], ◌∷◌, ◌++◌, Option, Some, None, if◌then◌else◌}
 use Rattle.resp_value.specs.declared.value.Value.TheVariants.{Nil}
 use Rattle.driver_model.specs.declared.outcome.Outcome.TheVariants as outcome
+use Rattle.driver_model.specs.declared.outcome.Shape.{Shape}
+use Rattle.driver_model.specs.Shape.{permits_for}
 use Rattle.link_core.specs.declared.message.Queued.{Queued}
 use Rattle.link_core.specs.declared.message.Started.{Started}
 use Rattle.link_core.specs.First.{first_replaced}
@@ -13,7 +15,7 @@ use Rattle.mux_conn.specs.declared.life.Life.TheVariants.{Dialing, Ready, Ended}
 use Rattle.mux_conn.specs.declared.request.Progress.TheVariants as progress
 use Rattle.mux_conn.specs.declared.request.Waiting.{Waiting}
 use Rattle.mux_conn.specs.Connection.{Work, acted, with_link, admits_none, has_room}
-use Rattle.mux_conn.specs.Requests.{name_at, is_waiting_at, is_admitted_at, progressed, answered}
+use Rattle.mux_conn.specs.Requests.{name_at, is_waiting_at, is_admitted_at, with_permits, progressed, answered}
 
 -- each start is shown
 abbrev pub shown_each : Work → List Started → Work
@@ -77,9 +79,35 @@ put_behind w q = still_admitted (noted w q.number) (w.conn.admitted ++ q ∷ [])
 abbrev pub seated_or_behind : Work → Waiting → Work
 seated_or_behind w q = if has_room w.conn.life then seated w q else put_behind w q
 
--- a request that waits for the connection may take a place now; on a link that has ended it is answered
+-- how many permits a message takes, where they are counted: as many as are free, and no more than it may
+abbrev pub permits_taken : Option ℕ → ℕ → Shape → ℕ
+permits_taken None free of_shape = 0
+permits_taken (Some limit) free of_shape = min free (permits_for of_shape limit)
+
+-- a request may take a place, and holds so many permits, which aren't free any more
+abbrev pub holding : MultiplexedConnection → ℕ → ℕ → MultiplexedConnection
+holding c p count = record c { requests = with_permits c.requests p progress.Admitted count; free = c.free - count }
+
+-- where permits are counted, this is shown
+abbrev pub took_shown : Work → ℕ → ℕ → Option ℕ → Work
+took_shown w p count None = w
+took_shown w p count (Some limit) = acted w (act.Took (name_at w.conn.requests p) count)
+
+abbrev pub took : Work → ℕ → ℕ → Work
+took w p count = took_shown (record w { conn = holding w.conn p count }) p count w.conn.limit
+
+-- a timer is asked for, where it is to be answered within a time
+abbrev pub timer_asked : Work → ℕ → Option ℕ → Work
+timer_asked w p None = w
+timer_asked w p (Some ms) = acted w (act.Timer (name_at w.conn.requests p) ms)
+
+-- a request takes its permits, and its timer is asked for
+abbrev pub let_in : Work → Waiting → Work
+let_in w q = timer_asked (took w q.number (permits_taken w.conn.limit w.conn.free q.shape)) q.number q.timeout
+
+-- a request that waits for the connection, or for a permit, is let in; on a link that has ended it is answered
 abbrev pub admitted_at : Work → Waiting → Life → Work
-admitted_at w q (Ready link) = seated_or_behind (progressed w q.number progress.Admitted) q
+admitted_at w q (Ready link) = seated_or_behind (let_in w q) q
 admitted_at w q (Ended e) = answered w q.number (outcome.Fault e)
 admitted_at w q Dialing = w
 
@@ -90,10 +118,10 @@ admitted w q = if is_waiting_at w.conn.requests q.number then admitted_at w q w.
 abbrev pub still_waiting : Work → List Waiting → Work
 still_waiting w qs = record w { conn = record w.conn { waiting = qs } }
 
--- the requests that wait for the connection are moved in order, as long as they can be
+-- the requests that wait for the connection, or for permits, are moved in order, as long as they can be
 abbrev pub admitted_each : Work → List Waiting → Work
 admitted_each w [] = still_waiting w []
-admitted_each w (q ∷ qs) = if admits_none w.conn.life then still_waiting w (q ∷ qs) else admitted_each (admitted w q) qs
+admitted_each w (q ∷ qs) = if admits_none w.conn then still_waiting w (q ∷ qs) else admitted_each (admitted w q) qs
 
 abbrev pub admitted_all : Work → Work
 admitted_all w = admitted_each (still_waiting w []) w.conn.waiting
@@ -122,7 +150,7 @@ seated_alone w p (Some q) = if has_room w.conn.life then moved_up (still_admitte
 -- and where it waits for the connection
 abbrev pub admitted_alone : Work → ℕ → Option Waiting → Work
 admitted_alone w p None = w
-admitted_alone w p (Some q) = if admits_none w.conn.life then w else admitted (still_waiting w (without p w.conn.waiting)) q
+admitted_alone w p (Some q) = if admits_none w.conn then w else admitted (still_waiting w (without p w.conn.waiting)) q
 
 -- request p alone is moved as far as it can go
 abbrev pub advanced : Work → ℕ → Work
@@ -138,4 +166,4 @@ is_there (Some q) = true
 abbrev pub can_advance : MultiplexedConnection → ℕ → Bool
 can_advance c p =
     if is_admitted_at c.requests p then is_there (entry_of p c.admitted) && has_room c.life
-    else is_waiting_at c.requests p && (is_there (entry_of p c.waiting) && not (admits_none c.life))
+    else is_waiting_at c.requests p && (is_there (entry_of p c.waiting) && not (admits_none c))

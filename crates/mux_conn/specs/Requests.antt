@@ -1,5 +1,5 @@
 -- How far requests have come, by their numbers.
-use Rattle.std.specs.Prelude.{ℕ, Bool, true, false, List, [], ◌∷◌, ◌++◌, length, Option, Some, None, slice_get, slice_set, if◌then◌else◌}
+use Rattle.std.specs.Prelude.{ℕ, ◌+◌, Bool, true, false, List, [], ◌∷◌, ◌++◌, length, Option, Some, None, slice_get, slice_set, if◌then◌else◌}
 use Rattle.driver_model.specs.declared.outcome.Outcome.{Outcome}
 use Rattle.driver_model.specs.declared.outcome.Shape.{Shape}
 use Rattle.mux_conn.specs.declared.act.LinkAct.TheVariants as act
@@ -62,24 +62,40 @@ name_or_none (Some r) = r.name
 abbrev pub name_at : List Request → ℕ → ℕ
 name_at requests p = name_or_none (slice_get requests p)
 
--- request p has come so far
+abbrev pub permits_or_none : Option Request → ℕ
+permits_or_none None = 0
+permits_or_none (Some r) = r.permits
+
+-- how many permits request p holds
+abbrev pub permits_at : List Request → ℕ → ℕ
+permits_at requests p = permits_or_none (slice_get requests p)
+
+-- request p has come so far, and holds so many permits
+abbrev pub with_permits : List Request → ℕ → Progress → ℕ → List Request
+with_permits requests p now count = slice_set requests p (record { name = name_at requests p; progress = now; permits = count })
+
+-- request p has come so far, and holds as many permits as before
 abbrev pub at_progress : List Request → ℕ → Progress → List Request
-at_progress requests p now = slice_set requests p (record { name = name_at requests p; progress = now })
+at_progress requests p now = with_permits requests p now (permits_at requests p)
 
 abbrev pub progressed : Work → ℕ → Progress → Work
 progressed w p now = record w { conn = record w.conn { requests = at_progress w.conn.requests p now } }
 
+-- request p is closed, and its permits are free
+abbrev pub closed : MultiplexedConnection → ℕ → MultiplexedConnection
+closed c p = record c { requests = with_permits c.requests p progress.Closed 0; free = c.free + permits_at c.requests p }
+
 -- an open request is answered, and any other stays as it is
 abbrev pub answered : Work → ℕ → Outcome → Work
-answered w p o = if is_open_at w.conn.requests p then acted (progressed w p progress.Closed) (act.Outcome (name_at w.conn.requests p) o) else w
+answered w p o = if is_open_at w.conn.requests p then acted (record w { conn = closed w.conn p }) (act.Outcome (name_at w.conn.requests p) o) else w
 
-abbrev pub waiting_of : ℕ → List ℕ → Shape → Bool → Waiting
-waiting_of p packed shape awaited = record { number = p; packed = packed; shape = shape; awaited = awaited }
+abbrev pub waiting_of : ℕ → List ℕ → Shape → Bool → Option ℕ → Waiting
+waiting_of p packed shape awaited timeout = record { number = p; packed = packed; shape = shape; awaited = awaited; timeout = timeout }
 
 -- one more request, which waits for the connection
-abbrev pub asked : MultiplexedConnection → ℕ → List ℕ → Shape → Bool → MultiplexedConnection
-asked c name packed shape awaited = record c {
-  requests = c.requests ++ record { name = name; progress = progress.Waiting } ∷ [];
-  waiting = c.waiting ++ waiting_of (length c.requests) packed shape awaited ∷ [];
+abbrev pub asked : MultiplexedConnection → ℕ → List ℕ → Shape → Bool → Option ℕ → MultiplexedConnection
+asked c name packed shape awaited timeout = record c {
+  requests = c.requests ++ record { name = name; progress = progress.Waiting; permits = 0 } ∷ [];
+  waiting = c.waiting ++ waiting_of (length c.requests) packed shape awaited timeout ∷ [];
   fresh = c.fresh ++ length c.requests ∷ [];
 }

@@ -1,5 +1,5 @@
 -- What a turn ends with, and a whole turn of a connection.
-use Rattle.std.specs.Prelude.{ℕ, nat_le, Bool, false, ◌&&◌, Option, None, Some, List, [], ◌∷◌, if◌then◌else◌}
+use Rattle.std.specs.Prelude.{ℕ, nat_le, Bool, false, ◌&&◌, Option, None, Some, unwrap_or, List, [], ◌∷◌, if◌then◌else◌}
 use Rattle.driver_model.specs.declared.action.WaitKind.{WaitKind}
 use Rattle.driver_model.specs.declared.action.WaitKind.TheVariants as wait
 use Rattle.driver_model.specs.News.{News}
@@ -15,10 +15,12 @@ use Rattle.mux_conn.specs.Effects.{applied}
 use Rattle.mux_conn.specs.Passes.{passed}
 
 -- a connection whose connect isn't answered, without requests
-abbrev pub dialing : ℕ → ℕ → MultiplexedConnection
-dialing size boundary = record {
+abbrev pub dialing : ℕ → ℕ → Option ℕ → MultiplexedConnection
+dialing size boundary limit = record {
   size = size;
   boundary = boundary;
+  limit = limit;
+  free = unwrap_or limit 0;
   life = Dialing;
   requests = [];
   waiting = [];
@@ -51,9 +53,9 @@ moved_wait c p =
     if is_admitted_at c.requests p then Some wait.Place
     else if is_placed_at c.requests p && is_from (first_queued c.life) p then Some wait.Room else None
 
--- what a request of this turn waits for, if it waits: the connect
+-- what a request waits for that has come into this turn without permits, if it waits: the connect, or a permit
 abbrev pub fresh_wait : MultiplexedConnection → ℕ → Option WaitKind
-fresh_wait c p = if is_waiting_at c.requests p && awaits_connect c.life then Some wait.Connect else None
+fresh_wait c p = if is_waiting_at c.requests p then Some (if awaits_connect c.life then wait.Connect else wait.Permit) else None
 
 abbrev pub wait_shown : Work → ℕ → Option WaitKind → Work
 wait_shown w p None = w
@@ -67,7 +69,7 @@ moved_each_shown w (p ∷ ps) = moved_each_shown (wait_shown w p (moved_wait w.c
 abbrev pub moved_shown : Work → Work
 moved_shown w = moved_each_shown (record w { conn = record w.conn { moved = [] } }) w.conn.moved
 
--- and those of requests that came in it
+-- and those of requests that came in it, or whose connect was answered
 abbrev pub fresh_each_shown : Work → List ℕ → Work
 fresh_each_shown w [] = w
 fresh_each_shown w (p ∷ ps) = fresh_each_shown (wait_shown w p (fresh_wait w.conn p)) ps

@@ -9,6 +9,16 @@ pub enum LinkAct {
     Created {
         error: Option<RedisError>,
     },
+    /// A request takes so many permits.
+    Took {
+        request: u32,
+        count: u32,
+    },
+    /// A timer is to fire after so many milliseconds: by then the request is to be answered.
+    Timer {
+        request: u32,
+        ms: u64,
+    },
     /// The link ended, or is to be closed.
     Close,
     /// All unwritten bytes of the link are offered.

@@ -15,6 +15,9 @@ use std::alloc::{AllocError, Global};
 pub struct MultiplexedConnection {
     pub size: u32,
     pub boundary: u64,
+    /// How many permits there are, if they are counted, and how many of them nobody holds.
+    pub limit: Option<u32>,
+    pub free: u32,
     pub life: Life,
     pub requests: Seq<Request>,
     pub waiting: Queue<Waiting>,
@@ -30,6 +33,8 @@ impl Drop for MultiplexedConnection {
         let MultiplexedConnection {
             size: _,
             boundary: _,
+            limit: _,
+            free: _,
             life,
             requests,
             waiting,

@@ -10,7 +10,7 @@ pub struct Pending {
 /// How far a request has come.
 #[derive(Clone, Copy, PartialEq, Eq)]
 pub enum Progress {
-    /// It waits for its connection.
+    /// It waits for its connection, or for a permit of it.
     Waiting,
     /// It may take a place in the queue, and has none yet.
     Admitted,
@@ -20,11 +20,12 @@ pub enum Progress {
     Closed,
 }
 
-/// A request: the name that its maker gave it, and how far it has come.
+/// A request: the name that its maker gave it, how far it has come, and how many permits it holds.
 #[derive(Clone, Copy, PartialEq, Eq)]
 pub struct Request {
     pub name: u32,
     pub progress: Progress,
+    pub permits: u32,
 }
 
 /// A request that has no place in the queue yet.
@@ -35,4 +36,6 @@ pub struct Waiting {
     pub shape: Shape,
     /// Whether its reply is awaited.
     pub awaited: bool,
+    /// Within how many milliseconds from then on it is to be answered, if within any.
+    pub timeout: Option<u64>,
 }

@@ -9,6 +9,8 @@ use Rattle.shared_session.specs.declared.showing.Done.{Done}
 abbrev pub done_by : LinkAct → List Done
 done_by (act.Outcome n o) = record { submission = n; outcome = o } ∷ []
 done_by (act.Created e) = []
+done_by (act.Took n count) = []
+done_by (act.Timer n ms) = []
 done_by act.Close = []
 done_by (act.Write bytes) = []
 done_by (act.Wait n kind) = []

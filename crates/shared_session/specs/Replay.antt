@@ -12,7 +12,7 @@ use Rattle.driver_model.specs.declared.event.Event.{Event}
 use Rattle.driver_model.specs.declared.event.EventKind.{EventKind}
 use Rattle.driver_model.specs.declared.event.EventKind.TheVariants as event
 use Rattle.driver_model.specs.declared.outcome.Outcome.{Outcome}
-use Rattle.driver_model.specs.Config.{address, connect_timeout, buffer_size, boundary, first_fault}
+use Rattle.driver_model.specs.Config.{address, connect_timeout, response_timeout, buffer_size, boundary, first_fault}
 use Rattle.mux_conn.specs.Turn.{dialing}
 use Rattle.shared_session.specs.declared.core_state.Core.{Core}
 use Rattle.shared_session.specs.Turn.{next_turn, actions_of, is_bad, spends}
@@ -32,9 +32,10 @@ opening_core config word = record {
   turns = 1;
   links = first_link + 1;
   shut = false;
+  timeout = response_timeout config;
   timers = connect_timers (connect_timeout config);
   table = [];
-  single = record { link = first_link; connection = dialing (buffer_size config) (boundary config) };
+  single = record { link = first_link; connection = dialing (buffer_size config) (boundary config) config.limit };
 }
 
 -- the timer of the opening is asked for
@@ -78,6 +79,7 @@ with_room os (event.Cancel n) = os
 with_room os (event.Connected l) = os
 with_room os (event.Refused l f) = os
 with_room os (event.Fired t) = os
+with_room os (event.Timeout ms) = os
 with_room os (event.Wrote l count) = os
 with_room os (event.Bytes l piece) = os
 with_room os (event.Ended l) = os
@@ -92,6 +94,7 @@ told os (action.Turn k (cause.Event e)) = with_room os e.kind
 told os (action.Outcome n o) = slice_set os n (Some o)
 told os (action.Connect l host port) = os
 told os (action.Timer t ms what) = os
+told os (action.Took who l count) = os
 told os (action.Close l) = os
 told os (action.Write l bytes) = os
 told os (action.Wait who kind) = os

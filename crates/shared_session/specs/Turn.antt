@@ -6,6 +6,8 @@ use Rattle.driver_model.specs.declared.action.Action.{Action}
 use Rattle.driver_model.specs.declared.action.Action.TheVariants as action
 use Rattle.driver_model.specs.declared.action.Cause.TheVariants as cause
 use Rattle.driver_model.specs.declared.action.Owner.TheVariants as owner
+use Rattle.driver_model.specs.declared.action.Purpose.{Purpose}
+use Rattle.driver_model.specs.declared.action.Purpose.TheVariants as purpose
 use Rattle.driver_model.specs.declared.event.Event.{Event}
 use Rattle.driver_model.specs.declared.event.EventKind.{EventKind}
 use Rattle.driver_model.specs.declared.event.EventKind.TheVariants as event
@@ -20,7 +22,7 @@ use Rattle.mux_conn.specs.declared.life.Life.TheVariants.{Dialing, Ready, Ended}
 use Rattle.mux_conn.specs.declared.request.Pending.{Pending}
 use Rattle.mux_conn.specs.Connection.{Work, is_spent_in}
 use Rattle.mux_conn.specs.Requests.{asked}
-use Rattle.mux_conn.specs.Effects.{applied, left}
+use Rattle.mux_conn.specs.Effects.{applied, left, timed_out}
 use Rattle.mux_conn.specs.Passes.{passed}
 use Rattle.mux_conn.specs.Turn.{flushed}
 use Rattle.shared_session.specs.declared.core_state.Core.{Core}
@@ -48,6 +50,7 @@ is_shutdown (event.Cancel n) = false
 is_shutdown (event.Connected l) = false
 is_shutdown (event.Refused l f) = false
 is_shutdown (event.Fired t) = false
+is_shutdown (event.Timeout ms) = false
 is_shutdown (event.Wrote l count) = false
 is_shutdown (event.Bytes l piece) = false
 is_shutdown (event.Ended l) = false
@@ -75,7 +78,7 @@ asked_for t what =
     record t {
       core = record t.core {
         table = t.core.table ++ Some (pending (length conn.requests)) ∷ [];
-        single = record t.core.single { connection = asked conn (length t.core.table) (packed_bytes what) (shape_of what) (is_reply_awaited what) };
+        single = record t.core.single { connection = asked conn (length t.core.table) (packed_bytes what) (shape_of what) (is_reply_awaited what) t.core.timeout };
       };
     }
 
@@ -92,13 +95,26 @@ left_by t None = t
 left_by t (Some None) = t
 left_by t (Some (Some p)) = record t { core = record t.core { single = record t.core.single { connection = left t.core.single.connection p.number } } }
 
+-- the time of request p is over
+abbrev pub late_by : Turning → Option (Option Pending) → Turning
+late_by t None = t
+late_by t (Some None) = t
+late_by t (Some (Some p)) = with_work t (timed_out (work_of t) p.number)
+
+-- a timer fires that was asked for this, if it was asked
+abbrev pub fired_by : Turning → Option Purpose → Turning
+fired_by t None = t
+fired_by t (Some (purpose.Connect l)) = t
+fired_by t (Some (purpose.Response (owner.Try n round))) = late_by t (slice_get t.core.table n)
+
 -- what an event is to the submissions
 abbrev pub requested : Turning → EventKind → Turning
 requested t (event.Submit what) = submitted t what
 requested t (event.Cancel n) = left_by t (slice_get t.core.table n)
 requested t (event.Connected l) = t
 requested t (event.Refused l f) = t
-requested t (event.Fired n) = t
+requested t (event.Fired n) = fired_by t (slice_get t.core.timers n)
+requested t (event.Timeout ms) = record t { core = record t.core { timeout = ms } }
 requested t (event.Wrote l count) = t
 requested t (event.Bytes l piece) = t
 requested t (event.Ended l) = t
@@ -122,26 +138,48 @@ moved_on t = with_work t (flushed (passed (work_of t)))
 abbrev pub whole_effect : Turning → EventKind → Turning
 whole_effect t kind = moved_on (effect t kind)
 
+-- what the timer of an act is for, if it asks for one
+abbrev pub timer_of : LinkAct → List Purpose
+timer_of (act.Timer n ms) = purpose.Response (owner.Try n 0) ∷ []
+timer_of (act.Took n count) = []
+timer_of (act.Created e) = []
+timer_of act.Close = []
+timer_of (act.Write bytes) = []
+timer_of (act.Wait n kind) = []
+timer_of (act.Start message n need len) = []
+timer_of (act.Outcome n o) = []
+
+-- what the timers of acts are for, in order
+abbrev pub timers_of : List LinkAct → List Purpose
+timers_of [] = []
+timers_of (a ∷ more) = timer_of a ++ timers_of more
+
+-- the timers of the turn have got their numbers
+abbrev pub timed : Turning → Turning
+timed t = record t { core = record t.core { timers = t.core.timers ++ timers_of t.acts } }
+
 -- a turn
 unfoldable pub next_turn : Core → EventKind → Turning
-next_turn c kind = whole_effect (counted c) kind
+next_turn c kind = timed (whole_effect (counted c) kind)
 
--- what an act of the connection of link l shows
-abbrev pub shown : ℕ → LinkAct → Action
-shown l (act.Created e) = action.Created e
-shown l act.Close = action.Close l
-shown l (act.Write bytes) = action.Write l bytes
-shown l (act.Wait n kind) = action.Wait (owner.Try n 0) kind
-shown l (act.Start message n need len) = action.Start l message (owner.Try n 0) need len
-shown l (act.Outcome n o) = action.Outcome n o
+-- what an act of the connection of link l shows, where so many timers were asked for before
+abbrev pub shown : ℕ → ℕ → LinkAct → Action
+shown l t (act.Created e) = action.Created e
+shown l t (act.Took n count) = action.Took (owner.Try n 0) l count
+shown l t (act.Timer n ms) = action.Timer t ms (purpose.Response (owner.Try n 0))
+shown l t act.Close = action.Close l
+shown l t (act.Write bytes) = action.Write l bytes
+shown l t (act.Wait n kind) = action.Wait (owner.Try n 0) kind
+shown l t (act.Start message n need len) = action.Start l message (owner.Try n 0) need len
+shown l t (act.Outcome n o) = action.Outcome n o
 
-abbrev pub shown_each : ℕ → List LinkAct → List Action
-shown_each l [] = []
-shown_each l (a ∷ more) = shown l a ∷ shown_each l more
+abbrev pub shown_each : ℕ → ℕ → List LinkAct → List Action
+shown_each l t [] = []
+shown_each l t (a ∷ more) = shown l t a ∷ shown_each l (t + length (timer_of a)) more
 
 -- the actions of one turn
 abbrev pub actions_of : Core → Event → List Action
-actions_of c e = action.Turn c.turns (cause.Event e) ∷ shown_each c.single.link (next_turn c e.kind).acts
+actions_of c e = action.Turn c.turns (cause.Event e) ∷ shown_each c.single.link (length c.timers) (next_turn c e.kind).acts
 
 -- a cancel names one of so many submissions
 abbrev pub IsKnown : ℕ → EventKind → Type 0
@@ -170,6 +208,7 @@ is_bad c (event.Cancel n) = nat_le (length c.table) n
 is_bad c (event.Connected l) = is_no_link c l
 is_bad c (event.Refused l f) = is_no_link c l
 is_bad c (event.Fired t) = nat_le (length c.timers) t
+is_bad c (event.Timeout ms) = false
 is_bad c (event.Wrote l count) = is_no_link c l || ((l == c.single.link) && exceeds_offer c.single.connection.life count)
 is_bad c (event.Bytes l piece) = is_no_link c l
 is_bad c (event.Ended l) = is_no_link c l

@@ -33,6 +33,8 @@ pub struct Core {
     pub turns: u64,
     pub links: u32,
     pub shut: bool,
+    /// Within how many milliseconds a request that is handed in now is to be answered, if within any.
+    pub timeout: Option<u64>,
     pub timers: Seq<Purpose>,
     pub table: Seq<Option<Pending>>,
     pub single: Single,
@@ -44,6 +46,7 @@ impl Drop for Core {
             turns: _,
             links: _,
             shut: _,
+            timeout: _,
             timers,
             table,
             single,
