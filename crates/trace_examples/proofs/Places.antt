@@ -51,6 +51,22 @@ pub a_place_and_then_room : IsTraceIn one_at_a_time
 unfolding digits is_bad_event
 a_place_and_then_room word = legal one_at_a_time word _ _ refl refl (at_held 0 1 refl, (refl, (refl, (refl, tt))))
 
+-- and once its owner left
+pub a_place_that_was_left : IsTraceIn one_at_a_time
+    (event.Connected 0 ∷ event.Submit (command 71) ∷ event.Submit (command 72) ∷ event.Submit (command 73) ∷ event.Cancel 1 ∷ [])
+    (λ config word. queue_full config word (command 73))
+    (turn 5 (event.Cancel 1) ∷ action.Wait (owner.Try 2 0) wait.Room ∷ [])
+unfolding digits is_bad_event
+a_place_that_was_left word = legal one_at_a_time word _ _ refl refl (at_held 0 1 refl, (refl, tt))
+
+-- a command that waited for the connect waits for room behind it
+pub the_connect_and_then_room : IsTraceIn one_at_a_time
+    (event.Submit (command 71) ∷ event.Submit (command 72) ∷ event.Connected 0 ∷ [])
+    second_unshown
+    (action.Wait (owner.Try 1 0) wait.Room ∷ [])
+unfolding digits is_bad_event
+the_connect_and_then_room word = legal one_at_a_time word _ _ refl refl (at_held 0 1 refl, (refl, tt))
+
 -- where nobody awaits its reply, it is told once it has a place, and starts later
 pub told_once_it_has_a_place : IsTraceIn one_at_a_time
     (event.Connected 0 ∷ event.Submit (command 71) ∷ event.Submit (command 72) ∷ event.Submit (unawaited 73) ∷ event.Wrote 0 11 ∷ event.Wrote 0 11 ∷ [])

@@ -1,8 +1,8 @@
 //! Traces that can be relied on, and traces that cannot, each with the proof.
 #![tactic(auto)]
 
-ghost use Rattle.std.specs.Prelude.{◌≡◌, ◌≢◌, ◌<◌, ℕ, List, [], ◌∷◌, ◌++◌, Option, Some, None, drop};
-ghost use Rattle.std.specs.Prelude.{pos};
+ghost use Rattle.std.specs.Prelude.{◌≡◌, ◌≢◌, ◌<◌, ℕ, List, [], ◌∷◌, ◌++◌, Option, Some, None};
+ghost use Rattle.std.specs.Prelude.{drop, pos};
 ghost use Rattle.redis_error.specs.declared.fault_kind.FaultKind.{FaultKind};
 ghost use Rattle.redis_error.specs.declared.fault_kind.FaultKind.TheVariants.{Reset, TimedOut};
 ghost use Rattle.redis_error.specs.declared.redis_error.RedisError.{RedisError};
@@ -302,8 +302,9 @@ pub fn their_fronts_stand()
 
 /// Does nothing. Its contract: these are legal too. Where bytes are unwritten and as many as the
 /// boundary, a command waits for room, until it starts or its link fails; where the queue holds its
-/// size, it waits for a place, and has one once an earlier message starts; and a command whose reply
-/// nobody awaits is told once it has its place.
+/// size, it waits for a place, and has one once an earlier message starts, or its owner leaves; a
+/// command that waited for the connect waits for room behind it; and one whose reply nobody awaits
+/// is told once it has its place.
 pub fn these_wait_for_room()
     ensures cut_off_in_wait { IsTraceIn narrow
         (event.Connected 0 ∷ event.Submit (command 71) ∷ event.Submit two_together
@@ -325,6 +326,14 @@ pub fn these_wait_for_room()
         ∷ turn 6 (event.Wrote 0 7) ∷ action.Start 0 1 (owner.Try 1 0) 1 11
         ∷ action.Write 0 (packed_bytes (command 72))
         ∷ action.Wait (owner.Try 2 0) wait.Room ∷ []) }
+    ensures a_place_that_was_left { IsTraceIn one_at_a_time
+        (event.Connected 0 ∷ event.Submit (command 71) ∷ event.Submit (command 72)
+        ∷ event.Submit (command 73) ∷ event.Cancel 1 ∷ [])
+        (λ config word. queue_full config word (command 73))
+        (turn 5 (event.Cancel 1) ∷ action.Wait (owner.Try 2 0) wait.Room ∷ []) }
+    ensures the_connect_and_then_room { IsTraceIn one_at_a_time
+        (event.Submit (command 71) ∷ event.Submit (command 72) ∷ event.Connected 0 ∷ [])
+        second_unshown (action.Wait (owner.Try 1 0) wait.Room ∷ []) }
     ensures told_once_it_has_a_place { IsTraceIn one_at_a_time
         (event.Connected 0 ∷ event.Submit (command 71) ∷ event.Submit (command 72)
         ∷ event.Submit (unawaited 73) ∷ event.Wrote 0 11 ∷ event.Wrote 0 11 ∷ [])
