@@ -137,7 +137,7 @@ packs_closed story requests p closed [] c all = tt
 packs_closed story requests p closed (w ∷ ws) c all = (of_closed story requests p w.number closed w.packed w.shape w.awaited c all.0, packs_closed story requests p closed ws c all.1)
 
 -- another message of the queue
-queued_other : (table : List (Option Pending)) (story : ℕ → Story) (requests : List Request) (p : ℕ) (closed : ℕ → Story) (q : Queued) → TiedNames table requests → p < length requests → q.id < length requests → p ≢ q.id
+pub queued_other : (table : List (Option Pending)) (story : ℕ → Story) (requests : List Request) (p : ℕ) (closed : ℕ → Story) (q : Queued) → TiedNames table requests → p < length requests → q.id < length requests → p ≢ q.id
     → ((n : ℕ) → Closes (story n) (closed n)) → IsQueued story requests q → IsQueued (with_closed story requests p closed) (at_progress requests p progress.Closed) q
 queued_other table story requests p closed q names l m other c h = record {
   is_of = of_closed story requests p q.id closed q.packed q.shape q.awaited c h.is_of;
