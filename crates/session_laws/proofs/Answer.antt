@@ -17,7 +17,7 @@ use Rattle.mux_conn.specs.declared.request.Pending.{Pending}
 use Rattle.mux_conn.specs.declared.request.Progress.TheVariants as progress
 use Rattle.mux_conn.specs.declared.request.Request.{Request}
 use Rattle.mux_conn.specs.declared.request.Waiting.{Waiting}
-use Rattle.mux_conn.specs.Requests.{is_open as is_open_progress, is_open_at, name_at, at_progress}
+use Rattle.mux_conn.specs.Requests.{is_open as is_open_progress, is_placed, is_open_at, name_at, at_progress}
 use Rattle.legal_trace.specs.Ledger.{End, ending_up, ending_asked, Ledger, is_over, ending}
 use Rattle.legal_trace.specs.Story.{Story, Try, last_of, is_no_error, is_open, packed_in, shape_in, bytes_of, answered}
 use Rattle.legal_trace.specs.Book.{Book, entered}
@@ -140,9 +140,9 @@ entries_answered requests p [] apart all = tt
 entries_answered requests p (e ∷ es) apart all = (
   record {
     below = subst (λ n. e.id < n) (sym (length_still requests p progress.Closed)) all.0.below;
-    open_at = λ t.
+    placed_at = λ t.
         let other : p ≢ e.id = λ same. apart (in_left p (if e.awaited then e.id ∷ [] else []) (wanted es) (if_true (IsIn p) e.awaited (e.id ∷ []) [] t (inl (sym same)))) in
-        there_other is_open_progress requests p e.id progress.Closed other ∙ all.0.open_at t;
+        there_other is_placed requests p e.id progress.Closed other ∙ all.0.placed_at t;
   },
   entries_answered requests p es (λ i. apart (in_right p (if e.awaited then e.id ∷ [] else []) (wanted es) i)) all.1,
 )

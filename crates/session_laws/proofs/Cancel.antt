@@ -22,7 +22,7 @@ use Rattle.mux_conn.specs.declared.request.Pending.{Pending}
 use Rattle.mux_conn.specs.declared.request.Progress.TheVariants as progress
 use Rattle.mux_conn.specs.declared.request.Request.{Request}
 use Rattle.mux_conn.specs.declared.request.Waiting.{Waiting}
-use Rattle.mux_conn.specs.Requests.{is_open as is_open_progress, is_open_at, name_at, at_progress}
+use Rattle.mux_conn.specs.Requests.{is_open as is_open_progress, is_placed, is_open_at, name_at, at_progress}
 use Rattle.mux_conn.specs.Effects.{cancelled_in}
 use Rattle.shared_session.specs.declared.core_state.Core.{Core}
 use Rattle.shared_session.specs.Turn.{with_work, heard, left_by, effect, counted, is_bad}
@@ -73,18 +73,18 @@ silenced_wanted (e ∷ es) p q other i =
     own true same j = elim j [ inl is ↦ other (sym same ∙ is) | inr k ↦ k ]
     own false same j = j
 
--- and open
+-- and have their places
 silenced_entries : (requests : List Request) (p lo hi : ℕ) (row : List Entry) (ys : List ℕ) → Rising lo (row_ids row ++ ys) hi → AllByRecursion (IsEntry requests) row → AllByRecursion (IsEntry (at_progress requests p progress.Closed)) (silenced row p)
 silenced_entries requests p lo hi [] ys r all = tt
 silenced_entries requests p lo hi (e ∷ es) ys r all =
     let long = sym (length_still requests p progress.Closed) in
     chosen (λ (x : List Entry). AllByRecursion (IsEntry (at_progress requests p progress.Closed)) x) (is_entry_of p e) (silent e ∷ es) (e ∷ silenced es p)
     (λ t. (
-      record { below = subst (λ n. e.id < n) long all.0.below; open_at = λ z. cc },
+      record { below = subst (λ n. e.id < n) long all.0.below; placed_at = λ z. cc },
       entries_answered requests p es (λ i. let same = eq_from e.id p t in let k = rising_in (suc e.id) (row_ids es ++ ys) hi p r.1 (in_left p (row_ids es) ys (wanted_in p es i)) in omega (arith, k.0)) all.1,
     ))
     (λ f. (
-      record { below = subst (λ n. e.id < n) long all.0.below; open_at = λ z. there_other is_open_progress requests p e.id progress.Closed (λ same. ne_from e.id p f (sym same)) ∙ all.0.open_at z },
+      record { below = subst (λ n. e.id < n) long all.0.below; placed_at = λ z. there_other is_placed requests p e.id progress.Closed (λ same. ne_from e.id p f (sym same)) ∙ all.0.placed_at z },
       silenced_entries requests p (suc e.id) hi es ys r.1 all.1,
     ))
 

@@ -163,7 +163,7 @@ packs_longer table story after requests more (w ∷ ws) names same longer within
 pub entries_longer : (requests more : List Request) (row : List Entry) → IsLonger requests more → AllByRecursion (IsEntry requests) row → AllByRecursion (IsEntry more) row
 entries_longer requests more [] longer all = tt
 entries_longer requests more (e ∷ es) longer all = (
-  record { below = (let l = all.0.below in let m = longer.long in omega arith); open_at = λ t. there_longer is_open_progress requests more e.id longer all.0.below ∙ all.0.open_at t },
+  record { below = (let l = all.0.below in let m = longer.long in omega arith); placed_at = λ t. there_longer is_placed requests more e.id longer all.0.below ∙ all.0.placed_at t },
   entries_longer requests more es longer all.1,
 )
 

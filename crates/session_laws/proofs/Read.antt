@@ -53,7 +53,7 @@ item_entries requests d item [] all whole = whole
 item_entries requests d item (e ∷ es) all whole =
     let f = with_item e item in
     chosen (λ (x : Dealing). AllByRecursion (IsEntry requests) x.row) (nat_lt (length f.got) (need_of e.shape)) _ _
-    (λ t. (record { below = all.0.below; open_at = all.0.open_at }, all.1))
+    (λ t. (record { below = all.0.below; placed_at = all.0.placed_at }, all.1))
     (λ n. all.1)
 
 -- many items too
