@@ -11,6 +11,7 @@ pub mod Answer
 pub mod Kept
 pub mod Start
 pub mod Moves
+pub mod Ahead
 pub mod Going
 pub mod Starts
 pub mod Place
