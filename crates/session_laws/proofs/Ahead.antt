@@ -2,9 +2,9 @@
 use Rattle.std.proofs.Common.{List, [], ap, arith, false, inl, inr, length, refl, subst, sym, true, zero, suc, ℕ, ◌+◌, ◌++◌, ◌<◌, ◌≤◌, ◌∙◌, ◌∷◌, ◌≡◌, ◌≢◌, ◌⊎◌}
 use Rattle.std.specs.List.{AllByRecursion}
 use Rattle.std.specs.Prelude.{Bool, Option, None, Some, is_some, slice_get, if◌then◌else◌, not, nat_le, nat_lt, ◌==◌, ◌&&◌}
-use Rattle.containers.proofs.Choices.{by_test, both_left, both_right, eq_from, eq_test, le_from, le_test, left_if, lt_from, ne_from, not_both, not_le_from, not_le_test, not_lt_from, taken_if}
+use Rattle.containers.proofs.Choices.{by_test, both_right, eq_from, eq_test, le_from, le_test, left_if, ne_from, not_le_from, not_le_test, taken_if}
 use Rattle.driver_model.specs.declared.action.WaitKind.TheVariants as wait
-use Rattle.link_core.specs.Link.{LinkState, holds_back, is_full}
+use Rattle.link_core.specs.Link.{holds_back, is_full}
 use Rattle.link_core.specs.declared.message.Queued.{Queued}
 use Rattle.link_laws.proofs.TiedLink.{unwritten_is}
 use Rattle.mux_conn.specs.Connection.{is_ready}
@@ -17,11 +17,11 @@ use Rattle.mux_conn.specs.declared.request.Progress.TheVariants as progress
 use Rattle.mux_conn.specs.declared.request.Request.{Request}
 use Rattle.legal_trace.specs.Book.{Book}
 use Rattle.legal_trace.specs.Ledger.{Ledger, dials, is_over}
-use Rattle.legal_trace.specs.Steps.{Step, is_held, is_held_back, is_in_line, is_outside, line_before, next_step, nothing, starts_or_waits, step_up, tells, waits}
-use Rattle.legal_trace.specs.Story.{Story, is_awaited, is_open, is_told, is_unstarted}
+use Rattle.legal_trace.specs.Steps.{is_held, is_held_back, is_in_line, is_outside, line_before, next_step, nothing, starts_or_waits, step_up, tells, waits}
+use Rattle.legal_trace.specs.Story.{Story, is_awaited, is_told, is_unstarted}
 use Rattle.session_laws.proofs.Behind.{nil_told, open_untold}
 use Rattle.session_laws.proofs.InLine.{first_is_least, kept_ids}
-use Rattle.session_laws.proofs.Moves.{IsLater, later_of, open_unstarted, told_unstarted, unstarted_alive}
+use Rattle.session_laws.proofs.Moves.{IsLater, later_of, open_unstarted, told_unstarted}
 use Rattle.session_laws.proofs.Names.{earlier_name, get_some, name_of_some, names_rise, open_within}
 use Rattle.session_laws.proofs.Numbers.{IsIn, Rising, in_left, in_right, rising_apart, rising_in, rising_right, rising_within}
 use Rattle.session_laws.proofs.Owes.{later_unstarted, request_story}
@@ -134,9 +134,10 @@ names_rising : (table : List (Option Pending)) (requests : List Request) (lo low
     → Rising low (names_of requests ps) (name_at requests q)
 names_rising table requests lo low [] q h l bound rises = bound q rises (omega arith)
 names_rising table requests lo low (p ∷ ps) q h l bound rises =
-    let within = rising_within (suc p) ps q rises.1 in
-    (bound p rises.0 (omega arith),
-    names_rising table requests (suc p) (suc (name_at requests p)) ps q h l (λ r after upto. names_rise table requests p r h (omega arith) (omega arith)) rises.1)
+    let within = rising_within (suc p) ps q rises.1 in (
+      bound p rises.0 (omega arith),
+      names_rising table requests (suc p) (suc (name_at requests p)) ps q h l (λ r after upto. names_rise table requests p r h (omega arith) (omega arith)) rises.1,
+    )
 
 -- what stands before one of those behind rises up to it
 rising_before : (lo : ℕ) (xs ys : List ℕ) (hi n : ℕ) → Rising lo (xs ++ ys) hi → IsIn n ys → Rising lo xs n

@@ -34,11 +34,11 @@ no_outcome (o ∷ os) e = absurd (let n = eq_from (length (o ∷ os)) 0 e in ome
 pub open_unanswered : (s : Story) → is_open s ≡ true → s.outcomes ≡ []
 open_unanswered s o = no_outcome s.outcomes (both_right (is_some s.submission) (length s.outcomes == 0) (both_left (is_some s.submission && (length s.outcomes == 0)) (not s.cancelled) o))
 
--- who was told has one outcome, which is no error, and nobody awaits its reply
+-- nobody awaits the reply of who was told
 pub told_unawaited : (s : Story) → is_told s ≡ true → is_awaited s ≡ false
 told_unawaited s e = by_test (is_awaited s) _ (λ t. absurd (not_both (not (is_awaited s)) (ap not t) (both_left (not (is_awaited s)) (is_no_error s.outcomes) e))) (λ f. f)
 
--- a story with these outcomes was told where nobody awaits its reply and they are one, and no error
+-- who has one outcome, which is no error
 pub told_answered : (s : Story) → is_told s ≡ true → is_no_error s.outcomes ≡ true
 told_answered s e = both_right (not (is_awaited s)) (is_no_error s.outcomes) e
 

@@ -1,6 +1,6 @@
 -- A session whose event has had its own effect, while requests are moved.
 use Rattle.std.proofs.Common.{List, None, [], ap, arith, false, inl, inr, length, refl, subst, sym, true, ℕ, ◌++◌, ◌<◌, ◌∙◌, ◌∷◌, ◌≡◌, ◌≢◌, ◌⊎◌}
-use Rattle.std.specs.Prelude.{if◌then◌else◌, is_some, not, ◌&&◌, ◌==◌}
+use Rattle.std.specs.Prelude.{if◌then◌else◌, ◌==◌}
 use Rattle.containers.proofs.Choices.{chosen, left_if, not_both}
 use Rattle.redis_error.specs.declared.redis_error.RedisError.{RedisError}
 use Rattle.driver_model.specs.declared.action.Action.{Action}
@@ -24,7 +24,7 @@ use Rattle.session_laws.proofs.Names.{earlier_name}
 use Rattle.session_laws.proofs.Numbers.{IsIn, Rising, in_left, in_right, rising_in, rising_right}
 use Rattle.session_laws.proofs.Owes.{created_is, none_open, none_owed}
 use Rattle.session_laws.proofs.States.{IsFit}
-use Rattle.session_laws.proofs.Tied.{Inner, Sound, Tied, TiedLife, link_in, queue_ids, waiting_ids, has_ended}
+use Rattle.session_laws.proofs.Tied.{Inner, Sound, Tied, TiedLife, link_in, queue_ids, has_ended}
 
 -- nothing must end
 pub record IsGoing (trace : List Action) (t : Inner) : Type 0 where

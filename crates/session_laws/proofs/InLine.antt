@@ -30,7 +30,7 @@ abbrev pub IsInLine : List Request → LinkState → List Waiting → List Waiti
 IsInLine requests link admitted waiting pending = Rising 0 (pending ++ line_of link admitted waiting) (length requests)
 
 -- what a choice of one has
-chosen_in : (b : Bool) (n m : ℕ) → IsIn n (if b then m ∷ [] else []) → m ≡ n
+pub chosen_in : (b : Bool) (n m : ℕ) → IsIn n (if b then m ∷ [] else []) → m ≡ n
 chosen_in true n m i = elim i [ inl e ↦ e | inr k ↦ absurd k ]
 chosen_in false n m i = absurd i
 

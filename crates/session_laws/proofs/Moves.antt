@@ -2,7 +2,7 @@
 use Rattle.std.proofs.Common.{List, [], ap, false, inl, inr, length, refl, subst, sym, true, ℕ, ◌++◌, ◌<◌, ◌∙◌, ◌∷◌, ◌≡◌, ◌≢◌, ◌⊎◌}
 use Rattle.std.proofs.lemmas.List.{nil_from_length}
 use Rattle.std.specs.Prelude.{Bool, ◌==◌, ◌&&◌, ◌||◌}
-use Rattle.containers.proofs.Choices.{both_left, both_right, by_test, eq_from, not_both}
+use Rattle.containers.proofs.Choices.{both_left, both_right, eq_from}
 use Rattle.link_laws.proofs.Started.{row_open}
 use Rattle.link_laws.specs.Settles.{StandsAs, wanted}
 use Rattle.mux_conn.specs.Requests.{is_open_at, name_at}
@@ -10,7 +10,7 @@ use Rattle.legal_trace.specs.Book.{Book}
 use Rattle.legal_trace.specs.Story.{Story, Try, is_open, is_told, is_unstarted}
 use Rattle.session_laws.proofs.InLine.{kept_ids, line_of, open_in_line, row_ids, wanted_in}
 use Rattle.session_laws.proofs.Names.{open_within}
-use Rattle.session_laws.proofs.Numbers.{IsIn, in_either, in_left, in_right}
+use Rattle.session_laws.proofs.Numbers.{IsIn, in_either}
 use Rattle.session_laws.proofs.Owes.{lives, open_request, stands_started, wanted_entry}
 use Rattle.session_laws.proofs.Tied.{Inner, Tied, link_in, owner_of, queue_ids, has_ended}
 

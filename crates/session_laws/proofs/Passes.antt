@@ -1,7 +1,7 @@
 -- Requests are moved on a link that is up: each takes its place where the queue has room, and messages start.
 use Rattle.std.proofs.Common.{Bool, List, [], ap, append_assoc, arith, false, inl, inr, length, refl, slice_set, subst, suc, sym, true, zero, ℕ, ◌++◌, ◌∙◌, ◌∷◌, ◌≡◌, ◌⊎◌}
 use Rattle.std.proofs.lemmas.List.{append-nil, length_push}
-use Rattle.std.specs.Prelude.{if◌then◌else◌, not}
+use Rattle.std.specs.Prelude.{not}
 use Rattle.containers.proofs.Choices.{chosen, if_false, if_true, not_both, not_le_from}
 use Rattle.resp_value.specs.declared.value.Value.TheVariants.{Nil}
 use Rattle.driver_model.specs.declared.action.Action.{Action}
@@ -11,7 +11,7 @@ use Rattle.link_core.specs.Link.{LinkState, Starting, enqueued, holds_back, is_f
 use Rattle.link_core.specs.declared.message.Queued.{Queued}
 use Rattle.link_laws.specs.Starts.{starting}
 use Rattle.mux_conn.specs.Connection.{Work, acted, admits_none, has_room, with_link}
-use Rattle.mux_conn.specs.Passes.{admitted, admitted_at, admitted_each, message_of, moved_up, moved_up_each, noted, placed_at, put_behind, seated, seated_or_behind, started, started_at, still_admitted, still_waiting, told_at_place}
+use Rattle.mux_conn.specs.Passes.{admitted, admitted_at, admitted_each, message_of, moved_up, moved_up_each, noted, placed_at, put_behind, seated, started, started_at, still_admitted, told_at_place}
 use Rattle.mux_conn.specs.Requests.{answered, at_progress, is_admitted_at, is_open as is_open_progress, is_open_at, is_waiting_at, name_at, progressed}
 use Rattle.mux_conn.specs.declared.act.LinkAct.{LinkAct}
 use Rattle.mux_conn.specs.declared.act.LinkAct.TheVariants as act

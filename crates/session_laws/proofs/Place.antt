@@ -14,7 +14,7 @@ use Rattle.link_core.specs.declared.message.Queued.{Queued}
 use Rattle.link_laws.proofs.TiedLink.{TiedLink, all_push, enqueued_tied}
 use Rattle.link_laws.specs.Settles.{awaited_ids, wanted}
 use Rattle.mux_conn.specs.Passes.{message_of}
-use Rattle.mux_conn.specs.Requests.{at_progress, if_there, is_admitted, is_admitted_at, is_open as is_open_progress, is_open_at, is_placed, is_placed_at, is_waiting, is_waiting_at, name_at}
+use Rattle.mux_conn.specs.Requests.{at_progress, if_there, is_admitted, is_admitted_at, is_open as is_open_progress, is_open_at, is_placed, is_waiting, is_waiting_at, name_at}
 use Rattle.mux_conn.specs.declared.life.Life.{Life}
 use Rattle.mux_conn.specs.declared.life.Life.TheVariants.{Ready}
 use Rattle.mux_conn.specs.declared.request.Pending.{Pending}
@@ -22,7 +22,7 @@ use Rattle.mux_conn.specs.declared.request.Progress.{Progress}
 use Rattle.mux_conn.specs.declared.request.Progress.TheVariants as progress
 use Rattle.mux_conn.specs.declared.request.Request.{Request}
 use Rattle.mux_conn.specs.declared.request.Waiting.{Waiting}
-use Rattle.legal_trace.specs.Book.{Book, entered, if_own}
+use Rattle.legal_trace.specs.Book.{Book, entered}
 use Rattle.legal_trace.specs.Ledger.{Ledger}
 use Rattle.legal_trace.specs.Story.{Story, answered, is_told, shape}
 use Rattle.session_laws.proofs.Answer.{answer_closes, lines_answered}

@@ -232,9 +232,10 @@ waits_started b t link q qs k l h =
     waits_up b.story (tried_at n k l b.story) t.requests (with_queue link (q ∷ qs)) (with_queue (begun link q) qs) t.fresh t.moved (tried_loses n k l b.story)
     (λ p a. other p (open_within t.requests p (admitted_open t.requests p a).0) (λ same. queued_apart b was q h within h.lines.queued.0 (subst (λ m. is_admitted_at t.requests m ≡ true) (sym same) a)))
     (λ p i.
-    let j = awaited_in p qs i in
-    (in_right p (if q.awaited then q.id ∷ [] else []) (awaited_ids qs) i,
-    other p (queue_within b was p h (inr j)) (λ same. first_apart b.story t.requests link t.waiting t.admitted t.started q qs h.lines (subst (λ m. IsIn m (queue_ids qs)) (sym same) j))))
+    let j = awaited_in p qs i in (
+      in_right p (if q.awaited then q.id ∷ [] else []) (awaited_ids qs) i,
+      other p (queue_within b was p h (inr j)) (λ same. first_apart b.story t.requests link t.waiting t.admitted t.started q qs h.lines (subst (λ m. IsIn m (queue_ids qs)) (sym same) j)),
+    ))
     h.waits
 
 -- who was told and has not started is in the queue still
