@@ -14,7 +14,7 @@ use Rattle.link_core.specs.declared.message.Queued.{Queued}
 use Rattle.link_laws.proofs.TiedLink.{TiedLink, all_push, enqueued_tied}
 use Rattle.link_laws.specs.Settles.{awaited_ids, wanted}
 use Rattle.mux_conn.specs.Passes.{message_of}
-use Rattle.mux_conn.specs.Requests.{at_progress, if_there, is_admitted, is_admitted_at, is_open as is_open_progress, is_open_at, is_placed, is_waiting, is_waiting_at, name_at}
+use Rattle.mux_conn.specs.Requests.{at_progress, if_there, is_admitted, is_admitted_at, is_open as is_open_progress, is_open_at, is_placed, is_placed_at, is_waiting, is_waiting_at, name_at}
 use Rattle.mux_conn.specs.declared.life.Life.{Life}
 use Rattle.mux_conn.specs.declared.life.Life.TheVariants.{Ready}
 use Rattle.mux_conn.specs.declared.request.Pending.{Pending}
@@ -36,7 +36,21 @@ use Rattle.session_laws.proofs.Owes.{in_line, request_story}
 use Rattle.session_laws.proofs.Start.{admitted_open, not_dialing, on_link}
 use Rattle.session_laws.proofs.Tied.{AreQueued, Inner, IsEntry, IsKept, IsNew, IsOf, IsPacked, IsQueued, Tied, TiedLines, TiedStory, TiedTries, TiedWaits, owner_of, owners_each, queue_ids, relined, shown_wait, waiting_ids}
 
--- a request that still waits for the connection is open
+-- a request that still waits for the connection has no place
+waiting_unplaced : (requests : List Request) (p : ℕ) → is_waiting_at requests p ≡ true → is_placed_at requests p ≡ false
+waiting_unplaced requests p w = by_request (slice_get requests p) w
+  where
+    by_progress : (r : Progress) → is_waiting r ≡ true → is_placed r ≡ false
+    by_progress progress.Waiting e = refl
+    by_progress progress.Admitted e = cc
+    by_progress progress.Placed e = cc
+    by_progress progress.Closed e = cc
+
+    by_request : (r : Option Request) → if_there is_waiting r ≡ true → if_there is_placed r ≡ false
+    by_request None e = cc
+    by_request (Some r) e = by_progress r.progress e
+
+-- and is open
 pub waiting_open : (requests : List Request) (p : ℕ) → is_waiting_at requests p ≡ true → is_open_at requests p ≡ true
 waiting_open requests p w = open_then (slice_get requests p) w
   where
@@ -136,12 +150,22 @@ tries_further l story requests link p now started h = record {
   untried = λ m r i out. let w = name_was requests p now m r i in ap (λ n. (story n).tries) (sym w.2) ∙ h.untried m w.0 w.1 out;
 }
 
+-- those that have their place have it still, where this one gets it, or has none
+placed_further : (requests : List Request) (p m : ℕ) (now : Progress) → p < length requests → (is_placed now ≡ true) ⊎ (is_placed_at requests p ≡ false) → is_placed_at requests m ≡ true → is_placed_at (at_progress requests p now) m ≡ true
+placed_further requests p m now l seat e =
+    by_test (p == m) _
+    (λ t. elim seat [
+      | inl on ↦ subst (λ k. is_placed_at (at_progress requests p now) k ≡ true) (eq_from p m t) (there_same is_placed requests p now l ∙ on)
+      | inr off ↦ absurd (not_both (is_placed_at requests m) (ap (is_placed_at requests) (sym (eq_from p m t)) ∙ off) e)
+    ])
+    (λ f. there_other is_placed requests p m now (ne_from p m f) ∙ e)
+
 -- the entries of the row
-entries_further : (requests : List Request) (p : ℕ) (now : Progress) (row : List Entry) → is_open_progress now ≡ true → is_open_at requests p ≡ true → AllByRecursion (IsEntry requests) row → AllByRecursion (IsEntry (at_progress requests p now)) row
-entries_further requests p now [] on o all = tt
-entries_further requests p now (e ∷ es) on o all = (
-  record { below = subst (λ n. e.id < n) (sym (length_still requests p now)) all.0.below; open_at = λ t. open_further requests p e.id now on o ∙ all.0.open_at t },
-  entries_further requests p now es on o all.1,
+entries_further : (requests : List Request) (p : ℕ) (now : Progress) (row : List Entry) → p < length requests → (is_placed now ≡ true) ⊎ (is_placed_at requests p ≡ false) → AllByRecursion (IsEntry requests) row → AllByRecursion (IsEntry (at_progress requests p now)) row
+entries_further requests p now [] l seat all = tt
+entries_further requests p now (e ∷ es) l seat all = (
+  record { below = subst (λ n. e.id < n) (sym (length_still requests p now)) all.0.below; placed_at = λ t. placed_further requests p e.id now l seat (all.0.placed_at t) },
+  entries_further requests p now es l seat all.1,
 )
 
 -- the messages of the queue, which are others
@@ -293,12 +317,12 @@ line_next requests link moved was_waiting was_admitted started q waiting admitte
     subst (λ ns. Rising 0 (started ++ ns) (length requests)) same h
 
 -- it comes further
-lines_further : (story : ℕ → Story) (requests : List Request) (link : LinkState) (waiting admitted : List Waiting) (p : ℕ) (now : Progress) (started : List ℕ) → is_open_progress now ≡ true → is_open_at requests p ≡ true → (IsIn p (queue_ids link.queue) → ⊥)
+lines_further : (story : ℕ → Story) (requests : List Request) (link : LinkState) (waiting admitted : List Waiting) (p : ℕ) (now : Progress) (started : List ℕ) → is_open_progress now ≡ true → is_placed now ≡ true → is_open_at requests p ≡ true → (IsIn p (queue_ids link.queue) → ⊥)
     → TiedLines story requests link waiting admitted (p ∷ []) started → TiedLines story (at_progress requests p now) link waiting admitted (p ∷ []) started
-lines_further story requests link waiting admitted p now started on o apart h = record {
+lines_further story requests link waiting admitted p now started on seat o apart h = record {
   line = subst (Rising 0 (started ++ (queue_ids link.queue ++ kept_ids admitted waiting))) (sym (length_still requests p now)) h.line;
   queued = queued_further story requests p now link.queue apart h.queued;
-  entries = entries_further requests p now link.row on o h.entries;
+  entries = entries_further requests p now link.row (open_within requests p o) (inl seat) h.entries;
   packs = packs_further story requests p now waiting h.packs;
   packed_in = packs_further story requests p now admitted h.packed_in;
   there = λ m e. elim (h.there m (sym (open_further requests p m now on o) ∙ e)) [
@@ -436,7 +460,7 @@ place_tied b t link q waiting admitted yes_awaited next h =
       lines = lines_enqueued b.story placed link waiting admitted (message_of q) (p ∷ []) t.started queued
           (subst (Rising 0 (t.started ++ (queue_ids (link.queue ++ message_of q ∷ []) ++ kept_ids admitted waiting))) (sym still) (line_next t.requests link t.moved t.waiting t.admitted t.started q waiting admitted next.first h.lines.line))
           (λ n i. awaited_only q.awaited p n yes_awaited i)
-          (lines_further b.story t.requests link waiting admitted p progress.Placed t.started refl o apart (lines_next b.story t.requests link t.moved t.waiting t.admitted t.started q waiting admitted next h.lines));
+          (lines_further b.story t.requests link waiting admitted p progress.Placed t.started refl refl o apart (lines_next b.story t.requests link t.moved t.waiting t.admitted t.started q waiting admitted next h.lines));
       told = λ e n is none.
           let k = told_further b.story t.requests link p progress.Placed (h.told refl) n is none in
           (k.0, k.1, k.2, subst (IsIn k.0) (sym (queue_ids-push link.queue (message_of q))) (in_left k.0 (queue_ids link.queue) (p ∷ []) k.3));
@@ -541,7 +565,7 @@ admit_tied b t link q qs w last h =
       lines = record {
         line = subst (λ ns. Rising 0 (t.started ++ (queue ++ ns)) (length further)) same (subst (Rising 0 (t.started ++ (queue ++ kept_ids t.admitted (q ∷ qs)))) (sym (length_still t.requests p now)) h.lines.line);
         queued = queued_further b.story t.requests p now link.queue apart h.lines.queued;
-        entries = entries_further t.requests p now link.row refl o h.lines.entries;
+        entries = entries_further t.requests p now link.row within (inr (waiting_unplaced t.requests p w)) h.lines.entries;
         packs = packs_further b.story t.requests p now qs h.lines.packs.1;
         packed_in = packs_further b.story t.requests p now (t.admitted ++ q ∷ []) (all_push (IsPacked b.story t.requests) t.admitted q h.lines.packed_in h.lines.packs.0);
         there = λ m e. by_test (p == m) _

@@ -24,7 +24,7 @@ use Rattle.mux_conn.specs.declared.request.Waiting.{Waiting}
 use Rattle.legal_trace.specs.Book.{Book, entered, if_own, message_of}
 use Rattle.legal_trace.specs.Ledger.{Ledger, Start, begins, noted}
 use Rattle.legal_trace.specs.Story.{Story, is_told, shape, shape_in, tried}
-use Rattle.session_laws.proofs.Ahead.{placed_open, queue_within}
+use Rattle.session_laws.proofs.Ahead.{queue_within}
 use Rattle.session_laws.proofs.Behind.{nil_told, open_untold, some_more}
 use Rattle.session_laws.proofs.InLine.{awaited_in, first_is_apart, kept_ids}
 use Rattle.session_laws.proofs.Kept.{SameOutcomes, SameSubmissions, mine_noted, numbers_kept, one_changed, others_kept, packed_same, queued_same, tied_by}
@@ -146,7 +146,7 @@ lines_started story requests link waiting admitted started q qs k l h = record {
   queued = queued_same story (tried_at (name_at requests q.id) k l story) requests qs (tried_submissions (name_at requests q.id) k l story) (tried_outcomes (name_at requests q.id) k l story) h.queued.1;
   entries = all_push (IsEntry requests) link.row (entry_of q) h.entries (record {
     below = first_within story requests link waiting admitted started q qs h;
-    open_at = λ e. placed_open requests q.id (h.queued.0.placed_at e);
+    placed_at = h.queued.0.placed_at;
   });
   packs = packed_same story (tried_at (name_at requests q.id) k l story) requests waiting (tried_submissions (name_at requests q.id) k l story) h.packs;
   packed_in = packed_same story (tried_at (name_at requests q.id) k l story) requests admitted (tried_submissions (name_at requests q.id) k l story) h.packed_in;
