@@ -4,7 +4,7 @@ use Rattle.std.specs.List.{AllByRecursion}
 use Rattle.std.specs.Prelude.{Bool, Option, None, Some, is_some, slice_get, if◌then◌else◌, not, nat_le, nat_lt, ◌==◌, ◌&&◌}
 use Rattle.containers.proofs.Choices.{by_test, both_right, eq_from, eq_test, le_from, le_test, left_if, ne_from, not_le_from, not_le_test, taken_if}
 use Rattle.driver_model.specs.declared.action.WaitKind.TheVariants as wait
-use Rattle.link_core.specs.Link.{holds_back, is_full}
+use Rattle.link_core.specs.Link.{LinkState, holds_back, is_full}
 use Rattle.link_core.specs.declared.message.Queued.{Queued}
 use Rattle.link_laws.proofs.TiedLink.{unwritten_is}
 use Rattle.mux_conn.specs.Connection.{is_ready}
@@ -159,6 +159,10 @@ ready_alive Dialing e = refl
 ready_alive (Ready link) e = refl
 ready_alive (Ended x) e = cc
 
+-- so it is where its link is fit
+pub running_of : (t : Inner) (link : LinkState) → t.pending ≡ [] → t.life ≡ Ready link → IsFit t.size t.bound link → IsRunning t
+running_of t link none life fit = record { settled = none; up = ap is_ready life; fit = subst (IsFit t.size t.bound) (sym (ap link_in life)) fit }
+
 -- and its ledger says that it is up
 pub ready_up : (l : Ledger) (created : ℕ) (life : Life) → is_ready life ≡ true → TiedLife l created life → l.up ≡ true
 ready_up l created Dialing e h = cc
@@ -250,7 +254,7 @@ queue_within b t p h i =
     (rising_in 0 later (length t.requests) p (rising_right 0 t.started later (length t.requests) h.lines.line) (in_left p (queue_ids (link_in t.life).queue) (kept_ids t.admitted t.waiting) i)).1
 
 -- without a message
-later_untried : (b : Book) (t : Inner) (p : ℕ) → Tied b t → p < length t.requests → IsIn p (queue_ids (link_in t.life).queue ++ kept_ids t.admitted t.waiting) → (b.story (name_at t.requests p)).tries ≡ []
+pub later_untried : (b : Book) (t : Inner) (p : ℕ) → Tied b t → p < length t.requests → IsIn p (queue_ids (link_in t.life).queue ++ kept_ids t.admitted t.waiting) → (b.story (name_at t.requests p)).tries ≡ []
 later_untried b t p h within i =
     let g = get_some t.requests p within in
     ap (λ n. (b.story n).tries) (name_of_some t.requests p g.0 g.1) ∙ h.tries.untried p g.0 g.1 (later_unstarted b t p h i)

@@ -6,7 +6,6 @@ use Rattle.redis_error.specs.declared.redis_error.RedisError.{RedisError}
 use Rattle.driver_model.specs.declared.action.Action.{Action}
 use Rattle.driver_model.specs.declared.action.WaitKind.TheVariants as wait
 use Rattle.link_core.specs.Link.{LinkState, holds_back, is_full}
-use Rattle.mux_conn.specs.Connection.{is_ready}
 use Rattle.mux_conn.specs.Requests.{name_at}
 use Rattle.mux_conn.specs.declared.life.Life.{Life}
 use Rattle.mux_conn.specs.declared.life.Life.TheVariants.{Dialing, Ended, Ready}
@@ -15,7 +14,7 @@ use Rattle.legal_trace.specs.Ledger.{Ledger, Line, dials, ending, noted, noted_e
 use Rattle.legal_trace.specs.Legal.{AllStand, CanMove, IsApplied, IsFirstToMove, IsMoved, MayStand, NoneEnds}
 use Rattle.legal_trace.specs.Steps.{Step, is_due, is_held_back, is_outside, next_step, nothing, starts_or_waits, step_up, waits}
 use Rattle.legal_trace.specs.Story.{is_awaited, is_told}
-use Rattle.session_laws.proofs.Ahead.{IsRunning, full_step, queue_step, ready_alive}
+use Rattle.session_laws.proofs.Ahead.{IsRunning, full_step, queue_step, ready_alive, running_of}
 use Rattle.session_laws.proofs.Behind.{alive_behind}
 use Rattle.session_laws.proofs.Entered.{book_more, sound_more}
 use Rattle.session_laws.proofs.InLine.{first_is_least, kept_ids}
@@ -152,7 +151,7 @@ is_moved b t h none ends fit nobody held full gone = by_life t.life refl
         let here : link_in t.life ≡ link = ap link_in e in
         record {
           applied = applied_up b t h none (ap has_ended e) ends;
-          moved = up_moves_none b t h (record { settled = none; up = ap is_ready e; fit = subst (IsFit t.size t.bound) (sym here) (fit link e) })
+          moved = up_moves_none b t h (running_of t link none e (fit link e))
               (subst (λ (x : LinkState). (x.queue ≡ []) ⊎ (holds_back x ≡ true)) (sym here) (held link e))
               (subst (λ (x : LinkState). (t.admitted ≡ []) ⊎ (is_full x ≡ true)) (sym here) (full link e))
               (gone (λ d. (let no : Ready link ≡ Dialing = sym e ∙ d in cc)));
