@@ -1,5 +1,5 @@
 -- At a turn's end each open submission is started and offered, or truly in the wait that was shown.
-use Rattle.std.proofs.Common.{List, [], ap, inl, inr, refl, subst, sym, true, ℕ, ◌++◌, ◌∙◌, ◌∷◌, ◌≡◌, ◌≢◌, ◌⊎◌}
+use Rattle.std.proofs.Common.{[], ap, inl, inr, refl, subst, sym, true, ℕ, ◌++◌, ◌∙◌, ◌∷◌, ◌≡◌, ◌≢◌, ◌⊎◌}
 use Rattle.driver_model.specs.declared.action.WaitKind.TheVariants as wait
 use Rattle.link_core.specs.Link.{LinkState, holds_back, is_full}
 use Rattle.link_laws.proofs.Started.{row_open}
@@ -8,16 +8,16 @@ use Rattle.mux_conn.specs.Requests.{is_admitted_at, is_open_at, is_waiting_at, n
 use Rattle.mux_conn.specs.declared.life.Life.{Life}
 use Rattle.mux_conn.specs.declared.life.Life.TheVariants.{Dialing, Ended, Ready}
 use Rattle.legal_trace.specs.Book.{Book}
-use Rattle.legal_trace.specs.Legal.{IsOpen, IsSettled, IsStarted, IsWaiting, IsWritten, WaitHolds}
+use Rattle.legal_trace.specs.Legal.{IsOpen, IsSettled, IsStarted, IsWaiting, IsWritten}
 use Rattle.legal_trace.specs.Steps.{starts_or_waits}
 use Rattle.legal_trace.specs.Story.{last_of}
 use Rattle.session_laws.proofs.Ahead.{IsRunning, dialing_step, full_step, later_untried, queue_step, ready_alive, ready_up, running_of}
-use Rattle.session_laws.proofs.InLine.{awaited_in, kept_ids, kept_in, wanted_in}
+use Rattle.session_laws.proofs.InLine.{awaited_in, kept_ids, wanted_in}
 use Rattle.session_laws.proofs.Names.{open_within}
 use Rattle.session_laws.proofs.Numbers.{IsIn, in_either, in_left, in_right}
-use Rattle.session_laws.proofs.Owes.{IsOpenRequest, lives, none_open, open_request, stands_started, wanted_entry}
+use Rattle.session_laws.proofs.Owes.{lives, none_open, open_request, stands_started, wanted_entry}
 use Rattle.session_laws.proofs.States.{IsFit}
-use Rattle.session_laws.proofs.Tied.{Inner, IsKept, Tied, link_in, owner_of, queue_ids, waiting_ids}
+use Rattle.session_laws.proofs.Tied.{Inner, Tied, link_in, owner_of, queue_ids, waiting_ids}
 
 -- by the request that a submission is
 --
