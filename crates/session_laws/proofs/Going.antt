@@ -1,34 +1,40 @@
 -- A session whose event has had its own effect, while requests are moved.
-use Rattle.std.proofs.Common.{List, None, [], ap, false, refl, subst, sym, ℕ, ◌++◌, ◌∙◌, ◌∷◌, ◌≡◌, ◌≢◌}
-use Rattle.std.specs.Prelude.{◌==◌}
-use Rattle.containers.proofs.Choices.{chosen, not_both}
+use Rattle.std.proofs.Common.{List, None, [], ap, arith, false, inl, inr, length, refl, subst, sym, true, ℕ, ◌++◌, ◌<◌, ◌∙◌, ◌∷◌, ◌≡◌, ◌≢◌, ◌⊎◌}
+use Rattle.std.specs.Prelude.{if◌then◌else◌, ◌==◌}
+use Rattle.containers.proofs.Choices.{chosen, left_if, not_both}
 use Rattle.redis_error.specs.declared.redis_error.RedisError.{RedisError}
 use Rattle.driver_model.specs.declared.action.Action.{Action}
+use Rattle.driver_model.specs.declared.action.WaitKind.TheVariants as wait
+use Rattle.link_core.specs.Link.{LinkState, holds_back, is_full}
+use Rattle.mux_conn.specs.Requests.{name_at}
 use Rattle.mux_conn.specs.declared.life.Life.{Life}
 use Rattle.mux_conn.specs.declared.life.Life.TheVariants.{Dialing, Ended, Ready}
 use Rattle.legal_trace.specs.Book.{Book, blank_book, book, entered, if_mine}
-use Rattle.legal_trace.specs.Ledger.{Ledger, Line, ending, noted, noted_each}
-use Rattle.legal_trace.specs.Legal.{AllStand, CanMove, IsApplied, IsMoved, MayStand, NoneEnds}
+use Rattle.legal_trace.specs.Ledger.{Ledger, Line, dials, ending, noted, noted_each}
+use Rattle.legal_trace.specs.Legal.{AllStand, CanMove, IsApplied, IsFirstToMove, IsMoved, MayStand, NoneEnds}
+use Rattle.legal_trace.specs.Steps.{Step, is_due, is_held_back, is_outside, next_step, nothing, starts_or_waits, step_up, waits}
+use Rattle.legal_trace.specs.Story.{is_awaited, is_told}
+use Rattle.session_laws.proofs.Ahead.{IsRunning, full_step, queue_step, ready_alive, running_of}
 use Rattle.session_laws.proofs.Behind.{alive_behind}
 use Rattle.session_laws.proofs.Entered.{book_more, sound_more}
-use Rattle.session_laws.proofs.Moves.{AreQueued, none_moves}
+use Rattle.session_laws.proofs.InLine.{first_is_least, kept_ids}
+use Rattle.session_laws.proofs.Moves.{IsLater, later_of, unstarted_alive}
+use Rattle.session_laws.proofs.Names.{earlier_name}
+use Rattle.session_laws.proofs.Numbers.{IsIn, Rising, in_left, in_right, rising_in, rising_right}
 use Rattle.session_laws.proofs.Owes.{created_is, none_open, none_owed}
-use Rattle.session_laws.proofs.States.{IsWholeIn}
-use Rattle.session_laws.proofs.Tied.{Inner, Sound, Tied, TiedLife, link_in, queue_ids, waiting_ids, has_ended}
-use Rattle.session_laws.proofs.Told.{NoneTold}
+use Rattle.session_laws.proofs.States.{IsFit}
+use Rattle.session_laws.proofs.Tied.{Inner, Sound, Tied, TiedLife, link_in, queue_ids, has_ended}
 
--- nothing must end, and who was told and has not started is in the queue
+-- nothing must end
 pub record IsGoing (trace : List Action) (t : Inner) : Type 0 where
   pub sound : Sound trace t
   pub ended : NoneEnds (book trace)
-  pub told : AreQueued (book trace) t
 
 -- one more action that may stand
-pub going_more : (trace : List Action) (a : Action) (t : Inner) → AllStand blank_book trace → MayStand (book trace) a → Tied (entered (book trace) a) t → NoneEnds (entered (book trace) a) → AreQueued (entered (book trace) a) t → IsGoing (trace ++ a ∷ []) t
-going_more trace a t stands may tied none told = record {
+pub going_more : (trace : List Action) (a : Action) (t : Inner) → AllStand blank_book trace → MayStand (book trace) a → Tied (entered (book trace) a) t → NoneEnds (entered (book trace) a) → IsGoing (trace ++ a ∷ []) t
+going_more trace a t stands may tied none = record {
   sound = sound_more trace a t stands may tied;
   ended = subst NoneEnds (sym (book_more trace a)) none;
-  told = subst (λ (b : Book). AreQueued b t) (sym (book_more trace a)) told;
 }
 
 -- the event has had its effect, while nothing is to be answered and the link has not ended
@@ -36,7 +42,7 @@ pub applied_up : (b : Book) (t : Inner) → Tied b t → t.pending ≡ [] → ha
 applied_up b t h none up ended = record { answered = none_owed b t h none up; ended = ended; created = created_is b t h; timed = h.numbers.timed }
 
 -- or none waits
-pub applied_over : (b : Book) (t : Inner) (e : RedisError) → Tied b t → t.pending ≡ [] → t.life ≡ Ended e → t.waiting ≡ [] → NoneEnds b → IsApplied b
+pub applied_over : (b : Book) (t : Inner) (e : RedisError) → Tied b t → t.pending ≡ [] → t.life ≡ Ended e → kept_ids t.admitted t.waiting ≡ [] → NoneEnds b → IsApplied b
 applied_over b t e h none over empty ended = record {
   answered = λ n o. absurd (none_open b t e n h none over empty o);
   ended = ended;
@@ -48,13 +54,70 @@ applied_over b t e h none over empty ended = record {
 pub none_ends_kept : (b : Book) (n : ℕ) (line : Line) → ((l : Ledger) → ending l ≡ None → ending (noted l line) ≡ None) → NoneEnds b → (m : ℕ) → ending (noted_each (b.link m) (if_mine (n == m) line)) ≡ None
 none_ends_kept b n line kept h m = chosen (λ (ls : List Line). ending (noted_each (b.link m) ls) ≡ None) (n == m) (line ∷ []) [] (λ t. kept (b.link m) (h m)) (λ f. h m)
 
--- all messages that may start have started
+-- whose step is first
+--
+-- who is still to start is in the line behind those that started
+later_in : (t : Inner) (n : ℕ) (l : IsLater t n) → IsIn l.p (queue_ids (link_in t.life).queue ++ kept_ids t.admitted t.waiting)
+later_in t n l =
+    let queue = queue_ids (link_in t.life).queue in
+    let kept = kept_ids t.admitted t.waiting in
+    elim l.later [ inl i ↦ in_left l.p queue kept i | inr w ↦ in_right l.p queue kept w.1 ]
+
+-- one that makes a step is still to start
+moves_later : (b : Book) (t : Inner) (n : ℕ) → Tied b t → IsRunning t → CanMove b n → IsLater t n
+moves_later b t n h r m = later_of b t n h r.settled (ready_alive t.life r.up) m.unstarted
+
+-- the first of the queue is the first that makes a step
+pub first_in_queue : (b : Book) (t : Inner) (q : ℕ) (rest : List ℕ) → Tied b t → IsRunning t → queue_ids (link_in t.life).queue ≡ q ∷ rest → IsFirstToMove b (name_at t.requests q)
+first_in_queue b t q rest h r first n before m =
+    let kept = kept_ids t.admitted t.waiting in
+    let l = moves_later b t n h r m in
+    let all = rising_right 0 t.started (queue_ids (link_in t.life).queue ++ kept) (length t.requests) h.lines.line in
+    let line = subst (λ ns. Rising 0 (ns ++ kept) (length t.requests)) first all in
+    let at = subst (λ ns. IsIn l.p (ns ++ kept)) first (later_in t n l) in
+    let within = rising_in 0 (q ∷ (rest ++ kept)) (length t.requests) q line (inl refl) in
+    let earlier = earlier_name t.table t.requests l.p q h.names l.within within.1 (subst (λ x. x < name_at t.requests q) (sym l.name) before) in
+    let least = first_is_least 0 q (rest ++ kept) (length t.requests) l.p line at in
+    omega arith
+
+-- a message of the queue makes none while its link is held back
+held_stays : (b : Book) (t : Inner) (p : ℕ) → Tied b t → IsRunning t → holds_back (link_in t.life) ≡ true → IsIn p (queue_ids (link_in t.life).queue) → is_due (next_step b (name_at t.requests p)) ≡ false
+held_stays b t p h r held i = ap is_due (queue_step b t p h r i ∙ ap starts_or_waits held)
+
+-- what is in the queue makes no step, since there is nothing or the link is held back
+pub queue_stays : (b : Book) (t : Inner) (p : ℕ) → Tied b t → IsRunning t → ((link_in t.life).queue ≡ []) ⊎ (holds_back (link_in t.life) ≡ true) → IsIn p (queue_ids (link_in t.life).queue) → is_due (next_step b (name_at t.requests p)) ≡ false
+queue_stays b t p h r still i = elim still [ inl none ↦ absurd (subst (λ qs. IsIn p (queue_ids qs)) none i) | inr held ↦ held_stays b t p h r held i ]
+
+-- so the first of those that wait is the first that makes one
+pub first_behind : (b : Book) (t : Inner) (q : ℕ) (rest : List ℕ) → Tied b t → IsRunning t → ((link_in t.life).queue ≡ []) ⊎ (holds_back (link_in t.life) ≡ true) → kept_ids t.admitted t.waiting ≡ q ∷ rest → IsFirstToMove b (name_at t.requests q)
+first_behind b t q rest h r still first n before m =
+    let ids = queue_ids (link_in t.life).queue in
+    let kept = kept_ids t.admitted t.waiting in
+    let l = moves_later b t n h r m in
+    let all = rising_right 0 ids kept (length t.requests) (rising_right 0 t.started (ids ++ kept) (length t.requests) h.lines.line) in
+    let line = subst (λ ns. Rising 0 ns (length t.requests)) first all in
+    let within = rising_in 0 (q ∷ rest) (length t.requests) q line (inl refl) in
+    let earlier = earlier_name t.table t.requests l.p q h.names l.within within.1 (subst (λ x. x < name_at t.requests q) (sym l.name) before) in
+    elim l.later [
+      | inl i ↦ not_both (is_due (next_step b n)) (ap (λ x. is_due (next_step b x)) (sym l.name) ∙ queue_stays b t l.p h r still i) m.due
+      | inr w ↦ let least = first_is_least 0 q rest (length t.requests) l.p line (subst (IsIn l.p) first w.1) in omega arith
+    ]
+
+-- every step that may be made was made
 --
 -- a link that isn't up moves none
+down_stays : (b : Book) (n : ℕ) → (b.link (b.story n).link).up ≡ false → is_due (next_step b n) ≡ false
+down_stays b n down =
+    let s = b.story n in
+    let l = b.link s.link in
+    let step = step_up (is_told s) (is_outside b n) (is_awaited s) (is_held_back b l) in
+    chosen (λ (x : Step). is_due x ≡ false) (dials l) (waits wait.Connect) (if l.up then step else nothing) (λ t. refl) (λ f. ap is_due (left_if l.up step nothing down))
+
+-- as each submission that is still to start is for it
 down_moves_none : (b : Book) (t : Inner) → Tied b t → (b.link t.link).up ≡ false → (n : ℕ) → CanMove b n → ⊥
 down_moves_none b t h down n m =
-    let a = alive_behind b t n h m.wanted in
-    not_both (b.link t.link).up down (ap (λ l. (b.link l).up) (sym a.is.on) ∙ m.up)
+    let a = alive_behind b t n h (unstarted_alive (b.story n) m.unstarted) in
+    not_both (is_due (next_step b n)) (down_stays b n (ap (λ l. (b.link l).up) a.is.on ∙ down)) m.due
 
 -- a link whose connect isn't answered isn't up
 dialing_down : (l : Ledger) (created : ℕ) (life : Life) → life ≡ Dialing → TiedLife l created life → l.up ≡ false
@@ -62,21 +125,38 @@ dialing_down l created Dialing e h = h.1
 dialing_down l created (Ready link) e h = cc
 dialing_down l created (Ended x) e h = cc
 
--- where none waits but for the connect, and none is told that has not started
-pub is_moved : (b : Book) (t : Inner) → Tied b t → t.pending ≡ [] → NoneEnds b → NoneTold b → IsWholeIn t.life → (t.life ≢ Dialing → t.waiting ≡ []) → IsMoved b
-is_moved b t h none ends told whole waits = by_life t.life refl
+-- on a link that is up what is in the queue is held back, and those that wait find it full
+up_moves_none : (b : Book) (t : Inner) → Tied b t → IsRunning t → ((link_in t.life).queue ≡ []) ⊎ (holds_back (link_in t.life) ≡ true) → (t.admitted ≡ []) ⊎ (is_full (link_in t.life) ≡ true) → t.waiting ≡ [] → (n : ℕ) → CanMove b n → ⊥
+up_moves_none b t h r still full none n m =
+    let l = moves_later b t n h r m in
+    elim l.later [
+      | inl i ↦ not_both (is_due (next_step b n)) (ap (λ x. is_due (next_step b x)) (sym l.name) ∙ queue_stays b t l.p h r still i) m.due
+      | inr w ↦ elim full [
+        | inl empty ↦ absurd (subst (IsIn l.p) (λ i. kept_ids (empty i) (none i)) w.1)
+        | inr filled ↦ not_both (is_due (next_step b n)) (ap (λ x. is_due (next_step b x)) (sym l.name) ∙ ap is_due (full_step b t l.p h r filled w.0 w.1)) m.due
+      ]
+    ]
+
+-- where nothing is to be answered, nothing must end, and nothing moves
+pub is_moved : (b : Book) (t : Inner) → Tied b t → t.pending ≡ [] → NoneEnds b → ((link : LinkState) → t.life ≡ Ready link → IsFit t.size t.bound link) → (((link : LinkState) → t.life ≡ Ready link → ⊥) → t.admitted ≡ [])
+    → ((link : LinkState) → t.life ≡ Ready link → (link.queue ≡ []) ⊎ (holds_back link ≡ true)) → ((link : LinkState) → t.life ≡ Ready link → (t.admitted ≡ []) ⊎ (is_full link ≡ true)) → (t.life ≢ Dialing → t.waiting ≡ []) → IsMoved b
+is_moved b t h none ends fit nobody held full gone = by_life t.life refl
   where
     by_life : (life : Life) → t.life ≡ life → IsMoved b
     by_life Dialing e = record {
       applied = applied_up b t h none (ap has_ended e) ends;
       moved = down_moves_none b t h (dialing_down (b.link t.link) b.created t.life e h.life);
     }
-    by_life (Ready link) e = record {
-      applied = applied_up b t h none (ap has_ended e) ends;
-      moved = none_moves b t h none (λ n is untried. absurd (told n is untried))
-          ((λ i. queue_ids (link_in (e i)).queue ++ waiting_ids (waits (λ x. (let no : Ready link ≡ Dialing = sym e ∙ x in cc)) i)) ∙ ap (λ qs. queue_ids qs ++ []) (whole link e).empty);
-    }
+    by_life (Ready link) e =
+        let here : link_in t.life ≡ link = ap link_in e in
+        record {
+          applied = applied_up b t h none (ap has_ended e) ends;
+          moved = up_moves_none b t h (running_of t link none e (fit link e))
+              (subst (λ (x : LinkState). (x.queue ≡ []) ⊎ (holds_back x ≡ true)) (sym here) (held link e))
+              (subst (λ (x : LinkState). (t.admitted ≡ []) ⊎ (is_full x ≡ true)) (sym here) (full link e))
+              (gone (λ d. (let no : Ready link ≡ Dialing = sym e ∙ d in cc)));
+        }
     by_life (Ended x) e = record {
-      applied = applied_over b t x h none e (waits (λ d. (let no : Ended x ≡ Dialing = sym e ∙ d in cc))) ends;
+      applied = applied_over b t x h none e (λ i. kept_ids (nobody (λ link r. (let no : Ended x ≡ Ready link = sym e ∙ r in cc)) i) (gone (λ d. (let no : Ended x ≡ Dialing = sym e ∙ d in cc)) i)) ends;
       moved = down_moves_none b t h (subst (λ (x : Life). TiedLife (b.link t.link) b.created x) e h.life).0;
     }

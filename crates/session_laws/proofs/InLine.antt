@@ -10,23 +10,27 @@ use Rattle.mux_conn.specs.declared.request.Request.{Request}
 use Rattle.mux_conn.specs.declared.request.Waiting.{Waiting}
 use Rattle.mux_conn.specs.Requests.{is_open_at}
 use Rattle.session_laws.proofs.Numbers.{IsIn, in_left, in_right, in_either, Rising, rising_from, rising_in, rising_right}
-use Rattle.session_laws.proofs.Tied.{queue_ids, waiting_ids, TiedLines}
+use Rattle.session_laws.proofs.Tied.{queue_ids, waiting_ids, IsKept, TiedLines}
 
 -- who the entries of a row are of
 abbrev pub row_ids : List Entry → List ℕ
 row_ids [] = []
 row_ids (e ∷ es) = e.id ∷ row_ids es
 
--- the line of a link's messages, and of those that wait
-abbrev pub line_of : LinkState → List Waiting → List ℕ
-line_of link waiting = wanted link.row ++ (queue_ids link.queue ++ waiting_ids waiting)
+-- those that wait for a place, and then those that wait for the connection
+abbrev pub kept_ids : List Waiting → List Waiting → List ℕ
+kept_ids admitted waiting = waiting_ids admitted ++ waiting_ids waiting
+
+-- the line of a link's messages, of those that wait for a place, and of those that wait for the connection
+abbrev pub line_of : LinkState → List Waiting → List Waiting → List ℕ
+line_of link admitted waiting = wanted link.row ++ (queue_ids link.queue ++ kept_ids admitted waiting)
 
 -- it rises, behind those that are to be answered
-abbrev pub IsInLine : List Request → LinkState → List Waiting → List ℕ → Type 0
-IsInLine requests link waiting pending = Rising 0 (pending ++ line_of link waiting) (length requests)
+abbrev pub IsInLine : List Request → LinkState → List Waiting → List Waiting → List ℕ → Type 0
+IsInLine requests link admitted waiting pending = Rising 0 (pending ++ line_of link admitted waiting) (length requests)
 
 -- what a choice of one has
-chosen_in : (b : Bool) (n m : ℕ) → IsIn n (if b then m ∷ [] else []) → m ≡ n
+pub chosen_in : (b : Bool) (n m : ℕ) → IsIn n (if b then m ∷ [] else []) → m ≡ n
 chosen_in true n m i = elim i [ inl e ↦ e | inr k ↦ absurd k ]
 chosen_in false n m i = absurd i
 
@@ -40,13 +44,18 @@ pub wanted_in : (n : ℕ) (row : List Entry) → IsIn n (wanted row) → IsIn n 
 wanted_in n [] i = i
 wanted_in n (e ∷ es) i = elim (in_either n (if e.awaited then e.id ∷ [] else []) (wanted es) i) [ inl j ↦ inl (chosen_in e.awaited n e.id j) | inr j ↦ inr (wanted_in n es j) ]
 
+-- one that is kept is one of those that wait
+pub kept_in : (requests : List Request) (waiting admitted : List Waiting) (p : ℕ) → IsKept requests waiting admitted p → IsIn p (kept_ids admitted waiting)
+kept_in requests waiting admitted p (inl a) = in_left p (waiting_ids admitted) (waiting_ids waiting) a.1
+kept_in requests waiting admitted p (inr w) = in_right p (waiting_ids admitted) (waiting_ids waiting) w.1
+
 -- each open request is in the line
-pub open_in_line : (story : ℕ → Story) (requests : List Request) (link : LinkState) (waiting : List Waiting) (pending started : List ℕ) (p : ℕ) → TiedLines story requests link waiting pending started → is_open_at requests p ≡ true
-    → IsIn p (pending ++ line_of link waiting)
-open_in_line story requests link waiting pending started p h e =
+pub open_in_line : (story : ℕ → Story) (requests : List Request) (link : LinkState) (waiting admitted : List Waiting) (pending started : List ℕ) (p : ℕ) → TiedLines story requests link waiting admitted pending started
+    → is_open_at requests p ≡ true → IsIn p (pending ++ line_of link admitted waiting)
+open_in_line story requests link waiting admitted pending started p h e =
     let rows = wanted link.row in
     let queue = queue_ids link.queue in
-    let last = waiting_ids waiting in
+    let last = kept_ids admitted waiting in
     elim (h.there p e) [
       | inl i ↦ elim (in_either p pending (rows ++ awaited_ids link.queue) i) [
         | inl j ↦ in_left p pending (rows ++ (queue ++ last)) j
@@ -55,7 +64,7 @@ open_in_line story requests link waiting pending started p h e =
           | inr k ↦ in_right p rows (queue ++ last) (in_left p queue last (awaited_in p link.queue k))
         ])
       ]
-      | inr w ↦ in_right p pending (rows ++ (queue ++ last)) (in_right p rows (queue ++ last) (in_right p queue last w.1))
+      | inr w ↦ in_right p pending (rows ++ (queue ++ last)) (in_right p rows (queue ++ last) (in_right p queue last (kept_in requests waiting admitted p w)))
     ]
 
 -- none is before the first of a line

@@ -15,7 +15,7 @@ use Rattle.legal_trace.specs.Ledger.{Ledger, Line, noted, noted_each}
 use Rattle.legal_trace.specs.Story.{Story, awaited_in, packed_in, shape_in, tried}
 use Rattle.session_laws.proofs.Names.{name_placed}
 use Rattle.session_laws.proofs.Owes.{request_story}
-use Rattle.session_laws.proofs.Tied.{Inner, IsOf, IsPacked, IsQueued, IsRequest, IsUnknown, Tied, TiedLife, TiedLines, TiedNames, TiedNumbers, TiedStory, TiedTries, TiedWaits, link_in, owner_of, has_ended}
+use Rattle.session_laws.proofs.Tied.{AreQueued, Inner, IsOf, IsPacked, IsQueued, IsRequest, IsUnknown, Tied, TiedLife, TiedLines, TiedNames, TiedNumbers, TiedStory, TiedTries, TiedWaits, link_in, owner_of, has_ended}
 
 -- a session and the ledger of its link, which is that of the book
 pub record TiedBy (b : Book) (t : Inner) (l : Ledger) : Type 0 where
@@ -26,8 +26,9 @@ pub record TiedBy (b : Book) (t : Inner) (l : Ledger) : Type 0 where
   pub names : TiedNames t.table t.requests
   pub story : (n : ℕ) → TiedStory (b.story n) t.requests t.link (slice_get t.table n)
   pub tries : TiedTries l b.story t.requests t.link t.started
-  pub lines : TiedLines b.story t.requests (link_in t.life) t.waiting t.pending t.started
-  pub waits : TiedWaits b.story t.requests t.life t.fresh
+  pub lines : TiedLines b.story t.requests (link_in t.life) t.waiting t.admitted t.pending t.started
+  pub told : has_ended t.life ≡ false → AreQueued b.story t.requests (link_in t.life)
+  pub waits : TiedWaits b.story t.requests t.life t.fresh t.moved
 
 -- so the session is tied to the book
 pub tied_by : (b : Book) (t : Inner) (l : Ledger) → b.link t.link ≡ l → TiedBy b t l → Tied b t
@@ -40,6 +41,7 @@ tied_by b t l e h = record {
   story = h.story;
   tries = subst (λ (x : Ledger). TiedTries x b.story t.requests t.link t.started) (sym e) h.tries;
   lines = h.lines;
+  told = h.told;
   waits = h.waits;
 }
 
@@ -52,9 +54,9 @@ pub others_kept : (b : Book) (n : ℕ) (line : Line) → ((m : ℕ) → m ≢ n 
 others_kept b n line h m other = if_false (λ (ls : List Line). IsUnknown (noted_each (b.link m) ls)) (n == m) (line ∷ []) [] (ne_test n m (λ e. other (sym e))) (h m other)
 
 -- the numbers, where only links, stories and the connection change
-pub numbers_kept : (b : Book) (link : ℕ → Ledger) (story : ℕ → Story) (t : Inner) (life : Life) (requests : List Request) (waiting : List Waiting) (fresh pending started : List ℕ) → TiedNumbers b t
-    → TiedNumbers (record b { link = link; story = story }) (record t { life = life; requests = requests; waiting = waiting; fresh = fresh; pending = pending; started = started })
-numbers_kept b link story t life requests waiting fresh pending started h = record {
+pub numbers_kept : (b : Book) (link : ℕ → Ledger) (story : ℕ → Story) (t : Inner) (life : Life) (requests : List Request) (waiting admitted : List Waiting) (fresh moved pending started : List ℕ) → TiedNumbers b t
+    → TiedNumbers (record b { link = link; story = story }) (record t { life = life; requests = requests; waiting = waiting; admitted = admitted; fresh = fresh; moved = moved; pending = pending; started = started })
+numbers_kept b link story t life requests waiting admitted fresh moved pending started h = record {
   turns = h.turns;
   links = h.links;
   timers = h.timers;
@@ -62,6 +64,7 @@ numbers_kept b link story t life requests waiting fresh pending started h = reco
   timed = h.timed;
   submissions = h.submissions;
   shut = h.shut;
+  settings = record { size_is = h.settings.size_is; bound_is = h.settings.bound_is; some = h.settings.some };
   one = h.one;
   only = h.only;
 }
@@ -105,7 +108,7 @@ queued_same f g requests [] same told all = tt
 queued_same f g requests (q ∷ qs) same told all = (
   record {
     is_of = of_same (f (name_at requests q.id)) (g (name_at requests q.id)) q.packed q.shape q.awaited (same (name_at requests q.id)) all.0.is_of;
-    open_at = all.0.open_at;
+    placed_at = all.0.placed_at;
     told = λ e. sym (told (name_at requests q.id)) ∙ all.0.told e;
   },
   queued_same f g requests qs same told all.1,

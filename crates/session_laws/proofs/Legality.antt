@@ -21,17 +21,15 @@ use Rattle.mux_conn.specs.declared.request.Pending.{Pending}
 use Rattle.shared_session.specs.Replay.{AreGood, AreGoodOn, is_bad_after, opening_core, opening_actions, outcome_at, outcomes_in, run_on, state_after, trace_of, turns_on, IsSound, connect_asked}
 use Rattle.shared_session.specs.Turn.{Turning, actions_of, asked_for, counted, effect, heard, is_bad, left_by, moved_on, refused_with, shown_each, submitted, next_turn}
 use Rattle.shared_session.specs.declared.core_state.Core.{Core}
-use Rattle.legal_trace.specs.Book.{Book, book, entered_each}
+use Rattle.legal_trace.specs.Book.{book}
 use Rattle.legal_trace.specs.Events.{is_bad_event}
-use Rattle.legal_trace.specs.Legal.{AllStand, Legal, causes, event_causes}
+use Rattle.legal_trace.specs.Legal.{Legal, causes, event_causes}
 use Rattle.session_laws.proofs.Announce.{same_badness}
 use Rattle.session_laws.proofs.Effects.{effect_holds}
-use Rattle.session_laws.proofs.Entered.{all_stand_behind, book-append, book_more}
 use Rattle.session_laws.proofs.Opening.{opening_between}
 use Rattle.session_laws.proofs.Outcomes.{last_told}
 use Rattle.session_laws.proofs.Settled.{IsBetween, moved_on_between}
-use Rattle.session_laws.proofs.States.{HasApplied, trace_with}
-use Rattle.session_laws.proofs.Told.{NoneTold, effect_told}
+use Rattle.session_laws.proofs.States.{trace_with}
 use Rattle.session_laws.specs.Outcomes.{last_outcome}
 
 -- a turn
@@ -63,17 +61,6 @@ effect_link c (event.ReadFault l kind) = refl
 effect_link c (event.WriteFault l kind) = refl
 effect_link c event.Shutdown = refl
 
--- none is told by the effect that has not started
-effect_tells : (before : List Action) (c : Core) (e : Event) (started : List ℕ) → IsBetween before c → HasApplied (before ++ action.Turn c.turns (cause.Event e) ∷ []) (effect (counted c) e.kind) started
-    → NoneTold (book (trace_with (before ++ action.Turn c.turns (cause.Event e) ∷ []) (effect (counted c) e.kind)))
-effect_tells before c e started h applied =
-    let a = action.Turn c.turns (cause.Event e) in
-    let t = effect (counted c) e.kind in
-    let more = shown_each t.core.single.link t.acts in
-    let stands = subst (λ (b : Book). AllStand b more) (book_more before a) (all_stand_behind (before ++ a ∷ []) more applied.sound.stands) in
-    let told = effect_told (book before) c c.turns e.word e.kind h.started h.between.sound.tied h.between.settled.written.moved.moved h.told stands in
-    subst NoneTold (sym (book-append (before ++ a ∷ []) more ∙ ap (λ (b : Book). entered_each b more) (book_more before a))) told
-
 -- one turn leads from between two turns to between the next two
 turn_between : (before : List Action) (c : Core) (e : Event) → IsBetween before c → is_bad c e.kind ≡ false → IsBetween (before ++ actions_of c e) (next_turn c e.kind).core
 unfolding next_turn
@@ -81,7 +68,7 @@ turn_between before c e h good =
     let a = action.Turn c.turns (cause.Event e) in
     let applied = effect_holds before c h.started e.word e.kind h.between good in
     let t = effect (counted c) e.kind in
-    let done = moved_on_between (before ++ a ∷ []) t h.started applied (effect_tells before c e h.started h applied) in
+    let done = moved_on_between (before ++ a ∷ []) t h.started applied in
     let same : trace_with (before ++ a ∷ []) (moved_on t) ≡ before ++ actions_of c e = append_assoc before (a ∷ []) (shown_each t.core.single.link (moved_on t).acts) ∙ ap (λ l. before ++ a ∷ shown_each l (moved_on t).acts) (effect_link c e.kind) in
     subst (λ (x : List Action). IsBetween x (moved_on t).core) same done
 

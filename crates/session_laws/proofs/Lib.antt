@@ -11,7 +11,9 @@ pub mod Answer
 pub mod Kept
 pub mod Start
 pub mod Moves
+pub mod Ahead
 pub mod Going
+pub mod Goes
 pub mod Starts
 pub mod Place
 pub mod Settle
@@ -28,7 +30,6 @@ pub mod Submit
 pub mod Asked
 pub mod Effects
 pub mod Passes
-pub mod Told
 pub mod Moved
 pub mod Write
 pub mod Waits

@@ -1,18 +1,17 @@
 -- All requests of a connection are moved.
-use Rattle.std.proofs.Common.{Bool, List, [], ap, false, inl, inr, refl, subst, sym, true, ℕ, ◌++◌, ◌∙◌, ◌∷◌, ◌≡◌, ◌≢◌}
-use Rattle.std.proofs.lemmas.List.{append-nil}
+use Rattle.std.proofs.Common.{Bool, List, [], ap, false, inl, inr, length, refl, subst, sym, true, ℕ, ◌++◌, ◌∙◌, ◌∷◌, ◌≡◌, ◌⊎◌}
+use Rattle.std.specs.Prelude.{not}
 use Rattle.containers.proofs.Choices.{chosen, left_if, not_both, taken_if}
 use Rattle.redis_error.specs.declared.redis_error.RedisError.{RedisError}
 use Rattle.driver_model.specs.declared.action.Action.{Action}
 use Rattle.driver_model.specs.declared.outcome.Outcome.{Outcome}
 use Rattle.driver_model.specs.declared.outcome.Outcome.TheVariants as outcome
-use Rattle.link_core.specs.Link.{LinkState, started_all}
+use Rattle.link_core.specs.Link.{LinkState, holds_back, is_full}
 use Rattle.link_laws.specs.Settles.{awaited_ids, wanted}
-use Rattle.mux_conn.specs.Connection.{Work, moves_none, with_link}
-use Rattle.mux_conn.specs.Effects.{failed_each, waiting_failed}
-use Rattle.mux_conn.specs.Passes.{moved, moved_all, moved_at, moved_each, passed, started_at, still_waiting}
-use Rattle.mux_conn.specs.Requests.{answered, at_progress, is_open as is_open_progress, is_open_at, is_waiting, is_waiting_at, name_at}
-use Rattle.mux_conn.specs.declared.act.LinkAct.TheVariants as act
+use Rattle.mux_conn.specs.Connection.{Work, admits_none, has_room, with_link}
+use Rattle.mux_conn.specs.Effects.{failed_each, nobody_waits, waiting_failed}
+use Rattle.mux_conn.specs.Passes.{admitted, admitted_all, admitted_at, admitted_each, moved_up_all, moved_up_each, passed, started_at, still_admitted, still_waiting}
+use Rattle.mux_conn.specs.Requests.{answered, at_progress, is_open as is_open_progress, is_open_at, is_waiting, is_waiting_at}
 use Rattle.mux_conn.specs.declared.life.Life.{Life}
 use Rattle.mux_conn.specs.declared.life.Life.TheVariants.{Dialing, Ended, Ready}
 use Rattle.mux_conn.specs.declared.request.Progress.TheVariants as progress
@@ -24,100 +23,126 @@ use Rattle.legal_trace.specs.Legal.{NoneEnds}
 use Rattle.session_laws.proofs.Answer.{after_end}
 use Rattle.session_laws.proofs.Close.{waiting_ends}
 use Rattle.session_laws.proofs.Going.{IsGoing}
+use Rattle.session_laws.proofs.InLine.{kept_ids}
 use Rattle.session_laws.proofs.Names.{open_within, there_other, there_then}
-use Rattle.session_laws.proofs.Numbers.{IsIn}
-use Rattle.session_laws.proofs.Passes.{IsUp, moved_all_up, moved_none_waits, moving, started_up}
-use Rattle.session_laws.proofs.Settle.{Holds, answered_leaves, book_of_more, failed_leaves, seen, trace_of_acts}
-use Rattle.session_laws.proofs.Starts.{shown_is}
-use Rattle.session_laws.proofs.States.{IsWhole, IsWholeIn}
-use Rattle.session_laws.proofs.Tied.{Inner, Sound, Tied, link_in, queue_ids, has_ended}
-use Rattle.session_laws.proofs.Told.{NoneTold, fault_told}
+use Rattle.session_laws.proofs.Numbers.{IsIn, Rising, rising_right}
+use Rattle.session_laws.proofs.Passes.{IsDone, IsSeated, IsUp, admitted_done, moved_up_seated, moved_up_waits, moving, started_keeps, started_up}
+use Rattle.session_laws.proofs.Settle.{Holds, answered_leaves, failed_leaves, seen, trace_of_acts}
+use Rattle.session_laws.proofs.States.{IsFit, IsFitIn, IsStill}
+use Rattle.session_laws.proofs.Tied.{Inner, Sound, Tied, has_ended, link_in, queue_ids, waiting_ids}
 
--- the event has had its effect, all messages that may start have started, and none waits but for the connect
+-- the event has had its effect, and nothing moves any more
 pub record HasMoved (before : List Action) (f : Core) (w : Work) : Type 0 where
   pub started : List ℕ
   pub holds : Holds before f w [] started
   pub ended : NoneEnds (book (trace_of_acts before f w.acts))
-  pub whole : IsWholeIn w.conn.life
-  pub waiting : w.conn.life ≢ Dialing → w.conn.waiting ≡ []
-  pub told : NoneTold (book (trace_of_acts before f w.acts))
+  pub fit : IsFitIn w.conn
+  pub still : IsStill w.conn
 
--- what an applied event gives
+-- what an applied event gives: none was moved in its turn
 pub record IsReady (before : List Action) (f : Core) (w : Work) (started : List ℕ) : Type 0 where
   pub holds : Holds before f w [] started
   pub ended : NoneEnds (book (trace_of_acts before f w.acts))
-  pub whole : IsWholeIn w.conn.life
-  pub told : NoneTold (book (trace_of_acts before f w.acts))
+  pub fit : IsFitIn w.conn
+  pub moved : w.conn.moved ≡ []
 
 -- on a link that is up
 --
-up_moved : (before : List Action) (f : Core) (w : Work) → IsUp before f w [] → w.conn.waiting ≡ [] → HasMoved before f w
-up_moved before f w h none =
-    let empty : queue_ids (link_in w.conn.life).queue ++ [] ≡ [] = ap (λ (x : Life). queue_ids (link_in x).queue ++ []) h.life ∙ ap (λ qs. queue_ids qs ++ []) h.whole.empty in
+-- where a connection that is up has no room, its queue is full
+no_room : (life : Life) (link : LinkState) → life ≡ Ready link → has_room life ≡ false → is_full link ≡ true
+no_room life link e none = full (is_full link) (ap has_room (sym e) ∙ none)
+  where
+    full : (x : Bool) → not x ≡ false → x ≡ true
+    full true e = refl
+    full false e = cc
+
+-- there is one link
+one_link : (life : Life) (link link' : LinkState) → life ≡ Ready link → life ≡ Ready link' → link ≡ link'
+one_link life link link' e k = let both : Ready link ≡ Ready link' = sym e ∙ k in cc
+
+-- nothing moves there any more
+up_moved : (before : List Action) (f : Core) (w : Work) → IsDone before f w → HasMoved before f w
+up_moved before f w done =
+    let h = done.seated.up in
+    let c = w.conn in
     record {
       started = h.started;
-      holds = subst (λ ws. Sound (trace_of_acts before f w.acts) (moving f w.conn ws h.started)) (sym none) h.going.sound;
+      holds = subst (λ ws. Sound (trace_of_acts before f w.acts) (moving f c c.admitted ws h.started)) (sym done.none) h.going.sound;
       ended = h.going.ended;
-      whole = λ link e. subst IsWhole (let both : Ready h.link ≡ Ready link = sym h.life ∙ e in cc) h.whole;
-      waiting = λ e. none;
-      told = λ n is untried. let k = h.going.told n is untried in subst (IsIn k.0) (sym (append-nil (queue_ids (link_in w.conn.life).queue)) ∙ empty) k.3;
+      fit = record { link = λ link e. subst (IsFit c.size c.boundary) (one_link c.life h.link link h.life e) h.fit; none = λ no. absurd (no h.link h.life) };
+      still = record {
+        held = λ link e. subst (λ (x : LinkState). (x.queue ≡ []) ⊎ (holds_back x ≡ true)) (one_link c.life h.link link h.life e) h.held;
+        full = λ link e. elim done.seated.full [ inl empty ↦ inl empty | inr none ↦ inr (no_room c.life link e none) ];
+        waiting = λ e. done.none;
+      };
     }
 
--- starts leave those that wait
-started_waits : (w : Work) (link : LinkState) → (started_at w (Ready link)).conn.waiting ≡ w.conn.waiting
-started_waits w link = let s = started_all (record { link = link; out = [] }) in ap (λ (x : Work). x.conn.waiting) (shown_is (with_link w s.link) s.out)
-
--- those that wait are taken out
-still_up : (before : List Action) (f : Core) (w : Work) (qs : List Waiting) → IsUp before f w qs → IsUp before f (still_waiting w []) qs
-still_up before f w qs h = record { link = h.link; life = h.life; whole = h.whole; started = h.started; going = h.going }
-
 -- all are moved there
-ready_moved : (before : List Action) (f : Core) (w : Work) (started : List ℕ) (link : LinkState) → w.conn.life ≡ Ready link → IsReady before f w started → HasMoved before f (passed w)
+pub ready_moved : (before : List Action) (f : Core) (w : Work) (started : List ℕ) (link : LinkState) → w.conn.life ≡ Ready link → IsReady before f w started → HasMoved before f (passed w)
 ready_moved before f w started link life h =
-    let whole = h.whole link life in
+    let fit = h.fit.link link life in
+    let places = w.conn.admitted in
+    let waits = w.conn.waiting in
+    let kept = kept_ids places waits in
+    let hi = length w.conn.requests in
+    let queue = queue_ids (link_in w.conn.life).queue in
     let v = started_at w (Ready link) in
-    let qs = w.conn.waiting in
-    let going : IsGoing (trace_of_acts before f w.acts) (moving f (with_link w link).conn qs started) = record {
+    let keeps = started_keeps w (Ready link) in
+    let line = rising_right 0 queue kept hi (rising_right 0 started (queue ++ kept) hi h.holds.tied.lines.line) in
+    let going : IsGoing (trace_of_acts before f w.acts) (moving f (with_link w link).conn places waits started) = record {
       sound = subst (λ (x : Life). Sound (trace_of_acts before f w.acts) (record (seen f w.conn [] started) { life = x })) life h.holds;
       ended = h.ended;
-      told = λ n is none. absurd (h.told n is none);
     } in
-    let up : IsUp before f v qs = started_up before f w link qs started whole.sound whole.size whole.boundary going in
-    let all = moved_all_up before f (still_waiting v []) qs (still_up before f v qs up) in
-    let none = moved_none_waits before f (still_waiting v []) qs (still_up before f v qs up) in
-    subst (λ (x : Life). HasMoved before f (moved_all (started_at w x))) (sym life)
-    (subst (λ ws. HasMoved before f (moved_each (still_waiting v []) ws)) (sym (started_waits w link)) (up_moved before f (moved_each (still_waiting v []) qs) all none))
+    let up : IsUp before f v places waits kept = started_up before f w link places waits kept started fit going (subst (λ ns. Rising 0 (ns ++ kept) hi) (sym h.moved) line) in
+    let first : IsUp before f (still_admitted v []) places waits kept = record { link = up.link; life = up.life; fit = up.fit; held = up.held; started = up.started; going = up.going; order = up.order } in
+    let u = moved_up_each (still_admitted v []) places in
+    let seated : IsSeated before f u waits = moved_up_seated before f (still_admitted v []) places waits first in
+    let s = seated.up in
+    let second : IsSeated before f (still_waiting u []) waits = record {
+      up = record { link = s.link; life = s.life; fit = s.fit; held = s.held; started = s.started; going = s.going; order = s.order };
+      full = seated.full;
+    } in
+    let same : u.conn.waiting ≡ waits = moved_up_waits (still_admitted v []) places ∙ keeps.waiting in
+    let all = up_moved before f (admitted_each (still_waiting u []) waits) (admitted_done before f (still_waiting u []) waits second) in
+    subst (λ (x : Life). HasMoved before f (admitted_all (moved_up_all (started_at w x)))) (sym life)
+    (subst (λ (x : List Waiting). HasMoved before f (admitted_all (moved_up_each (still_admitted v []) x))) (sym keeps.admitted)
+    (subst (λ (x : List Waiting). HasMoved before f (admitted_each (still_waiting u []) x)) (sym same) all))
 
 -- while the connect isn't answered
 --
-stuck_stays : (w : Work) (qs : List Waiting) → moves_none w.conn.life ≡ true → moved_each w qs ≡ still_waiting w qs
+stuck_stays : (w : Work) (qs : List Waiting) → admits_none w.conn.life ≡ true → admitted_each w qs ≡ still_waiting w qs
 stuck_stays w [] e = refl
-stuck_stays w (q ∷ qs) e = taken_if (moves_none w.conn.life) (still_waiting w (q ∷ qs)) (moved_each (moved w q) qs) e
+stuck_stays w (q ∷ qs) e = taken_if (admits_none w.conn.life) (still_waiting w (q ∷ qs)) (admitted_each (admitted w q) qs) e
+
+-- where none waits for a place, none is moved
+none_moved_up : (w : Work) → w.conn.admitted ≡ [] → moved_up_all w ≡ w
+none_moved_up w e = ap (moved_up_each (still_admitted w [])) e ∙ ap (still_admitted w) (sym e)
 
 -- all stays there
 dialing_moved : (before : List Action) (f : Core) (w : Work) (started : List ℕ) → w.conn.life ≡ Dialing → IsReady before f w started → HasMoved before f (passed w)
 dialing_moved before f w started life h =
-    let same : passed w ≡ w = ap (λ (x : Life). moved_all (started_at w x)) life ∙ stuck_stays (still_waiting w []) w.conn.waiting (ap moves_none life) in
+    let down : (link : LinkState) → w.conn.life ≡ Ready link → ⊥ = λ link e. (let no : Dialing ≡ Ready link = sym life ∙ e in cc) in
+    let same : passed w ≡ w =
+    ap (λ (x : Life). admitted_all (moved_up_all (started_at w x))) life ∙ ap admitted_all (none_moved_up w (h.fit.none down)) ∙ stuck_stays (still_waiting w []) w.conn.waiting (ap admits_none life) in
     subst (HasMoved before f) (sym same) (record {
       started = started;
       holds = h.holds;
       ended = h.ended;
-      whole = h.whole;
-      waiting = λ e. absurd (e life);
-      told = h.told;
+      fit = h.fit;
+      still = record { held = λ link e. absurd (down link e); full = λ link e. absurd (down link e); waiting = λ e. absurd (e life) };
     })
 
 -- on a link that has ended
 --
--- who is open waits
+-- who is open waits for the connection
 abbrev OpenWaits : List Request → Type 0
 OpenWaits requests = (p : ℕ) → is_open_at requests p ≡ true → is_waiting_at requests p ≡ true
 
--- so it is on a link that has ended
-open_waits : (b : Book) (t : Inner) (error : RedisError) → Tied b t → t.pending ≡ [] → t.life ≡ Ended error → OpenWaits t.requests
-open_waits b t error h none over p e = elim (h.lines.there p e) [
+-- so it is on a link that has ended, where none waits for a place
+open_waits : (b : Book) (t : Inner) (error : RedisError) → Tied b t → t.pending ≡ [] → t.life ≡ Ended error → t.admitted ≡ [] → OpenWaits t.requests
+open_waits b t error h none over empty p e = elim (h.lines.there p e) [
   | inl i ↦ absurd (subst (λ (x : Life). IsIn p ([] ++ (wanted (link_in x).row ++ awaited_ids (link_in x).queue))) over (subst (λ ns. IsIn p (ns ++ (wanted (link_in t.life).row ++ awaited_ids (link_in t.life).queue))) none i))
-  | inr w ↦ w.0
+  | inr k ↦ elim k [ inl a ↦ absurd (subst (λ ws. IsIn p (waiting_ids ws)) empty a.1) | inr w ↦ w.0 ]
 ]
 
 -- and stays where one is closed
@@ -136,58 +161,46 @@ waiting_false true b h e = absurd (not_both b e (h refl))
 waiting_false false b h e = refl
 
 -- one that is moved is answered
-moved_over : (w : Work) (e : RedisError) (q : Waiting) → w.conn.life ≡ Ended e → OpenWaits w.conn.requests → moved w q ≡ answered w q.number (outcome.Fault e)
-moved_over w e q over h =
-    chosen (λ (x : Work). x ≡ answered w q.number (outcome.Fault e)) (is_waiting_at w.conn.requests q.number) (moved_at w q w.conn.life) w
-    (λ t. ap (moved_at w q) over)
+admitted_over : (w : Work) (e : RedisError) (q : Waiting) → w.conn.life ≡ Ended e → OpenWaits w.conn.requests → admitted w q ≡ answered w q.number (outcome.Fault e)
+admitted_over w e q over h =
+    chosen (λ (x : Work). x ≡ answered w q.number (outcome.Fault e)) (is_waiting_at w.conn.requests q.number) (admitted_at w q w.conn.life) w
+    (λ t. ap (admitted_at w q) over)
     (λ f. sym (left_if (is_open_at w.conn.requests q.number) _ w (waiting_false (is_open_at w.conn.requests q.number) (is_waiting_at w.conn.requests q.number) (h q.number) f)))
 
 -- and so is each
-each_over : (w : Work) (e : RedisError) (qs : List Waiting) → w.conn.life ≡ Ended e → OpenWaits w.conn.requests → moved_each w qs ≡ still_waiting (failed_each w e qs) []
+each_over : (w : Work) (e : RedisError) (qs : List Waiting) → w.conn.life ≡ Ended e → OpenWaits w.conn.requests → admitted_each w qs ≡ still_waiting (failed_each w e qs) []
 each_over w e [] over h = refl
 each_over w e (q ∷ qs) over h =
-    left_if (moves_none w.conn.life) _ (moved_each (moved w q) qs) (ap moves_none over)
-    ∙ ap (λ (x : Work). moved_each x qs) (moved_over w e q over h)
+    left_if (admits_none w.conn.life) _ (admitted_each (admitted w q) qs) (ap admits_none over)
+    ∙ ap (λ (x : Work). admitted_each x qs) (admitted_over w e q over h)
     ∙ each_over (answered w q.number (outcome.Fault e)) e qs ((answered_leaves w q.number (outcome.Fault e)).life ∙ over) (answered_waits w q.number (outcome.Fault e) h)
 
 -- all that wait are answered
-passed_over_is : (w : Work) (e : RedisError) → w.conn.life ≡ Ended e → OpenWaits w.conn.requests → passed w ≡ waiting_failed w e
-passed_over_is w e over h =
-    let v = still_waiting w [] in
+passed_over_is : (w : Work) (e : RedisError) → w.conn.life ≡ Ended e → w.conn.admitted ≡ [] → OpenWaits w.conn.requests → passed w ≡ waiting_failed w e
+passed_over_is w e over empty h =
+    let v = nobody_waits w in
     let c = failed_each v e w.conn.waiting in
-    ap (λ (x : Life). moved_all (started_at w x)) over
+    ap (λ (x : Life). admitted_all (moved_up_all (started_at w x))) over
+    ∙ ap (λ ws. admitted_all (moved_up_each (still_admitted w []) ws)) empty
     ∙ each_over v e w.conn.waiting over h
     ∙ ap (λ ws. record c { conn = record c.conn { waiting = ws } }) (sym (failed_leaves v e w.conn.waiting).waiting)
-
--- and none is told
-answered_told : (before : List Action) (f : Core) (w : Work) (p : ℕ) (e : RedisError) → NoneTold (book (trace_of_acts before f w.acts)) → NoneTold (book (trace_of_acts before f (answered w p (outcome.Fault e)).acts))
-answered_told before f w p e h =
-    chosen (λ (x : Work). NoneTold (book (trace_of_acts before f x.acts))) (is_open_at w.conn.requests p) _ w
-    (λ t. subst NoneTold (sym (book_of_more before f w.acts (act.Outcome (name_at w.conn.requests p) (outcome.Fault e)))) (fault_told (book (trace_of_acts before f w.acts)) (name_at w.conn.requests p) e h))
-    (λ n. h)
-
--- of all that wait
-each_told : (before : List Action) (f : Core) (w : Work) (e : RedisError) (qs : List Waiting) → NoneTold (book (trace_of_acts before f w.acts)) → NoneTold (book (trace_of_acts before f (failed_each w e qs).acts))
-each_told before f w e [] h = h
-each_told before f w e (q ∷ qs) h = each_told before f (answered w q.number (outcome.Fault e)) e qs (answered_told before f w q.number e h)
+    ∙ ap (λ ws. failed_each (failed_each v e ws) e w.conn.waiting) (sym empty)
 
 -- all are moved there
 over_moved : (before : List Action) (f : Core) (w : Work) (e : RedisError) (started : List ℕ) → w.conn.life ≡ Ended e → IsReady before f w started → HasMoved before f (passed w)
 over_moved before f w e started over h =
     let t = seen f w.conn [] started in
-    let v = still_waiting w [] in
     let u = waiting_failed w e in
     let done = waiting_ends before f w e started h.holds over in
-    let c = book (trace_of_acts before f u.acts) in
-    let s = seen f u.conn [] started in
-    let ends = after_end c s done.holds.tied (ap has_ended done.over) in
-    subst (HasMoved before f) (sym (passed_over_is w e over (open_waits (book (trace_of_acts before f w.acts)) t e h.holds.tied refl over))) (record {
+    let ends = after_end (book (trace_of_acts before f u.acts)) (seen f u.conn [] started) done.holds.tied (ap has_ended done.over) in
+    let empty = h.fit.none (λ link r. (let no : Ended e ≡ Ready link = sym over ∙ r in cc)) in
+    let down : (link : LinkState) → u.conn.life ≡ Ready link → ⊥ = λ link r. (let no : Ended e ≡ Ready link = sym done.over ∙ r in cc) in
+    subst (HasMoved before f) (sym (passed_over_is w e over empty (open_waits (book (trace_of_acts before f w.acts)) t e h.holds.tied refl over empty))) (record {
       started = started;
       holds = done.holds;
       ended = ends.0;
-      whole = λ link is. (let no : Ended e ≡ Ready link = sym done.over ∙ is in cc);
-      waiting = λ is. done.none_waits;
-      told = each_told before f v e w.conn.waiting h.told;
+      fit = record { link = λ link r. absurd (down link r); none = λ no. done.none_admitted };
+      still = record { held = λ link r. absurd (down link r); full = λ link r. absurd (down link r); waiting = λ no. done.none_waits };
     })
 
 -- all requests are moved

@@ -1,20 +1,19 @@
 -- The opening: the first link is asked for.
-use Rattle.std.proofs.Common.{List, None, Option, Some, [], ap, arith, false, refl, subst, suc, sym, zero, ℕ, ◌+◌, ◌∙◌, ◌∷◌, ◌≡◌, ◌≢◌}
-use Rattle.std.specs.Prelude.{◌==◌}
-use Rattle.containers.proofs.Choices.{chosen, left_if, ne_test}
+use Rattle.std.proofs.Common.{List, None, Option, Some, [], ap, arith, false, refl, subst, suc, sym, zero, ℕ, ◌+◌, ◌<◌, ◌∙◌, ◌∷◌, ◌≡◌, ◌≢◌}
+use Rattle.std.specs.Prelude.{◌==◌, if◌then◌else◌}
+use Rattle.containers.proofs.Choices.{chosen, left_if, ne_from, ne_test}
 use Rattle.connection_info.specs.declared.address.ConnectionInfo.{ConnectionInfo}
-use Rattle.resp_value.specs.declared.value.Value.TheVariants.{Nil}
+use Rattle.redis_error.specs.declared.config_name.ConfigName.{ConfigName}
+use Rattle.redis_error.specs.declared.config_name.ConfigName.TheVariants as name
 use Rattle.driver_model.specs.declared.action.Action.TheVariants as action
 use Rattle.driver_model.specs.declared.action.Cause.TheVariants as cause
 use Rattle.driver_model.specs.declared.config.Config.{Config}
-use Rattle.driver_model.specs.declared.outcome.Outcome.TheVariants as outcome
-use Rattle.driver_model.specs.Config.{address, connect_timeout, fault_in}
+use Rattle.driver_model.specs.Config.{address, boundary, buffer_fault, buffer_size, connect_timeout, fault_in, has_setup}
 use Rattle.driver_model.specs.declared.action.Action.{Action}
 use Rattle.driver_model.specs.declared.action.Cause.{Cause}
 use Rattle.driver_model.specs.declared.action.Purpose.{Purpose}
-use Rattle.link_core.specs.Link.{no_boundary}
+use Rattle.link_core.specs.Link.{LinkState, holds_back, is_full}
 use Rattle.link_laws.proofs.TiedLink.{asked_tied, fresh_tied}
-use Rattle.mux_conn.specs.Effects.{max_size, new_link}
 use Rattle.mux_conn.specs.Turn.{dialing}
 use Rattle.mux_conn.specs.declared.life.Life.TheVariants.{Dialing}
 use Rattle.shared_session.specs.Replay.{IsSound, connect_asked, connect_timers, first_link, opening_core, opening_actions, timer_asked}
@@ -24,10 +23,10 @@ use Rattle.legal_trace.specs.Ledger.{Ledger, Line, asks, blank_ledger, ending, n
 use Rattle.legal_trace.specs.Legal.{AllStand, IsSettled, NoneEnds}
 use Rattle.legal_trace.specs.Story.{blank_story}
 use Rattle.session_laws.proofs.Going.{is_moved}
-use Rattle.session_laws.proofs.Settled.{IsBetween, is_settled}
-use Rattle.session_laws.proofs.States.{IsWholeIn}
-use Rattle.session_laws.proofs.Tied.{AreAimed, IsUnknown, Tied, TiedLines, TiedNames, TiedNumbers, TiedTries, inner, owner_of, owners_of}
-use Rattle.session_laws.proofs.Told.{NoneTold}
+use Rattle.session_laws.proofs.Goes.{is_settled}
+use Rattle.session_laws.proofs.Settled.{IsBetween}
+use Rattle.session_laws.proofs.States.{IsFit, IsFitIn, IsStill}
+use Rattle.session_laws.proofs.Tied.{AreAimed, IsUnknown, Tied, TiedLines, TiedNames, TiedNumbers, TiedTries, TiedWaits, inner, no_link, owner_of, owners_of}
 use Rattle.session_laws.proofs.Write.{is_written}
 
 -- what timers the opening has asked for
@@ -39,14 +38,14 @@ abbrev opened : Config → ℕ → ConnectionInfo → List Purpose → Book
 opened config word info timers = asks_timers timers (entered (entered blank_book (action.Turn 0 (cause.Opening config word))) (action.Connect first_link info.host info.port))
 
 -- the session then
-abbrev opened_core : List Purpose → Core
-opened_core timers = record {
+abbrev opened_core : Config → List Purpose → Core
+opened_core config timers = record {
   turns = 1;
   links = first_link + 1;
   shut = false;
   timers = timers;
   table = [];
-  single = record { link = first_link; connection = dialing };
+  single = record { link = first_link; connection = dialing (buffer_size config) (boundary config) };
 }
 
 -- no other link is told of
@@ -68,9 +67,18 @@ first_aims None k what e = cc
 first_aims (Some ms) zero what e = cc
 first_aims (Some ms) (suc k) what e = cc
 
+-- a queue that holds nothing is refused
+sized : (info : ConnectionInfo) (size : ℕ) → fault_in (Some info) size ≡ None → 0 < size
+sized info size =
+    chosen (λ (x : Option ConfigName). x ≡ None → 0 < size) (has_setup info.redis) (Some name.Kind) (buffer_fault size) (λ t e. absurd (no_fault name.Kind e))
+    (λ f. chosen (λ (x : Option ConfigName). x ≡ None → 0 < size) (size == 0) (Some name.Buffer) None (λ t e. absurd (no_fault name.Buffer e)) (λ n e. let some = ne_from size 0 n in omega arith))
+  where
+    no_fault : (n : ConfigName) → Some n ≡ None → ⊥
+    no_fault n e = cc
+
 -- its numbers
-opening_numbers : (config : Config) (word : ℕ) (info : ConnectionInfo) (timeout : Option ℕ) → connect_timeout config ≡ timeout → TiedNumbers (opened config word info (connect_timers timeout)) (inner (opened_core (connect_timers timeout)) [])
-opening_numbers config word info timeout is = record {
+opening_numbers : (config : Config) (word : ℕ) (info : ConnectionInfo) (timeout : Option ℕ) → 0 < buffer_size config → connect_timeout config ≡ timeout → TiedNumbers (opened config word info (connect_timers timeout)) (inner (opened_core config (connect_timers timeout)) [])
+opening_numbers config word info timeout some is = record {
   turns = refl;
   links = refl;
   timers = refl;
@@ -78,13 +86,27 @@ opening_numbers config word info timeout is = record {
   timed = λ other another opens bounded. bounded_timers timeout (λ none. bounded (ap connect_timeout (sym (own_opening config other word another opens)) ∙ is ∙ none));
   submissions = refl;
   shut = refl;
+  settings = record { size_is = refl; bound_is = refl; some = some };
   one = refl;
   only = λ m less. omega arith;
 }
 
 -- its lines
-opening_lines : TiedLines (λ n. blank_story) [] new_link [] [] []
-opening_lines = record { line = omega arith; queued = tt; entries = tt; packs = tt; there = λ p e. cc }
+opening_lines : TiedLines (λ n. blank_story) [] no_link [] [] [] []
+opening_lines = record { line = omega arith; queued = tt; entries = tt; packs = tt; packed_in = tt; there = λ p e. cc }
+
+-- its waits
+opening_waits : TiedWaits (λ n. blank_story) [] Dialing [] []
+opening_waits = record {
+  new = tt;
+  early = λ p w. cc;
+  connect = λ p w e. cc;
+  place = λ p a. cc;
+  room = λ p i. absurd i;
+  rising = omega arith;
+  no_place = λ p i. absurd i;
+  no_room = λ p i. absurd i;
+}
 
 -- its names
 opening_names : TiedNames [] []
@@ -95,26 +117,23 @@ opening_tries : (l : Ledger) → l.starts ≡ [] → TiedTries l (λ n. blank_st
 opening_tries l none = record { owners = ap owners_of none; shapes = λ k p s e i. cc; tried = λ k p e. cc; untried = λ p r e out. cc }
 
 -- the session is tied to it
-opening_tied : (config : Config) (word : ℕ) (info : ConnectionInfo) (timeout : Option ℕ) → connect_timeout config ≡ timeout → Tied (opened config word info (connect_timers timeout)) (inner (opened_core (connect_timers timeout)) [])
-opening_tied config word info timeout is = record {
-  numbers = opening_numbers config word info timeout is;
+opening_tied : (config : Config) (word : ℕ) (info : ConnectionInfo) (timeout : Option ℕ) → 0 < buffer_size config → connect_timeout config ≡ timeout → Tied (opened config word info (connect_timers timeout)) (inner (opened_core config (connect_timers timeout)) [])
+opening_tied config word info timeout some is = record {
+  numbers = opening_numbers config word info timeout some is;
   others = λ m other. subst IsUnknown (sym (opened_link config word info (connect_timers timeout) m other)) (record { asked = refl; up = refl; end = refl; starts = refl });
   life = (refl, refl, refl, refl);
-  link = λ e. asked_tied (owner_of []) blank_ledger new_link (fresh_tied (owner_of []) max_size no_boundary);
+  link = λ e. asked_tied (owner_of []) blank_ledger no_link (fresh_tied (owner_of []) 0 0);
   names = opening_names;
   story = λ n. refl;
   tries = opening_tries ((opened config word info (connect_timers timeout)).link first_link) refl;
   lines = opening_lines;
-  waits = record { new = tt; shown = λ p w e. cc };
+  told = λ e n is none. cc;
+  waits = opening_waits;
 }
 
 -- no link must end
 opening_ends : (config : Config) (word : ℕ) (info : ConnectionInfo) (timers : List Purpose) → NoneEnds (opened config word info timers)
 opening_ends config word info timers m = chosen (λ (ls : List Line). ending (noted_each blank_ledger ls) ≡ None) (first_link == m) (asks ∷ []) [] (λ t. refl) (λ f. refl)
-
--- none is told without an outcome
-not_told : (b : Book) → ((n : ℕ) → (b.story n).outcomes ≡ []) → NoneTold b
-not_told b none n told untried = let no : [] ≡ outcome.One Nil ∷ [] = sym (none n) ∙ told.told in cc
 
 -- what the opening shows
 abbrev opened_actions : Config → ℕ → ConnectionInfo → Option ℕ → List Action
@@ -139,36 +158,38 @@ opening_stands config word info timeout sound at is = (
 )
 
 -- the session after an opening with an address
-opened_between : (config : Config) (word : ℕ) (info : ConnectionInfo) (timeout : Option ℕ) → IsSound config → address config ≡ Some info → connect_timeout config ≡ timeout → IsBetween (opened_actions config word info timeout) (opened_core (connect_timers timeout))
-opened_between config word info timeout sound at is =
+opened_between : (config : Config) (word : ℕ) (info : ConnectionInfo) (timeout : Option ℕ) → IsSound config → address config ≡ Some info → 0 < buffer_size config → connect_timeout config ≡ timeout
+    → IsBetween (opened_actions config word info timeout) (opened_core config (connect_timers timeout))
+opened_between config word info timeout sound at some is =
     let timers = connect_timers timeout in
     let b = opened config word info timers in
-    let c = opened_core timers in
+    let c = opened_core config timers in
+    let conn = c.single.connection in
     let t = inner c [] in
-    let tied = opening_tied config word info timeout is in
-    let told = not_told b (λ n. refl) in
-    let whole : IsWholeIn t.life = λ link e. cc in
-    let waiting : t.life ≢ Dialing → t.waiting ≡ [] = λ e. refl in
-    let moved = is_moved b t tied refl (opening_ends config word info timers) told whole waiting in
+    let tied = opening_tied config word info timeout some is in
+    let fit : IsFitIn conn = record { link = λ link e. cc; none = λ no. refl } in
+    let still : IsStill conn = record { held = λ link e. cc; full = λ link e. cc; waiting = λ e. refl } in
+    let moved = is_moved b t tied refl (opening_ends config word info timers) fit.link fit.none still.held still.full still.waiting in
+    let written = is_written b t tied moved (λ link e. cc) in
     let book_is = sym (opening_book config word info timeout) in
     record {
       started = [];
       between = record {
         sound = record { stands = opening_stands config word info timeout sound at is; tied = subst (λ (x : Book). Tied x t) book_is tied };
-        settled = subst IsSettled book_is (is_settled b t tied refl refl whole waiting (is_written b t tied moved (λ link e. cc)));
+        settled = subst IsSettled book_is (is_settled b t tied refl refl refl fit.link fit.none still.held still.full still.waiting written);
         began = λ e. cc;
         fresh = refl;
-        whole = whole;
-        waiting = waiting;
+        moved = refl;
+        fit = fit;
+        still = still;
       };
-      told = subst NoneTold book_is told;
     }
 
 -- and after that of a sound configuration
 pub opening_between : (config : Config) (word : ℕ) → IsSound config → IsBetween (opening_actions config word) (opening_core config word)
 opening_between config word sound = by_address (address config) refl sound
   where
-    by_address : (x : Option ConnectionInfo) → address config ≡ x → fault_in x ≡ None
+    by_address : (x : Option ConnectionInfo) → address config ≡ x → fault_in x (buffer_size config) ≡ None
         → IsBetween (action.Turn 0 (cause.Opening config word) ∷ connect_asked x (connect_timeout config)) (opening_core config word)
     by_address None at none = cc
-    by_address (Some info) at none = opened_between config word info (connect_timeout config) sound at refl
+    by_address (Some info) at none = opened_between config word info (connect_timeout config) sound at (sized info (buffer_size config) none) refl

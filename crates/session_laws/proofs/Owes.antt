@@ -24,9 +24,9 @@ use Rattle.legal_trace.specs.Book.{Book}
 use Rattle.legal_trace.specs.Owed.{owed, owed_to_message, owed_unstarted, owed_to_try}
 use Rattle.legal_trace.specs.Legal.{IsOpen, NoneIsOwed, IsCreated, FailuresAreShown}
 use Rattle.session_laws.proofs.Numbers.{Rising, IsIn, in_either, rising_in, rising_left, rising_apart}
-use Rattle.session_laws.proofs.Tied.{IsEntry, Inner, link_in, owner_of, owners_of, owners_each, queue_ids, waiting_ids, IsRequest, TiedStory, TiedLife, Tied, FailureIsShown, has_ended}
+use Rattle.session_laws.proofs.Tied.{IsEntry, Inner, link_in, owner_of, owners_of, owners_each, queue_ids, IsRequest, TiedStory, TiedLife, Tied, FailureIsShown, has_ended}
 use Rattle.session_laws.proofs.Names.{get_some, open_within, name_of_some, name_placed, same_name}
-use Rattle.session_laws.proofs.InLine.{AtPlaces, IsInLine, wanted_rises, places_rise, row_ids, wanted_in, line_of, open_in_line}
+use Rattle.session_laws.proofs.InLine.{AtPlaces, IsInLine, wanted_rises, places_rise, row_ids, wanted_in, kept_ids, line_of, open_in_line}
 
 -- each request is a submission
 pub request_story : (b : Book) (t : Inner) (p : ℕ) → Tied b t → p < length t.requests → IsRequest (b.story (name_at t.requests p)) t.requests t.link p
@@ -81,7 +81,7 @@ get_in (x ∷ xs) (suc k) n e = inr (get_in xs k n e)
 -- and a request
 pub started_within : (b : Book) (t : Inner) (k p : ℕ) → Tied b t → slice_get t.started k ≡ Some p → p < length t.requests
 started_within b t k p h e =
-    let r = rising_in 0 t.started (length t.requests) p (rising_left 0 t.started (queue_ids (link_in t.life).queue ++ waiting_ids t.waiting) (length t.requests) h.lines.line) (get_in t.started k p e) in
+    let r = rising_in 0 t.started (length t.requests) p (rising_left 0 t.started (queue_ids (link_in t.life).queue ++ kept_ids t.admitted t.waiting) (length t.requests) h.lines.line) (get_in t.started k p e) in
     r.1
 
 -- the message of a request that stands as number k is the one that started so
@@ -128,9 +128,9 @@ settled_owed b t s h l o = owed_started b t s.id o.number o.of_shape h l o.place
 -- a link that isn't over owes nothing
 --
 -- those of the queue, and those that wait, have not started
-pub later_unstarted : (b : Book) (t : Inner) (p : ℕ) → Tied b t → IsIn p (queue_ids (link_in t.life).queue ++ waiting_ids t.waiting) → IsIn p t.started → ⊥
+pub later_unstarted : (b : Book) (t : Inner) (p : ℕ) → Tied b t → IsIn p (queue_ids (link_in t.life).queue ++ kept_ids t.admitted t.waiting) → IsIn p t.started → ⊥
 later_unstarted b t p h i j =
-    let k = rising_apart 0 t.started (queue_ids (link_in t.life).queue ++ waiting_ids t.waiting) (length t.requests) p p h.lines.line j i in
+    let k = rising_apart 0 t.started (queue_ids (link_in t.life).queue ++ kept_ids t.admitted t.waiting) (length t.requests) p p h.lines.line j i in
     omega arith
 
 -- an entry of a row that is wanted
@@ -162,12 +162,12 @@ row_unowed b t p h n l i =
     owed_started b t p w.number w.entry.shape h l place ∙ open_unowed (owner_of t.requests) ledger w.number w.entry alive w.open_as
 
 -- nor to one that waits
-later_unowed : (b : Book) (t : Inner) (p : ℕ) → Tied b t → has_ended t.life ≡ false → p < length t.requests → IsIn p (queue_ids (link_in t.life).queue ++ waiting_ids t.waiting) → owed b (name_at t.requests p) ≡ None
+later_unowed : (b : Book) (t : Inner) (p : ℕ) → Tied b t → has_ended t.life ≡ false → p < length t.requests → IsIn p (queue_ids (link_in t.life).queue ++ kept_ids t.admitted t.waiting) → owed b (name_at t.requests p) ≡ None
 later_unowed b t p h n l i = owed_none_started b t p h l (later_unstarted b t p h i) ∙ ap owed_unstarted (lives (b.link t.link) b.created t.life h.life n)
 
 -- and so to none of the line
-pub line_unowed : (b : Book) (t : Inner) (p : ℕ) → Tied b t → has_ended t.life ≡ false → p < length t.requests → IsIn p (line_of (link_in t.life) t.waiting) → owed b (name_at t.requests p) ≡ None
-line_unowed b t p h n l i = elim (in_either p (wanted (link_in t.life).row) (queue_ids (link_in t.life).queue ++ waiting_ids t.waiting) i) [
+pub line_unowed : (b : Book) (t : Inner) (p : ℕ) → Tied b t → has_ended t.life ≡ false → p < length t.requests → IsIn p (line_of (link_in t.life) t.admitted t.waiting) → owed b (name_at t.requests p) ≡ None
+line_unowed b t p h n l i = elim (in_either p (wanted (link_in t.life).row) (queue_ids (link_in t.life).queue ++ kept_ids t.admitted t.waiting) i) [
   | inl j ↦ row_unowed b t p h n l (wanted_in p (link_in t.life).row j)
   | inr j ↦ later_unowed b t p h n l j
 ]
@@ -176,18 +176,18 @@ line_unowed b t p h n l i = elim (in_either p (wanted (link_in t.life).row) (que
 pub none_owed : (b : Book) (t : Inner) → Tied b t → t.pending ≡ [] → has_ended t.life ≡ false → NoneIsOwed b
 none_owed b t h none n m o =
     let r = open_request b t m h o in
-    let i = open_in_line b.story t.requests (link_in t.life) t.waiting t.pending t.started r.number h.lines r.open_at in
-    let j = subst (λ ns. IsIn r.number (ns ++ line_of (link_in t.life) t.waiting)) none i in
+    let i = open_in_line b.story t.requests (link_in t.life) t.waiting t.admitted t.pending t.started r.number h.lines r.open_at in
+    let j = subst (λ ns. IsIn r.number (ns ++ line_of (link_in t.life) t.admitted t.waiting)) none i in
     ap (owed b) (sym r.named) ∙ line_unowed b t r.number h n (open_within t.requests r.number r.open_at) j
 
 -- on a link that has ended, where none waits, none is open
-pub none_open : (b : Book) (t : Inner) (e : RedisError) (n : ℕ) → Tied b t → t.pending ≡ [] → t.life ≡ Ended e → t.waiting ≡ [] → IsOpen b n → ⊥
+pub none_open : (b : Book) (t : Inner) (e : RedisError) (n : ℕ) → Tied b t → t.pending ≡ [] → t.life ≡ Ended e → kept_ids t.admitted t.waiting ≡ [] → IsOpen b n → ⊥
 none_open b t e m h none over empty o =
     let r = open_request b t m h o in
-    let i = open_in_line b.story t.requests (link_in t.life) t.waiting t.pending t.started r.number h.lines r.open_at in
-    let j = subst (λ ns. IsIn r.number (ns ++ line_of (link_in t.life) t.waiting)) none i in
-    let k = subst (λ life. IsIn r.number (line_of (link_in life) t.waiting)) over j in
-    subst (λ ws. IsIn r.number (waiting_ids ws)) empty k
+    let i = open_in_line b.story t.requests (link_in t.life) t.waiting t.admitted t.pending t.started r.number h.lines r.open_at in
+    let j = subst (λ ns. IsIn r.number (ns ++ line_of (link_in t.life) t.admitted t.waiting)) none i in
+    let k = subst (λ life. IsIn r.number (line_of (link_in life) t.admitted t.waiting)) over j in
+    subst (IsIn r.number) empty k
 
 -- where the opening of a link failed, this was shown
 --
@@ -228,15 +228,15 @@ row_places b t k [] h all open_all = tt
 row_places b t k (e ∷ es) h all open_all = (stands_started b t e.id k e.shape h all.0.below open_all.0.place, row_places b t (suc k) es h all.1 open_all.1)
 
 -- the entries and all behind them rise, on a link that has not ended
-pub row_in_line : (b : Book) (t : Inner) → Tied b t → has_ended t.life ≡ false → Rising 0 (row_ids (link_in t.life).row ++ (queue_ids (link_in t.life).queue ++ waiting_ids t.waiting)) (length t.requests)
+pub row_in_line : (b : Book) (t : Inner) → Tied b t → has_ended t.life ≡ false → Rising 0 (row_ids (link_in t.life).row ++ (queue_ids (link_in t.life).queue ++ kept_ids t.admitted t.waiting)) (length t.requests)
 row_in_line b t h n =
     let ledger = b.link t.link in
     let row = (link_in t.life).row in
-    let later = queue_ids (link_in t.life).queue ++ waiting_ids t.waiting in
+    let later = queue_ids (link_in t.life).queue ++ kept_ids t.admitted t.waiting in
     let alive = lives ledger b.created t.life h.life n in
     let places = row_places b t (full_count ledger.starts ledger.dealt) row h h.lines.entries (row_open (owner_of t.requests) ledger (link_in t.life) alive (h.link n)) in
     places_rise 0 t.started (full_count ledger.starts ledger.dealt) (row_ids row) later (length t.requests) places h.lines.line
 
 -- and so does the line
-pub in_line : (b : Book) (t : Inner) → Tied b t → has_ended t.life ≡ false → IsInLine t.requests (link_in t.life) t.waiting []
-in_line b t h n = wanted_rises 0 (link_in t.life).row (queue_ids (link_in t.life).queue ++ waiting_ids t.waiting) (length t.requests) (row_in_line b t h n)
+pub in_line : (b : Book) (t : Inner) → Tied b t → has_ended t.life ≡ false → IsInLine t.requests (link_in t.life) t.admitted t.waiting []
+in_line b t h n = wanted_rises 0 (link_in t.life).row (queue_ids (link_in t.life).queue ++ kept_ids t.admitted t.waiting) (length t.requests) (row_in_line b t h n)

@@ -1,226 +1,419 @@
--- Requests are moved on a link that is up: each that waits takes its place, and starts.
-use Rattle.mux_conn.specs.Passes.{started}
-use Rattle.std.proofs.Common.{List, [], ap, false, inl, inr, length, nat_le, refl, slice_set, subst, suc, sym, true, zero, ℕ, ◌++◌, ◌<◌, ◌∙◌, ◌∷◌, ◌≡◌}
-use Rattle.std.proofs.lemmas.List.{append-nil}
-use Rattle.std.specs.Prelude.{◌==◌}
-use Rattle.containers.proofs.Choices.{chosen, eq_from, if_false, if_true}
+-- Requests are moved on a link that is up: each takes its place where the queue has room, and messages start.
+use Rattle.std.proofs.Common.{Bool, List, [], ap, append_assoc, arith, false, inl, inr, length, refl, slice_set, subst, suc, sym, true, zero, ℕ, ◌++◌, ◌∙◌, ◌∷◌, ◌≡◌, ◌⊎◌}
+use Rattle.std.proofs.lemmas.List.{append-nil, length_push}
+use Rattle.std.specs.Prelude.{not}
+use Rattle.containers.proofs.Choices.{chosen, if_false, if_true, not_both, not_le_from}
 use Rattle.resp_value.specs.declared.value.Value.TheVariants.{Nil}
 use Rattle.driver_model.specs.declared.action.Action.{Action}
 use Rattle.driver_model.specs.declared.action.Action.TheVariants as action
 use Rattle.driver_model.specs.declared.outcome.Outcome.TheVariants as outcome
-use Rattle.link_core.specs.Link.{LinkState, Starting, is_full, holds_back, no_boundary, started_all, started_each, started_one}
+use Rattle.link_core.specs.Link.{LinkState, Starting, enqueued, holds_back, is_full, started_all}
 use Rattle.link_core.specs.declared.message.Queued.{Queued}
-use Rattle.link_laws.proofs.Bounds.{free_greatest}
-use Rattle.mux_conn.specs.Connection.{Work, acted, moves_none, with_link}
-use Rattle.mux_conn.specs.Effects.{max_size}
-use Rattle.mux_conn.specs.Passes.{message_of, moved, moved_at, moved_each, placed_at, started_at}
-use Rattle.mux_conn.specs.Requests.{answered, at_progress, is_open as is_open_progress, is_open_at, is_waiting_at, name_at, progressed}
+use Rattle.link_laws.specs.Starts.{starting}
+use Rattle.mux_conn.specs.Connection.{Work, acted, admits_none, has_room, with_link}
+use Rattle.mux_conn.specs.Passes.{admitted, admitted_at, admitted_each, message_of, moved_up, moved_up_each, noted, placed_at, put_behind, seated, started, started_at, still_admitted, told_at_place}
+use Rattle.mux_conn.specs.Requests.{answered, at_progress, is_admitted_at, is_open as is_open_progress, is_open_at, is_waiting_at, name_at, progressed}
 use Rattle.mux_conn.specs.declared.act.LinkAct.{LinkAct}
 use Rattle.mux_conn.specs.declared.act.LinkAct.TheVariants as act
 use Rattle.mux_conn.specs.declared.connection.MultiplexedConnection.{MultiplexedConnection}
 use Rattle.mux_conn.specs.declared.life.Life.{Life}
-use Rattle.mux_conn.specs.declared.life.Life.TheVariants.{Ready}
+use Rattle.mux_conn.specs.declared.life.Life.TheVariants.{Dialing, Ended, Ready}
+use Rattle.mux_conn.specs.declared.request.Progress.{Progress}
 use Rattle.mux_conn.specs.declared.request.Progress.TheVariants as progress
 use Rattle.mux_conn.specs.declared.request.Request.{Request}
 use Rattle.mux_conn.specs.declared.request.Waiting.{Waiting}
 use Rattle.shared_session.specs.declared.core_state.Core.{Core}
 use Rattle.legal_trace.specs.Book.{Book, book}
-use Rattle.legal_trace.specs.Legal.{IsTold, MayTell, NoneEnds}
-use Rattle.legal_trace.specs.Story.{Story, answered as answer}
+use Rattle.legal_trace.specs.Legal.{MayTell, NoneEnds}
+use Rattle.session_laws.proofs.Ahead.{IsRunning, first_step, kept_unstarted}
 use Rattle.session_laws.proofs.Entered.{shown_more}
-use Rattle.session_laws.proofs.Going.{IsGoing, applied_up, going_more}
-use Rattle.session_laws.proofs.Moves.{AreQueued, first_to_move}
-use Rattle.session_laws.proofs.Names.{get_some, length_still, name_of_some, name_still, open_within, there_same}
-use Rattle.session_laws.proofs.Numbers.{IsIn}
-use Rattle.session_laws.proofs.Owes.{later_unstarted, request_story}
-use Rattle.session_laws.proofs.Place.{passed_over, place_tied, tell_tied, waiting_open, with_waiting}
-use Rattle.session_laws.proofs.Settle.{seen, trace_of_acts}
-use Rattle.session_laws.proofs.Start.{with_queue}
-use Rattle.session_laws.proofs.Starts.{each_going, shown_is}
-use Rattle.session_laws.proofs.States.{IsWhole}
+use Rattle.session_laws.proofs.Going.{IsGoing, applied_up, first_behind, going_more}
+use Rattle.session_laws.proofs.InLine.{kept_ids}
+use Rattle.session_laws.proofs.Names.{length_still, name_still, open_within, there_same}
+use Rattle.session_laws.proofs.Numbers.{IsIn, Rising, rising_left, rising_right, rising_tail, rising_without}
+use Rattle.session_laws.proofs.Owes.{request_story}
+use Rattle.session_laws.proofs.Place.{IsNext, admit_tied, next_admitted, next_waiting, passed_admitted, passed_waiting, place_tied, tell_tied, with_place}
+use Rattle.session_laws.proofs.Settle.{answered_leaves, seen, trace_of_acts}
+use Rattle.session_laws.proofs.Start.{on_link}
+use Rattle.session_laws.proofs.Starts.{each_fit, each_going, each_held, shown_is}
+use Rattle.session_laws.proofs.States.{IsFit}
 use Rattle.session_laws.proofs.Tied.{Inner, Tied, queue_ids, waiting_ids}
 
--- the session with this connection, of which these wait
-abbrev pub moving : Core → MultiplexedConnection → List Waiting → List ℕ → Inner
-moving f conn waiting started = seen f (record conn { waiting = waiting }) [] started
+-- the session with this connection, of which these wait for a place, and these for the connection
+abbrev pub moving : Core → MultiplexedConnection → List Waiting → List Waiting → List ℕ → Inner
+moving f conn admitted waiting started = seen f (record conn { admitted = admitted; waiting = waiting }) [] started
 
--- a connection that is up, between two moves: its link is whole, and these wait still
-pub record IsUp (before : List Action) (f : Core) (w : Work) (waiting : List Waiting) : Type 0 where
+-- a connection that is up, between two moves: what is in its queue is held back, if anything is; these wait still for a place
+-- and for the connection; and those that are still to be moved are above all that were in this turn
+pub record IsUp (before : List Action) (f : Core) (w : Work) (admitted waiting : List Waiting) (next : List ℕ) : Type 0 where
   pub link : LinkState
   pub life : w.conn.life ≡ Ready link
-  pub whole : IsWhole link
+  pub fit : IsFit w.conn.size w.conn.boundary link
+  pub held : (link.queue ≡ []) ⊎ (holds_back link ≡ true)
   pub started : List ℕ
-  pub going : IsGoing (trace_of_acts before f w.acts) (moving f w.conn waiting started)
+  pub going : IsGoing (trace_of_acts before f w.acts) (moving f w.conn admitted waiting started)
+  pub order : Rising 0 (w.conn.moved ++ next) (length w.conn.requests)
 
--- messages start
---
--- all that are in the queue do, where the link has no boundary
-each_whole : (s : Starting) (qs : List Queued) → s.link.broken ≡ false → s.link.size ≡ max_size → s.link.boundary ≡ no_boundary → IsWhole (started_each s qs).link
-each_whole s [] sound size free = record { sound = sound; empty = refl; size = size; boundary = free }
-each_whole s (q ∷ qs) sound size free = if_false (λ (r : Starting). IsWhole r.link) (holds_back s.link) _ (started_each (started_one s q) qs) (free_greatest s.link free) (each_whole (started_one s q) qs sound size free)
-
--- and the link is whole behind them
-pub started_up : (before : List Action) (f : Core) (w : Work) (link : LinkState) (waiting : List Waiting) (done : List ℕ) → link.broken ≡ false → link.size ≡ max_size → link.boundary ≡ no_boundary
-    → IsGoing (trace_of_acts before f w.acts) (moving f (with_link w link).conn waiting done) → IsUp before f (started_at (with_link w link) (Ready link)) waiting
-started_up before f w link waiting done sound size free h =
-    let s = started_all (record { link = link; out = [] }) in
-    let t = moving f (with_link w link).conn waiting done in
+-- messages start, and what is in the queue behind them is held back
+pub started_up : (before : List Action) (f : Core) (w : Work) (link : LinkState) (admitted waiting : List Waiting) (next done : List ℕ) → IsFit w.conn.size w.conn.boundary link
+    → IsGoing (trace_of_acts before f w.acts) (moving f (with_link w link).conn admitted waiting done) → Rising 0 (w.conn.moved ++ next) (length w.conn.requests)
+    → IsUp before f (started_at (with_link w link) (Ready link)) admitted waiting next
+started_up before f w link admitted waiting next done fit h order =
+    let from : Starting = record { link = link; out = [] } in
+    let s = started_all from in
+    let t = moving f (with_link w link).conn admitted waiting done in
     let first = subst (λ (x : List LinkAct). IsGoing (trace_of_acts before f x) t) (sym (append-nil w.acts)) h in
-    subst (λ (x : Work). IsUp before f x waiting) (sym (shown_is (with_link w s.link) s.out)) (record {
+    subst (λ (x : Work). IsUp before f x admitted waiting next) (sym (shown_is (with_link w s.link) s.out)) (record {
       link = s.link;
       life = refl;
-      whole = each_whole (record { link = link; out = [] }) link.queue sound size free;
-      started = done ++ queue_ids link.queue;
-      going = each_going before w.acts t (record { link = link; out = [] }) link.queue free first;
+      fit = each_fit w.conn.size w.conn.boundary from link.queue fit;
+      held = each_held from link.queue;
+      started = done ++ queue_ids (starting link link.queue);
+      going = each_going before w.acts t from link.queue fit first;
+      order = order;
     })
 
--- one that waits is moved
---
--- with its place in the queue
-placed_going : (trace : List Action) (t : Inner) (link : LinkState) (q : Waiting) (qs : List Waiting) → is_waiting_at t.requests q.number ≡ true → q.awaited ≡ true → IsGoing trace (with_waiting t (with_queue link []) (q ∷ qs))
-    → IsGoing trace (record (with_waiting t (with_queue link (message_of q ∷ [])) qs) { requests = at_progress t.requests q.number progress.Placed })
-placed_going trace t link q qs w yes_awaited h = record {
-  sound = record { stands = h.sound.stands; tied = place_tied (book trace) t link q qs w yes_awaited h.sound.tied };
-  ended = h.ended;
-  told = λ n is none. absurd (h.told n is none).3;
-}
+-- the session with its link
+up_going : (before : List Action) (f : Core) (w : Work) (admitted waiting : List Waiting) (next : List ℕ) (h : IsUp before f w admitted waiting next) → IsGoing (trace_of_acts before f w.acts) (on_link (moving f w.conn admitted waiting h.started) h.link)
+up_going before f w admitted waiting next h = subst (λ (x : Life). IsGoing (trace_of_acts before f w.acts) (record (moving f w.conn admitted waiting h.started) { life = x })) h.life h.going
 
+-- what the moves leave of a connection
+--
+pub record Keeps (w v : Work) : Type 0 where
+  pub admitted : v.conn.admitted ≡ w.conn.admitted
+  pub waiting : v.conn.waiting ≡ w.conn.waiting
+
+-- one after another
+keeps_on : (u v w : Work) → Keeps u v → Keeps v w → Keeps u w
+keeps_on u v w h k = record { admitted = k.admitted ∙ h.admitted; waiting = k.waiting ∙ h.waiting }
+
+-- starts leave those that wait
+pub started_keeps : (w : Work) (life : Life) → Keeps w (started_at w life)
+started_keeps w Dialing = record { admitted = refl; waiting = refl }
+started_keeps w (Ready link) =
+    let s = started_all (record { link = link; out = [] }) in
+    let same = shown_is (with_link w s.link) s.out in
+    record { admitted = ap (λ (x : Work). x.conn.admitted) same; waiting = ap (λ (x : Work). x.conn.waiting) same }
+started_keeps w (Ended e) = record { admitted = refl; waiting = refl }
+
+-- so does the place of another
+placed_keeps : (w : Work) (q : Waiting) (life : Life) → Keeps w (placed_at w q life)
+placed_keeps w q Dialing = record { admitted = refl; waiting = refl }
+placed_keeps w q (Ready link) = record { admitted = refl; waiting = refl }
+placed_keeps w q (Ended e) = record { admitted = refl; waiting = refl }
+
+-- and the answer at it
+told_keeps : (w : Work) (q : Waiting) → Keeps w (told_at_place w q)
+told_keeps w q =
+    let nil = outcome.One Nil in
+    chosen (Keeps w) q.awaited w (answered w q.number nil) (λ t. record { admitted = refl; waiting = refl })
+    (λ f. let l = answered_leaves w q.number nil in record { admitted = l.admitted; waiting = l.waiting })
+
+-- and so all of it
+seated_keeps : (w : Work) (q : Waiting) → Keeps w (seated w q)
+seated_keeps w q =
+    let v = placed_at w q w.conn.life in
+    let u = told_at_place v q in
+    keeps_on w v (started u) (placed_keeps w q w.conn.life) (keeps_on v u (started u) (told_keeps v q) (started_keeps u u.conn.life))
+
+-- one takes its place
+--
 -- where nobody awaits its reply it may be told
-tell_may : (b : Book) (t : Inner) (link : LinkState) (q : Waiting) (qs : List Waiting) → is_waiting_at t.requests q.number ≡ true → q.awaited ≡ false → Tied b (with_waiting t (with_queue link []) (q ∷ qs)) → NoneEnds b → AreQueued b (with_waiting t (with_queue link []) (q ∷ qs))
-    → MayTell b (name_at t.requests q.number) (outcome.One Nil)
-tell_may b t link q qs w not_awaited h ends told =
-    let was = with_waiting t (with_queue link []) (q ∷ qs) in
+tell_may : (b : Book) (t : Inner) (link : LinkState) (q : Waiting) (waiting admitted : List Waiting) → q.awaited ≡ false → IsFit t.size t.bound link → (link.queue ≡ []) ⊎ (holds_back link ≡ true) → is_full link ≡ false
+    → IsNext b.story t.requests t.moved t.waiting t.admitted q waiting admitted → Tied b (on_link t link) → NoneEnds b → MayTell b (name_at t.requests q.number) (outcome.One Nil)
+tell_may b t link q waiting admitted not_awaited fit held room next h ends =
+    let was = on_link t link in
     let p = q.number in
-    let o = waiting_open t.requests p w in
-    let within = open_within t.requests p o in
-    let r = request_story b was p h within in
-    let g = get_some t.requests p within in
+    let o = next.open_at in
+    let kept = kept_ids admitted waiting in
+    let running : IsRunning was = record { settled = refl; up = refl; fit = fit } in
     record {
       applied = applied_up b was h refl refl ends;
-      asked = r.open_is ∙ o;
-      unawaited = sym h.lines.packs.0.awaited_is ∙ not_awaited;
-      moves = record {
-        unstarted = ap (λ x. (b.story x).tries) (name_of_some t.requests p g.0 g.1) ∙ h.tries.untried p g.0 g.1 (later_unstarted b was p h (inl refl));
-        wanted = inl (r.open_is ∙ o);
-        up = ap (λ l. (b.link l).up) r.on ∙ h.life.1;
-      };
-      in_order = first_to_move b was p (waiting_ids qs) h refl told refl;
+      asked = (request_story b was p h (open_within t.requests p o)).open_is ∙ o;
+      unstarted = kept_unstarted b was p h o (subst (IsIn p) (sym next.first) (inl refl));
+      tells = first_step b was p kept h running room o next.first (sym next.packed.awaited_is ∙ not_awaited);
+      in_order = first_behind b was p kept h running held next.first;
       nil = refl;
     }
 
 -- it is, and has its place
-told_going : (trace : List Action) (t : Inner) (link : LinkState) (q : Waiting) (qs : List Waiting) → is_waiting_at t.requests q.number ≡ true → q.awaited ≡ false → IsGoing trace (with_waiting t (with_queue link []) (q ∷ qs))
-    → IsGoing (trace ++ action.Outcome (name_at t.requests q.number) (outcome.One Nil) ∷ []) (record (with_waiting t (with_queue link (message_of q ∷ [])) qs) { requests = at_progress t.requests q.number progress.Closed })
-told_going trace t link q qs w not_awaited h =
+told_going : (trace : List Action) (t : Inner) (link : LinkState) (q : Waiting) (waiting admitted : List Waiting) → q.awaited ≡ false → IsFit t.size t.bound link → (link.queue ≡ []) ⊎ (holds_back link ≡ true) → is_full link ≡ false
+    → IsNext (book trace).story t.requests t.moved t.waiting t.admitted q waiting admitted → IsGoing trace (on_link t link)
+    → IsGoing (trace ++ action.Outcome (name_at t.requests q.number) (outcome.One Nil) ∷ []) (with_place t link q waiting admitted progress.Closed)
+told_going trace t link q waiting admitted not_awaited fit held room next h =
     let b = book trace in
-    let p = q.number in
-    let n = name_at t.requests p in
-    let nil = outcome.One Nil in
-    let closed = at_progress t.requests p progress.Closed in
-    going_more trace (action.Outcome n nil) (record (with_waiting t (with_queue link (message_of q ∷ [])) qs) { requests = closed }) h.sound.stands
-    (inr (tell_may b t link q qs w not_awaited h.sound.tied h.ended h.told))
-    (tell_tied b t link q qs w not_awaited h.sound.tied)
+    going_more trace (action.Outcome (name_at t.requests q.number) (outcome.One Nil)) (with_place t link q waiting admitted progress.Closed) h.sound.stands
+    (inr (tell_may b t link q waiting admitted not_awaited fit held room next h.sound.tied h.ended))
+    (tell_tied b t link q waiting admitted not_awaited next h.sound.tied)
     h.ended
-    (λ m. chosen (λ (x : Story). IsTold x → x.tries ≡ [] → (k : ℕ) × (k < length closed) × (name_at closed k ≡ m) × IsIn k (p ∷ [])) (n == m) (answer (b.story m) nil) (b.story m)
-    (λ e is none. (p, subst (λ x. p < x) (sym (length_still t.requests p progress.Closed)) (open_within t.requests p (waiting_open t.requests p w)), name_still t.requests p progress.Closed p ∙ eq_from n m e, inl refl))
-    (λ f is none. absurd (h.told m is none).3))
 
--- the moves of a connection
---
--- a link without messages in its queue
-empty_queue : (link : LinkState) → link.queue ≡ [] → link ≡ with_queue link []
-empty_queue link e = λ i. with_queue link (e i)
+-- one whose reply is awaited has its place
+placed_going : (trace : List Action) (t : Inner) (link : LinkState) (q : Waiting) (waiting admitted : List Waiting) → q.awaited ≡ true → IsNext (book trace).story t.requests t.moved t.waiting t.admitted q waiting admitted → IsGoing trace (on_link t link)
+    → IsGoing trace (with_place t link q waiting admitted progress.Placed)
+placed_going trace t link q waiting admitted yes_awaited next h = record {
+  sound = record { stands = h.sound.stands; tied = place_tied (book trace) t link q waiting admitted yes_awaited next h.sound.tied };
+  ended = h.ended;
+}
 
--- the session with such a link
-up_going : (before : List Action) (f : Core) (w : Work) (waiting : List Waiting) (h : IsUp before f w waiting) → IsGoing (trace_of_acts before f w.acts) (with_waiting (moving f w.conn waiting h.started) (with_queue h.link []) waiting)
-up_going before f w waiting h = subst (λ (x : Life). IsGoing (trace_of_acts before f w.acts) (record (moving f w.conn waiting h.started) { life = x })) (h.life ∙ ap Ready (empty_queue h.link h.whole.empty)) h.going
-
--- a request that is at its place twice
-placed_then : (requests : List Request) (p : ℕ) → at_progress (at_progress requests p progress.Placed) p progress.Closed ≡ at_progress requests p progress.Closed
-placed_then requests p =
-    set_twice requests p (record { name = name_at requests p; progress = progress.Placed }) (record { name = name_at (at_progress requests p progress.Placed) p; progress = progress.Closed })
-    ∙ ap (λ n. slice_set requests p (record { name = n; progress = progress.Closed })) (name_still requests p progress.Placed p)
+-- a request that comes further twice
+progressed_twice : (requests : List Request) (p : ℕ) (one two : Progress) → at_progress (at_progress requests p one) p two ≡ at_progress requests p two
+progressed_twice requests p one two =
+    set_twice requests p (record { name = name_at requests p; progress = one }) (record { name = name_at (at_progress requests p one) p; progress = two })
+    ∙ ap (λ n. slice_set requests p (record { name = n; progress = two })) (name_still requests p one p)
   where
     set_twice : (xs : List Request) (n : ℕ) (x y : Request) → slice_set (slice_set xs n x) n y ≡ slice_set xs n y
     set_twice [] n x y = refl
     set_twice (z ∷ xs) zero x y = refl
     set_twice (z ∷ xs) (suc n) x y = ap (λ ys. z ∷ ys) (set_twice xs n x y)
 
--- one whose reply is awaited has its place, and starts
-placed_up : (before : List Action) (f : Core) (w : Work) (q : Waiting) (qs : List Waiting) (h : IsUp before f w (q ∷ qs)) → is_waiting_at w.conn.requests q.number ≡ true → q.awaited ≡ true
-    → IsUp before f (started (placed_at w q (Ready (with_queue h.link [])))) qs
-placed_up before f w q qs h wt yes_awaited =
-    let link = with_queue h.link (message_of q ∷ []) in
-    let t = moving f w.conn (q ∷ qs) h.started in
-    started_up before f (progressed w q.number progress.Placed) link qs h.started h.whole.sound h.whole.size h.whole.boundary
-    (placed_going (trace_of_acts before f w.acts) t h.link q qs wt yes_awaited (up_going before f w (q ∷ qs) h))
+-- a link that had room is fit with one more in its queue
+fit_enqueued : (size bound : ℕ) (link : LinkState) (m : Queued) → is_full link ≡ false → IsFit size bound link → IsFit size bound (enqueued link m)
+fit_enqueued size bound link m room h =
+    let free = not_le_from link.size (length link.queue) room in
+    let long = length_push link.queue m in
+    let same = h.size_is in
+    record { sound = h.sound; size_is = h.size_is; bound_is = h.bound_is; within = omega arith }
+
+-- those that are still to be moved are above it
+order_next : (moved : List ℕ) (p : ℕ) (next : List ℕ) (requests : List Request) (now : Progress) → Rising 0 (moved ++ p ∷ next) (length requests) → Rising 0 ((moved ++ p ∷ []) ++ next) (length (at_progress requests p now))
+order_next moved p next requests now h = subst (Rising 0 ((moved ++ p ∷ []) ++ next)) (sym (length_still requests p now)) (subst (λ ns. Rising 0 ns (length requests)) (sym (append_assoc moved (p ∷ []) next)) h)
+
+-- and it is above all that were moved
+order_last : (moved : List ℕ) (p : ℕ) (next : List ℕ) (hi : ℕ) → Rising 0 (moved ++ p ∷ next) hi → Rising 0 (moved ++ p ∷ []) hi
+order_last moved p next hi h = rising_left 0 (moved ++ p ∷ []) next hi (subst (λ ns. Rising 0 ns hi) (sym (append_assoc moved (p ∷ []) next)) h)
+
+-- one whose reply is awaited has its place, and messages start
+placed_up : (before : List Action) (f : Core) (w : Work) (q : Waiting) (was_admitted was_waiting admitted waiting : List Waiting) (next : List ℕ) (h : IsUp before f w was_admitted was_waiting (q.number ∷ next)) → q.awaited ≡ true → is_full h.link ≡ false
+    → IsNext (book (trace_of_acts before f w.acts)).story w.conn.requests w.conn.moved was_waiting was_admitted q waiting admitted → IsUp before f (started (placed_at w q (Ready h.link))) admitted waiting next
+placed_up before f w q was_admitted was_waiting admitted waiting next h yes_awaited room first =
+    let p = q.number in
+    started_up before f (progressed (noted w p) p progress.Placed) (enqueued h.link (message_of q)) admitted waiting next h.started (fit_enqueued w.conn.size w.conn.boundary h.link (message_of q) room h.fit)
+    (placed_going (trace_of_acts before f w.acts) (moving f w.conn was_admitted was_waiting h.started) h.link q waiting admitted yes_awaited first (up_going before f w was_admitted was_waiting (p ∷ next) h))
+    (order_next w.conn.moved p next w.conn.requests progress.Placed h.order)
 
 -- and one whose reply nobody awaits is answered before
-told_up : (before : List Action) (f : Core) (w : Work) (q : Waiting) (qs : List Waiting) (h : IsUp before f w (q ∷ qs)) → is_waiting_at w.conn.requests q.number ≡ true → q.awaited ≡ false
-    → IsUp before f (started (answered (placed_at w q (Ready (with_queue h.link []))) q.number (outcome.One Nil))) qs
-told_up before f w q qs h wt not_awaited =
+told_up : (before : List Action) (f : Core) (w : Work) (q : Waiting) (was_admitted was_waiting admitted waiting : List Waiting) (next : List ℕ) (h : IsUp before f w was_admitted was_waiting (q.number ∷ next)) → q.awaited ≡ false → is_full h.link ≡ false
+    → IsNext (book (trace_of_acts before f w.acts)).story w.conn.requests w.conn.moved was_waiting was_admitted q waiting admitted → IsUp before f (started (answered (placed_at w q (Ready h.link)) q.number (outcome.One Nil))) admitted waiting next
+told_up before f w q was_admitted was_waiting admitted waiting next h not_awaited room first =
     let p = q.number in
-    let link = with_queue h.link (message_of q ∷ []) in
-    let t = moving f w.conn (q ∷ qs) h.started in
-    let at = progressed w p progress.Placed in
+    let link = enqueued h.link (message_of q) in
+    let t = moving f w.conn was_admitted was_waiting h.started in
+    let trace = trace_of_acts before f w.acts in
+    let at = progressed (noted w p) p progress.Placed in
     let placed = at.conn.requests in
     let nil = outcome.One Nil in
     let a = act.Outcome (name_at placed p) nil in
-    let is_open : is_open_at placed p ≡ true = there_same is_open_progress w.conn.requests p progress.Placed (open_within w.conn.requests p (waiting_open w.conn.requests p wt)) in
-    let going = told_going (trace_of_acts before f w.acts) t h.link q qs wt not_awaited (up_going before f w (q ∷ qs) h) in
-    let shown : (trace_of_acts before f w.acts) ++ action.Outcome (name_at w.conn.requests p) nil ∷ [] ≡ trace_of_acts before f (w.acts ++ a ∷ []) =
-    ap (λ n. (trace_of_acts before f w.acts) ++ action.Outcome n nil ∷ []) (sym (name_still w.conn.requests p progress.Placed p)) ∙ sym (shown_more before f.single.link w.acts a) in
-    let closed = with_waiting t link qs in
-    let there = subst (λ (x : List Action). IsGoing x (record closed { requests = at_progress w.conn.requests p progress.Closed })) shown going in
-    let here = subst (λ (x : List Request). IsGoing (trace_of_acts before f (w.acts ++ a ∷ [])) (record closed { requests = x })) (sym (placed_then w.conn.requests p)) there in
-    if_true (λ (x : Work). IsUp before f (started x) qs) (is_open_at placed p) _ (with_link at link) is_open
-    (started_up before f (acted (progressed at p progress.Closed) a) link qs h.started h.whole.sound h.whole.size h.whole.boundary here)
+    let is_open : is_open_at placed p ≡ true = there_same is_open_progress w.conn.requests p progress.Placed (open_within w.conn.requests p first.open_at) in
+    let going = told_going trace t h.link q waiting admitted not_awaited h.fit h.held room first (up_going before f w was_admitted was_waiting (p ∷ next) h) in
+    let shown : trace ++ action.Outcome (name_at w.conn.requests p) nil ∷ [] ≡ trace_of_acts before f (w.acts ++ a ∷ []) =
+    ap (λ n. trace ++ action.Outcome n nil ∷ []) (sym (name_still w.conn.requests p progress.Placed p)) ∙ sym (shown_more before f.single.link w.acts a) in
+    let after = with_place t h.link q waiting admitted progress.Closed in
+    let there = subst (λ (x : List Action). IsGoing x after) shown going in
+    let twice = sym (progressed_twice w.conn.requests p progress.Placed progress.Closed) in
+    let here = subst (λ (x : List Request). IsGoing (trace_of_acts before f (w.acts ++ a ∷ [])) (record after { requests = x })) twice there in
+    let order = subst (λ (x : List Request). Rising 0 ((w.conn.moved ++ p ∷ []) ++ next) (length x)) twice (order_next w.conn.moved p next w.conn.requests progress.Closed h.order) in
+    if_true (λ (x : Work). IsUp before f (started x) admitted waiting next) (is_open_at placed p) _ (with_link at link) is_open
+    (started_up before f (acted (progressed at p progress.Closed) a) link admitted waiting next h.started (fit_enqueued w.conn.size w.conn.boundary h.link (message_of q) room h.fit) here order)
 
--- one that waits no longer
-gone_up : (before : List Action) (f : Core) (w : Work) (q : Waiting) (qs : List Waiting) → IsUp before f w (q ∷ qs) → is_waiting_at w.conn.requests q.number ≡ false → IsUp before f w qs
-gone_up before f w q qs h gone =
-    let t = moving f w.conn (q ∷ qs) h.started in
-    let was = up_going before f w (q ∷ qs) h in
-    let now : IsGoing (trace_of_acts before f w.acts) (with_waiting t (with_queue h.link []) qs) = record {
-      sound = record { stands = was.sound.stands; tied = passed_over (book (trace_of_acts before f w.acts)) t h.link q qs gone was.sound.tied };
+-- the next takes its place, and messages start
+seated_up : (before : List Action) (f : Core) (w : Work) (q : Waiting) (was_admitted was_waiting admitted waiting : List Waiting) (next : List ℕ) (h : IsUp before f w was_admitted was_waiting (q.number ∷ next)) → is_full h.link ≡ false
+    → IsNext (book (trace_of_acts before f w.acts)).story w.conn.requests w.conn.moved was_waiting was_admitted q waiting admitted → IsUp before f (seated w q) admitted waiting next
+seated_up before f w q was_admitted was_waiting admitted waiting next h room first =
+    let w1 = placed_at w q (Ready h.link) in
+    subst (λ (x : Life). IsUp before f (started (told_at_place (placed_at w q x) q)) admitted waiting next) (sym h.life)
+    (chosen (λ (x : Work). IsUp before f (started x) admitted waiting next) q.awaited w1 (answered w1 q.number (outcome.One Nil))
+    (λ t. placed_up before f w q was_admitted was_waiting admitted waiting next h t room first)
+    (λ e. told_up before f w q was_admitted was_waiting admitted waiting next h e room first))
+
+-- those that wait for a place
+--
+-- what has room isn't full
+not_full : (x : Bool) → not x ≡ true → x ≡ false
+not_full true e = cc
+not_full false e = refl
+
+-- so it is where the connection has room
+free_link : (life : Life) (link : LinkState) → life ≡ Ready link → has_room life ≡ true → is_full link ≡ false
+free_link life link e room = not_full (is_full link) (ap has_room (sym e) ∙ room)
+
+-- one that waits for a place no longer
+gone_admitted : (before : List Action) (f : Core) (w : Work) (q : Waiting) (qs waiting : List Waiting) → IsUp before f w (q ∷ qs) waiting (kept_ids (q ∷ qs) waiting) → is_admitted_at w.conn.requests q.number ≡ false → IsUp before f w qs waiting (kept_ids qs waiting)
+gone_admitted before f w q qs waiting h gone =
+    let t = moving f w.conn qs waiting h.started in
+    let was = up_going before f w (q ∷ qs) waiting (kept_ids (q ∷ qs) waiting) h in
+    let now : IsGoing (trace_of_acts before f w.acts) (on_link t h.link) = record {
+      sound = record { stands = was.sound.stands; tied = passed_admitted (book (trace_of_acts before f w.acts)) t h.link q qs gone was.sound.tied };
       ended = was.ended;
-      told = was.told;
     } in
     record {
       link = h.link;
       life = h.life;
-      whole = h.whole;
+      fit = h.fit;
+      held = h.held;
       started = h.started;
-      going = subst (λ (x : Life). IsGoing (trace_of_acts before f w.acts) (record (moving f w.conn qs h.started) { life = x })) (sym (h.life ∙ ap Ready (empty_queue h.link h.whole.empty))) now;
+      going = subst (λ (x : Life). IsGoing (trace_of_acts before f w.acts) (record t { life = x })) (sym h.life) now;
+      order = rising_without 0 w.conn.moved q.number (kept_ids qs waiting) (length w.conn.requests) h.order;
     }
 
 -- one is moved
-moved_up : (before : List Action) (f : Core) (w : Work) (q : Waiting) (qs : List Waiting) → IsUp before f w (q ∷ qs) → IsUp before f (moved w q) qs
-moved_up before f w q qs h =
-    let link = with_queue h.link [] in
-    let w1 = placed_at w q (Ready link) in
-    chosen (λ (x : Work). IsUp before f x qs) (is_waiting_at w.conn.requests q.number) (moved_at w q w.conn.life) w
-    (λ wt.
-    subst (λ (x : Life). IsUp before f (moved_at w q x) qs) (sym (h.life ∙ ap Ready (empty_queue h.link h.whole.empty)))
-    (chosen (λ (x : Work). IsUp before f (started x) qs) q.awaited w1 (answered w1 q.number (outcome.One Nil))
-    (λ t. placed_up before f w q qs h wt t)
-    (λ e. told_up before f w q qs h wt e)))
-    (λ gone. gone_up before f w q qs h gone)
+moved_up_one : (before : List Action) (f : Core) (w : Work) (q : Waiting) (qs waiting : List Waiting) → IsUp before f w (q ∷ qs) waiting (kept_ids (q ∷ qs) waiting) → has_room w.conn.life ≡ true → IsUp before f (moved_up w q) qs waiting (kept_ids qs waiting)
+moved_up_one before f w q qs waiting h room =
+    let kept = kept_ids qs waiting in
+    let t = moving f w.conn (q ∷ qs) waiting h.started in
+    let b = book (trace_of_acts before f w.acts) in
+    chosen (λ (x : Work). IsUp before f x qs waiting kept) (is_admitted_at w.conn.requests q.number) (seated w q) w
+    (λ a.
+    seated_up before f w q (q ∷ qs) waiting qs waiting kept h (free_link w.conn.life h.link h.life room)
+    (next_admitted b t h.link q qs a (order_last w.conn.moved q.number kept (length w.conn.requests) h.order) (up_going before f w (q ∷ qs) waiting (kept_ids (q ∷ qs) waiting) h).sound.tied))
+    (λ gone. gone_admitted before f w q qs waiting h gone)
 
--- a whole link has room
-has_room : (link : LinkState) → IsWhole link → is_full link ≡ false
-has_room link h = (λ i. nat_le (h.size i) (length (h.empty i)))
+-- those that wait for a place still have found the queue full
+pub record IsSeated (before : List Action) (f : Core) (w : Work) (waiting : List Waiting) : Type 0 where
+  pub up : IsUp before f w w.conn.admitted waiting (waiting_ids waiting)
+  pub full : (w.conn.admitted ≡ []) ⊎ (has_room w.conn.life ≡ false)
+
+-- all are moved that can be
+pub moved_up_seated : (before : List Action) (f : Core) (w : Work) (qs waiting : List Waiting) → IsUp before f w qs waiting (kept_ids qs waiting) → IsSeated before f (moved_up_each w qs) waiting
+moved_up_seated before f w [] waiting h = record {
+  up = record { link = h.link; life = h.life; fit = h.fit; held = h.held; started = h.started; going = h.going; order = h.order };
+  full = inl refl;
+}
+moved_up_seated before f w (q ∷ qs) waiting h =
+    chosen (λ (x : Work). IsSeated before f x waiting) (has_room w.conn.life) (moved_up_each (moved_up w q) qs) (still_admitted w (q ∷ qs))
+    (λ room. moved_up_seated before f (moved_up w q) qs waiting (moved_up_one before f w q qs waiting h room))
+    (λ none. record {
+      up = record {
+        link = h.link;
+        life = h.life;
+        fit = h.fit;
+        held = h.held;
+        started = h.started;
+        going = h.going;
+        order = rising_tail 0 w.conn.moved (kept_ids (q ∷ qs) waiting) (waiting_ids waiting) (length w.conn.requests)
+            (λ low r. rising_right low (waiting_ids (q ∷ qs)) (waiting_ids waiting) (length w.conn.requests) r) h.order;
+      };
+      full = inr none;
+    })
+
+-- which leaves those that wait for the connection
+pub moved_up_waits : (w : Work) (qs : List Waiting) → (moved_up_each w qs).conn.waiting ≡ w.conn.waiting
+moved_up_waits w [] = refl
+moved_up_waits w (q ∷ qs) =
+    let one = chosen (λ (x : Work). x.conn.waiting ≡ w.conn.waiting) (is_admitted_at w.conn.requests q.number) (seated w q) w (λ a. (seated_keeps w q).waiting) (λ n. refl) in
+    chosen (λ (x : Work). x.conn.waiting ≡ w.conn.waiting) (has_room w.conn.life) (moved_up_each (moved_up w q) qs) (still_admitted w (q ∷ qs)) (λ r. moved_up_waits (moved_up w q) qs ∙ one) (λ n. refl)
+
+-- those that wait for the connection
+--
+-- one that waits for it no longer
+gone_waiting : (before : List Action) (f : Core) (w : Work) (q : Waiting) (qs : List Waiting) → IsSeated before f w (q ∷ qs) → is_waiting_at w.conn.requests q.number ≡ false → IsSeated before f w qs
+gone_waiting before f w q qs s gone =
+    let h = s.up in
+    let t = moving f w.conn w.conn.admitted qs h.started in
+    let was = up_going before f w w.conn.admitted (q ∷ qs) (waiting_ids (q ∷ qs)) h in
+    let now : IsGoing (trace_of_acts before f w.acts) (on_link t h.link) = record {
+      sound = record { stands = was.sound.stands; tied = passed_waiting (book (trace_of_acts before f w.acts)) t h.link q qs gone was.sound.tied };
+      ended = was.ended;
+    } in
+    record {
+      up = record {
+        link = h.link;
+        life = h.life;
+        fit = h.fit;
+        held = h.held;
+        started = h.started;
+        going = subst (λ (x : Life). IsGoing (trace_of_acts before f w.acts) (record t { life = x })) (sym h.life) now;
+        order = rising_without 0 w.conn.moved q.number (waiting_ids qs) (length w.conn.requests) h.order;
+      };
+      full = s.full;
+    }
+
+-- a request that has a place at once is as one that waited for it
+seated_once : (w : Work) (q : Waiting) (link : LinkState) → w.conn.life ≡ Ready link → seated (progressed w q.number progress.Admitted) q ≡ seated w q
+seated_once w q link e =
+    let p = q.number in
+    let v = progressed w p progress.Admitted in
+    let u = with_link (noted w p) (enqueued link (message_of q)) in
+    ap (λ (x : Life). started (told_at_place (placed_at v q x) q)) e
+    ∙ ap (λ (x : List Request). started (told_at_place (record u { conn = record u.conn { requests = x } }) q)) (progressed_twice w.conn.requests p progress.Admitted progress.Placed)
+    ∙ sym (ap (λ (x : Life). started (told_at_place (placed_at w q x) q)) e)
+
+-- where the queue has room it takes its place
+admitted_seated : (before : List Action) (f : Core) (w : Work) (q : Waiting) (qs : List Waiting) → IsSeated before f w (q ∷ qs) → is_waiting_at w.conn.requests q.number ≡ true → w.conn.admitted ≡ [] → has_room w.conn.life ≡ true
+    → IsSeated before f (seated (progressed w q.number progress.Admitted) q) qs
+admitted_seated before f w q qs s wt none room =
+    let b = book (trace_of_acts before f w.acts) in
+    let ids = waiting_ids (q ∷ qs) in
+    let h = subst (λ ws. IsUp before f w ws (q ∷ qs) ids) none s.up in
+    let t = moving f w.conn [] (q ∷ qs) h.started in
+    let empty : (seated w q).conn.admitted ≡ [] = (seated_keeps w q).admitted ∙ none in
+    let up = seated_up before f w q [] (q ∷ qs) [] qs (waiting_ids qs) h (free_link w.conn.life h.link h.life room)
+    (next_waiting b t h.link q qs wt (order_last w.conn.moved q.number (waiting_ids qs) (length w.conn.requests) h.order) (up_going before f w [] (q ∷ qs) ids h).sound.tied) in
+    subst (λ (x : Work). IsSeated before f x qs) (sym (seated_once w q h.link h.life)) (record {
+      up = subst (λ ws. IsUp before f (seated w q) ws qs (waiting_ids qs)) (sym empty) up;
+      full = inl empty;
+    })
+
+-- and else it waits for one, behind the others
+admitted_behind : (before : List Action) (f : Core) (w : Work) (q : Waiting) (qs : List Waiting) → IsSeated before f w (q ∷ qs) → is_waiting_at w.conn.requests q.number ≡ true → has_room w.conn.life ≡ false
+    → IsSeated before f (put_behind (progressed w q.number progress.Admitted) q) qs
+admitted_behind before f w q qs s wt none =
+    let h = s.up in
+    let p = q.number in
+    let b = book (trace_of_acts before f w.acts) in
+    let ids = waiting_ids (q ∷ qs) in
+    let v = put_behind (progressed w p progress.Admitted) q in
+    let t = moving f w.conn w.conn.admitted qs h.started in
+    let after = moving f v.conn v.conn.admitted qs h.started in
+    let was = up_going before f w w.conn.admitted (q ∷ qs) ids h in
+    let now : IsGoing (trace_of_acts before f w.acts) (on_link after h.link) = record {
+      sound = record {
+        stands = was.sound.stands;
+        tied = admit_tied b t h.link q qs wt (order_last w.conn.moved p (waiting_ids qs) (length w.conn.requests) h.order) was.sound.tied;
+      };
+      ended = was.ended;
+    } in
+    record {
+      up = record {
+        link = h.link;
+        life = h.life;
+        fit = h.fit;
+        held = h.held;
+        started = h.started;
+        going = subst (λ (x : Life). IsGoing (trace_of_acts before f w.acts) (record after { life = x })) (sym h.life) now;
+        order = order_next w.conn.moved p (waiting_ids qs) w.conn.requests progress.Admitted h.order;
+      };
+      full = inr none;
+    }
+
+-- one is moved
+admitted_one : (before : List Action) (f : Core) (w : Work) (q : Waiting) (qs : List Waiting) → IsSeated before f w (q ∷ qs) → IsSeated before f (admitted w q) qs
+admitted_one before f w q qs s =
+    let h = s.up in
+    let v = progressed w q.number progress.Admitted in
+    chosen (λ (x : Work). IsSeated before f x qs) (is_waiting_at w.conn.requests q.number) (admitted_at w q w.conn.life) w
+    (λ wt.
+    subst (λ (x : Life). IsSeated before f (admitted_at w q x) qs) (sym h.life)
+    (chosen (λ (x : Work). IsSeated before f x qs) (has_room w.conn.life) (seated v q) (put_behind v q)
+    (λ room. elim s.full [ inl none ↦ admitted_seated before f w q qs s wt none room | inr stuck ↦ absurd (not_both (has_room w.conn.life) stuck room) ])
+    (λ stuck. admitted_behind before f w q qs s wt stuck)))
+    (λ gone. gone_waiting before f w q qs s gone)
+
+-- none waits for the connection any more
+pub record IsDone (before : List Action) (f : Core) (w : Work) : Type 0 where
+  pub seated : IsSeated before f w []
+  pub none : w.conn.waiting ≡ []
 
 -- all are moved
-pub moved_all_up : (before : List Action) (f : Core) (w : Work) (qs : List Waiting) → IsUp before f w qs → IsUp before f (moved_each w qs) []
-moved_all_up before f w [] h = record { link = h.link; life = h.life; whole = h.whole; started = h.started; going = h.going }
-moved_all_up before f w (q ∷ qs) h =
-    if_false (λ (x : Work). IsUp before f x []) (moves_none w.conn.life) _ (moved_each (moved w q) qs) (ap moves_none h.life ∙ has_room h.link h.whole)
-    (moved_all_up before f (moved w q) qs (moved_up before f w q qs h))
-
--- and none waits
-pub moved_none_waits : (before : List Action) (f : Core) (w : Work) (qs : List Waiting) → IsUp before f w qs → (moved_each w qs).conn.waiting ≡ []
-moved_none_waits before f w [] h = refl
-moved_none_waits before f w (q ∷ qs) h =
-    if_false (λ (x : Work). x.conn.waiting ≡ []) (moves_none w.conn.life) _ (moved_each (moved w q) qs) (ap moves_none h.life ∙ has_room h.link h.whole)
-    (moved_none_waits before f (moved w q) qs (moved_up before f w q qs h))
+pub admitted_done : (before : List Action) (f : Core) (w : Work) (qs : List Waiting) → IsSeated before f w qs → IsDone before f (admitted_each w qs)
+admitted_done before f w [] s =
+    let h = s.up in
+    record {
+      seated = record {
+        up = record { link = h.link; life = h.life; fit = h.fit; held = h.held; started = h.started; going = h.going; order = h.order };
+        full = s.full;
+      };
+      none = refl;
+    }
+admitted_done before f w (q ∷ qs) s =
+    if_false (λ (x : Work). IsDone before f x) (admits_none w.conn.life) _ (admitted_each (admitted w q) qs) (ap admits_none s.up.life)
+    (admitted_done before f (admitted w q) qs (admitted_one before f w q qs s))

@@ -1,46 +1,62 @@
--- A request takes its place in the queue.
-use Rattle.std.proofs.Common.{Bool, List, None, Option, Some, [], ap, arith, false, inl, inr, length, refl, slice_get, subst, sym, true, ℕ, ◌++◌, ◌<◌, ◌∙◌, ◌∷◌, ◌≡◌, ◌⊎◌}
+-- A request takes its place in the queue, or waits for one behind the others.
+use Rattle.std.proofs.Common.{Bool, List, None, Option, Some, [], ap, append_assoc, arith, false, inl, inr, length, refl, slice_get, subst, sym, true, ℕ, ◌++◌, ◌<◌, ◌∙◌, ◌∷◌, ◌≡◌, ◌≢◌, ◌⊎◌}
 use Rattle.std.specs.List.{AllByRecursion}
 use Rattle.std.specs.Prelude.{if◌then◌else◌, ◌==◌}
-use Rattle.containers.proofs.Choices.{by_test, eq_from, eq_test, ne_from, not_both, taken_if}
+use Rattle.containers.proofs.Choices.{by_test, chosen, eq_from, eq_test, ne_from, not_both, taken_if}
 use Rattle.resp_value.specs.declared.value.Value.TheVariants.{Nil}
 use Rattle.driver_model.specs.declared.action.Action.TheVariants as action
+use Rattle.driver_model.specs.declared.action.WaitKind.{WaitKind}
+use Rattle.driver_model.specs.declared.action.WaitKind.TheVariants as wait
 use Rattle.driver_model.specs.declared.outcome.Outcome.TheVariants as outcome
-use Rattle.link_core.specs.Link.{LinkState}
+use Rattle.link_core.specs.Link.{LinkState, enqueued}
 use Rattle.link_core.specs.declared.message.Entry.{Entry}
 use Rattle.link_core.specs.declared.message.Queued.{Queued}
-use Rattle.link_laws.proofs.TiedLink.{TiedLink, queue_tied}
+use Rattle.link_laws.proofs.TiedLink.{TiedLink, all_push, enqueued_tied}
 use Rattle.link_laws.specs.Settles.{awaited_ids, wanted}
 use Rattle.mux_conn.specs.Passes.{message_of}
-use Rattle.mux_conn.specs.Requests.{at_progress, if_there, is_open as is_open_progress, is_open_at, is_waiting, is_waiting_at, name_at}
+use Rattle.mux_conn.specs.Requests.{at_progress, if_there, is_admitted, is_admitted_at, is_open as is_open_progress, is_open_at, is_placed, is_placed_at, is_waiting, is_waiting_at, name_at}
+use Rattle.mux_conn.specs.declared.life.Life.{Life}
+use Rattle.mux_conn.specs.declared.life.Life.TheVariants.{Ready}
 use Rattle.mux_conn.specs.declared.request.Pending.{Pending}
 use Rattle.mux_conn.specs.declared.request.Progress.{Progress}
 use Rattle.mux_conn.specs.declared.request.Progress.TheVariants as progress
 use Rattle.mux_conn.specs.declared.request.Request.{Request}
 use Rattle.mux_conn.specs.declared.request.Waiting.{Waiting}
-use Rattle.legal_trace.specs.Book.{Book, entered, if_own}
+use Rattle.legal_trace.specs.Book.{Book, entered}
 use Rattle.legal_trace.specs.Ledger.{Ledger}
-use Rattle.legal_trace.specs.Story.{Story, answered, shape}
-use Rattle.session_laws.proofs.Answer.{answer_apart}
+use Rattle.legal_trace.specs.Story.{Story, answered, is_told, shape}
+use Rattle.session_laws.proofs.Answer.{answer_closes, lines_answered}
 use Rattle.session_laws.proofs.Behind.{open_unanswered}
-use Rattle.session_laws.proofs.InLine.{first_is_apart}
+use Rattle.session_laws.proofs.Closing.{Closes, kept_other, story_closed, tries_closed, waits_closed, with_closed}
+use Rattle.session_laws.proofs.InLine.{awaited_in, first_is_apart, kept_ids, line_of}
 use Rattle.session_laws.proofs.Kept.{numbers_kept, of_same}
-use Rattle.session_laws.proofs.Names.{length_still, name_still, name_was, names_progressed, open_within, owners_still, there_other, there_same}
-use Rattle.session_laws.proofs.Numbers.{IsIn, Rising, in_either, in_left, in_right, rising_apart, rising_right, rising_without}
+use Rattle.session_laws.proofs.Names.{length_still, name_still, name_was, names_progressed, open_within, owners_still, there_other, there_same, there_then}
+use Rattle.session_laws.proofs.Numbers.{IsIn, Rising, in_either, in_left, in_right, rising_apart, rising_in, rising_right, rising_tail, rising_without}
 use Rattle.session_laws.proofs.Owes.{in_line, request_story}
-use Rattle.session_laws.proofs.Start.{not_dialing, on_link, with_queue}
-use Rattle.session_laws.proofs.Tied.{Inner, IsEntry, IsNew, IsOf, IsPacked, IsQueued, Tied, TiedStory, TiedTries, owner_of, owners_each, waiting_ids, relined}
+use Rattle.session_laws.proofs.Start.{admitted_open, not_dialing, on_link}
+use Rattle.session_laws.proofs.Tied.{AreQueued, Inner, IsEntry, IsKept, IsNew, IsOf, IsPacked, IsQueued, Tied, TiedLines, TiedStory, TiedTries, TiedWaits, owner_of, owners_each, queue_ids, relined, shown_wait, waiting_ids}
 
--- the session with these that wait
-abbrev pub with_waiting : Inner → LinkState → List Waiting → Inner
-with_waiting t link waiting = record (on_link t link) { waiting = waiting }
+-- a request that still waits for the connection has no place
+waiting_unplaced : (requests : List Request) (p : ℕ) → is_waiting_at requests p ≡ true → is_placed_at requests p ≡ false
+waiting_unplaced requests p w = by_request (slice_get requests p) w
+  where
+    by_progress : (r : Progress) → is_waiting r ≡ true → is_placed r ≡ false
+    by_progress progress.Waiting e = refl
+    by_progress progress.Admitted e = cc
+    by_progress progress.Placed e = cc
+    by_progress progress.Closed e = cc
 
--- a request that still waits is open
+    by_request : (r : Option Request) → if_there is_waiting r ≡ true → if_there is_placed r ≡ false
+    by_request None e = cc
+    by_request (Some r) e = by_progress r.progress e
+
+-- and is open
 pub waiting_open : (requests : List Request) (p : ℕ) → is_waiting_at requests p ≡ true → is_open_at requests p ≡ true
 waiting_open requests p w = open_then (slice_get requests p) w
   where
     by_progress : (r : Progress) → is_waiting r ≡ true → is_open_progress r ≡ true
     by_progress progress.Waiting e = refl
+    by_progress progress.Admitted e = cc
     by_progress progress.Placed e = cc
     by_progress progress.Closed e = cc
 
@@ -48,186 +64,526 @@ waiting_open requests p w = open_then (slice_get requests p) w
     open_then None e = cc
     open_then (Some r) e = by_progress r.progress e
 
--- one that no longer waits is passed over
+-- those that wait no longer are passed over
 --
-pub passed_over : (b : Book) (t : Inner) (link : LinkState) (q : Waiting) (qs : List Waiting) → is_waiting_at t.requests q.number ≡ false → Tied b (with_waiting t (with_queue link []) (q ∷ qs)) → Tied b (with_waiting t (with_queue link []) qs)
-passed_over b t link q qs gone h =
-    relined b (with_waiting t (with_queue link []) (q ∷ qs)) qs t.fresh [] h (record {
-      line = rising_without 0 t.started q.number (waiting_ids qs) (length t.requests) h.lines.line;
+-- the line without one that waits for a place
+line_without : (started queue : List ℕ) (q : Waiting) (qs waiting : List Waiting) (hi : ℕ) → Rising 0 (started ++ (queue ++ kept_ids (q ∷ qs) waiting)) hi → Rising 0 (started ++ (queue ++ kept_ids qs waiting)) hi
+line_without started queue q qs waiting hi h =
+    let kept = kept_ids qs waiting in
+    rising_tail 0 started (queue ++ (q.number ∷ kept)) (queue ++ kept) hi (λ low r. rising_without low queue q.number kept hi r) h
+
+-- where it doesn't wait for one
+pub passed_admitted : (b : Book) (t : Inner) (link : LinkState) (q : Waiting) (qs : List Waiting) → is_admitted_at t.requests q.number ≡ false → Tied b (record (on_link t link) { admitted = q ∷ qs }) → Tied b (record (on_link t link) { admitted = qs })
+passed_admitted b t link q qs gone h =
+    relined b (record (on_link t link) { admitted = q ∷ qs }) t.waiting qs t.fresh t.moved [] h (record {
+      line = line_without t.started (queue_ids link.queue) q qs t.waiting (length t.requests) h.lines.line;
       queued = h.lines.queued;
       entries = h.lines.entries;
-      packs = h.lines.packs.1;
+      packs = h.lines.packs;
+      packed_in = h.lines.packed_in.1;
       there = λ p e. elim (h.lines.there p e) [
         | inl i ↦ inl i
-        | inr w ↦ elim w.1 [ inl same ↦ absurd (not_both (is_waiting_at t.requests p) (ap (is_waiting_at t.requests) (sym same) ∙ gone) w.0) | inr i ↦ inr (w.0, i) ]
+        | inr k ↦ elim k [
+          | inl a ↦ elim a.1 [ inl same ↦ absurd (not_both (is_admitted_at t.requests p) (ap (is_admitted_at t.requests) (sym same) ∙ gone) a.0) | inr i ↦ inr (inl (a.0, i)) ]
+          | inr w ↦ inr (inr w)
+        ]
       ];
     }) h.waits
 
--- one whose reply is awaited
+-- or for the connection
+pub passed_waiting : (b : Book) (t : Inner) (link : LinkState) (q : Waiting) (qs : List Waiting) → is_waiting_at t.requests q.number ≡ false → Tied b (record (on_link t link) { waiting = q ∷ qs }) → Tied b (record (on_link t link) { waiting = qs })
+passed_waiting b t link q qs gone h =
+    let hi = length t.requests in
+    let queue = queue_ids link.queue in
+    let front = waiting_ids t.admitted in
+    let rest = waiting_ids qs in
+    relined b (record (on_link t link) { waiting = q ∷ qs }) qs t.admitted t.fresh t.moved [] h (record {
+      line = rising_tail 0 t.started (queue ++ (front ++ (q.number ∷ rest))) (queue ++ (front ++ rest)) hi
+          (λ low r. rising_tail low queue (front ++ (q.number ∷ rest)) (front ++ rest) hi (λ l s. rising_without l front q.number rest hi s) r)
+          h.lines.line;
+      queued = h.lines.queued;
+      entries = h.lines.entries;
+      packs = h.lines.packs.1;
+      packed_in = h.lines.packed_in;
+      there = λ p e. elim (h.lines.there p e) [
+        | inl i ↦ inl i
+        | inr k ↦ elim k [
+          | inl a ↦ inr (inl a)
+          | inr w ↦ elim w.1 [ inl same ↦ absurd (not_both (is_waiting_at t.requests p) (ap (is_waiting_at t.requests) (sym same) ∙ gone) w.0) | inr i ↦ inr (inr (w.0, i)) ]
+        ]
+      ];
+    }) h.waits
+
+-- an open request comes further, and stays open
 --
 -- the same are open
-open_placed : (requests : List Request) (p m : ℕ) → is_open_at requests p ≡ true → is_open_at (at_progress requests p progress.Placed) m ≡ is_open_at requests m
-open_placed requests p m e =
+open_further : (requests : List Request) (p m : ℕ) (now : Progress) → is_open_progress now ≡ true → is_open_at requests p ≡ true → is_open_at (at_progress requests p now) m ≡ is_open_at requests m
+open_further requests p m now on e =
     by_test (p == m) _
-    (λ t. subst (λ k. is_open_at (at_progress requests p progress.Placed) k ≡ is_open_at requests k) (eq_from p m t) (there_same is_open_progress requests p progress.Placed (open_within requests p e) ∙ sym e))
-    (λ f. there_other is_open_progress requests p m progress.Placed (ne_from p m f))
+    (λ t. subst (λ k. is_open_at (at_progress requests p now) k ≡ is_open_at requests k) (eq_from p m t) (there_same is_open_progress requests p now (open_within requests p e) ∙ on ∙ sym e))
+    (λ f. there_other is_open_progress requests p m now (ne_from p m f))
 
 -- a story says the same of the session
-story_placed : (s : Story) (requests : List Request) (link p : ℕ) (at : Option (Option Pending)) → is_open_at requests p ≡ true → TiedStory s requests link at → TiedStory s (at_progress requests p progress.Placed) link at
-story_placed s requests link p None e h = h
-story_placed s requests link p (Some None) e h = h
-story_placed s requests link p (Some (Some m)) e h = record { what = h.what; handed_in = h.handed_in; in_time = h.in_time; on = h.on; some = h.some; open_is = h.open_is ∙ sym (open_placed requests p m.number e) }
-
--- the owners are the same
-owners_placed : (requests : List Request) (p : ℕ) (started : List ℕ) → owners_each (at_progress requests p progress.Placed) started ≡ owners_each requests started
-owners_placed requests p [] = refl
-owners_placed requests p (m ∷ ms) = λ i. owners_still requests p progress.Placed i m ∷ owners_placed requests p ms i
-
--- and so are the tries
-tries_placed : (l : Ledger) (story : ℕ → Story) (requests : List Request) (link p : ℕ) (started : List ℕ) → TiedTries l story requests link started → TiedTries l story (at_progress requests p progress.Placed) link started
-tries_placed l story requests link p started h = record {
-  owners = h.owners ∙ sym (owners_placed requests p started);
-  shapes = λ k m s i j. h.shapes k m s i j ∙ ap (λ n. shape (story n)) (sym (name_still requests p progress.Placed m));
-  tried = λ k m i. ap (λ n. (story n).tries) (name_still requests p progress.Placed m) ∙ h.tried k m i;
-  untried = λ m r i out. let w = name_was requests p progress.Placed m r i in ap (λ n. (story n).tries) (sym w.2) ∙ h.untried m w.0 w.1 out;
+story_further : (s : Story) (requests : List Request) (link p : ℕ) (now : Progress) (at : Option (Option Pending)) → is_open_progress now ≡ true → is_open_at requests p ≡ true → TiedStory s requests link at → TiedStory s (at_progress requests p now) link at
+story_further s requests link p now None on e h = h
+story_further s requests link p now (Some None) on e h = h
+story_further s requests link p now (Some (Some m)) on e h = record {
+  what = h.what;
+  handed_in = h.handed_in;
+  in_time = h.in_time;
+  on = h.on;
+  some = h.some;
+  open_is = h.open_is ∙ sym (open_further requests p m.number now on e);
 }
 
+-- the owners are the same
+owners_further : (requests : List Request) (p : ℕ) (now : Progress) (started : List ℕ) → owners_each (at_progress requests p now) started ≡ owners_each requests started
+owners_further requests p now [] = refl
+owners_further requests p now (m ∷ ms) = λ i. owners_still requests p now i m ∷ owners_further requests p now ms i
+
+-- and so are the tries
+tries_further : (l : Ledger) (story : ℕ → Story) (requests : List Request) (link p : ℕ) (now : Progress) (started : List ℕ) → TiedTries l story requests link started → TiedTries l story (at_progress requests p now) link started
+tries_further l story requests link p now started h = record {
+  owners = h.owners ∙ sym (owners_further requests p now started);
+  shapes = λ k m s i j. h.shapes k m s i j ∙ ap (λ n. shape (story n)) (sym (name_still requests p now m));
+  tried = λ k m i. ap (λ n. (story n).tries) (name_still requests p now m) ∙ h.tried k m i;
+  untried = λ m r i out. let w = name_was requests p now m r i in ap (λ n. (story n).tries) (sym w.2) ∙ h.untried m w.0 w.1 out;
+}
+
+-- those that have their place have it still, where this one gets it, or has none
+placed_further : (requests : List Request) (p m : ℕ) (now : Progress) → p < length requests → (is_placed now ≡ true) ⊎ (is_placed_at requests p ≡ false) → is_placed_at requests m ≡ true → is_placed_at (at_progress requests p now) m ≡ true
+placed_further requests p m now l seat e =
+    by_test (p == m) _
+    (λ t. elim seat [
+      | inl on ↦ subst (λ k. is_placed_at (at_progress requests p now) k ≡ true) (eq_from p m t) (there_same is_placed requests p now l ∙ on)
+      | inr off ↦ absurd (not_both (is_placed_at requests m) (ap (is_placed_at requests) (sym (eq_from p m t)) ∙ off) e)
+    ])
+    (λ f. there_other is_placed requests p m now (ne_from p m f) ∙ e)
+
 -- the entries of the row
-entries_placed : (requests : List Request) (p : ℕ) (row : List Entry) → is_open_at requests p ≡ true → AllByRecursion (IsEntry requests) row → AllByRecursion (IsEntry (at_progress requests p progress.Placed)) row
-entries_placed requests p [] o all = tt
-entries_placed requests p (e ∷ es) o all = (
-  record { below = subst (λ n. e.id < n) (sym (length_still requests p progress.Placed)) all.0.below; open_at = λ t. open_placed requests p e.id o ∙ all.0.open_at t },
-  entries_placed requests p es o all.1,
+entries_further : (requests : List Request) (p : ℕ) (now : Progress) (row : List Entry) → p < length requests → (is_placed now ≡ true) ⊎ (is_placed_at requests p ≡ false) → AllByRecursion (IsEntry requests) row → AllByRecursion (IsEntry (at_progress requests p now)) row
+entries_further requests p now [] l seat all = tt
+entries_further requests p now (e ∷ es) l seat all = (
+  record { below = subst (λ n. e.id < n) (sym (length_still requests p now)) all.0.below; placed_at = λ t. placed_further requests p e.id now l seat (all.0.placed_at t) },
+  entries_further requests p now es l seat all.1,
+)
+
+-- the messages of the queue, which are others
+queued_further : (story : ℕ → Story) (requests : List Request) (p : ℕ) (now : Progress) (qs : List Queued) → (IsIn p (queue_ids qs) → ⊥) → AllByRecursion (IsQueued story requests) qs → AllByRecursion (IsQueued story (at_progress requests p now)) qs
+queued_further story requests p now [] apart all = tt
+queued_further story requests p now (q ∷ qs) apart all = (
+  record {
+    is_of = subst (λ n. IsOf (story n) q.packed q.shape q.awaited) (sym (name_still requests p now q.id)) all.0.is_of;
+    placed_at = λ t. there_other is_placed requests p q.id now (λ same. apart (inl (sym same))) ∙ all.0.placed_at t;
+    told = λ f. ap (λ n. (story n).outcomes) (name_still requests p now q.id) ∙ all.0.told f;
+  },
+  queued_further story requests p now qs (λ i. apart (inr i)) all.1,
 )
 
 -- those that wait
-packs_placed : (story : ℕ → Story) (requests : List Request) (p : ℕ) (ws : List Waiting) → AllByRecursion (IsPacked story requests) ws → AllByRecursion (IsPacked story (at_progress requests p progress.Placed)) ws
-packs_placed story requests p [] all = tt
-packs_placed story requests p (w ∷ ws) all = (subst (λ n. IsOf (story n) w.packed w.shape w.awaited) (sym (name_still requests p progress.Placed w.number)) all.0, packs_placed story requests p ws all.1)
+packs_further : (story : ℕ → Story) (requests : List Request) (p : ℕ) (now : Progress) (ws : List Waiting) → AllByRecursion (IsPacked story requests) ws → AllByRecursion (IsPacked story (at_progress requests p now)) ws
+packs_further story requests p now [] all = tt
+packs_further story requests p now (w ∷ ws) all = (subst (λ n. IsOf (story n) w.packed w.shape w.awaited) (sym (name_still requests p now w.number)) all.0, packs_further story requests p now ws all.1)
 
--- the one that is awaited
-awaited_only : (awaited : Bool) (p : ℕ) → awaited ≡ true → IsIn p ((if awaited then p ∷ [] else []) ++ [])
-awaited_only true p e = inl refl
-awaited_only false p e = cc
+-- who was told and has not started is in the queue still
+told_further : (story : ℕ → Story) (requests : List Request) (link : LinkState) (p : ℕ) (now : Progress) → AreQueued story requests link → AreQueued story (at_progress requests p now) link
+told_further story requests link p now h n is none =
+    let k = h n is none in
+    (k.0, subst (λ m. k.0 < m) (sym (length_still requests p now)) k.1, name_still requests p now k.0 ∙ k.2, k.3)
 
--- what stays in the line when the first that waits has its place
-there_placed : (requests : List Request) (link : LinkState) (q : Waiting) (qs : List Waiting) (p : ℕ) → q.awaited ≡ true
-    → IsIn p ([] ++ (wanted link.row ++ [])) ⊎ ((is_waiting_at requests p ≡ true) × IsIn p (waiting_ids (q ∷ qs)))
-    → IsIn p ([] ++ (wanted link.row ++ awaited_ids (message_of q ∷ []))) ⊎ ((is_waiting_at (at_progress requests q.number progress.Placed) p ≡ true) × IsIn p (waiting_ids qs))
-there_placed requests link q qs p yes_awaited (inl i) = inl (elim (in_either p (wanted link.row) [] i) [ inl j ↦ in_left p (wanted link.row) (awaited_ids (message_of q ∷ [])) j | inr j ↦ absurd j ])
-there_placed requests link q qs p yes_awaited (inr w) =
-    by_test (q.number == p) _
-    (λ t. inl (in_right p (wanted link.row) (awaited_ids (message_of q ∷ [])) (subst (λ m. IsIn m (awaited_ids (message_of q ∷ []))) (eq_from q.number p t) (awaited_only q.awaited q.number yes_awaited))))
-    (λ f.
-    let other = ne_from q.number p f in
-    inr (there_other is_waiting requests q.number p progress.Placed other ∙ w.0, elim w.1 [ inl same ↦ absurd (other same) | inr i ↦ i ]))
+-- what is shown of its wait stays
+shown_further : (story : ℕ → Story) (requests : List Request) (p : ℕ) (now : Progress) (m : ℕ) → shown_wait story (at_progress requests p now) m ≡ shown_wait story requests m
+shown_further story requests p now m = ap (λ n. (story n).waiting) (name_still requests p now m)
 
 -- no wait is shown of the same
-new_named : (story : ℕ → Story) (requests other : List Request) (fresh : List ℕ) → ((m : ℕ) → name_at other m ≡ name_at requests m) → IsNew story requests fresh → IsNew story other fresh
-new_named story requests other [] same h = tt
-new_named story requests other (p ∷ []) same h = ap (λ n. (story n).waiting) (same p) ∙ h
-new_named story requests other (p ∷ q ∷ ps) same h = h
+new_further : (story : ℕ → Story) (requests : List Request) (p : ℕ) (now : Progress) (fresh : List ℕ) → IsNew story requests fresh → IsNew story (at_progress requests p now) fresh
+new_further story requests p now [] h = tt
+new_further story requests p now (m ∷ []) h = shown_further story requests p now m ∙ h
+new_further story requests p now (m ∷ n ∷ ms) h = h
 
--- the session with it in its place
-pub place_tied : (b : Book) (t : Inner) (link : LinkState) (q : Waiting) (qs : List Waiting) → is_waiting_at t.requests q.number ≡ true → q.awaited ≡ true → Tied b (with_waiting t (with_queue link []) (q ∷ qs))
-    → Tied b (record (with_waiting t (with_queue link (message_of q ∷ [])) qs) { requests = at_progress t.requests q.number progress.Placed })
-place_tied b t link q qs w yes_awaited h =
-    let p = q.number in
-    let o = waiting_open t.requests p w in
-    let name = owner_of t.requests in
-    record {
-      numbers = numbers_kept b _ _ (with_waiting t (with_queue link []) (q ∷ qs)) _ _ _ _ _ _ h.numbers;
-      others = h.others;
-      life = h.life;
-      link = λ e. subst (λ x. TiedLink x (b.link t.link) (with_queue link (message_of q ∷ []))) (sym (owners_still t.requests p progress.Placed)) (queue_tied name (b.link t.link) (with_queue link []) (message_of q ∷ []) (h.link refl));
-      names = names_progressed t.table t.requests p progress.Placed h.names;
-      story = λ n. story_placed (b.story n) t.requests t.link p (slice_get t.table n) o (h.story n);
-      tries = tries_placed (b.link t.link) b.story t.requests t.link p t.started h.tries;
-      lines = record {
-        line = subst (Rising 0 (t.started ++ (p ∷ waiting_ids qs))) (sym (length_still t.requests p progress.Placed)) h.lines.line;
-        queued = (
-          record {
-            is_of = subst (λ n. IsOf (b.story n) q.packed q.shape q.awaited) (sym (name_still t.requests p progress.Placed p)) h.lines.packs.0;
-            open_at = λ e. there_same is_open_progress t.requests p progress.Placed (open_within t.requests p o);
-            told = λ f. absurd (not_both q.awaited f yes_awaited);
-          },
-          tt,
-        );
-        entries = entries_placed t.requests p link.row o h.lines.entries;
-        packs = packs_placed b.story t.requests p qs h.lines.packs.1;
-        there = λ m e. there_placed t.requests link q qs m yes_awaited (h.lines.there m (sym (open_placed t.requests p m o) ∙ e));
-      };
-      waits = record {
-        new = new_named b.story t.requests (at_progress t.requests p progress.Placed) t.fresh (name_still t.requests p progress.Placed) h.waits.new;
-        shown = λ m v e. absurd (not_dialing (with_queue link (message_of q ∷ [])) e);
-      };
-    }
-
--- one whose reply nobody awaits
+-- the next that is moved
 --
--- it is to be answered, and waits no longer
-waiting_pending : (b : Book) (t : Inner) (link : LinkState) (q : Waiting) (qs : List Waiting) → Tied b (with_waiting t (with_queue link []) (q ∷ qs)) → Tied b (record (with_waiting t (with_queue link []) qs) { pending = q.number ∷ [] })
-waiting_pending b t link q qs h =
-    relined b (with_waiting t (with_queue link []) (q ∷ qs)) qs t.fresh (q.number ∷ []) h (record {
-      line = rising_without 0 t.started q.number (waiting_ids qs) (length t.requests) h.lines.line;
-      queued = h.lines.queued;
-      entries = h.lines.entries;
-      packs = h.lines.packs.1;
-      there = λ p e. elim (h.lines.there p e) [
-        | inl i ↦ inl (inr i)
-        | inr w ↦ elim w.1 [ inl same ↦ inl (inl same) | inr i ↦ inr (w.0, i) ]
-      ];
-    }) h.waits
+-- it is the first of those that wait, with these behind it; no room was shown of it; and it is above all that were moved in
+-- this turn
+pub record IsNext (story : ℕ → Story) (requests : List Request) (moved : List ℕ) (was_waiting was_admitted : List Waiting) (q : Waiting) (waiting admitted : List Waiting) : Type 0 where
+  pub open_at : is_open_at requests q.number ≡ true
+  pub first : kept_ids was_admitted was_waiting ≡ q.number ∷ kept_ids admitted waiting
+  pub packed : IsPacked story requests q
+  pub packs : AllByRecursion (IsPacked story requests) waiting
+  pub packed_in : AllByRecursion (IsPacked story requests) admitted
+  pub others : (p : ℕ) → IsKept requests was_waiting was_admitted p → (q.number ≡ p) ⊎ IsKept requests waiting admitted p
+  pub shown : shown_wait story requests q.number ≢ Some wait.Room
+  pub last : Rising 0 (moved ++ q.number ∷ []) (length requests)
 
--- a message has the last place of an empty queue
-enqueue_tied : (b : Book) (t : Inner) (link : LinkState) (m : Queued) → IsQueued b.story t.requests m → Rising 0 (t.started ++ (m.id ∷ waiting_ids t.waiting)) (length t.requests) → Tied b (on_link t (with_queue link [])) → Tied b (on_link t (with_queue link (m ∷ [])))
-enqueue_tied b t link m queued line h = record {
-  numbers = numbers_kept b _ _ (on_link t (with_queue link [])) _ _ _ _ _ _ h.numbers;
-  others = h.others;
-  life = h.life;
-  link = λ e. queue_tied (owner_of t.requests) (b.link t.link) (with_queue link []) (m ∷ []) (h.link refl);
-  names = h.names;
-  story = h.story;
-  tries = h.tries;
-  lines = record {
-    line = line;
-    queued = (queued, tt);
-    entries = h.lines.entries;
-    packs = h.lines.packs;
-    there = λ p e. elim (h.lines.there p e) [
-      | inl i ↦ inl (elim (in_either p (wanted link.row) [] i) [ inl j ↦ in_left p (wanted link.row) (awaited_ids (m ∷ [])) j | inr j ↦ absurd j ])
-      | inr w ↦ inr w
-    ];
-  };
-  waits = record { new = h.waits.new; shown = λ p v e. absurd (not_dialing (with_queue link (m ∷ [])) e) };
+-- it is the first of those that wait for a place
+pub next_admitted : (b : Book) (t : Inner) (link : LinkState) (q : Waiting) (qs : List Waiting) → is_admitted_at t.requests q.number ≡ true → Rising 0 (t.moved ++ q.number ∷ []) (length t.requests) → Tied b (record (on_link t link) { admitted = q ∷ qs })
+    → IsNext b.story t.requests t.moved t.waiting (q ∷ qs) q t.waiting qs
+next_admitted b t link q qs a last h = record {
+  open_at = (admitted_open t.requests q.number a).0;
+  first = refl;
+  packed = h.lines.packed_in.0;
+  packs = h.lines.packs;
+  packed_in = h.lines.packed_in.1;
+  others = λ p k. elim k [
+    | inl x ↦ elim x.1 [ inl same ↦ inl same | inr i ↦ inr (inl (x.0, i)) ]
+    | inr w ↦ inr (inr w)
+  ];
+  shown = elim (h.waits.place q.number a) [
+    | inl i ↦ absurd (let k = rising_apart 0 t.moved (q.number ∷ []) (length t.requests) q.number q.number last i (inl refl) in omega arith)
+    | inr e ↦ (λ r. (let no : ◌≡◌ {A = Option WaitKind} (Some wait.Place) (Some wait.Room) = sym e ∙ r in cc))
+  ];
+  last = last;
 }
 
--- it is none of the others
-apart_from_line : (b : Book) (t : Inner) (link : LinkState) (q : Waiting) (qs : List Waiting) → Tied b (with_waiting t (with_queue link []) (q ∷ qs)) → IsIn q.number (wanted link.row ++ ([] ++ waiting_ids qs)) → ⊥
-apart_from_line b t link q qs h i =
-    let line = in_line b (with_waiting t (with_queue link []) (q ∷ qs)) h refl in
-    elim (in_either q.number (wanted link.row) (waiting_ids qs) i) [
-      | inl j ↦ let k = rising_apart 0 (wanted link.row) (q.number ∷ waiting_ids qs) (length t.requests) q.number q.number line j (inl refl) in omega arith
-      | inr j ↦ first_is_apart 0 q.number (waiting_ids qs) (length t.requests) (rising_right 0 (wanted link.row) (q.number ∷ waiting_ids qs) (length t.requests) line) j
+-- one that waits for the connection has shown nothing, or that it waits for the connect
+shown_early : (x : Option WaitKind) → (x ≡ None) ⊎ (x ≡ Some wait.Connect) → (x ≢ Some wait.Place) × (x ≢ Some wait.Room)
+shown_early x (inl e) = (λ r. (let no : ◌≡◌ {A = Option WaitKind} None (Some wait.Place) = sym e ∙ r in cc), λ r. (let no : ◌≡◌ {A = Option WaitKind} None (Some wait.Room) = sym e ∙ r in cc))
+shown_early x (inr e) = (λ r. (let no : ◌≡◌ {A = Option WaitKind} (Some wait.Connect) (Some wait.Place) = sym e ∙ r in cc), λ r. (let no : ◌≡◌ {A = Option WaitKind} (Some wait.Connect) (Some wait.Room) = sym e ∙ r in cc))
+
+-- or of those that wait for the connection, where none waits for a place
+pub next_waiting : (b : Book) (t : Inner) (link : LinkState) (q : Waiting) (qs : List Waiting) → is_waiting_at t.requests q.number ≡ true → Rising 0 (t.moved ++ q.number ∷ []) (length t.requests) → Tied b (record (on_link t link) { admitted = []; waiting = q ∷ qs })
+    → IsNext b.story t.requests t.moved (q ∷ qs) [] q qs []
+next_waiting b t link q qs w last h = record {
+  open_at = waiting_open t.requests q.number w;
+  first = refl;
+  packed = h.lines.packs.0;
+  packs = h.lines.packs.1;
+  packed_in = tt;
+  others = λ p k. elim k [
+    | inl x ↦ absurd x.1
+    | inr x ↦ elim x.1 [ inl same ↦ inl same | inr i ↦ inr (inr (x.0, i)) ]
+  ];
+  shown = (shown_early (shown_wait b.story t.requests q.number) (h.waits.early q.number w)).1;
+  last = last;
+}
+
+-- the lines
+--
+-- the ids of a queue with one more
+queue_ids-push : (qs : List Queued) (m : Queued) → queue_ids (qs ++ m ∷ []) ≡ queue_ids qs ++ m.id ∷ []
+queue_ids-push [] m = refl
+queue_ids-push (q ∷ qs) m = ap (λ ns. q.id ∷ ns) (queue_ids-push qs m)
+
+-- whose verdict is wanted there
+awaited_ids-push : (qs : List Queued) (m : Queued) → awaited_ids (qs ++ m ∷ []) ≡ awaited_ids qs ++ awaited_ids (m ∷ [])
+awaited_ids-push [] m = refl
+awaited_ids-push (q ∷ qs) m = ap (λ ns. (if q.awaited then q.id ∷ [] else []) ++ ns) (awaited_ids-push qs m) ∙ sym (append_assoc (if q.awaited then q.id ∷ [] else []) (awaited_ids qs) (awaited_ids (m ∷ [])))
+
+-- one of them is one of the others, or the last
+awaited_last : (n : ℕ) (qs : List Queued) (m : Queued) → IsIn n (awaited_ids (qs ++ m ∷ [])) → IsIn n (awaited_ids qs) ⊎ (m.id ≡ n)
+awaited_last n qs m i = elim (in_either n (awaited_ids qs) (awaited_ids (m ∷ [])) (subst (IsIn n) (awaited_ids-push qs m) i)) [
+  | inl j ↦ inl j
+  | inr j ↦ inr (elim (awaited_in n (m ∷ []) j) [ inl same ↦ same | inr k ↦ absurd k ])
+]
+
+-- it is none of the queue
+next_apart : (story : ℕ → Story) (requests : List Request) (link : LinkState) (moved : List ℕ) (was_waiting was_admitted : List Waiting) (started : List ℕ) (q : Waiting) (waiting admitted : List Waiting)
+    → IsNext story requests moved was_waiting was_admitted q waiting admitted → TiedLines story requests link was_waiting was_admitted [] started → IsIn q.number (queue_ids link.queue) → ⊥
+next_apart story requests link moved was_waiting was_admitted started q waiting admitted next h i =
+    let queue = queue_ids link.queue in
+    let kept = kept_ids was_admitted was_waiting in
+    let line = rising_right 0 started (queue ++ kept) (length requests) h.line in
+    let k = rising_apart 0 queue kept (length requests) q.number q.number line i (subst (IsIn q.number) (sym next.first) (inl refl)) in
+    omega arith
+
+-- it waits no longer, and is to be answered or placed
+lines_next : (story : ℕ → Story) (requests : List Request) (link : LinkState) (moved : List ℕ) (was_waiting was_admitted : List Waiting) (started : List ℕ) (q : Waiting) (waiting admitted : List Waiting)
+    → IsNext story requests moved was_waiting was_admitted q waiting admitted → TiedLines story requests link was_waiting was_admitted [] started → TiedLines story requests link waiting admitted (q.number ∷ []) started
+lines_next story requests link moved was_waiting was_admitted started q waiting admitted next h =
+    let queue = queue_ids link.queue in
+    let kept = kept_ids admitted waiting in
+    record {
+      line = rising_tail 0 started (queue ++ kept_ids was_admitted was_waiting) (queue ++ kept) (length requests)
+          (λ low r. rising_without low queue q.number kept (length requests) (subst (λ ns. Rising low (queue ++ ns) (length requests)) next.first r))
+          h.line;
+      queued = h.queued;
+      entries = h.entries;
+      packs = next.packs;
+      packed_in = next.packed_in;
+      there = λ m e. elim (h.there m e) [
+        | inl i ↦ inl (inr i)
+        | inr k ↦ elim (next.others m k) [ inl same ↦ inl (inl same) | inr j ↦ inr j ]
+      ];
+    }
+
+-- the line where its message is the last of the queue
+line_next : (requests : List Request) (link : LinkState) (moved : List ℕ) (was_waiting was_admitted : List Waiting) (started : List ℕ) (q : Waiting) (waiting admitted : List Waiting) → kept_ids was_admitted was_waiting ≡ q.number ∷ kept_ids admitted waiting
+    → Rising 0 (started ++ (queue_ids link.queue ++ kept_ids was_admitted was_waiting)) (length requests) → Rising 0 (started ++ (queue_ids (link.queue ++ message_of q ∷ []) ++ kept_ids admitted waiting)) (length requests)
+line_next requests link moved was_waiting was_admitted started q waiting admitted first h =
+    let queue = queue_ids link.queue in
+    let kept = kept_ids admitted waiting in
+    let same : queue ++ kept_ids was_admitted was_waiting ≡ queue_ids (link.queue ++ message_of q ∷ []) ++ kept =
+    ap (λ ns. queue ++ ns) first ∙ sym (append_assoc queue (q.number ∷ []) kept) ∙ ap (λ ns. ns ++ kept) (sym (queue_ids-push link.queue (message_of q))) in
+    subst (λ ns. Rising 0 (started ++ ns) (length requests)) same h
+
+-- it comes further
+lines_further : (story : ℕ → Story) (requests : List Request) (link : LinkState) (waiting admitted : List Waiting) (p : ℕ) (now : Progress) (started : List ℕ) → is_open_progress now ≡ true → is_placed now ≡ true → is_open_at requests p ≡ true → (IsIn p (queue_ids link.queue) → ⊥)
+    → TiedLines story requests link waiting admitted (p ∷ []) started → TiedLines story (at_progress requests p now) link waiting admitted (p ∷ []) started
+lines_further story requests link waiting admitted p now started on seat o apart h = record {
+  line = subst (Rising 0 (started ++ (queue_ids link.queue ++ kept_ids admitted waiting))) (sym (length_still requests p now)) h.line;
+  queued = queued_further story requests p now link.queue apart h.queued;
+  entries = entries_further requests p now link.row (open_within requests p o) (inl seat) h.entries;
+  packs = packs_further story requests p now waiting h.packs;
+  packed_in = packs_further story requests p now admitted h.packed_in;
+  there = λ m e. elim (h.there m (sym (open_further requests p m now on o) ∙ e)) [
+    | inl i ↦ inl i
+    | inr k ↦ by_test (p == m) _ (λ t. inl (inl (eq_from p m t))) (λ f. inr (kept_other requests p m now waiting admitted (ne_from p m f) k))
+  ];
+}
+
+-- its message has the last place of the queue
+lines_enqueued : (story : ℕ → Story) (requests : List Request) (link : LinkState) (waiting admitted : List Waiting) (m : Queued) (pending started : List ℕ) → IsQueued story requests m
+    → Rising 0 (started ++ (queue_ids (link.queue ++ m ∷ []) ++ kept_ids admitted waiting)) (length requests) → ((n : ℕ) → IsIn n pending → IsIn n (awaited_ids (m ∷ []))) → TiedLines story requests link waiting admitted pending started
+    → TiedLines story requests (enqueued link m) waiting admitted [] started
+lines_enqueued story requests link waiting admitted m pending started is line placed h =
+    let rows = wanted link.row in
+    let queue = awaited_ids link.queue in
+    let more = awaited_ids (m ∷ []) in
+    record {
+      line = line;
+      queued = all_push (IsQueued story requests) link.queue m h.queued is;
+      entries = h.entries;
+      packs = h.packs;
+      packed_in = h.packed_in;
+      there = λ n e. elim (h.there n e) [
+        | inl i ↦ inl (subst (λ ns. IsIn n (rows ++ ns)) (sym (awaited_ids-push link.queue m)) (elim (in_either n pending (rows ++ queue) i) [
+          | inl j ↦ in_right n rows (queue ++ more) (in_right n queue more (placed n j))
+          | inr j ↦ elim (in_either n rows queue j) [ inl k ↦ in_left n rows (queue ++ more) k | inr k ↦ in_right n rows (queue ++ more) (in_left n queue more k) ]
+        ]))
+        | inr k ↦ inr k
+      ];
+    }
+
+-- what is shown of waits
+--
+-- it has its place
+waits_placed : (story : ℕ → Story) (requests : List Request) (p : ℕ) (life : Life) (fresh moved : List ℕ) → p < length requests → TiedWaits story requests life fresh moved → TiedWaits story (at_progress requests p progress.Placed) life fresh moved
+waits_placed story requests p life fresh moved l h =
+    let same = shown_further story requests p progress.Placed in
+    record {
+      new = new_further story requests p progress.Placed fresh h.new;
+      early = λ m w. let k = there_then is_waiting requests p m progress.Placed refl l w in elim (h.early m k.1) [ inl e ↦ inl (same m ∙ e) | inr e ↦ inr (same m ∙ e) ];
+      connect = λ m w d. let k = there_then is_waiting requests p m progress.Placed refl l w in elim (h.connect m k.1 d) [ inl e ↦ inl e | inr e ↦ inr (same m ∙ e) ];
+      place = λ m a. let k = there_then is_admitted requests p m progress.Placed refl l a in elim (h.place m k.1) [ inl i ↦ inl i | inr e ↦ inr (same m ∙ e) ];
+      room = λ m i. elim (h.room m i) [ inl j ↦ inl j | inr e ↦ inr (same m ∙ e) ];
+      rising = subst (Rising 0 moved) (sym (length_still requests p progress.Placed)) h.rising;
+      no_place = λ m i a e. let k = there_then is_admitted requests p m progress.Placed refl l a in h.no_place m i k.1 (sym (same m) ∙ e);
+      no_room = λ m i j e. h.no_room m i j (sym (same m) ∙ e);
+    }
+
+-- its message is in the queue, and it was moved in this turn
+waits_enqueued : (story : ℕ → Story) (requests : List Request) (link : LinkState) (m : Queued) (fresh moved : List ℕ) → Rising 0 (moved ++ m.id ∷ []) (length requests) → is_admitted_at requests m.id ≡ false → shown_wait story requests m.id ≢ Some wait.Room
+    → TiedWaits story requests (Ready link) fresh moved → TiedWaits story requests (Ready (enqueued link m)) fresh (moved ++ m.id ∷ [])
+waits_enqueued story requests link m fresh moved last placed shown h =
+    let p = m.id in
+    let earlier : (n : ℕ) → p ≢ n → IsIn n (moved ++ p ∷ []) → IsIn n moved = λ n other i. elim (in_either n moved (p ∷ []) i) [ inl j ↦ j | inr j ↦ elim j [ inl same ↦ absurd (other same) | inr k ↦ absurd k ] ] in
+    record {
+      new = h.new;
+      early = h.early;
+      connect = λ n w e. absurd (not_dialing (enqueued link m) e);
+      place = λ n a. elim (h.place n a) [ inl i ↦ inl (in_left n moved (p ∷ []) i) | inr e ↦ inr e ];
+      room = λ n i. elim (awaited_last n link.queue m i) [
+        | inl j ↦ elim (h.room n j) [ inl k ↦ inl (in_left n moved (p ∷ []) k) | inr e ↦ inr e ]
+        | inr same ↦ inl (in_right n moved (p ∷ []) (inl same))
+      ];
+      rising = last;
+      no_place = λ n i a. h.no_place n (earlier n (λ same. not_both (is_admitted_at requests n) (ap (is_admitted_at requests) (sym same) ∙ placed) a) i) a;
+      no_room = λ n i j. by_test (p == n) _
+          (λ t. subst (λ x. shown_wait story requests x ≢ Some wait.Room) (eq_from p n t) shown)
+          (λ f. let other = ne_from p n f in h.no_room n (earlier n other i) (elim (awaited_last n link.queue m j) [ inl k ↦ k | inr same ↦ absurd (other same) ]));
+    }
+
+-- one that waits for the connection waits for a place, and was moved in this turn
+waits_admitted : (story : ℕ → Story) (requests : List Request) (link : LinkState) (p : ℕ) (fresh moved : List ℕ) → is_waiting_at requests p ≡ true → Rising 0 (moved ++ p ∷ []) (length requests)
+    → TiedWaits story requests (Ready link) fresh moved → TiedWaits story (at_progress requests p progress.Admitted) (Ready link) fresh (moved ++ p ∷ [])
+waits_admitted story requests link p fresh moved w last h =
+    let same = shown_further story requests p progress.Admitted in
+    let l = open_within requests p (waiting_open requests p w) in
+    let shown = shown_early (shown_wait story requests p) (h.early p w) in
+    let earlier : (n : ℕ) → p ≢ n → IsIn n (moved ++ p ∷ []) → IsIn n moved = λ n other i. elim (in_either n moved (p ∷ []) i) [ inl j ↦ j | inr j ↦ elim j [ inl same ↦ absurd (other same) | inr k ↦ absurd k ] ] in
+    record {
+      new = new_further story requests p progress.Admitted fresh h.new;
+      early = λ m v. let k = there_then is_waiting requests p m progress.Admitted refl l v in elim (h.early m k.1) [ inl e ↦ inl (same m ∙ e) | inr e ↦ inr (same m ∙ e) ];
+      connect = λ m v d. absurd (not_dialing link d);
+      place = λ m a. by_test (p == m) _
+          (λ t. inl (in_right m moved (p ∷ []) (inl (eq_from p m t))))
+          (λ f. elim (h.place m (sym (there_other is_admitted requests p m progress.Admitted (ne_from p m f)) ∙ a)) [ inl i ↦ inl (in_left m moved (p ∷ []) i) | inr e ↦ inr (same m ∙ e) ]);
+      room = λ m i. elim (h.room m i) [ inl j ↦ inl (in_left m moved (p ∷ []) j) | inr e ↦ inr (same m ∙ e) ];
+      rising = subst (Rising 0 (moved ++ p ∷ [])) (sym (length_still requests p progress.Admitted)) last;
+      no_place = λ m i a e. by_test (p == m) _
+          (λ t. shown.0 (ap (shown_wait story requests) (eq_from p m t) ∙ sym (same m) ∙ e))
+          (λ f. h.no_place m (earlier m (ne_from p m f) i) (sym (there_other is_admitted requests p m progress.Admitted (ne_from p m f)) ∙ a) (sym (same m) ∙ e));
+      no_room = λ m i j e. by_test (p == m) _
+          (λ t. shown.1 (ap (shown_wait story requests) (eq_from p m t) ∙ sym (same m) ∙ e))
+          (λ f. h.no_room m (earlier m (ne_from p m f) i) j (sym (same m) ∙ e));
+    }
+
+-- the session
+--
+-- with the request in its place, where these wait still
+abbrev pub with_place : Inner → LinkState → Waiting → List Waiting → List Waiting → Progress → Inner
+with_place t link q waiting admitted now = record (on_link t (enqueued link (message_of q))) {
+  requests = at_progress t.requests q.number now;
+  waiting = waiting;
+  admitted = admitted;
+  moved = t.moved ++ q.number ∷ [];
+}
+
+-- the one that is awaited
+awaited_only : (awaited : Bool) (p n : ℕ) → awaited ≡ true → IsIn n (p ∷ []) → IsIn n ((if awaited then p ∷ [] else []) ++ [])
+awaited_only true p n e i = i
+awaited_only false p n e i = cc
+
+-- one whose reply is awaited has its place
+pub place_tied : (b : Book) (t : Inner) (link : LinkState) (q : Waiting) (waiting admitted : List Waiting) → q.awaited ≡ true → IsNext b.story t.requests t.moved t.waiting t.admitted q waiting admitted → Tied b (on_link t link)
+    → Tied b (with_place t link q waiting admitted progress.Placed)
+place_tied b t link q waiting admitted yes_awaited next h =
+    let p = q.number in
+    let o = next.open_at in
+    let within = open_within t.requests p o in
+    let apart = next_apart b.story t.requests link t.moved t.waiting t.admitted t.started q waiting admitted next h.lines in
+    let placed = at_progress t.requests p progress.Placed in
+    let still = length_still t.requests p progress.Placed in
+    let queued : IsQueued b.story placed (message_of q) = record {
+      is_of = subst (λ n. IsOf (b.story n) q.packed q.shape q.awaited) (sym (name_still t.requests p progress.Placed p)) next.packed;
+      placed_at = λ e. there_same is_placed t.requests p progress.Placed within;
+      told = λ f. absurd (not_both q.awaited f yes_awaited);
+    } in
+    record {
+      numbers = numbers_kept b _ _ (on_link t link) _ _ _ _ _ _ _ _ h.numbers;
+      others = h.others;
+      life = h.life;
+      link = λ e. subst (λ x. TiedLink x (b.link t.link) (enqueued link (message_of q))) (sym (owners_still t.requests p progress.Placed)) (enqueued_tied (owner_of t.requests) (b.link t.link) link (message_of q) (h.link refl));
+      names = names_progressed t.table t.requests p progress.Placed h.names;
+      story = λ n. story_further (b.story n) t.requests t.link p progress.Placed (slice_get t.table n) refl o (h.story n);
+      tries = tries_further (b.link t.link) b.story t.requests t.link p progress.Placed t.started h.tries;
+      lines = lines_enqueued b.story placed link waiting admitted (message_of q) (p ∷ []) t.started queued
+          (subst (Rising 0 (t.started ++ (queue_ids (link.queue ++ message_of q ∷ []) ++ kept_ids admitted waiting))) (sym still) (line_next t.requests link t.moved t.waiting t.admitted t.started q waiting admitted next.first h.lines.line))
+          (λ n i. awaited_only q.awaited p n yes_awaited i)
+          (lines_further b.story t.requests link waiting admitted p progress.Placed t.started refl refl o apart (lines_next b.story t.requests link t.moved t.waiting t.admitted t.started q waiting admitted next h.lines));
+      told = λ e n is none.
+          let k = told_further b.story t.requests link p progress.Placed (h.told refl) n is none in
+          (k.0, k.1, k.2, subst (IsIn k.0) (sym (queue_ids-push link.queue (message_of q))) (in_left k.0 (queue_ids link.queue) (p ∷ []) k.3));
+      waits = waits_enqueued b.story placed link (message_of q) t.fresh t.moved (subst (Rising 0 (t.moved ++ p ∷ [])) (sym still) next.last) (there_same is_admitted t.requests p progress.Placed within)
+          (λ e. next.shown (sym (shown_further b.story t.requests p progress.Placed p) ∙ e)) (waits_placed b.story t.requests p (Ready link) t.fresh t.moved within h.waits);
+    }
+
+-- it is none of those that still wait, nor of the link
+apart_from_line : (b : Book) (t : Inner) (link : LinkState) (q : Waiting) (waiting admitted : List Waiting) → IsNext b.story t.requests t.moved t.waiting t.admitted q waiting admitted → Tied b (on_link t link) → IsIn q.number (line_of link admitted waiting) → ⊥
+apart_from_line b t link q waiting admitted next h i =
+    let p = q.number in
+    let hi = length t.requests in
+    let rows = wanted link.row in
+    let queue = queue_ids link.queue in
+    let kept = kept_ids admitted waiting in
+    let all = in_line b (on_link t link) h refl in
+    let line = subst (λ ns. Rising 0 (rows ++ (queue ++ ns)) hi) next.first all in
+    let behind = rising_right 0 rows (queue ++ (p ∷ kept)) hi line in
+    elim (in_either p rows (queue ++ kept) i) [
+      | inl j ↦ let k = rising_apart 0 rows (queue ++ (p ∷ kept)) hi p p line j (in_right p queue (p ∷ kept) (inl refl)) in omega arith
+      | inr j ↦ elim (in_either p queue kept j) [
+        | inl k ↦ let l = rising_apart 0 queue (p ∷ kept) hi p p behind k (inl refl) in omega arith
+        | inr k ↦ first_is_apart 0 p kept hi (rising_right 0 queue (p ∷ kept) hi behind) k
+      ]
     ]
 
--- the session with it in its place, and the book in which it is answered
-pub tell_tied : (b : Book) (t : Inner) (link : LinkState) (q : Waiting) (qs : List Waiting) → is_waiting_at t.requests q.number ≡ true → q.awaited ≡ false → Tied b (with_waiting t (with_queue link []) (q ∷ qs))
-    → Tied (entered b (action.Outcome (name_at t.requests q.number) (outcome.One Nil))) (record (with_waiting t (with_queue link (message_of q ∷ [])) qs) { requests = at_progress t.requests q.number progress.Closed })
-tell_tied b t link q qs w not_awaited h =
+-- one whose reply nobody awaits has its place, and is answered there
+pub tell_tied : (b : Book) (t : Inner) (link : LinkState) (q : Waiting) (waiting admitted : List Waiting) → q.awaited ≡ false → IsNext b.story t.requests t.moved t.waiting t.admitted q waiting admitted → Tied b (on_link t link)
+    → Tied (entered b (action.Outcome (name_at t.requests q.number) (outcome.One Nil))) (with_place t link q waiting admitted progress.Closed)
+tell_tied b t link q waiting admitted not_awaited next h =
     let p = q.number in
     let n = name_at t.requests p in
-    let o = waiting_open t.requests p w in
     let nil = outcome.One Nil in
+    let o = next.open_at in
+    let within = open_within t.requests p o in
+    let done : ℕ → Story = λ m. answered (b.story m) nil in
+    let c : (m : ℕ) → Closes (b.story m) (done m) = λ m. answer_closes (b.story m) nil in
+    let after = with_closed b.story t.requests p done in
     let closed = at_progress t.requests p progress.Closed in
-    let r = request_story b (with_waiting t (with_queue link []) (q ∷ qs)) p h (open_within t.requests p o) in
-    let answer = answer_apart b (with_waiting t (with_queue link []) qs) p [] nil (open_within t.requests p o) (apart_from_line b t link q qs h) (waiting_pending b t link q qs h) in
-    let same : answered (b.story n) nil ≡ if_own (n == n) (answered (b.story n) nil) (b.story n) = sym (taken_if (n == n) (answered (b.story n) nil) (b.story n) (eq_test n n refl)) in
-    let is_of : IsOf (answered (b.story n) nil) q.packed q.shape q.awaited = of_same (b.story n) (answered (b.story n) nil) q.packed q.shape q.awaited refl h.lines.packs.0 in
-    let queued : IsQueued (entered b (action.Outcome n nil)).story closed (message_of q) = record {
-      is_of = subst (λ x. IsOf ((entered b (action.Outcome n nil)).story x) q.packed q.shape q.awaited) (sym (name_still t.requests p progress.Closed p)) (subst (λ s. IsOf s q.packed q.shape q.awaited) same is_of);
-      open_at = λ e. absurd (not_both q.awaited not_awaited e);
-      told = λ f. ap (λ x. ((entered b (action.Outcome n nil)).story x).outcomes) (name_still t.requests p progress.Closed p) ∙ ap (λ (s : Story). s.outcomes) (sym same) ∙ ap (λ os. os ++ nil ∷ []) (open_unanswered (b.story n) (r.open_is ∙ o));
+    let still = length_still t.requests p progress.Closed in
+    let named = name_still t.requests p progress.Closed p in
+    let r = request_story b (on_link t link) p h within in
+    let apart = apart_from_line b t link q waiting admitted next h in
+    let same : answered (b.story n) nil ≡ after n = sym (taken_if (n == n) (answered (b.story n) nil) (b.story n) (eq_test n n refl)) in
+    let queued : IsQueued after closed (message_of q) = record {
+      is_of = subst (λ x. IsOf (after x) q.packed q.shape q.awaited) (sym named) (subst (λ (s : Story). IsOf s q.packed q.shape q.awaited) same (of_same (b.story n) (answered (b.story n) nil) q.packed q.shape q.awaited refl next.packed));
+      placed_at = λ e. absurd (not_both q.awaited not_awaited e);
+      told = λ f. ap (λ x. (after x).outcomes) named ∙ ap (λ (s : Story). s.outcomes) (sym same) ∙ ap (λ os. os ++ nil ∷ []) (open_unanswered (b.story n) (r.open_is ∙ o));
     } in
-    enqueue_tied (entered b (action.Outcome n nil)) (record (with_waiting t (with_queue link []) qs) { requests = closed }) link (message_of q) queued
-    (subst (Rising 0 (t.started ++ (p ∷ waiting_ids qs))) (sym (length_still t.requests p progress.Closed)) h.lines.line) answer
+    record {
+      numbers = numbers_kept b _ _ (on_link t link) _ _ _ _ _ _ _ _ h.numbers;
+      others = h.others;
+      life = h.life;
+      link = λ e. subst (λ x. TiedLink x (b.link t.link) (enqueued link (message_of q))) (sym (owners_still t.requests p progress.Closed)) (enqueued_tied (owner_of t.requests) (b.link t.link) link (message_of q) (h.link refl));
+      names = names_progressed t.table t.requests p progress.Closed h.names;
+      story = λ m. story_closed b.story t.table t.requests t.link p done m h.names within (c m) (h.story m);
+      tries = tries_closed (b.link t.link) b.story t.requests t.link p done t.started c h.tries;
+      lines = lines_enqueued after closed link waiting admitted (message_of q) [] t.started queued
+          (subst (Rising 0 (t.started ++ (queue_ids (link.queue ++ message_of q ∷ []) ++ kept_ids admitted waiting))) (sym still) (line_next t.requests link t.moved t.waiting t.admitted t.started q waiting admitted next.first h.lines.line))
+          (λ m i. absurd i)
+          (lines_answered t.table b.story t.requests link waiting admitted p [] t.started done h.names within c apart (lines_next b.story t.requests link t.moved t.waiting t.admitted t.started q waiting admitted next h.lines));
+      told = λ e m. chosen (λ (x : Story). is_told x ≡ true → x.tries ≡ [] → (k : ℕ) × (k < length closed) × (name_at closed k ≡ m) × IsIn k (queue_ids (link.queue ++ message_of q ∷ []))) (n == m) (done m) (b.story m)
+          (λ t is none. (p, subst (λ x. p < x) (sym still) within, named ∙ eq_from n m t, subst (IsIn p) (sym (queue_ids-push link.queue (message_of q))) (in_right p (queue_ids link.queue) (p ∷ []) (inl refl))))
+          (λ f is none.
+          let k = told_further b.story t.requests link p progress.Closed (h.told refl) m is none in
+          (k.0, k.1, k.2, subst (IsIn k.0) (sym (queue_ids-push link.queue (message_of q))) (in_left k.0 (queue_ids link.queue) (p ∷ []) k.3)));
+      waits = waits_enqueued after closed link (message_of q) t.fresh t.moved (subst (Rising 0 (t.moved ++ p ∷ [])) (sym still) next.last) (there_same is_admitted t.requests p progress.Closed within)
+          (λ e. (let gone : ◌≡◌ {A = Option WaitKind} None (Some wait.Room) = ap (λ (s : Story). s.waiting) same ∙ ap (λ x. (after x).waiting) (sym named) ∙ e in cc))
+          (waits_closed t.table b.story t.requests p done (Ready link) (Ready link) t.fresh t.moved h.names within c (λ e. e)
+          (λ m i.
+          let queue = queue_ids link.queue in
+          let kept = kept_ids t.admitted t.waiting in
+          let j = awaited_in m link.queue i in
+          let k = rising_in 0 (t.started ++ (queue ++ kept)) (length t.requests) m h.lines.line (in_right m t.started (queue ++ kept) (in_left m queue kept j)) in
+          ((λ s. next_apart b.story t.requests link t.moved t.waiting t.admitted t.started q waiting admitted next h.lines (subst (λ x. IsIn x queue) (sym s) j)), k.1, i)) h.waits);
+    }
+
+-- one that waits for the connection waits for a place behind the others
+pub admit_tied : (b : Book) (t : Inner) (link : LinkState) (q : Waiting) (qs : List Waiting) → is_waiting_at t.requests q.number ≡ true → Rising 0 (t.moved ++ q.number ∷ []) (length t.requests) → Tied b (record (on_link t link) { waiting = q ∷ qs })
+    → Tied b (record (on_link t link) { requests = at_progress t.requests q.number progress.Admitted; waiting = qs; admitted = t.admitted ++ q ∷ []; moved = t.moved ++ q.number ∷ [] })
+admit_tied b t link q qs w last h =
+    let p = q.number in
+    let o = waiting_open t.requests p w in
+    let within = open_within t.requests p o in
+    let queue = queue_ids link.queue in
+    let front = waiting_ids t.admitted in
+    let rest = waiting_ids qs in
+    let hi = length t.requests in
+    let now = progress.Admitted in
+    let further = at_progress t.requests p now in
+    let line = rising_right 0 t.started (queue ++ (front ++ (p ∷ rest))) hi h.lines.line in
+    let apart : IsIn p queue → ⊥ = λ i. (let k = rising_apart 0 queue (front ++ (p ∷ rest)) hi p p line i (in_right p front (p ∷ rest) (inl refl)) in omega arith) in
+    let same : kept_ids t.admitted (q ∷ qs) ≡ kept_ids (t.admitted ++ q ∷ []) qs = sym (append_assoc front (p ∷ []) rest) ∙ ap (λ ns. ns ++ rest) (sym (waiting_ids-push t.admitted q)) in
+    record {
+      numbers = numbers_kept b _ _ (record (on_link t link) { waiting = q ∷ qs }) _ _ _ _ _ _ _ _ h.numbers;
+      others = h.others;
+      life = h.life;
+      link = λ e. subst (λ x. TiedLink x (b.link t.link) link) (sym (owners_still t.requests p now)) (h.link refl);
+      names = names_progressed t.table t.requests p now h.names;
+      story = λ n. story_further (b.story n) t.requests t.link p now (slice_get t.table n) refl o (h.story n);
+      tries = tries_further (b.link t.link) b.story t.requests t.link p now t.started h.tries;
+      lines = record {
+        line = subst (λ ns. Rising 0 (t.started ++ (queue ++ ns)) (length further)) same (subst (Rising 0 (t.started ++ (queue ++ kept_ids t.admitted (q ∷ qs)))) (sym (length_still t.requests p now)) h.lines.line);
+        queued = queued_further b.story t.requests p now link.queue apart h.lines.queued;
+        entries = entries_further t.requests p now link.row within (inr (waiting_unplaced t.requests p w)) h.lines.entries;
+        packs = packs_further b.story t.requests p now qs h.lines.packs.1;
+        packed_in = packs_further b.story t.requests p now (t.admitted ++ q ∷ []) (all_push (IsPacked b.story t.requests) t.admitted q h.lines.packed_in h.lines.packs.0);
+        there = λ m e. by_test (p == m) _
+            (λ t1. inr (inl (ap (is_admitted_at further) (sym (eq_from p m t1)) ∙ there_same is_admitted t.requests p now within, subst (IsIn m) (sym (waiting_ids-push t.admitted q)) (in_right m front (p ∷ []) (inl (eq_from p m t1))))))
+            (λ f.
+            let other = ne_from p m f in
+            elim (h.lines.there m (sym (open_further t.requests p m now refl o) ∙ e)) [
+              | inl i ↦ inl i
+              | inr k ↦ inr (elim (kept_other t.requests p m now (q ∷ qs) t.admitted other k) [
+                | inl a ↦ inl (a.0, subst (IsIn m) (sym (waiting_ids-push t.admitted q)) (in_left m front (p ∷ []) a.1))
+                | inr v ↦ inr (v.0, elim v.1 [ inl s ↦ absurd (other s) | inr i ↦ i ])
+              ])
+            ]);
+      };
+      told = λ e. told_further b.story t.requests link p now (h.told refl);
+      waits = waits_admitted b.story t.requests link p t.fresh t.moved w last h.waits;
+    }
+  where
+    waiting_ids-push : (ws : List Waiting) (w : Waiting) → waiting_ids (ws ++ w ∷ []) ≡ waiting_ids ws ++ w.number ∷ []
+    waiting_ids-push [] w = refl
+    waiting_ids-push (v ∷ ws) w = ap (λ ns. v.number ∷ ns) (waiting_ids-push ws w)

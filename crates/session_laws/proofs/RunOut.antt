@@ -18,10 +18,11 @@ use Rattle.legal_trace.specs.Book.{Book, book}
 use Rattle.legal_trace.specs.Events.{HasRunOut}
 use Rattle.legal_trace.specs.Ledger.{Start}
 use Rattle.shared_session.proofs.Replays.{state_after-more, turns_after}
+use Rattle.session_laws.proofs.InLine.{kept_ids}
 use Rattle.session_laws.proofs.Legality.{replay_between}
 use Rattle.session_laws.proofs.Numbers.{Rising, rising_left}
 use Rattle.session_laws.proofs.Start.{owners_length}
-use Rattle.session_laws.proofs.Tied.{Inner, Tied, inner, link_in, queue_ids, waiting_ids, has_ended}
+use Rattle.session_laws.proofs.Tied.{Inner, Tied, inner, link_in, queue_ids, has_ended}
 
 -- one event more
 --
@@ -82,7 +83,7 @@ requests_fewer b t h =
 -- and no more started messages than requests
 starts_fewer : (b : Book) (t : Inner) → Tied b t → length (b.link t.link).starts ≤ length t.requests
 starts_fewer b t h =
-    let l = rising_length 0 t.started (length t.requests) (rising_left 0 t.started (queue_ids (link_in t.life).queue ++ waiting_ids t.waiting) (length t.requests) h.lines.line) in
+    let l = rising_length 0 t.started (length t.requests) (rising_left 0 t.started (queue_ids (link_in t.life).queue ++ kept_ids t.admitted t.waiting) (length t.requests) h.lines.line) in
     let k = owners_length (b.link t.link).starts t.requests t.started h.tries.owners in
     omega arith
 

@@ -1,9 +1,9 @@
 -- The first message of the queue starts.
-use Rattle.std.proofs.Common.{List, None, Some, [], ap, append_assoc, arith, inl, inr, length, refl, slice_get, subst, suc, sym, ℕ, ◌++◌, ◌<◌, ◌∙◌, ◌∷◌, ◌≡◌, ◌≢◌}
+use Rattle.std.proofs.Common.{List, None, Option, Some, [], ap, append_assoc, arith, false, inl, inr, length, refl, slice_get, subst, suc, sym, true, ℕ, ◌++◌, ◌<◌, ◌∙◌, ◌∷◌, ◌≡◌, ◌≢◌, ◌⊎◌}
 use Rattle.std.proofs.lemmas.List.{append-nil}
 use Rattle.std.specs.Prelude.{if◌then◌else◌, ◌==◌}
 use Rattle.containers.proofs.Places.{get_within}
-use Rattle.containers.proofs.Choices.{chosen, eq_test, left_if, ne_test, taken_if}
+use Rattle.containers.proofs.Choices.{by_test, chosen, eq_test, left_if, ne_from, ne_test, not_both, taken_if}
 use Rattle.resp_read.specs.Frames.{within}
 use Rattle.driver_model.specs.Shape.{need_of}
 use Rattle.driver_model.specs.declared.action.Action.{Action}
@@ -15,18 +15,23 @@ use Rattle.link_laws.proofs.Once.{wanted-append}
 use Rattle.link_laws.proofs.TiedLink.{all_push, begun_tied, queue_tied}
 use Rattle.link_laws.specs.Settles.{awaited_ids, wanted}
 use Rattle.link_laws.specs.Starts.{begun, start_from}
-use Rattle.mux_conn.specs.Requests.{name_at}
+use Rattle.mux_conn.specs.Requests.{if_there, is_admitted, is_admitted_at, is_open as is_open_progress, is_open_at, is_placed, is_placed_at, name_at}
 use Rattle.mux_conn.specs.declared.life.Life.TheVariants.{Dialing, Ready}
+use Rattle.mux_conn.specs.declared.request.Progress.{Progress}
+use Rattle.mux_conn.specs.declared.request.Progress.TheVariants as progress
 use Rattle.mux_conn.specs.declared.request.Request.{Request}
 use Rattle.mux_conn.specs.declared.request.Waiting.{Waiting}
 use Rattle.legal_trace.specs.Book.{Book, entered, if_own, message_of}
 use Rattle.legal_trace.specs.Ledger.{Ledger, Start, begins, noted}
-use Rattle.legal_trace.specs.Story.{Story, shape, shape_in, tried}
+use Rattle.legal_trace.specs.Story.{Story, is_told, shape, shape_in, tried}
+use Rattle.session_laws.proofs.Ahead.{queue_within}
+use Rattle.session_laws.proofs.Behind.{nil_told, open_untold, some_more}
+use Rattle.session_laws.proofs.InLine.{awaited_in, first_is_apart, kept_ids}
 use Rattle.session_laws.proofs.Kept.{SameOutcomes, SameSubmissions, mine_noted, numbers_kept, one_changed, others_kept, packed_same, queued_same, tied_by}
-use Rattle.session_laws.proofs.Names.{get_more, get_some, name_of_some, same_name}
-use Rattle.session_laws.proofs.Numbers.{IsIn, Rising, in_left, in_right, rising_apart, rising_in, rising_left}
+use Rattle.session_laws.proofs.Names.{get_more, get_some, name_of_some, open_within, same_name}
+use Rattle.session_laws.proofs.Numbers.{IsIn, Rising, in_left, in_right, rising_apart, rising_in, rising_left, rising_right}
 use Rattle.session_laws.proofs.Owes.{get_in, request_story}
-use Rattle.session_laws.proofs.Tied.{Inner, IsEntry, IsNew, IsQueued, IsRequest, Tied, TiedLines, TiedTries, TiedWaits, link_in, owner_of, owners_each, owners_of, queue_ids, waiting_ids}
+use Rattle.session_laws.proofs.Tied.{AreQueued, Inner, IsEntry, IsNew, IsQueued, IsRequest, Tied, TiedLines, TiedTries, TiedWaits, link_in, owner_of, owners_each, owners_of, queue_ids, shown_wait}
 
 -- the action that its start shows
 abbrev pub start_action : Inner → LinkState → Queued → Action
@@ -57,12 +62,25 @@ tried_outcomes : (m link k : ℕ) (story : ℕ → Story) → SameOutcomes story
 tried_outcomes m link k story n = chosen (λ (x : Story). (story n).outcomes ≡ x.outcomes) (m == n) (tried (story n) link k) (story n) (λ t. refl) (λ f. refl)
 
 -- the first of a queue is within, and has not started
-pub first_within : (story : ℕ → Story) (requests : List Request) (link : LinkState) (waiting : List Waiting) (started : List ℕ) (q : Queued) (qs : List Queued) → TiedLines story requests (with_queue link (q ∷ qs)) waiting [] started → q.id < length requests
-first_within story requests link waiting started q qs h = (rising_in 0 (started ++ (q.id ∷ (queue_ids qs ++ waiting_ids waiting))) (length requests) q.id h.line (in_right q.id started (q.id ∷ (queue_ids qs ++ waiting_ids waiting)) (inl refl))).1
+pub first_within : (story : ℕ → Story) (requests : List Request) (link : LinkState) (waiting admitted : List Waiting) (started : List ℕ) (q : Queued) (qs : List Queued) → TiedLines story requests (with_queue link (q ∷ qs)) waiting admitted [] started
+    → q.id < length requests
+first_within story requests link waiting admitted started q qs h =
+    let later = q.id ∷ (queue_ids qs ++ kept_ids admitted waiting) in
+    (rising_in 0 (started ++ later) (length requests) q.id h.line (in_right q.id started later (inl refl))).1
 
 -- nor has it started
-pub first_new : (story : ℕ → Story) (requests : List Request) (link : LinkState) (waiting : List Waiting) (started : List ℕ) (q : Queued) (qs : List Queued) → TiedLines story requests (with_queue link (q ∷ qs)) waiting [] started → IsIn q.id started → ⊥
-first_new story requests link waiting started q qs h i = let k = rising_apart 0 started (q.id ∷ (queue_ids qs ++ waiting_ids waiting)) (length requests) q.id q.id h.line i (inl refl) in omega arith
+pub first_new : (story : ℕ → Story) (requests : List Request) (link : LinkState) (waiting admitted : List Waiting) (started : List ℕ) (q : Queued) (qs : List Queued) → TiedLines story requests (with_queue link (q ∷ qs)) waiting admitted [] started → IsIn q.id started
+    → ⊥
+first_new story requests link waiting admitted started q qs h i =
+    let k = rising_apart 0 started (q.id ∷ (queue_ids qs ++ kept_ids admitted waiting)) (length requests) q.id q.id h.line i (inl refl) in
+    omega arith
+
+-- nor is it behind itself
+first_apart : (story : ℕ → Story) (requests : List Request) (link : LinkState) (waiting admitted : List Waiting) (started : List ℕ) (q : Queued) (qs : List Queued) → TiedLines story requests (with_queue link (q ∷ qs)) waiting admitted [] started
+    → IsIn q.id (queue_ids qs) → ⊥
+first_apart story requests link waiting admitted started q qs h i =
+    let kept = kept_ids admitted waiting in
+    first_is_apart 0 q.id (queue_ids qs ++ kept) (length requests) (rising_right 0 started (q.id ∷ (queue_ids qs ++ kept)) (length requests) h.line) (in_left q.id (queue_ids qs) kept i)
 
 -- what is noted of the link is the message of the queue
 same_start : (b : Book) (requests : List Request) (q : Queued) → IsQueued b.story requests q → message_of b (owner_of requests q.id) ≡ start_from (owner_of requests) q
@@ -120,14 +138,18 @@ tries_started l story requests link k started s p new one owned shaped counted n
 
 -- the line, and what is shown of waits
 --
-lines_started : (story : ℕ → Story) (requests : List Request) (link : LinkState) (waiting : List Waiting) (started : List ℕ) (q : Queued) (qs : List Queued) (k l : ℕ)
-    → TiedLines story requests (with_queue link (q ∷ qs)) waiting [] started
-    → TiedLines (tried_at (name_at requests q.id) k l story) requests (with_queue (begun link q) qs) waiting [] (started ++ q.id ∷ [])
-lines_started story requests link waiting started q qs k l h = record {
-  line = subst (λ ns. Rising 0 ns (length requests)) (sym (append_assoc started (q.id ∷ []) (queue_ids qs ++ waiting_ids waiting))) h.line;
+lines_started : (story : ℕ → Story) (requests : List Request) (link : LinkState) (waiting admitted : List Waiting) (started : List ℕ) (q : Queued) (qs : List Queued) (k l : ℕ)
+    → TiedLines story requests (with_queue link (q ∷ qs)) waiting admitted [] started
+    → TiedLines (tried_at (name_at requests q.id) k l story) requests (with_queue (begun link q) qs) waiting admitted [] (started ++ q.id ∷ [])
+lines_started story requests link waiting admitted started q qs k l h = record {
+  line = subst (λ ns. Rising 0 ns (length requests)) (sym (append_assoc started (q.id ∷ []) (queue_ids qs ++ kept_ids admitted waiting))) h.line;
   queued = queued_same story (tried_at (name_at requests q.id) k l story) requests qs (tried_submissions (name_at requests q.id) k l story) (tried_outcomes (name_at requests q.id) k l story) h.queued.1;
-  entries = all_push (IsEntry requests) link.row (entry_of q) h.entries (record { below = first_within story requests link waiting started q qs h; open_at = h.queued.0.open_at });
+  entries = all_push (IsEntry requests) link.row (entry_of q) h.entries (record {
+    below = first_within story requests link waiting admitted started q qs h;
+    placed_at = h.queued.0.placed_at;
+  });
   packs = packed_same story (tried_at (name_at requests q.id) k l story) requests waiting (tried_submissions (name_at requests q.id) k l story) h.packs;
+  packed_in = packed_same story (tried_at (name_at requests q.id) k l story) requests admitted (tried_submissions (name_at requests q.id) k l story) h.packed_in;
   there = λ p e. elim (h.there p e) [
     | inl i ↦ inl (subst (IsIn p) (sym (append_assoc (wanted link.row) (if q.awaited then q.id ∷ [] else []) (awaited_ids qs)) ∙ ap (λ ns. ns ++ awaited_ids qs) (ap (λ ns. wanted link.row ++ ns) (sym (append-nil (if q.awaited then q.id ∷ [] else []))) ∙ sym (wanted-append link.row (entry_of q ∷ [])))) i)
     | inr w ↦ inr w
@@ -144,12 +166,88 @@ new_kept f g requests (p ∷ q ∷ ps) kept h = h
 pub not_dialing : (link : LinkState) → Ready link ≡ Dialing → ⊥
 not_dialing link e = cc
 
--- what is shown of waits stays
-tried_waits : (story : ℕ → Story) (requests : List Request) (link link' : LinkState) (fresh : List ℕ) (m k l : ℕ) → TiedWaits story requests (Ready link) fresh → TiedWaits (tried_at m k l story) requests (Ready link') fresh
-tried_waits story requests link link' fresh m k l h = record {
-  new = new_kept story (tried_at m k l story) requests fresh (λ n none. chosen (λ (x : Story). x.waiting ≡ None) (m == n) (tried (story n) k l) (story n) (λ t. refl) (λ f. none)) h.new;
-  shown = λ p w e. absurd (not_dialing link' e);
+-- what is shown of a submission's wait is the same, or nothing is shown any more
+abbrev pub LosesWaits : (ℕ → Story) → (ℕ → Story) → Type 0
+LosesWaits f g = (n : ℕ) → ((g n).waiting ≡ None) ⊎ ((g n).waiting ≡ (f n).waiting)
+
+-- what is shown of waits is true still, where it is the same of those that wait for a place and of those in the queue
+pub waits_up : (f g : ℕ → Story) (requests : List Request) (link link' : LinkState) (fresh moved : List ℕ) → LosesWaits f g
+    → ((p : ℕ) → is_admitted_at requests p ≡ true → shown_wait g requests p ≡ shown_wait f requests p)
+    → ((p : ℕ) → IsIn p (awaited_ids link'.queue) → IsIn p (awaited_ids link.queue) × (shown_wait g requests p ≡ shown_wait f requests p))
+    → TiedWaits f requests (Ready link) fresh moved → TiedWaits g requests (Ready link') fresh moved
+waits_up f g requests link link' fresh moved lost admitted queued h = record {
+  new = new_kept f g requests fresh (λ n none. elim (lost n) [ inl e ↦ e | inr e ↦ e ∙ none ]) h.new;
+  early = λ p w. elim (lost (name_at requests p)) [
+    | inl e ↦ inl e
+    | inr e ↦ elim (h.early p w) [ inl k ↦ inl (e ∙ k) | inr k ↦ inr (e ∙ k) ]
+  ];
+  connect = λ p w e. absurd (not_dialing link' e);
+  place = λ p a. elim (h.place p a) [ inl i ↦ inl i | inr k ↦ inr (admitted p a ∙ k) ];
+  room = λ p i. let q = queued p i in elim (h.room p q.0) [ inl j ↦ inl j | inr k ↦ inr (q.1 ∙ k) ];
+  rising = h.rising;
+  no_place = λ p i a e. h.no_place p i a (sym (admitted p a) ∙ e);
+  no_room = λ p i j e. let q = queued p j in h.no_room p i q.0 (sym q.1 ∙ e);
 }
+
+-- a start loses the wait of its own submission
+tried_loses : (m link k : ℕ) (story : ℕ → Story) → LosesWaits story (tried_at m link k story)
+tried_loses m link k story n = chosen (λ (x : Story). (x.waiting ≡ None) ⊎ (x.waiting ≡ (story n).waiting)) (m == n) (tried (story n) link k) (story n) (λ t. inl refl) (λ f. inr refl)
+
+-- and keeps that of any other
+tried_others : (m link k : ℕ) (story : ℕ → Story) (n : ℕ) → m ≢ n → (tried_at m link k story n).waiting ≡ (story n).waiting
+tried_others m link k story n other = ap (λ (x : Story). x.waiting) (left_if (m == n) (tried (story n) link k) (story n) (ne_test m n other))
+
+-- one that waits for a place is open, and has none
+pub admitted_open : (requests : List Request) (p : ℕ) → is_admitted_at requests p ≡ true → (is_open_at requests p ≡ true) × (is_placed_at requests p ≡ false)
+admitted_open requests p e = by_request (slice_get requests p) e
+  where
+    by_progress : (r : Progress) → is_admitted r ≡ true → (is_open_progress r ≡ true) × (is_placed r ≡ false)
+    by_progress progress.Waiting e = cc
+    by_progress progress.Admitted e = (refl, refl)
+    by_progress progress.Placed e = cc
+    by_progress progress.Closed e = cc
+
+    by_request : (r : Option Request) → if_there is_admitted r ≡ true → (if_there is_open_progress r ≡ true) × (if_there is_placed r ≡ false)
+    by_request None e = cc
+    by_request (Some r) e = by_progress r.progress e
+
+-- so it is none of the queue
+queued_apart : (b : Book) (t : Inner) (q : Queued) → Tied b t → q.id < length t.requests → IsQueued b.story t.requests q → is_admitted_at t.requests q.id ≡ true → ⊥
+queued_apart b t q h within is admitted =
+    let a = admitted_open t.requests q.id admitted in
+    let s = b.story (name_at t.requests q.id) in
+    by_test q.awaited _
+    (λ y. not_both (is_placed_at t.requests q.id) a.1 (is.placed_at y))
+    (λ f. not_both (is_told s) (open_untold s ((request_story b t q.id h within).open_is ∙ a.0)) (nil_told s (sym is.is_of.awaited_is ∙ f) (is.told f)))
+
+-- what is shown of waits is true when the first of the queue has started
+waits_started : (b : Book) (t : Inner) (link : LinkState) (q : Queued) (qs : List Queued) (k l : ℕ) → Tied b (on_link t (with_queue link (q ∷ qs)))
+    → TiedWaits (tried_at (name_at t.requests q.id) k l b.story) t.requests (Ready (with_queue (begun link q) qs)) t.fresh t.moved
+waits_started b t link q qs k l h =
+    let was = on_link t (with_queue link (q ∷ qs)) in
+    let n = name_at t.requests q.id in
+    let within = first_within b.story t.requests link t.waiting t.admitted t.started q qs h.lines in
+    let other : (p : ℕ) → p < length t.requests → (q.id ≡ p → ⊥) → shown_wait (tried_at n k l b.story) t.requests p ≡ shown_wait b.story t.requests p = λ p inside apart.
+    tried_others n k l b.story (name_at t.requests p) (λ e. apart (same_name t.table t.requests q.id p h.names within inside e)) in
+    waits_up b.story (tried_at n k l b.story) t.requests (with_queue link (q ∷ qs)) (with_queue (begun link q) qs) t.fresh t.moved (tried_loses n k l b.story)
+    (λ p a. other p (open_within t.requests p (admitted_open t.requests p a).0) (λ same. queued_apart b was q h within h.lines.queued.0 (subst (λ m. is_admitted_at t.requests m ≡ true) (sym same) a)))
+    (λ p i.
+    let j = awaited_in p qs i in (
+      in_right p (if q.awaited then q.id ∷ [] else []) (awaited_ids qs) i,
+      other p (queue_within b was p h (inr j)) (λ same. first_apart b.story t.requests link t.waiting t.admitted t.started q qs h.lines (subst (λ m. IsIn m (queue_ids qs)) (sym same) j)),
+    ))
+    h.waits
+
+-- who was told and has not started is in the queue still
+told_started : (b : Book) (t : Inner) (link : LinkState) (q : Queued) (qs : List Queued) (k l : ℕ) → AreQueued b.story t.requests (with_queue link (q ∷ qs))
+    → AreQueued (tried_at (name_at t.requests q.id) k l b.story) t.requests (with_queue (begun link q) qs)
+told_started b t link q qs k l h n =
+    let m = name_at t.requests q.id in
+    chosen (λ (x : Story). is_told x ≡ true → x.tries ≡ [] → (p : ℕ) × (p < length t.requests) × (name_at t.requests p ≡ n) × IsIn p (queue_ids qs)) (m == n) (tried (b.story n) k l) (b.story n)
+    (λ e told none. absurd (some_more (b.story n).tries _ none))
+    (λ f told none.
+    let i = h n told none in
+    (i.0, i.1, i.2, elim i.3 [ inl same ↦ absurd (ne_from m n f (ap (name_at t.requests) same ∙ i.2)) | inr j ↦ j ]))
 
 -- a request is one still
 tried_request : (s : Story) (requests : List Request) (link p k l : ℕ) → IsRequest s requests link p → IsRequest (tried s k l) requests link p
@@ -159,7 +257,7 @@ tried_request s requests link p k l h = record { what = h.what; handed_in = h.ha
 --
 -- who started is within
 started_line : (b : Book) (t : Inner) (m : ℕ) → Tied b t → IsIn m t.started → m < length t.requests
-started_line b t m h i = (rising_in 0 t.started (length t.requests) m (rising_left 0 t.started (queue_ids (link_in t.life).queue ++ waiting_ids t.waiting) (length t.requests) h.lines.line) i).1
+started_line b t m h i = (rising_in 0 t.started (length t.requests) m (rising_left 0 t.started (queue_ids (link_in t.life).queue ++ kept_ids t.admitted t.waiting) (length t.requests) h.lines.line) i).1
 
 -- what is shown of a message of the queue
 queued_some : (b : Book) (t : Inner) (q : Queued) → Tied b t → q.id < length t.requests → IsQueued b.story t.requests q → q.packed ≢ []
@@ -173,15 +271,15 @@ start_tied b t link q qs h =
     let name = owner_of t.requests in
     let n = name_at t.requests q.id in
     let is = h.lines.queued.0 in
-    let within = first_within b.story t.requests link t.waiting t.started q qs h.lines in
-    let new = first_new b.story t.requests link t.waiting t.started q qs h.lines in
+    let within = first_within b.story t.requests link t.waiting t.admitted t.started q qs h.lines in
+    let new = first_new b.story t.requests link t.waiting t.admitted t.started q qs h.lines in
     let s = start_from name q in
     let up = h.link refl in
     let g = get_some t.requests q.id within in
     tied_by (entered b (start_action t link q)) (after_start t link q qs) (noted l (begins s))
     (mine_noted l t.link (begins (message_of b (name q.id))) ∙ ap (λ x. noted l (begins x)) (same_start b t.requests q is))
     (record {
-      numbers = numbers_kept b _ _ was _ _ _ _ _ _ h.numbers;
+      numbers = numbers_kept b _ _ was _ _ _ _ _ _ _ _ h.numbers;
       others = others_kept b t.link (begins (message_of b (name q.id))) h.others;
       life = h.life;
       link = λ e. queue_tied name (noted l (begins s)) (begun (with_queue link (q ∷ qs)) q) qs (begun_tied name l (with_queue link (q ∷ qs)) q (queued_some b was q h within is) up);
@@ -192,6 +290,7 @@ start_tied b t link q qs h =
           (λ m r i e. same_name t.table t.requests m q.id h.names (get_within t.requests m r i) within (name_of_some t.requests m r i ∙ e))
           refl is.is_of.shape_is up.started
           (ap (λ x. (b.story x).tries) (name_of_some t.requests q.id g.0 g.1) ∙ h.tries.untried q.id g.0 g.1 new) h.tries;
-      lines = lines_started b.story t.requests link t.waiting t.started q qs t.link link.started h.lines;
-      waits = tried_waits b.story t.requests (with_queue link (q ∷ qs)) (with_queue (begun link q) qs) t.fresh n t.link link.started h.waits;
+      lines = lines_started b.story t.requests link t.waiting t.admitted t.started q qs t.link link.started h.lines;
+      told = λ e. told_started b t link q qs t.link link.started (h.told refl);
+      waits = waits_started b t link q qs t.link link.started h;
     })

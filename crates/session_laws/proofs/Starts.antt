@@ -1,14 +1,14 @@
 -- Messages start as far as they can.
-use Rattle.std.proofs.Common.{List, [], ap, append_assoc, inl, inr, length, refl, subst, sym, true, ℕ, ◌++◌, ◌<◌, ◌∙◌, ◌∷◌, ◌≡◌, ◌⊎◌}
+use Rattle.std.proofs.Common.{List, [], ap, append_assoc, arith, false, inl, inr, length, refl, subst, sym, true, ℕ, ◌++◌, ◌∙◌, ◌∷◌, ◌≡◌, ◌⊎◌}
 use Rattle.std.proofs.lemmas.List.{append-nil}
-use Rattle.std.specs.Prelude.{◌==◌}
-use Rattle.containers.proofs.Choices.{by_test, chosen, if_false, ne_from}
+use Rattle.containers.proofs.Choices.{chosen}
 use Rattle.driver_model.specs.Shape.{need_of}
 use Rattle.driver_model.specs.declared.action.Action.{Action}
-use Rattle.link_core.specs.Link.{LinkState, Starting, holds_back, no_boundary, start_of, started_each, started_one}
+use Rattle.link_core.specs.Link.{LinkState, Starting, holds_back, start_of, started_each, started_one}
 use Rattle.link_core.specs.declared.message.Queued.{Queued}
 use Rattle.link_core.specs.declared.message.Started.{Started}
-use Rattle.link_laws.proofs.Bounds.{free_greatest}
+use Rattle.link_laws.proofs.Choices.{chosen_both}
+use Rattle.link_laws.specs.Starts.{begun, starting}
 use Rattle.mux_conn.specs.Connection.{Work, acted}
 use Rattle.mux_conn.specs.Passes.{shown_each as shown_starts}
 use Rattle.mux_conn.specs.Requests.{name_at}
@@ -16,71 +16,50 @@ use Rattle.mux_conn.specs.declared.act.LinkAct.{LinkAct}
 use Rattle.mux_conn.specs.declared.act.LinkAct.TheVariants as act
 use Rattle.mux_conn.specs.declared.request.Request.{Request}
 use Rattle.shared_session.specs.Turn.{shown_each}
-use Rattle.legal_trace.specs.Book.{Book, book, entered, message_of}
+use Rattle.legal_trace.specs.Book.{Book, book, message_of}
 use Rattle.legal_trace.specs.Ledger.{begins}
-use Rattle.legal_trace.specs.Legal.{IsOpen, IsTold, MayStart, NoneEnds, link_of}
-use Rattle.legal_trace.specs.Story.{Story, is_awaited, tried}
-use Rattle.session_laws.proofs.Behind.{some_more}
+use Rattle.legal_trace.specs.Legal.{MayStart, NoneEnds}
+use Rattle.legal_trace.specs.Steps.{starts_or_waits}
+use Rattle.session_laws.proofs.Ahead.{IsRunning, queue_step, queue_unstarted, queue_within}
 use Rattle.session_laws.proofs.Entered.{shown_more}
-use Rattle.session_laws.proofs.Going.{IsGoing, applied_up, going_more, none_ends_kept}
-use Rattle.session_laws.proofs.Moves.{AreQueued, first_to_move}
-use Rattle.session_laws.proofs.Names.{get_some, name_of_some}
-use Rattle.session_laws.proofs.Numbers.{IsIn}
+use Rattle.session_laws.proofs.Going.{IsGoing, applied_up, first_in_queue, going_more, none_ends_kept}
 use Rattle.session_laws.proofs.Owes.{request_story}
-use Rattle.session_laws.proofs.Start.{after_start, first_new, first_within, on_link, start_action, start_tied, with_queue}
-use Rattle.session_laws.proofs.Tied.{Inner, Tied, owner_of, queue_ids, waiting_ids}
+use Rattle.session_laws.proofs.Start.{after_start, on_link, start_action, start_tied, with_queue}
+use Rattle.session_laws.proofs.States.{IsFit}
+use Rattle.session_laws.proofs.Tied.{Inner, Tied, owner_of, queue_ids}
 
--- the first message of the queue may start
-start_may : (b : Book) (t : Inner) (link : LinkState) (q : Queued) (qs : List Queued) → Tied b (on_link t (with_queue link (q ∷ qs))) → NoneEnds b → AreQueued b (on_link t (with_queue link (q ∷ qs)))
+-- a session on a link that is up, with this queue
+pub running_on : (t : Inner) (link : LinkState) (qs : List Queued) → IsFit t.size t.bound (with_queue link qs) → IsRunning (on_link t (with_queue link qs))
+running_on t link qs fit = record { settled = refl; up = refl; fit = fit }
+
+-- the first message of the queue may start, where nothing holds it back
+start_may : (b : Book) (t : Inner) (link : LinkState) (q : Queued) (qs : List Queued) → IsFit t.size t.bound (with_queue link (q ∷ qs)) → holds_back link ≡ false → Tied b (on_link t (with_queue link (q ∷ qs))) → NoneEnds b
     → MayStart b t.link link.started (name_at t.requests q.id) (need_of q.shape) (length q.packed)
-start_may b t link q qs h ended told =
+start_may b t link q qs fit free h ended =
     let was = on_link t (with_queue link (q ∷ qs)) in
-    let n = name_at t.requests q.id in
     let is = h.lines.queued.0 in
-    let within = first_within b.story t.requests link t.waiting t.started q qs h.lines in
-    let r = request_story b was q.id h within in
-    let g = get_some t.requests q.id within in
-    let up : (link_of b n).up ≡ true = ap (λ l. (b.link l).up) r.on ∙ h.life.1 in
-    let either : (is_awaited (b.story n) ≡ true) ⊎ IsTold (b.story n) = by_test q.awaited _
-    (λ y. inl (sym is.is_of.awaited_is ∙ y))
-    (λ f. inr (record { unawaited = sym is.is_of.awaited_is ∙ f; told = is.told f })) in
-    let wanted : IsOpen b n ⊎ IsTold (b.story n) = by_test q.awaited _
-    (λ y. inl (r.open_is ∙ is.open_at y))
-    (λ f. inr (record { unawaited = sym is.is_of.awaited_is ∙ f; told = is.told f })) in
+    let running = running_on t link (q ∷ qs) fit in
+    let r = request_story b was q.id h (queue_within b was q.id h (inl refl)) in
     record {
       applied = applied_up b was h refl refl ended;
-      wanted = either;
-      moves = record {
-        unstarted = ap (λ x. (b.story x).tries) (name_of_some t.requests q.id g.0 g.1) ∙ h.tries.untried q.id g.0 g.1 (first_new b.story t.requests link t.waiting t.started q qs h.lines);
-        wanted = wanted;
-        up = up;
-      };
-      in_order = first_to_move b was q.id (queue_ids qs ++ waiting_ids t.waiting) h refl told refl;
+      unstarted = queue_unstarted b was q.id h (inl refl);
+      starts = queue_step b was q.id h running (inl refl) ∙ ap starts_or_waits free;
+      in_order = first_in_queue b was q.id (queue_ids qs) h running refl;
       on_its_link = sym r.on;
       next = (h.link refl).started;
       needs_its_items = ap need_of is.is_of.shape_is;
       long_as_its_bytes = ap length is.is_of.packs;
     }
 
--- who was told and has not started is in the queue still
-told_still : (b : Book) (t : Inner) (link : LinkState) (q : Queued) (qs : List Queued) → AreQueued b (on_link t (with_queue link (q ∷ qs))) → AreQueued (entered b (start_action t link q)) (after_start t link q qs)
-told_still b t link q qs h n =
-    let m = name_at t.requests q.id in
-    chosen (λ (x : Story). IsTold x → x.tries ≡ [] → (p : ℕ) × (p < length t.requests) × (name_at t.requests p ≡ n) × IsIn p (queue_ids qs)) (m == n) (tried (b.story n) t.link link.started) (b.story n)
-    (λ e told none. absurd (some_more (b.story n).tries _ none))
-    (λ f told none.
-    let k = h n told none in
-    (k.0, k.1, k.2, elim k.3 [ inl same ↦ absurd (ne_from m n f (ap (name_at t.requests) same ∙ k.2)) | inr i ↦ i ]))
-
--- the first message of the queue starts
-start_going : (trace : List Action) (t : Inner) (link : LinkState) (q : Queued) (qs : List Queued) → IsGoing trace (on_link t (with_queue link (q ∷ qs))) → IsGoing (trace ++ start_action t link q ∷ []) (after_start t link q qs)
-start_going trace t link q qs h =
+-- it starts
+start_going : (trace : List Action) (t : Inner) (link : LinkState) (q : Queued) (qs : List Queued) → IsFit t.size t.bound (with_queue link (q ∷ qs)) → holds_back link ≡ false → IsGoing trace (on_link t (with_queue link (q ∷ qs)))
+    → IsGoing (trace ++ start_action t link q ∷ []) (after_start t link q qs)
+start_going trace t link q qs fit free h =
     let b = book trace in
     going_more trace (start_action t link q) (after_start t link q qs) h.sound.stands
-    (refl, start_may b t link q qs h.sound.tied h.ended h.told)
+    (refl, start_may b t link q qs fit free h.sound.tied h.ended)
     (start_tied b t link q qs h.sound.tied)
     (none_ends_kept b t.link (begins (message_of b (owner_of t.requests q.id))) (λ l e. e) h.ended)
-    (told_still b t link q qs h.told)
 
 -- the acts of the starts of one call
 --
@@ -102,19 +81,40 @@ pub shown_is : (w : Work) (ss : List Started) → shown_starts w ss ≡ record w
 shown_is w [] = ap (λ (x : List LinkAct). record w { acts = x }) (sym (append-nil w.acts))
 shown_is w (s ∷ ss) = shown_is (acted w (show_start w.conn.requests s)) ss ∙ ap (λ (x : List LinkAct). record w { acts = x }) (append_assoc w.acts (show_start w.conn.requests s ∷ []) (shows w.conn.requests ss))
 
--- all that are in a queue start, where no boundary holds them back
-pub each_going : (before : List Action) (acts : List LinkAct) (t : Inner) (s : Starting) (qs : List Queued) → s.link.boundary ≡ no_boundary
+-- a link with one more started is fit as it was
+fit_next : (size bound : ℕ) (s : Starting) (q : Queued) (qs : List Queued) → IsFit size bound (with_queue s.link (q ∷ qs)) → IsFit size bound (with_queue (started_one s q).link qs)
+fit_next size bound s q qs h = let w = h.within in record { sound = h.sound; size_is = h.size_is; bound_is = h.bound_is; within = omega arith }
+
+-- what is in a queue starts as long as nothing holds it back
+pub each_going : (before : List Action) (acts : List LinkAct) (t : Inner) (s : Starting) (qs : List Queued) → IsFit t.size t.bound (with_queue s.link qs)
     → IsGoing (before ++ shown_each t.link (acts ++ shows t.requests s.out)) (on_link t (with_queue s.link qs))
-    → IsGoing (before ++ shown_each t.link (acts ++ shows t.requests (started_each s qs).out)) (record (on_link t (started_each s qs).link) { started = t.started ++ queue_ids qs })
-each_going before acts t s [] free h = subst (λ ns. IsGoing (before ++ shown_each t.link (acts ++ shows t.requests s.out)) (record (on_link t (with_queue s.link [])) { started = ns })) (sym (append-nil t.started)) h
-each_going before acts t s (q ∷ qs) free h =
+    → IsGoing (before ++ shown_each t.link (acts ++ shows t.requests (started_each s qs).out)) (record (on_link t (started_each s qs).link) { started = t.started ++ queue_ids (starting s.link qs) })
+each_going before acts t s [] fit h = subst (λ ns. IsGoing (before ++ shown_each t.link (acts ++ shows t.requests s.out)) (record (on_link t (with_queue s.link [])) { started = ns })) (sym (append-nil t.started)) h
+each_going before acts t s (q ∷ qs) fit h =
     let next = started_one s q in
     let more = shows t.requests s.out in
-    let first = start_going (before ++ shown_each t.link (acts ++ more)) t s.link q qs h in
+    let stopped : Starting = record { link = with_queue s.link (q ∷ qs); out = s.out } in
+    chosen_both (λ (x : List Queued) (y : Starting). IsGoing (before ++ shown_each t.link (acts ++ shows t.requests y.out)) (record (on_link t y.link) { started = t.started ++ queue_ids x })) (holds_back s.link) [] (q ∷ starting (begun s.link q) qs) stopped
+    (started_each next qs)
+    (λ held. subst (λ ns. IsGoing (before ++ shown_each t.link (acts ++ more)) (record (on_link t (with_queue s.link (q ∷ qs))) { started = ns })) (sym (append-nil t.started)) h)
+    (λ free.
+    let first = start_going (before ++ shown_each t.link (acts ++ more)) t s.link q qs fit free h in
     let same : (before ++ shown_each t.link (acts ++ more)) ++ start_action t s.link q ∷ [] ≡ before ++ shown_each t.link (acts ++ shows t.requests next.out) =
     sym (shown_more before t.link (acts ++ more) (show_start t.requests (start_of s.link.started q)))
     ∙ ap (λ (x : List LinkAct). before ++ shown_each t.link x) (append_assoc acts more (show_start t.requests (start_of s.link.started q) ∷ []) ∙ ap (λ (x : List LinkAct). acts ++ x) (sym (shows-append t.requests s.out (start_of s.link.started q)))) in
     let after = record t { started = t.started ++ q.id ∷ [] } in
-    let rest = each_going before acts after next qs free (subst (λ (x : List Action). IsGoing x (after_start t s.link q qs)) same first) in
-    if_false (λ (r : Starting). IsGoing (before ++ shown_each t.link (acts ++ shows t.requests r.out)) (record (on_link t r.link) { started = t.started ++ (q.id ∷ queue_ids qs) })) (holds_back s.link) _ (started_each next qs) (free_greatest s.link free)
-    (subst (λ ns. IsGoing (before ++ shown_each t.link (acts ++ shows t.requests (started_each next qs).out)) (record (on_link t (started_each next qs).link) { started = ns })) (append_assoc t.started (q.id ∷ []) (queue_ids qs)) rest)
+    let rest = each_going before acts after next qs (fit_next t.size t.bound s q qs fit) (subst (λ (x : List Action). IsGoing x (after_start t s.link q qs)) same first) in
+    subst (λ ns. IsGoing (before ++ shown_each t.link (acts ++ shows t.requests (started_each next qs).out)) (record (on_link t (started_each next qs).link) { started = ns })) (append_assoc t.started (q.id ∷ []) (queue_ids (starting (begun s.link q) qs))) rest)
+
+-- the link is fit behind them
+pub each_fit : (size bound : ℕ) (s : Starting) (qs : List Queued) → IsFit size bound (with_queue s.link qs) → IsFit size bound (started_each s qs).link
+each_fit size bound s [] h = record { sound = h.sound; size_is = h.size_is; bound_is = h.bound_is; within = h.within }
+each_fit size bound s (q ∷ qs) h =
+    chosen (λ (x : Starting). IsFit size bound x.link) (holds_back s.link) _ (started_each (started_one s q) qs)
+    (λ held. record { sound = h.sound; size_is = h.size_is; bound_is = h.bound_is; within = h.within })
+    (λ free. each_fit size bound (started_one s q) qs (fit_next size bound s q qs h))
+
+-- and nothing is in its queue, or it is held back
+pub each_held : (s : Starting) (qs : List Queued) → ((started_each s qs).link.queue ≡ []) ⊎ (holds_back (started_each s qs).link ≡ true)
+each_held s [] = inl refl
+each_held s (q ∷ qs) = chosen (λ (x : Starting). (x.link.queue ≡ []) ⊎ (holds_back x.link ≡ true)) (holds_back s.link) _ (started_each (started_one s q) qs) (λ held. inr held) (λ free. each_held (started_one s q) qs)

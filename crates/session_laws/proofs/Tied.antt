@@ -188,10 +188,10 @@ pub record IsQueued (story : ℕ → Story) (requests : List Request) (q : Queue
   pub placed_at : q.awaited ≡ true → is_placed_at requests q.id ≡ true
   pub told : q.awaited ≡ false → (story (name_at requests q.id)).outcomes ≡ outcome.One Nil ∷ []
 
--- a started message that takes more items: it is open while its verdict is wanted
+-- a started message that takes more items: it has its place while its verdict is wanted
 pub record IsEntry (requests : List Request) (e : Entry) : Type 0 where
   pub below : e.id < length requests
-  pub open_at : e.awaited ≡ true → is_open_at requests e.id ≡ true
+  pub placed_at : e.awaited ≡ true → is_placed_at requests e.id ≡ true
 
 abbrev pub IsPacked : (ℕ → Story) → List Request → Waiting → Type 0
 IsPacked story requests w = IsOf (story (name_at requests w.number)) w.packed w.shape w.awaited

@@ -1,0 +1,383 @@
+-- How many stand in line before a submission, and so what its next step is.
+use Rattle.std.proofs.Common.{List, [], ap, arith, false, inl, inr, length, refl, subst, sym, true, zero, suc, ℕ, ◌+◌, ◌++◌, ◌<◌, ◌≤◌, ◌∙◌, ◌∷◌, ◌≡◌, ◌≢◌, ◌⊎◌}
+use Rattle.std.specs.List.{AllByRecursion}
+use Rattle.std.specs.Prelude.{Bool, Option, None, Some, is_some, slice_get, if◌then◌else◌, not, nat_le, nat_lt, ◌==◌, ◌&&◌}
+use Rattle.containers.proofs.Choices.{by_test, both_right, eq_from, eq_test, le_from, le_test, left_if, ne_from, not_le_from, not_le_test, taken_if}
+use Rattle.driver_model.specs.declared.action.WaitKind.TheVariants as wait
+use Rattle.link_core.specs.Link.{LinkState, holds_back, is_full}
+use Rattle.link_core.specs.declared.message.Queued.{Queued}
+use Rattle.link_laws.proofs.TiedLink.{unwritten_is}
+use Rattle.mux_conn.specs.Connection.{is_ready}
+use Rattle.mux_conn.specs.Requests.{if_there, is_open as is_open_progress, is_open_at, is_placed, is_placed_at, name_at}
+use Rattle.mux_conn.specs.declared.life.Life.{Life}
+use Rattle.mux_conn.specs.declared.life.Life.TheVariants.{Dialing, Ended, Ready}
+use Rattle.mux_conn.specs.declared.request.Pending.{Pending}
+use Rattle.mux_conn.specs.declared.request.Progress.{Progress}
+use Rattle.mux_conn.specs.declared.request.Progress.TheVariants as progress
+use Rattle.mux_conn.specs.declared.request.Request.{Request}
+use Rattle.legal_trace.specs.Book.{Book}
+use Rattle.legal_trace.specs.Ledger.{Ledger, dials, is_over}
+use Rattle.legal_trace.specs.Steps.{is_held, is_held_back, is_in_line, is_outside, line_before, next_step, nothing, starts_or_waits, step_up, tells, waits}
+use Rattle.legal_trace.specs.Story.{Story, is_awaited, is_told, is_unstarted}
+use Rattle.session_laws.proofs.Behind.{nil_told, open_untold}
+use Rattle.session_laws.proofs.InLine.{first_is_least, kept_ids}
+use Rattle.session_laws.proofs.Moves.{IsLater, later_of, open_unstarted, told_unstarted}
+use Rattle.session_laws.proofs.Names.{earlier_name, get_some, name_of_some, names_rise, open_within}
+use Rattle.session_laws.proofs.Numbers.{IsIn, Rising, in_left, in_right, rising_apart, rising_in, rising_right, rising_within}
+use Rattle.session_laws.proofs.Owes.{later_unstarted, request_story}
+use Rattle.session_laws.proofs.States.{IsFit}
+use Rattle.session_laws.proofs.Tied.{Inner, IsQueued, Tied, TiedLife, TiedNames, has_ended, link_in, owner_of, queue_ids}
+
+-- counts
+--
+-- all but this number
+abbrev others : ℕ → List ℕ → List ℕ
+others n [] = []
+others n (x ∷ xs) = if x == n then others n xs else x ∷ others n xs
+
+-- they are no more
+others_fewer : (n : ℕ) (xs : List ℕ) → length (others n xs) ≤ length xs
+others_fewer n [] = omega arith
+others_fewer n (x ∷ xs) =
+    let rest = others_fewer n xs in
+    by_test (x == n) _
+    (λ t. let e : others n (x ∷ xs) ≡ others n xs = taken_if (x == n) (others n xs) (x ∷ others n xs) t in let k : length (others n (x ∷ xs)) ≡ length (others n xs) = ap length e in omega arith)
+    (λ f. let e : others n (x ∷ xs) ≡ x ∷ others n xs = left_if (x == n) (others n xs) (x ∷ others n xs) f in let k : length (others n (x ∷ xs)) ≡ suc (length (others n xs)) = ap length e in omega arith)
+
+-- and fewer where it is one of them
+others_less : (n : ℕ) (xs : List ℕ) → IsIn n xs → length (others n xs) < length xs
+others_less n [] i = absurd i
+others_less n (x ∷ xs) i =
+    by_test (x == n) _
+    (λ t. let e : others n (x ∷ xs) ≡ others n xs = taken_if (x == n) (others n xs) (x ∷ others n xs) t in let k : length (others n (x ∷ xs)) ≡ length (others n xs) = ap length e in let rest = others_fewer n xs in omega arith)
+    (λ f.
+    let e : others n (x ∷ xs) ≡ x ∷ others n xs = left_if (x == n) (others n xs) (x ∷ others n xs) f in
+    let k : length (others n (x ∷ xs)) ≡ suc (length (others n xs)) = ap length e in
+    elim i [ inl same ↦ absurd (ne_from x n f same) | inr j ↦ let rest = others_less n xs j in omega arith ])
+
+-- any other is one of them still
+others_in : (n m : ℕ) (xs : List ℕ) → m ≢ n → IsIn m xs → IsIn m (others n xs)
+others_in n m [] other i = absurd i
+others_in n m (x ∷ xs) other i =
+    by_test (x == n) _
+    (λ t. subst (IsIn m) (sym (taken_if (x == n) (others n xs) (x ∷ others n xs) t)) (elim i [ inl same ↦ absurd (other (sym same ∙ eq_from x n t)) | inr j ↦ others_in n m xs other j ]))
+    (λ f. subst (IsIn m) (sym (left_if (x == n) (others n xs) (x ∷ others n xs) f)) (elim i [ inl same ↦ inl same | inr j ↦ inr (others_in n m xs other j) ]))
+
+-- one more in line
+line_next : (story : ℕ → Story) (l n : ℕ) → is_in_line l (story n) ≡ true → line_before story l (suc n) ≡ line_before story l n + 1
+line_next story l n e = ap (λ k. line_before story l n + k) (taken_if (is_in_line l (story n)) 1 0 e)
+
+-- and one that isn't
+line_same : (story : ℕ → Story) (l n : ℕ) → is_in_line l (story n) ≡ false → line_before story l (suc n) ≡ line_before story l n + 0
+line_same story l n e = ap (λ k. line_before story l n + k) (left_if (is_in_line l (story n)) 1 0 e)
+
+-- where each that stands in line before n is one of these, they are no fewer than the line
+pub line_most : (story : ℕ → Story) (l n : ℕ) (ns : List ℕ) → ((m : ℕ) → m < n → is_in_line l (story m) ≡ true → IsIn m ns) → line_before story l n ≤ length ns
+line_most story l zero ns all = omega arith
+line_most story l (suc n) ns all =
+    by_test (is_in_line l (story n)) _
+    (λ t.
+    let next = line_next story l n t in
+    let rest = line_most story l n (others n ns) (λ m less e. others_in n m ns (λ same. absurd (omega arith)) (all m (omega arith) e)) in
+    let less = others_less n ns (all n (omega arith) t) in
+    omega arith)
+    (λ f.
+    let same = line_same story l n f in
+    let rest = line_most story l n ns (λ m less e. all m (omega arith) e) in
+    omega arith)
+
+-- the line grows
+line_grows : (story : ℕ → Story) (l lo n : ℕ) → lo ≤ n → line_before story l lo ≤ line_before story l n
+line_grows story l lo zero le = let e : lo ≡ 0 = omega arith in let k = ap (line_before story l) e in omega arith
+line_grows story l lo (suc n) le =
+    by_test (lo == suc n) _
+    (λ t. let k = ap (line_before story l) (eq_from lo (suc n) t) in omega arith)
+    (λ f.
+    let other = ne_from lo (suc n) f in
+    let rest = line_grows story l lo n (omega arith) in
+    by_test (is_in_line l (story n)) _ (λ t. let next = line_next story l n t in omega arith) (λ g. let same = line_same story l n g in omega arith))
+
+-- where each of these stands in line, the line is no shorter
+pub line_least : (story : ℕ → Story) (l lo : ℕ) (ns : List ℕ) (n : ℕ) → Rising lo ns n → ((m : ℕ) → IsIn m ns → is_in_line l (story m) ≡ true) → length ns + line_before story l lo ≤ line_before story l n
+line_least story l lo [] n h all = let k = line_grows story l lo n h in omega arith
+line_least story l lo (x ∷ xs) n h all =
+    let rest = line_least story l (suc x) xs n h.1 (λ m i. all m (inr i)) in
+    let next = line_next story l x (all x (inl refl)) in
+    let grown = line_grows story l lo x h.0 in
+    omega arith
+
+-- names of requests
+--
+abbrev pub names_of : List Request → List ℕ → List ℕ
+names_of requests [] = []
+names_of requests (p ∷ ps) = name_at requests p ∷ names_of requests ps
+
+-- there are as many
+names_length : (requests : List Request) (qs : List Queued) → length (names_of requests (queue_ids qs)) ≡ length qs
+names_length requests [] = refl
+names_length requests (q ∷ qs) = ap suc (names_length requests qs)
+
+-- the name of one of them is one
+names_in : (requests : List Request) (ps : List ℕ) (p : ℕ) → IsIn p ps → IsIn (name_at requests p) (names_of requests ps)
+names_in requests [] p i = absurd i
+names_in requests (x ∷ xs) p (inl e) = inl (ap (name_at requests) e)
+names_in requests (x ∷ xs) p (inr i) = inr (names_in requests xs p i)
+
+-- and the other way round
+names_from : (requests : List Request) (ps : List ℕ) (m : ℕ) → IsIn m (names_of requests ps) → (p : ℕ) × IsIn p ps × (name_at requests p ≡ m)
+names_from requests [] m i = absurd i
+names_from requests (x ∷ xs) m (inl e) = (x, inl refl, e)
+names_from requests (x ∷ xs) m (inr i) = let k = names_from requests xs m i in (k.0, inr k.1, k.2)
+
+-- they rise as the requests do
+names_rising : (table : List (Option Pending)) (requests : List Request) (lo low : ℕ) (ps : List ℕ) (q : ℕ) → TiedNames table requests → q < length requests → ((p : ℕ) → lo ≤ p → p ≤ q → low ≤ name_at requests p) → Rising lo ps q
+    → Rising low (names_of requests ps) (name_at requests q)
+names_rising table requests lo low [] q h l bound rises = bound q rises (omega arith)
+names_rising table requests lo low (p ∷ ps) q h l bound rises =
+    let within = rising_within (suc p) ps q rises.1 in (
+      bound p rises.0 (omega arith),
+      names_rising table requests (suc p) (suc (name_at requests p)) ps q h l (λ r after upto. names_rise table requests p r h (omega arith) (omega arith)) rises.1,
+    )
+
+-- what stands before one of those behind rises up to it
+rising_before : (lo : ℕ) (xs ys : List ℕ) (hi n : ℕ) → Rising lo (xs ++ ys) hi → IsIn n ys → Rising lo xs n
+rising_before lo [] ys hi n h i = (rising_in lo ys hi n h i).0
+rising_before lo (x ∷ xs) ys hi n h i = (h.0, rising_before (suc x) xs ys hi n h.1 i)
+
+-- the step of a submission on a link that is up
+--
+-- a session whose messages may start: nothing is to be answered, and its link is up, with the queue and the boundary of its
+-- connection
+pub record IsRunning (t : Inner) : Type 0 where
+  pub settled : t.pending ≡ []
+  pub up : is_ready t.life ≡ true
+  pub fit : IsFit t.size t.bound (link_in t.life)
+
+-- a link that is up has not ended
+pub ready_alive : (life : Life) → is_ready life ≡ true → has_ended life ≡ false
+ready_alive Dialing e = refl
+ready_alive (Ready link) e = refl
+ready_alive (Ended x) e = cc
+
+-- so it is where its link is fit
+pub running_of : (t : Inner) (link : LinkState) → t.pending ≡ [] → t.life ≡ Ready link → IsFit t.size t.bound link → IsRunning t
+running_of t link none life fit = record { settled = none; up = ap is_ready life; fit = subst (IsFit t.size t.bound) (sym (ap link_in life)) fit }
+
+-- and its ledger says that it is up
+pub ready_up : (l : Ledger) (created : ℕ) (life : Life) → is_ready life ≡ true → TiedLife l created life → l.up ≡ true
+ready_up l created Dialing e h = cc
+ready_up l created (Ready link) e h = h.1
+ready_up l created (Ended x) e h = cc
+
+-- what is up doesn't dial
+up_dials : (l : Ledger) → l.up ≡ true → dials l ≡ false
+up_dials l up = (λ i. l.asked && not (up i) && not (is_over l)) ∙ none_of l.asked (not (is_over l))
+  where
+    none_of : (a c : Bool) → (a && false && c) ≡ false
+    none_of true c = refl
+    none_of false c = refl
+
+-- so the step is that of a link that is up
+pub up_step : (b : Book) (n : ℕ) → (b.link (b.story n).link).up ≡ true → next_step b n ≡ step_up (is_told (b.story n)) (is_outside b n) (is_awaited (b.story n)) (is_held_back b (b.link (b.story n).link))
+up_step b n up =
+    let s = b.story n in
+    let l = b.link s.link in
+    let step = step_up (is_told s) (is_outside b n) (is_awaited s) (is_held_back b l) in
+    left_if (dials l) (waits wait.Connect) (if l.up then step else nothing) (up_dials l up) ∙ taken_if l.up step nothing up
+
+-- the book has a link held back where the link is
+pub held_is : (b : Book) (t : Inner) → Tied b t → IsRunning t → is_held_back b (b.link t.link) ≡ holds_back (link_in t.life)
+held_is b t h r =
+    let l = b.link t.link in
+    let link = link_in t.life in
+    let bytes = unwritten_is (owner_of t.requests) l link (h.link (ready_alive t.life r.up)) in
+    (λ i. is_held (h.numbers.settings.bound_is i) l)
+    ∙ (λ i. nat_lt 0 (length (bytes i)) && nat_le t.bound (length (bytes i)))
+    ∙ (λ i. nat_lt 0 (length link.outbox.unwritten) && nat_le (sym r.fit.bound_is i) (length link.outbox.unwritten))
+
+-- the next step of a request
+pub request_step : (b : Book) (t : Inner) (p : ℕ) → Tied b t → IsRunning t → p < length t.requests
+    → (let n = name_at t.requests p in next_step b n ≡ step_up (is_told (b.story n)) (is_outside b n) (is_awaited (b.story n)) (holds_back (link_in t.life)))
+request_step b t p h r within =
+    let n = name_at t.requests p in
+    let q = request_story b t p h within in
+    let s = b.story n in
+    up_step b n (ap (λ l. (b.link l).up) q.on ∙ ready_up (b.link t.link) b.created t.life r.up h.life)
+    ∙ (λ i. step_up (is_told s) (is_outside b n) (is_awaited s) (is_held_back b (b.link (q.on i))))
+    ∙ ap (step_up (is_told s) (is_outside b n) (is_awaited s)) (held_is b t h r)
+
+-- whether it stands outside, by the line before it
+outside_is : (b : Book) (t : Inner) (p : ℕ) → Tied b t → p < length t.requests → is_outside b (name_at t.requests p) ≡ nat_le t.size (line_before b.story t.link (name_at t.requests p))
+outside_is b t p h within =
+    let q = request_story b t p h within in
+    λ i. nat_le (h.numbers.settings.size_is i) (line_before b.story (q.on i) (name_at t.requests p))
+
+-- who stands in line for the link is still to start
+line_later : (b : Book) (t : Inner) (m : ℕ) → Tied b t → IsRunning t → is_in_line t.link (b.story m) ≡ true → IsLater t m
+line_later b t m h r e = later_of b t m h r.settled (ready_alive t.life r.up) (both_right ((b.story m).link == t.link) (is_unstarted (b.story m)) e)
+
+-- and the other way round
+later_line : (b : Book) (t : Inner) (p : ℕ) → Tied b t → p < length t.requests → is_unstarted (b.story (name_at t.requests p)) ≡ true → is_in_line t.link (b.story (name_at t.requests p)) ≡ true
+later_line b t p h within e =
+    let q = request_story b t p h within in
+    λ i. (eq_test (b.story (name_at t.requests p)).link t.link q.on i) && e i
+
+-- a message of the queue has its place while its reply is awaited, and else it was told
+pub queue_alive : (story : ℕ → Story) (requests : List Request) (qs : List Queued) (p : ℕ) → AllByRecursion (IsQueued story requests) qs → IsIn p (queue_ids qs)
+    → ((is_awaited (story (name_at requests p)) ≡ true) × (is_placed_at requests p ≡ true)) ⊎ (is_told (story (name_at requests p)) ≡ true)
+queue_alive story requests [] p all i = absurd i
+queue_alive story requests (q ∷ qs) p all (inl e) =
+    subst (λ m. ((is_awaited (story (name_at requests m)) ≡ true) × (is_placed_at requests m ≡ true)) ⊎ (is_told (story (name_at requests m)) ≡ true)) e
+    (by_test q.awaited _
+    (λ t. inl (sym all.0.is_of.awaited_is ∙ t, all.0.placed_at t))
+    (λ f. inr (nil_told (story (name_at requests q.id)) (sym all.0.is_of.awaited_is ∙ f) (all.0.told f))))
+queue_alive story requests (q ∷ qs) p all (inr i) = queue_alive story requests qs p all.1 i
+
+-- one that has its place is open
+pub placed_open : (requests : List Request) (p : ℕ) → is_placed_at requests p ≡ true → is_open_at requests p ≡ true
+placed_open requests p e = by_request (slice_get requests p) e
+  where
+    by_progress : (r : Progress) → is_placed r ≡ true → is_open_progress r ≡ true
+    by_progress progress.Waiting e = cc
+    by_progress progress.Admitted e = cc
+    by_progress progress.Placed e = refl
+    by_progress progress.Closed e = cc
+
+    by_request : (r : Option Request) → if_there is_placed r ≡ true → if_there is_open_progress r ≡ true
+    by_request None e = cc
+    by_request (Some r) e = by_progress r.progress e
+
+-- who is in the queue is a request
+pub queue_within : (b : Book) (t : Inner) (p : ℕ) → Tied b t → IsIn p (queue_ids (link_in t.life).queue) → p < length t.requests
+queue_within b t p h i =
+    let later = queue_ids (link_in t.life).queue ++ kept_ids t.admitted t.waiting in
+    (rising_in 0 later (length t.requests) p (rising_right 0 t.started later (length t.requests) h.lines.line) (in_left p (queue_ids (link_in t.life).queue) (kept_ids t.admitted t.waiting) i)).1
+
+-- without a message
+pub later_untried : (b : Book) (t : Inner) (p : ℕ) → Tied b t → p < length t.requests → IsIn p (queue_ids (link_in t.life).queue ++ kept_ids t.admitted t.waiting) → (b.story (name_at t.requests p)).tries ≡ []
+later_untried b t p h within i =
+    let g = get_some t.requests p within in
+    ap (λ n. (b.story n).tries) (name_of_some t.requests p g.0 g.1) ∙ h.tries.untried p g.0 g.1 (later_unstarted b t p h i)
+
+-- and still to start
+pub queue_unstarted : (b : Book) (t : Inner) (p : ℕ) → Tied b t → IsIn p (queue_ids (link_in t.life).queue) → is_unstarted (b.story (name_at t.requests p)) ≡ true
+queue_unstarted b t p h i =
+    let s = b.story (name_at t.requests p) in
+    let within = queue_within b t p h i in
+    let untried = later_untried b t p h within (in_left p (queue_ids (link_in t.life).queue) (kept_ids t.admitted t.waiting) i) in
+    elim (queue_alive b.story t.requests (link_in t.life).queue p h.lines.queued i) [
+      | inl a ↦ open_unstarted s untried ((request_story b t p h within).open_is ∙ placed_open t.requests p a.1)
+      | inr e ↦ told_unstarted s untried e
+    ]
+
+-- and so is one that waits and is open
+pub kept_unstarted : (b : Book) (t : Inner) (p : ℕ) → Tied b t → is_open_at t.requests p ≡ true → IsIn p (kept_ids t.admitted t.waiting) → is_unstarted (b.story (name_at t.requests p)) ≡ true
+kept_unstarted b t p h o i =
+    let within = open_within t.requests p o in
+    open_unstarted (b.story (name_at t.requests p)) (later_untried b t p h within (in_right p (queue_ids (link_in t.life).queue) (kept_ids t.admitted t.waiting) i)) ((request_story b t p h within).open_is ∙ o)
+
+-- an open request was told nothing
+open_told : (b : Book) (t : Inner) (p : ℕ) → Tied b t → is_open_at t.requests p ≡ true → is_told (b.story (name_at t.requests p)) ≡ false
+open_told b t p h o = open_untold (b.story (name_at t.requests p)) ((request_story b t p h (open_within t.requests p o)).open_is ∙ o)
+
+-- who stands in the queue stands within its size
+queue_inside : (b : Book) (t : Inner) (p : ℕ) → Tied b t → IsRunning t → IsIn p (queue_ids (link_in t.life).queue) → is_outside b (name_at t.requests p) ≡ false
+queue_inside b t p h r i =
+    let n = name_at t.requests p in
+    let queue = (link_in t.life).queue in
+    let ids = queue_ids queue in
+    let kept = kept_ids t.admitted t.waiting in
+    let within = queue_within b t p h i in
+    let later = rising_right 0 t.started (ids ++ kept) (length t.requests) h.lines.line in
+    let before : (m : ℕ) → m < suc n → is_in_line t.link (b.story m) ≡ true → IsIn m (names_of t.requests ids) = λ m less e.
+    let k = line_later b t m h r e in
+    subst (λ x. IsIn x (names_of t.requests ids)) k.name (names_in t.requests ids k.p (elim k.later [
+      | inl j ↦ j
+      | inr w ↦ absurd (let apart = rising_apart 0 ids kept (length t.requests) p k.p later i w.1 in let rises = names_rise t.table t.requests p k.p h.names k.within apart in omega (arith, k.name))
+    ])) in
+    let most = line_most b.story t.link (suc n) (names_of t.requests ids) before in
+    let next = line_next b.story t.link n (later_line b t p h within (queue_unstarted b t p h i)) in
+    let long = names_length t.requests queue in
+    let fit = r.fit.within in
+    outside_is b t p h within ∙ not_le_test t.size (line_before b.story t.link n) (omega arith)
+
+-- a message of the queue starts next, or waits while its link is held back
+pub queue_step : (b : Book) (t : Inner) (p : ℕ) → Tied b t → IsRunning t → IsIn p (queue_ids (link_in t.life).queue) → next_step b (name_at t.requests p) ≡ starts_or_waits (holds_back (link_in t.life))
+queue_step b t p h r i =
+    let n = name_at t.requests p in
+    let s = b.story n in
+    let held = holds_back (link_in t.life) in
+    request_step b t p h r (queue_within b t p h i) ∙ elim (queue_alive b.story t.requests (link_in t.life).queue p h.lines.queued i) [
+      | inl a ↦ (λ k. step_up (open_told b t p h (placed_open t.requests p a.1) k) (queue_inside b t p h r i k) (a.0 k) held)
+      | inr e ↦ ap (λ x. step_up x (is_outside b n) (is_awaited s) held) e
+    ]
+
+-- who waits while the queue holds its size stands outside
+kept_outside : (b : Book) (t : Inner) (p : ℕ) → Tied b t → IsRunning t → is_full (link_in t.life) ≡ true → is_open_at t.requests p ≡ true → IsIn p (kept_ids t.admitted t.waiting) → is_outside b (name_at t.requests p) ≡ true
+kept_outside b t p h r full o i =
+    let n = name_at t.requests p in
+    let queue = (link_in t.life).queue in
+    let ids = queue_ids queue in
+    let kept = kept_ids t.admitted t.waiting in
+    let within = open_within t.requests p o in
+    let later = rising_right 0 t.started (ids ++ kept) (length t.requests) h.lines.line in
+    let rises = names_rising t.table t.requests 0 0 ids p h.names within (λ m above below. omega arith) (rising_before 0 ids kept (length t.requests) p later i) in
+    let all : (m : ℕ) → IsIn m (names_of t.requests ids) → is_in_line t.link (b.story m) ≡ true = λ m j.
+    let k = names_from t.requests ids m j in
+    subst (λ x. is_in_line t.link (b.story x) ≡ true) k.2 (later_line b t k.0 h (queue_within b t k.0 h k.1) (queue_unstarted b t k.0 h k.1)) in
+    let least = line_least b.story t.link 0 (names_of t.requests ids) n rises all in
+    let long = names_length t.requests queue in
+    let fills = le_from (link_in t.life).size (length queue) full in
+    let size = r.fit.size_is in
+    outside_is b t p h within ∙ le_test t.size (line_before b.story t.link n) (omega arith)
+
+-- so it waits for a place
+pub full_step : (b : Book) (t : Inner) (p : ℕ) → Tied b t → IsRunning t → is_full (link_in t.life) ≡ true → is_open_at t.requests p ≡ true → IsIn p (kept_ids t.admitted t.waiting) → next_step b (name_at t.requests p) ≡ waits wait.Place
+full_step b t p h r full o i =
+    let s = b.story (name_at t.requests p) in
+    request_step b t p h r (open_within t.requests p o)
+    ∙ (λ k. step_up (open_told b t p h o k) (kept_outside b t p h r full o i k) (is_awaited s) (holds_back (link_in t.life)))
+
+-- the first of those that wait has its place next, while the queue has room
+first_inside : (b : Book) (t : Inner) (p : ℕ) (rest : List ℕ) → Tied b t → IsRunning t → is_full (link_in t.life) ≡ false → is_open_at t.requests p ≡ true → kept_ids t.admitted t.waiting ≡ p ∷ rest → is_outside b (name_at t.requests p) ≡ false
+first_inside b t p rest h r room o first =
+    let n = name_at t.requests p in
+    let queue = (link_in t.life).queue in
+    let ids = queue_ids queue in
+    let kept = kept_ids t.admitted t.waiting in
+    let within = open_within t.requests p o in
+    let later = rising_right 0 t.started (ids ++ kept) (length t.requests) h.lines.line in
+    let line = subst (λ ns. Rising 0 ns (length t.requests)) first (rising_right 0 ids kept (length t.requests) later) in
+    let before : (m : ℕ) → m < n → is_in_line t.link (b.story m) ≡ true → IsIn m (names_of t.requests ids) = λ m less e.
+    let k = line_later b t m h r e in
+    let earlier = earlier_name t.table t.requests k.p p h.names k.within within (subst (λ x. x < n) (sym k.name) less) in
+    subst (λ x. IsIn x (names_of t.requests ids)) k.name (names_in t.requests ids k.p (elim k.later [
+      | inl j ↦ j
+      | inr w ↦ absurd (let least = first_is_least 0 p rest (length t.requests) k.p line (subst (IsIn k.p) first w.1) in omega arith)
+    ])) in
+    let most = line_most b.story t.link n (names_of t.requests ids) before in
+    let long = names_length t.requests queue in
+    let free = not_le_from (link_in t.life).size (length queue) room in
+    let size = r.fit.size_is in
+    outside_is b t p h within ∙ not_le_test t.size (line_before b.story t.link n) (omega arith)
+
+-- so it is told there where nobody awaits its reply
+pub first_step : (b : Book) (t : Inner) (p : ℕ) (rest : List ℕ) → Tied b t → IsRunning t → is_full (link_in t.life) ≡ false → is_open_at t.requests p ≡ true → kept_ids t.admitted t.waiting ≡ p ∷ rest → is_awaited (b.story (name_at t.requests p)) ≡ false
+    → next_step b (name_at t.requests p) ≡ tells
+first_step b t p rest h r room o first unawaited =
+    request_step b t p h r (open_within t.requests p o)
+    ∙ (λ k. step_up (open_told b t p h o k) (first_inside b t p rest h r room o first k) (unawaited k) (holds_back (link_in t.life)))
+
+-- the step of a submission while the connect isn't answered
+--
+dialing_dials : (l : Ledger) (created : ℕ) (life : Life) → life ≡ Dialing → TiedLife l created life → dials l ≡ true
+dialing_dials l created Dialing e h = λ i. h.0 i && not (h.1 i) && not (is_some (h.2 i))
+dialing_dials l created (Ready link) e h = cc
+dialing_dials l created (Ended x) e h = cc
+
+-- it waits for the connect
+pub dialing_step : (b : Book) (t : Inner) (p : ℕ) → Tied b t → t.life ≡ Dialing → p < length t.requests → next_step b (name_at t.requests p) ≡ waits wait.Connect
+dialing_step b t p h dialing within =
+    let s = b.story (name_at t.requests p) in
+    let q = request_story b t p h within in
+    taken_if (dials (b.link s.link)) (waits wait.Connect) _ (ap (λ l. dials (b.link l)) q.on ∙ dialing_dials (b.link t.link) b.created t.life dialing h.life)
