@@ -23,10 +23,10 @@ use Rattle.legal_trace.specs.Ledger.{Ledger, Line, asks, blank_ledger, ending, n
 use Rattle.legal_trace.specs.Legal.{AllStand, IsSettled, NoneEnds}
 use Rattle.legal_trace.specs.Story.{blank_story}
 use Rattle.session_laws.proofs.Going.{is_moved}
-use Rattle.session_laws.proofs.Goes.{is_settled}
-use Rattle.session_laws.proofs.Settled.{IsBetween}
+use Rattle.session_laws.proofs.Settled.{IsBetween, is_settled}
 use Rattle.session_laws.proofs.States.{IsFit, IsFitIn, IsStill}
 use Rattle.session_laws.proofs.Tied.{AreAimed, IsUnknown, Tied, TiedLines, TiedNames, TiedNumbers, TiedTries, TiedWaits, inner, no_link, owner_of, owners_of}
+use Rattle.session_laws.proofs.Waits.{IsQuiet}
 use Rattle.session_laws.proofs.Write.{is_written}
 
 -- what timers the opening has asked for
@@ -171,12 +171,13 @@ opened_between config word info timeout sound at some is =
     let still : IsStill conn = record { held = λ link e. cc; full = λ link e. cc; waiting = λ e. refl } in
     let moved = is_moved b t tied refl (opening_ends config word info timers) fit.link fit.none still.held still.full still.waiting in
     let written = is_written b t tied moved (λ link e. cc) in
+    let quiet : IsQuiet t = record { settled = refl; fit = fit.link; none = fit.none; held = still.held; full = still.full; waiting = still.waiting } in
     let book_is = sym (opening_book config word info timeout) in
     record {
       started = [];
       between = record {
         sound = record { stands = opening_stands config word info timeout sound at is; tied = subst (λ (x : Book). Tied x t) book_is tied };
-        settled = subst IsSettled book_is (is_settled b t tied refl refl refl fit.link fit.none still.held still.full still.waiting written);
+        settled = subst IsSettled book_is (is_settled b t tied quiet refl refl written);
         began = λ e. cc;
         fresh = refl;
         moved = refl;
