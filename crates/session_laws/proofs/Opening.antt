@@ -1,6 +1,6 @@
 -- The opening: the first link is asked for.
 use Rattle.std.proofs.Common.{List, None, Option, Some, [], ap, arith, false, refl, subst, suc, sym, zero, ℕ, ◌+◌, ◌<◌, ◌∙◌, ◌∷◌, ◌≡◌, ◌≢◌}
-use Rattle.std.specs.Prelude.{◌==◌, if◌then◌else◌}
+use Rattle.std.specs.Prelude.{◌==◌}
 use Rattle.containers.proofs.Choices.{chosen, left_if, ne_from, ne_test}
 use Rattle.connection_info.specs.declared.address.ConnectionInfo.{ConnectionInfo}
 use Rattle.redis_error.specs.declared.config_name.ConfigName.{ConfigName}
@@ -12,7 +12,6 @@ use Rattle.driver_model.specs.Config.{address, boundary, buffer_fault, buffer_si
 use Rattle.driver_model.specs.declared.action.Action.{Action}
 use Rattle.driver_model.specs.declared.action.Cause.{Cause}
 use Rattle.driver_model.specs.declared.action.Purpose.{Purpose}
-use Rattle.link_core.specs.Link.{LinkState, holds_back, is_full}
 use Rattle.link_laws.proofs.TiedLink.{asked_tied, fresh_tied}
 use Rattle.mux_conn.specs.Turn.{dialing}
 use Rattle.mux_conn.specs.declared.life.Life.TheVariants.{Dialing}
@@ -24,7 +23,7 @@ use Rattle.legal_trace.specs.Legal.{AllStand, IsSettled, NoneEnds}
 use Rattle.legal_trace.specs.Story.{blank_story}
 use Rattle.session_laws.proofs.Going.{is_moved}
 use Rattle.session_laws.proofs.Settled.{IsBetween, is_settled}
-use Rattle.session_laws.proofs.States.{IsFit, IsFitIn, IsStill}
+use Rattle.session_laws.proofs.States.{IsFitIn, IsStill}
 use Rattle.session_laws.proofs.Tied.{AreAimed, IsUnknown, Tied, TiedLines, TiedNames, TiedNumbers, TiedTries, TiedWaits, inner, no_link, owner_of, owners_of}
 use Rattle.session_laws.proofs.Waits.{IsQuiet}
 use Rattle.session_laws.proofs.Write.{is_written}
