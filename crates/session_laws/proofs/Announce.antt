@@ -25,7 +25,7 @@ use Rattle.legal_trace.specs.Story.{Story}
 use Rattle.legal_trace.specs.Book.{Book, book, entered}
 use Rattle.legal_trace.specs.Events.{is_bad_event}
 use Rattle.legal_trace.specs.Legal.{MayTurn}
-use Rattle.session_laws.proofs.Tied.{AreAimed, owners_of, Inner, inner, link_in, owner_of, IsUnknown, TiedLife, TiedTries, TiedLines, TiedWaits, Tied, Sound, no_opening, has_ended}
+use Rattle.session_laws.proofs.Tied.{AreAimed, owners_of, Inner, inner, link_in, owner_of, IsUnknown, TiedLife, TiedTries, TiedLines, AreQueued, TiedWaits, Tied, Sound, no_opening, has_ended}
 use Rattle.session_laws.proofs.States.{Between}
 use Rattle.session_laws.proofs.Entered.{book_more, sound_more}
 use Rattle.session_laws.proofs.Answer.{some_end}
@@ -203,13 +203,14 @@ turned c kind = shut_by (record c { turns = c.turns + 1 }) kind
 -- the session tied to that book, by what its link hears and has come to; the creation may be shown with it
 pub heard_tied : (b : Book) (c : Core) (started : List ℕ) (word created : ℕ) (kind : EventKind) (life : Life) (pending : List ℕ) (l : Ledger) → Tied b (inner c started) → is_bad c kind ≡ false → noted (b.link c.single.link) (hears c.turns (news_of b.timers c.single.link kind)) ≡ l
     → l.starts ≡ (b.link c.single.link).starts → TiedLife l created life → (has_ended life ≡ false → TiedLink (owner_of c.single.connection.requests) l (link_in life))
-    → TiedLines b.story c.single.connection.requests (link_in life) c.single.connection.waiting pending started → TiedWaits b.story c.single.connection.requests life c.single.connection.fresh
+    → TiedLines b.story c.single.connection.requests (link_in life) c.single.connection.waiting c.single.connection.admitted pending started → (has_ended life ≡ false → AreQueued b.story c.single.connection.requests (link_in life))
+    → TiedWaits b.story c.single.connection.requests life c.single.connection.fresh c.single.connection.moved
     → Tied (record (heard_book b c.turns word kind) { created = created }) (seen (turned c kind) (record c.single.connection { life = life }) pending started)
-heard_tied b c started word created kind life pending l h good is same lived linked lines waits =
+heard_tied b c started word created kind life pending l h good is same lived linked lines told waits =
     let after = record (heard_book b c.turns word kind) { created = created } in
     let t = seen (turned c kind) (record c.single.connection { life = life }) pending started in
     tied_by after t l is (record {
-      numbers = record { turns = ap (λ n. n + 1) h.numbers.turns; links = h.numbers.links; timers = h.numbers.timers; aims = h.numbers.aims; timed = λ config other opens bounded none. no_opening _ config other opens; submissions = h.numbers.submissions; shut = ap (λ s. s || is_shutdown kind) h.numbers.shut; one = h.numbers.one; only = h.numbers.only };
+      numbers = record { turns = ap (λ n. n + 1) h.numbers.turns; links = h.numbers.links; timers = h.numbers.timers; aims = h.numbers.aims; timed = λ config other opens bounded none. no_opening _ config other opens; submissions = h.numbers.submissions; shut = ap (λ s. s || is_shutdown kind) h.numbers.shut; settings = record { size_is = h.numbers.settings.size_is; bound_is = h.numbers.settings.bound_is; some = h.numbers.settings.some }; one = h.numbers.one; only = h.numbers.only };
       others = others_heard b c started kind h good;
       life = lived;
       link = linked;
@@ -217,6 +218,7 @@ heard_tied b c started word created kind life pending l h good is same lived lin
       story = h.story;
       tries = tries_by (b.link c.single.link) l b.story c.single.connection.requests c.single.link started same h.tries;
       lines = lines;
+      told = told;
       waits = waits;
     })
 

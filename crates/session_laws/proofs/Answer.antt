@@ -5,10 +5,11 @@ use Rattle.containers.proofs.Choices.{by_test, chosen, if_true, left_if, eq_from
 use Rattle.driver_model.specs.declared.action.Action.TheVariants as action
 use Rattle.driver_model.specs.declared.outcome.Outcome.{Outcome}
 use Rattle.driver_model.specs.declared.outcome.Outcome.TheVariants as outcome
+use Rattle.redis_error.specs.declared.redis_error.RedisError.{RedisError}
 use Rattle.redis_error.specs.declared.redis_error.RedisError.TheVariants as error
 use Rattle.link_core.specs.declared.message.Entry.{Entry}
 use Rattle.link_core.specs.Link.{LinkState}
-use Rattle.link_laws.specs.Settles.{wanted}
+use Rattle.link_laws.specs.Settles.{wanted, awaited_ids}
 use Rattle.link_laws.proofs.TiedLink.{TiedLink}
 use Rattle.mux_conn.specs.declared.life.Life.{Life}
 use Rattle.mux_conn.specs.declared.life.Life.TheVariants.{Dialing, Ready, Ended}
@@ -16,17 +17,18 @@ use Rattle.mux_conn.specs.declared.request.Pending.{Pending}
 use Rattle.mux_conn.specs.declared.request.Progress.TheVariants as progress
 use Rattle.mux_conn.specs.declared.request.Request.{Request}
 use Rattle.mux_conn.specs.declared.request.Waiting.{Waiting}
-use Rattle.mux_conn.specs.Requests.{is_open as is_open_progress, is_waiting, is_open_at, name_at, at_progress}
+use Rattle.mux_conn.specs.Requests.{is_open as is_open_progress, is_placed, is_open_at, name_at, at_progress}
 use Rattle.legal_trace.specs.Ledger.{End, ending_up, ending_asked, Ledger, is_over, ending}
-use Rattle.legal_trace.specs.Story.{Story, Try, last_of, packed_in, shape_in, bytes_of, answered}
+use Rattle.legal_trace.specs.Story.{Story, Try, last_of, is_no_error, is_open, packed_in, shape_in, bytes_of, answered}
 use Rattle.legal_trace.specs.Book.{Book, entered}
-use Rattle.legal_trace.specs.Owed.{owed, owed_to_try, owed_to_message, owed_unstarted}
+use Rattle.legal_trace.specs.Owed.{owed, owed_to_try, owed_to_message, owed_unstarted, unstarted_error}
 use Rattle.legal_trace.specs.Legal.{NoneEnds, VerdictsAreShown, MayAnswer, FailuresAreShown}
 use Rattle.session_laws.proofs.Numbers.{IsIn, in_right, in_left, Rising, rising_in}
-use Rattle.session_laws.proofs.Tied.{Inner, link_in, queue_ids, waiting_ids, IsUnknown, TiedLife, TiedNames, IsEntry, TiedLines, Tied, relined, has_ended}
+use Rattle.session_laws.proofs.Tied.{Inner, link_in, queue_ids, IsUnknown, TiedLife, TiedNames, IsEntry, AreQueued, TiedLines, Tied, relined, has_ended}
 use Rattle.session_laws.proofs.Names.{open_within, earlier_name, owners_still, length_still, names_progressed, there_other, there_then}
-use Rattle.session_laws.proofs.InLine.{line_of, IsInLine, first_is_apart}
-use Rattle.session_laws.proofs.Closing.{Closes, with_closed, story_closed, tries_closed, packs_closed, queue_closed, waits_closed}
+use Rattle.session_laws.proofs.InLine.{kept_ids, line_of, IsInLine, awaited_in, first_is_apart}
+use Rattle.session_laws.proofs.Behind.{open_unanswered, told_answered}
+use Rattle.session_laws.proofs.Closing.{Closes, with_closed, story_closed, tries_closed, packs_closed, queue_closed, waits_closed, kept_other, IsUntried, told_closed}
 use Rattle.session_laws.proofs.Owes.{request_story, open_request, answered_closed, failures_shown}
 
 -- where it may stand
@@ -138,67 +140,113 @@ entries_answered requests p [] apart all = tt
 entries_answered requests p (e ∷ es) apart all = (
   record {
     below = subst (λ n. e.id < n) (sym (length_still requests p progress.Closed)) all.0.below;
-    open_at = λ t.
+    placed_at = λ t.
         let other : p ≢ e.id = λ same. apart (in_left p (if e.awaited then e.id ∷ [] else []) (wanted es) (if_true (IsIn p) e.awaited (e.id ∷ []) [] t (inl (sym same)))) in
-        there_other is_open_progress requests p e.id progress.Closed other ∙ all.0.open_at t;
+        there_other is_placed requests p e.id progress.Closed other ∙ all.0.placed_at t;
   },
   entries_answered requests p es (λ i. apart (in_right p (if e.awaited then e.id ∷ [] else []) (wanted es) i)) all.1,
 )
 
 -- the lines where the first of those that are to be answered is, and is none of the others
-lines_answered : (table : List (Option Pending)) (story : ℕ → Story) (requests : List Request) (link : LinkState) (waiting : List Waiting) (p : ℕ) (pending started : List ℕ) (closed : ℕ → Story) → TiedNames table requests → p < length requests
-    → ((n : ℕ) → Closes (story n) (closed n)) → (IsIn p (pending ++ line_of link waiting) → ⊥) → TiedLines story requests link waiting (p ∷ pending) started
-    → TiedLines (with_closed story requests p closed) (at_progress requests p progress.Closed) link waiting pending started
-lines_answered table story requests link waiting p pending started closed names l c apart h =
+pub lines_answered : (table : List (Option Pending)) (story : ℕ → Story) (requests : List Request) (link : LinkState) (waiting admitted : List Waiting) (p : ℕ) (pending started : List ℕ) (closed : ℕ → Story) → TiedNames table requests → p < length requests
+    → ((n : ℕ) → Closes (story n) (closed n)) → (IsIn p (pending ++ line_of link admitted waiting) → ⊥) → TiedLines story requests link waiting admitted (p ∷ pending) started
+    → TiedLines (with_closed story requests p closed) (at_progress requests p progress.Closed) link waiting admitted pending started
+lines_answered table story requests link waiting admitted p pending started closed names l c apart h =
     let rows = wanted link.row in
     let queue = queue_ids link.queue in
-    let later = queue ++ waiting_ids waiting in
+    let kept = kept_ids admitted waiting in
+    let later = queue ++ kept in
     record {
       line = subst (Rising 0 (started ++ later)) (sym (length_still requests p progress.Closed)) h.line;
       queued = queue_closed table story requests p closed link.queue names l
-          (λ n i. let k = rising_in 0 (started ++ later) (length requests) n h.line (in_right n started later (in_left n queue (waiting_ids waiting) i)) in k.1)
-          (λ i. apart (in_right p pending (rows ++ later) (in_right p rows later (in_left p queue (waiting_ids waiting) i)))) c h.queued;
+          (λ n i. let k = rising_in 0 (started ++ later) (length requests) n h.line (in_right n started later (in_left n queue kept i)) in k.1)
+          (λ i. apart (in_right p pending (rows ++ later) (in_right p rows later (in_left p queue kept i)))) c h.queued;
       entries = entries_answered requests p link.row (λ i. apart (in_right p pending (rows ++ later) (in_left p rows later i))) h.entries;
       packs = packs_closed story requests p closed waiting c h.packs;
+      packed_in = packs_closed story requests p closed admitted c h.packed_in;
       there = λ q e.
           let k = there_then is_open_progress requests p q progress.Closed refl l e in
           elim (h.there q k.1) [
             | inl i ↦ elim i [ inl same ↦ absurd (k.0 same) | inr j ↦ inl j ]
-            | inr w ↦ inr (there_other is_waiting requests p q progress.Closed k.0 ∙ w.0, w.1)
+            | inr w ↦ inr (kept_other requests p q progress.Closed waiting admitted k.0 w)
           ];
     }
 
--- the first of those that are to be answered is, and is none of the others
-pub answer_apart : (b : Book) (t : Inner) (p : ℕ) (pending : List ℕ) (o : Outcome) → p < length t.requests → (IsIn p (pending ++ line_of (link_in t.life) t.waiting) → ⊥) → Tied b (record t { pending = p ∷ pending })
+-- the first of those that are to be answered is, and is none of the others; who is told and has not started is in the queue
+pub answer_apart : (b : Book) (t : Inner) (p : ℕ) (pending : List ℕ) (o : Outcome) → p < length t.requests → (IsIn p (pending ++ line_of (link_in t.life) t.admitted t.waiting) → ⊥)
+    → (has_ended t.life ≡ false → AreQueued (entered b (action.Outcome (name_at t.requests p) o)).story (at_progress t.requests p progress.Closed) (link_in t.life)) → Tied b (record t { pending = p ∷ pending })
     → Tied (entered b (action.Outcome (name_at t.requests p) o)) (record t { requests = at_progress t.requests p progress.Closed; pending = pending })
-answer_apart b t p pending o l apart h =
+answer_apart b t p pending o l apart told h =
     let closed : ℕ → Story = λ n. answered (b.story n) o in
     let c : (n : ℕ) → Closes (b.story n) (closed n) = λ n. answer_closes (b.story n) o in
+    let link = link_in t.life in
+    let rows = wanted link.row in
+    let queue = queue_ids link.queue in
+    let kept = kept_ids t.admitted t.waiting in
     record {
-      numbers = record { turns = h.numbers.turns; links = h.numbers.links; timers = h.numbers.timers; aims = h.numbers.aims; timed = h.numbers.timed; submissions = h.numbers.submissions; shut = h.numbers.shut; one = h.numbers.one; only = h.numbers.only };
+      numbers = record { turns = h.numbers.turns; links = h.numbers.links; timers = h.numbers.timers; aims = h.numbers.aims; timed = h.numbers.timed; submissions = h.numbers.submissions; shut = h.numbers.shut; settings = record { size_is = h.numbers.settings.size_is; bound_is = h.numbers.settings.bound_is; some = h.numbers.settings.some }; one = h.numbers.one; only = h.numbers.only };
       others = h.others;
       life = h.life;
       link = λ n. subst (λ name. TiedLink name (b.link t.link) (link_in t.life)) (sym (owners_still t.requests p progress.Closed)) (h.link n);
       names = names_progressed t.table t.requests p progress.Closed h.names;
       story = λ n. story_closed b.story t.table t.requests t.link p closed n h.names l (c n) (h.story n);
       tries = tries_closed (b.link t.link) b.story t.requests t.link p closed t.started c h.tries;
-      lines = lines_answered t.table b.story t.requests (link_in t.life) t.waiting p pending t.started closed h.names l c apart h.lines;
-      waits = waits_closed t.table b.story t.requests p closed t.life t.life t.fresh h.names l c (λ e. e) h.waits;
+      lines = lines_answered t.table b.story t.requests (link_in t.life) t.waiting t.admitted p pending t.started closed h.names l c apart h.lines;
+      told = told;
+      waits = waits_closed t.table b.story t.requests p closed t.life t.life t.fresh t.moved h.names l c (λ e. e)
+          (λ q i.
+          let j = awaited_in q link.queue i in
+          let k = rising_in 0 (t.started ++ (queue ++ kept)) (length t.requests) q h.lines.line (in_right q t.started (queue ++ kept) (in_left q queue kept j)) in
+          ((λ same. apart (in_right p pending (rows ++ (queue ++ kept)) (in_right p rows (queue ++ kept) (in_left p queue kept (subst (λ n. IsIn n queue) (sym same) j))))), k.1, i)) h.waits;
     }
 
+-- what is owed to a submission without a message is an error
+--
+-- a fault is one
+fault_is : (e : RedisError) (o : Outcome) → ◌≡◌ {A = Option Outcome} (Some (outcome.Fault e)) (Some o) → is_no_error (o ∷ []) ≡ false
+fault_is e o is = let same : outcome.Fault e ≡ o = cc in subst (λ (x : Outcome). is_no_error (x ∷ []) ≡ false) same refl
+
+-- by the end of its link
+end_is : (x : Option End) (o : Outcome) → owed_unstarted x ≡ Some o → is_no_error (o ∷ []) ≡ false
+end_is None o e = cc
+end_is (Some end) o e = fault_is (unstarted_error end.why) o e
+
+-- whatever it is
+owed_fault : (b : Book) (n : ℕ) (o : Outcome) → (b.story n).tries ≡ [] → owed b n ≡ Some o → is_no_error (o ∷ []) ≡ false
+owed_fault b n o none e =
+    let by_try = owed_to_try b (b.story n) (last_of (b.story n).tries) in
+    chosen (λ (x : Option Outcome). x ≡ Some o → is_no_error (o ∷ []) ≡ false) (b.story n).late (Some (outcome.Fault error.Closed)) (if length (bytes_of (b.story n)) == 0 then Some (outcome.Fault error.EmptyCommand) else by_try)
+    (λ t. fault_is error.Closed o)
+    (λ f. chosen (λ (x : Option Outcome). x ≡ Some o → is_no_error (o ∷ []) ≡ false) (length (bytes_of (b.story n)) == 0) (Some (outcome.Fault error.EmptyCommand)) by_try
+    (λ t. fault_is error.EmptyCommand o)
+    (λ g is. end_is (b.link (b.story n).link).end o (ap (λ ts. owed_to_try b (b.story n) (last_of ts)) (sym none) ∙ is)))
+    e
+
+-- so an open submission that is answered with what it is owed was not told at its place, or has started
+pub owed_untold : (b : Book) (n : ℕ) (o : Outcome) → is_open (b.story n) ≡ true → owed b n ≡ Some o → IsUntried (answered (b.story n) o) → ⊥
+owed_untold b n o asked owes u =
+    let outcomes_are : (b.story n).outcomes ++ o ∷ [] ≡ o ∷ [] = ap (λ os. os ++ o ∷ []) (open_unanswered (b.story n) asked) in
+    not_both (is_no_error ((b.story n).outcomes ++ o ∷ [])) (ap is_no_error outcomes_are ∙ owed_fault b n o u.1 owes) (told_answered (answered (b.story n) o) u.0)
+
 -- where the line rises
-pub answer_tied : (b : Book) (t : Inner) (p : ℕ) (pending : List ℕ) (o : Outcome) → p < length t.requests → IsInLine t.requests (link_in t.life) t.waiting (p ∷ pending) → Tied b (record t { pending = p ∷ pending })
-    → Tied (entered b (action.Outcome (name_at t.requests p) o)) (record t { requests = at_progress t.requests p progress.Closed; pending = pending })
-answer_tied b t p pending o l r h = answer_apart b t p pending o l (first_is_apart 0 p (pending ++ line_of (link_in t.life) t.waiting) (length t.requests) r) h
+pub answer_tied : (b : Book) (t : Inner) (p : ℕ) (pending : List ℕ) (o : Outcome) → is_open_at t.requests p ≡ true → owed b (name_at t.requests p) ≡ Some o → IsInLine t.requests (link_in t.life) t.admitted t.waiting (p ∷ pending)
+    → Tied b (record t { pending = p ∷ pending }) → Tied (entered b (action.Outcome (name_at t.requests p) o)) (record t { requests = at_progress t.requests p progress.Closed; pending = pending })
+answer_tied b t p pending o e owes r h =
+    let l = open_within t.requests p e in
+    let link = link_in t.life in
+    let asked = (request_story b (record t { pending = p ∷ pending }) p h l).open_is ∙ e in
+    answer_apart b t p pending o l (first_is_apart 0 p (pending ++ line_of link t.admitted t.waiting) (length t.requests) r)
+    (λ up. told_closed b.story t.requests p (λ n. answered (b.story n) o) link link (λ u. absurd (owed_untold b (name_at t.requests p) o asked owes u)) (λ q is i. i) (h.told up)) h
 
 -- one that isn't open is answered with nothing shown
 pub skip_tied : (b : Book) (t : Inner) (p : ℕ) (pending : List ℕ) → is_open_at t.requests p ≡ false → Tied b (record t { pending = p ∷ pending }) → Tied b (record t { pending = pending })
 skip_tied b t p pending closed h =
-    relined b (record t { pending = p ∷ pending }) t.waiting t.fresh pending h (record {
+    relined b (record t { pending = p ∷ pending }) t.waiting t.admitted t.fresh t.moved pending h (record {
       line = h.lines.line;
       queued = h.lines.queued;
       entries = h.lines.entries;
       packs = h.lines.packs;
+      packed_in = h.lines.packed_in;
       there = λ q e. elim (h.lines.there q e) [
         | inl i ↦ elim i [ inl same ↦ absurd (not_both (is_open_at t.requests q) (ap (is_open_at t.requests) (sym same) ∙ closed) e) | inr j ↦ inl j ]
         | inr w ↦ inr w

@@ -1,5 +1,5 @@
 -- A submission is handed in: it is the next request, or it is answered at once.
-use Rattle.std.proofs.Common.{◌≡◌, ◌≢◌, inl, inr, ℕ, ◌+◌, ◌<◌, ◌≤◌, ◌==◌, Bool, true, false, ◌||◌, List, [], ◌∷◌, ◌++◌, length, Some, slice_get, if◌then◌else◌, refl, sym, ap, ◌∙◌, subst, append_assoc, arith, length-append}
+use Rattle.std.proofs.Common.{◌≡◌, ◌≢◌, inl, inr, ℕ, ◌+◌, ◌<◌, ◌≤◌, ◌==◌, Bool, true, false, ◌||◌, ◌&&◌, not, List, [], ◌∷◌, ◌++◌, length, Some, None, slice_get, if◌then◌else◌, refl, sym, ap, ◌∙◌, subst, append_assoc, arith, length-append}
 use Rattle.containers.proofs.Places.{get_within}
 use Rattle.containers.proofs.Choices.{chosen, not_both}
 use Rattle.redis_error.specs.declared.redis_error.RedisError.{RedisError}
@@ -16,14 +16,14 @@ use Rattle.link_laws.proofs.TiedLink.{told_tied, named_tied, all_push}
 use Rattle.mux_conn.specs.declared.request.Progress.TheVariants as progress
 use Rattle.mux_conn.specs.declared.request.Request.{Request}
 use Rattle.mux_conn.specs.declared.request.Waiting.{Waiting}
-use Rattle.mux_conn.specs.Requests.{is_open as is_open_progress, is_waiting, if_there, name_or_none, is_open_at, is_waiting_at, name_at, waiting_of, asked}
+use Rattle.mux_conn.specs.Requests.{is_open as is_open_progress, is_waiting, is_admitted, if_there, name_or_none, is_open_at, is_waiting_at, is_admitted_at, name_at, waiting_of, asked}
 use Rattle.shared_session.specs.declared.core_state.Core.{Core}
 use Rattle.shared_session.specs.Turn.{Turning, heard, refused_with, asked_for, pending, effect, counted, is_bad}
-use Rattle.legal_trace.specs.Story.{Story}
+use Rattle.legal_trace.specs.Story.{Story, is_no_error, is_told, is_awaited}
 use Rattle.legal_trace.specs.Book.{Book, blank_book, book, entered}
 use Rattle.legal_trace.specs.Legal.{AllStand, NoneEnds, MayAnswer}
 use Rattle.session_laws.proofs.Numbers.{IsIn, in_left, in_right, Rising, rising_next}
-use Rattle.session_laws.proofs.Tied.{inner, link_in, owner_of, queue_ids, waiting_ids, IsOf, IsRequest, IsPacked, IsNew, TiedLines, TiedWaits, Tied, no_opening}
+use Rattle.session_laws.proofs.Tied.{inner, link_in, owner_of, queue_ids, waiting_ids, IsOf, IsRequest, IsPacked, IsKept, shown_wait, IsNew, TiedLines, TiedWaits, Tied, no_opening}
 use Rattle.session_laws.proofs.States.{Between, HasApplied}
 use Rattle.session_laws.proofs.Entered.{all_stand-append, book_more, sound_more}
 use Rattle.session_laws.proofs.Names.{there_within, names_asked}
@@ -31,7 +31,8 @@ use Rattle.session_laws.proofs.Owes.{started_within}
 use Rattle.session_laws.proofs.Settle.{seen}
 use Rattle.session_laws.proofs.Announce.{turn_of, turned, may_turn}
 use Rattle.session_laws.proofs.Heard.{told_life, silent_no_end, silent_applied}
-use Rattle.session_laws.proofs.Further.{one_longer, there_longer, before_or_new, story_at, further_story, tries_longer, queue_longer, packs_longer, entries_longer, owners_of_row}
+use Rattle.session_laws.proofs.Further.{one_longer, there_longer, before_or_new, further_story, tries_longer, queue_longer, packs_longer, entries_longer, owners_of_row, told_longer, IsNext, waits_longer}
+use Rattle.session_laws.proofs.InLine.{kept_ids, awaited_in}
 use Rattle.session_laws.proofs.Submit.{stories_with, new_story, story_is_new, others_before, within_line, IsErrorOf, may_refuse, core_refused, refused_tied}
 
 -- it is answered at once
@@ -52,7 +53,8 @@ refused_applied before c started word what e h good why =
           (subst (λ (x : Book). Tied (entered x a) t) (sym book_is) (refused_tied b c started word what e h.sound.tied h.fresh));
       ended = subst NoneEnds (sym (book_more front a ∙ ap (λ (x : Book). entered x a) book_is)) (λ m. silent_no_end (b.link m) c.turns);
       began = λ z. absurd (omega arith);
-      whole = h.whole;
+      moved = h.moved;
+      fit = record { link = h.fit.link; none = h.fit.none };
     }
 
 -- it is the next request
@@ -86,24 +88,35 @@ last_open c = ap (if_there is_open_progress) (get_last c.single.connection.reque
 last_waiting : (c : Core) → is_waiting_at (more_requests c) (length c.single.connection.requests) ≡ true
 last_waiting c = ap (if_there is_waiting) (get_last c.single.connection.requests (new_request c))
 
+-- and not for a place
+last_unadmitted : (c : Core) → is_admitted_at (more_requests c) (length c.single.connection.requests) ≡ false
+last_unadmitted c = ap (if_there is_admitted) (get_last c.single.connection.requests (new_request c))
+
 -- what is one of these and not one of those before is the last
 last_is : (c : Core) (p : ℕ) → p < length (more_requests c) → length c.single.connection.requests ≤ p → p ≡ length c.single.connection.requests
 last_is c p l past = omega (arith, length-append c.single.connection.requests (new_request c ∷ []))
 
+-- who has no place then
+kept_more : (c : Core) (what : Submission) → kept_ids c.single.connection.admitted (c.single.connection.waiting ++ new_waiting c what ∷ []) ≡ kept_ids c.single.connection.admitted c.single.connection.waiting ++ length c.single.connection.requests ∷ []
+kept_more c what =
+    let conn = c.single.connection in
+    ap (λ ns. waiting_ids conn.admitted ++ ns) (waiting_more conn.waiting (new_waiting c what)) ∙ sym (append_assoc (waiting_ids conn.admitted) (waiting_ids conn.waiting) (length conn.requests ∷ []))
+
 -- the numbers of the line rise
-asked_line : (c : Core) (what : Submission) (started queue : List ℕ) → Rising 0 (started ++ (queue ++ waiting_ids c.single.connection.waiting)) (length c.single.connection.requests)
-    → Rising 0 (started ++ (queue ++ waiting_ids (c.single.connection.waiting ++ new_waiting c what ∷ []))) (length (more_requests c))
+asked_line : (c : Core) (what : Submission) (started queue : List ℕ) → Rising 0 (started ++ (queue ++ kept_ids c.single.connection.admitted c.single.connection.waiting)) (length c.single.connection.requests)
+    → Rising 0 (started ++ (queue ++ kept_ids c.single.connection.admitted (c.single.connection.waiting ++ new_waiting c what ∷ []))) (length (more_requests c))
 asked_line c what started queue r =
     let requests = c.single.connection.requests in
-    let last = waiting_ids c.single.connection.waiting in
+    let last = kept_ids c.single.connection.admitted c.single.connection.waiting in
     let n = length requests in
     let long : n + 1 ≡ length (more_requests c) = sym (length-append requests (new_request c ∷ [])) in
-    let line : (started ++ (queue ++ last)) ++ n ∷ [] ≡ started ++ (queue ++ waiting_ids (c.single.connection.waiting ++ new_waiting c what ∷ [])) =
-    append_assoc started (queue ++ last) (n ∷ []) ∙ ap (λ ns. started ++ ns) (append_assoc queue last (n ∷ []) ∙ ap (λ ns. queue ++ ns) (sym (waiting_more c.single.connection.waiting (new_waiting c what)))) in
+    let line : (started ++ (queue ++ last)) ++ n ∷ [] ≡ started ++ (queue ++ kept_ids c.single.connection.admitted (c.single.connection.waiting ++ new_waiting c what ∷ [])) =
+    append_assoc started (queue ++ last) (n ∷ []) ∙ ap (λ ns. started ++ ns) (append_assoc queue last (n ∷ []) ∙ ap (λ ns. queue ++ ns) (sym (kept_more c what))) in
     subst (λ ns. Rising 0 ns (length (more_requests c))) line (subst (Rising 0 ((started ++ (queue ++ last)) ++ n ∷ [])) long (rising_next 0 (started ++ (queue ++ last)) n r))
 
 -- it stands at the end of the line
-asked_lines : (b : Book) (c : Core) (started : List ℕ) (what : Submission) → Tied b (inner c started) → TiedLines (stories_with b what) (more_requests c) (link_in c.single.connection.life) (c.single.connection.waiting ++ new_waiting c what ∷ []) [] started
+asked_lines : (b : Book) (c : Core) (started : List ℕ) (what : Submission) → Tied b (inner c started)
+    → TiedLines (stories_with b what) (more_requests c) (link_in c.single.connection.life) (c.single.connection.waiting ++ new_waiting c what ∷ []) c.single.connection.admitted [] started
 asked_lines b c started what h =
     let conn = c.single.connection in
     let after = stories_with b what in
@@ -111,45 +124,66 @@ asked_lines b c started what h =
     let longer = one_longer conn.requests (new_request c) in
     let queue = queue_ids (link_in conn.life).queue in
     let last = waiting_ids conn.waiting in
+    let admitted = waiting_ids conn.admitted in
+    let kept = admitted ++ last in
     let n = length conn.requests in
-    let at : (p : ℕ) → IsIn p (started ++ (queue ++ last)) → p < n = λ p i. within_line conn.requests started queue last p h.lines.line i in
+    let at : (p : ℕ) → IsIn p (started ++ (queue ++ kept)) → p < n = λ p i. within_line conn.requests started queue kept p h.lines.line i in
     let own : after (name_at (more_requests c) n) ≡ new_story b what = ap after (last_named c) ∙ story_is_new b c started what h in
     let in_last : (p : ℕ) → IsIn p (last ++ n ∷ []) → IsIn p (waiting_ids (conn.waiting ++ new_waiting c what ∷ [])) = λ p i. subst (IsIn p) (sym (waiting_more conn.waiting (new_waiting c what))) i in
     record {
       line = asked_line c what started queue h.lines.line;
-      queued = queue_longer c.table b.story after conn.requests (more_requests c) (link_in conn.life).queue h.names same longer (λ p i. at p (in_right p started (queue ++ last) (in_left p queue last i))) h.lines.queued;
+      queued = queue_longer c.table b.story after conn.requests (more_requests c) (link_in conn.life).queue h.names same longer (λ p i. at p (in_right p started (queue ++ kept) (in_left p queue kept i))) h.lines.queued;
       entries = entries_longer conn.requests (more_requests c) (link_in conn.life).row longer h.lines.entries;
       packs = all_push (IsPacked after (more_requests c)) conn.waiting (new_waiting c what)
-          (packs_longer c.table b.story after conn.requests (more_requests c) conn.waiting h.names same longer (λ p i. at p (in_right p started (queue ++ last) (in_right p queue last i))) h.lines.packs)
+          (packs_longer c.table b.story after conn.requests (more_requests c) conn.waiting h.names same longer (λ p i. at p (in_right p started (queue ++ kept) (in_right p queue kept (in_right p admitted last i)))) h.lines.packs)
           (subst (λ (s : Story). IsOf s (packed_bytes what) (shape_of what) (is_reply_awaited what)) (sym own) (record { packs = refl; shape_is = refl; awaited_is = refl }));
+      packed_in = packs_longer c.table b.story after conn.requests (more_requests c) conn.admitted h.names same longer (λ p i. at p (in_right p started (queue ++ kept) (in_right p queue kept (in_left p admitted last i)))) h.lines.packed_in;
       there = λ p e. before_or_new conn.requests (more_requests c) p _
           (λ old. elim (h.lines.there p (sym (there_longer is_open_progress conn.requests (more_requests c) p longer old) ∙ e)) [
             | inl i ↦ inl i
-            | inr w ↦ inr (there_longer is_waiting conn.requests (more_requests c) p longer old ∙ w.0, in_last p (in_left p last (n ∷ []) w.1))
+            | inr w ↦ inr (elim w as (λ _. IsKept (more_requests c) (conn.waiting ++ new_waiting c what ∷ []) conn.admitted p) [
+              | inl a ↦ inl (there_longer is_admitted conn.requests (more_requests c) p longer old ∙ a.0, a.1)
+              | inr x ↦ inr (there_longer is_waiting conn.requests (more_requests c) p longer old ∙ x.0, in_last p (in_left p last (n ∷ []) x.1))
+            ])
           ])
           (λ past.
           let is = last_is c p (there_within is_open_progress (more_requests c) p e) past in
-          inr (ap (is_waiting_at (more_requests c)) is ∙ last_waiting c, in_last p (in_right p last (n ∷ []) (inl (sym is)))));
+          inr (inr (ap (is_waiting_at (more_requests c)) is ∙ last_waiting c, in_last p (in_right p last (n ∷ []) (inl (sym is))))));
     }
 
 -- its wait is not shown yet
-asked_waits : (b : Book) (c : Core) (started : List ℕ) (what : Submission) → Tied b (inner c started) → c.single.connection.fresh ≡ [] → TiedWaits (stories_with b what) (more_requests c) c.single.connection.life (c.single.connection.fresh ++ length c.single.connection.requests ∷ [])
-asked_waits b c started what h no_fresh =
+asked_next : (b : Book) (c : Core) (started : List ℕ) (what : Submission) → Tied b (inner c started) → c.single.connection.fresh ≡ [] → IsNext (stories_with b what) c.single.connection.requests (more_requests c) (c.single.connection.fresh ++ length c.single.connection.requests ∷ [])
+asked_next b c started what h no_fresh =
     let conn = c.single.connection in
     let after = stories_with b what in
     let n = length conn.requests in
     let fresh_is : conn.fresh ++ n ∷ [] ≡ n ∷ [] = ap (λ ns. ns ++ n ∷ []) no_fresh in
-    let longer = one_longer conn.requests (new_request c) in
     let own : after (name_at (more_requests c) n) ≡ new_story b what = ap after (last_named c) ∙ story_is_new b c started what h in
+    let unshown : shown_wait after (more_requests c) n ≡ None = ap (λ (s : Story). s.waiting) own in
     record {
-      new = subst (IsNew after (more_requests c)) (sym fresh_is) (ap (λ (s : Story). s.waiting) own);
-      shown = λ p w d. before_or_new conn.requests (more_requests c) p _
-          (λ old. elim (h.waits.shown p (sym (there_longer is_waiting conn.requests (more_requests c) p longer old) ∙ w) d) [
-            | inl x ↦ absurd (let no : [] ≡ p ∷ [] = sym no_fresh ∙ x in cc)
-            | inr x ↦ inr (ap (λ (s : Story). s.waiting) (story_at c.table b.story after conn.requests (more_requests c) p h.names (others_before b c started what h) longer old) ∙ x)
-          ])
-          (λ past. inl (fresh_is ∙ ap (λ m. m ∷ []) (sym (last_is c p (there_within is_waiting (more_requests c) p w) past))));
+      new = subst (IsNew after (more_requests c)) (sym fresh_is) unshown;
+      shown = λ p w past.
+          let is = last_is c p (there_within is_waiting (more_requests c) p w) past in
+          (ap (shown_wait after (more_requests c)) is ∙ unshown, fresh_is ∙ ap (λ m. m ∷ []) (sym is));
+      none = λ p a past.
+          let is = last_is c p (there_within is_admitted (more_requests c) p a) past in
+          not_both (is_admitted_at (more_requests c) p) (ap (is_admitted_at (more_requests c)) is ∙ last_unadmitted c) a;
     }
+
+-- the waits with it
+asked_waits : (b : Book) (c : Core) (started : List ℕ) (what : Submission) → Tied b (inner c started) → c.single.connection.fresh ≡ []
+    → TiedWaits (stories_with b what) (more_requests c) c.single.connection.life (c.single.connection.fresh ++ length c.single.connection.requests ∷ []) c.single.connection.moved
+asked_waits b c started what h no_fresh =
+    let conn = c.single.connection in
+    let queue = queue_ids (link_in conn.life).queue in
+    let kept = kept_ids conn.admitted conn.waiting in
+    waits_longer c.table b.story (stories_with b what) conn.requests (more_requests c) conn.life conn.fresh (conn.fresh ++ length conn.requests ∷ []) conn.moved h.names (others_before b c started what h) (one_longer conn.requests (new_request c))
+    (λ p i. within_line conn.requests started queue kept p h.lines.line (in_right p started (queue ++ kept) (in_left p queue kept (awaited_in p (link_in conn.life).queue i)))) no_fresh (asked_next b c started what h no_fresh) h.waits
+
+-- a submission without outcomes was told nothing
+new_untold : (awaited : Bool) → (not awaited && is_no_error []) ≡ true → ⊥
+new_untold true e = cc
+new_untold false e = cc
 
 -- the core with one request more
 abbrev core_asked : Core → Submission → Core
@@ -167,13 +201,13 @@ asked_tied b c started word what h no_fresh up some =
     let n = length conn.requests in
     let next = Some (pending n) in
     let queue = queue_ids (link_in conn.life).queue in
-    let last = waiting_ids conn.waiting in
+    let last = kept_ids conn.admitted conn.waiting in
     let own_at : (p : ℕ) (r : Request) → slice_get (more_requests c) p ≡ Some r → n ≤ p → after r.name ≡ new_story b what = λ p r i past.
     (let is = last_is c p (get_within (more_requests c) p r i) past in
     let named : length c.table ≡ r.name = sym (last_named c) ∙ ap (name_at (more_requests c)) (sym is) ∙ ap name_or_none i in
     ap after (sym named) ∙ story_is_new b c started what h) in
     record {
-      numbers = record { turns = ap (λ m. m + 1) h.numbers.turns; links = h.numbers.links; timers = h.numbers.timers; aims = h.numbers.aims; timed = λ config other opens bounded none. no_opening _ config other opens; submissions = (let k = h.numbers.submissions in omega (arith, length-append c.table (next ∷ []))); shut = ap (λ s. s || false) h.numbers.shut; one = h.numbers.one; only = h.numbers.only };
+      numbers = record { turns = ap (λ m. m + 1) h.numbers.turns; links = h.numbers.links; timers = h.numbers.timers; aims = h.numbers.aims; timed = λ config other opens bounded none. no_opening _ config other opens; submissions = (let k = h.numbers.submissions in omega (arith, length-append c.table (next ∷ []))); shut = ap (λ s. s || false) h.numbers.shut; settings = record { size_is = h.numbers.settings.size_is; bound_is = h.numbers.settings.bound_is; some = h.numbers.settings.some }; one = h.numbers.one; only = h.numbers.only };
       others = λ m other. let u = h.others m other in record { asked = u.asked; up = u.up; end = u.end; starts = u.starts };
       life = told_life ledger b.created conn.life silence h.life;
       link = λ alive. told_tied (owner_of (more_requests c)) ledger (link_in conn.life) ledger.asked ledger.up silence
@@ -193,6 +227,7 @@ asked_tied b c started word what h no_fresh up some =
           (λ p r i past. ap (λ (s : Story). s.tries) (own_at p r i past))
           (record { owners = h.tries.owners; shapes = h.tries.shapes; tried = h.tries.tried; untried = h.tries.untried });
       lines = asked_lines b c started what h;
+      told = λ up. told_longer c.table b.story after conn.requests (more_requests c) (link_in conn.life) same longer (λ u. absurd (new_untold (is_awaited (new_story b what)) (ap is_told (sym (story_is_new b c started what h)) ∙ u.0))) (h.told up);
       waits = asked_waits b c started what h no_fresh;
     }
 
@@ -201,7 +236,7 @@ pub asked_applied : (before : List Action) (c : Core) (started : List ℕ) (word
     → HasApplied (before ++ turn_of c word (event.Submit what) ∷ []) (asked_for (heard (counted c) (event.Submit what)) what) started
 asked_applied before c started word what h good up some =
     let b = book before in
-    silent_applied before c started word (event.Submit what) (core_asked c what) (asked c.single.connection (length c.table) (packed_bytes what) (shape_of what) (is_reply_awaited what)) h good (λ m. silent_no_end (b.link m) c.turns) (λ z. absurd (omega arith)) h.whole
+    silent_applied before c started word (event.Submit what) (core_asked c what) (asked c.single.connection (length c.table) (packed_bytes what) (shape_of what) (is_reply_awaited what)) h good (λ m. silent_no_end (b.link m) c.turns) (λ z. absurd (omega arith)) h.moved (record { link = h.fit.link; none = h.fit.none })
     (asked_tied b c started word what h.sound.tied h.fresh up some)
 
 -- one or the other

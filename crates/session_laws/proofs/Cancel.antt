@@ -1,17 +1,18 @@
 -- The caller of a submission has gone.
-use Rattle.std.proofs.Common.{◌≡◌, ◌≢◌, inl, inr, ℕ, suc, ◌+◌, ◌<◌, ◌==◌, Bool, true, false, ◌&&◌, ◌||◌, is_some, List, [], ◌∷◌, ◌++◌, length, Option, Some, None, slice_get, if◌then◌else◌, refl, sym, ap, ◌∙◌, subst, arith}
+use Rattle.std.proofs.Common.{◌≡◌, ◌≢◌, inl, inr, ℕ, suc, ◌+◌, ◌<◌, ◌≤◌, ◌==◌, Bool, true, false, ◌&&◌, ◌||◌, is_some, List, [], ◌∷◌, ◌++◌, length, Option, Some, None, slice_get, if◌then◌else◌, refl, sym, ap, ◌∙◌, subst, arith}
 use Rattle.std.specs.List.{AllByRecursion}
-use Rattle.containers.proofs.Choices.{chosen, left_if, eq_from, ne_from}
+use Rattle.containers.proofs.Choices.{by_test, both_left, chosen, left_if, eq_from, eq_test, ne_from, not_both}
 use Rattle.driver_model.specs.declared.action.Action.{Action}
 use Rattle.driver_model.specs.declared.action.Owner.{Owner}
 use Rattle.driver_model.specs.declared.event.EventKind.TheVariants as event
 use Rattle.driver_model.specs.declared.outcome.Outcome.TheVariants as outcome
+use Rattle.resp_value.specs.declared.value.Value.TheVariants.{Nil}
 use Rattle.driver_model.specs.News.{silence}
 use Rattle.link_core.specs.declared.message.Entry.{Entry}
 use Rattle.link_core.specs.declared.message.Queued.{Queued}
 use Rattle.link_core.specs.Link.{LinkState, cancelled}
 use Rattle.link_core.specs.Row.{silent, is_entry_of, silenced}
-use Rattle.link_core.specs.Waiting.{without}
+use Rattle.link_core.specs.Waiting.{is_wanted, without}
 use Rattle.link_laws.specs.Settles.{wanted, awaited_ids}
 use Rattle.link_laws.proofs.TiedLink.{TiedLink, told_tied, cancelled_tied}
 use Rattle.mux_conn.specs.declared.connection.MultiplexedConnection.{MultiplexedConnection}
@@ -21,20 +22,21 @@ use Rattle.mux_conn.specs.declared.request.Pending.{Pending}
 use Rattle.mux_conn.specs.declared.request.Progress.TheVariants as progress
 use Rattle.mux_conn.specs.declared.request.Request.{Request}
 use Rattle.mux_conn.specs.declared.request.Waiting.{Waiting}
-use Rattle.mux_conn.specs.Requests.{is_open as is_open_progress, is_waiting, is_open_at, name_at, at_progress}
-use Rattle.mux_conn.specs.Effects.{new_link, cancelled_in}
+use Rattle.mux_conn.specs.Requests.{is_open as is_open_progress, is_placed, is_open_at, name_at, at_progress}
+use Rattle.mux_conn.specs.Effects.{cancelled_in}
 use Rattle.shared_session.specs.declared.core_state.Core.{Core}
 use Rattle.shared_session.specs.Turn.{with_work, heard, left_by, effect, counted, is_bad}
 use Rattle.legal_trace.specs.Ledger.{Ledger}
-use Rattle.legal_trace.specs.Story.{Story, is_open, left}
+use Rattle.legal_trace.specs.Story.{Story, is_open, is_told, left}
 use Rattle.legal_trace.specs.Book.{Book, book, entered, if_own}
-use Rattle.session_laws.proofs.Numbers.{IsIn, in_left, in_right, in_either, Rising, rising_in, rising_right}
-use Rattle.session_laws.proofs.Tied.{inner, link_in, owner_of, queue_ids, waiting_ids, IsQueued, IsEntry, TiedLife, TiedStory, TiedLines, Tied, no_opening, has_ended}
-use Rattle.session_laws.proofs.States.{IsWhole, IsWholeIn, Between, HasApplied}
+use Rattle.session_laws.proofs.Numbers.{IsIn, in_left, in_right, in_either, Rising, rising_from, rising_in, rising_right, rising_tail}
+use Rattle.session_laws.proofs.Tied.{inner, no_link, link_in, owner_of, queue_ids, IsQueued, IsEntry, AreQueued, TiedLife, TiedStory, TiedNames, TiedLines, Tied, no_opening, has_ended}
+use Rattle.session_laws.proofs.States.{IsFit, IsFitIn, Between, HasApplied}
 use Rattle.session_laws.proofs.Names.{open_within, name_of_some, owners_still, length_still, names_progressed, there_other, there_then}
-use Rattle.session_laws.proofs.InLine.{row_ids, wanted_in}
-use Rattle.session_laws.proofs.Owes.{answered_closed, row_in_line}
-use Rattle.session_laws.proofs.Closing.{Closes, with_closed, story_closed, tries_closed, packs_closed, waits_closed}
+use Rattle.session_laws.proofs.InLine.{row_ids, kept_ids, chosen_in, awaited_in, wanted_in}
+use Rattle.session_laws.proofs.Behind.{open_untold}
+use Rattle.session_laws.proofs.Owes.{answered_closed, request_story, row_in_line}
+use Rattle.session_laws.proofs.Closing.{Closes, with_closed, story_closed, tries_closed, packs_closed, queued_other, queue_closed, AreOthers, waits_closed, kept_other, IsUntried, told_closed}
 use Rattle.session_laws.proofs.Answer.{entries_answered}
 use Rattle.session_laws.proofs.Settle.{seen}
 use Rattle.session_laws.proofs.Announce.{turn_of, turned}
@@ -71,46 +73,130 @@ silenced_wanted (e ∷ es) p q other i =
     own true same j = elim j [ inl is ↦ other (sym same ∙ is) | inr k ↦ k ]
     own false same j = j
 
--- and open
+-- and have their places
 silenced_entries : (requests : List Request) (p lo hi : ℕ) (row : List Entry) (ys : List ℕ) → Rising lo (row_ids row ++ ys) hi → AllByRecursion (IsEntry requests) row → AllByRecursion (IsEntry (at_progress requests p progress.Closed)) (silenced row p)
 silenced_entries requests p lo hi [] ys r all = tt
 silenced_entries requests p lo hi (e ∷ es) ys r all =
     let long = sym (length_still requests p progress.Closed) in
     chosen (λ (x : List Entry). AllByRecursion (IsEntry (at_progress requests p progress.Closed)) x) (is_entry_of p e) (silent e ∷ es) (e ∷ silenced es p)
     (λ t. (
-      record { below = subst (λ n. e.id < n) long all.0.below; open_at = λ z. cc },
+      record { below = subst (λ n. e.id < n) long all.0.below; placed_at = λ z. cc },
       entries_answered requests p es (λ i. let same = eq_from e.id p t in let k = rising_in (suc e.id) (row_ids es ++ ys) hi p r.1 (in_left p (row_ids es) ys (wanted_in p es i)) in omega (arith, k.0)) all.1,
     ))
     (λ f. (
-      record { below = subst (λ n. e.id < n) long all.0.below; open_at = λ z. there_other is_open_progress requests p e.id progress.Closed (λ same. ne_from e.id p f (sym same)) ∙ all.0.open_at z },
+      record { below = subst (λ n. e.id < n) long all.0.below; placed_at = λ z. there_other is_placed requests p e.id progress.Closed (λ same. ne_from e.id p f (sym same)) ∙ all.0.placed_at z },
       silenced_entries requests p (suc e.id) hi es ys r.1 all.1,
     ))
 
--- of an empty queue nothing leaves
-without_none : (queue : List Queued) (p : ℕ) → queue ≡ [] → without queue p ≡ []
-without_none queue p e = ap (λ (qs : List Queued). without qs p) e
+-- a queue without a message
+--
+-- the others stay in it
+without_others : (queue : List Queued) (p q : ℕ) → p ≢ q → IsIn q (queue_ids queue) → IsIn q (queue_ids (without queue p))
+without_others [] p q other i = i
+without_others (x ∷ xs) p q other i =
+    chosen (λ (ys : List Queued). IsIn q (queue_ids ys)) (is_wanted p x) xs (x ∷ without xs p)
+    (λ t. elim i [ inl same ↦ absurd (other (sym (eq_from x.id p (both_left (x.id == p) x.awaited t)) ∙ same)) | inr j ↦ j ])
+    (λ f. elim i [ inl same ↦ inl same | inr j ↦ inr (without_others xs p q other j) ])
 
--- the lines of the others, on a link whose queue is empty
-left_lines : (story : ℕ → Story) (requests : List Request) (link : LinkState) (waiting : List Waiting) (p : ℕ) (started : List ℕ) (closed : ℕ → Story) → p < length requests → link.queue ≡ [] → ((n : ℕ) → Closes (story n) (closed n))
-    → Rising 0 (row_ids link.row ++ (queue_ids link.queue ++ waiting_ids waiting)) (length requests) → TiedLines story requests link waiting [] started
-    → TiedLines (with_closed story requests p closed) (at_progress requests p progress.Closed) (cancelled link p) waiting [] started
-left_lines story requests link waiting p started closed l empty c r h =
+-- and so do those that are awaited
+without_awaited : (queue : List Queued) (p q : ℕ) → p ≢ q → IsIn q (awaited_ids queue) → IsIn q (awaited_ids (without queue p))
+without_awaited [] p q other i = i
+without_awaited (x ∷ xs) p q other i =
+    let own = if x.awaited then x.id ∷ [] else [] in
+    chosen (λ (ys : List Queued). IsIn q (awaited_ids ys)) (is_wanted p x) xs (x ∷ without xs p)
+    (λ t. elim (in_either q own (awaited_ids xs) i) [ inl j ↦ absurd (other (sym (eq_from x.id p (both_left (x.id == p) x.awaited t)) ∙ chosen_in x.awaited q x.id j)) | inr j ↦ j ])
+    (λ f. elim (in_either q own (awaited_ids xs) i) [ inl j ↦ in_left q own (awaited_ids (without xs p)) j | inr j ↦ in_right q own (awaited_ids (without xs p)) (without_awaited xs p q other j) ])
+
+-- what it holds then it held before
+without_was : (queue : List Queued) (p q : ℕ) → IsIn q (awaited_ids (without queue p)) → IsIn q (awaited_ids queue)
+without_was [] p q i = i
+without_was (x ∷ xs) p q i =
+    let own = if x.awaited then x.id ∷ [] else [] in
+    chosen (λ (ys : List Queued). IsIn q (awaited_ids ys) → IsIn q (awaited_ids (x ∷ xs))) (is_wanted p x) xs (x ∷ without xs p)
+    (λ t j. in_right q own (awaited_ids xs) j)
+    (λ f j. elim (in_either q own (awaited_ids (without xs p)) j) [ inl k ↦ in_left q own (awaited_ids xs) k | inr k ↦ in_right q own (awaited_ids xs) (without_was xs p q k) ]) i
+
+-- and it holds that message no more
+without_apart : (queue : List Queued) (ys : List ℕ) (p lo hi : ℕ) → Rising lo (queue_ids queue ++ ys) hi → IsIn p (awaited_ids (without queue p)) → ⊥
+without_apart [] ys p lo hi r i = i
+without_apart (x ∷ xs) ys p lo hi r i =
+    chosen (λ (qs : List Queued). IsIn p (awaited_ids qs) → ⊥) (is_wanted p x) xs (x ∷ without xs p)
+    (λ t j.
+    let same = eq_from x.id p (both_left (x.id == p) x.awaited t) in
+    let k = rising_in (suc x.id) (queue_ids xs ++ ys) hi p r.1 (in_left p (queue_ids xs) ys (awaited_in p xs j)) in
+    omega (arith, k.0, same))
+    (λ f j. elim (in_either p (if x.awaited then x.id ∷ [] else []) (awaited_ids (without xs p)) j) [
+      | inl k ↦ own x.awaited f k
+      | inr k ↦ without_apart xs ys p (suc x.id) hi r.1 k
+    ]) i
+  where
+    own : (b : Bool) → ((x.id == p) && b) ≡ false → IsIn p (if b then x.id ∷ [] else []) → ⊥
+    own true f k = elim k [ inl same ↦ not_both ((x.id == p) && true) f (λ i. eq_test x.id p same i && true) | inr none ↦ none ]
+    own false f k = k
+
+-- its numbers rise
+without_rises : (queue : List Queued) (ys : List ℕ) (p lo hi : ℕ) → Rising lo (queue_ids queue ++ ys) hi → Rising lo (queue_ids (without queue p) ++ ys) hi
+without_rises [] ys p lo hi r = r
+without_rises (x ∷ xs) ys p lo hi r =
+    chosen (λ (qs : List Queued). Rising lo (queue_ids qs ++ ys) hi) (is_wanted p x) xs (x ∷ without xs p)
+    (λ t. let l : lo ≤ x.id = r.0 in rising_from (suc x.id) lo (queue_ids xs ++ ys) hi (omega arith) r.1)
+    (λ f. (r.0, without_rises xs ys p (suc x.id) hi r.1))
+
+-- and it is no longer
+without_length : (queue : List Queued) (p : ℕ) → length (without queue p) ≤ length queue
+without_length [] p = omega arith
+without_length (x ∷ xs) p =
+    let l = without_length xs p in
+    chosen (λ (qs : List Queued). length qs ≤ length (x ∷ xs)) (is_wanted p x) xs (x ∷ without xs p) (λ t. omega arith) (λ f. omega arith)
+
+-- a message of the queue is not that of an open request unless it is awaited
+queued_apart : (story : ℕ → Story) (requests : List Request) (p : ℕ) (q : Queued) → is_open (story (name_at requests p)) ≡ true → is_wanted p q ≡ false → IsQueued story requests q → p ≢ q.id
+queued_apart story requests p q asked f h same =
+    let unawaited : q.awaited ≡ false = by_test q.awaited _ (λ t. absurd (not_both (is_wanted p q) f (λ i. eq_test q.id p (sym same) i && t i))) (λ n. n) in
+    let told : (story (name_at requests p)).outcomes ≡ outcome.One Nil ∷ [] = ap (λ m. (story (name_at requests m)).outcomes) same ∙ h.told unawaited in
+    not_both (is_open (story (name_at requests p))) (answered_closed (story (name_at requests p)) [] (outcome.One Nil) told) asked
+
+-- the messages of the others are as they were
+queue_left : (table : List (Option Pending)) (story : ℕ → Story) (requests : List Request) (p : ℕ) (closed : ℕ → Story) (queue : List Queued) (ys : List ℕ) (lo : ℕ) → TiedNames table requests → p < length requests
+    → is_open (story (name_at requests p)) ≡ true → Rising lo (queue_ids queue ++ ys) (length requests) → ((n : ℕ) → Closes (story n) (closed n)) → AllByRecursion (IsQueued story requests) queue
+    → AllByRecursion (IsQueued (with_closed story requests p closed) (at_progress requests p progress.Closed)) (without queue p)
+queue_left table story requests p closed [] ys lo names l asked r c all = tt
+queue_left table story requests p closed (x ∷ xs) ys lo names l asked r c all =
+    let within : (n : ℕ) → IsIn n (queue_ids (x ∷ xs)) → n < length requests = λ n i. (let k = rising_in lo (queue_ids (x ∷ xs) ++ ys) (length requests) n r (in_left n (queue_ids (x ∷ xs)) ys i) in k.1) in
+    chosen (AllByRecursion (IsQueued (with_closed story requests p closed) (at_progress requests p progress.Closed))) (is_wanted p x) xs (x ∷ without xs p)
+    (λ t.
+    let same = eq_from x.id p (both_left (x.id == p) x.awaited t) in
+    queue_closed table story requests p closed xs names l (λ n i. within n (inr i))
+    (λ i. let k = rising_in (suc x.id) (queue_ids xs ++ ys) (length requests) p r.1 (in_left p (queue_ids xs) ys i) in omega (arith, k.0, same)) c all.1)
+    (λ f. (
+      queued_other table story requests p closed x names l (within x.id (inl refl)) (queued_apart story requests p x asked f all.0) c all.0,
+      queue_left table story requests p closed xs ys (suc x.id) names l asked r.1 c all.1,
+    ))
+
+-- the lines of the others
+left_lines : (table : List (Option Pending)) (story : ℕ → Story) (requests : List Request) (link : LinkState) (waiting admitted : List Waiting) (p : ℕ) (started : List ℕ) (closed : ℕ → Story) → TiedNames table requests → p < length requests
+    → is_open (story (name_at requests p)) ≡ true → ((n : ℕ) → Closes (story n) (closed n)) → Rising 0 (row_ids link.row ++ (queue_ids link.queue ++ kept_ids admitted waiting)) (length requests) → TiedLines story requests link waiting admitted [] started
+    → TiedLines (with_closed story requests p closed) (at_progress requests p progress.Closed) (cancelled link p) waiting admitted [] started
+left_lines table story requests link waiting admitted p started closed names l asked c r h =
     let rows = wanted link.row in
     let silent_rows = wanted (silenced link.row p) in
-    let gone = without_none link.queue p empty in
+    let queue = queue_ids link.queue in
+    let kept = kept_ids admitted waiting in
     record {
-      line = subst (λ (qs : List Queued). Rising 0 (started ++ (queue_ids qs ++ waiting_ids waiting)) (length (at_progress requests p progress.Closed))) (empty ∙ sym gone) (subst (Rising 0 (started ++ (queue_ids link.queue ++ waiting_ids waiting))) (sym (length_still requests p progress.Closed)) h.line);
-      queued = subst (λ (qs : List Queued). AllByRecursion (IsQueued (with_closed story requests p closed) (at_progress requests p progress.Closed)) qs) (sym gone) tt;
-      entries = silenced_entries requests p 0 (length requests) link.row (queue_ids link.queue ++ waiting_ids waiting) r h.entries;
+      line = subst (Rising 0 (started ++ (queue_ids (without link.queue p) ++ kept))) (sym (length_still requests p progress.Closed))
+          (rising_tail 0 started (queue ++ kept) (queue_ids (without link.queue p) ++ kept) (length requests) (λ low s. without_rises link.queue kept p low (length requests) s) h.line);
+      queued = queue_left table story requests p closed link.queue kept 0 names l asked (rising_right 0 started (queue ++ kept) (length requests) h.line) c h.queued;
+      entries = silenced_entries requests p 0 (length requests) link.row (queue ++ kept) r h.entries;
       packs = packs_closed story requests p closed waiting c h.packs;
+      packed_in = packs_closed story requests p closed admitted c h.packed_in;
       there = λ q e.
           let k = there_then is_open_progress requests p q progress.Closed refl l e in
           elim (h.there q k.1) [
             | inl i ↦ elim (in_either q rows (awaited_ids link.queue) i) [
               | inl j ↦ inl (in_left q silent_rows (awaited_ids (without link.queue p)) (silenced_wanted link.row p q k.0 j))
-              | inr j ↦ absurd (subst (λ (qs : List Queued). IsIn q (awaited_ids qs)) empty j)
+              | inr j ↦ inl (in_right q silent_rows (awaited_ids (without link.queue p)) (without_awaited link.queue p q k.0 j))
             ]
-            | inr w ↦ inr (there_other is_waiting requests p q progress.Closed k.0 ∙ w.0, w.1)
+            | inr w ↦ inr (kept_other requests p q progress.Closed waiting admitted k.0 w)
           ];
     }
 
@@ -134,51 +220,88 @@ still_dials Dialing p e = refl
 still_dials (Ready link) p e = cc
 still_dials (Ended x) p e = cc
 
--- a link without messages stays as it is
-bare_lines : (story : ℕ → Story) (requests : List Request) (waiting : List Waiting) (p : ℕ) (started : List ℕ) (closed : ℕ → Story) → p < length requests → ((n : ℕ) → Closes (story n) (closed n)) → TiedLines story requests new_link waiting [] started
-    → TiedLines (with_closed story requests p closed) (at_progress requests p progress.Closed) new_link waiting [] started
-bare_lines story requests waiting p started closed l c h =
-    let k = left_lines story requests new_link waiting p started closed l refl c (rising_right 0 started (waiting_ids waiting) (length requests) h.line) h in
-    record { line = k.line; queued = k.queued; entries = k.entries; packs = k.packs; there = k.there }
-
 -- the lines of the others, by the life of the link
-left_lines_in : (story : ℕ → Story) (requests : List Request) (life : Life) (waiting : List Waiting) (p : ℕ) (started : List ℕ) (closed : ℕ → Story) → p < length requests → IsWholeIn life → ((n : ℕ) → Closes (story n) (closed n))
-    → (has_ended life ≡ false → Rising 0 (row_ids (link_in life).row ++ (queue_ids (link_in life).queue ++ waiting_ids waiting)) (length requests)) → TiedLines story requests (link_in life) waiting [] started
-    → TiedLines (with_closed story requests p closed) (at_progress requests p progress.Closed) (link_in (cancelled_in life p)) waiting [] started
-left_lines_in story requests (Ready link) waiting p started closed l whole c r h = left_lines story requests link waiting p started closed l (whole link refl).empty c (r refl) h
-left_lines_in story requests Dialing waiting p started closed l whole c r h = bare_lines story requests waiting p started closed l c h
-left_lines_in story requests (Ended e) waiting p started closed l whole c r h = bare_lines story requests waiting p started closed l c h
+left_lines_in : (table : List (Option Pending)) (story : ℕ → Story) (requests : List Request) (life : Life) (waiting admitted : List Waiting) (p : ℕ) (started : List ℕ) (closed : ℕ → Story) → TiedNames table requests → p < length requests
+    → is_open (story (name_at requests p)) ≡ true → ((n : ℕ) → Closes (story n) (closed n))
+    → (has_ended life ≡ false → Rising 0 (row_ids (link_in life).row ++ (queue_ids (link_in life).queue ++ kept_ids admitted waiting)) (length requests)) → TiedLines story requests (link_in life) waiting admitted [] started
+    → TiedLines (with_closed story requests p closed) (at_progress requests p progress.Closed) (link_in (cancelled_in life p)) waiting admitted [] started
+left_lines_in table story requests life waiting admitted p started closed names l asked c r h = by_life life r h
+  where
+    -- a link without messages stays as it is
+    bare : TiedLines story requests no_link waiting admitted [] started → TiedLines (with_closed story requests p closed) (at_progress requests p progress.Closed) no_link waiting admitted [] started
+    bare h =
+        let k = left_lines table story requests no_link waiting admitted p started closed names l asked c (rising_right 0 started (kept_ids admitted waiting) (length requests) h.line) h in
+        record { line = k.line; queued = k.queued; entries = k.entries; packs = k.packs; packed_in = k.packed_in; there = k.there }
 
--- the link is whole
-left_whole : (life : Life) (p : ℕ) → IsWholeIn life → IsWholeIn (cancelled_in life p)
-left_whole Dialing p h = h
-left_whole (Ended e) p h = h
-left_whole (Ready link) p h = λ x e.
-    let same : cancelled link p ≡ x = cc in
-    let k = h link refl in
-    subst IsWhole same (record { sound = k.sound; empty = without_none link.queue p k.empty; size = k.size; boundary = k.boundary })
+    by_life : (x : Life) → (has_ended x ≡ false → Rising 0 (row_ids (link_in x).row ++ (queue_ids (link_in x).queue ++ kept_ids admitted waiting)) (length requests)) → TiedLines story requests (link_in x) waiting admitted [] started
+        → TiedLines (with_closed story requests p closed) (at_progress requests p progress.Closed) (link_in (cancelled_in x p)) waiting admitted [] started
+    by_life (Ready link) r h = left_lines table story requests link waiting admitted p started closed names l asked c (r refl) h
+    by_life Dialing r h = bare h
+    by_life (Ended e) r h = bare h
+
+-- who was told is none that leaves, and is in the queue still
+left_told : (story : ℕ → Story) (requests : List Request) (life : Life) (p : ℕ) → is_open (story (name_at requests p)) ≡ true → (has_ended life ≡ false → AreQueued story requests (link_in life))
+    → has_ended (cancelled_in life p) ≡ false → AreQueued (with_closed story requests p (λ n. left (story n))) (at_progress requests p progress.Closed) (link_in (cancelled_in life p))
+left_told story requests life p asked h = by_life life h
+  where
+    own : (let n = name_at requests p in IsUntried (left (story n)) → IsUntried (story n))
+    own = let s = story (name_at requests p) in chosen (λ (x : Story). IsUntried x → IsUntried s) (is_open s) (record s { cancelled = true; waiting = None }) s (λ t u. (u.0, u.1)) (λ f u. u)
+
+    other : (q : ℕ) → is_told (story (name_at requests q)) ≡ true → p ≢ q
+    other q is same = not_both (is_told (story (name_at requests q))) (subst (λ n. is_told (story (name_at requests n)) ≡ false) same (open_untold (story (name_at requests p)) asked)) is
+
+    by_life : (x : Life) → (has_ended x ≡ false → AreQueued story requests (link_in x)) → has_ended (cancelled_in x p) ≡ false → AreQueued (with_closed story requests p (λ n. left (story n))) (at_progress requests p progress.Closed) (link_in (cancelled_in x p))
+    by_life (Ready link) g n = told_closed story requests p (λ m. left (story m)) link (cancelled link p) own (λ q is i. without_others link.queue p q (other q is) i) (g refl)
+    by_life Dialing g n = told_closed story requests p (λ m. left (story m)) no_link no_link own (λ q is i. i) (g refl)
+    by_life (Ended e) g n = cc
+
+-- those that are awaited in the queue then are others
+left_others : (requests : List Request) (life : Life) (ys : List ℕ) (p lo : ℕ) → Rising lo (queue_ids (link_in life).queue ++ ys) (length requests) → AreOthers requests p life (cancelled_in life p)
+left_others requests (Ready link) ys p lo r q i =
+    let was = without_was link.queue p q i in
+    let k = rising_in lo (queue_ids link.queue ++ ys) (length requests) q r (in_left q (queue_ids link.queue) ys (awaited_in q link.queue was)) in
+    ((λ same. without_apart link.queue ys p lo (length requests) r (subst (λ n. IsIn n (awaited_ids (without link.queue p))) (sym same) i)), k.1, was)
+left_others requests Dialing ys p lo r q i = absurd i
+left_others requests (Ended e) ys p lo r q i = absurd i
+
+-- the link is fit
+left_fit : (c : MultiplexedConnection) (requests : List Request) (life : Life) (p : ℕ) → c.life ≡ life → IsFitIn c → IsFitIn (record c { requests = requests; life = cancelled_in life p })
+left_fit c requests Dialing p is h = record { link = λ x e. cc; none = λ n. h.none (λ x e. (let no : Dialing ≡ Ready x = sym is ∙ e in cc)) }
+left_fit c requests (Ended y) p is h = record { link = λ x e. cc; none = λ n. h.none (λ x e. (let no : Ended y ≡ Ready x = sym is ∙ e in cc)) }
+left_fit c requests (Ready link) p is h = record {
+  link = λ x e.
+      let same : cancelled link p ≡ x = cc in
+      let k = h.link link is in
+      let few = without_length link.queue p in
+      subst (IsFit c.size c.boundary) same (record { sound = k.sound; size_is = k.size_is; bound_is = k.bound_is; within = omega (arith, k.within, few) });
+  none = λ n. absurd (n (cancelled link p) refl);
+}
 
 -- the turn
 --
 -- an open one has gone
-gone_tied : (b : Book) (c : Core) (started : List ℕ) (word p n : ℕ) → Tied b (inner c started) → is_bad c (event.Cancel n) ≡ false → IsWholeIn c.single.connection.life → p < length c.single.connection.requests → name_at c.single.connection.requests p ≡ n
+gone_tied : (b : Book) (c : Core) (started : List ℕ) (word p n : ℕ) → Tied b (inner c started) → is_bad c (event.Cancel n) ≡ false → is_open_at c.single.connection.requests p ≡ true → name_at c.single.connection.requests p ≡ n
     → Tied (entered b (turn_of c word (event.Cancel n))) (seen (turned c (event.Cancel n)) (record c.single.connection { requests = at_progress c.single.connection.requests p progress.Closed; life = cancelled_in c.single.connection.life p }) [] started)
-gone_tied b c started word p n h good whole l named =
+gone_tied b c started word p n h good o named =
     let conn = c.single.connection in
+    let l = open_within conn.requests p o in
+    let asked = (request_story b (inner c started) p h l).open_is ∙ o in
+    let line = rising_right 0 started (queue_ids (link_in conn.life).queue ++ kept_ids conn.admitted conn.waiting) (length conn.requests) h.lines.line in
     let closed : ℕ → Story = λ m. left (b.story m) in
     let k : (m : ℕ) → Closes (b.story m) (closed m) = λ m. leave_closes (b.story m) in
     let ledger = b.link c.single.link in
     subst (λ m. Tied (entered b (turn_of c word (event.Cancel m))) (seen (turned c (event.Cancel m)) (record conn { requests = at_progress conn.requests p progress.Closed; life = cancelled_in conn.life p }) [] started)) named
     (record {
-      numbers = record { turns = ap (λ m. m + 1) h.numbers.turns; links = h.numbers.links; timers = h.numbers.timers; aims = h.numbers.aims; timed = λ config other opens bounded none. no_opening _ config other opens; submissions = (let e = h.numbers.submissions in omega arith); shut = ap (λ s. s || false) h.numbers.shut; one = h.numbers.one; only = h.numbers.only };
+      numbers = record { turns = ap (λ m. m + 1) h.numbers.turns; links = h.numbers.links; timers = h.numbers.timers; aims = h.numbers.aims; timed = λ config other opens bounded none. no_opening _ config other opens; submissions = (let e = h.numbers.submissions in omega arith); shut = ap (λ s. s || false) h.numbers.shut; settings = record { size_is = h.numbers.settings.size_is; bound_is = h.numbers.settings.bound_is; some = h.numbers.settings.some }; one = h.numbers.one; only = h.numbers.only };
       others = λ m other. let u = h.others m other in record { asked = u.asked; up = u.up; end = u.end; starts = u.starts };
       life = left_life ledger b.created conn.life p h.life;
       link = λ alive. left_link (owner_of (at_progress conn.requests p progress.Closed)) ledger conn.life p (λ up. subst (λ name. TiedLink name ledger (link_in conn.life)) (sym (owners_still conn.requests p progress.Closed)) (h.link up)) alive;
       names = names_progressed c.table conn.requests p progress.Closed h.names;
       story = λ m. story_closed b.story c.table conn.requests c.single.link p closed m h.names l (k m) (h.story m);
       tries = tries_closed (record ledger { heard = silence }) b.story conn.requests c.single.link p closed started k (record { owners = h.tries.owners; shapes = h.tries.shapes; tried = h.tries.tried; untried = h.tries.untried });
-      lines = left_lines_in b.story conn.requests conn.life conn.waiting p started closed l whole k (λ up. row_in_line b (inner c started) h up) h.lines;
-      waits = waits_closed c.table b.story conn.requests p closed conn.life (cancelled_in conn.life p) conn.fresh h.names l k (still_dials conn.life p) h.waits;
+      lines = left_lines_in c.table b.story conn.requests conn.life conn.waiting conn.admitted p started closed h.names l asked k (λ up. row_in_line b (inner c started) h up) h.lines;
+      told = left_told b.story conn.requests conn.life p asked h.told;
+      waits = waits_closed c.table b.story conn.requests p closed conn.life (cancelled_in conn.life p) conn.fresh conn.moved h.names l k (still_dials conn.life p) (left_others conn.requests conn.life (kept_ids conn.admitted conn.waiting) p 0 line) h.waits;
     })
 
 -- one that isn't open leaves nothing
@@ -196,7 +319,7 @@ unmoved_tied b c started word n h f =
     let stories : b.story ≡ (λ m. if_own (n == m) (left (b.story m)) (b.story m)) = λ i m. sym (stays_left b n f m) i in
     subst (λ (story : ℕ → Story). Tied (record (entered b (turn_of c word (event.Cancel n))) { story = story }) t) stories
     (record {
-      numbers = record { turns = ap (λ m. m + 1) h.numbers.turns; links = h.numbers.links; timers = h.numbers.timers; aims = h.numbers.aims; timed = λ config other opens bounded none. no_opening _ config other opens; submissions = (let e = h.numbers.submissions in omega arith); shut = ap (λ s. s || false) h.numbers.shut; one = h.numbers.one; only = h.numbers.only };
+      numbers = record { turns = ap (λ m. m + 1) h.numbers.turns; links = h.numbers.links; timers = h.numbers.timers; aims = h.numbers.aims; timed = λ config other opens bounded none. no_opening _ config other opens; submissions = (let e = h.numbers.submissions in omega arith); shut = ap (λ s. s || false) h.numbers.shut; settings = record { size_is = h.numbers.settings.size_is; bound_is = h.numbers.settings.bound_is; some = h.numbers.settings.some }; one = h.numbers.one; only = h.numbers.only };
       others = λ m other. let u = h.others m other in record { asked = u.asked; up = u.up; end = u.end; starts = u.starts };
       life = told_life ledger b.created conn.life silence h.life;
       link = λ alive. told_tied (owner_of conn.requests) ledger (link_in conn.life) ledger.asked ledger.up silence (h.link alive);
@@ -204,6 +327,7 @@ unmoved_tied b c started word n h f =
       story = h.story;
       tries = record { owners = h.tries.owners; shapes = h.tries.shapes; tried = h.tries.tried; untried = h.tries.untried };
       lines = h.lines;
+      told = h.told;
       waits = h.waits;
     })
 
@@ -215,7 +339,7 @@ cancel_applied before c started word n h good = by_entry (slice_get c.table n) r
     b = book before
 
     still : is_open (b.story n) ≡ false → HasApplied (before ++ turn_of c word (event.Cancel n) ∷ []) (with_work (record { core = turned c (event.Cancel n); acts = [] }) (record { conn = c.single.connection; acts = [] })) started
-    still f = silent_applied before c started word (event.Cancel n) (turned c (event.Cancel n)) c.single.connection h good (λ m. silent_no_end (b.link m) c.turns) (λ z. absurd (omega arith)) h.whole (unmoved_tied b c started word n h.sound.tied f)
+    still f = silent_applied before c started word (event.Cancel n) (turned c (event.Cancel n)) c.single.connection h good (λ m. silent_no_end (b.link m) c.turns) (λ z. absurd (omega arith)) h.moved h.fit (unmoved_tied b c started word n h.sound.tied f)
 
     by_entry : (x : Option (Option Pending)) → slice_get c.table n ≡ x → TiedStory (b.story n) c.single.connection.requests c.single.link x → HasApplied (before ++ turn_of c word (event.Cancel n) ∷ []) (left_by (heard (counted c) (event.Cancel n)) x) started
     by_entry None e s = still (ap is_open s)
@@ -227,6 +351,6 @@ cancel_applied before c started word n h good = by_entry (slice_get c.table n) r
         chosen (λ (x : MultiplexedConnection). HasApplied (before ++ turn_of c word (event.Cancel n) ∷ []) (with_work (record { core = turned c (event.Cancel n); acts = [] }) (record { conn = x; acts = [] })) started)
         (is_open_at conn.requests p.number) (record conn { requests = at_progress conn.requests p.number progress.Closed; life = cancelled_in conn.life p.number }) conn
         (λ t. silent_applied before c started word (event.Cancel n) (turned c (event.Cancel n)) (record conn { requests = at_progress conn.requests p.number progress.Closed; life = cancelled_in conn.life p.number }) h good
-        (λ m. silent_no_end (b.link m) c.turns) (λ z. absurd (omega arith)) (left_whole conn.life p.number h.whole)
-        (gone_tied b c started word p.number n h.sound.tied good h.whole (open_within conn.requests p.number t) named))
+        (λ m. silent_no_end (b.link m) c.turns) (λ z. absurd (omega arith)) h.moved (left_fit conn (at_progress conn.requests p.number progress.Closed) conn.life p.number refl h.fit)
+        (gone_tied b c started word p.number n h.sound.tied good t named))
         (λ f. still (s.open_is ∙ f))

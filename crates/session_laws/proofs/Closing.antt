@@ -1,23 +1,26 @@
 -- A request is closed, and with it its submission, by an outcome or by the leave of its caller.
-use Rattle.std.proofs.Common.{◌≡◌, ◌≢◌, inl, inr, ℕ, ◌<◌, ◌==◌, Bool, false, List, [], ◌∷◌, length, Option, Some, None, slice_get, refl, sym, ap, ◌∙◌, subst}
+use Rattle.std.proofs.Common.{◌≡◌, ◌≢◌, inl, inr, ℕ, ◌<◌, ◌==◌, Bool, false, true, List, [], ◌∷◌, length, Option, Some, None, slice_get, refl, sym, ap, ◌∙◌, subst}
 use Rattle.std.specs.List.{AllByRecursion}
 use Rattle.containers.proofs.Choices.{chosen, left_if, eq_from, ne_from, ne_test}
 use Rattle.containers.proofs.Places.{get_within}
 use Rattle.driver_model.specs.declared.outcome.Shape.{Shape}
 use Rattle.link_core.specs.declared.message.Queued.{Queued}
+use Rattle.link_core.specs.Link.{LinkState}
+use Rattle.link_laws.specs.Settles.{awaited_ids}
 use Rattle.mux_conn.specs.declared.life.Life.{Life}
 use Rattle.mux_conn.specs.declared.life.Life.TheVariants.{Dialing}
 use Rattle.mux_conn.specs.declared.request.Pending.{Pending}
 use Rattle.mux_conn.specs.declared.request.Progress.TheVariants as progress
 use Rattle.mux_conn.specs.declared.request.Request.{Request}
 use Rattle.mux_conn.specs.declared.request.Waiting.{Waiting}
-use Rattle.mux_conn.specs.Requests.{is_open as is_open_progress, is_waiting, name_at, at_progress}
+use Rattle.mux_conn.specs.declared.request.Progress.{Progress}
+use Rattle.mux_conn.specs.Requests.{is_open as is_open_progress, is_waiting, is_admitted, is_placed, name_at, at_progress}
 use Rattle.legal_trace.specs.Ledger.{Ledger}
-use Rattle.legal_trace.specs.Story.{Story, is_open, shape, packed_in, shape_in, awaited_in}
+use Rattle.legal_trace.specs.Story.{Story, is_open, is_told, shape, packed_in, shape_in, awaited_in}
 use Rattle.legal_trace.specs.Book.{if_own}
-use Rattle.session_laws.proofs.Numbers.{IsIn}
-use Rattle.session_laws.proofs.Tied.{owners_each, queue_ids, IsRefused, IsRequest, TiedStory, TiedTries, TiedNames, IsOf, IsQueued, IsPacked, IsNew, TiedWaits}
-use Rattle.session_laws.proofs.Names.{name_placed, same_name, name_of_some, name_still, owners_still, name_was, there_within, there_same, there_other, there_then}
+use Rattle.session_laws.proofs.Numbers.{IsIn, Rising}
+use Rattle.session_laws.proofs.Tied.{link_in, owners_each, queue_ids, IsRefused, IsRequest, TiedStory, TiedTries, TiedNames, IsOf, IsQueued, IsPacked, IsKept, AreQueued, shown_wait, IsNew, TiedWaits}
+use Rattle.session_laws.proofs.Names.{name_placed, same_name, name_of_some, name_still, owners_still, length_still, name_was, there_within, there_same, there_other, there_then}
 
 -- a story that closes: what was handed in and tried stays
 pub record Closes (s c : Story) : Type 0 where
@@ -134,11 +137,11 @@ packs_closed story requests p closed [] c all = tt
 packs_closed story requests p closed (w ∷ ws) c all = (of_closed story requests p w.number closed w.packed w.shape w.awaited c all.0, packs_closed story requests p closed ws c all.1)
 
 -- another message of the queue
-queued_other : (table : List (Option Pending)) (story : ℕ → Story) (requests : List Request) (p : ℕ) (closed : ℕ → Story) (q : Queued) → TiedNames table requests → p < length requests → q.id < length requests → p ≢ q.id
+pub queued_other : (table : List (Option Pending)) (story : ℕ → Story) (requests : List Request) (p : ℕ) (closed : ℕ → Story) (q : Queued) → TiedNames table requests → p < length requests → q.id < length requests → p ≢ q.id
     → ((n : ℕ) → Closes (story n) (closed n)) → IsQueued story requests q → IsQueued (with_closed story requests p closed) (at_progress requests p progress.Closed) q
 queued_other table story requests p closed q names l m other c h = record {
   is_of = of_closed story requests p q.id closed q.packed q.shape q.awaited c h.is_of;
-  open_at = λ t. there_other is_open_progress requests p q.id progress.Closed other ∙ h.open_at t;
+  placed_at = λ t. there_other is_placed requests p q.id progress.Closed other ∙ h.placed_at t;
   told = λ f.
       let apart : name_at requests p ≢ name_at requests q.id = λ same. other (same_name table requests p q.id names l m same) in
       ap (λ n. (with_closed story requests p closed n).outcomes) (name_still requests p progress.Closed q.id) ∙ ap (λ (s : Story). s.outcomes) (closed_other story requests p closed (name_at requests q.id) apart) ∙ h.told f;
@@ -166,16 +169,70 @@ still_new story requests p closed (q ∷ []) c h =
     ∙ chosen (λ (s : Story). s.waiting ≡ None) (name_at requests p == n) (closed n) (story n) (λ t. (c n).quiet h) (λ f. h)
 still_new story requests p closed (q ∷ r ∷ qs) c h = h
 
+-- the wait that was shown of another request stays
+pub shown_closed : (table : List (Option Pending)) (story : ℕ → Story) (requests : List Request) (p q : ℕ) (closed : ℕ → Story) → TiedNames table requests → p < length requests → q < length requests → p ≢ q
+    → shown_wait (with_closed story requests p closed) (at_progress requests p progress.Closed) q ≡ shown_wait story requests q
+shown_closed table story requests p q closed names l m other =
+    ap (λ n. (with_closed story requests p closed n).waiting) (name_still requests p progress.Closed q)
+    ∙ ap (λ (s : Story). s.waiting) (closed_other story requests p closed (name_at requests q) (λ same. other (same_name table requests p q names l m same)))
+
+-- the messages whose verdict is wanted then are others, and it was wanted before
+abbrev pub AreOthers : List Request → ℕ → Life → Life → Type 0
+AreOthers requests p life after = (q : ℕ) → IsIn q (awaited_ids (link_in after).queue) → (p ≢ q) × (q < length requests) × IsIn q (awaited_ids (link_in life).queue)
+
 -- the waits of the others stay
-pub waits_closed : (table : List (Option Pending)) (story : ℕ → Story) (requests : List Request) (p : ℕ) (closed : ℕ → Story) (life after : Life) (fresh : List ℕ) → TiedNames table requests → p < length requests
-    → ((n : ℕ) → Closes (story n) (closed n)) → (after ≡ Dialing → life ≡ Dialing) → TiedWaits story requests life fresh → TiedWaits (with_closed story requests p closed) (at_progress requests p progress.Closed) after fresh
-waits_closed table story requests p closed life after fresh names l c dials h = record {
+pub waits_closed : (table : List (Option Pending)) (story : ℕ → Story) (requests : List Request) (p : ℕ) (closed : ℕ → Story) (life after : Life) (fresh moved : List ℕ) → TiedNames table requests → p < length requests
+    → ((n : ℕ) → Closes (story n) (closed n)) → (after ≡ Dialing → life ≡ Dialing) → AreOthers requests p life after → TiedWaits story requests life fresh moved
+    → TiedWaits (with_closed story requests p closed) (at_progress requests p progress.Closed) after fresh moved
+waits_closed table story requests p closed life after fresh moved names l c dials others h = record {
   new = still_new story requests p closed fresh c h.new;
-  shown = λ q w d.
+  early = λ q w.
       let k = there_then is_waiting requests p q progress.Closed refl l w in
-      let apart : name_at requests p ≢ name_at requests q = λ same. k.0 (same_name table requests p q names l (there_within is_waiting requests q k.1) same) in
-      elim (h.shown q k.1 (dials d)) [
-        | inl e ↦ inl e
-        | inr e ↦ inr (ap (λ n. (with_closed story requests p closed n).waiting) (name_still requests p progress.Closed q) ∙ ap (λ (s : Story). s.waiting) (closed_other story requests p closed (name_at requests q) apart) ∙ e)
-      ];
+      let same = shown_closed table story requests p q closed names l (there_within is_waiting requests q k.1) k.0 in
+      elim (h.early q k.1) [ inl e ↦ inl (same ∙ e) | inr e ↦ inr (same ∙ e) ];
+  connect = λ q w d.
+      let k = there_then is_waiting requests p q progress.Closed refl l w in
+      let same = shown_closed table story requests p q closed names l (there_within is_waiting requests q k.1) k.0 in
+      elim (h.connect q k.1 (dials d)) [ inl e ↦ inl e | inr e ↦ inr (same ∙ e) ];
+  place = λ q a.
+      let k = there_then is_admitted requests p q progress.Closed refl l a in
+      let same = shown_closed table story requests p q closed names l (there_within is_admitted requests q k.1) k.0 in
+      elim (h.place q k.1) [ inl i ↦ inl i | inr e ↦ inr (same ∙ e) ];
+  room = λ q i.
+      let k = others q i in
+      let same = shown_closed table story requests p q closed names l k.1 k.0 in
+      elim (h.room q k.2) [ inl j ↦ inl j | inr e ↦ inr (same ∙ e) ];
+  rising = subst (Rising 0 moved) (sym (length_still requests p progress.Closed)) h.rising;
+  no_place = λ q i a e.
+      let k = there_then is_admitted requests p q progress.Closed refl l a in
+      let same = shown_closed table story requests p q closed names l (there_within is_admitted requests q k.1) k.0 in
+      h.no_place q i k.1 (sym same ∙ e);
+  no_room = λ q i r e.
+      let k = others q r in
+      let same = shown_closed table story requests p q closed names l k.1 k.0 in
+      h.no_room q i k.2 (sym same ∙ e);
 }
+
+-- those that have no place
+--
+-- another request is kept still
+pub kept_other : (requests : List Request) (p q : ℕ) (now : Progress) (waiting admitted : List Waiting) → p ≢ q → IsKept requests waiting admitted q → IsKept (at_progress requests p now) waiting admitted q
+kept_other requests p q now waiting admitted other (inl a) = inl (there_other is_admitted requests p q now other ∙ a.0, a.1)
+kept_other requests p q now waiting admitted other (inr w) = inr (there_other is_waiting requests p q now other ∙ w.0, w.1)
+
+-- who was told at its place
+--
+-- a story, and the one that it was, are told and have no message
+abbrev pub IsUntried : Story → Type 0
+IsUntried s = (is_told s ≡ true) × (s.tries ≡ [])
+
+-- who was told and has not started is in the queue still
+pub told_closed : (story : ℕ → Story) (requests : List Request) (p : ℕ) (closed : ℕ → Story) (link after : LinkState) → (let n = name_at requests p in IsUntried (closed n) → IsUntried (story n))
+    → ((q : ℕ) → is_told (story (name_at requests q)) ≡ true → IsIn q (queue_ids link.queue) → IsIn q (queue_ids after.queue)) → AreQueued story requests link
+    → AreQueued (with_closed story requests p closed) (at_progress requests p progress.Closed) after
+told_closed story requests p closed link after own stays h n is none =
+    let was = chosen (λ (s : Story). IsUntried s → IsUntried (story n)) (name_at requests p == n) (closed n) (story n)
+    (λ t. subst (λ m. IsUntried (closed m) → IsUntried (story m)) (eq_from (name_at requests p) n t) own)
+    (λ f u. u) (is, none) in
+    let k = h n was.0 was.1 in
+    (k.0, subst (λ m. k.0 < m) (sym (length_still requests p progress.Closed)) k.1, name_still requests p progress.Closed k.0 ∙ k.2, stays k.0 (subst (λ m. is_told (story m) ≡ true) (sym k.2) was.0) k.3)

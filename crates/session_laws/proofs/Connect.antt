@@ -8,9 +8,10 @@ use Rattle.redis_error.specs.declared.redis_error.RedisError.{RedisError}
 use Rattle.redis_error.specs.declared.redis_error.RedisError.TheVariants as error
 use Rattle.driver_model.specs.declared.action.Action.{Action}
 use Rattle.driver_model.specs.declared.action.Action.TheVariants as action
+use Rattle.driver_model.specs.declared.action.Owner.{Owner}
 use Rattle.driver_model.specs.declared.event.EventKind.{EventKind}
 use Rattle.driver_model.specs.News.{connected, news_of, News, refused, overdue}
-use Rattle.link_core.specs.Link.{LinkState}
+use Rattle.link_core.specs.Link.{LinkState, fresh}
 use Rattle.link_laws.proofs.TiedLink.{TiedLink, connected_tied, told_tied}
 use Rattle.link_laws.specs.Settles.{wanted, awaited_ids}
 use Rattle.mux_conn.specs.declared.life.Life.{Life}
@@ -19,13 +20,16 @@ use Rattle.mux_conn.specs.Effects.{new_link, connected_at, opening_failed, refus
 use Rattle.mux_conn.specs.Connection.{Work, acted, at_life}
 use Rattle.mux_conn.specs.declared.act.LinkAct.TheVariants as act
 use Rattle.mux_conn.specs.declared.connection.MultiplexedConnection.{MultiplexedConnection}
+use Rattle.mux_conn.specs.declared.request.Request.{Request}
+use Rattle.mux_conn.specs.declared.request.Waiting.{Waiting}
 use Rattle.shared_session.specs.declared.core_state.Core.{Core}
 use Rattle.shared_session.specs.Turn.{with_work, is_bad}
 use Rattle.legal_trace.specs.Ledger.{Ledger, Ending, hears, noted, ending, ending_asked, is_over, by_opening, ends, dials, refused_in, failure_in, failure_of, ending_or_shutdown}
 use Rattle.legal_trace.specs.Book.{Book, blank_book, book, entered}
+use Rattle.legal_trace.specs.Story.{Story}
 use Rattle.legal_trace.specs.Legal.{AllStand, NoneEnds, VerdictsAreShown, FailuresAreShown, MayBeCreated, MayFail}
-use Rattle.session_laws.proofs.Tied.{link_in, owner_of, TiedLife, TiedLines, Tied, Sound, has_ended}
-use Rattle.session_laws.proofs.States.{IsWhole, Between, HasApplied}
+use Rattle.session_laws.proofs.Tied.{no_link, link_in, owner_of, TiedLife, TiedLines, AreQueued, TiedWaits, Tied, Sound, has_ended}
+use Rattle.session_laws.proofs.States.{IsFit, Between, HasApplied}
 use Rattle.session_laws.proofs.Entered.{all_stand-append, book_more, sound_more, shown_more}
 use Rattle.session_laws.proofs.Owes.{none_owed}
 use Rattle.session_laws.proofs.Settle.{seen, trace_of_acts, Holds, book_of_more}
@@ -34,7 +38,7 @@ use Rattle.session_laws.proofs.Heard.{heard_by, book_news, lives_as, none_ends, 
 use Rattle.session_laws.proofs.End.{up_tied, plain_begins}
 use Rattle.session_laws.proofs.Answer.{after_end}
 use Rattle.session_laws.proofs.Kept.{mine_noted}
-use Rattle.session_laws.proofs.Close.{may_close, close_tied, waiting_ends, ended_applied}
+use Rattle.session_laws.proofs.Close.{may_close, close_tied, ended_waits, waiting_leaves, waiting_ends, ended_applied}
 
 -- a connect that succeeds
 --
@@ -68,11 +72,44 @@ again before c started word kind link h good k is e =
       subst (λ (x : Life). TiedLife (noted l (hears c.turns connected)) b.created x) (sym e) lived,
       λ alive. connected_tied name l (link_in c.single.connection.life) c.turns (h.sound.tied.link alive),
     ))
-    (connected_no_end l c.turns) h.whole
+    (connected_no_end l c.turns) h.fit
 
 -- a new link
-new_is_whole : (link : LinkState) → Ready new_link ≡ Ready link → IsWhole link
-new_is_whole link e = let same : new_link ≡ link = cc in subst IsWhole same (record { sound = refl; empty = refl; size = refl; boundary = refl })
+--
+-- it is fit
+new_is_fit : (c : MultiplexedConnection) (link : LinkState) → Ready (new_link c) ≡ Ready link → IsFit c.size c.boundary link
+new_is_fit c link e = let same : new_link c ≡ link = cc in subst (IsFit c.size c.boundary) same (record { sound = refl; size_is = refl; bound_is = refl; within = omega arith })
+
+-- what ties a link without messages to its ledger speaks neither of the size of its queue nor of its boundary
+resized : (name : ℕ → Owner) (l : Ledger) (size bound other another : ℕ) → TiedLink name l (fresh size bound) → TiedLink name l (fresh other another)
+resized name l size bound other another h = record {
+  sent = h.sent;
+  offer = h.offer;
+  bound = h.bound;
+  rest = h.rest;
+  broken = h.broken;
+  started = h.started;
+  within = h.within;
+  bytes = h.bytes;
+  row = h.row;
+}
+
+-- its lines are those of a link without messages
+new_lines : (story : ℕ → Story) (requests : List Request) (size bound : ℕ) (waiting admitted : List Waiting) (started : List ℕ) → TiedLines story requests no_link waiting admitted [] started → TiedLines story requests (fresh size bound) waiting admitted [] started
+new_lines story requests size bound waiting admitted started h = record { line = h.line; queued = h.queued; entries = h.entries; packs = h.packs; packed_in = h.packed_in; there = h.there }
+
+-- and so are its waits
+new_waits : (story : ℕ → Story) (requests : List Request) (life : Life) (size bound : ℕ) (fresh_ones moved : List ℕ) → TiedWaits story requests life fresh_ones moved → TiedWaits story requests (Ready (fresh size bound)) fresh_ones moved
+new_waits story requests life size bound fresh_ones moved h = record {
+  new = h.new;
+  early = h.early;
+  connect = λ p w d. cc;
+  place = h.place;
+  room = λ p i. absurd i;
+  rising = h.rising;
+  no_place = h.no_place;
+  no_room = λ p i r. absurd r;
+}
 
 -- it is up from now on, which is shown
 created : (before : List Action) (c : Core) (started : List ℕ) (word : ℕ) (kind : EventKind) → Between before c started → is_bad c kind ≡ false → IsNewsKind kind → news_of c.timers c.single.link kind ≡ connected → c.single.connection.life ≡ Dialing
@@ -85,16 +122,18 @@ created before c started word kind h good k is e =
     let l = heard_by b c connected in
     let now = heard_book b c.turns word kind in
     let front = before ++ turn_of c word kind ∷ [] in
-    let t = seen (turned c kind) (lives_as c (Ready new_link)) [] started in
+    let link = new_link conn in
+    let t = seen (turned c kind) (lives_as c (Ready link)) [] started in
     let lived = subst (λ (x : Life). TiedLife l0 b.created x) e h0.life in
     let up_is : l ≡ record l0 { up = true; heard = connected } = connects l0 c.turns (ap is_some lived.2) in
     let heard_is_connected : noted l0 (hears c.turns (news_of b.timers c.single.link kind)) ≡ l = ap (heard_by b c) (book_news b c kind connected h0.numbers.timers is) in
     let alive : has_ended conn.life ≡ false = ap has_ended e in
-    let tied : Tied (entered now (action.Created None)) t = heard_tied b c started word (b.created + 1) kind (Ready new_link) [] l h0 good heard_is_connected (heard_starts l0 c.turns connected)
-    (subst (λ (x : Ledger). TiedLife x (b.created + 1) (Ready new_link)) (sym up_is) (lived.0, refl, lived.2, λ z. absurd (omega arith)))
-    (λ n. subst (λ (x : Life). TiedLink (owner_of conn.requests) l (link_in x)) e (connected_tied (owner_of conn.requests) l0 (link_in conn.life) c.turns (h0.link alive)))
-    (subst (λ (x : Life). TiedLines b.story conn.requests (link_in x) conn.waiting [] started) e h0.lines)
-    (record { new = h0.waits.new; shown = λ p w d. cc }) in
+    let tied : Tied (entered now (action.Created None)) t = heard_tied b c started word (b.created + 1) kind (Ready link) [] l h0 good heard_is_connected (heard_starts l0 c.turns connected)
+    (subst (λ (x : Ledger). TiedLife x (b.created + 1) (Ready link)) (sym up_is) (lived.0, refl, lived.2, λ z. absurd (omega arith)))
+    (λ n. resized (owner_of conn.requests) l 0 0 conn.size conn.boundary (subst (λ (x : Life). TiedLink (owner_of conn.requests) l (link_in x)) e (connected_tied (owner_of conn.requests) l0 (link_in conn.life) c.turns (h0.link alive))))
+    (new_lines b.story conn.requests conn.size conn.boundary conn.waiting conn.admitted started (subst (λ (x : Life). TiedLines b.story conn.requests (link_in x) conn.waiting conn.admitted [] started) e h0.lines))
+    (λ n. subst (λ (x : Life). AreQueued b.story conn.requests (link_in x)) e (h0.told alive))
+    (new_waits b.story conn.requests conn.life conn.size conn.boundary conn.fresh conn.moved h0.waits) in
     let own_ledger : now.link c.single.link ≡ l = heard_is_connected in
     let no_end = none_ends (entered now (action.Created None)) t tied (ap ending own_ledger ∙ connected_no_end l0 c.turns) in
     let may : MayBeCreated now = record {
@@ -110,7 +149,8 @@ created before c started word kind h good k is e =
       sound = sound_more front (action.Created None) t all (subst MayBeCreated (sym book_is) may) (subst (λ (x : Book). Tied (entered x (action.Created None)) t) (sym book_is) tied);
       ended = subst NoneEnds (sym (book_more front (action.Created None) ∙ ap (λ (x : Book). entered x (action.Created None)) book_is)) no_end;
       began = λ z. absurd (omega arith);
-      whole = new_is_whole;
+      moved = h.moved;
+      fit = record { link = new_is_fit conn; none = λ none. absurd (none link refl) };
     }
 
 -- the connect is answered, once or again
@@ -156,10 +196,11 @@ failing_shown before f w e started h =
     (sound_more trace (action.Created (Some e)) t h.stands (failing_may trace f w.conn e started h) h.tied)
 
 -- and then those that wait are answered
-failing_applied : (before : List Action) (f : Core) (w : Work) (e : RedisError) (started : List ℕ) → f.turns ≢ 0 → IsFailing (trace_of_acts before f w.acts) f w.conn e started
+failing_applied : (before : List Action) (f : Core) (w : Work) (e : RedisError) (started : List ℕ) → f.turns ≢ 0 → w.conn.moved ≡ [] → IsFailing (trace_of_acts before f w.acts) f w.conn e started
     → HasApplied before (with_work (record { core = f; acts = [] }) (opening_failed w e)) started
-failing_applied before f w e started began h =
-    ended_applied before f (opening_failed w e) e started began (waiting_ends before f (acted (at_life w (Ended e)) (act.Created (Some e))) e started (failing_shown before f w e started h) refl)
+failing_applied before f w e started began none_moved h =
+    let v = acted (at_life w (Ended e)) (act.Created (Some e)) in
+    ended_applied before f (opening_failed w e) e started began ((waiting_leaves v e).moved ∙ none_moved) (waiting_ends before f v e started (failing_shown before f w e started h) refl)
 
 -- a connect that is refused
 --
@@ -190,8 +231,9 @@ refused_fails before c started word kind f h good k is e =
     let tied : Tied (entered now (action.Created (Some (error.Io f)))) t = heard_tied b c started word (b.created + 1) kind life [] l h0 good own_ledger (heard_starts l0 c.turns (refused f))
     (subst (λ (x : Ledger). TiedLife x (b.created + 1) life) (sym over) (lived.1, refl, λ x fails z. absurd (omega arith)))
     (λ n. cc)
-    (subst (λ (x : Life). TiedLines b.story conn.requests (link_in x) conn.waiting [] started) e h0.lines)
-    (record { new = h0.waits.new; shown = λ p w d. cc }) in
+    (subst (λ (x : Life). TiedLines b.story conn.requests (link_in x) conn.waiting conn.admitted [] started) e h0.lines)
+    (λ n. cc)
+    (ended_waits b.story conn.requests conn.life (error.Io f) conn.fresh conn.moved h0.waits) in
     let book_is : book front ≡ now = book_more before (turn_of c word kind) ∙ heard_is b c.turns word kind k in
     record {
       stands = all_stand-append before (turn_of c word kind ∷ []) h.sound.stands (may_turn before c started word kind h good, tt);
@@ -247,7 +289,7 @@ late_quiet before c started word kind n link late h good k is e =
       subst (λ (x : Ledger). TiedLife x b.created life) (sym stays) (subst (λ (x : Life). TiedLife (record l { heard = n }) b.created x) (sym e) (u.asked, u.up, u.alive, u.shown)),
       λ alive. subst (λ (x : Ledger). TiedLink name x (link_in life)) (sym stays) (told_tied name l (link_in life) l.asked l.up n (h.sound.tied.link alive)),
     ))
-    (ap ending stays ∙ late_ends l n late u.up) h.whole
+    (ap ending stays ∙ late_ends l n late u.up) h.fit
 
 -- the first answer to the connect is that it failed, or it was answered before
 pub refused_applied : (before : List Action) (c : Core) (started : List ℕ) (word : ℕ) (kind : EventKind) (f : FaultKind) → Between before c started → is_bad c kind ≡ false → IsNewsKind kind → news_of c.timers c.single.link kind ≡ refused f
@@ -258,7 +300,7 @@ refused_applied before c started word kind f h good k is = by_life c.single.conn
     by_life Dialing e =
         let front = before ++ turn_of c word kind ∷ [] in
         let w : Work = record { conn = c.single.connection; acts = [] } in
-        failing_applied front (turned c kind) w (error.Io f) started (λ z. absurd (omega arith))
+        failing_applied front (turned c kind) w (error.Io f) started (λ z. absurd (omega arith)) h.moved
         (subst (λ (x : List Action). IsFailing x (turned c kind) c.single.connection (error.Io f) started) (sym (append-nil front)) (refused_fails before c started word kind f h good k is e))
     by_life (Ready link) e = late_quiet before c started word kind (refused f) link tt h good k is e
     by_life (Ended x) e = ended_quiet before c started word kind (refused f) x h good k is e
@@ -304,7 +346,7 @@ overdue_applied before c started word kind h good k is = by_life c.single.connec
   where
     by_life : (x : Life) → c.single.connection.life ≡ x → HasApplied (before ++ turn_of c word kind ∷ []) (with_work (record { core = turned c kind; acts = [] }) (overdue_at (record { conn = c.single.connection; acts = [] }) x)) started
     by_life Dialing e =
-        failing_applied (before ++ turn_of c word kind ∷ []) (turned c kind) (record { conn = c.single.connection; acts = act.Close ∷ [] }) (error.Io kinds.TimedOut) started (λ z. absurd (omega arith))
+        failing_applied (before ++ turn_of c word kind ∷ []) (turned c kind) (record { conn = c.single.connection; acts = act.Close ∷ [] }) (error.Io kinds.TimedOut) started (λ z. absurd (omega arith)) h.moved
         (overdue_fails before c started word kind h good k is e)
     by_life (Ready link) e = late_quiet before c started word kind overdue link tt h good k is e
     by_life (Ended x) e = ended_quiet before c started word kind overdue x h good k is e

@@ -1,16 +1,17 @@
 -- A fault ends the connection's link, or the shutdown does.
-use Rattle.std.proofs.Common.{◌≡◌, ◌≢◌, ℕ, ◌-◌, true, false, List, [], ◌∷◌, ◌++◌, Some, None, refl, sym, ap, ◌∙◌, subst, ◌&&◌, not, is_some, arith}
+use Rattle.std.proofs.Common.{inl, inr, ◌≡◌, ◌≢◌, ℕ, ◌-◌, true, false, List, [], ◌∷◌, ◌++◌, Some, None, refl, sym, ap, ◌∙◌, subst, ◌&&◌, not, is_some, arith}
 use Rattle.std.specs.List.{AllByRecursion}
-use Rattle.containers.proofs.Choices.{taken_if, left_if}
+use Rattle.containers.proofs.Choices.{chosen, taken_if, left_if}
 use Rattle.redis_error.specs.declared.redis_error.RedisError.TheVariants as error
 use Rattle.driver_model.specs.declared.action.Action.{Action}
 use Rattle.driver_model.specs.declared.action.Owner.{Owner}
 use Rattle.driver_model.specs.declared.event.EventKind.{EventKind}
 use Rattle.driver_model.specs.declared.news.LinkFault.{LinkFault}
+use Rattle.driver_model.specs.declared.outcome.Verdict.TheVariants as verdict
 use Rattle.driver_model.specs.News.{News, silence, connected, took, came, failed, shut, news_of, refused, overdue}
 use Rattle.link_core.specs.declared.message.Queued.{Queued}
 use Rattle.link_core.specs.declared.message.Settled.{Settled}
-use Rattle.link_core.specs.Ends.{row_closed, row_hit, queue_closed}
+use Rattle.link_core.specs.Ends.{failed_by, row_closed, row_hit, queue_closed}
 use Rattle.link_core.specs.Link.{LinkState}
 use Rattle.link_laws.specs.Settles.{settled_ids, wanted, awaited_ids, IsOwed}
 use Rattle.link_laws.proofs.Dealt.{all_append}
@@ -25,20 +26,27 @@ use Rattle.shared_session.specs.declared.core_state.Core.{Core}
 use Rattle.shared_session.specs.Turn.{with_work, is_bad}
 use Rattle.legal_trace.specs.Ledger.{Ledger, by_fault, by_shutdown, ends, noted, ending, is_over}
 use Rattle.legal_trace.specs.Book.{book}
-use Rattle.session_laws.proofs.Tied.{link_in, owner_of, TiedLife, has_ended}
+use Rattle.session_laws.proofs.Numbers.{IsIn}
+use Rattle.session_laws.proofs.Tied.{link_in, owner_of, queue_ids, TiedLife, has_ended}
 use Rattle.session_laws.proofs.States.{Between, HasApplied}
 use Rattle.session_laws.proofs.Settle.{trace_of_acts, Holds}
-use Rattle.session_laws.proofs.Close.{HasEnded, ended_holds, ended_applied}
+use Rattle.session_laws.proofs.Close.{HasEnded, IsClosedOf, SettlesAll, ended_holds, ended_moved, ended_applied}
 use Rattle.session_laws.proofs.Announce.{turn_of, turned, IsNewsKind}
 use Rattle.session_laws.proofs.Heard.{told_life, heard_by, Begins, Leads, heard_begins, leads_on, ended_quiet, dialing_quiet}
 
--- of an empty queue nothing is settled
-none_queued : (P : Settled → Type 0) (queue : List Queued) → queue ≡ [] → AllByRecursion P (queue_closed queue)
-none_queued P queue empty = subst (λ (qs : List Queued). AllByRecursion P (queue_closed qs)) (sym empty) tt
+-- what waits in the queue gets the closed connection
+queue_waits : (ids : List ℕ) (queue : List Queued) → ((n : ℕ) → IsIn n (queue_ids queue) → IsIn n ids) → AllByRecursion (IsClosedOf ids) (queue_closed queue)
+queue_waits ids [] keep = tt
+queue_waits ids (q ∷ qs) keep =
+    all_append (IsClosedOf ids) (failed_by q.awaited q.id error.Closed) (queue_closed qs)
+    (chosen (AllByRecursion (IsClosedOf ids)) q.awaited (record { id = q.id; verdict = verdict.Fault error.Closed } ∷ []) [] (λ t. ((refl, keep q.id (inl refl)), tt)) (λ f. tt))
+    (queue_waits ids qs (λ n i. keep n (inr i)))
 
--- what waits in the queue and is wanted, by the life of the link
-ready_ids : (life : Life) (link : LinkState) (ids : List ℕ) → life ≡ Ready link → ids ≡ wanted link.row ++ awaited_ids link.queue → ids ≡ wanted (link_in life).row ++ awaited_ids (link_in life).queue
-ready_ids life link ids is e = e ∙ ap (λ (x : Life). wanted (link_in x).row ++ awaited_ids (link_in x).queue) (sym is)
+-- what a link settles that ends, by the life of its connection
+settles_ready : (name : ℕ → Owner) (l : Ledger) (life : Life) (link : LinkState) (row : List Settled) → life ≡ Ready link → AllByRecursion (IsOwed name l) row → settled_ids (row ++ queue_closed link.queue) ≡ wanted link.row ++ awaited_ids link.queue
+    → SettlesAll name l (link_in life) row (queue_closed link.queue)
+settles_ready name l life link row is all ids =
+    subst (λ (x : Life). SettlesAll name l (link_in x) row (queue_closed link.queue)) (sym is) (record { started = all; waits = queue_waits (queue_ids link.queue) link.queue (λ n i. i); ids = ids })
 
 -- a link that is up, with its ledger
 pub record IsUp (name : ℕ → Owner) (l : Ledger) (created : ℕ) (link : LinkState) : Type 0 where
@@ -61,39 +69,38 @@ up_tied name l created life link is h tied =
     }
 
 -- the link ends by a fault
-pub fault_ends : (before : List Action) (f : Core) (w : Work) (link : LinkState) (fault : LinkFault) (started : List ℕ) → Holds before f w [] started → w.conn.life ≡ Ready link → link.queue ≡ []
+pub fault_ends : (before : List Action) (f : Core) (w : Work) (link : LinkState) (fault : LinkFault) (started : List ℕ) → Holds before f w [] started → w.conn.life ≡ Ready link
     → ending ((book (trace_of_acts before f w.acts)).link f.single.link) ≡ Some (by_fault fault) → HasEnded before f (ended_by w link fault) error.Closed started
-fault_ends before f w link fault started h is empty must =
+fault_ends before f w link fault started h is must =
     let b = book (trace_of_acts before f w.acts) in
     let l = b.link f.single.link in
     let name = owner_of w.conn.requests in
     let tied = up_tied name l b.created w.conn.life link is h.tied.life h.tied.link in
     let turn = b.turns - 1 in
     let row = row_hit_owed name l link turn fault must tied.alive tied.tied in
-    let out = row_hit fault link.row ++ queue_closed link.queue in
-    let due = all_append (IsOwed name (noted l (ends turn))) (row_hit fault link.row) (queue_closed link.queue) row (none_queued (IsOwed name (noted l (ends turn))) link.queue empty) in
-    ended_holds before f w out (by_fault fault) started h (ap has_ended is) refl refl (must, due) (ready_ids w.conn.life link (settled_ids out) is (hit_ids fault link.row link.queue))
+    ended_holds before f w (row_hit fault link.row) (queue_closed link.queue) (by_fault fault) started h (ap has_ended is) refl refl
+    (must, settles_ready name (noted l (ends turn)) w.conn.life link (row_hit fault link.row) is row (hit_ids fault link.row link.queue))
 
 -- or by the shutdown
-pub shutdown_ends : (before : List Action) (f : Core) (w : Work) (link : LinkState) (started : List ℕ) → Holds before f w [] started → w.conn.life ≡ Ready link → link.queue ≡ []
+pub shutdown_ends : (before : List Action) (f : Core) (w : Work) (link : LinkState) (started : List ℕ) → Holds before f w [] started → w.conn.life ≡ Ready link
     → ending ((book (trace_of_acts before f w.acts)).link f.single.link) ≡ Some by_shutdown → HasEnded before f (shut_at w (Ready link)) error.Closed started
-shutdown_ends before f w link started h is empty must =
+shutdown_ends before f w link started h is must =
     let b = book (trace_of_acts before f w.acts) in
     let l = b.link f.single.link in
     let name = owner_of w.conn.requests in
     let tied = up_tied name l b.created w.conn.life link is h.tied.life h.tied.link in
     let turn = b.turns - 1 in
     let row = row_closed_owed name l link turn must tied.alive tied.tied in
-    let out = row_closed link.row ++ queue_closed link.queue in
-    let due = all_append (IsOwed name (noted l (ends turn))) (row_closed link.row) (queue_closed link.queue) row (none_queued (IsOwed name (noted l (ends turn))) link.queue empty) in
-    ended_holds before f w out by_shutdown started h (ap has_ended is) refl refl (must, due) (ready_ids w.conn.life link (settled_ids out) is (closed_ids link.row link.queue))
+    ended_holds before f w (row_closed link.row) (queue_closed link.queue) by_shutdown started h (ap has_ended is) refl refl
+    (must, settles_ready name (noted l (ends turn)) w.conn.life link (row_closed link.row) is row (closed_ids link.row link.queue))
 
 -- also before its connect is answered
 pub dial_ends : (before : List Action) (f : Core) (w : Work) (started : List ℕ) → Holds before f w [] started → w.conn.life ≡ Dialing → ending ((book (trace_of_acts before f w.acts)).link f.single.link) ≡ Some by_shutdown
     → HasEnded before f (shut_at w Dialing) error.Closed started
 dial_ends before f w started h is must =
-    ended_holds before f w [] by_shutdown started h (ap has_ended is) refl refl (must, tt)
-    (ap (λ (x : Life). wanted (link_in x).row ++ awaited_ids (link_in x).queue) (sym is))
+    let b = book (trace_of_acts before f w.acts) in
+    let settles = λ (x : Life). SettlesAll (owner_of w.conn.requests) (noted (b.link f.single.link) (ends (b.turns - 1))) (link_in x) [] [] in
+    ended_holds before f w [] [] by_shutdown started h (ap has_ended is) refl refl (must, subst settles (sym is) (record { started = tt; waits = tt; ids = refl }))
 
 -- the turns of these events
 --
@@ -141,7 +148,8 @@ failed_applied before c started word kind f h good k is = by_life c.single.conne
         let up = (up_tied (owner_of c.single.connection.requests) l (book before).created c.single.connection.life link e h.sound.tied.life h.sound.tied.link).up in
         let must = ap ending begins.ledger ∙ taken_if l.up (Some (by_fault f)) _ up in
         ended_applied (before ++ turn_of c word kind ∷ []) (turned c kind) (failed_at (record { conn = c.single.connection; acts = [] }) f (Ready link)) error.Closed started (λ z. absurd (omega arith))
-        (fault_ends (before ++ turn_of c word kind ∷ []) (turned c kind) (record { conn = c.single.connection; acts = [] }) link f started begins.holds e (h.whole link e).empty must)
+        (ended_moved (record { conn = c.single.connection; acts = [] }) (row_hit f link.row ++ queue_closed link.queue) ∙ h.moved)
+        (fault_ends (before ++ turn_of c word kind ∷ []) (turned c kind) (record { conn = c.single.connection; acts = [] }) link f started begins.holds e must)
 
 -- everything is shut down
 pub shut_applied : (before : List Action) (c : Core) (started : List ℕ) (word : ℕ) (kind : EventKind) → Between before c started → is_bad c kind ≡ false → IsNewsKind kind → news_of c.timers c.single.link kind ≡ shut
@@ -161,9 +169,11 @@ shut_applied before c started word kind h good k is = by_life c.single.connectio
         let asked : (l.asked && not (is_over l)) ≡ true = (λ i. lived.0 i && not (is_some (lived.2 i))) in
         let must = ap ending begins.ledger ∙ left_if l.up (Some by_shutdown) _ lived.1 ∙ taken_if (l.asked && not (is_over l)) (Some by_shutdown) None asked in
         ended_applied (before ++ turn_of c word kind ∷ []) (turned c kind) (shut_at (record { conn = c.single.connection; acts = [] }) Dialing) error.Closed started (λ z. absurd (omega arith))
+        (ended_moved (record { conn = c.single.connection; acts = [] }) [] ∙ h.moved)
         (dial_ends (before ++ turn_of c word kind ∷ []) (turned c kind) (record { conn = c.single.connection; acts = [] }) started begins.holds e must)
     by_life (Ready link) e =
         let up = (up_tied (owner_of c.single.connection.requests) l (book before).created c.single.connection.life link e h.sound.tied.life h.sound.tied.link).up in
         let must = ap ending begins.ledger ∙ taken_if l.up (Some by_shutdown) _ up in
         ended_applied (before ++ turn_of c word kind ∷ []) (turned c kind) (shut_at (record { conn = c.single.connection; acts = [] }) (Ready link)) error.Closed started (λ z. absurd (omega arith))
-        (shutdown_ends (before ++ turn_of c word kind ∷ []) (turned c kind) (record { conn = c.single.connection; acts = [] }) link started begins.holds e (h.whole link e).empty must)
+        (ended_moved (record { conn = c.single.connection; acts = [] }) (row_closed link.row ++ queue_closed link.queue) ∙ h.moved)
+        (shutdown_ends (before ++ turn_of c word kind ∷ []) (turned c kind) (record { conn = c.single.connection; acts = [] }) link started begins.holds e must)

@@ -1,5 +1,5 @@
 -- One more submission, and perhaps one more request.
-use Rattle.std.proofs.Common.{◌≡◌, ◌≢◌, inl, inr, ℕ, zero, suc, ◌<◌, ◌≤◌, ◌==◌, nat_lt, Bool, List, [], ◌∷◌, ◌++◌, length, Option, Some, None, slice_get, refl, sym, ap, ◌∙◌, subst, arith, length-append}
+use Rattle.std.proofs.Common.{◌≡◌, ◌≢◌, inl, inr, ℕ, zero, suc, ◌<◌, ◌≤◌, ◌==◌, nat_lt, Bool, true, List, [], ◌∷◌, ◌++◌, length, Option, Some, None, slice_get, refl, sym, ap, ◌∙◌, subst, arith, length-append}
 use Rattle.std.specs.List.{AllByRecursion}
 use Rattle.containers.proofs.Places.{get_within}
 use Rattle.containers.proofs.Choices.{by_test, eq_from, ne_from, lt_from, not_lt_from}
@@ -13,11 +13,16 @@ use Rattle.mux_conn.specs.declared.request.Pending.{Pending}
 use Rattle.mux_conn.specs.declared.request.Progress.{Progress}
 use Rattle.mux_conn.specs.declared.request.Request.{Request}
 use Rattle.mux_conn.specs.declared.request.Waiting.{Waiting}
-use Rattle.mux_conn.specs.Requests.{is_open as is_open_progress, if_there, name_or_none, name_at}
+use Rattle.mux_conn.specs.Requests.{is_open as is_open_progress, is_waiting, is_admitted, is_placed, is_waiting_at, is_admitted_at, if_there, name_or_none, name_at}
+use Rattle.mux_conn.specs.declared.life.Life.{Life}
+use Rattle.mux_conn.specs.declared.life.Life.TheVariants.{Dialing}
+use Rattle.link_core.specs.Link.{LinkState}
+use Rattle.link_laws.specs.Settles.{awaited_ids}
 use Rattle.legal_trace.specs.Ledger.{Ledger}
-use Rattle.legal_trace.specs.Story.{Story, shape}
-use Rattle.session_laws.proofs.Numbers.{IsIn}
-use Rattle.session_laws.proofs.Tied.{owner_of, owners_each, queue_ids, waiting_ids, IsRequest, TiedStory, TiedTries, TiedNames, IsOf, IsQueued, IsEntry, IsPacked}
+use Rattle.legal_trace.specs.Story.{Story, is_told, shape}
+use Rattle.session_laws.proofs.Numbers.{IsIn, Rising}
+use Rattle.session_laws.proofs.Tied.{link_in, owner_of, owners_each, queue_ids, waiting_ids, IsRequest, TiedStory, TiedTries, TiedNames, IsOf, IsQueued, IsEntry, IsPacked, AreQueued, shown_wait, IsNew, TiedWaits}
+use Rattle.session_laws.proofs.Closing.{IsUntried}
 use Rattle.session_laws.proofs.Names.{name_within}
 
 -- nothing stands beyond the end
@@ -139,7 +144,7 @@ queue_longer table story after requests more (q ∷ qs) names same longer within
     let e = story_at table story after requests more q.id names same longer l in (
       record {
         is_of = of_longer (story (name_at requests q.id)) (after (name_at more q.id)) q.packed q.shape q.awaited e all.0.is_of;
-        open_at = λ t. there_longer is_open_progress requests more q.id longer l ∙ all.0.open_at t;
+        placed_at = λ t. there_longer is_placed requests more q.id longer l ∙ all.0.placed_at t;
         told = λ f. ap (λ (s : Story). s.outcomes) e ∙ all.0.told f;
       },
       queue_longer table story after requests more qs names same longer (λ p i. within p (inr i)) all.1,
@@ -158,7 +163,7 @@ packs_longer table story after requests more (w ∷ ws) names same longer within
 pub entries_longer : (requests more : List Request) (row : List Entry) → IsLonger requests more → AllByRecursion (IsEntry requests) row → AllByRecursion (IsEntry more) row
 entries_longer requests more [] longer all = tt
 entries_longer requests more (e ∷ es) longer all = (
-  record { below = (let l = all.0.below in let m = longer.long in omega arith); open_at = λ t. there_longer is_open_progress requests more e.id longer all.0.below ∙ all.0.open_at t },
+  record { below = (let l = all.0.below in let m = longer.long in omega arith); placed_at = λ t. there_longer is_placed requests more e.id longer all.0.below ∙ all.0.placed_at t },
   entries_longer requests more es longer all.1,
 )
 
@@ -166,3 +171,59 @@ entries_longer requests more (e ∷ es) longer all = (
 pub owners_of_row : (requests more : List Request) (row : List Entry) → IsLonger requests more → AllByRecursion (IsEntry requests) row → SameNames (owner_of requests) (owner_of more) row
 owners_of_row requests more [] longer all = tt
 owners_of_row requests more (e ∷ es) longer all = (sym (λ i. owner.Try (name_longer requests more e.id longer all.0.below i) 0), owners_of_row requests more es longer all.1)
+
+-- who was told and has not started is in the queue still
+pub told_longer : (table : List (Option Pending)) (story after : ℕ → Story) (requests more : List Request) (link : LinkState) → SameBefore story after (length table) → IsLonger requests more → (IsUntried (after (length table)) → ⊥) → AreQueued story requests link
+    → AreQueued after more link
+told_longer table story after requests more link same longer new h n is none =
+    by_test (n == length table) _
+    (λ t. absurd (new (subst (λ m. IsUntried (after m)) (eq_from n (length table) t) (is, none))))
+    (λ f.
+    let e = same n (ne_from n (length table) f) in
+    let k = h n (ap is_told (sym e) ∙ is) (ap (λ (s : Story). s.tries) (sym e) ∙ none) in
+    (k.0, (let l = k.1 in let m = longer.long in omega arith), name_longer requests more k.0 longer k.1 ∙ k.2, k.3))
+
+-- the waits
+--
+-- numbers that rise below a bound do so below a greater one
+rising_below : (lo hi high : ℕ) (xs : List ℕ) → hi ≤ high → Rising lo xs hi → Rising lo xs high
+rising_below lo hi high [] l h = omega arith
+rising_below lo hi high (x ∷ xs) l h = (h.0, rising_below (suc x) hi high xs l h.1)
+
+-- what was shown of a request's wait stays
+pub shown_longer : (table : List (Option Pending)) (story after : ℕ → Story) (requests more : List Request) (p : ℕ) → TiedNames table requests → SameBefore story after (length table) → IsLonger requests more → p < length requests
+    → shown_wait after more p ≡ shown_wait story requests p
+shown_longer table story after requests more p names same longer l = ap (λ (s : Story). s.waiting) (story_at table story after requests more p names same longer l)
+
+-- a request more waits for the connection, and is the one of this turn; nothing is shown of its wait
+pub record IsNext (after : ℕ → Story) (requests more : List Request) (later : List ℕ) : Type 0 where
+  pub new : IsNew after more later
+  pub shown : (p : ℕ) → is_waiting_at more p ≡ true → length requests ≤ p → (shown_wait after more p ≡ None) × (later ≡ p ∷ [])
+  pub none : (p : ℕ) → is_admitted_at more p ≡ true → length requests ≤ p → ⊥
+
+-- so the waits stay
+pub waits_longer : (table : List (Option Pending)) (story after : ℕ → Story) (requests more : List Request) (life : Life) (fresh later moved : List ℕ) → TiedNames table requests → SameBefore story after (length table) → IsLonger requests more
+    → ((p : ℕ) → IsIn p (awaited_ids (link_in life).queue) → p < length requests) → fresh ≡ [] → IsNext after requests more later → TiedWaits story requests life fresh moved → TiedWaits after more life later moved
+waits_longer table story after requests more life fresh later moved names same longer within no_fresh next h =
+    let still : (p : ℕ) → p < length requests → shown_wait after more p ≡ shown_wait story requests p = λ p l. shown_longer table story after requests more p names same longer l in
+    record {
+      new = next.new;
+      early = λ p w. before_or_new requests more p _
+          (λ old. elim (h.early p (sym (there_longer is_waiting requests more p longer old) ∙ w)) [ inl e ↦ inl (still p old ∙ e) | inr e ↦ inr (still p old ∙ e) ])
+          (λ past. inl (next.shown p w past).0);
+      connect = λ p w d. before_or_new requests more p _
+          (λ old. elim (h.connect p (sym (there_longer is_waiting requests more p longer old) ∙ w) d) [
+            | inl x ↦ absurd (let no : [] ≡ p ∷ [] = sym no_fresh ∙ x in cc)
+            | inr e ↦ inr (still p old ∙ e)
+          ])
+          (λ past. inl (next.shown p w past).1);
+      place = λ p a. before_or_new requests more p _
+          (λ old. elim (h.place p (sym (there_longer is_admitted requests more p longer old) ∙ a)) [ inl i ↦ inl i | inr e ↦ inr (still p old ∙ e) ])
+          (λ past. absurd (next.none p a past));
+      room = λ p i. elim (h.room p i) [ inl j ↦ inl j | inr e ↦ inr (still p (within p i) ∙ e) ];
+      rising = rising_below 0 (length requests) (length more) moved longer.long h.rising;
+      no_place = λ p i a. before_or_new requests more p _
+          (λ old e. h.no_place p i (sym (there_longer is_admitted requests more p longer old) ∙ a) (sym (still p old) ∙ e))
+          (λ past. absurd (next.none p a past));
+      no_room = λ p i r e. h.no_room p i r (sym (still p (within p r)) ∙ e);
+    }

@@ -17,8 +17,8 @@ use Rattle.shared_session.specs.Turn.{with_work, is_bad}
 use Rattle.legal_trace.specs.Ledger.{Ledger, Ending, hears, noted, ending, ending_up, ending_asked, is_over, bytes_came, dials, refused_in}
 use Rattle.legal_trace.specs.Book.{Book, book, entered}
 use Rattle.legal_trace.specs.Legal.{NoneEnds}
-use Rattle.session_laws.proofs.Tied.{Inner, link_in, owner_of, TiedLife, TiedLines, TiedWaits, Tied, has_ended}
-use Rattle.session_laws.proofs.States.{IsWholeIn, Between, HasApplied}
+use Rattle.session_laws.proofs.Tied.{Inner, link_in, owner_of, TiedLife, TiedLines, AreQueued, TiedWaits, Tied, has_ended}
+use Rattle.session_laws.proofs.States.{IsFitIn, Between, HasApplied}
 use Rattle.session_laws.proofs.Answer.{unknown_ends, not_up_ends, over_not_asked, some_end}
 use Rattle.session_laws.proofs.Settle.{seen, trace_of_acts, Holds}
 use Rattle.session_laws.proofs.Announce.{turn_of, turned, IsNewsKind, heard_book, heard_is, heard_starts, heard_tied, announced_sound, holds_first, first_book}
@@ -46,8 +46,9 @@ pub record Begins (before : List Action) (f : Core) (conn : MultiplexedConnectio
 pub record Leads (b : Book) (c : Core) (n : News) (life : Life) (pending started : List ℕ) : Type 0 where
   pub lived : TiedLife (heard_by b c n) b.created life
   pub linked : has_ended life ≡ false → TiedLink (owner_of c.single.connection.requests) (heard_by b c n) (link_in life)
-  pub lines : TiedLines b.story c.single.connection.requests (link_in life) c.single.connection.waiting pending started
-  pub waits : TiedWaits b.story c.single.connection.requests life c.single.connection.fresh
+  pub lines : TiedLines b.story c.single.connection.requests (link_in life) c.single.connection.waiting c.single.connection.admitted pending started
+  pub told : has_ended life ≡ false → AreQueued b.story c.single.connection.requests (link_in life)
+  pub waits : TiedWaits b.story c.single.connection.requests life c.single.connection.fresh c.single.connection.moved
 
 -- the news by the timers of the book
 pub book_news : (b : Book) (c : Core) (kind : EventKind) (n : News) → b.timers ≡ c.timers → news_of c.timers c.single.link kind ≡ n → news_of b.timers c.single.link kind ≡ n
@@ -61,7 +62,7 @@ heard_begins before c started word kind n life pending h good k is g =
     let l = heard_by b c n in
     let t = seen (turned c kind) (lives_as c life) pending started in
     let same : noted (b.link c.single.link) (hears c.turns (news_of b.timers c.single.link kind)) ≡ l = ap (λ (x : News). heard_by b c x) (book_news b c kind n h.sound.tied.numbers.timers is) in
-    let tied : Tied (heard_book b c.turns word kind) t = heard_tied b c started word b.created kind life pending l h.sound.tied good same (heard_starts (b.link c.single.link) c.turns n) g.lived g.linked g.lines g.waits in
+    let tied : Tied (heard_book b c.turns word kind) t = heard_tied b c started word b.created kind life pending l h.sound.tied good same (heard_starts (b.link c.single.link) c.turns n) g.lived g.linked g.lines g.told g.waits in
     let book_is : entered b (turn_of c word kind) ≡ heard_book b c.turns word kind = heard_is b c.turns word kind k in
     record {
       holds = holds_first (before ++ turn_of c word kind ∷ []) (turned c kind) (lives_as c life) pending started (announced_sound before c started word kind t h good (subst (λ (x : Book). Tied x t) (sym book_is) tied));
@@ -70,22 +71,23 @@ heard_begins before c started word kind n life pending h good k is g =
 
 -- where the link need not end then, and no act follows, the event has had its effect
 pub quiet_applied : (before : List Action) (c : Core) (started : List ℕ) (word : ℕ) (kind : EventKind) (n : News) (life : Life) → Between before c started → is_bad c kind ≡ false → IsNewsKind kind → news_of c.timers c.single.link kind ≡ n
-    → Leads (book before) c n life [] started → ending (heard_by (book before) c n) ≡ None → IsWholeIn life
+    → Leads (book before) c n life [] started → ending (heard_by (book before) c n) ≡ None → IsFitIn (lives_as c life)
     → HasApplied (before ++ turn_of c word kind ∷ []) (with_work (record { core = turned c kind; acts = [] }) (record { conn = lives_as c life; acts = [] })) started
-quiet_applied before c started word kind n life h good k is g no_end whole =
+quiet_applied before c started word kind n life h good k is g no_end fit =
     let s = heard_begins before c started word kind n life [] h good k is g in
     record {
       sound = s.holds;
       ended = none_ends (book (trace_of_acts (before ++ turn_of c word kind ∷ []) (turned c kind) [])) (seen (turned c kind) (lives_as c life) [] started) s.holds.tied (ap ending s.ledger ∙ no_end);
       began = λ e. omega arith;
-      whole = whole;
+      moved = h.moved;
+      fit = fit;
     }
 
 -- what is alike of any life
 pub leads_on : (before : List Action) (c : Core) (started : List ℕ) (n : News) → Between before c started → (let l = heard_by (book before) c n in let life = c.single.connection.life in
     TiedLife l (book before).created life × (has_ended life ≡ false → TiedLink (owner_of c.single.connection.requests) l (link_in life)))
     → Leads (book before) c n c.single.connection.life [] started
-leads_on before c started n h g = record { lived = g.0; linked = g.1; lines = h.sound.tied.lines; waits = h.sound.tied.waits }
+leads_on before c started n h g = record { lived = g.0; linked = g.1; lines = h.sound.tied.lines; told = h.sound.tied.told; waits = h.sound.tied.waits }
 
 -- a link that has ended hears nothing
 --
@@ -126,7 +128,7 @@ ended_quiet before c started word kind n error h good k is over =
       subst (λ (x : Life). TiedLife (noted l (hears c.turns n)) b.created x) (sym over) after,
       λ alive. absurd (not_both (has_ended c.single.connection.life) alive (ap has_ended over)),
     ))
-    (over_no_end (noted l (hears c.turns n)) b.created error after) h.whole
+    (over_no_end (noted l (hears c.turns n)) b.created error after) h.fit
 
 -- a link whose connect isn't answered hears but of that, of the end of its time, and of the shutdown
 --
@@ -182,7 +184,7 @@ dialing_quiet before c started word kind n o h good k is dialing =
       subst (λ (x : Life). TiedLife (noted l (hears c.turns n)) b.created x) (sym dialing) (dialing_hears l b.created c.turns n o life),
       λ alive. unheard_tied (owner_of c.single.connection.requests) l (link_in c.single.connection.life) c.turns n life.1 (h.sound.tied.link alive),
     ))
-    (dialing_no_end l b.created c.turns n o life) h.whole
+    (dialing_no_end l b.created c.turns n o life) h.fit
 
 -- what the news are is of no account for how far a link has come
 pub told_life : (l : Ledger) (created : ℕ) (life : Life) (n : News) → TiedLife l created life → TiedLife (record l { heard = n }) created life
@@ -199,13 +201,14 @@ silent_no_end l turn =
 
 -- a turn in which nothing is heard, and no act follows
 pub silent_applied : (before : List Action) (c : Core) (started : List ℕ) (word : ℕ) (kind : EventKind) (f : Core) (conn : MultiplexedConnection) → Between before c started → is_bad c kind ≡ false → ((m : ℕ) → ending ((entered (book before) (turn_of c word kind)).link m) ≡ None)
-    → f.turns ≢ 0 → IsWholeIn conn.life → Tied (entered (book before) (turn_of c word kind)) (seen f conn [] started)
+    → f.turns ≢ 0 → conn.moved ≡ [] → IsFitIn conn → Tied (entered (book before) (turn_of c word kind)) (seen f conn [] started)
     → HasApplied (before ++ turn_of c word kind ∷ []) (with_work (record { core = f; acts = [] }) (record { conn = conn; acts = [] })) started
-silent_applied before c started word kind f conn h good no_end began whole tied =
+silent_applied before c started word kind f conn h good no_end began none_moved fit tied =
     let front = before ++ turn_of c word kind ∷ [] in
     record {
       sound = holds_first front f conn [] started (announced_sound before c started word kind (seen f conn [] started) h good tied);
       ended = subst NoneEnds (sym (first_book before (turn_of c word kind) f)) no_end;
       began = began;
-      whole = whole;
+      moved = none_moved;
+      fit = fit;
     }

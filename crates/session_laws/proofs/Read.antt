@@ -16,10 +16,12 @@ use Rattle.driver_model.specs.Shape.{need_of}
 use Rattle.link_core.specs.declared.message.Entry.{Entry}
 use Rattle.link_core.specs.Dealing.{Dealing, with_item, dealt_to, dealt, dealt_each}
 use Rattle.link_core.specs.Link.{LinkState, Settling}
+use Rattle.link_core.specs.Ends.{row_hit, queue_closed}
 use Rattle.link_laws.specs.Settles.{settled_ids, wanted, awaited_ids, IsOwed}
 use Rattle.link_laws.proofs.Once.{items_keep}
 use Rattle.link_laws.proofs.Settles.{read_owed}
 use Rattle.link_laws.proofs.TiedLink.{TiedLink, deals, has_read, has_heard, reads_on, heard_is, read_tied}
+use Rattle.mux_conn.specs.declared.connection.MultiplexedConnection.{MultiplexedConnection}
 use Rattle.mux_conn.specs.declared.life.Life.{Life}
 use Rattle.mux_conn.specs.declared.life.Life.TheVariants.{Dialing, Ready, Ended}
 use Rattle.mux_conn.specs.declared.request.Request.{Request}
@@ -34,15 +36,16 @@ use Rattle.legal_trace.specs.Story.{Story}
 use Rattle.legal_trace.specs.Book.{book}
 use Rattle.legal_trace.specs.Owed.{owed}
 use Rattle.session_laws.proofs.Numbers.{IsIn, Rising}
-use Rattle.session_laws.proofs.Tied.{inner, link_in, owner_of, queue_ids, waiting_ids, IsEntry, TiedLife, TiedLines, has_ended}
-use Rattle.session_laws.proofs.States.{IsWhole, Between, HasApplied}
-use Rattle.session_laws.proofs.InLine.{IsInLine}
+use Rattle.session_laws.proofs.Tied.{inner, link_in, owner_of, queue_ids, IsEntry, TiedLife, TiedLines, AreQueued, TiedWaits, has_ended}
+use Rattle.session_laws.proofs.States.{IsFit, IsFitIn, Between, HasApplied}
+use Rattle.session_laws.proofs.InLine.{kept_ids, IsInLine}
 use Rattle.session_laws.proofs.Owes.{in_line}
 use Rattle.session_laws.proofs.Settle.{seen, trace_of_acts, Holds, IsAnswering, answering, settled_holds, settled_leaves}
-use Rattle.session_laws.proofs.Close.{HasEnded, pending_due, ended_applied}
+use Rattle.session_laws.proofs.Close.{HasEnded, pending_due, ended_moved, ended_applied}
 use Rattle.session_laws.proofs.Announce.{turn_of, turned, IsNewsKind}
 use Rattle.session_laws.proofs.Heard.{heard_by, lives_as, none_ends, Begins, heard_begins, ended_quiet, dialing_quiet}
 use Rattle.session_laws.proofs.End.{up_tied, fault_ends}
+use Rattle.session_laws.proofs.Took.{queue_waits}
 
 -- items that are dealt leave entries as they are, but for what they got
 item_entries : (requests : List Request) (d : Dealing) (item : Data) (row : List Entry) → AllByRecursion (IsEntry requests) row → AllByRecursion (IsEntry requests) d.row → AllByRecursion (IsEntry requests) (dealt_to d item row).row
@@ -50,7 +53,7 @@ item_entries requests d item [] all whole = whole
 item_entries requests d item (e ∷ es) all whole =
     let f = with_item e item in
     chosen (λ (x : Dealing). AllByRecursion (IsEntry requests) x.row) (nat_lt (length f.got) (need_of e.shape)) _ _
-    (λ t. (record { below = all.0.below; open_at = all.0.open_at }, all.1))
+    (λ t. (record { below = all.0.below; placed_at = all.0.placed_at }, all.1))
     (λ n. all.1)
 
 -- many items too
@@ -63,9 +66,9 @@ read_wanted : (link : LinkState) (piece : List ℕ) → settled_ids (deals link 
 read_wanted link piece = items_keep (record { row = link.row; out = [] }) (items (link.rest ++ piece))
 
 -- the lines, with those that are to be answered
-read_lines : (story : ℕ → Story) (requests : List Request) (link : LinkState) (piece : List ℕ) (waiting : List Waiting) (started : List ℕ) → TiedLines story requests link waiting [] started
-    → TiedLines story requests (has_read link piece) waiting (settled_ids (deals link piece).out) started
-read_lines story requests link piece waiting started h =
+read_lines : (story : ℕ → Story) (requests : List Request) (link : LinkState) (piece : List ℕ) (waiting admitted : List Waiting) (started : List ℕ) → TiedLines story requests link waiting admitted [] started
+    → TiedLines story requests (has_read link piece) waiting admitted (settled_ids (deals link piece).out) started
+read_lines story requests link piece waiting admitted started h =
     let ids = settled_ids (deals link piece).out in
     let rows = wanted (deals link piece).row in
     let queue = awaited_ids link.queue in
@@ -74,6 +77,7 @@ read_lines story requests link piece waiting started h =
       queued = h.queued;
       entries = dealt_entries requests (record { row = link.row; out = [] }) (items (link.rest ++ piece)) h.entries;
       packs = h.packs;
+      packed_in = h.packed_in;
       there = λ p e. elim (h.there p e) [
         | inl i ↦ inl (subst (λ ns. IsIn p ns) (ap (λ ns. ns ++ queue) (sym (read_wanted link piece)) ∙ append_assoc ids rows queue) i)
         | inr w ↦ inr w
@@ -81,11 +85,11 @@ read_lines story requests link piece waiting started h =
     }
 
 -- and are in line
-read_in_line : (requests : List Request) (link : LinkState) (piece : List ℕ) (waiting : List Waiting) → IsInLine requests link waiting [] → IsInLine requests (has_read link piece) waiting (settled_ids (deals link piece).out)
-read_in_line requests link piece waiting r =
+read_in_line : (requests : List Request) (link : LinkState) (piece : List ℕ) (admitted waiting : List Waiting) → IsInLine requests link admitted waiting [] → IsInLine requests (has_read link piece) admitted waiting (settled_ids (deals link piece).out)
+read_in_line requests link piece admitted waiting r =
     let ids = settled_ids (deals link piece).out in
     let rows = wanted (deals link piece).row in
-    let later = queue_ids link.queue ++ waiting_ids waiting in
+    let later = queue_ids link.queue ++ kept_ids admitted waiting in
     subst (λ ns. Rising 0 ns (length requests)) (ap (λ ns. ns ++ later) (sym (read_wanted link piece)) ∙ append_assoc ids rows later) r
 
 -- what ends the link is what breaks it
@@ -95,9 +99,9 @@ read_ending name l link piece up h =
     taken_if l.up (if is_spoiled (has_heard l piece).rest then Some (by_fault fault.Parse) else None) _ up
     ∙ ap (λ (b : Bool). if b then Some (by_fault fault.Parse) else None) (ap is_spoiled h.rest ∙ sym h.broken)
 
--- a link that is not broken is whole
-read_whole : (link : LinkState) (piece : List ℕ) → IsWhole link → (has_read link piece).broken ≡ false → (x : LinkState) → Ready (has_read link piece) ≡ Ready x → IsWhole x
-read_whole link piece h sound x e = let same : has_read link piece ≡ x = cc in subst IsWhole same (record { sound = sound; empty = h.empty; size = h.size; boundary = h.boundary })
+-- a link that is not broken is fit
+read_fit : (size bound : ℕ) (link : LinkState) (piece : List ℕ) → IsFit size bound link → (has_read link piece).broken ≡ false → (x : LinkState) → Ready (has_read link piece) ≡ Ready x → IsFit size bound x
+read_fit size bound link piece h sound x e = let same : has_read link piece ≡ x = cc in subst (IsFit size bound) same (record { sound = sound; size_is = h.size_is; bound_is = h.bound_is; within = h.within })
 
 -- the link that is up
 --
@@ -115,8 +119,9 @@ read_begins before c started word kind piece link h good k is e =
     let begins = heard_begins before c started word kind (came piece) (Ready (has_read link piece)) (settled_ids (deals link piece).out) h good k is (record {
       lived = subst (λ (x : Ledger). TiedLife x b.created (Ready (has_read link piece))) (sym same) (u.asked, u.up, u.alive, u.shown);
       linked = λ n. subst (λ (x : Ledger). TiedLink name x (has_read link piece)) (sym same) (read_tied name l link piece u.alive u.tied);
-      lines = read_lines b.story conn.requests link piece conn.waiting started (subst (λ (x : Life). TiedLines b.story conn.requests (link_in x) conn.waiting [] started) e h.sound.tied.lines);
-      waits = record { new = h.sound.tied.waits.new; shown = λ p w d. cc };
+      lines = read_lines b.story conn.requests link piece conn.waiting conn.admitted started (subst (λ (x : Life). TiedLines b.story conn.requests (link_in x) conn.waiting conn.admitted [] started) e h.sound.tied.lines);
+      told = λ n. subst (λ (x : Life). AreQueued b.story conn.requests (link_in x)) e (h.sound.tied.told (ap has_ended e));
+      waits = queue_waits b.story conn.requests link (has_read link piece) conn.fresh conn.moved (λ p i. i) (subst (λ (x : Life). TiedWaits b.story conn.requests x conn.fresh conn.moved) e h.sound.tied.waits);
     }) in
     record { holds = begins.holds; ledger = begins.ledger ∙ same }
 
@@ -142,12 +147,19 @@ read_answered before c started word kind piece link h good k is e =
     let w = reads c link piece in
     let out = (deals link piece).out in
     let ids = settled_ids out in
-    let before_line = subst (λ (x : Life). IsInLine conn.requests (link_in x) conn.waiting []) e (in_line b (inner c started) h.sound.tied (ap has_ended e)) in
-    let line : IsInLine conn.requests (has_read link piece) conn.waiting ids = read_in_line conn.requests link piece conn.waiting before_line in
+    let before_line = subst (λ (x : Life). IsInLine conn.requests (link_in x) conn.admitted conn.waiting []) e (in_line b (inner c started) h.sound.tied (ap has_ended e)) in
+    let line : IsInLine conn.requests (has_read link piece) conn.admitted conn.waiting ids = read_in_line conn.requests link piece conn.admitted conn.waiting before_line in
     let all = subst (λ (x : Ledger). AllByRecursion (IsOwed name x) out) (sym begins.ledger) (read_owed name l link piece u.alive u.tied) in
     let due = pending_due now (seen f w.conn ids started) out begins.holds.tied line all in
     settled_holds front f (now.link c.single.link) (owed now) (name_at conn.requests) w out [] started due
-    (answering front f w (ids ++ []) started (subst (λ ns. Holds front f w ns started) (sym (append-nil ids)) begins.holds) (subst (IsInLine conn.requests (has_read link piece) conn.waiting) (sym (append-nil ids)) line))
+    (answering front f w (ids ++ []) started (subst (λ ns. Holds front f w ns started) (sym (append-nil ids)) begins.holds) (subst (IsInLine conn.requests (has_read link piece) conn.admitted conn.waiting) (sym (append-nil ids)) line))
+
+-- a connection whose link is up is fit where the link is
+fit_by : (c : MultiplexedConnection) (size bound : ℕ) (link : LinkState) → c.size ≡ size → c.boundary ≡ bound → c.life ≡ Ready link → ((x : LinkState) → Ready link ≡ Ready x → IsFit size bound x) → IsFitIn c
+fit_by c size bound link size_is bound_is life h = record {
+  link = λ x same. subst (λ n. IsFit n c.boundary x) (sym size_is) (subst (λ n. IsFit size n x) (sym bound_is) (h x (sym life ∙ same)));
+  none = λ none. absurd (none link life);
+}
 
 -- a link that is up reads on, or is broken and ends
 read_on : (before : List Action) (c : Core) (started : List ℕ) (word : ℕ) (kind : EventKind) (piece : List ℕ) (link : LinkState) → Between before c started → is_bad c kind ≡ false → IsNewsKind kind → news_of c.timers c.single.link kind ≡ came piece
@@ -168,13 +180,15 @@ read_on before c started word kind piece link h good k is e =
     let ends_so = ap ending (a.ledger_is ∙ begins.ledger) ∙ read_ending name l link piece u.up (read_tied name l link piece u.alive u.tied) in
     chosen (λ (x : Work). HasApplied front (with_work (record { core = f; acts = [] }) x) started) after.broken (failed_at v fault.Parse v.conn.life) v
     (λ t. ended_applied front f (failed_at v fault.Parse v.conn.life) error.Closed started (λ z. absurd (omega arith))
+    (subst (λ (x : Life). (failed_at v fault.Parse x).conn.moved ≡ []) (sym still.life) (ended_moved v (row_hit fault.Parse after.row ++ queue_closed after.queue) ∙ still.moved ∙ h.moved))
     (subst (λ (x : Life). HasEnded front f (failed_at v fault.Parse x) error.Closed started) (sym still.life)
-    (fault_ends front f v after fault.Parse started a.holds still.life (h.whole link e).empty (ends_so ∙ taken_if after.broken (Some (by_fault fault.Parse)) None t))))
+    (fault_ends front f v after fault.Parse started a.holds still.life (ends_so ∙ taken_if after.broken (Some (by_fault fault.Parse)) None t))))
     (λ n. record {
       sound = a.holds;
       ended = none_ends (book (trace_of_acts front f v.acts)) (seen f v.conn [] started) a.holds.tied (ends_so ∙ left_if after.broken (Some (by_fault fault.Parse)) None n);
       began = λ z. absurd (omega arith);
-      whole = λ x same. read_whole link piece (h.whole link e) n x (sym still.life ∙ same);
+      moved = still.moved ∙ h.moved;
+      fit = fit_by v.conn c.single.connection.size c.single.connection.boundary after still.size still.boundary still.life (read_fit c.single.connection.size c.single.connection.boundary link piece (h.fit.link link e) n);
     })
 
 -- bytes come
@@ -187,4 +201,4 @@ read_applied before c started word kind piece h good k is = by_life c.single.con
     by_life (Ended x) e = ended_quiet before c started word kind (came piece) x h good k is e
     by_life (Ready link) e =
         subst (λ (s : Settling). HasApplied (before ++ turn_of c word kind ∷ []) (with_work (record { core = turned c kind; acts = [] }) (read_to (record { conn = c.single.connection; acts = [] }) s)) started)
-        (sym (reads_on link [] piece (h.whole link e).sound)) (read_on before c started word kind piece link h good k is e)
+        (sym (reads_on link [] piece (h.fit.link link e).sound)) (read_on before c started word kind piece link h good k is e)

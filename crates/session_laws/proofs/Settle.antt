@@ -30,7 +30,7 @@ use Rattle.legal_trace.specs.Legal.{MayStand, MayAnswer}
 use Rattle.session_laws.proofs.Numbers.{Rising, rising_from}
 use Rattle.session_laws.proofs.Tied.{Inner, link_in, TiedLife, Tied, Sound, waiting_ids, has_ended}
 use Rattle.session_laws.proofs.Entered.{book_more, sound_more, shown_more}
-use Rattle.session_laws.proofs.Names.{open_within, name_still, length_still}
+use Rattle.session_laws.proofs.Names.{name_still, length_still}
 use Rattle.session_laws.proofs.InLine.{line_of, IsInLine, open_in_line, first_is_least}
 use Rattle.session_laws.proofs.Answer.{may_answer, after_end, owed_still, answer_tied, skip_tied}
 
@@ -43,10 +43,14 @@ seen f conn pending started = record {
   timers = f.timers;
   shut = f.shut;
   table = f.table;
+  size = conn.size;
+  bound = conn.boundary;
   life = conn.life;
   requests = conn.requests;
   waiting = conn.waiting;
+  admitted = conn.admitted;
   fresh = conn.fresh;
+  moved = conn.moved;
   pending = pending;
   started = started;
 }
@@ -74,13 +78,13 @@ book_of_more before f acts a = ap book (shown_more before f.single.link acts a) 
 -- names are as they were
 pub record IsAnswering (before : List Action) (f : Core) (ledger : Ledger) (owes : ℕ → Option Outcome) (name : ℕ → ℕ) (w : Work) (pending started : List ℕ) : Type 0 where
   pub holds : Holds before f w pending started
-  pub line : IsInLine w.conn.requests (link_in w.conn.life) w.conn.waiting pending
+  pub line : IsInLine w.conn.requests (link_in w.conn.life) w.conn.admitted w.conn.waiting pending
   pub ledger_is : (book (trace_of_acts before f w.acts)).link f.single.link ≡ ledger
   pub owed_is : (n : ℕ) → owed (book (trace_of_acts before f w.acts)) n ≡ owes n
   pub named : (p : ℕ) → name_at w.conn.requests p ≡ name p
 
 -- it begins
-pub answering : (before : List Action) (f : Core) (w : Work) (pending started : List ℕ) → Holds before f w pending started → IsInLine w.conn.requests (link_in w.conn.life) w.conn.waiting pending
+pub answering : (before : List Action) (f : Core) (w : Work) (pending started : List ℕ) → Holds before f w pending started → IsInLine w.conn.requests (link_in w.conn.life) w.conn.admitted w.conn.waiting pending
     → IsAnswering before f ((book (trace_of_acts before f w.acts)).link f.single.link) (owed (book (trace_of_acts before f w.acts))) (name_at w.conn.requests) w pending started
 answering before f w pending started h line = record { holds = h; line = line; ledger_is = refl; owed_is = λ n. refl; named = λ p. refl }
 
@@ -91,19 +95,19 @@ over_life l created (Ready link) h over = absurd (not_both (is_over l) (ap is_so
 over_life l created (Ended e) h over = refl
 
 -- the first of those that are to be answered may be
-pub first_may : (b : Book) (t : Inner) (p : ℕ) (pending : List ℕ) (o : Outcome) → Tied b (record t { pending = p ∷ pending }) → IsInLine t.requests (link_in t.life) t.waiting (p ∷ pending) → is_open_at t.requests p ≡ true
+pub first_may : (b : Book) (t : Inner) (p : ℕ) (pending : List ℕ) (o : Outcome) → Tied b (record t { pending = p ∷ pending }) → IsInLine t.requests (link_in t.life) t.admitted t.waiting (p ∷ pending) → is_open_at t.requests p ≡ true
     → owed b (name_at t.requests p) ≡ Some o → MayAnswer b (name_at t.requests p) o
 first_may b t p pending o h line e owes =
     let now = record t { pending = p ∷ pending } in
     may_answer b now p o h e owes
     (λ q less asked.
-    let i = open_in_line b.story t.requests (link_in t.life) t.waiting (p ∷ pending) t.started q h.lines asked in
-    absurd (let k = first_is_least 0 p (pending ++ line_of (link_in t.life) t.waiting) (length t.requests) q line i in omega arith))
+    let i = open_in_line b.story t.requests (link_in t.life) t.waiting t.admitted (p ∷ pending) t.started q h.lines asked in
+    absurd (let k = first_is_least 0 p (pending ++ line_of (link_in t.life) t.admitted t.waiting) (length t.requests) q line i in omega arith))
     (λ over. after_end b now h (over_life (b.link t.link) b.created t.life h.life over))
 
 -- one is answered
-rest_in_line : (requests : List Request) (link : LinkState) (waiting : List Waiting) (p : ℕ) (pending : List ℕ) → IsInLine requests link waiting (p ∷ pending) → IsInLine requests link waiting pending
-rest_in_line requests link waiting p pending line = rising_from (suc p) 0 (pending ++ line_of link waiting) (length requests) (omega arith) line.1
+rest_in_line : (requests : List Request) (link : LinkState) (admitted waiting : List Waiting) (p : ℕ) (pending : List ℕ) → IsInLine requests link admitted waiting (p ∷ pending) → IsInLine requests link admitted waiting pending
+rest_in_line requests link admitted waiting p pending line = rising_from (suc p) 0 (pending ++ line_of link admitted waiting) (length requests) (omega arith) line.1
 
 -- the first is answered
 one_answered : (before : List Action) (f : Core) (ledger : Ledger) (owes : ℕ → Option Outcome) (name : ℕ → ℕ) (w : Work) (p : ℕ) (o : Outcome) (pending started : List ℕ) → owes (name p) ≡ Some o → is_open_at w.conn.requests p ≡ true
@@ -112,13 +116,12 @@ one_answered before f ledger owes name w p o pending started due e h =
     let b = book (trace_of_acts before f w.acts) in
     let t = seen f w.conn pending started in
     let a = act.Outcome (name_at w.conn.requests p) o in
-    let l = open_within w.conn.requests p e in
     let owes_now = h.owed_is (name_at w.conn.requests p) ∙ ap owes (h.named p) ∙ due in
     record {
       holds = holds_more before f w a (record w.conn { requests = at_progress w.conn.requests p progress.Closed }) (p ∷ pending) pending started h.holds
           (inl (first_may b t p pending o h.holds.tied h.line e owes_now))
-          (answer_tied b t p pending o l h.line h.holds.tied);
-      line = subst (λ n. Rising 0 (pending ++ line_of (link_in w.conn.life) w.conn.waiting) n) (sym (length_still w.conn.requests p progress.Closed)) (rest_in_line w.conn.requests (link_in w.conn.life) w.conn.waiting p pending h.line);
+          (answer_tied b t p pending o e owes_now h.line h.holds.tied);
+      line = subst (λ n. Rising 0 (pending ++ line_of (link_in w.conn.life) w.conn.admitted w.conn.waiting) n) (sym (length_still w.conn.requests p progress.Closed)) (rest_in_line w.conn.requests (link_in w.conn.life) w.conn.admitted w.conn.waiting p pending h.line);
       ledger_is = ap (λ (x : Book). x.link f.single.link) (book_of_more before f w.acts a) ∙ h.ledger_is;
       owed_is = λ n. ap (λ (x : Book). owed x n) (book_of_more before f w.acts a) ∙ owed_still b (name_at w.conn.requests p) o n ∙ h.owed_is n;
       named = λ q. name_still w.conn.requests p progress.Closed q ∙ h.named q;
@@ -129,7 +132,7 @@ one_skipped : (before : List Action) (f : Core) (ledger : Ledger) (owes : ℕ �
     → IsAnswering before f ledger owes name w (p ∷ pending) started → IsAnswering before f ledger owes name w pending started
 one_skipped before f ledger owes name w p pending started e h = record {
   holds = record { stands = h.holds.stands; tied = skip_tied (book (trace_of_acts before f w.acts)) (seen f w.conn pending started) p pending e h.holds.tied };
-  line = rest_in_line w.conn.requests (link_in w.conn.life) w.conn.waiting p pending h.line;
+  line = rest_in_line w.conn.requests (link_in w.conn.life) w.conn.admitted w.conn.waiting p pending h.line;
   ledger_is = h.ledger_is;
   owed_is = h.owed_is;
   named = h.named;
@@ -168,28 +171,44 @@ failed_holds before f ledger owes name w e (q ∷ qs) pending started due h =
 
 -- what answers leave as it was
 pub record Leaves (w v : Work) : Type 0 where
+  pub size : v.conn.size ≡ w.conn.size
+  pub boundary : v.conn.boundary ≡ w.conn.boundary
   pub life : v.conn.life ≡ w.conn.life
   pub waiting : v.conn.waiting ≡ w.conn.waiting
+  pub admitted : v.conn.admitted ≡ w.conn.admitted
   pub fresh : v.conn.fresh ≡ w.conn.fresh
+  pub moved : v.conn.moved ≡ w.conn.moved
+
+-- nothing is changed
+leaves_all : (w : Work) → Leaves w w
+leaves_all w = record { size = refl; boundary = refl; life = refl; waiting = refl; admitted = refl; fresh = refl; moved = refl }
 
 -- one after another
-leaves_on : (u v w : Work) → Leaves u v → Leaves v w → Leaves u w
-leaves_on u v w h k = record { life = k.life ∙ h.life; waiting = k.waiting ∙ h.waiting; fresh = k.fresh ∙ h.fresh }
+pub leaves_on : (u v w : Work) → Leaves u v → Leaves v w → Leaves u w
+leaves_on u v w h k = record {
+  size = k.size ∙ h.size;
+  boundary = k.boundary ∙ h.boundary;
+  life = k.life ∙ h.life;
+  waiting = k.waiting ∙ h.waiting;
+  admitted = k.admitted ∙ h.admitted;
+  fresh = k.fresh ∙ h.fresh;
+  moved = k.moved ∙ h.moved;
+}
 
 -- one answer leaves them
 pub answered_leaves : (w : Work) (p : ℕ) (o : Outcome) → Leaves w (answered w p o)
-answered_leaves w p o = chosen (Leaves w) (is_open_at w.conn.requests p) _ w (λ t. record { life = refl; waiting = refl; fresh = refl }) (λ f. record { life = refl; waiting = refl; fresh = refl })
+answered_leaves w p o = chosen (Leaves w) (is_open_at w.conn.requests p) _ w (λ t. record { size = refl; boundary = refl; life = refl; waiting = refl; admitted = refl; fresh = refl; moved = refl }) (λ f. leaves_all w)
 
 -- so do the answers to what was settled
 pub settled_leaves : (w : Work) (ss : List Settled) → Leaves w (settled_each w ss)
-settled_leaves w [] = record { life = refl; waiting = refl; fresh = refl }
+settled_leaves w [] = leaves_all w
 settled_leaves w (s ∷ ss) =
     let v = answered w s.id (outcome_of s.verdict) in
     leaves_on w v (settled_each v ss) (answered_leaves w s.id (outcome_of s.verdict)) (settled_leaves v ss)
 
 -- and those to what waited
 pub failed_leaves : (w : Work) (e : RedisError) (qs : List Waiting) → Leaves w (failed_each w e qs)
-failed_leaves w e [] = record { life = refl; waiting = refl; fresh = refl }
+failed_leaves w e [] = leaves_all w
 failed_leaves w e (q ∷ qs) =
     let v = answered w q.number (outcome.Fault e) in
     leaves_on w v (failed_each v e qs) (answered_leaves w q.number (outcome.Fault e)) (failed_leaves v e qs)

@@ -1,63 +1,278 @@
 -- The waits of a turn are shown, and the turn is settled.
 use Rattle.mux_conn.specs.Turn.{written}
-use Rattle.std.proofs.Common.{List, [], ap, inl, inr, refl, subst, sym, true, ℕ, ◌++◌, ◌∙◌, ◌∷◌, ◌≡◌, ◌≢◌, ◌⊎◌, false}
-use Rattle.std.specs.Prelude.{if◌then◌else◌}
-use Rattle.containers.proofs.Choices.{chosen, not_both}
+use Rattle.std.proofs.Common.{Bool, List, None, Option, Some, [], ap, false, inl, inr, length, refl, subst, suc, sym, true, ℕ, ◌++◌, ◌<◌, ◌∙◌, ◌∷◌, ◌≡◌, ◌≢◌, ◌⊎◌, arith}
+use Rattle.std.specs.Prelude.{if◌then◌else◌, ◌&&◌}
+use Rattle.containers.proofs.Choices.{by_test, both_left, both_right, chosen, le_test, left_if, not_both}
 use Rattle.driver_model.specs.declared.action.Action.{Action}
+use Rattle.driver_model.specs.declared.action.WaitKind.{WaitKind}
 use Rattle.driver_model.specs.declared.action.WaitKind.TheVariants as wait
-use Rattle.link_core.specs.Link.{LinkState}
+use Rattle.link_core.specs.Link.{LinkState, first_in}
+use Rattle.link_core.specs.declared.message.Queued.{Queued}
 use Rattle.link_laws.proofs.Started.{row_open}
-use Rattle.link_laws.specs.Settles.{StandsAs, wanted}
-use Rattle.mux_conn.specs.Connection.{Work, acted, awaits_connect}
+use Rattle.link_laws.specs.Settles.{StandsAs, awaited_ids, wanted}
+use Rattle.mux_conn.specs.Connection.{Work, acted, awaits_connect, first_queued, is_ready}
 use Rattle.mux_conn.specs.Passes.{passed}
-use Rattle.mux_conn.specs.Requests.{is_waiting_at, name_at}
-use Rattle.mux_conn.specs.Turn.{flushed, wait_shown, waits_each, waits_shown}
+use Rattle.mux_conn.specs.Requests.{is_admitted_at, is_open_at, is_placed_at, is_waiting_at, name_at}
+use Rattle.mux_conn.specs.Turn.{flushed, fresh_each_shown, fresh_wait, is_from, moved_each_shown, moved_wait, wait_shown, waits_shown}
 use Rattle.mux_conn.specs.declared.act.LinkAct.TheVariants as act
+use Rattle.mux_conn.specs.declared.connection.MultiplexedConnection.{MultiplexedConnection}
+use Rattle.mux_conn.specs.declared.request.Request.{Request}
+use Rattle.redis_error.specs.declared.redis_error.RedisError.{RedisError}
 use Rattle.mux_conn.specs.declared.life.Life.{Life}
 use Rattle.mux_conn.specs.declared.life.Life.TheVariants.{Dialing, Ended, Ready}
 use Rattle.shared_session.specs.Turn.{Turning, moved_on, with_work, work_of}
 use Rattle.shared_session.specs.declared.core_state.Core.{Core}
 use Rattle.legal_trace.specs.Book.{Book, book}
-use Rattle.legal_trace.specs.Legal.{IsOpen, IsSettled, IsStarted, IsWaiting, IsWritten, NoneEnds, WaitHolds}
-use Rattle.legal_trace.specs.Story.{last_of}
-use Rattle.session_laws.proofs.InLine.{line_of, open_in_line, wanted_in}
+use Rattle.legal_trace.specs.Legal.{IsMoved, IsOpen, IsSettled, IsStarted, IsWaiting, IsWritten, NoneEnds, WaitHolds}
+use Rattle.legal_trace.specs.Story.{Story, last_of}
+use Rattle.session_laws.proofs.Ahead.{dialing_step, placed_open}
+use Rattle.session_laws.proofs.Entered.{shown_more, sound_more}
+use Rattle.session_laws.proofs.Going.{is_moved}
+use Rattle.session_laws.proofs.InLine.{awaited_in, first_is_least, kept_ids, wanted_in}
 use Rattle.session_laws.proofs.Moved.{IsReady, passed_moved}
 use Rattle.session_laws.proofs.Names.{open_within}
-use Rattle.session_laws.proofs.Numbers.{IsIn, in_either}
-use Rattle.session_laws.proofs.Owes.{lives, none_open, open_request, stands_started, wanted_entry}
+use Rattle.session_laws.proofs.Numbers.{IsIn, Rising, rising_in, rising_left, rising_right}
+use Rattle.session_laws.proofs.Owes.{IsOpenRequest, lives, none_open, open_request, request_story, stands_started, wanted_entry}
 use Rattle.session_laws.proofs.Place.{waiting_open}
-use Rattle.session_laws.proofs.Settle.{book_of_more, holds_more, seen, trace_of_acts}
-use Rattle.session_laws.proofs.States.{Between, HasApplied, IsWholeIn, trace_with}
-use Rattle.session_laws.proofs.Tied.{Inner, IsNew, Tied, TiedLife, link_in, owner_of, queue_ids, waiting_ids, has_ended}
-use Rattle.session_laws.proofs.Told.{NoneTold, wait_told}
-use Rattle.session_laws.proofs.Waits.{dialing_holds, dialing_waits, unshown_tied, wait_may, wait_tied, with_fresh}
-use Rattle.session_laws.proofs.Write.{HasWritten, is_written, moved_book, written_holds}
+use Rattle.session_laws.proofs.Settle.{book_of_more, seen, trace_of_acts}
+use Rattle.session_laws.proofs.Start.{admitted_open}
+use Rattle.session_laws.proofs.States.{Between, HasApplied, IsFitIn, IsStill, trace_with}
+use Rattle.session_laws.proofs.Tied.{Inner, Sound, Tied, TiedLife, TiedWaits, has_ended, link_in, owner_of, queue_ids, relined, shown_wait}
+use Rattle.session_laws.proofs.Waits.{IsPlacedOrKept, IsQuiet, WaitsSo, admitted_there, admitted_unplaced, awaited_placed, dialing_admits, fresh_waits, located, moved_waits, passed_waits, place_holds, placed_there, room_holds, same_one, stale_waits, wait_action, wait_may, wait_tied, waiting_apart, waiting_is, waits_at, with_unshown}
+use Rattle.session_laws.proofs.Write.{HasWritten, IsOfferedIn, is_written, written_holds}
 
--- what a turn ends with is shown
-pub record HasShown (before : List Action) (f : Core) (w : Work) : Type 0 where
-  pub written : HasWritten before f w
-  pub fresh : w.conn.fresh ≡ []
+-- the bytes of a turn are offered, and its waits are shown but for these: of those that were moved, and of those that came
+-- in it
+pub record IsShowing (before : List Action) (f : Core) (w : Work) (moved fresh started : List ℕ) : Type 0 where
+  pub sound : Sound (trace_of_acts before f w.acts) (with_unshown (seen f w.conn [] started) moved fresh)
+  pub ended : NoneEnds (book (trace_of_acts before f w.acts))
+  pub fit : IsFitIn w.conn
+  pub still : IsStill w.conn
+  pub offered : IsOfferedIn w.conn.life
 
--- a connection with these whose wait isn't shown yet
-abbrev fresh_work : Work → List ℕ → Work
-fresh_work w fresh = record w { conn = record w.conn { fresh = fresh } }
+-- the session then
+abbrev unshown : Core → Work → List ℕ → List ℕ → List ℕ → Inner
+unshown f w moved fresh started = with_unshown (seen f w.conn [] started) moved fresh
 
--- nothing else changes
-same_shown : (before : List Action) (f : Core) (w : Work) (h : HasWritten before f w) → Tied (book (trace_of_acts before f w.acts)) (with_fresh (seen f w.conn [] h.moved.started) []) → HasShown before f (fresh_work w [])
-same_shown before f w h tied = record {
-  written = record {
-    moved = record {
-      started = h.moved.started;
-      holds = record { stands = h.moved.holds.stands; tied = tied };
-      ended = h.moved.ended;
-      whole = h.moved.whole;
-      waiting = h.moved.waiting;
-      told = h.moved.told;
-    };
-    offered = h.offered;
-  };
-  fresh = refl;
+-- nothing moves in it
+showing_quiet : (before : List Action) (f : Core) (w : Work) (moved fresh started : List ℕ) → IsShowing before f w moved fresh started → IsQuiet (unshown f w moved fresh started)
+showing_quiet before f w moved fresh started h = record { settled = refl; fit = h.fit.link; none = h.fit.none; held = h.still.held; full = h.still.full; waiting = h.still.waiting }
+
+-- and its book has all its writes
+showing_written : (before : List Action) (f : Core) (w : Work) (moved fresh started : List ℕ) → IsShowing before f w moved fresh started → IsWritten (book (trace_of_acts before f w.acts))
+showing_written before f w moved fresh started h =
+    let b = book (trace_of_acts before f w.acts) in
+    let t = unshown f w moved fresh started in
+    let all : IsMoved b = is_moved b t h.sound.tied refl h.ended h.fit.link h.fit.none h.still.held h.still.full h.still.waiting in
+    is_written b t h.sound.tied all h.offered
+
+-- other waits are still to be shown
+retied : (before : List Action) (f : Core) (w : Work) (moved fresh started later newer : List ℕ) → IsShowing before f w moved fresh started → TiedWaits (book (trace_of_acts before f w.acts)).story w.conn.requests w.conn.life newer later → IsShowing before f w later newer started
+retied before f w moved fresh started later newer h waits =
+    let b = book (trace_of_acts before f w.acts) in
+    let t = unshown f w moved fresh started in
+    record {
+      sound = record { stands = h.sound.stands; tied = relined b t t.waiting t.admitted newer later [] h.sound.tied h.sound.tied.lines waits };
+      ended = h.ended;
+      fit = h.fit;
+      still = h.still;
+      offered = h.offered;
+    }
+
+-- one wait is shown
+one_shown : (before : List Action) (f : Core) (w : Work) (p : ℕ) (kind : WaitKind) (moved fresh started later newer : List ℕ) (h : IsShowing before f w moved fresh started) → has_ended w.conn.life ≡ false → is_open_at w.conn.requests p ≡ true
+    → (let t = unshown f w moved fresh started in let b = book (trace_of_acts before f w.acts) in
+    IsPlacedOrKept t p × ((b.story (name_at w.conn.requests p)).waiting ≢ Some kind) × WaitHolds b (name_at w.conn.requests p) kind × ((m : ℕ) → m < p → IsIn m moved → ⊥) × ((m : ℕ) → m < p → fresh ≡ m ∷ [] → ⊥))
+    → TiedWaits (waits_at (name_at w.conn.requests p) kind (book (trace_of_acts before f w.acts)).story) w.conn.requests w.conn.life newer later
+    → IsShowing before f (wait_shown w p (Some kind)) later newer started
+one_shown before f w p kind moved fresh started later newer h up o may waits =
+    let trace = trace_of_acts before f w.acts in
+    let b = book trace in
+    let t = unshown f w moved fresh started in
+    let n = name_at w.conn.requests p in
+    let a = act.Wait n kind in
+    let now = unshown f w later newer started in
+    let stands = wait_may b t p kind h.sound.tied (showing_quiet before f w moved fresh started h) up (showing_written before f w moved fresh started h) o may.0 may.1 may.2 may.3 may.4 in
+    let tied = wait_tied b t p kind later newer (open_within w.conn.requests p o) h.sound.tied waits in
+    record {
+      sound = subst (λ (x : List Action). Sound x now) (sym (shown_more before f.single.link w.acts a)) (sound_more trace (wait_action n kind) now h.sound.stands (refl, stands) tied);
+      ended = subst NoneEnds (sym (book_of_more before f w.acts a)) h.ended;
+      fit = h.fit;
+      still = h.still;
+      offered = h.offered;
+    }
+
+-- those that were moved
+--
+-- those behind the first are above it
+behind_first : (p : ℕ) (ps : List ℕ) (hi m : ℕ) → Rising 0 (p ∷ ps) hi → m < p → IsIn m (p ∷ ps) → ⊥
+behind_first p ps hi m h l (inl e) = omega (arith, e)
+behind_first p ps hi m h l (inr i) = let k = rising_in (suc p) ps hi m h.1 i in omega (arith, k.0)
+
+-- none came in this turn whose wait is still to be shown
+no_fresh : (m : ℕ) → [] ≡ m ∷ [] → ⊥
+no_fresh m e = cc
+
+-- who waits for a place waits so
+admitted_so : (b : Book) (t : Inner) (p : ℕ) → Tied b t → is_admitted_at t.requests p ≡ true → WaitsSo t p wait.Place
+admitted_so b t p h a = record {
+  place = λ x. refl;
+  room = λ i. absurd (not_both (is_placed_at t.requests p) (admitted_unplaced t.requests p a) (awaited_placed b.story t.requests (link_in t.life).queue p h.lines.queued i));
+  moved = λ w. not_both (is_admitted_at t.requests p) (waiting_apart t.requests p w).0 a;
 }
+
+-- and so does who has its place
+placed_so : (t : Inner) (p : ℕ) → is_placed_at t.requests p ≡ true → WaitsSo t p wait.Room
+placed_so t p placed = record {
+  place = λ a. absurd (not_both (is_placed_at t.requests p) (admitted_unplaced t.requests p a) placed);
+  room = λ i. refl;
+  moved = λ w. not_both (is_placed_at t.requests p) (waiting_apart t.requests p w).1 placed;
+}
+
+-- who is in a queue is its first message, or stands behind it
+from_first : (queue : List Queued) (lo hi p : ℕ) → Rising lo (queue_ids queue) hi → IsIn p (queue_ids queue) → is_from (first_in queue) p ≡ true
+from_first [] lo hi p r i = absurd i
+from_first (q ∷ qs) lo hi p r i = le_test q.id p (first_is_least lo q.id (queue_ids qs) hi p r i)
+
+-- the numbers of a queue rise
+queue_rises : (b : Book) (t : Inner) → Tied b t → Rising 0 (queue_ids (link_in t.life).queue) (length t.requests)
+queue_rises b t h =
+    let queue = queue_ids (link_in t.life).queue in
+    let kept = kept_ids t.admitted t.waiting in
+    rising_left 0 queue kept (length t.requests) (rising_right 0 t.started (queue ++ kept) (length t.requests) h.lines.line)
+
+-- who waits for a place shows that
+place_shown : (before : List Action) (f : Core) (w : Work) (p : ℕ) (ps started : List ℕ) (link : LinkState) → w.conn.life ≡ Ready link → is_admitted_at w.conn.requests p ≡ true → IsShowing before f w (p ∷ ps) [] started → IsShowing before f (wait_shown w p (Some wait.Place)) ps [] started
+place_shown before f w p ps started link e a h =
+    let b = book (trace_of_acts before f w.acts) in
+    let t = unshown f w (p ∷ ps) [] started in
+    let q = showing_quiet before f w (p ∷ ps) [] started h in
+    let o = (admitted_open w.conn.requests p a).0 in
+    let i = admitted_there b t p h.sound.tied refl a in
+    one_shown before f w p wait.Place (p ∷ ps) [] started ps [] h (ap has_ended e) o
+    (inr (inl (a, i)), h.sound.tied.waits.no_place p (inl refl) a, place_holds b t p link h.sound.tied q e o i, (λ m l j. behind_first p ps (length w.conn.requests) m h.sound.tied.waits.rising l j), (λ m l x. no_fresh m x))
+    (moved_waits b t p wait.Place ps h.sound.tied refl refl (λ d. (let no : Ready link ≡ Dialing = sym e ∙ d in cc)) (open_within w.conn.requests p o) (admitted_so b t p h.sound.tied a))
+
+-- who is in the queue shows that it waits for room
+room_shown : (before : List Action) (f : Core) (w : Work) (p : ℕ) (ps started : List ℕ) (link : LinkState) → w.conn.life ≡ Ready link → is_placed_at w.conn.requests p ≡ true → IsIn p (awaited_ids (link_in w.conn.life).queue) → IsShowing before f w (p ∷ ps) [] started
+    → IsShowing before f (wait_shown w p (Some wait.Room)) ps [] started
+room_shown before f w p ps started link e placed i h =
+    let b = book (trace_of_acts before f w.acts) in
+    let t = unshown f w (p ∷ ps) [] started in
+    let q = showing_quiet before f w (p ∷ ps) [] started h in
+    let o = placed_open w.conn.requests p placed in
+    one_shown before f w p wait.Room (p ∷ ps) [] started ps [] h (ap has_ended e) o
+    (inl i, h.sound.tied.waits.no_room p (inl refl) i, room_holds b t p link h.sound.tied q e (awaited_in p (link_in w.conn.life).queue i), (λ m l j. behind_first p ps (length w.conn.requests) m h.sound.tied.waits.rising l j), (λ m l x. no_fresh m x))
+    (moved_waits b t p wait.Room ps h.sound.tied refl refl (λ d. (let no : Ready link ≡ Dialing = sym e ∙ d in cc)) (open_within w.conn.requests p o) (placed_so t p placed))
+
+-- on a link that is up, one of those that were moved shows its wait, if it has one
+moved_shown_up : (before : List Action) (f : Core) (w : Work) (p : ℕ) (ps started : List ℕ) (link : LinkState) → w.conn.life ≡ Ready link → IsShowing before f w (p ∷ ps) [] started → IsShowing before f (wait_shown w p (moved_wait w.conn p)) ps [] started
+moved_shown_up before f w p ps started link e h =
+    let b = book (trace_of_acts before f w.acts) in
+    let t = unshown f w (p ∷ ps) [] started in
+    let placed = is_placed_at w.conn.requests p in
+    let from = is_from (first_queued w.conn.life) p in
+    let first_is : from ≡ is_from (first_in (link_in w.conn.life).queue) p = (λ i. is_from (first_queued (e i)) p) ∙ sym (λ i. is_from (first_in (link_in (e i)).queue) p) in
+    let so = λ (x : Option WaitKind). IsShowing before f (wait_shown w p x) ps [] started in
+    chosen so (is_admitted_at w.conn.requests p) (Some wait.Place) (if placed && from then Some wait.Room else None)
+    (λ a. place_shown before f w p ps started link e a h)
+    (λ no_place. chosen so (placed && from) (Some wait.Room) None
+    (λ r.
+    let has = both_left placed from r in
+    let i = placed_there b t p h.sound.tied refl (ap has_ended e) (placed_open w.conn.requests p has) has (sym first_is ∙ both_right placed from r) in
+    room_shown before f w p ps started link e has i h)
+    (λ n. retied before f w (p ∷ ps) [] started ps [] h (passed_waits b t p ps h.sound.tied refl no_place (λ i.
+    let queue = (link_in w.conn.life).queue in
+    let has = awaited_placed b.story w.conn.requests queue p h.sound.tied.lines.queued i in
+    let behind = first_is ∙ from_first queue 0 (length w.conn.requests) p (queue_rises b t h.sound.tied) (awaited_in p queue i) in
+    not_both (placed && from) n (λ j. has j && behind j)))))
+
+-- a wait that is shown leaves the connection
+wait_conn : (w : Work) (p : ℕ) (kind : Option WaitKind) → (wait_shown w p kind).conn ≡ w.conn
+wait_conn w p None = refl
+wait_conn w p (Some kind) = refl
+
+-- and so do all
+moved_conn : (w : Work) (ps : List ℕ) → (moved_each_shown w ps).conn ≡ w.conn
+moved_conn w [] = refl
+moved_conn w (p ∷ ps) = moved_conn (wait_shown w p (moved_wait w.conn p)) ps ∙ wait_conn w p (moved_wait w.conn p)
+
+-- all of them do
+moved_each_up : (before : List Action) (f : Core) (w : Work) (ps started : List ℕ) (link : LinkState) → w.conn.life ≡ Ready link → IsShowing before f w ps [] started → IsShowing before f (moved_each_shown w ps) [] [] started
+moved_each_up before f w [] started link e h = h
+moved_each_up before f w (p ∷ ps) started link e h =
+    let kind = moved_wait w.conn p in
+    moved_each_up before f (wait_shown w p kind) ps started link (ap (λ (c : MultiplexedConnection). c.life) (wait_conn w p kind) ∙ e) (moved_shown_up before f w p ps started link e h)
+
+-- on a link that isn't up there is none in the queue
+none_from : (life : Life) (p : ℕ) (placed : Bool) → is_ready life ≡ false → (placed && is_from (first_queued life) p) ≡ false
+none_from Dialing p true f = refl
+none_from Dialing p false f = refl
+none_from (Ready link) p placed f = cc
+none_from (Ended e) p true f = refl
+none_from (Ended e) p false f = refl
+
+-- so nothing is shown where nobody waits for a place
+unmoved : (w : Work) (ps : List ℕ) → is_ready w.conn.life ≡ false → ((p : ℕ) → is_admitted_at w.conn.requests p ≡ false) → moved_each_shown w ps ≡ w
+unmoved w [] down none = refl
+unmoved w (p ∷ ps) down none =
+    let room = is_placed_at w.conn.requests p && is_from (first_queued w.conn.life) p in
+    let kind_is : moved_wait w.conn p ≡ None = left_if (is_admitted_at w.conn.requests p) (Some wait.Place) (if room then Some wait.Room else None) (none p) ∙ left_if room (Some wait.Room) None (none_from w.conn.life p (is_placed_at w.conn.requests p) down) in
+    ap (λ x. moved_each_shown (wait_shown w p x) ps) kind_is ∙ unmoved w ps down none
+
+-- and none waits for a place or is in the queue
+down_waits : (b : Book) (t : Inner) → Tied b t → is_ready t.life ≡ false → ((p : ℕ) → is_admitted_at t.requests p ≡ false) → TiedWaits b.story t.requests t.life t.fresh []
+down_waits b t h down none = record {
+  new = h.waits.new;
+  early = h.waits.early;
+  connect = h.waits.connect;
+  place = λ p a. absurd (not_both (is_admitted_at t.requests p) (none p) a);
+  room = λ p r. absurd (no_queue t.life p down r);
+  rising = omega arith;
+  no_place = λ p i. absurd i;
+  no_room = λ p i. absurd i;
+}
+  where
+    no_queue : (life : Life) (p : ℕ) → is_ready life ≡ false → IsIn p (awaited_ids (link_in life).queue) → ⊥
+    no_queue Dialing p f i = i
+    no_queue (Ready link) p f i = cc
+    no_queue (Ended e) p f i = i
+
+-- on a link that has ended nobody waits for a place
+ended_admits : (b : Book) (t : Inner) (p : ℕ) (x : RedisError) → Tied b t → IsQuiet t → t.life ≡ Ended x → is_admitted_at t.requests p ≡ false
+ended_admits b t p x h q e = by_test (is_admitted_at t.requests p) _
+    (λ a.
+    let o = (admitted_open t.requests p a).0 in
+    let empty : kept_ids t.admitted t.waiting ≡ [] = (λ i. kept_ids (q.none (λ link r. (let no : Ended x ≡ Ready link = sym e ∙ r in cc)) i) (q.waiting (λ d. (let no : Ended x ≡ Dialing = sym e ∙ d in cc)) i)) in
+    absurd (none_open b t x (name_at t.requests p) h q.settled e empty ((request_story b t p h (open_within t.requests p o)).open_is ∙ o)))
+    (λ f. f)
+
+-- those that came in this turn
+--
+-- where the connect is answered nothing is to be shown of them
+late_waits : (story : ℕ → Story) (requests : List Request) (life : Life) (fresh moved : List ℕ) → life ≢ Dialing → TiedWaits story requests life fresh moved → TiedWaits story requests life [] moved
+late_waits story requests life fresh moved up h = record {
+  new = tt;
+  early = h.early;
+  connect = λ p w d. absurd (up d);
+  place = h.place;
+  room = h.room;
+  rising = h.rising;
+  no_place = h.no_place;
+  no_room = h.no_room;
+}
+
+-- and nothing is
+unfresh : (w : Work) (ps : List ℕ) → awaits_connect w.conn.life ≡ false → fresh_each_shown w ps ≡ w
+unfresh w [] up = refl
+unfresh w (p ∷ ps) up =
+    let waits = is_waiting_at w.conn.requests p && awaits_connect w.conn.life in
+    let kind_is : fresh_wait w.conn p ≡ None = left_if waits (Some wait.Connect) None (ap (λ x. is_waiting_at w.conn.requests p && x) up ∙ none_of (is_waiting_at w.conn.requests p)) in
+    ap (λ x. fresh_each_shown (wait_shown w p x) ps) kind_is ∙ unfresh w ps up
+  where
+    none_of : (a : Bool) → (a && false) ≡ false
+    none_of true = refl
+    none_of false = refl
 
 -- what the test of a life means
 dialing_is : (life : Life) → awaits_connect life ≡ true → life ≡ Dialing
@@ -65,78 +280,140 @@ dialing_is Dialing e = refl
 dialing_is (Ready link) e = cc
 dialing_is (Ended x) e = cc
 
--- and back
-is_dialing_of : (life : Life) → life ≡ Dialing → awaits_connect life ≡ true
-is_dialing_of life e = ap awaits_connect e
+-- nothing is not a wait
+unshown_yet : (x : Option WaitKind) (kind : WaitKind) → x ≡ None → x ≢ Some kind
+unshown_yet x kind none e = let no : ◌≡◌ {A = Option WaitKind} None (Some kind) = sym none ∙ e in cc
 
--- the book once all bytes are offered
-pub written_book : (before : List Action) (f : Core) (w : Work) → HasWritten before f w → IsWritten (book (trace_of_acts before f w.acts))
-written_book before f w h = is_written (book (trace_of_acts before f w.acts)) (seen f w.conn [] h.moved.started) h.moved.holds.tied (moved_book before f w h.moved) h.offered
-
--- a wait is shown
-new_shown : (before : List Action) (f : Core) (w : Work) (p : ℕ) (h : HasWritten before f w) → w.conn.fresh ≡ p ∷ [] → is_waiting_at w.conn.requests p ≡ true → w.conn.life ≡ Dialing
-    → HasShown before f (acted (fresh_work w []) (act.Wait (name_at w.conn.requests p) wait.Connect))
-new_shown before f w p h fresh waits life =
+-- while the connect isn't answered, who came in this turn shows that it waits for it, if it does
+fresh_shown_one : (before : List Action) (f : Core) (w : Work) (p : ℕ) (started : List ℕ) → w.conn.life ≡ Dialing → IsShowing before f w [] (p ∷ []) started → IsShowing before f (wait_shown w p (fresh_wait w.conn p)) [] [] started
+fresh_shown_one before f w p started e h =
     let b = book (trace_of_acts before f w.acts) in
-    let t = seen f w.conn [] h.moved.started in
-    let n = name_at w.conn.requests p in
-    let a = act.Wait n wait.Connect in
-    let tied = subst (λ ps. Tied b (with_fresh t ps)) fresh h.moved.holds.tied in
-    let within = open_within w.conn.requests p (waiting_open w.conn.requests p waits) in
-    record {
-      written = record {
-        moved = record {
-          started = h.moved.started;
-          holds = holds_more before f w a (fresh_work w []).conn [] [] h.moved.started h.moved.holds (refl, wait_may b t p tied refl life waits (written_book before f w h)) (wait_tied b t p within tied);
-          ended = subst NoneEnds (sym (book_of_more before f w.acts a)) h.moved.ended;
-          whole = h.moved.whole;
-          waiting = h.moved.waiting;
-          told = subst NoneTold (sym (book_of_more before f w.acts a)) (wait_told b n wait.Connect h.moved.told);
-        };
-        offered = h.offered;
-      };
-      fresh = refl;
-    }
+    let t = unshown f w [] (p ∷ []) started in
+    let q = showing_quiet before f w [] (p ∷ []) started h in
+    let waits = is_waiting_at w.conn.requests p in
+    let dials = awaits_connect w.conn.life in
+    chosen (λ (x : Option WaitKind). IsShowing before f (wait_shown w p x) [] [] started) (waits && dials) (Some wait.Connect) None
+    (λ both.
+    let w_is = both_left waits dials both in
+    let o = waiting_open w.conn.requests p w_is in
+    let within = open_within w.conn.requests p o in
+    let at : IsPlacedOrKept t p = elim (located b t p h.sound.tied refl o) [ inl i ↦ absurd (subst (λ (x : Life). IsIn p (wanted (link_in x).row)) e i) | inr k ↦ k ] in
+    one_shown before f w p wait.Connect [] (p ∷ []) started [] [] h (ap has_ended e) o
+    (at, unshown_yet (shown_wait b.story w.conn.requests p) wait.Connect h.sound.tied.waits.new, dialing_step b t p h.sound.tied e within, (λ m l i. i), (λ m l x. (let same = same_one p m x in omega arith)))
+    (fresh_waits b t p h.sound.tied q refl e w_is))
+    (λ n. retied before f w [] (p ∷ []) started [] [] h (stale_waits b t p h.sound.tied refl (λ w_is d. not_both (waits && dials) n (λ i. w_is i && awaits_connect (d i)))))
 
--- a request of this turn shows its wait, if it has one
-one_shown : (before : List Action) (f : Core) (w : Work) (p : ℕ) (h : HasWritten before f w) → w.conn.fresh ≡ p ∷ [] → HasShown before f (wait_shown (fresh_work w []) p)
-one_shown before f w p h fresh =
-    let b = book (trace_of_acts before f w.acts) in
-    let t = seen f w.conn [] h.moved.started in
-    let v = fresh_work w [] in
-    let shows = acted v (act.Wait (name_at w.conn.requests p) wait.Connect) in
-    let tied = subst (λ ps. Tied b (with_fresh t ps)) fresh h.moved.holds.tied in
-    chosen (HasShown before f) (is_waiting_at w.conn.requests p) (if awaits_connect w.conn.life then shows else v) v
-    (λ waits. chosen (HasShown before f) (awaits_connect w.conn.life) shows v
-    (λ d. new_shown before f w p h fresh waits (dialing_is w.conn.life d))
-    (λ n. same_shown before f w h (unshown_tied b t p (λ x d. not_both (awaits_connect w.conn.life) n (is_dialing_of w.conn.life d)) tied)))
-    (λ gone. same_shown before f w h (unshown_tied b t p (λ x d. not_both (is_waiting_at w.conn.requests p) gone x) tied))
+-- and so all do, which are one at most
+fresh_each_dialing : (before : List Action) (f : Core) (w : Work) (fresh started : List ℕ) → w.conn.life ≡ Dialing → IsShowing before f w [] fresh started → IsShowing before f (fresh_each_shown w fresh) [] [] started
+fresh_each_dialing before f w [] started e h = h
+fresh_each_dialing before f w (p ∷ []) started e h = fresh_shown_one before f w p started e h
+fresh_each_dialing before f w (p ∷ q ∷ ps) started e h = absurd h.sound.tied.waits.new
+
+-- and so do all of them leave the connection
+fresh_conn : (w : Work) (ps : List ℕ) → (fresh_each_shown w ps).conn ≡ w.conn
+fresh_conn w [] = refl
+fresh_conn w (p ∷ ps) = fresh_conn (wait_shown w p (fresh_wait w.conn p)) ps ∙ wait_conn w p (fresh_wait w.conn p)
+
+-- all waits
+--
+-- what a turn ends with is shown
+pub record HasShown (before : List Action) (f : Core) (w : Work) : Type 0 where
+  pub started : List ℕ
+  pub showing : IsShowing before f w [] [] started
+  pub fresh : w.conn.fresh ≡ []
+  pub moved : w.conn.moved ≡ []
+
+-- a connection with none that was moved, as the waits are shown
+abbrev none_moved : Work → Work
+none_moved w = record w { conn = record w.conn { moved = [] } }
+
+-- and with none that came in this turn
+abbrev none_fresh : Work → Work
+none_fresh w = record w { conn = record w.conn { fresh = [] } }
+
+-- it is the same but for those
+showing_unmoved : (before : List Action) (f : Core) (w : Work) (moved fresh started : List ℕ) → IsShowing before f w moved fresh started → IsShowing before f (none_moved w) moved fresh started
+showing_unmoved before f w moved fresh started h = record {
+  sound = h.sound;
+  ended = h.ended;
+  fit = record { link = h.fit.link; none = h.fit.none };
+  still = record { held = h.still.held; full = h.still.full; waiting = h.still.waiting };
+  offered = h.offered;
+}
+
+-- in either way
+showing_unfresh : (before : List Action) (f : Core) (w : Work) (moved fresh started : List ℕ) → IsShowing before f w moved fresh started → IsShowing before f (none_fresh w) moved fresh started
+showing_unfresh before f w moved fresh started h = record {
+  sound = h.sound;
+  ended = h.ended;
+  fit = record { link = h.fit.link; none = h.fit.none };
+  still = record { held = h.still.held; full = h.still.full; waiting = h.still.waiting };
+  offered = h.offered;
+}
+
+-- it begins
+showing : (before : List Action) (f : Core) (w : Work) (h : HasWritten before f w) → IsShowing before f (none_moved w) w.conn.moved w.conn.fresh h.moved.started
+showing before f w h = showing_unmoved before f w w.conn.moved w.conn.fresh h.moved.started (record { sound = h.moved.holds; ended = h.moved.ended; fit = h.moved.fit; still = h.moved.still; offered = h.offered })
+
+-- where the connect is answered, those that were moved are shown, and none that came
+shown_late : (before : List Action) (f : Core) (w v : Work) (started : List ℕ) → awaits_connect v.conn.life ≡ false → v.conn.moved ≡ [] → IsShowing before f v [] [] started → HasShown before f (fresh_each_shown (none_fresh v) v.conn.fresh)
+shown_late before f w v started up none h =
+    subst (HasShown before f) (sym (unfresh (none_fresh v) v.conn.fresh up)) (record { started = started; showing = showing_unfresh before f v [] [] started h; fresh = refl; moved = none })
 
 -- all that are due are
 pub waits_hold : (before : List Action) (f : Core) (w : Work) → HasWritten before f w → HasShown before f (waits_shown w)
-waits_hold before f w h = by_fresh w.conn.fresh refl
+waits_hold before f w h = by_life w.conn.life refl
   where
-    by_fresh : (fresh : List ℕ) → w.conn.fresh ≡ fresh → HasShown before f (waits_each (fresh_work w []) fresh)
-    by_fresh [] e = same_shown before f w h (subst (λ ps. Tied (book (trace_of_acts before f w.acts)) (with_fresh (seen f w.conn [] h.moved.started) ps)) e h.moved.holds.tied)
-    by_fresh (p ∷ []) e = one_shown before f w p h e
-    by_fresh (p ∷ q ∷ ps) e = absurd (subst (IsNew (book (trace_of_acts before f w.acts)).story w.conn.requests) e h.moved.holds.tied.waits.new)
+    started : List ℕ
+    started = h.moved.started
+
+    first : IsShowing before f (none_moved w) w.conn.moved w.conn.fresh started
+    first = showing before f w h
+
+    last : Work → Type 0
+    last v = HasShown before f (fresh_each_shown (none_fresh v) v.conn.fresh)
+
+    by_life : (life : Life) → w.conn.life ≡ life → HasShown before f (waits_shown w)
+    by_life Dialing e =
+        let b = book (trace_of_acts before f w.acts) in
+        let t = unshown f (none_moved w) w.conn.moved w.conn.fresh started in
+        let q = showing_quiet before f (none_moved w) w.conn.moved w.conn.fresh started first in
+        let none = λ (p : ℕ). dialing_admits b t p first.sound.tied q e in
+        let settled = retied before f (none_moved w) w.conn.moved w.conn.fresh started [] w.conn.fresh first (down_waits b t first.sound.tied (ap is_ready e) none) in
+        subst last (sym (unmoved (none_moved w) w.conn.moved (ap is_ready e) none))
+        (record {
+          started = started;
+          showing = fresh_each_dialing before f (none_fresh (none_moved w)) w.conn.fresh started e (showing_unfresh before f (none_moved w) [] w.conn.fresh started settled);
+          fresh = ap (λ (c : MultiplexedConnection). c.fresh) (fresh_conn (none_fresh (none_moved w)) w.conn.fresh);
+          moved = ap (λ (c : MultiplexedConnection). c.moved) (fresh_conn (none_fresh (none_moved w)) w.conn.fresh);
+        })
+    by_life (Ready link) e =
+        let b = book (trace_of_acts before f w.acts) in
+        let up : w.conn.life ≢ Dialing = λ d. (let no : Ready link ≡ Dialing = sym e ∙ d in cc) in
+        let begun = retied before f (none_moved w) w.conn.moved w.conn.fresh started w.conn.moved [] first (late_waits b.story w.conn.requests w.conn.life w.conn.fresh w.conn.moved up first.sound.tied.waits) in
+        let v = moved_each_shown (none_moved w) w.conn.moved in
+        let same = moved_conn (none_moved w) w.conn.moved in
+        shown_late before f w v started (ap (λ (c : MultiplexedConnection). awaits_connect c.life) same ∙ ap awaits_connect e) (ap (λ (c : MultiplexedConnection). c.moved) same) (moved_each_up before f (none_moved w) w.conn.moved started link e begun)
+    by_life (Ended x) e =
+        let b = book (trace_of_acts before f w.acts) in
+        let t = unshown f (none_moved w) w.conn.moved w.conn.fresh started in
+        let q = showing_quiet before f (none_moved w) w.conn.moved w.conn.fresh started first in
+        let none = λ (p : ℕ). ended_admits b t p x first.sound.tied q e in
+        let up : w.conn.life ≢ Dialing = λ d. (let no : Ended x ≡ Dialing = sym e ∙ d in cc) in
+        let settled = retied before f (none_moved w) w.conn.moved w.conn.fresh started [] [] first (late_waits b.story w.conn.requests w.conn.life w.conn.fresh [] up (down_waits b t first.sound.tied (ap is_ready e) none)) in
+        subst last (sym (unmoved (none_moved w) w.conn.moved (ap is_ready e) none)) (shown_late before f w (none_moved w) started (ap awaits_connect e) refl settled)
 
 -- what is open then
 --
 -- a message that takes items is started, and offered
-row_goes : (b : Book) (t : Inner) (n : ℕ) → Tied b t → t.pending ≡ [] → IsWritten b → (link : LinkState) → t.life ≡ Ready link → link.queue ≡ [] → t.waiting ≡ [] → IsOpen b n → IsStarted b n
-row_goes b t n h none written link life queue waiting asked =
+row_goes : (b : Book) (t : Inner) (n : ℕ) → Tied b t → IsWritten b → (link : LinkState) → t.life ≡ Ready link → (r : IsOpenRequest t n) → IsIn r.number (wanted (link_in t.life).row) → IsStarted b n
+row_goes b t n h written link life r i =
     let l = b.link t.link in
     let name = owner_of t.requests in
     let alive : has_ended t.life ≡ false = ap has_ended life in
-    let r = open_request b t n h asked in
     let within = open_within t.requests r.number r.open_at in
-    let i = open_in_line b.story t.requests (link_in t.life) t.waiting t.pending t.started r.number h.lines r.open_at in
-    let j = subst (λ ns. IsIn r.number (ns ++ line_of (link_in t.life) t.waiting)) none i in
-    let rest : queue_ids (link_in t.life).queue ++ waiting_ids t.waiting ≡ [] = (λ k. queue_ids (link_in (life k)).queue ++ waiting_ids (waiting k)) ∙ ap (λ qs. queue_ids qs ++ []) queue in
-    let k = elim (in_either r.number (wanted (link_in t.life).row) (queue_ids (link_in t.life).queue ++ waiting_ids t.waiting) j) as (λ _. IsIn r.number (wanted (link_in t.life).row)) [ inl x ↦ x | inr x ↦ absurd (subst (IsIn r.number) rest x) ] in
     let lives_on = lives l b.created t.life h.life alive in
-    let w = wanted_entry name l _ (link_in t.life).row r.number (row_open name l (link_in t.life) lives_on (h.link alive)) (wanted_in r.number (link_in t.life).row k) in
+    let w = wanted_entry name l _ (link_in t.life).row r.number (row_open name l (link_in t.life) lives_on (h.link alive)) (wanted_in r.number (link_in t.life).row i) in
     let place = subst (λ m. StandsAs l.starts (name m) w.entry.shape w.number) w.is w.open_as.place in
     let up : l.up ≡ true = (subst (λ (x : Life). TiedLife l b.created x) life h.life).1 in
     record {
@@ -147,59 +424,54 @@ row_goes b t n h none written link life queue waiting asked =
       offered = written.offered t.link up;
     }
 
--- and while the connect isn't answered, all wait
-dialing_goes : (b : Book) (t : Inner) (n : ℕ) → Tied b t → t.pending ≡ [] → t.fresh ≡ [] → t.life ≡ Dialing → IsOpen b n → IsWaiting b n
-dialing_goes b t n h none fresh life asked =
-    let r = open_request b t n h asked in
-    let d = dialing_waits b t r.number h none life r.open_at in
-    record {
-      unstarted = ap (λ m. (b.story m).tries) (sym r.named) ∙ d.1;
-      kind = wait.Connect;
-      shown = ap (λ m. (b.story m).waiting) (sym r.named) ∙ (elim (h.waits.shown r.number d.0 life) [ inl e ↦ absurd (no_fresh r.number (sym fresh ∙ e)) | inr e ↦ e ]);
-      holds = subst (λ m. WaitHolds b m wait.Connect) r.named (dialing_holds b t r.number h life (open_within t.requests r.number r.open_at));
-    }
-  where
-    no_fresh : (p : ℕ) → [] ≡ p ∷ [] → ⊥
-    no_fresh p e = cc
-
 -- the turn is settled
-pub is_settled : (b : Book) (t : Inner) → Tied b t → t.pending ≡ [] → t.fresh ≡ [] → IsWholeIn t.life → (t.life ≢ Dialing → t.waiting ≡ []) → IsWritten b → IsSettled b
-is_settled b t h none fresh whole waits written = record { written = written; goes = λ n asked. by_life t.life refl n asked }
+pub is_settled : (b : Book) (t : Inner) → Tied b t → IsQuiet t → t.fresh ≡ [] → t.moved ≡ [] → IsWritten b → IsSettled b
+is_settled b t h q fresh moved written = record {
+  written = written;
+  goes = λ n asked.
+      let r = open_request b t n h asked in
+      elim (located b t r.number h q.settled r.open_at) [
+        | inl i ↦ by_life n r i t.life refl
+        | inr at ↦ inr (subst (IsWaiting b) r.named (waiting_is b t r.number h q r.open_at at (λ i. subst (IsIn r.number) moved i) (λ e. no_fresh r.number (sym fresh ∙ e))))
+      ];
+}
   where
-    by_life : (life : Life) → t.life ≡ life → (n : ℕ) → IsOpen b n → IsStarted b n ⊎ IsWaiting b n
-    by_life Dialing e n asked = inr (dialing_goes b t n h none fresh e asked)
-    by_life (Ready link) e n asked = inl (row_goes b t n h none written link e (whole link e).empty (waits (λ x. (let no : Ready link ≡ Dialing = sym e ∙ x in cc))) asked)
-    by_life (Ended y) e n asked = absurd (none_open b t y n h none e (waits (λ x. (let no : Ended y ≡ Dialing = sym e ∙ x in cc))) asked)
+    by_life : (n : ℕ) (r : IsOpenRequest t n) → IsIn r.number (wanted (link_in t.life).row) → (life : Life) → t.life ≡ life → IsStarted b n ⊎ IsWaiting b n
+    by_life n r i Dialing e = absurd (subst (λ (x : Life). IsIn r.number (wanted (link_in x).row)) e i)
+    by_life n r i (Ready link) e = inl (row_goes b t n h written link e r i)
+    by_life n r i (Ended x) e = absurd (subst (λ (x : Life). IsIn r.number (wanted (link_in x).row)) e i)
 
 -- a turn's end
 --
--- the session between two turns, and none is told that has not started
+-- the session between two turns
 pub record IsBetween (before : List Action) (c : Core) : Type 0 where
   pub started : List ℕ
   pub between : Between before c started
-  pub told : NoneTold (book before)
 
 -- what is shown at a turn's end is settled
 pub shown_between : (before : List Action) (f : Core) (w : Work) → f.turns ≢ 0 → HasShown before f w → IsBetween (trace_of_acts before f w.acts) (with_work (record { core = f; acts = [] }) w).core
 shown_between before f w began h =
-    let m = h.written.moved in
-    let t = seen f w.conn [] m.started in
+    let trace = trace_of_acts before f w.acts in
+    let t = seen f w.conn [] h.started in
+    let s = h.showing in
+    let sound : Sound trace t = subst (λ ns. Sound trace (with_unshown t ns w.conn.fresh)) (sym h.moved) (subst (λ ns. Sound trace (with_unshown t [] ns)) (sym h.fresh) s.sound) in
+    let quiet : IsQuiet t = record { settled = refl; fit = s.fit.link; none = s.fit.none; held = s.still.held; full = s.still.full; waiting = s.still.waiting } in
     record {
-      started = m.started;
+      started = h.started;
       between = record {
-        sound = m.holds;
-        settled = is_settled (book (trace_of_acts before f w.acts)) t m.holds.tied refl h.fresh m.whole m.waiting (written_book before f w h.written);
+        sound = sound;
+        settled = is_settled (book trace) t sound.tied quiet h.fresh h.moved (showing_written before f w [] [] h.started s);
         began = began;
         fresh = h.fresh;
-        whole = m.whole;
-        waiting = m.waiting;
+        moved = h.moved;
+        fit = s.fit;
+        still = s.still;
       };
-      told = m.told;
     }
 
 -- all is moved, and all is shown
-pub moved_on_between : (before : List Action) (t : Turning) (started : List ℕ) → HasApplied before t started → NoneTold (book (trace_with before t)) → IsBetween (trace_with before (moved_on t)) (moved_on t).core
-moved_on_between before t started h told =
+pub moved_on_between : (before : List Action) (t : Turning) (started : List ℕ) → HasApplied before t started → IsBetween (trace_with before (moved_on t)) (moved_on t).core
+moved_on_between before t started h =
     let w = work_of t in
-    let ready : IsReady before t.core w started = record { holds = h.sound; ended = h.ended; whole = h.whole; told = told } in
+    let ready : IsReady before t.core w started = record { holds = h.sound; ended = h.ended; fit = h.fit; moved = h.moved } in
     shown_between before t.core (flushed (passed w)) h.began (waits_hold before t.core (written (passed w)) (written_holds before t.core (passed w) (passed_moved before t.core w started ready)))

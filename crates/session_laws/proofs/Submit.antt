@@ -1,5 +1,5 @@
 -- A submission is handed in: it is answered at once, or it is the next request.
-use Rattle.std.proofs.Common.{◌≡◌, ◌≢◌, ◌⊎◌, inl, inr, ℕ, ◌+◌, ◌<◌, ◌==◌, Bool, true, false, ◌||◌, List, [], ◌∷◌, ◌++◌, length, Option, Some, None, if◌then◌else◌, refl, sym, ap, ◌∙◌, subst, arith, length-append}
+use Rattle.std.proofs.Common.{◌≡◌, ◌≢◌, ◌⊎◌, inl, inr, ℕ, ◌+◌, ◌<◌, ◌==◌, Bool, true, false, ◌||◌, ◌&&◌, not, List, [], ◌∷◌, ◌++◌, length, Option, Some, None, if◌then◌else◌, refl, sym, ap, ◌∙◌, subst, arith, length-append}
 use Rattle.containers.proofs.Places.{get_within}
 use Rattle.containers.proofs.Choices.{by_test, taken_if, left_if, eq_from, eq_test, ne_from, ne_test, not_both}
 use Rattle.redis_error.specs.declared.redis_error.RedisError.{RedisError}
@@ -12,10 +12,10 @@ use Rattle.driver_model.specs.News.{silence}
 use Rattle.driver_model.specs.Request.{packed_bytes}
 use Rattle.link_laws.proofs.TiedLink.{told_tied}
 use Rattle.mux_conn.specs.declared.request.Request.{Request}
-use Rattle.mux_conn.specs.Requests.{is_waiting}
+use Rattle.mux_conn.specs.Requests.{is_waiting, is_admitted}
 use Rattle.shared_session.specs.declared.core_state.Core.{Core}
 use Rattle.legal_trace.specs.Ledger.{is_over}
-use Rattle.legal_trace.specs.Story.{Story, Try, blank_story, is_open, bytes_of, handed_in, answered, last_of}
+use Rattle.legal_trace.specs.Story.{Story, Try, blank_story, is_open, is_no_error, is_told, is_awaited, bytes_of, handed_in, answered, last_of}
 use Rattle.legal_trace.specs.Book.{Book, entered, if_own, current}
 use Rattle.legal_trace.specs.Owed.{owed, owed_to_try}
 use Rattle.legal_trace.specs.Legal.{IsOpen, link_of, NoneIsOwed, NoneEnds, MayAnswer, FailuresAreShown}
@@ -27,7 +27,8 @@ use Rattle.session_laws.proofs.Answer.{owed_in}
 use Rattle.session_laws.proofs.Settle.{seen}
 use Rattle.session_laws.proofs.Announce.{turn_of, turned}
 use Rattle.session_laws.proofs.Heard.{told_life, silent_no_end}
-use Rattle.session_laws.proofs.Further.{get_beyond, no_longer, SameBefore, story_at, further_story, tries_longer, queue_longer, packs_longer}
+use Rattle.session_laws.proofs.Further.{get_beyond, no_longer, SameBefore, further_story, tries_longer, queue_longer, packs_longer, told_longer, waits_longer}
+use Rattle.session_laws.proofs.InLine.{kept_ids, awaited_in}
 
 -- the stories once it is handed in
 abbrev pub stories_with : Book → Submission → ℕ → Story
@@ -121,6 +122,11 @@ refused_is b c started what e h =
     taken_if (length c.table == length c.table) _ (stories_with b what (length c.table)) (eq_test (length c.table) (length c.table) refl)
     ∙ ap (λ (s : Story). answered s (outcome.Fault e)) (story_is_new b c started what h)
 
+-- a fault tells nobody at a place
+fault_untold : (awaited : Bool) (e : RedisError) → (not awaited && is_no_error (outcome.Fault e ∷ [])) ≡ false
+fault_untold true e = refl
+fault_untold false e = refl
+
 -- the core with one submission more
 abbrev pub core_refused : Core → Submission → Core
 core_refused c what = record (turned c (event.Submit what)) { table = c.table ++ None ∷ [] }
@@ -135,17 +141,17 @@ refused_tied b c started word what e h no_fresh =
     let same = refused_before b c started what e h in
     let longer = no_longer conn.requests in
     let queue = queue_ids (link_in conn.life).queue in
-    let last = waiting_ids conn.waiting in
+    let last = kept_ids conn.admitted conn.waiting in
     let at : (p : ℕ) → IsIn p (started ++ (queue ++ last)) → p < length conn.requests = λ p i. within_line conn.requests started queue last p h.lines.line i in
-    let story = story_at c.table b.story after conn.requests conn.requests in
+    let is = refused_is b c started what e h in
     record {
-      numbers = record { turns = ap (λ m. m + 1) h.numbers.turns; links = h.numbers.links; timers = h.numbers.timers; aims = h.numbers.aims; timed = λ config other opens bounded none. no_opening _ config other opens; submissions = (let k = h.numbers.submissions in omega (arith, length-append c.table (None ∷ []))); shut = ap (λ s. s || false) h.numbers.shut; one = h.numbers.one; only = h.numbers.only };
+      numbers = record { turns = ap (λ m. m + 1) h.numbers.turns; links = h.numbers.links; timers = h.numbers.timers; aims = h.numbers.aims; timed = λ config other opens bounded none. no_opening _ config other opens; submissions = (let k = h.numbers.submissions in omega (arith, length-append c.table (None ∷ []))); shut = ap (λ s. s || false) h.numbers.shut; settings = record { size_is = h.numbers.settings.size_is; bound_is = h.numbers.settings.bound_is; some = h.numbers.settings.some }; one = h.numbers.one; only = h.numbers.only };
       others = λ m other. let u = h.others m other in record { asked = u.asked; up = u.up; end = u.end; starts = u.starts };
       life = told_life ledger b.created conn.life silence h.life;
       link = λ alive. told_tied (owner_of conn.requests) ledger (link_in conn.life) ledger.asked ledger.up silence (h.link alive);
       names = names_refused c.table conn.requests h.names;
       story = further_story c.table b.story after conn.requests conn.requests c.single.link None h.names same longer h.story
-          (subst IsRefused (sym (refused_is b c started what e h)) (record { what = what; handed_in = refl; untried = refl; error = e; answered = refl }));
+          (subst IsRefused (sym is) (record { what = what; handed_in = refl; untried = refl; error = e; answered = refl }));
       tries = tries_longer c.table (record ledger { heard = silence }) b.story after conn.requests conn.requests c.single.link started h.names same longer
           (λ p i. at p (in_left p started (queue ++ last) i)) (λ k p i. started_within b (inner c started) k p h i) (λ p r i past. absurd (let l = get_within conn.requests p r i in omega arith))
           (record { owners = h.tries.owners; shapes = h.tries.shapes; tried = h.tries.tried; untried = h.tries.untried });
@@ -153,14 +159,19 @@ refused_tied b c started word what e h no_fresh =
         line = h.lines.line;
         queued = queue_longer c.table b.story after conn.requests conn.requests (link_in conn.life).queue h.names same longer (λ p i. at p (in_right p started (queue ++ last) (in_left p queue last i))) h.lines.queued;
         entries = h.lines.entries;
-        packs = packs_longer c.table b.story after conn.requests conn.requests conn.waiting h.names same longer (λ p i. at p (in_right p started (queue ++ last) (in_right p queue last i))) h.lines.packs;
+        packs = packs_longer c.table b.story after conn.requests conn.requests conn.waiting h.names same longer
+            (λ p i. at p (in_right p started (queue ++ last) (in_right p queue last (in_right p (waiting_ids conn.admitted) (waiting_ids conn.waiting) i)))) h.lines.packs;
+        packed_in = packs_longer c.table b.story after conn.requests conn.requests conn.admitted h.names same longer
+            (λ p i. at p (in_right p started (queue ++ last) (in_right p queue last (in_left p (waiting_ids conn.admitted) (waiting_ids conn.waiting) i)))) h.lines.packed_in;
         there = h.lines.there;
       };
-      waits = record {
-        new = subst (λ ns. IsNew after conn.requests ns) (sym no_fresh) tt;
-        shown = λ p w d. elim (h.waits.shown p w d) [
-          | inl x ↦ inl x
-          | inr x ↦ inr (ap (λ (s : Story). s.waiting) (story p h.names same longer (there_within is_waiting conn.requests p w)) ∙ x)
-        ];
-      };
+      told = λ up. told_longer c.table b.story after conn.requests conn.requests (link_in conn.life) same longer
+          (λ u. not_both (is_told (answered (new_story b what) (outcome.Fault e))) (fault_untold (is_awaited (new_story b what)) e) (ap is_told (sym is) ∙ u.0)) (h.told up);
+      waits = waits_longer c.table b.story after conn.requests conn.requests conn.life conn.fresh conn.fresh conn.moved h.names same longer
+          (λ p i. at p (in_right p started (queue ++ last) (in_left p queue last (awaited_in p (link_in conn.life).queue i)))) no_fresh
+          (record {
+            new = subst (λ ns. IsNew after conn.requests ns) (sym no_fresh) tt;
+            shown = λ p w past. absurd (let l = there_within is_waiting conn.requests p w in omega arith);
+            none = λ p a past. (let l = there_within is_admitted conn.requests p a in omega arith);
+          }) h.waits;
     }

@@ -1,11 +1,12 @@
 -- Offered bytes were taken.
-use Rattle.std.proofs.Common.{◌≡◌, ℕ, ◌≤◌, false, ◌&&◌, not, List, [], ◌∷◌, ◌++◌, Option, None, if◌then◌else◌, refl, subst}
+use Rattle.std.proofs.Common.{◌≡◌, ℕ, ◌≤◌, false, ◌&&◌, not, List, [], ◌∷◌, ◌++◌, Option, None, if◌then◌else◌, refl, subst, ap}
 use Rattle.containers.proofs.Choices.{chosen}
 use Rattle.driver_model.specs.declared.action.Action.{Action}
 use Rattle.driver_model.specs.declared.event.EventKind.{EventKind}
 use Rattle.driver_model.specs.News.{took, news_of}
 use Rattle.link_core.specs.Link.{LinkState, wrote_of}
 use Rattle.link_laws.proofs.TiedLink.{wrote_tied}
+use Rattle.link_laws.specs.Settles.{awaited_ids}
 use Rattle.mux_conn.specs.declared.life.Life.{Life}
 use Rattle.mux_conn.specs.declared.life.Life.TheVariants.{Dialing, Ready, Ended}
 use Rattle.mux_conn.specs.declared.request.Request.{Request}
@@ -16,8 +17,9 @@ use Rattle.shared_session.specs.Turn.{with_work, is_bad}
 use Rattle.legal_trace.specs.Ledger.{Ledger, Ending, hears, noted, ending, ending_asked, is_over}
 use Rattle.legal_trace.specs.Story.{Story}
 use Rattle.legal_trace.specs.Book.{book}
-use Rattle.session_laws.proofs.Tied.{link_in, owner_of, TiedLife, TiedLines}
-use Rattle.session_laws.proofs.States.{IsWhole, Between, HasApplied}
+use Rattle.session_laws.proofs.Numbers.{IsIn}
+use Rattle.session_laws.proofs.Tied.{link_in, owner_of, TiedLife, TiedLines, AreQueued, TiedWaits, has_ended}
+use Rattle.session_laws.proofs.States.{IsFit, Between, HasApplied}
 use Rattle.session_laws.proofs.Announce.{turn_of, turned, IsNewsKind}
 use Rattle.session_laws.proofs.Heard.{quiet_applied, ended_quiet, dialing_quiet}
 use Rattle.session_laws.proofs.End.{up_tied}
@@ -35,12 +37,27 @@ took_life : (l : Ledger) (created turn count : ℕ) (link after : LinkState) →
 took_life l created turn count link after h = chosen (λ (x : Ledger). TiedLife (record x { heard = took count }) created (Ready after)) l.up _ l (λ t. h) (λ f. h)
 
 -- the lines stay
-wrote_lines : (story : ℕ → Story) (requests : List Request) (link : LinkState) (count : ℕ) (waiting : List Waiting) (pending started : List ℕ) → TiedLines story requests link waiting pending started → TiedLines story requests (wrote_of link count) waiting pending started
-wrote_lines story requests link count waiting pending started h = record { line = h.line; queued = h.queued; entries = h.entries; packs = h.packs; there = h.there }
+wrote_lines : (story : ℕ → Story) (requests : List Request) (link : LinkState) (count : ℕ) (waiting admitted : List Waiting) (pending started : List ℕ) → TiedLines story requests link waiting admitted pending started
+    → TiedLines story requests (wrote_of link count) waiting admitted pending started
+wrote_lines story requests link count waiting admitted pending started h = record { line = h.line; queued = h.queued; entries = h.entries; packs = h.packs; packed_in = h.packed_in; there = h.there }
 
--- and the link is whole
-wrote_whole : (link : LinkState) (count : ℕ) → IsWhole link → (x : LinkState) → Ready (wrote_of link count) ≡ Ready x → IsWhole x
-wrote_whole link count h x e = let same : wrote_of link count ≡ x = cc in subst IsWhole same (record { sound = h.sound; empty = h.empty; size = h.size; boundary = h.boundary })
+-- and so do the waits, on a link with the same queue
+pub queue_waits : (story : ℕ → Story) (requests : List Request) (link after : LinkState) (fresh moved : List ℕ) → ((p : ℕ) → IsIn p (awaited_ids after.queue) → IsIn p (awaited_ids link.queue)) → TiedWaits story requests (Ready link) fresh moved
+    → TiedWaits story requests (Ready after) fresh moved
+queue_waits story requests link after fresh moved same h = record {
+  new = h.new;
+  early = h.early;
+  connect = λ p w d. cc;
+  place = h.place;
+  room = λ p i. h.room p (same p i);
+  rising = h.rising;
+  no_place = h.no_place;
+  no_room = λ p i r. h.no_room p i (same p r);
+}
+
+-- the link is fit
+wrote_fit : (size bound : ℕ) (link : LinkState) (count : ℕ) → IsFit size bound link → (x : LinkState) → Ready (wrote_of link count) ≡ Ready x → IsFit size bound x
+wrote_fit size bound link count h x e = let same : wrote_of link count ≡ x = cc in subst (IsFit size bound) same (record { sound = h.sound; size_is = h.size_is; bound_is = h.bound_is; within = h.within })
 
 -- so much was taken of what was offered
 pub took_applied : (before : List Action) (c : Core) (started : List ℕ) (word count : ℕ) (kind : EventKind) → Between before c started → is_bad c kind ≡ false → IsNewsKind kind → news_of c.timers c.single.link kind ≡ took count → CanTake c.single.connection.life count
@@ -61,7 +78,8 @@ took_applied before c started word count kind h good k is can = by_life c.single
         (record {
           lived = took_life l b.created c.turns count link (wrote_of link count) (u.asked, u.up, u.alive, u.shown);
           linked = λ n. wrote_tied name l link c.turns count u.up few u.tied;
-          lines = wrote_lines b.story conn.requests link count conn.waiting [] started (subst (λ (x : Life). TiedLines b.story conn.requests (link_in x) conn.waiting [] started) e h.sound.tied.lines);
-          waits = record { new = h.sound.tied.waits.new; shown = λ p w d. cc };
+          lines = wrote_lines b.story conn.requests link count conn.waiting conn.admitted [] started (subst (λ (x : Life). TiedLines b.story conn.requests (link_in x) conn.waiting conn.admitted [] started) e h.sound.tied.lines);
+          told = λ n. subst (λ (x : Life). AreQueued b.story conn.requests (link_in x)) e (h.sound.tied.told (ap has_ended e));
+          waits = queue_waits b.story conn.requests link (wrote_of link count) conn.fresh conn.moved (λ p i. i) (subst (λ (x : Life). TiedWaits b.story conn.requests x conn.fresh conn.moved) e h.sound.tied.waits);
         })
-        (took_no_end l c.turns count) (wrote_whole link count (h.whole link e))
+        (took_no_end l c.turns count) (record { link = wrote_fit conn.size conn.boundary link count (h.fit.link link e); none = λ none. absurd (none (wrote_of link count) refl) })

@@ -1,146 +1,467 @@
--- The waits that began are shown.
-use Rattle.std.proofs.Common.{List, None, Option, Some, [], ap, arith, false, inl, inr, length, refl, subst, sym, true, ℕ, ◌++◌, ◌<◌, ◌∙◌, ◌∷◌, ◌≡◌, ◌⊎◌}
-use Rattle.std.specs.Prelude.{◌==◌}
-use Rattle.containers.proofs.Choices.{chosen, ne_from}
+-- The waits that began, and which wait is true of a submission.
+use Rattle.std.proofs.Common.{Bool, List, None, Option, Some, [], ap, arith, false, inl, inr, length, refl, slice_get, subst, suc, sym, true, ℕ, ◌++◌, ◌<◌, ◌≤◌, ◌∙◌, ◌∷◌, ◌≡◌, ◌≢◌, ◌⊎◌}
+use Rattle.std.specs.List.{AllByRecursion}
+use Rattle.std.specs.Prelude.{◌==◌, ◌&&◌, not, if◌then◌else◌}
+use Rattle.containers.proofs.Choices.{by_test, chosen, eq_from, eq_test, le_from, left_if, ne_from, ne_test, not_both, taken_if}
+use Rattle.redis_error.specs.declared.redis_error.RedisError.{RedisError}
 use Rattle.driver_model.specs.declared.action.Action.{Action}
 use Rattle.driver_model.specs.declared.action.Action.TheVariants as action
 use Rattle.driver_model.specs.declared.action.Owner.TheVariants as owner
 use Rattle.driver_model.specs.declared.action.WaitKind.{WaitKind}
 use Rattle.driver_model.specs.declared.action.WaitKind.TheVariants as wait
+use Rattle.link_core.specs.declared.message.Entry.{Entry}
+use Rattle.link_core.specs.Link.{LinkState, first_in, holds_back, is_full}
+use Rattle.link_core.specs.declared.message.Queued.{Queued}
 use Rattle.link_laws.specs.Settles.{awaited_ids, wanted}
-use Rattle.mux_conn.specs.Requests.{is_open_at, is_waiting_at, name_at}
+use Rattle.mux_conn.specs.Connection.{is_ready}
+use Rattle.mux_conn.specs.Requests.{if_there, is_admitted, is_admitted_at, is_open_at, is_placed, is_placed_at, is_waiting, is_waiting_at, name_at}
+use Rattle.mux_conn.specs.Turn.{is_from}
 use Rattle.mux_conn.specs.declared.life.Life.{Life}
-use Rattle.mux_conn.specs.declared.life.Life.TheVariants.{Dialing}
+use Rattle.mux_conn.specs.declared.life.Life.TheVariants.{Dialing, Ended, Ready}
+use Rattle.mux_conn.specs.declared.request.Progress.{Progress}
+use Rattle.mux_conn.specs.declared.request.Progress.TheVariants as progress
 use Rattle.mux_conn.specs.declared.request.Request.{Request}
 use Rattle.legal_trace.specs.Book.{Book, entered, if_own}
-use Rattle.legal_trace.specs.Legal.{IsWritten, MayWait, WaitHolds}
-use Rattle.legal_trace.specs.Story.{Story, waits as waits_now}
+use Rattle.legal_trace.specs.Legal.{IsOpen, IsWaiting, IsWritten, MayWait, WaitHolds}
+use Rattle.legal_trace.specs.Steps.{starts_or_waits}
+use Rattle.legal_trace.specs.Story.{Story, awaited_in, is_no_error, is_told, waits as waits_now}
+use Rattle.session_laws.proofs.Ahead.{IsRunning, dialing_step, full_step, queue_step, queue_within}
+use Rattle.session_laws.proofs.InLine.{awaited_in as in_queue, chosen_in, first_is_least, kept_ids, kept_in, row_ids, wanted_in}
 use Rattle.session_laws.proofs.Kept.{SameOutcomes, SameSubmissions, one_changed, packed_same, queued_same, tries_same}
-use Rattle.session_laws.proofs.Names.{get_some, name_of_some, open_within}
-use Rattle.session_laws.proofs.Numbers.{IsIn, in_right}
-use Rattle.session_laws.proofs.Owes.{later_unstarted, open_request, request_story}
+use Rattle.session_laws.proofs.Moves.{later_of, open_unstarted}
+use Rattle.session_laws.proofs.Names.{earlier_name, get_some, name_of_some, open_within, same_name, there_within}
+use Rattle.session_laws.proofs.Numbers.{IsIn, Rising, in_either, in_left, in_right, rising_apart, rising_from, rising_in}
+use Rattle.session_laws.proofs.Owes.{later_unstarted, none_open, open_request, request_story, row_in_line}
 use Rattle.session_laws.proofs.Place.{waiting_open}
-use Rattle.session_laws.proofs.Tied.{Inner, IsRequest, Tied, TiedLife, link_in, queue_ids, waiting_ids, relined}
+use Rattle.session_laws.proofs.Start.{admitted_open}
+use Rattle.session_laws.proofs.States.{IsFit}
+use Rattle.session_laws.proofs.Tied.{AreQueued, Inner, IsEntry, IsKept, IsQueued, IsRequest, Tied, TiedWaits, has_ended, link_in, queue_ids, shown_wait, waiting_ids}
 
--- a wait
+-- how far a request has come
 --
--- the session with these whose wait isn't shown yet
-abbrev pub with_fresh : Inner → List ℕ → Inner
-with_fresh t fresh = record t { fresh = fresh }
+-- what passes one test fails another
+apart_at : (f g : Progress → Bool) (requests : List Request) (p : ℕ) → ((r : Progress) → f r ≡ true → g r ≡ false) → if_there f (slice_get requests p) ≡ true → if_there g (slice_get requests p) ≡ false
+apart_at f g requests p h = by_request (slice_get requests p)
+  where
+    by_request : (r : Option Request) → if_there f r ≡ true → if_there g r ≡ false
+    by_request None e = cc
+    by_request (Some r) e = h r.progress e
+
+-- who waits for the connection doesn't wait for a place
+waiting_then : (r : Progress) → is_waiting r ≡ true → (is_admitted r ≡ false) × (is_placed r ≡ false)
+waiting_then progress.Waiting e = (refl, refl)
+waiting_then progress.Admitted e = cc
+waiting_then progress.Placed e = cc
+waiting_then progress.Closed e = cc
+
+-- and who waits for a place has none
+admitted_then : (r : Progress) → is_admitted r ≡ true → is_placed r ≡ false
+admitted_then progress.Waiting e = cc
+admitted_then progress.Admitted e = refl
+admitted_then progress.Placed e = cc
+admitted_then progress.Closed e = cc
+
+-- of a request
+pub waiting_apart : (requests : List Request) (p : ℕ) → is_waiting_at requests p ≡ true → (is_admitted_at requests p ≡ false) × (is_placed_at requests p ≡ false)
+waiting_apart requests p w = (apart_at is_waiting is_admitted requests p (λ r e. (waiting_then r e).0) w, apart_at is_waiting is_placed requests p (λ r e. (waiting_then r e).1) w)
+
+-- and of one that waits for a place
+pub admitted_unplaced : (requests : List Request) (p : ℕ) → is_admitted_at requests p ≡ true → is_placed_at requests p ≡ false
+admitted_unplaced requests p a = apart_at is_admitted is_placed requests p admitted_then a
+
+-- an awaited message of a queue has its place
+pub awaited_placed : (story : ℕ → Story) (requests : List Request) (queue : List Queued) (p : ℕ) → AllByRecursion (IsQueued story requests) queue → IsIn p (awaited_ids queue) → is_placed_at requests p ≡ true
+awaited_placed story requests [] p all i = absurd i
+awaited_placed story requests (q ∷ qs) p all i = elim (in_either p (if q.awaited then q.id ∷ [] else []) (awaited_ids qs) i) [
+  | inl j ↦ subst (λ n. is_placed_at requests n ≡ true) (chosen_in q.awaited p q.id j) (all.0.placed_at (own q.awaited j))
+  | inr j ↦ awaited_placed story requests qs p all.1 j
+]
+  where
+    own : (b : Bool) → IsIn p (if b then q.id ∷ [] else []) → b ≡ true
+    own true j = refl
+    own false j = absurd j
+
+-- what is shown of a wait
+--
+-- the session with these that were moved, and these that came in this turn, whose waits aren't shown yet
+abbrev pub with_unshown : Inner → List ℕ → List ℕ → Inner
+with_unshown t moved fresh = record t { moved = moved; fresh = fresh }
 
 -- the action that shows a wait
-abbrev pub wait_action : ℕ → Action
-wait_action n = action.Wait (owner.Try n 0) wait.Connect
+abbrev pub wait_action : ℕ → WaitKind → Action
+wait_action n kind = action.Wait (owner.Try n 0) kind
 
 -- the story of one submission that waits
-abbrev waits_at : ℕ → (ℕ → Story) → ℕ → Story
-waits_at m story n = if_own (m == n) (waits_now (story n) wait.Connect) (story n)
+abbrev pub waits_at : ℕ → WaitKind → (ℕ → Story) → ℕ → Story
+waits_at m kind story n = if_own (m == n) (waits_now (story n) kind) (story n)
 
 -- a wait leaves each submission
-waits_submissions : (m : ℕ) (story : ℕ → Story) → SameSubmissions story (waits_at m story)
-waits_submissions m story n = chosen (λ (x : Story). (story n).submission ≡ x.submission) (m == n) (waits_now (story n) wait.Connect) (story n) (λ t. refl) (λ f. refl)
+waits_submissions : (m : ℕ) (kind : WaitKind) (story : ℕ → Story) → SameSubmissions story (waits_at m kind story)
+waits_submissions m kind story n = chosen (λ (x : Story). (story n).submission ≡ x.submission) (m == n) (waits_now (story n) kind) (story n) (λ t. refl) (λ f. refl)
 
 -- each outcome
-waits_outcomes : (m : ℕ) (story : ℕ → Story) → SameOutcomes story (waits_at m story)
-waits_outcomes m story n = chosen (λ (x : Story). (story n).outcomes ≡ x.outcomes) (m == n) (waits_now (story n) wait.Connect) (story n) (λ t. refl) (λ f. refl)
+waits_outcomes : (m : ℕ) (kind : WaitKind) (story : ℕ → Story) → SameOutcomes story (waits_at m kind story)
+waits_outcomes m kind story n = chosen (λ (x : Story). (story n).outcomes ≡ x.outcomes) (m == n) (waits_now (story n) kind) (story n) (λ t. refl) (λ f. refl)
 
 -- and each try
-waits_tries : (m : ℕ) (story : ℕ → Story) (n : ℕ) → (story n).tries ≡ (waits_at m story n).tries
-waits_tries m story n = chosen (λ (x : Story). (story n).tries ≡ x.tries) (m == n) (waits_now (story n) wait.Connect) (story n) (λ t. refl) (λ f. refl)
+waits_tries : (m : ℕ) (kind : WaitKind) (story : ℕ → Story) (n : ℕ) → (story n).tries ≡ (waits_at m kind story n).tries
+waits_tries m kind story n = chosen (λ (x : Story). (story n).tries ≡ x.tries) (m == n) (waits_now (story n) kind) (story n) (λ t. refl) (λ f. refl)
 
 -- a request is one still
-waits_request : (s : Story) (requests : List Request) (link p : ℕ) → IsRequest s requests link p → IsRequest (waits_now s wait.Connect) requests link p
-waits_request s requests link p h = record { what = h.what; handed_in = h.handed_in; in_time = h.in_time; on = h.on; some = h.some; open_is = h.open_is }
+waits_request : (s : Story) (kind : WaitKind) (requests : List Request) (link p : ℕ) → IsRequest s requests link p → IsRequest (waits_now s kind) requests link p
+waits_request s kind requests link p h = record { what = h.what; handed_in = h.handed_in; in_time = h.in_time; on = h.on; some = h.some; open_is = h.open_is }
 
--- lists of one
-same_one : (p q : ℕ) → p ∷ [] ≡ q ∷ [] → p ≡ q
-same_one p q e = cc
+-- who was told is told
+told_same : (f g : ℕ → Story) (n : ℕ) → SameSubmissions f g → SameOutcomes f g → is_told (f n) ≡ is_told (g n)
+told_same f g n same answers = λ i. not (awaited_in (same n i)) && is_no_error (answers n i)
 
--- its wait is shown then, and every other that was
-waits_shown_then : (story : ℕ → Story) (requests : List Request) (p q : ℕ) → (p ∷ [] ≡ q ∷ []) ⊎ ((story (name_at requests q)).waiting ≡ Some wait.Connect) → (waits_at (name_at requests p) story (name_at requests q)).waiting ≡ Some wait.Connect
-waits_shown_then story requests p q h =
-    let m = name_at requests p in
+-- and in the queue
+queued_still : (f g : ℕ → Story) (requests : List Request) (link : LinkState) → SameSubmissions f g → SameOutcomes f g → ((n : ℕ) → (f n).tries ≡ (g n).tries) → AreQueued f requests link → AreQueued g requests link
+queued_still f g requests link same answers tried h n is none = h n (told_same f g n same answers ∙ is) (tried n ∙ none)
+
+-- its own wait is shown then
+shown_own : (story : ℕ → Story) (requests : List Request) (p : ℕ) (kind : WaitKind) → shown_wait (waits_at (name_at requests p) kind story) requests p ≡ Some kind
+shown_own story requests p kind = let n = name_at requests p in ap (λ (s : Story). s.waiting) (taken_if (n == n) (waits_now (story n) kind) (story n) (eq_test n n refl))
+
+-- and every other stays
+shown_other : (story : ℕ → Story) (requests : List Request) (p q : ℕ) (kind : WaitKind) → name_at requests p ≢ name_at requests q → shown_wait (waits_at (name_at requests p) kind story) requests q ≡ shown_wait story requests q
+shown_other story requests p q kind other =
     let n = name_at requests q in
-    chosen (λ (x : Story). x.waiting ≡ Some wait.Connect) (m == n) (waits_now (story n) wait.Connect) (story n)
-    (λ t. refl)
-    (λ f. elim h [ inl e ↦ absurd (ne_from m n f (ap (name_at requests) (same_one p q e))) | inr e ↦ e ])
+    ap (λ (s : Story). s.waiting) (left_if (name_at requests p == n) (waits_now (story n) kind) (story n) (ne_test (name_at requests p) n other))
 
--- the session is tied to the book with one wait more
-pub wait_tied : (b : Book) (t : Inner) (p : ℕ) → p < length t.requests → Tied b (with_fresh t (p ∷ [])) → Tied (entered b (wait_action (name_at t.requests p))) (with_fresh t [])
-wait_tied b t p within h =
+-- the session is tied to the book with one wait more, where its waits are
+pub wait_tied : (b : Book) (t : Inner) (p : ℕ) (kind : WaitKind) (moved fresh : List ℕ) → p < length t.requests → Tied b t → TiedWaits (waits_at (name_at t.requests p) kind b.story) t.requests t.life fresh moved
+    → Tied (entered b (wait_action (name_at t.requests p) kind)) (with_unshown t moved fresh)
+wait_tied b t p kind moved fresh within h waits =
     let n = name_at t.requests p in
+    let after = waits_at n kind b.story in
+    let same = waits_submissions n kind b.story in
+    let answers = waits_outcomes n kind b.story in
     record {
-      numbers = record { turns = h.numbers.turns; links = h.numbers.links; timers = h.numbers.timers; aims = h.numbers.aims; timed = h.numbers.timed; submissions = h.numbers.submissions; shut = h.numbers.shut; one = h.numbers.one; only = h.numbers.only };
+      numbers = record { turns = h.numbers.turns; links = h.numbers.links; timers = h.numbers.timers; aims = h.numbers.aims; timed = h.numbers.timed; submissions = h.numbers.submissions; shut = h.numbers.shut; settings = record { size_is = h.numbers.settings.size_is; bound_is = h.numbers.settings.bound_is; some = h.numbers.settings.some }; one = h.numbers.one; only = h.numbers.only };
       others = h.others;
       life = h.life;
       link = h.link;
       names = h.names;
-      story = one_changed b (with_fresh t (p ∷ [])) p (λ s. waits_now s wait.Connect) h within (waits_request (b.story n) t.requests t.link p);
-      tries = tries_same (b.link t.link) b.story (waits_at n b.story) t.requests t.link t.started (waits_submissions n b.story) (waits_tries n b.story) h.tries;
+      story = one_changed b t p (λ s. waits_now s kind) h within (waits_request (b.story n) kind t.requests t.link p);
+      tries = tries_same (b.link t.link) b.story after t.requests t.link t.started same (waits_tries n kind b.story) h.tries;
       lines = record {
         line = h.lines.line;
-        queued = queued_same b.story (waits_at n b.story) t.requests (link_in t.life).queue (waits_submissions n b.story) (waits_outcomes n b.story) h.lines.queued;
+        queued = queued_same b.story after t.requests (link_in t.life).queue same answers h.lines.queued;
         entries = h.lines.entries;
-        packs = packed_same b.story (waits_at n b.story) t.requests t.waiting (waits_submissions n b.story) h.lines.packs;
+        packs = packed_same b.story after t.requests t.waiting same h.lines.packs;
+        packed_in = packed_same b.story after t.requests t.admitted same h.lines.packed_in;
         there = h.lines.there;
       };
-      waits = record { new = tt; shown = λ q w d. inr (waits_shown_then b.story t.requests p q (h.waits.shown q w d)) };
+      told = λ up. queued_still b.story after t.requests (link_in t.life) same answers (waits_tries n kind b.story) (h.told up);
+      waits = waits;
     }
 
--- one that has gone, or whose link isn't dialing, shows none
-pub unshown_tied : (b : Book) (t : Inner) (p : ℕ) → (is_waiting_at t.requests p ≡ true → t.life ≡ Dialing → ⊥) → Tied b (with_fresh t (p ∷ [])) → Tied b (with_fresh t [])
-unshown_tied b t p none h =
-    relined b (with_fresh t (p ∷ [])) t.waiting [] t.pending h h.lines (record {
+-- a session whose event has had its effect, and in which nothing moves
+pub record IsQuiet (t : Inner) : Type 0 where
+  pub settled : t.pending ≡ []
+  pub fit : (link : LinkState) → t.life ≡ Ready link → IsFit t.size t.bound link
+  pub none : ((link : LinkState) → t.life ≡ Ready link → ⊥) → t.admitted ≡ []
+  pub held : (link : LinkState) → t.life ≡ Ready link → (link.queue ≡ []) ⊎ (holds_back link ≡ true)
+  pub full : (link : LinkState) → t.life ≡ Ready link → (t.admitted ≡ []) ⊎ (is_full link ≡ true)
+  pub waiting : t.life ≢ Dialing → t.waiting ≡ []
+
+-- where an open request is
+--
+-- in the queue, or among those that have no place
+abbrev pub IsPlacedOrKept : Inner → ℕ → Type 0
+IsPlacedOrKept t p = IsIn p (awaited_ids (link_in t.life).queue) ⊎ IsKept t.requests t.waiting t.admitted p
+
+-- or in the row
+pub located : (b : Book) (t : Inner) (p : ℕ) → Tied b t → t.pending ≡ [] → is_open_at t.requests p ≡ true → IsIn p (wanted (link_in t.life).row) ⊎ IsPlacedOrKept t p
+located b t p h none o = elim (h.lines.there p o) [
+  | inl i ↦ elim (in_either p (wanted (link_in t.life).row) (awaited_ids (link_in t.life).queue) (subst (λ ns. IsIn p (ns ++ (wanted (link_in t.life).row ++ awaited_ids (link_in t.life).queue))) none i)) [ inl j ↦ inl j | inr j ↦ inr (inl j) ]
+  | inr k ↦ inr (inr k)
+]
+
+-- who is there stands in the line
+placed_or_kept_in : (t : Inner) (p : ℕ) → IsPlacedOrKept t p → IsIn p (queue_ids (link_in t.life).queue ++ kept_ids t.admitted t.waiting)
+placed_or_kept_in t p (inl i) = in_left p (queue_ids (link_in t.life).queue) (kept_ids t.admitted t.waiting) (in_queue p (link_in t.life).queue i)
+placed_or_kept_in t p (inr k) = in_right p (queue_ids (link_in t.life).queue) (kept_ids t.admitted t.waiting) (kept_in t.requests t.waiting t.admitted p k)
+
+-- and has not started
+pub there_untried : (b : Book) (t : Inner) (p : ℕ) → Tied b t → p < length t.requests → IsPlacedOrKept t p → (b.story (name_at t.requests p)).tries ≡ []
+there_untried b t p h within at =
+    let g = get_some t.requests p within in
+    ap (λ x. (b.story x).tries) (name_of_some t.requests p g.0 g.1) ∙ h.tries.untried p g.0 g.1 (later_unstarted b t p h (placed_or_kept_in t p at))
+
+-- who is in the row stands before all others
+row_before : (b : Book) (t : Inner) (p q : ℕ) → Tied b t → has_ended t.life ≡ false → IsIn p (wanted (link_in t.life).row) → IsIn q (queue_ids (link_in t.life).queue ++ kept_ids t.admitted t.waiting) → p < q
+row_before b t p q h up i j = rising_apart 0 (row_ids (link_in t.life).row) (queue_ids (link_in t.life).queue ++ kept_ids t.admitted t.waiting) (length t.requests) p q (row_in_line b t h up) (wanted_in p (link_in t.life).row i) j
+
+-- an open one without a message is there
+untried_there : (b : Book) (t : Inner) (p : ℕ) → Tied b t → t.pending ≡ [] → has_ended t.life ≡ false → is_open_at t.requests p ≡ true → (b.story (name_at t.requests p)).tries ≡ [] → IsPlacedOrKept t p
+untried_there b t p h none up o untried =
+    let within = open_within t.requests p o in
+    let s = b.story (name_at t.requests p) in
+    let l = later_of b t (name_at t.requests p) h none up (open_unstarted s untried ((request_story b t p h within).open_is ∙ o)) in
+    let same = same_name t.table t.requests l.p p h.names l.within within l.name in
+    let queue = queue_ids (link_in t.life).queue in
+    let kept = kept_ids t.admitted t.waiting in
+    let later : IsIn p (queue ++ kept) = subst (λ n. IsIn n (queue ++ kept)) same (elim l.later [ inl i ↦ in_left l.p queue kept i | inr w ↦ in_right l.p queue kept w.1 ]) in
+    elim (located b t p h none o) [
+      | inl i ↦ absurd (let k = row_before b t p p h up i later in omega arith)
+      | inr at ↦ at
+    ]
+
+-- who waits for a place, while the link is up or its connect isn't answered, is among those
+pub admitted_there : (b : Book) (t : Inner) (p : ℕ) → Tied b t → t.pending ≡ [] → is_admitted_at t.requests p ≡ true → IsIn p (waiting_ids t.admitted)
+admitted_there b t p h none a =
+    let unplaced = admitted_unplaced t.requests p a in
+    elim (located b t p h none (admitted_open t.requests p a).0) [
+      | inl i ↦ absurd (not_both (is_placed_at t.requests p) unplaced (wanted_placed (link_in t.life).row h.lines.entries i))
+      | inr at ↦ elim at [
+        | inl i ↦ absurd (not_both (is_placed_at t.requests p) unplaced (awaited_placed b.story t.requests (link_in t.life).queue p h.lines.queued i))
+        | inr k ↦ elim k [
+          | inl x ↦ x.1
+          | inr w ↦ absurd (not_both (is_admitted_at t.requests p) (waiting_apart t.requests p w.0).0 a)
+        ]
+      ]
+    ]
+  where
+    own : (e : Entry) → IsIn p (if e.awaited then e.id ∷ [] else []) → e.awaited ≡ true
+    own e i = by_test e.awaited _ (λ t. t) (λ f. absurd (subst (λ x. IsIn p (if x then e.id ∷ [] else [])) f i))
+
+    wanted_placed : (row : List Entry) → AllByRecursion (IsEntry t.requests) row → IsIn p (wanted row) → is_placed_at t.requests p ≡ true
+    wanted_placed [] all i = absurd i
+    wanted_placed (e ∷ es) all i = elim (in_either p (if e.awaited then e.id ∷ [] else []) (wanted es) i) [
+      | inl j ↦ subst (λ n. is_placed_at t.requests n ≡ true) (chosen_in e.awaited p e.id j) (all.0.placed_at (own e j))
+      | inr j ↦ wanted_placed es all.1 j
+    ]
+
+-- the message that starts next stands before one that is from it on
+first_from : (queue : List Queued) (p : ℕ) → is_from (first_in queue) p ≡ true → (x : ℕ) × IsIn x (queue_ids queue) × (x ≤ p)
+first_from [] p e = cc
+first_from (q ∷ qs) p e = (q.id, inl refl, le_from q.id p e)
+
+-- who has its place, from the first of the queue on, is in the queue
+pub placed_there : (b : Book) (t : Inner) (p : ℕ) → Tied b t → t.pending ≡ [] → has_ended t.life ≡ false → is_open_at t.requests p ≡ true → is_placed_at t.requests p ≡ true → is_from (first_in (link_in t.life).queue) p ≡ true → IsIn p (awaited_ids (link_in t.life).queue)
+placed_there b t p h none up o placed from =
+    let first = first_from (link_in t.life).queue p from in
+    elim (located b t p h none o) [
+      | inl i ↦ absurd (let k = row_before b t p first.0 h up i (in_left first.0 (queue_ids (link_in t.life).queue) (kept_ids t.admitted t.waiting) first.1) in let l = first.2 in omega arith)
+      | inr at ↦ elim at [
+        | inl i ↦ i
+        | inr k ↦ elim k [
+          | inl a ↦ absurd (not_both (is_placed_at t.requests p) (admitted_unplaced t.requests p a.0) placed)
+          | inr w ↦ absurd (not_both (is_placed_at t.requests p) (waiting_apart t.requests p w.0).1 placed)
+        ]
+      ]
+    ]
+
+-- which wait is true
+--
+-- on a link that is up
+pub running_of : (t : Inner) (link : LinkState) → IsQuiet t → t.life ≡ Ready link → IsRunning t
+running_of t link q e = record { settled = q.settled; up = ap is_ready e; fit = subst (IsFit t.size t.bound) (sym (ap link_in e)) (q.fit link e) }
+
+-- a message of the queue waits for room
+pub room_holds : (b : Book) (t : Inner) (p : ℕ) (link : LinkState) → Tied b t → IsQuiet t → t.life ≡ Ready link → IsIn p (queue_ids (link_in t.life).queue) → WaitHolds b (name_at t.requests p) wait.Room
+room_holds b t p link h q e i =
+    let held : holds_back (link_in t.life) ≡ true = ap (λ (x : Life). holds_back (link_in x)) e ∙ elim (q.held link e) as (λ _. holds_back link ≡ true) [
+      | inl none ↦ absurd (subst (λ qs. IsIn p (queue_ids qs)) none (subst (λ (x : Life). IsIn p (queue_ids (link_in x).queue)) e i))
+      | inr on ↦ on
+    ] in
+    queue_step b t p h (running_of t link q e) i ∙ ap starts_or_waits held
+
+-- who waits for a place waits for it
+pub place_holds : (b : Book) (t : Inner) (p : ℕ) (link : LinkState) → Tied b t → IsQuiet t → t.life ≡ Ready link → is_open_at t.requests p ≡ true → IsIn p (waiting_ids t.admitted) → WaitHolds b (name_at t.requests p) wait.Place
+place_holds b t p link h q e o i =
+    let filled : is_full (link_in t.life) ≡ true = ap (λ (x : Life). is_full (link_in x)) e ∙ elim (q.full link e) as (λ _. is_full link ≡ true) [
+      | inl none ↦ absurd (subst (λ qs. IsIn p (waiting_ids qs)) none i)
+      | inr on ↦ on
+    ] in
+    full_step b t p h (running_of t link q e) filled o (in_left p (waiting_ids t.admitted) (waiting_ids t.waiting) i)
+
+-- a life that is not ready
+not_ready : (life other : Life) (link : LinkState) → is_ready other ≡ false → life ≡ other → life ≡ Ready link → ⊥
+not_ready life other link f e r = not_both (is_ready other) f (ap is_ready (sym e ∙ r))
+
+-- who is in the queue, or has no place, waits as was shown, where this was shown
+pub waiting_is : (b : Book) (t : Inner) (p : ℕ) → Tied b t → IsQuiet t → is_open_at t.requests p ≡ true → IsPlacedOrKept t p → (IsIn p t.moved → ⊥) → (t.fresh ≡ p ∷ [] → ⊥) → IsWaiting b (name_at t.requests p)
+waiting_is b t p h q o at unmoved old = by_life t.life refl
+  where
+    n : ℕ
+    n = name_at t.requests p
+
+    within : p < length t.requests
+    within = open_within t.requests p o
+
+    as_shown : (kind : WaitKind) → (b.story n).waiting ≡ Some kind → WaitHolds b n kind → IsWaiting b n
+    as_shown kind shown holds = record { unstarted = there_untried b t p h within at; kind = kind; shown = shown; holds = holds }
+
+    by_life : (life : Life) → t.life ≡ life → IsWaiting b n
+    by_life Dialing e = elim at [
+      | inl i ↦ absurd (subst (λ (x : Life). IsIn p (awaited_ids (link_in x).queue)) e i)
+      | inr k ↦ elim k [
+        | inl a ↦ absurd (subst (λ ws. IsIn p (waiting_ids ws)) (q.none (λ link r. not_ready t.life Dialing link refl e r)) a.1)
+        | inr w ↦ as_shown wait.Connect (elim (h.waits.connect p w.0 e) [ inl new ↦ absurd (old new) | inr s ↦ s ]) (dialing_step b t p h e within)
+      ]
+    ]
+    by_life (Ready link) e = elim at [
+      | inl i ↦ as_shown wait.Room (elim (h.waits.room p i) [ inl m ↦ absurd (unmoved m) | inr s ↦ s ]) (room_holds b t p link h q e (in_queue p (link_in t.life).queue i))
+      | inr k ↦ elim k [
+        | inl a ↦ as_shown wait.Place (elim (h.waits.place p a.0) [ inl m ↦ absurd (unmoved m) | inr s ↦ s ]) (place_holds b t p link h q e o a.1)
+        | inr w ↦ absurd (subst (λ ws. IsIn p (waiting_ids ws)) (q.waiting (λ d. (let no : Ready link ≡ Dialing = sym e ∙ d in cc))) w.1)
+      ]
+    ]
+    by_life (Ended x) e = absurd (none_open b t x n h q.settled e (λ i. kept_ids (q.none (λ link r. not_ready t.life (Ended x) link refl e r) i) (q.waiting (λ d. (let no : Ended x ≡ Dialing = sym e ∙ d in cc)) i)) ((request_story b t p h within).open_is ∙ o))
+
+-- a wait may be shown
+--
+-- one that is true and was not shown, where none before it is still to be shown
+pub wait_may : (b : Book) (t : Inner) (p : ℕ) (kind : WaitKind) → Tied b t → IsQuiet t → has_ended t.life ≡ false → IsWritten b → is_open_at t.requests p ≡ true → IsPlacedOrKept t p → shown_wait b.story t.requests p ≢ Some kind → WaitHolds b (name_at t.requests p) kind
+    → ((m : ℕ) → m < p → IsIn m t.moved → ⊥) → ((m : ℕ) → m < p → t.fresh ≡ m ∷ [] → ⊥) → MayWait b (name_at t.requests p) kind
+wait_may b t p kind h q up written o at new holds unmoved old =
+    let n = name_at t.requests p in
+    let within = open_within t.requests p o in
+    record {
+      written = written;
+      asked = (request_story b t p h within).open_is ∙ o;
+      unstarted = there_untried b t p h within at;
+      new = new;
+      holds = holds;
+      in_order = λ m less asked untried.
+          let r = open_request b t m h asked in
+          let inside = open_within t.requests r.number r.open_at in
+          let before = earlier_name t.table t.requests r.number p h.names inside within (subst (λ x. x < n) (sym r.named) less) in
+          let there = untried_there b t r.number h q.settled up r.open_at (ap (λ x. (b.story x).tries) r.named ∙ untried) in
+          subst (IsWaiting b) r.named (waiting_is b t r.number h q r.open_at there (unmoved r.number before) (old r.number before));
+    }
+
+-- what is shown then
+--
+-- one of those that were moved waits for a place, or for room
+pub record WaitsSo (t : Inner) (p : ℕ) (kind : WaitKind) : Type 0 where
+  pub place : is_admitted_at t.requests p ≡ true → kind ≡ wait.Place
+  pub room : IsIn p (awaited_ids (link_in t.life).queue) → kind ≡ wait.Room
+  pub moved : is_waiting_at t.requests p ≡ true → ⊥
+
+-- the names of two requests that differ
+names_differ : (b : Book) (t : Inner) (p q : ℕ) → Tied b t → p < length t.requests → q < length t.requests → p ≢ q → name_at t.requests p ≢ name_at t.requests q
+names_differ b t p q h l m other same = other (same_name t.table t.requests p q h.names l m same)
+
+-- what was shown of a request, once a wait of p is
+shown_then : (b : Book) (t : Inner) (p q : ℕ) (kind : WaitKind) → Tied b t → p < length t.requests → q < length t.requests → p ≢ q → shown_wait (waits_at (name_at t.requests p) kind b.story) t.requests q ≡ shown_wait b.story t.requests q
+shown_then b t p q kind h l m other = shown_other b.story t.requests p q kind (names_differ b t p q h l m other)
+
+-- the waits, with that of the first of those that were moved
+pub moved_waits : (b : Book) (t : Inner) (p : ℕ) (kind : WaitKind) (ps : List ℕ) → Tied b t → t.moved ≡ p ∷ ps → t.fresh ≡ [] → t.life ≢ Dialing → p < length t.requests → WaitsSo t p kind → TiedWaits (waits_at (name_at t.requests p) kind b.story) t.requests t.life [] ps
+moved_waits b t p kind ps h is no_fresh up l so =
+    let requests = t.requests in
+    let after = waits_at (name_at requests p) kind b.story in
+    let line = subst (λ ns. Rising 0 ns (length requests)) is h.waits.rising in
+    let rest : (q : ℕ) → IsIn q (p ∷ ps) → p ≢ q → IsIn q ps = λ q i other. elim i [ inl same ↦ absurd (other same) | inr j ↦ j ] in
+    let above : (q : ℕ) → IsIn q ps → p ≢ q = λ q i same. (let k = rising_in (suc p) ps (length requests) q line.1 i in omega (arith, k.0, same)) in
+    let back : (q : ℕ) → IsIn q ps → IsIn q t.moved = λ q i. subst (IsIn q) (sym is) (inr i) in
+    record {
       new = tt;
-      shown = λ q w d. elim (h.waits.shown q w d) [
-        | inl e ↦ absurd (none (ap (is_waiting_at t.requests) (same_one p q e) ∙ w) d)
+      early = λ q w.
+          let same = shown_then b t p q kind h l (there_within is_waiting requests q w) (λ e. so.moved (ap (is_waiting_at requests) e ∙ w)) in
+          elim (h.waits.early q w) [ inl e ↦ inl (same ∙ e) | inr e ↦ inr (same ∙ e) ];
+      connect = λ q w d. absurd (up d);
+      place = λ q a. by_test (p == q) _
+          (λ t1. inr (subst (λ m. shown_wait after requests m ≡ Some wait.Place) (eq_from p q t1) (shown_own b.story requests p kind ∙ ap Some (so.place (ap (is_admitted_at requests) (eq_from p q t1) ∙ a)))))
+          (λ f.
+          let other = ne_from p q f in
+          elim (h.waits.place q a) [
+            | inl i ↦ inl (rest q (subst (IsIn q) is i) other)
+            | inr e ↦ inr (shown_then b t p q kind h l (there_within is_admitted requests q a) other ∙ e)
+          ]);
+      room = λ q r. by_test (p == q) _
+          (λ t1. inr (subst (λ m. shown_wait after requests m ≡ Some wait.Room) (eq_from p q t1) (shown_own b.story requests p kind ∙ ap Some (so.room (subst (λ m. IsIn m (awaited_ids (link_in t.life).queue)) (sym (eq_from p q t1)) r)))))
+          (λ f.
+          let other = ne_from p q f in
+          elim (h.waits.room q r) [
+            | inl i ↦ inl (rest q (subst (IsIn q) is i) other)
+            | inr e ↦ inr (shown_then b t p q kind h l (queue_within b t q h (in_queue q (link_in t.life).queue r)) other ∙ e)
+          ]);
+      rising = rising_from (suc p) 0 ps (length requests) (omega arith) line.1;
+      no_place = λ q i a e. h.waits.no_place q (back q i) a (sym (shown_then b t p q kind h l (there_within is_admitted requests q a) (above q i)) ∙ e);
+      no_room = λ q i r e. h.waits.no_room q (back q i) r (sym (shown_then b t p q kind h l (queue_within b t q h (in_queue q (link_in t.life).queue r)) (above q i)) ∙ e);
+    }
+
+-- one of those that were moved waits no more
+pub passed_waits : (b : Book) (t : Inner) (p : ℕ) (ps : List ℕ) → Tied b t → t.moved ≡ p ∷ ps → is_admitted_at t.requests p ≡ false → (IsIn p (awaited_ids (link_in t.life).queue) → ⊥) → TiedWaits b.story t.requests t.life t.fresh ps
+passed_waits b t p ps h is gone none =
+    let line = subst (λ ns. Rising 0 ns (length t.requests)) is h.waits.rising in
+    let back : (q : ℕ) → IsIn q ps → IsIn q t.moved = λ q i. subst (IsIn q) (sym is) (inr i) in
+    record {
+      new = h.waits.new;
+      early = h.waits.early;
+      connect = h.waits.connect;
+      place = λ q a. elim (h.waits.place q a) [
+        | inl i ↦ elim (subst (IsIn q) is i) [ inl same ↦ absurd (not_both (is_admitted_at t.requests q) (ap (is_admitted_at t.requests) (sym same) ∙ gone) a) | inr j ↦ inl j ]
         | inr e ↦ inr e
       ];
-    })
+      room = λ q r. elim (h.waits.room q r) [
+        | inl i ↦ elim (subst (IsIn q) is i) [ inl same ↦ absurd (none (subst (λ m. IsIn m (awaited_ids (link_in t.life).queue)) (sym same) r)) | inr j ↦ inl j ]
+        | inr e ↦ inr e
+      ];
+      rising = rising_from (suc p) 0 ps (length t.requests) (omega arith) line.1;
+      no_place = λ q i a. h.waits.no_place q (back q i) a;
+      no_room = λ q i r. h.waits.no_room q (back q i) r;
+    }
 
 -- while the connect isn't answered
 --
--- who is open waits, and has no message
-pub dialing_waits : (b : Book) (t : Inner) (p : ℕ) → Tied b t → t.pending ≡ [] → t.life ≡ Dialing → is_open_at t.requests p ≡ true → (is_waiting_at t.requests p ≡ true) × ((b.story (name_at t.requests p)).tries ≡ [])
-dialing_waits b t p h none life o =
-    let g = get_some t.requests p (open_within t.requests p o) in
-    elim (h.lines.there p o) [
-      | inl i ↦ absurd (subst (λ (x : Life). IsIn p ([] ++ (wanted (link_in x).row ++ awaited_ids (link_in x).queue))) life (subst (λ ns. IsIn p (ns ++ (wanted (link_in t.life).row ++ awaited_ids (link_in t.life).queue))) none i))
-      | inr w ↦ (
-        w.0,
-        ap (λ x. (b.story x).tries) (name_of_some t.requests p g.0 g.1) ∙ h.tries.untried p g.0 g.1 (later_unstarted b t p h (in_right p (queue_ids (link_in t.life).queue) (waiting_ids t.waiting) w.1)),
-      )
-    ]
+-- nobody waits for a place
+pub dialing_admits : (b : Book) (t : Inner) (p : ℕ) → Tied b t → IsQuiet t → t.life ≡ Dialing → is_admitted_at t.requests p ≡ false
+dialing_admits b t p h q e = by_test (is_admitted_at t.requests p) _
+    (λ a. absurd (subst (λ ws. IsIn p (waiting_ids ws)) (q.none (λ link r. not_ready t.life Dialing link refl e r)) (admitted_there b t p h q.settled a)))
+    (λ f. f)
 
--- and its wait is true
-pub dialing_holds : (b : Book) (t : Inner) (p : ℕ) → Tied b t → t.life ≡ Dialing → p < length t.requests → WaitHolds b (name_at t.requests p) wait.Connect
-dialing_holds b t p h life within =
-    let r = request_story b t p h within in
-    let d = subst (λ (x : Life). TiedLife (b.link t.link) b.created x) life h.life in
-    subst (λ l. ((b.link l).asked ≡ true) × ((b.link l).up ≡ false) × ((b.link l).end ≡ None)) (sym r.on) (d.0, d.1, d.2)
+-- and none is in the queue
+dialing_queues : (t : Inner) (p : ℕ) → t.life ≡ Dialing → IsIn p (awaited_ids (link_in t.life).queue) → ⊥
+dialing_queues t p e i = subst (λ (x : Life). IsIn p (awaited_ids (link_in x).queue)) e i
 
--- so the wait may be shown
-pub wait_may : (b : Book) (t : Inner) (p : ℕ) → Tied b (with_fresh t (p ∷ [])) → t.pending ≡ [] → t.life ≡ Dialing → is_waiting_at t.requests p ≡ true → IsWritten b → MayWait b (name_at t.requests p) wait.Connect
-wait_may b t p h none life w written =
-    let now = with_fresh t (p ∷ []) in
-    let n = name_at t.requests p in
-    let o = waiting_open t.requests p w in
-    let within = open_within t.requests p o in
-    let r = request_story b now p h within in
+-- lists of one
+pub same_one : (p q : ℕ) → p ∷ [] ≡ q ∷ [] → p ≡ q
+same_one p q e = cc
+
+-- the waits, with that of the request that came in this turn
+pub fresh_waits : (b : Book) (t : Inner) (p : ℕ) → Tied b t → IsQuiet t → t.fresh ≡ p ∷ [] → t.life ≡ Dialing → is_waiting_at t.requests p ≡ true → TiedWaits (waits_at (name_at t.requests p) wait.Connect b.story) t.requests t.life [] []
+fresh_waits b t p h q is dialing w =
+    let requests = t.requests in
+    let after = waits_at (name_at requests p) wait.Connect b.story in
+    let l = there_within is_waiting requests p w in
+    let own : (m : ℕ) → p ≡ m → shown_wait after requests m ≡ Some wait.Connect = λ m e. subst (λ k. shown_wait after requests k ≡ Some wait.Connect) e (shown_own b.story requests p wait.Connect) in
+    let still : (m : ℕ) → is_waiting_at requests m ≡ true → p ≢ m → shown_wait after requests m ≡ shown_wait b.story requests m = λ m v other. shown_then b t p m wait.Connect h l (there_within is_waiting requests m v) other in
     record {
-      written = written;
-      asked = r.open_is ∙ o;
-      unstarted = (dialing_waits b now p h none life o).1;
-      new = h.waits.new;
-      holds = dialing_holds b now p h life within;
-      in_order = λ m less asked untried still.
-          let q = open_request b now m h asked in
-          let v = (dialing_waits b now q.number h none life q.open_at).0 in
-          elim (h.waits.shown q.number v life) [
-            | inl e ↦ (let same : n ≡ m = ap (name_at t.requests) (same_one p q.number e) ∙ q.named in omega arith)
-            | inr e ↦ none_is_some (sym (ap (λ x. (b.story x).waiting) q.named ∙ still) ∙ e)
-          ];
+      new = tt;
+      early = λ m v. by_test (p == m) _
+          (λ t1. inr (own m (eq_from p m t1)))
+          (λ f. elim (h.waits.early m v) [ inl e ↦ inl (still m v (ne_from p m f) ∙ e) | inr e ↦ inr (still m v (ne_from p m f) ∙ e) ]);
+      connect = λ m v d. inr (by_test (p == m) _
+          (λ t1. own m (eq_from p m t1))
+          (λ f. elim (h.waits.connect m v d) [
+            | inl new ↦ absurd (ne_from p m f (same_one p m (sym is ∙ new)))
+            | inr e ↦ still m v (ne_from p m f) ∙ e
+          ]));
+      place = λ m a. absurd (not_both (is_admitted_at requests m) (dialing_admits b t m h q dialing) a);
+      room = λ m r. absurd (dialing_queues t m dialing r);
+      rising = omega arith;
+      no_place = λ m i. absurd i;
+      no_room = λ m i. absurd i;
     }
-  where
-    none_is_some : ◌≡◌ {A = Option WaitKind} None (Some wait.Connect) → ⊥
-    none_is_some e = cc
+
+-- one that has gone, or whose link isn't dialing, shows none
+pub stale_waits : (b : Book) (t : Inner) (p : ℕ) → Tied b t → t.fresh ≡ p ∷ [] → (is_waiting_at t.requests p ≡ true → t.life ≡ Dialing → ⊥) → TiedWaits b.story t.requests t.life [] t.moved
+stale_waits b t p h is none = record {
+  new = tt;
+  early = h.waits.early;
+  connect = λ m w d. elim (h.waits.connect m w d) [
+    | inl new ↦ absurd (none (ap (is_waiting_at t.requests) (same_one p m (sym is ∙ new)) ∙ w) d)
+    | inr e ↦ inr e
+  ];
+  place = h.waits.place;
+  room = h.waits.room;
+  rising = h.waits.rising;
+  no_place = h.waits.no_place;
+  no_room = h.waits.no_room;
+}

@@ -1,10 +1,10 @@
 -- All bytes of a link are offered.
-use Rattle.std.proofs.Common.{Bool, List, [], arith, false, length, not, refl, subst, sym, true, ◌∙◌, ◌≡◌, ap}
+use Rattle.std.proofs.Common.{Bool, List, [], arith, false, length, not, refl, subst, sym, true, ◌∙◌, ◌≡◌, ◌⊎◌, ap}
 use Rattle.std.specs.Prelude.{◌&&◌, ◌==◌}
 use Rattle.containers.proofs.Choices.{by_test, chosen, eq_from, ne_from, not_both}
 use Rattle.driver_model.specs.declared.action.Action.{Action}
 use Rattle.driver_model.specs.declared.action.Action.TheVariants as action
-use Rattle.link_core.specs.Link.{LinkState, offered_of}
+use Rattle.link_core.specs.Link.{LinkState, holds_back, is_full, offered_of}
 use Rattle.link_core.specs.Outbox.{all_offered, can_offer}
 use Rattle.link_core.specs.declared.outbox.Outbox.{Outbox}
 use Rattle.link_laws.proofs.TiedLink.{TiedLink, is_offered, offer_stands, offered_tied}
@@ -21,10 +21,10 @@ use Rattle.session_laws.proofs.Going.{is_moved, none_ends_kept}
 use Rattle.session_laws.proofs.Kept.{mine_noted, numbers_kept, others_kept, tied_by}
 use Rattle.session_laws.proofs.Moved.{HasMoved}
 use Rattle.session_laws.proofs.Settle.{book_of_more, holds_more, seen, trace_of_acts}
-use Rattle.session_laws.proofs.Start.{not_dialing, on_link}
-use Rattle.session_laws.proofs.States.{IsWhole}
+use Rattle.session_laws.proofs.Start.{on_link}
+use Rattle.session_laws.proofs.Took.{queue_waits}
+use Rattle.session_laws.proofs.States.{IsFit}
 use Rattle.session_laws.proofs.Tied.{Inner, Tied, TiedLife, link_in, owner_of, has_ended}
-use Rattle.session_laws.proofs.Told.{NoneTold}
 
 -- an offer
 --
@@ -33,15 +33,16 @@ write_tied b t link h =
     let l = b.link t.link in
     let line = offers link.outbox.unwritten in
     tied_by (entered b (action.Write t.link link.outbox.unwritten)) (on_link t (offered_of link)) (noted l line) (mine_noted l t.link line) (record {
-      numbers = numbers_kept b _ _ (on_link t link) _ _ _ _ _ _ h.numbers;
+      numbers = numbers_kept b _ _ (on_link t link) _ _ _ _ _ _ _ _ h.numbers;
       others = others_kept b t.link line h.others;
       life = h.life;
       link = λ e. offered_tied (owner_of t.requests) l link (h.link refl);
       names = h.names;
       story = h.story;
       tries = record { owners = h.tries.owners; shapes = h.tries.shapes; tried = h.tries.tried; untried = h.tries.untried };
-      lines = record { line = h.lines.line; queued = h.lines.queued; entries = h.lines.entries; packs = h.lines.packs; there = h.lines.there };
-      waits = record { new = h.waits.new; shown = λ p w e. absurd (not_dialing (offered_of link) e) };
+      lines = record { line = h.lines.line; queued = h.lines.queued; entries = h.lines.entries; packs = h.lines.packs; packed_in = h.lines.packed_in; there = h.lines.there };
+      told = λ e. h.told refl;
+      waits = queue_waits b.story t.requests link (offered_of link) t.fresh t.moved (λ p i. i) h.waits;
     })
 
 -- it may stand, once all requests are moved
@@ -77,7 +78,7 @@ pub record HasWritten (before : List Action) (f : Core) (w : Work) : Type 0 wher
 
 -- all requests of a session are moved
 pub moved_book : (before : List Action) (f : Core) (w : Work) → HasMoved before f w → IsMoved (book (trace_of_acts before f w.acts))
-moved_book before f w h = is_moved (book (trace_of_acts before f w.acts)) (seen f w.conn [] h.started) h.holds.tied refl h.ended h.told h.whole h.waiting
+moved_book before f w h = is_moved (book (trace_of_acts before f w.acts)) (seen f w.conn [] h.started) h.holds.tied refl h.ended h.fit.link h.fit.none h.still.held h.still.full h.still.waiting
 
 -- the link of a life
 same_link : (link other : LinkState) → Ready link ≡ Ready other → link ≡ other
@@ -89,16 +90,23 @@ write_shown before f w link life can h =
     let b = book (trace_of_acts before f w.acts) in
     let t = seen f w.conn [] h.started in
     let a = act.Write link.outbox.unwritten in
-    let whole = h.whole link life in
+    let fit = h.fit.link link life in
+    let after = offered_of link in
     let tied = subst (λ (x : Life). Tied b (record t { life = x })) life h.holds.tied in
     record {
       moved = record {
         started = h.started;
         holds = holds_more before f w a (with_link w (offered_of link)).conn [] [] h.started h.holds (write_may b t link tied (moved_book before f w h) can) (write_tied b t link tied);
         ended = subst NoneEnds (sym (book_of_more before f w.acts a)) (none_ends_kept b f.single.link (offers link.outbox.unwritten) (λ l e. e) h.ended);
-        whole = λ other e. subst IsWhole (same_link (offered_of link) other e) (record { sound = whole.sound; empty = whole.empty; size = whole.size; boundary = whole.boundary });
-        waiting = λ e. h.waiting (λ x. (let no : Ready link ≡ Dialing = sym life ∙ x in cc));
-        told = subst NoneTold (sym (book_of_more before f w.acts a)) h.told;
+        fit = record {
+          link = λ other e. subst (IsFit w.conn.size w.conn.boundary) (same_link after other e) (record { sound = fit.sound; size_is = fit.size_is; bound_is = fit.bound_is; within = fit.within });
+          none = λ none. absurd (none after refl);
+        };
+        still = record {
+          held = λ other e. subst (λ (x : LinkState). (x.queue ≡ []) ⊎ (holds_back x ≡ true)) (same_link after other e) (h.still.held link life);
+          full = λ other e. subst (λ (x : LinkState). (w.conn.admitted ≡ []) ⊎ (is_full x ≡ true)) (same_link after other e) (h.still.full link life);
+          waiting = λ e. h.still.waiting (λ x. (let no : Ready link ≡ Dialing = sym life ∙ x in cc));
+        };
       };
       offered = λ other e. subst (λ (x : LinkState). can_offer x.outbox ≡ false) (same_link (offered_of link) other e) (all_offered_can link.outbox);
     }
