@@ -13,7 +13,6 @@ pub mod Start
 pub mod Moves
 pub mod Ahead
 pub mod Going
-pub mod Goes
 pub mod Starts
 pub mod Place
 pub mod Settle

@@ -1,6 +1,6 @@
 -- The opening: the first link is asked for.
 use Rattle.std.proofs.Common.{List, None, Option, Some, [], ap, arith, false, refl, subst, suc, sym, zero, ℕ, ◌+◌, ◌<◌, ◌∙◌, ◌∷◌, ◌≡◌, ◌≢◌}
-use Rattle.std.specs.Prelude.{◌==◌, if◌then◌else◌}
+use Rattle.std.specs.Prelude.{◌==◌}
 use Rattle.containers.proofs.Choices.{chosen, left_if, ne_from, ne_test}
 use Rattle.connection_info.specs.declared.address.ConnectionInfo.{ConnectionInfo}
 use Rattle.redis_error.specs.declared.config_name.ConfigName.{ConfigName}
@@ -12,7 +12,6 @@ use Rattle.driver_model.specs.Config.{address, boundary, buffer_fault, buffer_si
 use Rattle.driver_model.specs.declared.action.Action.{Action}
 use Rattle.driver_model.specs.declared.action.Cause.{Cause}
 use Rattle.driver_model.specs.declared.action.Purpose.{Purpose}
-use Rattle.link_core.specs.Link.{LinkState, holds_back, is_full}
 use Rattle.link_laws.proofs.TiedLink.{asked_tied, fresh_tied}
 use Rattle.mux_conn.specs.Turn.{dialing}
 use Rattle.mux_conn.specs.declared.life.Life.TheVariants.{Dialing}
@@ -23,10 +22,10 @@ use Rattle.legal_trace.specs.Ledger.{Ledger, Line, asks, blank_ledger, ending, n
 use Rattle.legal_trace.specs.Legal.{AllStand, IsSettled, NoneEnds}
 use Rattle.legal_trace.specs.Story.{blank_story}
 use Rattle.session_laws.proofs.Going.{is_moved}
-use Rattle.session_laws.proofs.Goes.{is_settled}
-use Rattle.session_laws.proofs.Settled.{IsBetween}
-use Rattle.session_laws.proofs.States.{IsFit, IsFitIn, IsStill}
+use Rattle.session_laws.proofs.Settled.{IsBetween, is_settled}
+use Rattle.session_laws.proofs.States.{IsFitIn, IsStill}
 use Rattle.session_laws.proofs.Tied.{AreAimed, IsUnknown, Tied, TiedLines, TiedNames, TiedNumbers, TiedTries, TiedWaits, inner, no_link, owner_of, owners_of}
+use Rattle.session_laws.proofs.Waits.{IsQuiet}
 use Rattle.session_laws.proofs.Write.{is_written}
 
 -- what timers the opening has asked for
@@ -171,12 +170,13 @@ opened_between config word info timeout sound at some is =
     let still : IsStill conn = record { held = λ link e. cc; full = λ link e. cc; waiting = λ e. refl } in
     let moved = is_moved b t tied refl (opening_ends config word info timers) fit.link fit.none still.held still.full still.waiting in
     let written = is_written b t tied moved (λ link e. cc) in
+    let quiet : IsQuiet t = record { settled = refl; fit = fit.link; none = fit.none; held = still.held; full = still.full; waiting = still.waiting } in
     let book_is = sym (opening_book config word info timeout) in
     record {
       started = [];
       between = record {
         sound = record { stands = opening_stands config word info timeout sound at is; tied = subst (λ (x : Book). Tied x t) book_is tied };
-        settled = subst IsSettled book_is (is_settled b t tied refl refl refl fit.link fit.none still.held still.full still.waiting written);
+        settled = subst IsSettled book_is (is_settled b t tied quiet refl refl written);
         began = λ e. cc;
         fresh = refl;
         moved = refl;

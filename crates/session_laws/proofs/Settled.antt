@@ -10,7 +10,7 @@ use Rattle.link_core.specs.Link.{LinkState, first_in}
 use Rattle.link_core.specs.declared.message.Queued.{Queued}
 use Rattle.link_laws.proofs.Started.{row_open}
 use Rattle.link_laws.specs.Settles.{StandsAs, awaited_ids, wanted}
-use Rattle.mux_conn.specs.Connection.{Work, acted, awaits_connect, first_queued, is_ready}
+use Rattle.mux_conn.specs.Connection.{Work, awaits_connect, first_queued, is_ready}
 use Rattle.mux_conn.specs.Passes.{passed}
 use Rattle.mux_conn.specs.Requests.{is_admitted_at, is_open_at, is_placed_at, is_waiting_at, name_at}
 use Rattle.mux_conn.specs.Turn.{flushed, fresh_each_shown, fresh_wait, is_from, moved_each_shown, moved_wait, wait_shown, waits_shown}
@@ -23,7 +23,7 @@ use Rattle.mux_conn.specs.declared.life.Life.TheVariants.{Dialing, Ended, Ready}
 use Rattle.shared_session.specs.Turn.{Turning, moved_on, with_work, work_of}
 use Rattle.shared_session.specs.declared.core_state.Core.{Core}
 use Rattle.legal_trace.specs.Book.{Book, book}
-use Rattle.legal_trace.specs.Legal.{IsMoved, IsOpen, IsSettled, IsStarted, IsWaiting, IsWritten, NoneEnds, WaitHolds}
+use Rattle.legal_trace.specs.Legal.{IsMoved, IsSettled, IsStarted, IsWaiting, IsWritten, NoneEnds, WaitHolds}
 use Rattle.legal_trace.specs.Story.{Story, last_of}
 use Rattle.session_laws.proofs.Ahead.{dialing_step, placed_open}
 use Rattle.session_laws.proofs.Entered.{shown_more, sound_more}

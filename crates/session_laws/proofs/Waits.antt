@@ -3,7 +3,6 @@ use Rattle.std.proofs.Common.{Bool, List, None, Option, Some, [], ap, arith, fal
 use Rattle.std.specs.List.{AllByRecursion}
 use Rattle.std.specs.Prelude.{◌==◌, ◌&&◌, not, if◌then◌else◌}
 use Rattle.containers.proofs.Choices.{by_test, chosen, eq_from, eq_test, le_from, left_if, ne_from, ne_test, not_both, taken_if}
-use Rattle.redis_error.specs.declared.redis_error.RedisError.{RedisError}
 use Rattle.driver_model.specs.declared.action.Action.{Action}
 use Rattle.driver_model.specs.declared.action.Action.TheVariants as action
 use Rattle.driver_model.specs.declared.action.Owner.TheVariants as owner
@@ -22,17 +21,16 @@ use Rattle.mux_conn.specs.declared.request.Progress.{Progress}
 use Rattle.mux_conn.specs.declared.request.Progress.TheVariants as progress
 use Rattle.mux_conn.specs.declared.request.Request.{Request}
 use Rattle.legal_trace.specs.Book.{Book, entered, if_own}
-use Rattle.legal_trace.specs.Legal.{IsOpen, IsWaiting, IsWritten, MayWait, WaitHolds}
+use Rattle.legal_trace.specs.Legal.{IsWaiting, IsWritten, MayWait, WaitHolds}
 use Rattle.legal_trace.specs.Steps.{starts_or_waits}
 use Rattle.legal_trace.specs.Story.{Story, awaited_in, is_no_error, is_told, waits as waits_now}
-use Rattle.session_laws.proofs.Ahead.{IsRunning, dialing_step, full_step, queue_step, queue_within}
-use Rattle.session_laws.proofs.InLine.{awaited_in as in_queue, chosen_in, first_is_least, kept_ids, kept_in, row_ids, wanted_in}
+use Rattle.session_laws.proofs.Ahead.{IsRunning, dialing_step, full_step, queue_step, queue_within, running_of}
+use Rattle.session_laws.proofs.InLine.{awaited_in as in_queue, chosen_in, kept_ids, kept_in, row_ids, wanted_in}
 use Rattle.session_laws.proofs.Kept.{SameOutcomes, SameSubmissions, one_changed, packed_same, queued_same, tries_same}
 use Rattle.session_laws.proofs.Moves.{later_of, open_unstarted}
 use Rattle.session_laws.proofs.Names.{earlier_name, get_some, name_of_some, open_within, same_name, there_within}
 use Rattle.session_laws.proofs.Numbers.{IsIn, Rising, in_either, in_left, in_right, rising_apart, rising_from, rising_in}
 use Rattle.session_laws.proofs.Owes.{later_unstarted, none_open, open_request, request_story, row_in_line}
-use Rattle.session_laws.proofs.Place.{waiting_open}
 use Rattle.session_laws.proofs.Start.{admitted_open}
 use Rattle.session_laws.proofs.States.{IsFit}
 use Rattle.session_laws.proofs.Tied.{AreQueued, Inner, IsEntry, IsKept, IsQueued, IsRequest, Tied, TiedWaits, has_ended, link_in, queue_ids, shown_wait, waiting_ids}
@@ -257,8 +255,8 @@ placed_there b t p h none up o placed from =
 -- which wait is true
 --
 -- on a link that is up
-pub running_of : (t : Inner) (link : LinkState) → IsQuiet t → t.life ≡ Ready link → IsRunning t
-running_of t link q e = record { settled = q.settled; up = ap is_ready e; fit = subst (IsFit t.size t.bound) (sym (ap link_in e)) (q.fit link e) }
+pub quiet_running : (t : Inner) (link : LinkState) → IsQuiet t → t.life ≡ Ready link → IsRunning t
+quiet_running t link q e = running_of t link q.settled e (q.fit link e)
 
 -- a message of the queue waits for room
 pub room_holds : (b : Book) (t : Inner) (p : ℕ) (link : LinkState) → Tied b t → IsQuiet t → t.life ≡ Ready link → IsIn p (queue_ids (link_in t.life).queue) → WaitHolds b (name_at t.requests p) wait.Room
@@ -267,7 +265,7 @@ room_holds b t p link h q e i =
       | inl none ↦ absurd (subst (λ qs. IsIn p (queue_ids qs)) none (subst (λ (x : Life). IsIn p (queue_ids (link_in x).queue)) e i))
       | inr on ↦ on
     ] in
-    queue_step b t p h (running_of t link q e) i ∙ ap starts_or_waits held
+    queue_step b t p h (quiet_running t link q e) i ∙ ap starts_or_waits held
 
 -- who waits for a place waits for it
 pub place_holds : (b : Book) (t : Inner) (p : ℕ) (link : LinkState) → Tied b t → IsQuiet t → t.life ≡ Ready link → is_open_at t.requests p ≡ true → IsIn p (waiting_ids t.admitted) → WaitHolds b (name_at t.requests p) wait.Place
@@ -276,7 +274,7 @@ place_holds b t p link h q e o i =
       | inl none ↦ absurd (subst (λ qs. IsIn p (waiting_ids qs)) none i)
       | inr on ↦ on
     ] in
-    full_step b t p h (running_of t link q e) filled o (in_left p (waiting_ids t.admitted) (waiting_ids t.waiting) i)
+    full_step b t p h (quiet_running t link q e) filled o (in_left p (waiting_ids t.admitted) (waiting_ids t.waiting) i)
 
 -- a life that is not ready
 not_ready : (life other : Life) (link : LinkState) → is_ready other ≡ false → life ≡ other → life ≡ Ready link → ⊥
