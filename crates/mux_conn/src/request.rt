@@ -1,5 +1,6 @@
 use containers::Bytes;
 use driver_model::Shape;
+use std::alloc::{AllocError, Global};
 
 /// The number of a request of one connection.
 #[derive(Clone, Copy, PartialEq, Eq)]
@@ -35,4 +36,21 @@ pub struct Waiting {
     pub shape: Shape,
     /// Whether its reply is awaited.
     pub awaited: bool,
+}
+
+impl Waiting {
+    ghost use Rattle.std.specs.Prelude.{◌≡◌, IfOk};
+
+    /// An equal value of its own.
+    pub fn clone(&self, alloc: Global) -> Result<Waiting, AllocError>
+        ensures { IfOk result (λ w. w ≡ self.now) }
+    {
+        let packed = self.packed.clone(alloc)?;
+        Ok(Waiting {
+            number: self.number,
+            packed,
+            shape: self.shape,
+            awaited: self.awaited,
+        })
+    }
 }
