@@ -16,3 +16,5 @@ pub use showing::Done;
 mod tests;
 #[cfg(test)]
 mod threads_tests;
+#[cfg(test)]
+mod waits_tests;
