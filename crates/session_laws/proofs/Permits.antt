@@ -93,6 +93,15 @@ permits_further story submissions requests link limit free letting p now l gone 
       (λ f. let o = ne_from p m f in h.let_in m (elim e [ inl a ↦ inl (sym (there_other is_admitted requests p m now o) ∙ a) | inr a ↦ inr (sym (there_other is_placed requests p m now o) ∙ a) ]));
 }
 
+-- who was being let in waits no longer
+pub permits_let : (story : ℕ → Story) (submissions : ℕ) (requests : List Request) (link : ℕ) (limit : Option ℕ) (free : ℕ) (letting : List ℕ) (p : ℕ) → is_waiting_at requests p ≡ false → ((m : ℕ) → IsIn m letting → p ≡ m)
+    → TiedPermits story submissions requests link limit free letting → TiedPermits story submissions requests link limit free []
+permits_let story submissions requests link limit free letting p gone only h = record {
+  counted = h.counted;
+  none = λ m w out. h.none m w (λ i. not_both (is_waiting_at requests m) (ap (is_waiting_at requests) (sym (only m i)) ∙ gone) w);
+  let_in = h.let_in;
+}
+
 -- a request is closed, and its permits are free
 --
 -- those that are free, where permits are counted
