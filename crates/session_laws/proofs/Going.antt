@@ -64,7 +64,7 @@ later_in t n l =
     elim l.later [ inl i ↦ in_left l.p queue kept i | inr w ↦ in_right l.p queue kept (kept_in t.requests t.waiting t.admitted l.p w) ]
 
 -- one that makes a step is still to start
-moves_later : (b : Book) (t : Inner) (n : ℕ) → Tied b t → IsRunning t → CanMove b n → IsLater t n
+pub moves_later : (b : Book) (t : Inner) (n : ℕ) → Tied b t → IsRunning t → CanMove b n → IsLater t n
 moves_later b t n h r m = later_of b t n h r.settled (ready_alive t.life r.up) m.unstarted
 
 -- the first of the queue is the first that makes a step
