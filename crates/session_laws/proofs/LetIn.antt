@@ -1,8 +1,9 @@
 -- A request is let in: it takes its permits, and its timer is asked for.
-use Rattle.std.proofs.Common.{Bool, List, None, Option, Some, [], ap, arith, false, inl, inr, length, refl, slice_get, slice_set, subst, suc, sym, true, zero, ℕ, ◌+◌, ◌-◌, ◌++◌, ◌<◌, ◌≤◌, ◌∙◌, ◌∷◌, ◌≡◌, ◌≢◌, ◌⊎◌}
+use Rattle.std.proofs.Common.{Bool, List, None, Option, Some, [], ap, append_assoc, arith, false, inl, inr, length, refl, slice_get, slice_set, subst, suc, sym, true, zero, ℕ, ◌+◌, ◌-◌, ◌++◌, ◌<◌, ◌≤◌, ◌∙◌, ◌∷◌, ◌≡◌, ◌≢◌, ◌⊎◌}
+use Rattle.std.proofs.lemmas.List.{append-nil, length-append}
 use Rattle.std.specs.List.{AllByRecursion}
 use Rattle.std.specs.Prelude.{is_none, is_some, min, max, nat_lt, not, if◌then◌else◌, ◌==◌, ◌&&◌, ◌||◌}
-use Rattle.containers.proofs.Choices.{by_test, chosen, eq_from, eq_test, left_if, ne_from, ne_test, not_both, taken_if}
+use Rattle.containers.proofs.Choices.{by_test, chosen, eq_from, eq_test, left_if, ne_from, ne_test, not_both, not_lt_from, taken_if}
 use Rattle.containers.proofs.Places.{get_within}
 use Rattle.driver_model.specs.Shape.{permits_for}
 use Rattle.driver_model.specs.declared.action.Action.{Action}
@@ -16,8 +17,15 @@ use Rattle.link_core.specs.Link.{LinkState, holds_back, is_full}
 use Rattle.link_core.specs.declared.message.Entry.{Entry}
 use Rattle.link_core.specs.declared.message.Queued.{Queued}
 use Rattle.link_laws.proofs.TiedLink.{TiedLink}
-use Rattle.mux_conn.specs.Connection.{has_no_permit}
-use Rattle.mux_conn.specs.Passes.{permits_taken}
+use Rattle.mux_conn.specs.Connection.{Work, has_no_permit}
+use Rattle.mux_conn.specs.Passes.{holding, let_in, permits_taken, timer_asked, took_shown}
+use Rattle.mux_conn.specs.declared.act.LinkAct.{LinkAct}
+use Rattle.mux_conn.specs.declared.act.LinkAct.TheVariants as act
+use Rattle.mux_conn.specs.declared.connection.MultiplexedConnection.{MultiplexedConnection}
+use Rattle.shared_session.specs.declared.core_state.Core.{Core}
+use Rattle.shared_session.specs.Turn.{timer_of, timers_of}
+use Rattle.session_laws.proofs.Entered.{shown_more, timers_more}
+use Rattle.session_laws.proofs.Settle.{book_of_more, seen, trace_of_acts}
 use Rattle.mux_conn.specs.Requests.{if_there, is_admitted, is_admitted_at, is_open as is_open_progress, is_open_at, is_placed, is_placed_at, is_waiting, is_waiting_at, name_at, permits_at, with_permits}
 use Rattle.mux_conn.specs.declared.life.Life.{Life}
 use Rattle.mux_conn.specs.declared.life.Life.TheVariants.{Ready}
@@ -473,3 +481,194 @@ ask_tied b t p number ms w alone h =
     some_more : (xs : List Purpose) (x : Purpose) → xs ++ x ∷ [] ≡ [] → ⊥
     some_more [] x e = cc
     some_more (y ∷ ys) x e = cc
+
+-- a request is let in by its connection
+--
+-- requests of which one comes further twice
+pub permits_twice : (requests : List Request) (p : ℕ) (one two : Progress) (a c : ℕ) → with_permits (with_permits requests p one a) p two c ≡ with_permits requests p two c
+permits_twice requests p one two a c =
+    set_twice requests p (record { name = name_at requests p; progress = one; permits = a }) (record { name = name_at (with_permits requests p one a) p; progress = two; permits = c })
+    ∙ ap (λ n. slice_set requests p (record { name = n; progress = two; permits = c })) (name_with requests p one a p)
+  where
+    set_twice : (xs : List Request) (n : ℕ) (x y : Request) → slice_set (slice_set xs n x) n y ≡ slice_set xs n y
+    set_twice [] n x y = refl
+    set_twice (z ∷ xs) zero x y = refl
+    set_twice (z ∷ xs) (suc n) x y = ap (λ ys. z ∷ ys) (set_twice xs n x y)
+
+-- an act that asks for no timer
+pub quiet_timers : (acts : List LinkAct) (a : LinkAct) → timer_of a ≡ [] → timers_of (acts ++ a ∷ []) ≡ timers_of acts
+quiet_timers acts a e = timers_more acts a ∙ ap (λ ts. timers_of acts ++ ts) e ∙ append-nil (timers_of acts)
+
+-- one that waits holds its permits, where they are counted, and has no timer
+pub record HasTaken (before : List Action) (f : Core) (t : Inner) (p count : ℕ) (acts : List LinkAct) : Type 0 where
+  pub going : IsGoing (trace_of_acts before f acts) (lets t p count (t.free - count) (f.timers ++ timers_of acts))
+  pub has : (is_none t.limit || nat_lt 0 ((book (trace_of_acts before f acts)).story (name_at t.requests p)).permits) ≡ true
+  pub none : ((book (trace_of_acts before f acts)).story (name_at t.requests p)).clock ≡ None
+
+-- where permits are counted it has taken some
+some_taken : (before : List Action) (f : Core) (acts : List LinkAct) (conn : MultiplexedConnection) (started : List ℕ) (link : LinkState) (q : Waiting) (qs : List Waiting) (k : ℕ) → IsOpening (seen f acts conn [] started) link q qs → conn.limit ≡ Some k → conn.free ≢ 0
+    → IsGoing (trace_of_acts before f acts) (seen f acts conn [] started)
+    → HasTaken before f (seen f acts conn [] started) q.number (min conn.free (permits_for q.shape k)) (acts ++ act.Took (name_at conn.requests q.number) (min conn.free (permits_for q.shape k)) ∷ [])
+some_taken before f acts conn started link q qs k o e some h =
+    let t = seen f acts conn [] started in
+    let p = q.number in
+    let n = name_at conn.requests p in
+    let count = min conn.free (permits_for q.shape k) in
+    let trace = trace_of_acts before f acts in
+    let b = book trace in
+    let a = act.Took n count in
+    let taken = action.Took (owner.Try n 0) f.single.link count in
+    let most = taken_some conn.free q.shape k some in
+    let after = lets t p count (conn.free - count) t.timers in
+    let first : IsGoing (trace ++ taken ∷ []) after = going_more trace taken after h.sound.stands
+    (refl, may_take b t link q qs k o refl e some h.sound.tied h.ended)
+    (take_tied b t p count o.is_waiting refl most.0 h.sound.tied)
+    h.ended in
+    let there = subst (λ (x : List Action). IsGoing x after) (sym (shown_more before f.single.link (length f.timers) acts a)) first in
+    let book_is = book_of_more before f acts a in
+    let own : (entered b taken).story n ≡ holds (b.story n) count = taken_if (n == n) (holds (b.story n) count) (b.story n) (eq_test n n refl) in
+    let story_is : (book (trace_of_acts before f (acts ++ a ∷ []))).story n ≡ holds (b.story n) count = ap (λ (x : Book). x.story n) book_is ∙ own in
+    record {
+      going = subst (λ ts. IsGoing (trace_of_acts before f (acts ++ a ∷ [])) (lets t p count (conn.free - count) (f.timers ++ ts))) (sym (quiet_timers acts a refl)) there;
+      has = ap (λ (x : Story). is_none conn.limit || nat_lt 0 x.permits) story_is ∙ ap (λ x. is_none conn.limit || x) (some_less count most.1) ∙ or_true (is_none conn.limit);
+      none = ap (λ (x : Story). x.clock) story_is ∙ (h.sound.tied.permits.none p o.is_waiting (λ i. i)).1;
+    }
+  where
+    some_less : (n : ℕ) → 0 < n → nat_lt 0 n ≡ true
+    some_less n l = by_test (nat_lt 0 n) _ (λ t. t) (λ f1. absurd (let most = not_lt_from 0 n f1 in omega arith))
+
+    or_true : (x : Bool) → (x || true) ≡ true
+    or_true true = refl
+    or_true false = refl
+
+-- where they aren't it takes none
+none_taken : (before : List Action) (f : Core) (acts : List LinkAct) (conn : MultiplexedConnection) (started : List ℕ) (link : LinkState) (q : Waiting) (qs : List Waiting) → IsOpening (seen f acts conn [] started) link q qs → conn.limit ≡ None
+    → IsGoing (trace_of_acts before f acts) (seen f acts conn [] started) → HasTaken before f (seen f acts conn [] started) q.number 0 acts
+none_taken before f acts conn started link q qs o e h =
+    let t = seen f acts conn [] started in
+    record {
+      going = record { sound = record { stands = h.sound.stands; tied = free_tied (book (trace_of_acts before f acts)) t q.number o.is_waiting refl e h.sound.tied }; ended = h.ended };
+      has = ap (λ (x : Option ℕ). is_none x || nat_lt 0 ((book (trace_of_acts before f acts)).story (name_at conn.requests q.number)).permits) e;
+      none = (h.sound.tied.permits.none q.number o.is_waiting (λ i. i)).1;
+    }
+
+-- what is shown of that leaves the connection
+took_conn : (w : Work) (p count : ℕ) (limit : Option ℕ) → (took_shown w p count limit).conn ≡ w.conn
+took_conn w p count None = refl
+took_conn w p count (Some k) = refl
+
+-- so it is by the connection
+has_taken : (before : List Action) (f : Core) (acts : List LinkAct) (conn : MultiplexedConnection) (started : List ℕ) (link : LinkState) (q : Waiting) (qs : List Waiting) (limit : Option ℕ) → IsOpening (seen f acts conn [] started) link q qs → conn.limit ≡ limit
+    → has_no_permit limit conn.free ≡ false → IsGoing (trace_of_acts before f acts) (seen f acts conn [] started)
+    → (let count = permits_taken limit conn.free q.shape in
+    HasTaken before f (seen f acts conn [] started) q.number count (took_shown (record { conn = holding conn q.number count; acts = acts }) q.number count limit).acts)
+has_taken before f acts conn started link q qs None o e some h = none_taken before f acts conn started link q qs o e h
+has_taken before f acts conn started link q qs (Some k) o e some h =
+    let count = min conn.free (permits_for q.shape k) in
+    subst (λ n. HasTaken before f (seen f acts conn [] started) q.number count (acts ++ act.Took n count ∷ [])) (sym (name_with conn.requests q.number progress.Admitted count q.number))
+    (some_taken before f acts conn started link q qs k o e (ne_from conn.free 0 some) h)
+
+-- it is let in
+pub record HasLet (before : List Action) (f : Core) (t : Inner) (p count : ℕ) (acts : List LinkAct) : Type 0 where
+  pub going : IsGoing (trace_of_acts before f acts) (lets t p count (t.free - count) (f.timers ++ timers_of acts))
+  pub is : is_let_in t.limit ((book (trace_of_acts before f acts)).story (name_at t.requests p)) ≡ true
+
+-- it is still to be let in when it holds its permits
+opening_taken : (t : Inner) (link : LinkState) (q : Waiting) (qs : List Waiting) (count free : ℕ) (timers : List Purpose) → IsOpening t link q qs → IsOpening (lets t q.number count free timers) link q qs
+opening_taken t link q qs count free timers o = record {
+  life = o.life;
+  settled = o.settled;
+  fit = o.fit;
+  held = o.held;
+  full = o.full;
+  waiting = o.waiting;
+  is_waiting = with_same is_waiting t.requests q.number progress.Waiting count (there_within is_waiting t.requests q.number o.is_waiting);
+}
+
+-- where it has no time, no timer is asked for
+let_untimed : (before : List Action) (f : Core) (t : Inner) (link : LinkState) (q : Waiting) (qs : List Waiting) (count : ℕ) (acts : List LinkAct) → IsOpening t link q qs → q.timeout ≡ None → HasTaken before f t q.number count acts → HasLet before f t q.number count acts
+let_untimed before f t link q qs count acts o e h =
+    let b = book (trace_of_acts before f acts) in
+    let n = name_at t.requests q.number in
+    let now = lets t q.number count (t.free - count) (f.timers ++ timers_of acts) in
+    let packed = opening_packed b now link q qs (opening_taken t link q qs count (t.free - count) (f.timers ++ timers_of acts) o) h.going.sound.tied in
+    let time : (b.story n).timeout ≡ None = ap (λ m. (b.story m).timeout) (sym (name_with t.requests q.number progress.Waiting count q.number)) ∙ sym packed.time_is ∙ e in
+    record { going = h.going; is = λ i. h.has i && (is_none (time i) || is_some (b.story n).clock) }
+
+-- where it has one, it is
+let_timed : (before : List Action) (f : Core) (t : Inner) (link : LinkState) (q : Waiting) (qs : List Waiting) (count ms : ℕ) (acts : List LinkAct) → IsOpening t link q qs → q.timeout ≡ Some ms → t.link ≡ f.single.link → HasTaken before f t q.number count acts
+    → HasLet before f t q.number count (acts ++ act.Timer (name_at t.requests q.number) ms ∷ [])
+let_timed before f t link q qs count ms acts o e same h =
+    let p = q.number in
+    let n = name_at t.requests p in
+    let trace = trace_of_acts before f acts in
+    let b = book trace in
+    let timers = f.timers ++ timers_of acts in
+    let now = lets t p count (t.free - count) timers in
+    let within = there_within is_waiting t.requests p o.is_waiting in
+    let named = name_with t.requests p progress.Waiting count p in
+    let number = length f.timers + length (timers_of acts) in
+    let what = purpose.Response (owner.Try n 0) in
+    let timer = action.Timer number ms what in
+    let a = act.Timer n ms in
+    let opening = opening_taken t link q qs count (t.free - count) timers o in
+    let alone : (m : ℕ) → IsIn m (p ∷ []) → p ≡ m = λ m i. elim i [ inl x ↦ x | inr k ↦ absurd k ] in
+    let may = may_time b now link q qs number ms opening h.going.sound.tied h.going.ended (sym (length-append f.timers (timers_of acts)))
+    (ap (λ m. is_none t.limit || nat_lt 0 (b.story m).permits) named ∙ h.has) e (ap (λ m. (b.story m).clock) named ∙ h.none) in
+    let stands : MayTime b number ms what = subst (λ m. MayTime b number ms (purpose.Response (owner.Try m 0))) named may in
+    let asked = ask_tied b now p number ms opening.is_waiting alone h.going.sound.tied in
+    let again = permits_twice t.requests p progress.Waiting progress.Waiting count (permits_at now.requests p) ∙ ap (with_permits t.requests p progress.Waiting) (permits_with t.requests p progress.Waiting count within) in
+    let after = lets t p count (t.free - count) (timers ++ what ∷ []) in
+    let tied : Tied (entered b timer) after =
+    subst (λ (x : List Request). Tied (entered b timer) (record after { requests = x })) again
+    (subst (λ m. Tied (entered b (action.Timer number ms (purpose.Response (owner.Try m 0)))) (record after { requests = with_permits now.requests p progress.Waiting (permits_at now.requests p); timers = timers ++ purpose.Response (owner.Try m 0) ∷ [] })) named asked) in
+    let first : IsGoing (trace ++ timer ∷ []) after = going_more trace timer after h.going.sound.stands (inr stands) tied h.going.ended in
+    let there = subst (λ (x : List Action). IsGoing x after) (sym (shown_more before f.single.link (length f.timers) acts a)) first in
+    let own : (entered b timer).story n ≡ clocked (b.story n) number = taken_if (n == n) (clocked (b.story n) number) (b.story n) (eq_test n n refl) in
+    let story_is : (book (trace_of_acts before f (acts ++ a ∷ []))).story n ≡ clocked (b.story n) number = ap (λ (x : Book). x.story n) (book_of_more before f acts a) ∙ own in
+    record {
+      going = subst (λ ts. IsGoing (trace_of_acts before f (acts ++ a ∷ [])) (lets t p count (t.free - count) ts)) (append_assoc f.timers (timers_of acts) (what ∷ []) ∙ ap (λ ts. f.timers ++ ts) (sym (timers_more acts a))) there;
+      is = ap (is_let_in t.limit) story_is ∙ (λ i. h.has i && or_true (is_none (b.story n).timeout) i);
+    }
+  where
+    or_true : (x : Bool) → (x || true) ≡ true
+    or_true true = refl
+    or_true false = refl
+
+-- by its time
+let_by_time : (before : List Action) (f : Core) (t : Inner) (link : LinkState) (q : Waiting) (qs : List Waiting) (count : ℕ) (v : Work) (timeout : Option ℕ) → IsOpening t link q qs → q.timeout ≡ timeout → t.link ≡ f.single.link → name_at v.conn.requests q.number ≡ name_at t.requests q.number
+    → HasTaken before f t q.number count v.acts → HasLet before f t q.number count (timer_asked v q.number timeout).acts
+let_by_time before f t link q qs count v None o e same named h = let_untimed before f t link q qs count v.acts o e h
+let_by_time before f t link q qs count v (Some ms) o e same named h =
+    subst (λ n. HasLet before f t q.number count (v.acts ++ act.Timer n ms ∷ [])) (sym named) (let_timed before f t link q qs count ms v.acts o e same h)
+
+-- what is shown of a timer leaves the connection
+timer_conn : (w : Work) (p : ℕ) (timeout : Option ℕ) → (timer_asked w p timeout).conn ≡ w.conn
+timer_conn w p None = refl
+timer_conn w p (Some ms) = refl
+
+-- the connection behind it
+pub let_in_conn : (w : Work) (q : Waiting) → (let_in w q).conn ≡ holding w.conn q.number (permits_taken w.conn.limit w.conn.free q.shape)
+let_in_conn w q =
+    let count = permits_taken w.conn.limit w.conn.free q.shape in
+    let u : Work = record w { conn = holding w.conn q.number count } in
+    timer_conn (took_shown u q.number count w.conn.limit) q.number q.timeout ∙ took_conn u q.number count w.conn.limit
+
+-- so the next is let in
+pub let_in_going : (before : List Action) (f : Core) (w : Work) (admitted : List Waiting) (started : List ℕ) (link : LinkState) (q : Waiting) (qs : List Waiting)
+    → (let t = seen f w.acts (record w.conn { admitted = admitted; waiting = q ∷ qs }) [] started in
+    IsOpening t link q qs → has_no_permit w.conn.limit w.conn.free ≡ false → IsGoing (trace_of_acts before f w.acts) t → HasLet before f t q.number (permits_taken w.conn.limit w.conn.free q.shape) (let_in w q).acts)
+let_in_going before f w admitted started link q qs o some h =
+    let conn = record w.conn { admitted = admitted; waiting = q ∷ qs } in
+    let t = seen f w.acts conn [] started in
+    let count = permits_taken w.conn.limit w.conn.free q.shape in
+    let u : Work = record w { conn = holding w.conn q.number count } in
+    let v = took_shown u q.number count w.conn.limit in
+    let taken : HasTaken before f t q.number count v.acts =
+    subst (λ (x : List LinkAct). HasTaken before f t q.number count x) (acts_same count w.conn.limit) (has_taken before f w.acts conn started link q qs w.conn.limit o refl some h) in
+    let named = ap (λ (c : MultiplexedConnection). name_at c.requests q.number) (took_conn u q.number count w.conn.limit) ∙ name_with w.conn.requests q.number progress.Admitted count q.number in
+    let_by_time before f t link q qs count v q.timeout o refl refl named taken
+  where
+    acts_same : (count : ℕ) (limit : Option ℕ) → (took_shown (record { conn = holding (record w.conn { admitted = admitted; waiting = q ∷ qs }) q.number count; acts = w.acts }) q.number count limit).acts ≡ (took_shown (record w { conn = holding w.conn q.number count }) q.number count limit).acts
+    acts_same count None = refl
+    acts_same count (Some k) = refl
