@@ -26,9 +26,9 @@ use Rattle.mux_conn.specs.Effects.{settled_each, failed_each}
 use Rattle.shared_session.specs.declared.core_state.Core.{Core}
 use Rattle.shared_session.specs.Turn.{shown, shown_each, timer_of, timers_of}
 use Rattle.legal_trace.specs.Ledger.{Ledger, is_over}
-use Rattle.legal_trace.specs.Book.{Book, book, entered}
+use Rattle.legal_trace.specs.Book.{Book, blank_book, book, entered}
 use Rattle.legal_trace.specs.Owed.{owed}
-use Rattle.legal_trace.specs.Legal.{MayStand, MayAnswer}
+use Rattle.legal_trace.specs.Legal.{AllStand, MayStand, MayAnswer}
 use Rattle.session_laws.proofs.Numbers.{Rising, rising_from}
 use Rattle.session_laws.proofs.Tied.{Inner, link_in, TiedLife, Tied, Sound, waiting_ids, has_ended}
 use Rattle.session_laws.proofs.Entered.{book_more, sound_more, shown_more, timers_more}
@@ -93,13 +93,18 @@ seen_is f acts a conn pending started =
     ap (λ (ts : List Purpose). record (seen f acts conn pending started) { timers = ts })
     (add_is (f.timers ++ timers_of acts) (timer_of a) ∙ append_assoc f.timers (timers_of acts) (timer_of a) ∙ ap (λ ts. f.timers ++ ts) (sym (timers_more acts a)))
 
+-- one more act that may stand behind those that do
+pub sound_act : (before : List Action) (f : Core) (acts : List LinkAct) (a : LinkAct) (conn : MultiplexedConnection) (pending started : List ℕ) → AllStand blank_book (trace_of_acts before f acts) → MayStand (book (trace_of_acts before f acts)) (shown_now f acts a)
+    → Tied (entered (book (trace_of_acts before f acts)) (shown_now f acts a)) (seen_more f acts a conn pending started) → Sound (trace_of_acts before f (acts ++ a ∷ [])) (seen f (acts ++ a ∷ []) conn pending started)
+sound_act before f acts a conn pending started stands may tied =
+    subst (λ (t : Inner). Sound (trace_of_acts before f (acts ++ a ∷ [])) t) (seen_is f acts a conn pending started)
+    (subst (λ (x : List Action). Sound x (seen_more f acts a conn pending started)) (sym (shown_more before f.single.link (length f.timers) acts a))
+    (sound_more (trace_of_acts before f acts) (shown_now f acts a) (seen_more f acts a conn pending started) stands may tied))
+
 -- one more act
 pub holds_more : (before : List Action) (f : Core) (w : Work) (a : LinkAct) (conn : MultiplexedConnection) (was pending started : List ℕ) → Holds before f w was started → MayStand (book (trace_of_acts before f w.acts)) (shown_now f w.acts a)
     → Tied (entered (book (trace_of_acts before f w.acts)) (shown_now f w.acts a)) (seen_more f w.acts a conn pending started) → Holds before f (record { conn = conn; acts = w.acts ++ a ∷ [] }) pending started
-holds_more before f w a conn was pending started h may tied =
-    subst (λ (t : Inner). Sound (trace_of_acts before f (w.acts ++ a ∷ [])) t) (seen_is f w.acts a conn pending started)
-    (subst (λ (x : List Action). Sound x (seen_more f w.acts a conn pending started)) (sym (shown_more before f.single.link (length f.timers) w.acts a))
-    (sound_more (trace_of_acts before f w.acts) (shown_now f w.acts a) (seen_more f w.acts a conn pending started) h.stands may tied))
+holds_more before f w a conn was pending started h may tied = sound_act before f w.acts a conn pending started h.stands may tied
 
 -- and the book behind it
 pub book_of_more : (before : List Action) (f : Core) (acts : List LinkAct) (a : LinkAct) → book (trace_of_acts before f (acts ++ a ∷ [])) ≡ entered (book (trace_of_acts before f acts)) (shown_now f acts a)
