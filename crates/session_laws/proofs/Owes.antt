@@ -94,7 +94,7 @@ stands_started b t p k of_shape h l place =
 -- what a request is owed
 --
 -- what is not empty has a length
-not_empty : (bytes : List ℕ) → bytes ≢ [] → (length bytes == 0) ≡ false
+pub not_empty : (bytes : List ℕ) → bytes ≢ [] → (length bytes == 0) ≡ false
 not_empty bytes some = ne_test (length bytes) 0 (λ e. some (nil_from_length bytes e))
 
 -- by its last try
