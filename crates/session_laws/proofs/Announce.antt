@@ -1,9 +1,10 @@
 -- A turn of an event: where it may stand, and what its link and the others hear.
-use Rattle.std.proofs.Common.{◌≡◌, ◌≢◌, ◌⊎◌, inl, inr, ℕ, ◌+◌, ◌<◌, ◌==◌, nat_lt, nat_le, false, ◌&&◌, ◌||◌, not, is_some, List, [], ◌∷◌, ◌++◌, length, slice_get, Some, refl, sym, ap, ◌∙◌, subst, arith, length-take, None, Option}
+use Rattle.std.proofs.Common.{◌≡◌, ◌≢◌, ◌⊎◌, inl, inr, ℕ, ◌+◌, ◌<◌, ◌≤◌, ◌==◌, nat_lt, nat_le, false, ◌&&◌, ◌||◌, not, is_some, List, [], ◌∷◌, ◌++◌, length, slice_get, Some, refl, sym, ap, ◌∙◌, subst, arith, length-take, None, Option}
 use Rattle.std.proofs.lemmas.List.{append-nil}
 use Rattle.containers.proofs.Choices.{by_test, chosen, taken_if, left_if, eq_test, ne_test, not_le_from, or_left}
 use Rattle.redis_error.specs.declared.redis_error.RedisError.TheVariants as error
 use Rattle.driver_model.specs.declared.action.Action.{Action}
+use Rattle.driver_model.specs.declared.action.Owner.TheVariants as owner
 use Rattle.driver_model.specs.declared.action.Purpose.{Purpose}
 use Rattle.driver_model.specs.declared.action.Purpose.TheVariants as purpose
 use Rattle.driver_model.specs.declared.action.Action.TheVariants as action
@@ -26,7 +27,7 @@ use Rattle.legal_trace.specs.Story.{Story, fires}
 use Rattle.legal_trace.specs.Book.{Book, book, entered, is_clock_of}
 use Rattle.legal_trace.specs.Events.{is_bad_event}
 use Rattle.legal_trace.specs.Legal.{MayTurn}
-use Rattle.session_laws.proofs.Tied.{AreAimed, owners_of, Inner, inner, link_in, owner_of, IsUnknown, TiedLife, TiedTries, TiedLines, AreQueued, TiedWaits, Tied, Sound, no_opening, has_ended}
+use Rattle.session_laws.proofs.Tied.{AreAimed, IsAim, owners_of, Inner, inner, link_in, owner_of, IsUnknown, TiedLife, TiedTries, TiedLines, AreQueued, TiedWaits, Tied, Sound, no_opening, has_ended}
 use Rattle.session_laws.proofs.States.{Between}
 use Rattle.session_laws.proofs.Entered.{book_more, sound_more}
 use Rattle.session_laws.proofs.Answer.{some_end}
@@ -209,6 +210,14 @@ turned c kind = shut_by (record c { turns = c.turns + 1 }) kind
 -- what timers are for, with none more
 pub aims_on : (timers : List Purpose) (link count : ℕ) → AreAimed timers link count → AreAimed (timers ++ []) link count
 aims_on timers link count h = subst (λ (ts : List Purpose). AreAimed ts link count) (sym (append-nil timers)) h
+
+-- with more submissions
+pub aims_longer : (timers : List Purpose) (link count more : ℕ) → count ≤ more → AreAimed timers link count → AreAimed timers link more
+aims_longer timers link count more l h k what e = by_purpose what (h k what e)
+  where
+    by_purpose : (x : Purpose) → IsAim x link count → IsAim x link more
+    by_purpose (purpose.Connect m) is = is
+    by_purpose (purpose.Response (owner.Try n round)) is = (let less = is.0 in omega arith, is.1)
 
 -- the session tied to that book, by what its link hears and has come to; the creation may be shown with it
 pub heard_tied : (b : Book) (c : Core) (started : List ℕ) (word created : ℕ) (kind : EventKind) (life : Life) (fresh pending : List ℕ) (l : Ledger) → Tied b (inner c started) → is_bad c kind ≡ false → noted (b.link c.single.link) (hears c.turns (news_of b.timers c.single.link kind)) ≡ l
