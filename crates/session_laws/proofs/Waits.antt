@@ -180,7 +180,7 @@ pub record IsQuiet (t : Inner) : Type 0 where
   pub held : (link : LinkState) → t.life ≡ Ready link → (link.queue ≡ []) ⊎ (holds_back link ≡ true)
   pub full : (link : LinkState) → t.life ≡ Ready link → (t.admitted ≡ []) ⊎ (is_full link ≡ true)
   pub waiting : (link : LinkState) → t.life ≡ Ready link → (t.waiting ≡ []) ⊎ (has_no_permit t.limit t.free ≡ true)
-  pub none_waits : has_ended t.life ≡ true → t.waiting ≡ []
+  pub gone : has_ended t.life ≡ true → t.waiting ≡ []
 
 -- where an open request is
 --
@@ -226,7 +226,7 @@ untried_there b t p h none up o untried =
     ]
 
 -- a message of the row that is wanted has its place
-wanted_placed : (requests : List Request) (row : List Entry) (p : ℕ) → AllByRecursion (IsEntry requests) row → IsIn p (wanted row) → is_placed_at requests p ≡ true
+pub wanted_placed : (requests : List Request) (row : List Entry) (p : ℕ) → AllByRecursion (IsEntry requests) row → IsIn p (wanted row) → is_placed_at requests p ≡ true
 wanted_placed requests [] p all i = absurd i
 wanted_placed requests (e ∷ es) p all i = elim (in_either p (if e.awaited then e.id ∷ [] else []) (wanted es) i) [
   | inl j ↦ subst (λ n. is_placed_at requests n ≡ true) (chosen_in e.awaited p e.id j) (all.0.placed_at (own e.awaited j))
@@ -337,7 +337,7 @@ waiting_is b t p h q o at unmoved old = by_life t.life refl
         | inr w ↦ as_shown wait.Permit (elim (h.waits.permit p link w.0 e) [ inl new ↦ absurd (old w.0 new) | inr s ↦ s ]) (permit_holds b t p link h q e w.0 w.1)
       ]
     ]
-    by_life (Ended x) e = absurd (none_open b t x n h q.settled e (λ i. kept_ids (q.none (λ link r. not_ready t.life (Ended x) link refl e r) i) (q.none_waits (ap has_ended e) i)) ((request_story b t p h within).open_is ∙ o))
+    by_life (Ended x) e = absurd (none_open b t x n h q.settled e (λ i. kept_ids (q.none (λ link r. not_ready t.life (Ended x) link refl e r) i) (q.gone (ap has_ended e) i)) ((request_story b t p h within).open_is ∙ o))
 
 -- a wait may be shown
 --
