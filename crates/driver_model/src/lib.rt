@@ -4,6 +4,8 @@
 mod action;
 mod commands;
 mod config;
+#[cfg(test)]
+mod config_tests;
 mod event;
 mod making;
 #[cfg(test)]

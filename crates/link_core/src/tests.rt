@@ -17,6 +17,8 @@ enum Call {
     /// A transaction of so many commands.
     PutMulti(u64, u32),
     Start,
+    /// Who starts next.
+    First,
     Offer,
     Wrote(u64),
     Bytes(&'static str),
@@ -83,6 +85,13 @@ fn start(alloc: Global, link: &mut LinkCore, log: &mut Vec<u8>) -> Result<(), Al
         log.extend_from_slice(format!(in alloc; "{msg} {id} {need} {len}; ")?.as_bytes())?;
     }
     Ok(())
+}
+
+fn first(alloc: Global, link: &LinkCore, log: &mut Vec<u8>) -> Result<(), AllocError> {
+    match link.first_queued() {
+        Some(id) => log.extend_from_slice(format!(in alloc; "next {id}; ")?.as_bytes()),
+        None => log.extend_from_slice(b"nobody next; ".as_slice()),
+    }
 }
 
 fn offer(link: &mut LinkCore, log: &mut Vec<u8>) -> Result<(), AllocError> {
@@ -241,6 +250,7 @@ fn make(
             put_pipe(alloc, link, *id, shape, log)
         }
         Call::Start => start(alloc, link, log),
+        Call::First => first(alloc, link, log),
         Call::Offer => offer(link, log),
         Call::Wrote(count) => wrote(rt, alloc, link, *count, log),
         Call::Bytes(text) => bytes(alloc, link, text, log),
@@ -334,6 +344,53 @@ fn messages_are_held_back_and_cancelled(rt: HostRuntime) -> Result<(), AllocErro
     let wanted =
         "put, full; full; starts 1, open 1; 0 1 1 2; put, full; starts 0, open 1; put, full; offer ab; left 0; starts 1, open 2; 1 4 1 1; 4 2; ";
     run(&rt, rt.alloc(), 1, 1, calls.as_slice(), wanted)
+}
+
+#[test]
+fn the_boundary_holds_messages_back(rt: HostRuntime) -> Result<(), AllocError> {
+    let alloc = rt.alloc();
+    let calls = [
+        Call::Put(1, "ab"),
+        Call::Start,
+        Call::Put(2, "c"),
+        Call::Start,
+        Call::First,
+        Call::Put(3, "d"),
+        Call::Start,
+        Call::First,
+        Call::Offer,
+        Call::Wrote(3),
+        Call::Put(4, "fghi"),
+        Call::Start,
+        Call::Offer,
+        Call::Wrote(1),
+        Call::Put(5, "j"),
+        Call::Start,
+        Call::Offer,
+        Call::Wrote(1),
+        Call::Start,
+        Call::Offer,
+        Call::Wrote(1),
+        Call::Start,
+        Call::First,
+    ];
+    let wanted =
+        "put; starts 1, open 1; 0 1 1 2; put; starts 1, open 2; 1 2 1 1; nobody next; put; starts 0, open 2; next 3; \
+offer abc; left 0; put; starts 2, open 4; 2 3 1 1; 3 4 1 4; offer dfghi; left 4; put; starts 0, open 4; \
+offer fghi; left 3; starts 0, open 4; offer ghi; left 2; starts 1, open 5; 4 5 1 1; nobody next; ";
+    run(&rt, alloc, 9, 3, calls.as_slice(), wanted)?;
+    let calls = [
+        Call::Put(1, "a"),
+        Call::Put(2, "b"),
+        Call::Start,
+        Call::First,
+        Call::Offer,
+        Call::Wrote(1),
+        Call::Start,
+    ];
+    let wanted =
+        "put; put; starts 1, open 1; 0 1 1 1; next 2; offer a; left 0; starts 1, open 2; 1 2 1 1; ";
+    run(&rt, alloc, 9, 0, calls.as_slice(), wanted)
 }
 
 #[test]

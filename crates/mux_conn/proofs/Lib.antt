@@ -1,4 +1,3 @@
 pub mod Spent
-pub mod Waits
 pub mod Entries
 pub mod Threads

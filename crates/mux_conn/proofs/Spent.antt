@@ -1,8 +1,8 @@
 -- A number that has run out has run out for the rest of the turn.
-use Rattle.std.proofs.Common.{◌≡◌, ℕ, ◌^◌, ◌≤◌, nat_le, List, [], ◌∷◌, Bool, true, false, refl, sym, ap, subst, ◌∙◌, arith, if◌then◌else◌}
+use Rattle.std.proofs.Common.{◌≡◌, ℕ, ◌^◌, ◌≤◌, nat_le, List, [], ◌∷◌, Bool, true, false, Option, None, Some, refl, sym, ap, subst, ◌∙◌, arith, if◌then◌else◌}
 use Rattle.std.proofs.Math.Nat.{le_refl}
 use Rattle.std.proofs.lemmas.Bool.Decides.{nat_tests}
-use Rattle.containers.proofs.Choices.{left_if}
+use Rattle.containers.proofs.Choices.{taken_if, left_if}
 use Rattle.resp_value.specs.declared.value.Value.TheVariants.{Nil}
 use Rattle.driver_model.specs.declared.outcome.Outcome.{Outcome}
 use Rattle.driver_model.specs.declared.outcome.Outcome.TheVariants as outcome
@@ -14,12 +14,15 @@ use Rattle.mux_conn.specs.declared.connection.MultiplexedConnection.{Multiplexed
 use Rattle.mux_conn.specs.declared.life.Life.{Life}
 use Rattle.mux_conn.specs.declared.life.Life.TheVariants.{Dialing, Ready, Ended}
 use Rattle.mux_conn.specs.declared.request.Waiting.{Waiting}
-use Rattle.mux_conn.specs.Connection.{Work, with_link, awaits_connect, moves_none, started_in, is_spent_in}
-use Rattle.mux_conn.specs.Requests.{is_open_at, is_waiting_at, answered}
+use Rattle.mux_conn.specs.Connection.{Work, with_link, admits_none, has_room, started_in, is_spent_in}
+use Rattle.mux_conn.specs.declared.request.Progress.TheVariants as progress
+use Rattle.mux_conn.specs.Requests.{is_open_at, is_waiting_at, is_admitted_at, progressed, answered}
+use Rattle.driver_model.specs.declared.action.WaitKind.{WaitKind}
 use Rattle.driver_model.specs.News.{News}
 use Rattle.mux_conn.specs.Effects.{applied}
-use Rattle.mux_conn.specs.Passes.{shown_each, started, started_at, placed_at, told_at_place, moved, moved_at, moved_each, moved_all, passed, still_waiting}
-use Rattle.mux_conn.specs.Turn.{written, written_at, wait_shown, waits_each, flushed, stepped}
+use Rattle.mux_conn.specs.Passes.{shown_each, started, started_at, placed_at, told_at_place, seated, moved_up, moved_up_each, moved_up_all, still_admitted}
+use Rattle.mux_conn.specs.Passes.{put_behind, seated_or_behind, admitted_at, admitted, admitted_each, admitted_all, still_waiting, passed}
+use Rattle.mux_conn.specs.Turn.{written, written_at, moved_wait, fresh_wait, wait_shown, moved_each_shown, fresh_each_shown, moved_shown, fresh_shown, flushed, stepped}
 
 -- how many messages have started
 abbrev pub count : Work → ℕ
@@ -65,44 +68,89 @@ answered_count w p o = count_either (is_open_at w.conn.requests p) (count w) _ w
 told_count : (w : Work) (q : Waiting) → count (told_at_place w q) ≡ count w
 told_count w q = count_either q.awaited (count w) w (answered w q.number (outcome.One Nil)) refl (answered_count w q.number (outcome.One Nil))
 
-moved_at_rises : (w : Work) (q : Waiting) (life : Life) → w.conn.life ≡ life → count w ≤ count (moved_at w q life)
-moved_at_rises w q Dialing e = le_refl (count w)
-moved_at_rises w q (Ended x) e = let same = answered_count w q.number (outcome.Fault x) in omega (arith, same)
-moved_at_rises w q (Ready link) e =
-    let told = told_at_place (placed_at w q (Ready link)) q in
-    let same : count told ≡ link.started = told_count (placed_at w q (Ready link)) q in
-    let from : count w ≡ link.started = ap started_in e in
-    omega (arith, same, from, started_rises told)
+placed_count : (w : Work) (q : Waiting) (life : Life) → w.conn.life ≡ life → count (placed_at w q life) ≡ count w
+placed_count w q Dialing e = refl
+placed_count w q (Ended x) e = refl
+placed_count w q (Ready link) e = let from : count w ≡ link.started = ap started_in e in sym from
 
-pub moved_rises : (w : Work) (q : Waiting) → count w ≤ count (moved w q)
-moved_rises w q = rises_either (is_waiting_at w.conn.requests q.number) (count w) (moved_at w q w.conn.life) w (moved_at_rises w q w.conn.life refl) (le_refl (count w))
+seated_rises : (w : Work) (q : Waiting) → count w ≤ count (seated w q)
+seated_rises w q =
+    let placed = placed_at w q w.conn.life in
+    let told = told_at_place placed q in
+    let same : count told ≡ count w = told_count placed q ∙ placed_count w q w.conn.life refl in
+    omega (arith, same, started_rises told)
 
-pub moved_each_rises : (w : Work) (qs : List Waiting) → count w ≤ count (moved_each w qs)
-moved_each_rises w [] = le_refl (count w)
-moved_each_rises w (q ∷ qs) =
-    rises_either (moves_none w.conn.life) (count w) (still_waiting w (q ∷ qs)) (moved_each (moved w q) qs) (le_refl (count w))
-    (omega (arith, moved_rises w q, moved_each_rises (moved w q) qs))
+moved_up_rises : (w : Work) (q : Waiting) → count w ≤ count (moved_up w q)
+moved_up_rises w q = rises_either (is_admitted_at w.conn.requests q.number) (count w) (seated w q) w (seated_rises w q) (le_refl (count w))
+
+moved_up_each_rises : (w : Work) (qs : List Waiting) → count w ≤ count (moved_up_each w qs)
+moved_up_each_rises w [] = le_refl (count w)
+moved_up_each_rises w (q ∷ qs) =
+    rises_either (has_room w.conn.life) (count w) (moved_up_each (moved_up w q) qs) (still_admitted w (q ∷ qs))
+    (omega (arith, moved_up_rises w q, moved_up_each_rises (moved_up w q) qs)) (le_refl (count w))
+
+behind_rises : (w : Work) (q : Waiting) → count w ≤ count (seated_or_behind w q)
+behind_rises w q = rises_either (has_room w.conn.life) (count w) (seated w q) (put_behind w q) (seated_rises w q) (le_refl (count w))
+
+admitted_at_rises : (w : Work) (q : Waiting) (life : Life) → count w ≤ count (admitted_at w q life)
+admitted_at_rises w q Dialing = le_refl (count w)
+admitted_at_rises w q (Ended x) = let same = answered_count w q.number (outcome.Fault x) in omega (arith, same)
+admitted_at_rises w q (Ready link) = behind_rises (progressed w q.number progress.Admitted) q
+
+admitted_rises : (w : Work) (q : Waiting) → count w ≤ count (admitted w q)
+admitted_rises w q = rises_either (is_waiting_at w.conn.requests q.number) (count w) (admitted_at w q w.conn.life) w (admitted_at_rises w q w.conn.life) (le_refl (count w))
+
+admitted_each_rises : (w : Work) (qs : List Waiting) → count w ≤ count (admitted_each w qs)
+admitted_each_rises w [] = le_refl (count w)
+admitted_each_rises w (q ∷ qs) =
+    rises_either (admits_none w.conn.life) (count w) (still_waiting w (q ∷ qs)) (admitted_each (admitted w q) qs) (le_refl (count w))
+    (omega (arith, admitted_rises w q, admitted_each_rises (admitted w q) qs))
 
 -- a count that has risen past the last number stays there
 past : (n m : ℕ) → n ≤ m → nat_le (2 ^ 32) n ≡ true → nat_le (2 ^ 32) m ≡ true
 past n m l h = grind (arith, nat_tests, l, h)
 
--- one of those that wait runs out, and so do all
-pub spent_among : (w v : Work) (q : Waiting) (qs : List Waiting) → moves_none w.conn.life ≡ false → moved_each w (q ∷ qs) ≡ v → is_spent_in (moved w q).conn.life ≡ true → is_spent_in v.conn.life ≡ true
-spent_among w v q qs free is h =
-    subst (λ (x : Work). is_spent_in x.conn.life ≡ true) (sym (left_if (moves_none w.conn.life) (still_waiting w (q ∷ qs)) (moved_each (moved w q) qs) free) ∙ is)
-    (past (count (moved w q)) (count (moved_each (moved w q) qs)) (moved_each_rises (moved w q) qs) h)
+-- one of those that wait for a place runs out, and so do all
+pub spent_in_moved_up : (w v : Work) (q : Waiting) (qs : List Waiting) → has_room w.conn.life ≡ true → moved_up_each w (q ∷ qs) ≡ v → is_spent_in (moved_up w q).conn.life ≡ true → is_spent_in v.conn.life ≡ true
+spent_in_moved_up w v q qs room is h =
+    subst (λ (x : Work). is_spent_in x.conn.life ≡ true) (sym (taken_if (has_room w.conn.life) (moved_up_each (moved_up w q) qs) (still_admitted w (q ∷ qs)) room) ∙ is)
+    (past (count (moved_up w q)) (count (moved_up_each (moved_up w q) qs)) (moved_up_each_rises (moved_up w q) qs) h)
 
--- starts run out before the others are moved
+-- and so of those that wait for the connection
+pub spent_in_admitted : (w v : Work) (q : Waiting) (qs : List Waiting) → admits_none w.conn.life ≡ false → admitted_each w (q ∷ qs) ≡ v → is_spent_in (admitted w q).conn.life ≡ true → is_spent_in v.conn.life ≡ true
+spent_in_admitted w v q qs free is h =
+    subst (λ (x : Work). is_spent_in x.conn.life ≡ true) (sym (left_if (admits_none w.conn.life) (still_waiting w (q ∷ qs)) (admitted_each (admitted w q) qs) free) ∙ is)
+    (past (count (admitted w q)) (count (admitted_each (admitted w q) qs)) (admitted_each_rises (admitted w q) qs) h)
+
+-- those that take a place run out before the others are admitted
+pub spent_second : (w : Work) → is_spent_in (moved_up_all (started w)).conn.life ≡ true → is_spent_in (passed w).conn.life ≡ true
+spent_second w h =
+    let v = moved_up_all (started w) in
+    past (count v) (count (admitted_all v)) (admitted_each_rises (still_waiting v []) v.conn.waiting) h
+
+-- starts run out before requests are moved
 pub spent_first : (w : Work) → is_spent_in (started w).conn.life ≡ true → is_spent_in (passed w).conn.life ≡ true
-spent_first w h = past (count (started w)) (count (moved_all (started w))) (moved_each_rises (still_waiting (started w) []) (started w).conn.waiting) h
+spent_first w h =
+    let v = started w in
+    spent_second w (past (count v) (count (moved_up_all v)) (moved_up_each_rises (still_admitted v []) v.conn.admitted) h)
 
-wait_count : (w : Work) (p : ℕ) → count (wait_shown w p) ≡ count w
-wait_count w p = count_either (is_waiting_at w.conn.requests p) (count w) _ w (count_either (awaits_connect w.conn.life) (count w) _ w refl refl) refl
+wait_count : (w : Work) (p : ℕ) (kind : Option WaitKind) → count (wait_shown w p kind) ≡ count w
+wait_count w p None = refl
+wait_count w p (Some kind) = refl
 
-waits_count : (w : Work) (ps : List ℕ) → count (waits_each w ps) ≡ count w
-waits_count w [] = refl
-waits_count w (p ∷ ps) = waits_count (wait_shown w p) ps ∙ wait_count w p
+moved_each_count : (w : Work) (ps : List ℕ) → count (moved_each_shown w ps) ≡ count w
+moved_each_count w [] = refl
+moved_each_count w (p ∷ ps) = moved_each_count (wait_shown w p (moved_wait w.conn p)) ps ∙ wait_count w p (moved_wait w.conn p)
+
+fresh_each_count : (w : Work) (ps : List ℕ) → count (fresh_each_shown w ps) ≡ count w
+fresh_each_count w [] = refl
+fresh_each_count w (p ∷ ps) = fresh_each_count (wait_shown w p (fresh_wait w.conn p)) ps ∙ wait_count w p (fresh_wait w.conn p)
+
+moved_count : (w : Work) → count (moved_shown w) ≡ count w
+moved_count w = moved_each_count (record w { conn = record w.conn { moved = [] } }) w.conn.moved
+
+fresh_count : (w : Work) → count (fresh_shown w) ≡ count w
+fresh_count w = fresh_each_count (record w { conn = record w.conn { fresh = [] } }) w.conn.fresh
 
 written_count : (w : Work) (life : Life) → w.conn.life ≡ life → count (written_at w life) ≡ count w
 written_count w Dialing e = refl
@@ -111,7 +159,7 @@ written_count w (Ready link) e = let from : count w ≡ link.started = ap starte
 
 -- what a turn ends with starts nothing
 pub flushed_count : (w : Work) → count (flushed w) ≡ count w
-flushed_count w = waits_count (record (written w) { conn = record (written w).conn { fresh = [] } }) (written w).conn.fresh ∙ written_count w w.conn.life refl
+flushed_count w = fresh_count (moved_shown (written w)) ∙ moved_count (written w) ∙ written_count w w.conn.life refl
 
 -- a number that runs out has run out at the end of the turn
 pub spent_turn : (w : Work) (news : News) → is_spent_in (passed (applied w news)).conn.life ≡ true → is_spent_in (stepped w news).conn.life ≡ true

@@ -1,6 +1,6 @@
 ghost use Rattle.std.specs.Prelude.{◌≡◌, ◌<◌, [], length, true, false, None, Some, slice_get};
-ghost use Rattle.std.specs.Prelude.{OnOk, IfOk, IsErrOf, MatchOption};
-ghost use Rattle.mux_conn.specs.Passes.{entry_of, has_number};
+ghost use Rattle.std.specs.Prelude.{OnOk, OnErr, IfOk, IsErrOf, MatchOption};
+ghost use Rattle.mux_conn.specs.Passes.{entry_of, without, has_number};
 ghost use Rattle.mux_conn.specs.Places.{IsPlaceOf};
 ghost use Rattle.link_core.specs.Link.{is_spent, starting_with, started_all};
 
@@ -8,7 +8,7 @@ use crate::act::LinkAct;
 use crate::connection::MultiplexedConnection;
 use crate::errors::ConnectionError;
 use crate::life::Life;
-use crate::request::{Pending, Progress, Request, Waiting};
+use crate::request::{Progress, Waiting};
 use containers::Queue;
 use driver_model::Outcome;
 use link_core::{EnqueueError, LinkCore, StartError, Started};
@@ -70,13 +70,14 @@ impl MultiplexedConnection {
 }
 
 impl MultiplexedConnection {
-    ghost use Rattle.mux_conn.specs.Passes.{placed_at, told_at_place, moved, moved_all, passed};
-    ghost use Rattle.mux_conn.specs.Passes.{moved_from, advanced, can_advance};
-    ghost use Rattle.mux_conn.specs.Connection.{work_with, moves_none, runs_out};
+    ghost use Rattle.mux_conn.specs.Passes.{placed_at, told_at_place, seated, moved_up};
+    ghost use Rattle.mux_conn.specs.Passes.{moved_up_all, put_behind, seated_or_behind, admitted};
+    ghost use Rattle.mux_conn.specs.Passes.{admitted_all, passed};
+    ghost use Rattle.mux_conn.specs.Connection.{work_with, admits_none, has_room, runs_out};
 
     /// A request takes its place in the queue.
     fn place(&mut self, alloc: Global, request: &Waiting) -> Result<(), AllocError>
-        requires free { moves_none self.old.life ≡ false }
+        requires free { has_room self.old.life ≡ true }
         requires there { request.now.number < length self.old.requests }
         ensures work { OnOk result (
             work_with self.new [] ≡ placed_at (work_with self.old []) request.now self.old.life
@@ -96,10 +97,8 @@ impl MultiplexedConnection {
             Err(EnqueueError::Full) => unreachable!(),
             Err(EnqueueError::NoMemory) => return Err(AllocError),
         }
-        let name = self.name(number);
-        let progress = Progress::Placed;
-        self.requests
-            .set(request.number as usize, Request { name, progress });
+        self.moved.push_back(request.number)?;
+        self.set_progress(request.number, Progress::Placed);
         Ok(())
     }
 
@@ -118,21 +117,129 @@ impl MultiplexedConnection {
         self.answer(u64::from(request.number), Outcome::One(Value::Nil), out)
     }
 
-    /// One request is moved as far as it can go: if it still waits, it takes its place, and messages start. On a link that
-    /// has ended it is answered.
-    fn move_one(
+    /// A request takes its place in the queue, and messages start.
+    fn seat(
         &mut self,
         alloc: Global,
         request: &Waiting,
         out: &mut Vec<LinkAct>,
     ) -> Result<(), ConnectionError>
-        requires { moves_none self.old.life ≡ false }
+        requires free { has_room self.old.life ≡ true }
+        requires there { request.now.number < length self.old.requests }
         ensures work { OnOk result (
             work_with self.new out.new.items
-            ≡ moved (work_with self.old out.old.items) request.now
+            ≡ seated (work_with self.old out.old.items) request.now
             ) }
         ensures spent { IsErrOf result ConnectionError.Spent
-            → runs_out (moved (work_with self.old out.old.items) request.now) ≡ true }
+            → runs_out (seated (work_with self.old out.old.items) request.now) ≡ true }
+        ensures count { length self.new.requests ≡ length self.old.requests }
+        ensures failure { self.new.failure ≡ self.old.failure }
+    {
+        self.place(alloc, request)?;
+        self.tell_at_place(request, out)?;
+        self.start(alloc, out)
+    }
+
+    /// A request that still waits for a place takes it.
+    fn move_up(
+        &mut self,
+        alloc: Global,
+        request: &Waiting,
+        out: &mut Vec<LinkAct>,
+    ) -> Result<(), ConnectionError>
+        requires { has_room self.old.life ≡ true }
+        ensures work { OnOk result (
+            work_with self.new out.new.items
+            ≡ moved_up (work_with self.old out.old.items) request.now
+            ) }
+        ensures spent { IsErrOf result ConnectionError.Spent
+            → runs_out (moved_up (work_with self.old out.old.items) request.now) ≡ true }
+        ensures count { length self.new.requests ≡ length self.old.requests }
+        ensures failure { self.new.failure ≡ self.old.failure }
+    {
+        if !self.is_admitted(request.number) {
+            return Ok(());
+        }
+        self.seat(alloc, request, out)
+    }
+
+    /// Those that wait for a place take theirs in order, as long as the queue has room.
+    fn move_up_all(&mut self, alloc: Global, out: &mut Vec<LinkAct>) -> Result<(), ConnectionError>
+        ensures work { OnOk result (
+            work_with self.new out.new.items ≡ moved_up_all (work_with self.old out.old.items)
+            ) }
+        ensures spent { IsErrOf result ConnectionError.Spent
+            → runs_out (moved_up_all (work_with self.old out.old.items)) ≡ true }
+        ensures count { length self.new.requests ≡ length self.old.requests }
+        ensures failure { self.new.failure ≡ self.old.failure }
+    {
+        let mut rest = std::mem::replace(&mut self.admitted, Queue::new(alloc));
+        'requests: while self.life.has_room() {
+            match rest.pop_front() {
+                Some(request) => match self.move_up(alloc, &request, out) {
+                    Ok(()) => {}
+                    Err(error) => return Err(error),
+                },
+                None => {
+                    self.admitted = rest;
+                    return Ok(());
+                }
+            }
+        }
+        self.admitted = rest;
+        Ok(())
+    }
+
+    /// A request waits for a place, behind the others.
+    fn put_behind(&mut self, request: Waiting) -> Result<(), AllocError>
+        ensures work { OnOk result (
+            work_with self.new [] ≡ put_behind (work_with self.old []) request
+            ) }
+        ensures count { length self.new.requests ≡ length self.old.requests }
+        ensures failure { self.new.failure ≡ self.old.failure }
+    {
+        self.moved.push_back(request.number)?;
+        self.admitted.push_back(request)
+    }
+
+    /// A request takes its place at once where the queue has room, and else it waits for one.
+    fn seat_or_put_behind(
+        &mut self,
+        alloc: Global,
+        request: Waiting,
+        out: &mut Vec<LinkAct>,
+    ) -> Result<(), ConnectionError>
+        requires { request.number < length self.old.requests }
+        ensures work { OnOk result (
+            work_with self.new out.new.items
+            ≡ seated_or_behind (work_with self.old out.old.items) request
+            ) }
+        ensures spent { IsErrOf result ConnectionError.Spent
+            → runs_out (seated_or_behind (work_with self.old out.old.items) request) ≡ true }
+        ensures count { length self.new.requests ≡ length self.old.requests }
+        ensures failure { self.new.failure ≡ self.old.failure }
+    {
+        if self.life.has_room() {
+            return self.seat(alloc, &request, out);
+        }
+        self.put_behind(request)?;
+        Ok(())
+    }
+
+    /// A request that still waits for the connection may take a place now. On a link that has ended it is answered.
+    fn admit(
+        &mut self,
+        alloc: Global,
+        request: Waiting,
+        out: &mut Vec<LinkAct>,
+    ) -> Result<(), ConnectionError>
+        requires { admits_none self.old.life ≡ false }
+        ensures work { OnOk result (
+            work_with self.new out.new.items
+            ≡ admitted (work_with self.old out.old.items) request
+            ) }
+        ensures spent { IsErrOf result ConnectionError.Spent
+            → runs_out (admitted (work_with self.old out.old.items) request) ≡ true }
         ensures count { length self.new.requests ≡ length self.old.requests }
         ensures failure { self.new.failure ≡ self.old.failure }
     {
@@ -144,29 +251,24 @@ impl MultiplexedConnection {
             self.answer(u64::from(request.number), Outcome::Fault(error), out)?;
             return Ok(());
         }
-        self.place(alloc, request)?;
-        self.tell_at_place(request, out)?;
-        self.start(alloc, out)
+        self.set_progress(request.number, Progress::Admitted);
+        self.seat_or_put_behind(alloc, request, out)
     }
 
-    /// The requests that wait are moved in order, as long as they can be.
-    fn advance_waiting(
-        &mut self,
-        alloc: Global,
-        out: &mut Vec<LinkAct>,
-    ) -> Result<(), ConnectionError>
+    /// Those that wait for the connection are moved in order, as long as they can be.
+    fn admit_all(&mut self, alloc: Global, out: &mut Vec<LinkAct>) -> Result<(), ConnectionError>
         ensures work { OnOk result (
-            work_with self.new out.new.items ≡ moved_all (work_with self.old out.old.items)
+            work_with self.new out.new.items ≡ admitted_all (work_with self.old out.old.items)
             ) }
         ensures spent { IsErrOf result ConnectionError.Spent
-            → runs_out (moved_all (work_with self.old out.old.items)) ≡ true }
+            → runs_out (admitted_all (work_with self.old out.old.items)) ≡ true }
         ensures count { length self.new.requests ≡ length self.old.requests }
         ensures failure { self.new.failure ≡ self.old.failure }
     {
         let mut rest = std::mem::replace(&mut self.waiting, Queue::new(alloc));
-        'requests: while !self.life.is_stuck() {
+        'requests: while !self.life.admits_none() {
             match rest.pop_front() {
-                Some(request) => match self.move_one(alloc, &request, out) {
+                Some(request) => match self.admit(alloc, request, out) {
                     Ok(()) => {}
                     Err(error) => return Err(error),
                 },
@@ -198,37 +300,88 @@ impl MultiplexedConnection {
             Ok(()) => {}
             Err(error) => return Err(error),
         }
-        self.advance_waiting(alloc, out)
-    }
-
-    /// The request at this index of those that wait is moved as far as it can go, and leaves them.
-    fn advance_at(
-        &mut self,
-        alloc: Global,
-        index: usize,
-        out: &mut Vec<LinkAct>,
-    ) -> Result<(), ConnectionError>
-        requires free { moves_none self.old.life ≡ false }
-        requires there { index < length self.old.waiting }
-        ensures work { (q : Waiting) → slice_get self.old.waiting index ≡ Some q
-            → OnOk result (
-            work_with self.new out.new.items
-            ≡ moved_from (work_with self.old out.old.items) index q
-            ) }
-        ensures spent { (q : Waiting) → slice_get self.old.waiting index ≡ Some q
-            → IsErrOf result ConnectionError.Spent
-            → runs_out (moved_from (work_with self.old out.old.items) index q) ≡ true }
-        ensures count { length self.new.requests ≡ length self.old.requests }
-        ensures failure { self.new.failure ≡ self.old.failure }
-    {
-        let mut waiting = std::mem::replace(&mut self.waiting, Queue::new(alloc));
-        match self.move_one(alloc, waiting.at(index), out) {
+        match self.move_up_all(alloc, out) {
             Ok(()) => {}
             Err(error) => return Err(error),
         }
-        waiting.remove(index);
-        self.waiting = waiting;
-        Ok(())
+        self.admit_all(alloc, out)
+    }
+}
+
+impl MultiplexedConnection {
+    ghost use Rattle.std.specs.Prelude.{◌&&◌, not};
+    ghost use Rattle.mux_conn.specs.Passes.{is_there, seated_alone, admitted_alone, advanced};
+    ghost use Rattle.mux_conn.specs.Passes.{can_advance};
+    ghost use Rattle.mux_conn.specs.Connection.{work_with, admits_none, has_room, runs_out};
+
+    /// One request that waits for a place takes it, where the queue has room. The answer is whether it is among those that
+    /// wait for one, and moves.
+    fn seat_alone(
+        &mut self,
+        alloc: Global,
+        number: u32,
+        out: &mut Vec<LinkAct>,
+    ) -> Result<bool, ConnectionError>
+        ensures answer { IfOk result (λ moves.
+            moves ≡ (is_there (entry_of number self.old.admitted) && has_room self.old.life)
+            ) }
+        ensures work { OnOk result (
+            work_with self.new out.new.items
+            ≡ seated_alone (work_with self.old out.old.items) number
+            (entry_of number self.old.admitted)
+            ) }
+        ensures spent { IsErrOf result ConnectionError.Spent
+            → runs_out (seated_alone (work_with self.old out.old.items) number
+            (entry_of number self.old.admitted)) ≡ true }
+        ensures count { length self.new.requests ≡ length self.old.requests }
+        ensures failure { self.new.failure ≡ self.old.failure }
+    {
+        if !self.life.has_room() {
+            return Ok(false);
+        }
+        let found = take_entry(alloc, &mut self.admitted, number)?;
+        match found {
+            Some(request) => match self.move_up(alloc, &request, out) {
+                Ok(()) => Ok(true),
+                Err(error) => Err(error),
+            },
+            None => Ok(false),
+        }
+    }
+
+    /// One request that waits for the connection is moved as far as it can go. The answer is whether it is among those that
+    /// wait for it, and moves.
+    fn admit_alone(
+        &mut self,
+        alloc: Global,
+        number: u32,
+        out: &mut Vec<LinkAct>,
+    ) -> Result<bool, ConnectionError>
+        ensures answer { IfOk result (λ moves.
+            moves ≡ (is_there (entry_of number self.old.waiting) && not (admits_none self.old.life))
+            ) }
+        ensures work { OnOk result (
+            work_with self.new out.new.items
+            ≡ admitted_alone (work_with self.old out.old.items) number
+            (entry_of number self.old.waiting)
+            ) }
+        ensures spent { IsErrOf result ConnectionError.Spent
+            → runs_out (admitted_alone (work_with self.old out.old.items) number
+            (entry_of number self.old.waiting)) ≡ true }
+        ensures count { length self.new.requests ≡ length self.old.requests }
+        ensures failure { self.new.failure ≡ self.old.failure }
+    {
+        if self.life.admits_none() {
+            return Ok(false);
+        }
+        let found = take_entry(alloc, &mut self.waiting, number)?;
+        match found {
+            Some(request) => match self.admit(alloc, request, out) {
+                Ok(()) => Ok(true),
+                Err(error) => Err(error),
+            },
+            None => Ok(false),
+        }
     }
 
     /// One request is moved as far as it can go. The answer is whether it moves.
@@ -247,17 +400,34 @@ impl MultiplexedConnection {
         ensures count { length self.new.requests ≡ length self.old.requests }
         ensures failure { self.new.failure ≡ self.old.failure }
     {
-        if self.life.is_stuck() {
-            return Ok(false);
+        if self.is_admitted(number) {
+            return self.seat_alone(alloc, number, out);
         }
-        let moves = self.is_waiting(number);
-        match place_of(&self.waiting, number) {
-            Some(index) => match self.advance_at(alloc, index, out) {
-                Ok(()) => Ok(moves),
-                Err(error) => Err(error),
-            },
-            None => Ok(false),
+        if self.is_waiting(number) {
+            return self.admit_alone(alloc, number, out);
         }
+        Ok(false)
+    }
+}
+
+/// The request of this number leaves these, if it is one of them. The answer is a copy of it. After an error nothing has
+/// changed.
+fn take_entry(
+    alloc: Global,
+    entries: &mut Queue<Waiting>,
+    number: u32,
+) -> Result<Option<Waiting>, AllocError>
+    ensures found { IfOk result (λ found. found ≡ entry_of number entries.old) }
+    ensures left { OnOk result (entries.new ≡ without number entries.old) }
+    ensures err { OnErr result (entries.new ≡ entries.old) }
+{
+    match place_of(entries, number) {
+        Some(index) => {
+            let entry = entries.at(index).clone(alloc)?;
+            entries.remove(index);
+            Ok(Some(entry))
+        }
+        None => Ok(None),
     }
 }
 

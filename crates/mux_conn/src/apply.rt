@@ -3,7 +3,7 @@ ghost use Rattle.std.specs.Prelude.{◌≡◌, ◌≤◌, [], length, OnOk};
 use crate::act::LinkAct;
 use crate::connection::MultiplexedConnection;
 use crate::life::Life;
-use crate::request::{Pending, Progress, Request};
+use crate::request::{Pending, Progress, Waiting};
 use containers::Queue;
 use driver_model::{LinkFault, LinkNews, Outcome};
 use link_core::{LinkCore, Settled};
@@ -14,8 +14,8 @@ use std::alloc::{AllocError, Global};
 impl MultiplexedConnection {
     ghost use Rattle.driver_model.specs.News.{told};
     ghost use Rattle.mux_conn.specs.Connection.{work_with};
-    ghost use Rattle.mux_conn.specs.Effects.{settled_each, waiting_failed, ended, ended_by};
-    ghost use Rattle.mux_conn.specs.Effects.{opening_failed, refused_at, overdue_at};
+    ghost use Rattle.mux_conn.specs.Effects.{settled_each, failed_each, waiting_failed};
+    ghost use Rattle.mux_conn.specs.Effects.{ended, ended_by, opening_failed, refused_at, overdue_at};
     ghost use Rattle.mux_conn.specs.Effects.{connected_at, taken_at, read_at, failed_at, shut_at};
     ghost use Rattle.mux_conn.specs.Effects.{applied, left, CanTake, IsWithin};
 
@@ -35,7 +35,30 @@ impl MultiplexedConnection {
         Ok(())
     }
 
-    /// Each request that waits for its place is answered with this error.
+    /// Each of these requests is answered with this error.
+    fn fail_each(
+        &mut self,
+        alloc: Global,
+        error: &RedisError,
+        requests: Queue<Waiting>,
+        out: &mut Vec<LinkAct>,
+    ) -> Result<(), AllocError>
+        ensures work { OnOk result (
+            work_with self.new out.new.items
+            ≡ failed_each (work_with self.old out.old.items) error.now requests
+            ) }
+        ensures count { length self.new.requests ≡ length self.old.requests }
+        ensures failure { self.new.failure ≡ self.old.failure }
+    {
+        let mut rest = requests;
+        while let Some(request) = rest.pop_front() {
+            let error = error.clone(alloc)?;
+            self.answer(u64::from(request.number), Outcome::Fault(error), out)?;
+        }
+        Ok(())
+    }
+
+    /// Those that wait for a place are answered with this error, and then those that wait for the connection.
     fn fail_waiting(
         &mut self,
         alloc: Global,
@@ -49,15 +72,13 @@ impl MultiplexedConnection {
         ensures count { length self.new.requests ≡ length self.old.requests }
         ensures failure { self.new.failure ≡ self.old.failure }
     {
-        let mut rest = std::mem::replace(&mut self.waiting, Queue::new(alloc));
-        while let Some(request) = rest.pop_front() {
-            let error = error.clone(alloc)?;
-            self.answer(u64::from(request.number), Outcome::Fault(error), out)?;
-        }
-        Ok(())
+        let admitted = std::mem::replace(&mut self.admitted, Queue::new(alloc));
+        let waiting = std::mem::replace(&mut self.waiting, Queue::new(alloc));
+        self.fail_each(alloc, error, admitted, out)?;
+        self.fail_each(alloc, error, waiting, out)
     }
 
-    /// The link ends: it is closed, what it has settled is answered, and then what waits for a place.
+    /// The link ends: it is closed, what it has settled is answered, and then what has no place.
     fn end(
         &mut self,
         alloc: Global,
@@ -79,7 +100,7 @@ impl MultiplexedConnection {
         self.fail_waiting(alloc, &RedisError::Closed, out)
     }
 
-    /// The opening fails with this fault, which is shown, and what waits for a place is answered.
+    /// The opening fails with this fault, which is shown, and what has no place is answered.
     fn fail_opening(
         &mut self,
         alloc: Global,
@@ -148,7 +169,7 @@ impl MultiplexedConnection {
         ensures failure { self.new.failure ≡ self.old.failure }
     {
         if self.life.is_dialing() {
-            let link = LinkCore::new(alloc, u32::MAX, u64::MAX);
+            let link = LinkCore::new(alloc, self.size, self.boundary);
             self.life = Life::Ready { link };
             out.push(LinkAct::Created { error: None })?;
         }
@@ -280,10 +301,7 @@ impl MultiplexedConnection {
         if !self.is_open(number) {
             return;
         }
-        let name = self.name(number);
-        let progress = Progress::Closed;
-        self.requests
-            .set(request.number as usize, Request { name, progress });
+        self.set_progress(request.number, Progress::Closed);
         match &mut self.life {
             Life::Ready { link } => link.cancel(number),
             Life::Dialing => {}

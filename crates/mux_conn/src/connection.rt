@@ -53,19 +53,25 @@ impl Drop for MultiplexedConnection {
 }
 
 impl MultiplexedConnection {
-    ghost use Rattle.mux_conn.specs.Requests.{is_open_at, is_waiting_at, name_at, answered, asked};
+    ghost use Rattle.mux_conn.specs.Requests.{is_open_at, is_waiting_at, is_admitted_at};
+    ghost use Rattle.mux_conn.specs.Requests.{is_placed_at, name_at, progressed, answered, asked};
     ghost use Rattle.mux_conn.specs.Connection.{work_with, started_in};
     ghost use Rattle.mux_conn.specs.Turn.{dialing};
 
-    /// A connection whose connect isn't answered. Takes no memory.
-    pub fn new(alloc: Global) -> MultiplexedConnection
-        ensures { result ≡ dialing }
+    /// A connection whose connect isn't answered. The queue of its link will hold `size` messages, at least one, and no
+    /// message will start on it while `boundary` bytes or more, and at least one, are unwritten. Takes no memory.
+    pub fn new(alloc: Global, size: u32, boundary: u64) -> MultiplexedConnection
+        ensures { result ≡ dialing size boundary }
     {
         MultiplexedConnection {
+            size,
+            boundary,
             life: Life::Dialing,
             requests: Seq::new(alloc),
             waiting: Queue::new(alloc),
+            admitted: Queue::new(alloc),
             fresh: Queue::new(alloc),
+            moved: Queue::new(alloc),
             failure: None,
         }
     }
@@ -91,12 +97,13 @@ impl MultiplexedConnection {
         }
         match self.requests.at(number as usize).progress {
             Progress::Waiting => true,
+            Progress::Admitted => true,
             Progress::Placed => true,
             Progress::Closed => false,
         }
     }
 
-    /// Whether a request waits for its place.
+    /// Whether a request waits for the connection.
     pub fn is_waiting(&self, number: u32) -> bool
         ensures value { result ≡ is_waiting_at self.now.requests number }
         ensures there { result ≡ true → number < length self.now.requests }
@@ -106,7 +113,39 @@ impl MultiplexedConnection {
         }
         match self.requests.at(number as usize).progress {
             Progress::Waiting => true,
+            Progress::Admitted => false,
             Progress::Placed => false,
+            Progress::Closed => false,
+        }
+    }
+
+    /// Whether a request waits for a place.
+    pub fn is_admitted(&self, number: u32) -> bool
+        ensures value { result ≡ is_admitted_at self.now.requests number }
+        ensures there { result ≡ true → number < length self.now.requests }
+    {
+        if number as usize >= self.requests.len() {
+            return false;
+        }
+        match self.requests.at(number as usize).progress {
+            Progress::Waiting => false,
+            Progress::Admitted => true,
+            Progress::Placed => false,
+            Progress::Closed => false,
+        }
+    }
+
+    /// Whether a request is in the queue, or its message has started.
+    pub fn is_placed(&self, number: u32) -> bool
+        ensures { result ≡ is_placed_at self.now.requests number }
+    {
+        if number as usize >= self.requests.len() {
+            return false;
+        }
+        match self.requests.at(number as usize).progress {
+            Progress::Waiting => false,
+            Progress::Admitted => false,
+            Progress::Placed => true,
             Progress::Closed => false,
         }
     }
@@ -119,6 +158,19 @@ impl MultiplexedConnection {
             return 0;
         }
         self.requests.at(number as usize).name
+    }
+
+    /// A request has come so far.
+    pub(crate) fn set_progress(&mut self, number: u32, progress: Progress)
+        requires { number < length self.old.requests }
+        ensures work { work_with self.new []
+            ≡ progressed (work_with self.old []) number progress }
+        ensures count { length self.new.requests ≡ length self.old.requests }
+        ensures failure { self.new.failure ≡ self.old.failure }
+    {
+        let name = self.name(u64::from(number));
+        self.requests
+            .set(number as usize, Request { name, progress });
     }
 
     /// A request that is open is answered.
@@ -153,7 +205,7 @@ impl MultiplexedConnection {
         Ok(())
     }
 
-    /// A request of that name, which waits for its place from the next `step` or `advance` on. Its message has these bytes,
+    /// A request of that name, which waits for the connection until the next `step` or `advance`. Its message has these bytes,
     /// which aren't none.
     pub fn ask(
         &mut self,

@@ -1,4 +1,5 @@
 ghost use Rattle.std.specs.Prelude.{◌≡◌, length, OnOk};
+ghost use Rattle.mux_conn.specs.Turn.{is_from};
 
 use crate::act::LinkAct;
 use crate::connection::MultiplexedConnection;
@@ -9,7 +10,8 @@ use std::alloc::{AllocError, Global};
 
 impl MultiplexedConnection {
     ghost use Rattle.mux_conn.specs.Connection.{work_with};
-    ghost use Rattle.mux_conn.specs.Turn.{written, wait_shown, waits_shown, flushed};
+    ghost use Rattle.mux_conn.specs.Turn.{written, moved_wait, fresh_wait, wait_shown};
+    ghost use Rattle.mux_conn.specs.Turn.{moved_shown, fresh_shown, flushed};
 
     /// All unwritten bytes are offered, unless an offer is unanswered.
     fn offer(&mut self, alloc: Global, out: &mut Vec<LinkAct>) -> Result<(), AllocError>
@@ -33,34 +35,79 @@ impl MultiplexedConnection {
         Ok(())
     }
 
-    /// A request of this turn that waits for the connect shows it.
-    fn show_wait(&self, number: u32, out: &mut Vec<LinkAct>) -> Result<(), AllocError>
+    /// What a request that was moved in this turn waits for, if it waits: a place, or, where it is in the queue, room.
+    fn moved_wait(&self, number: u32) -> Option<WaitKind>
+        ensures { result ≡ moved_wait self.now number }
+    {
+        if self.is_admitted(number) {
+            return Some(WaitKind::Place);
+        }
+        if self.is_placed(number) && is_from(self.life.first_queued(), u64::from(number)) {
+            return Some(WaitKind::Room);
+        }
+        None
+    }
+
+    /// What a request of this turn waits for, if it waits: the connect.
+    fn fresh_wait(&self, number: u32) -> Option<WaitKind>
+        ensures { result ≡ fresh_wait self.now number }
+    {
+        if self.is_waiting(number) && self.life.is_dialing() {
+            return Some(WaitKind::Connect);
+        }
+        None
+    }
+
+    /// The wait of a request is shown, if it waits.
+    fn show_wait(
+        &self,
+        number: u32,
+        kind: Option<WaitKind>,
+        out: &mut Vec<LinkAct>,
+    ) -> Result<(), AllocError>
         ensures { OnOk result (
             work_with self.now out.new.items
-            ≡ wait_shown (work_with self.now out.old.items) number
+            ≡ wait_shown (work_with self.now out.old.items) number kind
             ) }
     {
-        if !self.is_waiting(number) || !self.life.is_dialing() {
-            return Ok(());
+        match kind {
+            Some(wait) => {
+                let request = self.name(u64::from(number));
+                out.push(LinkAct::Wait { request, wait })?;
+                Ok(())
+            }
+            None => Ok(()),
         }
-        out.push(LinkAct::Wait {
-            request: self.name(u64::from(number)),
-            wait: WaitKind::Connect,
-        })?;
+    }
+
+    /// The waits of requests that were moved in this turn are shown.
+    fn show_moved(&mut self, alloc: Global, out: &mut Vec<LinkAct>) -> Result<(), AllocError>
+        ensures work { OnOk result (
+            work_with self.new out.new.items ≡ moved_shown (work_with self.old out.old.items)
+            ) }
+        ensures count { length self.new.requests ≡ length self.old.requests }
+        ensures failure { self.new.failure ≡ self.old.failure }
+    {
+        let mut rest = std::mem::replace(&mut self.moved, Queue::new(alloc));
+        while let Some(number) = rest.pop_front() {
+            let kind = self.moved_wait(number);
+            self.show_wait(number, kind, out)?;
+        }
         Ok(())
     }
 
-    /// The waits that began in this turn are shown.
-    fn show_waits(&mut self, alloc: Global, out: &mut Vec<LinkAct>) -> Result<(), AllocError>
+    /// The waits of requests that came in this turn are shown.
+    fn show_fresh(&mut self, alloc: Global, out: &mut Vec<LinkAct>) -> Result<(), AllocError>
         ensures work { OnOk result (
-            work_with self.new out.new.items ≡ waits_shown (work_with self.old out.old.items)
+            work_with self.new out.new.items ≡ fresh_shown (work_with self.old out.old.items)
             ) }
         ensures count { length self.new.requests ≡ length self.old.requests }
         ensures failure { self.new.failure ≡ self.old.failure }
     {
         let mut rest = std::mem::replace(&mut self.fresh, Queue::new(alloc));
         while let Some(number) = rest.pop_front() {
-            self.show_wait(number, out)?;
+            let kind = self.fresh_wait(number);
+            self.show_wait(number, kind, out)?;
         }
         Ok(())
     }
@@ -78,6 +125,17 @@ impl MultiplexedConnection {
         ensures failure { self.new.failure ≡ self.old.failure }
     {
         self.offer(alloc, out)?;
-        self.show_waits(alloc, out)
+        self.show_moved(alloc, out)?;
+        self.show_fresh(alloc, out)
+    }
+}
+
+/// Whether this message is that one, or stands behind it.
+fn is_from(first: Option<u64>, number: u64) -> bool
+    ensures { result ≡ is_from first number }
+{
+    match first {
+        Some(first) => first <= number,
+        None => false,
     }
 }

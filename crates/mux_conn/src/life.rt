@@ -15,7 +15,8 @@ pub enum Life {
 
 impl Life {
     ghost use Rattle.std.specs.Prelude.{◌≡◌};
-    ghost use Rattle.mux_conn.specs.Connection.{awaits_connect, moves_none};
+    ghost use Rattle.mux_conn.specs.Connection.{awaits_connect, admits_none, has_room};
+    ghost use Rattle.mux_conn.specs.Connection.{first_queued};
 
     /// Whether the connect isn't answered.
     pub fn is_dialing(&self) -> bool
@@ -28,14 +29,36 @@ impl Life {
         }
     }
 
-    /// Whether no request can be moved: the connect isn't answered, or the queue holds its size.
-    pub fn is_stuck(&self) -> bool
-        ensures { result ≡ moves_none self.now }
+    /// Whether no request that waits for the connection can be moved.
+    pub fn admits_none(&self) -> bool
+        ensures { result ≡ admits_none self.now }
     {
         match self {
             Life::Dialing => true,
-            Life::Ready { link } => link.is_full(),
+            Life::Ready { link: _ } => false,
             Life::Ended { error: _ } => false,
+        }
+    }
+
+    /// Whether it is up, and the queue holds less than its size.
+    pub fn has_room(&self) -> bool
+        ensures { result ≡ has_room self.now }
+    {
+        match self {
+            Life::Dialing => false,
+            Life::Ready { link } => !link.is_full(),
+            Life::Ended { error: _ } => false,
+        }
+    }
+
+    /// The request whose message starts next, where it is up and one is in the queue.
+    pub fn first_queued(&self) -> Option<u64>
+        ensures { result ≡ first_queued self.now }
+    {
+        match self {
+            Life::Dialing => None,
+            Life::Ready { link } => link.first_queued(),
+            Life::Ended { error: _ } => None,
         }
     }
 }

@@ -1,5 +1,6 @@
 use containers::Bytes;
 use driver_model::Shape;
+use std::alloc::{AllocError, Global};
 
 /// The number of a request of one connection.
 #[derive(Clone, Copy, PartialEq, Eq)]
@@ -38,4 +39,21 @@ pub struct Waiting {
     pub awaited: bool,
     /// Within how many milliseconds from then on it is to be answered, if within any.
     pub timeout: Option<u64>,
+}
+
+impl Waiting {
+    ghost use Rattle.std.specs.Prelude.{◌≡◌, IfOk};
+
+    /// An equal value of its own.
+    pub fn clone(&self, alloc: Global) -> Result<Waiting, AllocError>
+        ensures { IfOk result (λ w. w ≡ self.now) }
+    {
+        let packed = self.packed.clone(alloc)?;
+        Ok(Waiting {
+            number: self.number,
+            packed,
+            shape: self.shape,
+            awaited: self.awaited,
+        })
+    }
 }

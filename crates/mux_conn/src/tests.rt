@@ -4,7 +4,7 @@ ghost use Rattle.mux_conn.specs.Effects.{CanTake, IsWithin};
 
 use crate::{ConnectionError, Life, LinkAct, MultiplexedConnection, Pending};
 use containers::Bytes;
-use driver_model::{LinkEvent, LinkFault, LinkNews, Outcome, Shape};
+use driver_model::{LinkEvent, LinkFault, LinkNews, Outcome, Shape, WaitKind};
 use redis_error::{FaultKind, RedisError};
 use resp_value::Value;
 use std::alloc::{AllocError, Global};
@@ -74,8 +74,19 @@ fn describe_start(
     log.extend_from_slice(format!(in alloc; "start {message} of {request}, {len}")?.as_bytes())
 }
 
-fn describe_wait(alloc: Global, request: u32, log: &mut Vec<u8>) -> Result<(), AllocError> {
-    log.extend_from_slice(format!(in alloc; "{request} waits")?.as_bytes())
+fn describe_wait(
+    alloc: Global,
+    request: u32,
+    kind: WaitKind,
+    log: &mut Vec<u8>,
+) -> Result<(), AllocError> {
+    let what: &str = match kind {
+        WaitKind::Connect => "",
+        WaitKind::Place => " for a place",
+        WaitKind::Room => " for room",
+    };
+    log.extend_from_slice(format!(in alloc; "{request} waits")?.as_bytes())?;
+    log.extend_from_slice(what.as_bytes())
 }
 
 fn describe_answer(
@@ -109,7 +120,7 @@ fn describe_act(alloc: Global, act: &LinkAct, log: &mut Vec<u8>) -> Result<(), A
         LinkAct::Created { error } => describe_creation(error, log),
         LinkAct::Close => log.extend_from_slice(b"close".as_slice()),
         LinkAct::Write { bytes } => describe_write(bytes, log),
-        LinkAct::Wait { request, wait: _ } => describe_wait(alloc, *request, log),
+        LinkAct::Wait { request, wait } => describe_wait(alloc, *request, *wait, log),
         LinkAct::Start {
             message,
             request,
@@ -265,9 +276,22 @@ fn make(
     }
 }
 
-/// Makes the calls at a new connection, and compares what it asks and tells.
+/// Makes the calls at a new connection with the queue and the boundary that nothing else was asked of, and compares what it
+/// asks and tells.
 fn run(rt: &impl Abort, alloc: Global, calls: &[Call], wanted: &str) -> Result<(), AllocError> {
-    let mut conn = MultiplexedConnection::new(alloc);
+    run_with(rt, alloc, 50, 8192, calls, wanted)
+}
+
+/// The same with a queue of this size, and this boundary.
+fn run_with(
+    rt: &impl Abort,
+    alloc: Global,
+    size: u32,
+    boundary: u64,
+    calls: &[Call],
+    wanted: &str,
+) -> Result<(), AllocError> {
+    let mut conn = MultiplexedConnection::new(alloc, size, boundary);
     let mut log = Vec::new(alloc);
     for next in calls {
         make(rt, alloc, &mut conn, next, &mut log)?;
@@ -444,4 +468,105 @@ fn late_news_of_the_connect_changes_nothing(rt: HostRuntime) -> Result<(), Alloc
     ];
     let wanted = "created; start 0 of 7, 1; write a; 7 x; close; 5 closed; ";
     run(&rt, rt.alloc(), calls.as_slice(), wanted)
+}
+
+#[test]
+fn messages_wait_for_room(rt: HostRuntime) -> Result<(), AllocError> {
+    let reset = LinkFault::Io {
+        fault: FaultKind::Reset,
+    };
+    let calls = [
+        Call::Connected,
+        Call::Ask(7, "aa"),
+        Call::Turn,
+        Call::Ask(8, "bbb"),
+        Call::Turn,
+        Call::Ask(9, "cc"),
+        Call::Turn,
+        Call::Turn,
+        Call::Failed(reset),
+    ];
+    let wanted = "created; start 0 of 7, 2; write aa; start 1 of 8, 3; 9 waits for room; \
+close; 7 reset; 8 closed; 9 closed; ";
+    run_with(&rt, rt.alloc(), 50, 3, calls.as_slice(), wanted)
+}
+
+#[test]
+fn requests_wait_for_a_place(rt: HostRuntime) -> Result<(), AllocError> {
+    let calls = [
+        Call::Connected,
+        Call::Ask(7, "aa"),
+        Call::Turn,
+        Call::Ask(8, "b"),
+        Call::Turn,
+        Call::Ask(9, "c"),
+        Call::Turn,
+        Call::Took(1),
+        Call::Took(1),
+    ];
+    let wanted = "created; start 0 of 7, 2; write aa; 8 waits for room; 9 waits for a place; \
+write a; start 1 of 8, 1; write b; 9 waits for room; ";
+    run_with(&rt, rt.alloc(), 1, 0, calls.as_slice(), wanted)
+}
+
+#[test]
+fn an_end_answers_all_that_wait_in_order(rt: HostRuntime) -> Result<(), AllocError> {
+    let calls = [
+        Call::Connected,
+        Call::Ask(7, "aa"),
+        Call::Ask(8, "b"),
+        Call::Ask(9, "c"),
+        Call::AskUnawaited(6, "d"),
+        Call::Turn,
+        Call::Ask(5, "e"),
+        Call::Failed(LinkFault::Ended),
+    ];
+    let wanted = "created; start 0 of 7, 2; write aa; 8 waits for room; 9 waits for a place; \
+6 waits for a place; close; 7 closed; 8 closed; 9 closed; 6 closed; 5 closed; ";
+    run_with(&rt, rt.alloc(), 1, 0, calls.as_slice(), wanted)
+}
+
+#[test]
+fn callers_go_who_wait_for_a_place(rt: HostRuntime) -> Result<(), AllocError> {
+    let calls = [
+        Call::Connected,
+        Call::Ask(7, "aa"),
+        Call::Ask(8, "b"),
+        Call::Ask(9, "c"),
+        Call::AskUnawaited(6, "d"),
+        Call::Ask(5, "e"),
+        Call::Turn,
+        Call::Cancel(2),
+        Call::Turn,
+        Call::Took(2),
+        Call::Took(1),
+        Call::Came("+x\r\n+y\r\n+z\r\n"),
+    ];
+    let wanted = "created; start 0 of 7, 2; write aa; 8 waits for room; 9 waits for a place; \
+6 waits for a place; 5 waits for a place; start 1 of 8, 1; 6 nil; write b; \
+start 2 of 6, 1; write d; 5 waits for room; 7 x; 8 y; ";
+    run_with(&rt, rt.alloc(), 1, 0, calls.as_slice(), wanted)
+}
+
+#[test]
+fn requests_move_alone_to_a_place(rt: HostRuntime) -> Result<(), AllocError> {
+    let calls = [
+        Call::Connected,
+        Call::Ask(7, "aa"),
+        Call::Ask(8, "b"),
+        Call::Ask(9, "c"),
+        Call::Turn,
+        Call::Ask(6, "d"),
+        Call::Advance(3),
+        Call::Advance(2),
+        Call::Turn,
+        Call::Cancel(1),
+        Call::Advance(3),
+        Call::Advance(3),
+        Call::Turn,
+        Call::Took(2),
+    ];
+    let wanted = "created; start 0 of 7, 2; write aa; 8 waits for room; 9 waits for a place; \
+moves; stays; 6 waits for a place; moves; stays; 6 waits for room; start 1 of 6, 1; write d; 9 waits for room; ";
+    run_with(&rt, rt.alloc(), 1, 0, calls.as_slice(), wanted)
 }

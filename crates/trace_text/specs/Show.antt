@@ -40,6 +40,8 @@ owner_word (Try s round) = submission_word s ++ byte "." ∷ decimal round
 
 abbrev pub wait_word : WaitKind → List ℕ
 wait_word wait.Connect = codes "connect"
+wait_word wait.Place = codes "place"
+wait_word wait.Room = codes "room"
 
 -- the word that random draws come from, where it isn't 0
 abbrev pub draw_words : ℕ → List (List ℕ)
@@ -55,13 +57,28 @@ connect_words None = []
 connect_words (Some None) = codes "connect=none" ∷ []
 connect_words (Some (Some ms)) = (codes "connect=" ++ decimal ms) ∷ []
 
--- no response timers, and no library named to the server
-abbrev pub plain_words : List (List ℕ)
-plain_words = codes "response=none" ∷ codes "lib=off" ∷ []
+-- how many messages the queue of the link holds, where it is given
+abbrev pub buffer_words : Option ℕ → List (List ℕ)
+buffer_words None = []
+buffer_words (Some size) = (codes "buffer=" ++ decimal size) ∷ []
+
+-- at how many unwritten bytes no message of the link starts, where it is given
+abbrev pub boundary_words : Option ℕ → List (List ℕ)
+boundary_words None = []
+boundary_words (Some bytes) = (codes "boundary=" ++ decimal bytes) ∷ []
+
+-- what is given of the queue of the link
+abbrev pub queue_words : Config → List (List ℕ)
+queue_words c = buffer_words c.buffer ++ boundary_words c.boundary
+
+-- the settings behind the time of the connect: no response timers, what is given of the queue, and no library named to the
+-- server
+abbrev pub later_words : Config → List (List ℕ)
+later_words c = codes "response=none" ∷ queue_words c ++ codes "lib=off" ∷ []
 
 -- the config line of one multiplexed connection
 abbrev pub config_words : Config → List (List ℕ)
-config_words c = codes "config" ∷ codes "single" ∷ url c ∷ connect_words c.connect ++ plain_words
+config_words c = codes "config" ∷ codes "single" ∷ url c ∷ connect_words c.connect ++ later_words c
 
 -- the first of some commands, which has no words where there is none
 abbrev pub first_of : List (List (List ℕ)) → List (List ℕ)

@@ -85,10 +85,9 @@ impl Writer {
         ensures before { self.new.before ≡ self.old.before }
         ensures ok { OnOk result (Added self.old self.new (action_line (Action.Wait owner wait))) }
     {
-        let WaitKind::Connect = wait;
         self.first(b"wait")?;
         self.owner(alloc, owner)?;
-        self.word(b"connect")?;
+        self.wait_kind(wait)?;
         self.end_line()
     }
 

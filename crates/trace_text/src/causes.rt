@@ -2,7 +2,7 @@ ghost use Rattle.std.specs.Prelude.{◌≡◌, ◌++◌, ◌∷◌, [], OnOk, de
 ghost use Rattle.redis_error.specs.Names.{fault_name};
 ghost use Rattle.trace_text.specs.Words.{following, separated};
 ghost use Rattle.trace_text.specs.Show.{behind_first, config_words, connect_words, first_of};
-ghost use Rattle.trace_text.specs.Show.{plain_words, url};
+ghost use Rattle.trace_text.specs.Show.{boundary_words, buffer_words, later_words, queue_words, url};
 ghost use Rattle.trace_text.specs.Show.{cause_more, cause_words, event_more, event_words};
 ghost use Rattle.trace_text.specs.Show.{submission_more, submission_words};
 ghost use Rattle.trace_text.specs.Writer.{Added, AddedWords, AddedParts};
@@ -44,12 +44,50 @@ impl Writer {
         }
     }
 
-    /// The words that each config line has.
-    fn plain_words(&mut self) -> Result<(), AllocError>
+    /// How many messages the queue of the link holds, where it is given.
+    fn buffer(&mut self, alloc: Global, buffer: Option<u32>) -> Result<(), AllocError>
         ensures before { self.new.before ≡ self.old.before }
-        ensures ok { OnOk result (AddedWords self.old self.new plain_words) }
+        ensures ok { OnOk result (AddedWords self.old self.new (buffer_words buffer)) }
+    {
+        match buffer {
+            None => Ok(()),
+            Some(size) => {
+                let word = format!(in alloc; "buffer={size}")?;
+                self.word(word.as_bytes())
+            }
+        }
+    }
+
+    /// At how many unwritten bytes no message of the link starts, where it is given.
+    fn boundary(&mut self, alloc: Global, boundary: Option<u64>) -> Result<(), AllocError>
+        ensures before { self.new.before ≡ self.old.before }
+        ensures ok { OnOk result (AddedWords self.old self.new (boundary_words boundary)) }
+    {
+        match boundary {
+            None => Ok(()),
+            Some(bytes) => {
+                let word = format!(in alloc; "boundary={bytes}")?;
+                self.word(word.as_bytes())
+            }
+        }
+    }
+
+    /// What is given of the queue of the link.
+    fn queue(&mut self, alloc: Global, config: &Config) -> Result<(), AllocError>
+        ensures before { self.new.before ≡ self.old.before }
+        ensures ok { OnOk result (AddedWords self.old self.new (queue_words config.now)) }
+    {
+        self.buffer(alloc, config.buffer)?;
+        self.boundary(alloc, config.boundary)
+    }
+
+    /// The settings behind the time of the connect.
+    fn later_settings(&mut self, alloc: Global, config: &Config) -> Result<(), AllocError>
+        ensures before { self.new.before ≡ self.old.before }
+        ensures ok { OnOk result (AddedWords self.old self.new (later_words config.now)) }
     {
         self.word(b"response=none")?;
+        self.queue(alloc, config)?;
         self.word(b"lib=off")
     }
 
@@ -62,7 +100,7 @@ impl Writer {
         self.word(b"single")?;
         self.url(alloc, config)?;
         self.connect_limit(alloc, config.connect)?;
-        self.plain_words()
+        self.later_settings(alloc, config)
     }
 
     /// Each argument as a word.

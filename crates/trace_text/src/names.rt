@@ -1,11 +1,11 @@
 ghost use Rattle.std.specs.Prelude.{◌≡◌, ◌++◌, ◌∷◌, [], OnOk};
 ghost use Rattle.trace_text.specs.Words.{following};
-ghost use Rattle.trace_text.specs.Show.{address, draw_words, owner_word, submission_word};
+ghost use Rattle.trace_text.specs.Show.{address, draw_words, owner_word, submission_word, wait_word};
 ghost use Rattle.trace_text.specs.Writer.{AddedWords};
 
 use crate::writer::Writer;
 use containers::Bytes;
-use driver_model::Owner;
+use driver_model::{Owner, WaitKind};
 use itoa::Buffer;
 use std::alloc::{AllocError, Global};
 
@@ -41,6 +41,18 @@ impl Writer {
         let Owner::Try { submission, round } = owner;
         let word = format!(in alloc; "s{submission}.{round}")?;
         self.word(word.as_bytes())
+    }
+
+    /// One more word: what is waited for.
+    pub fn wait_kind(&mut self, wait: WaitKind) -> Result<(), AllocError>
+        ensures before { self.new.before ≡ self.old.before }
+        ensures ok { OnOk result (AddedWords self.old self.new (wait_word wait ∷ [])) }
+    {
+        match wait {
+            WaitKind::Connect => self.word(b"connect"),
+            WaitKind::Place => self.word(b"place"),
+            WaitKind::Room => self.word(b"room"),
+        }
     }
 
     /// The word that random draws come from, where it isn't 0.

@@ -59,8 +59,8 @@ fn opening(
     connect: Option<Option<u64>>,
     word: u64,
 ) -> Result<Action, AllocError> {
-    let url = bytes(alloc, url)?;
-    let config = Config { url, connect };
+    let mut config = Config::new(bytes(alloc, url)?);
+    config.connect = connect;
     let cause = Cause::Opening { config, word };
     Ok(Action::Turn { number: 0, cause })
 }
@@ -330,6 +330,60 @@ fn failed_openings_have_text(rt: HostRuntime) -> Result<(), AllocError> {
     let mut actions = Seq::new(alloc);
     failed(alloc, &mut actions)?;
     assert_eq!(rt; show(alloc, actions.as_slice())?.as_slice(), FAILED);
+    Ok(())
+}
+
+/// What is given of the queue of a link, and what requests wait for.
+const QUEUES: &[u8] = b"turn 0 config single url=a response=none buffer=4294967295 lib=off
+turn 0 config single url=a connect=none response=none boundary=18446744073709551615 lib=off
+turn 0 config single url=a connect=5 response=none buffer=0 boundary=0 lib=off
+wait s0.0 connect
+wait s1.0 place
+wait s2.0 room
+";
+
+/// An opening with these settings.
+fn settings(
+    alloc: Global,
+    connect: Option<Option<u64>>,
+    buffer: Option<u32>,
+    boundary: Option<u64>,
+) -> Result<Action, AllocError> {
+    let url = bytes(alloc, b"a")?;
+    let config = Config {
+        url,
+        connect,
+        buffer,
+        boundary,
+    };
+    let cause = Cause::Opening { config, word: 0 };
+    Ok(Action::Turn { number: 0, cause })
+}
+
+/// The wait of the first try of this submission.
+fn wait(submission: u32, wait: WaitKind) -> Action {
+    let owner = Owner::Try {
+        submission,
+        round: 0,
+    };
+    Action::Wait { owner, wait }
+}
+
+fn queues(alloc: Global, actions: &mut Seq<Action>) -> Result<(), AllocError> {
+    actions.push(settings(alloc, None, Some(u32::MAX), None)?)?;
+    actions.push(settings(alloc, Some(None), None, Some(u64::MAX))?)?;
+    actions.push(settings(alloc, Some(Some(5)), Some(0), Some(0))?)?;
+    actions.push(wait(0, WaitKind::Connect))?;
+    actions.push(wait(1, WaitKind::Place))?;
+    actions.push(wait(2, WaitKind::Room))
+}
+
+#[test]
+fn queues_and_waits_have_text(rt: HostRuntime) -> Result<(), AllocError> {
+    let alloc = rt.alloc();
+    let mut actions = Seq::new(alloc);
+    queues(alloc, &mut actions)?;
+    assert_eq!(rt; show(alloc, actions.as_slice())?.as_slice(), QUEUES);
     Ok(())
 }
 

@@ -1,10 +1,10 @@
 use Rattle.std.proofs.Common.{◌≡◌, [], length}
-use Rattle.mux_conn.specs.Turn.{waits_each}
-use Rattle.mux_conn.proofs.connection.MultiplexedConnection.show_waits.Given as goal
+use Rattle.mux_conn.specs.Turn.{moved_each_shown}
+use Rattle.mux_conn.proofs.connection.MultiplexedConnection.show_moved.Given as goal
 
 abbrev pub invariant-loop-number : goal.invariant-loop-number
 invariant-loop-number l = record {
-  work : waits_each (record { conn = l.self; acts = l.out.items }) l.rest ≡ waits_each (record { conn = record l.fn.self { fresh = [] }; acts = l.fn.out.items }) l.fn.self.fresh;
+  work : moved_each_shown (record { conn = l.self; acts = l.out.items }) l.rest ≡ moved_each_shown (record { conn = record l.fn.self { moved = [] }; acts = l.fn.out.items }) l.fn.self.moved;
   count : length l.self.requests ≡ length l.fn.self.requests;
   failure : l.self.failure ≡ l.fn.self.failure;
 }

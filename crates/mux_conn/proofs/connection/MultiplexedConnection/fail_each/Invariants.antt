@@ -1,10 +1,10 @@
-use Rattle.std.proofs.Common.{◌≡◌, [], length}
+use Rattle.std.proofs.Common.{◌≡◌, length}
 use Rattle.mux_conn.specs.Effects.{failed_each}
-use Rattle.mux_conn.proofs.connection.MultiplexedConnection.fail_waiting.Given as goal
+use Rattle.mux_conn.proofs.connection.MultiplexedConnection.fail_each.Given as goal
 
 abbrev pub invariant-loop-request : goal.invariant-loop-request
 invariant-loop-request l = record {
-  work : failed_each (record { conn = l.self; acts = l.out.items }) l.error l.rest ≡ failed_each (record { conn = record l.fn.self { waiting = [] }; acts = l.fn.out.items }) l.fn.error l.fn.self.waiting;
+  work : failed_each (record { conn = l.self; acts = l.out.items }) l.error l.rest ≡ failed_each (record { conn = l.fn.self; acts = l.fn.out.items }) l.fn.error l.fn.requests;
   count : length l.self.requests ≡ length l.fn.self.requests;
   failure : l.self.failure ≡ l.fn.self.failure;
 }
