@@ -83,7 +83,7 @@ buffer_sized size = chosen (λ (x : Option ConfigName). x ≡ None → 0 < size)
 
 -- the permits, and then the queue
 room_sized : (limit : Option ℕ) (size : ℕ) → room_fault limit size ≡ None → IsSized limit size
-room_sized None size e = record { limited = λ x. cc; some = buffer_sized size e }
+room_sized None size = λ e. record { limited = λ x. cc; some = buffer_sized size e }
 room_sized (Some k) size =
     chosen (λ (x : Option ConfigName). x ≡ None → IsSized (Some k) size) (k == 0) (Some name.Limit) (buffer_fault size)
     (λ t e. absurd (no_fault name.Limit e))
@@ -135,7 +135,7 @@ opening_waits = record {
 -- all its permits are free
 opening_permits : (limit : Option ℕ) → TiedPermits (λ n. blank_story) 0 [] first_link limit (unwrap_or limit 0) []
 opening_permits limit = record {
-  counted = λ k e. ap (λ (x : Option ℕ). unwrap_or x 0) e;
+  counted = λ k e. (let all : unwrap_or limit 0 ≡ k = ap (λ (x : Option ℕ). unwrap_or x 0) e in omega arith);
   none = λ p w out. cc;
   let_in = λ p e. elim e [ inl a ↦ cc | inr a ↦ cc ];
 }
@@ -205,7 +205,7 @@ opened_between config word info timeout sound at some is =
     let still : IsStill conn = record { held = λ link e. cc; full = λ link e. cc; waiting = λ link e. cc; none_waits = λ e. refl } in
     let moved = is_moved b t tied refl refl (opening_ends config word info timers) fit.link fit.none still.held still.full still.waiting still.none_waits in
     let written = is_written b t tied moved (λ link e. cc) in
-    let quiet : IsQuiet t = record { settled = refl; fit = fit.link; none = fit.none; held = still.held; full = still.full; alone = refl; waiting = still.waiting; none_waits = still.none_waits } in
+    let quiet : IsQuiet t = record { settled = refl; alone = refl; fit = fit.link; none = fit.none; held = still.held; full = still.full; waiting = still.waiting; gone = still.none_waits } in
     let book_is = sym (opening_book config word info timeout) in
     record {
       started = [];

@@ -1,6 +1,7 @@
 -- What the outcome actions of a trace say is what its book says.
+use Rattle.driver_model.specs.declared.action.Purpose.{Purpose}
 use Rattle.legal_trace.specs.Book.{entered}
-use Rattle.std.proofs.Common.{List, None, Option, Some, [], ap, arith, inl, inr, is_some, length, length-set, nat_le, not, refl, slice_set, subst, suc, sym, true, zero, ℕ, ◌++◌, ◌+◌, ◌<◌, ◌∙◌, ◌∷◌, ◌≡◌, ◌≤◌}
+use Rattle.std.proofs.Common.{List, None, Option, Some, [], ap, arith, inl, inr, is_some, length, length-set, nat_le, not, refl, slice_get, slice_set, subst, suc, sym, true, zero, ℕ, ◌++◌, ◌+◌, ◌<◌, ◌∙◌, ◌∷◌, ◌≡◌, ◌≤◌}
 use Rattle.std.proofs.lemmas.List.{length_push}
 use Rattle.std.specs.Prelude.{◌&&◌, ◌==◌}
 use Rattle.containers.proofs.Places.{get_set_other, get_set_same}
@@ -15,9 +16,9 @@ use Rattle.driver_model.specs.declared.event.EventKind.TheVariants as event
 use Rattle.driver_model.specs.declared.event.Submission.{Submission}
 use Rattle.driver_model.specs.declared.outcome.Outcome.{Outcome}
 use Rattle.shared_session.specs.Replay.{if_placed, outcome_at, outcomes_in, told, told_each, with_room}
-use Rattle.legal_trace.specs.Book.{Book, blank_book, book, current, entered_each}
+use Rattle.legal_trace.specs.Book.{Book, blank_book, book, current, entered_each, is_clock_of}
 use Rattle.legal_trace.specs.Legal.{AllStand, IsOpen, MayStand}
-use Rattle.legal_trace.specs.Story.{Story, answered, handed_in, is_open, left, tried, waits}
+use Rattle.legal_trace.specs.Story.{Story, answered, clocked, fires, handed_in, holds, is_open, left, tried, waits}
 use Rattle.session_laws.specs.Outcomes.{last_outcome}
 
 -- the last is the last
