@@ -22,7 +22,7 @@ use Rattle.legal_trace.specs.Steps.{Step, asks, free_permits, is_held, is_held_b
 use Rattle.legal_trace.specs.Story.{Story, is_awaited, is_told, is_unstarted, shape}
 use Rattle.session_laws.proofs.Behind.{nil_told, open_untold}
 use Rattle.session_laws.proofs.InLine.{first_is_least, kept_ids, kept_in}
-use Rattle.session_laws.proofs.Moves.{IsLater, later_of, open_unstarted, told_unstarted}
+use Rattle.session_laws.proofs.Moves.{IsLater, later_of, open_unstarted, told_unstarted, or_true}
 use Rattle.session_laws.proofs.Names.{earlier_name, get_some, name_of_some, names_rise, open_within}
 use Rattle.session_laws.proofs.Numbers.{IsIn, Rising, in_left, in_right, rising_apart, rising_in, rising_right, rising_within}
 use Rattle.session_laws.proofs.Owes.{later_unstarted, request_story}
@@ -287,6 +287,38 @@ placed_open requests p e = by_request (slice_get requests p) e
     by_request None e = cc
     by_request (Some r) e = by_progress r.progress e
 
+-- one that waits for a place is open, and has none
+pub admitted_open : (requests : List Request) (p : ℕ) → is_admitted_at requests p ≡ true → (is_open_at requests p ≡ true) × (is_placed_at requests p ≡ false)
+admitted_open requests p e = by_request (slice_get requests p) e
+  where
+    by_progress : (r : Progress) → is_admitted r ≡ true → (is_open_progress r ≡ true) × (is_placed r ≡ false)
+    by_progress progress.Waiting e = cc
+    by_progress progress.Admitted e = (refl, refl)
+    by_progress progress.Placed e = cc
+    by_progress progress.Closed e = cc
+
+    by_request : (r : Option Request) → if_there is_admitted r ≡ true → (if_there is_open_progress r ≡ true) × (if_there is_placed r ≡ false)
+    by_request None e = cc
+    by_request (Some r) e = by_progress r.progress e
+
+-- and so is one that waits for the connection
+pub early_open : (requests : List Request) (p : ℕ) → is_waiting_at requests p ≡ true → (is_open_at requests p ≡ true) × (is_placed_at requests p ≡ false)
+early_open requests p e = by_request (slice_get requests p) e
+  where
+    by_progress : (r : Progress) → is_waiting r ≡ true → (is_open_progress r ≡ true) × (is_placed r ≡ false)
+    by_progress progress.Waiting e = (refl, refl)
+    by_progress progress.Admitted e = cc
+    by_progress progress.Placed e = cc
+    by_progress progress.Closed e = cc
+
+    by_request : (r : Option Request) → if_there is_waiting r ≡ true → (if_there is_open_progress r ≡ true) × (if_there is_placed r ≡ false)
+    by_request None e = cc
+    by_request (Some r) e = by_progress r.progress e
+
+-- so it is open
+pub waiting_open : (requests : List Request) (p : ℕ) → is_waiting_at requests p ≡ true → is_open_at requests p ≡ true
+waiting_open requests p w = (early_open requests p w).0
+
 -- who is in the queue is a request
 pub queue_within : (b : Book) (t : Inner) (p : ℕ) → Tied b t → IsIn p (queue_ids (link_in t.life).queue) → p < length t.requests
 queue_within b t p h i =
@@ -324,10 +356,6 @@ queue_may b t p h i =
       | inl a ↦ ap (λ x. is_told s || x) (h.permits.let_in p (inr a.1)) ∙ or_true (is_told s)
       | inr e ↦ ap (λ x. x || is_let_in t.limit s) e
     ]
-  where
-    or_true : (a : Bool) → (a || true) ≡ true
-    or_true true = refl
-    or_true false = refl
 
 -- an open request was told nothing
 open_told : (b : Book) (t : Inner) (p : ℕ) → Tied b t → is_open_at t.requests p ≡ true → is_told (b.story (name_at t.requests p)) ≡ false
@@ -385,25 +413,11 @@ kept_outside b t p h r full o i =
     let size = r.fit.size_is in
     outside_is b t p h within ∙ le_test t.size (line_before t.limit b.story t.link n) (omega arith)
 
--- one that waits for a place is open
-pub seatless_open : (requests : List Request) (p : ℕ) → is_admitted_at requests p ≡ true → is_open_at requests p ≡ true
-seatless_open requests p e = by_request (slice_get requests p) e
-  where
-    by_progress : (r : Progress) → is_admitted r ≡ true → is_open_progress r ≡ true
-    by_progress progress.Waiting e = cc
-    by_progress progress.Admitted e = refl
-    by_progress progress.Placed e = cc
-    by_progress progress.Closed e = cc
-
-    by_request : (r : Option Request) → if_there is_admitted r ≡ true → if_there is_open_progress r ≡ true
-    by_request None e = cc
-    by_request (Some r) e = by_progress r.progress e
-
 -- so it waits for a place, where it was let in
 pub full_step : (b : Book) (t : Inner) (p : ℕ) → Tied b t → IsRunning t → is_full (link_in t.life) ≡ true → is_admitted_at t.requests p ≡ true → IsIn p (waiting_ids t.admitted) → next_step b (name_at t.requests p) ≡ waits wait.Place
 full_step b t p h r full a i =
     let s = b.story (name_at t.requests p) in
-    let o = seatless_open t.requests p a in
+    let o = (admitted_open t.requests p a).0 in
     let_in_step b t p h r (open_within t.requests p o) (open_told b t p h o) (h.permits.let_in p (inl a))
     ∙ (λ k. step_placed (kept_outside b t p h r full o (in_left p (waiting_ids t.admitted) (waiting_ids t.waiting) i) k) (is_awaited s) (holds_back (link_in t.life)))
 
@@ -449,7 +463,7 @@ early_step : (b : Book) (t : Inner) (p k : ℕ) → Tied b t → IsRunning t →
 early_step b t p k h r w out e =
     let n = name_at t.requests p in
     let s = b.story n in
-    let o = unseated_open t.requests p w in
+    let o = waiting_open t.requests p w in
     let within = open_within t.requests p o in
     let held = holds_back (link_in t.life) in
     let none = (request_story b t p h within).permits_is ∙ (h.permits.none p w out).0 in
@@ -458,19 +472,6 @@ early_step b t p k h r w out e =
     request_step b t p h r within
     ∙ (λ i. step_open (open_told b t p h o i) held (step_holding (e i) (none i) taking timed))
     ∙ ap (λ f. step_taking f (permits_for (shape s) k)) (free_is b t k h e)
-  where
-    by_progress : (r : Progress) → is_waiting r ≡ true → is_open_progress r ≡ true
-    by_progress progress.Waiting e = refl
-    by_progress progress.Admitted e = cc
-    by_progress progress.Placed e = cc
-    by_progress progress.Closed e = cc
-
-    by_request : (r : Option Request) → if_there is_waiting r ≡ true → if_there is_open_progress r ≡ true
-    by_request None e = cc
-    by_request (Some r) e = by_progress r.progress e
-
-    unseated_open : (requests : List Request) (p : ℕ) → is_waiting_at requests p ≡ true → is_open_at requests p ≡ true
-    unseated_open requests p e = by_request (slice_get requests p) e
 
 -- it waits for one where none is free
 pub permit_step : (b : Book) (t : Inner) (p : ℕ) → Tied b t → IsRunning t → is_waiting_at t.requests p ≡ true → (IsIn p t.letting → ⊥) → has_no_permit t.limit t.free ≡ true → next_step b (name_at t.requests p) ≡ waits wait.Permit

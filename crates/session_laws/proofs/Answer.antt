@@ -25,12 +25,11 @@ use Rattle.legal_trace.specs.Book.{Book, entered}
 use Rattle.legal_trace.specs.Owed.{owed, owed_to_try, owed_to_message, owed_unstarted, unstarted_error}
 use Rattle.legal_trace.specs.Legal.{NoneEnds, VerdictsAreShown, MayAnswer, FailuresAreShown}
 use Rattle.session_laws.proofs.Numbers.{IsIn, in_either, in_right, in_left, Rising, rising_in}
-use Rattle.session_laws.proofs.Tied.{Inner, link_in, queue_ids, IsUnknown, TiedLife, TiedNames, IsEntry, AreQueued, TiedLines, Tied, relined, has_ended}
+use Rattle.session_laws.proofs.Tied.{Inner, link_in, queue_ids, IsUnknown, TiedLife, TiedNames, IsEntry, AreQueued, TiedLines, Tied, relined, has_ended, numbers_kept}
 use Rattle.session_laws.proofs.Names.{name_within, open_within, earlier_name, owners_with, length_with, names_with, with_other, with_then}
 use Rattle.session_laws.proofs.InLine.{kept_ids, line_of, IsInLine, awaited_in, first_is_apart}
 use Rattle.session_laws.proofs.Behind.{open_unanswered, told_answered}
 use Rattle.session_laws.proofs.Closing.{Closes, closed_other, late_closed, with_closed, story_closed, tries_closed, packs_closed, queue_closed, waits_closed, kept_other, IsUntried, told_closed}
-use Rattle.session_laws.proofs.Kept.{numbers_kept}
 use Rattle.session_laws.proofs.Permits.{permits_closed}
 use Rattle.session_laws.proofs.Owes.{request_story, open_request, answered_closed, failures_shown}
 

@@ -1,5 +1,5 @@
 -- The opening of the connection's link ends: its connect succeeds, is refused, or isn't answered in time.
-use Rattle.std.proofs.Common.{inl, inr, length, ◌⊎◌, ◌≡◌, ℕ, ◌+◌, Bool, true, false, ◌&&◌, not, List, [], ◌∷◌, ◌++◌, Option, None, is_some, refl, sym, ap, ◌∙◌, subst, arith, if◌then◌else◌, ◌≢◌, ◌-◌, Some}
+use Rattle.std.proofs.Common.{inl, inr, length, ◌≡◌, ℕ, ◌+◌, Bool, true, false, ◌&&◌, not, List, [], ◌∷◌, ◌++◌, Option, None, is_some, refl, sym, ap, ◌∙◌, subst, arith, if◌then◌else◌, ◌≢◌, ◌-◌, Some}
 use Rattle.std.proofs.lemmas.List.{append-nil}
 use Rattle.containers.proofs.Choices.{chosen, taken_if, left_if}
 use Rattle.redis_error.specs.declared.fault_kind.FaultKind.{FaultKind}
@@ -32,20 +32,20 @@ use Rattle.legal_trace.specs.Ledger.{Ledger, Ending, hears, noted, ending, endin
 use Rattle.legal_trace.specs.Book.{Book, blank_book, book, entered}
 use Rattle.legal_trace.specs.Story.{Story}
 use Rattle.legal_trace.specs.Legal.{AllStand, NoneEnds, VerdictsAreShown, FailuresAreShown, MayBeCreated, MayFail}
-use Rattle.session_laws.proofs.Tied.{Inner, inner, queue_ids, shown_wait, waiting_ids, no_link, link_in, owner_of, TiedLife, TiedLines, AreQueued, TiedWaits, Tied, Sound, has_ended}
+use Rattle.session_laws.proofs.Tied.{Inner, inner, queue_ids, shown_wait, waiting_ids, no_link, link_in, owner_of, TiedLife, TiedLines, AreQueued, TiedWaits, Tied, has_ended}
 use Rattle.session_laws.proofs.States.{IsFit, Between, HasApplied}
 use Rattle.session_laws.proofs.Entered.{all_stand-append, book_more, sound_more, shown_more}
 use Rattle.session_laws.proofs.Owes.{none_owed}
 use Rattle.session_laws.proofs.Settle.{seen, sound_act, trace_of_acts, Holds, book_of_more}
 use Rattle.session_laws.proofs.InLine.{kept_ids}
 use Rattle.session_laws.proofs.Numbers.{IsIn, Rising, rising_right}
-use Rattle.session_laws.proofs.Place.{waiting_open}
 use Rattle.session_laws.proofs.Announce.{turn_of, turned, IsNewsKind, heard_book, heard_is, heard_starts, heard_tied, may_turn}
 use Rattle.session_laws.proofs.Heard.{heard_by, book_kind, book_news, lives_as, none_ends, leads_on, quiet_applied, ended_quiet}
 use Rattle.session_laws.proofs.End.{up_tied, plain_begins}
 use Rattle.session_laws.proofs.Answer.{after_end}
 use Rattle.session_laws.proofs.Kept.{mine_noted}
 use Rattle.session_laws.proofs.Close.{may_close, close_tied, ended_waits, waiting_leaves, waiting_ends, ended_applied}
+use Rattle.session_laws.proofs.Ahead.{waiting_open}
 
 -- a connect that succeeds
 --

@@ -1,5 +1,5 @@
 -- A session whose event has had its own effect, while requests are moved.
-use Rattle.std.proofs.Common.{List, None, [], ap, arith, false, inl, inr, length, refl, subst, sym, true, ℕ, ◌++◌, ◌<◌, ◌∙◌, ◌∷◌, ◌≡◌, ◌≢◌, ◌⊎◌}
+use Rattle.std.proofs.Common.{List, None, [], ap, arith, false, inl, inr, length, refl, subst, sym, true, ℕ, ◌++◌, ◌<◌, ◌∙◌, ◌∷◌, ◌≡◌, ◌⊎◌}
 use Rattle.std.specs.Prelude.{if◌then◌else◌, ◌==◌}
 use Rattle.containers.proofs.Choices.{chosen, left_if, not_both}
 use Rattle.redis_error.specs.declared.redis_error.RedisError.{RedisError}

@@ -7,7 +7,6 @@ use Rattle.driver_model.specs.declared.outcome.Shape.{Shape}
 use Rattle.link_core.specs.declared.message.Queued.{Queued}
 use Rattle.link_laws.proofs.TiedLink.{TiedLink}
 use Rattle.mux_conn.specs.Requests.{name_at}
-use Rattle.mux_conn.specs.declared.life.Life.{Life}
 use Rattle.mux_conn.specs.declared.request.Request.{Request}
 use Rattle.mux_conn.specs.declared.request.Waiting.{Waiting}
 use Rattle.legal_trace.specs.Book.{Book, if_mine, if_own}
@@ -56,23 +55,6 @@ mine_noted l n line = ap (noted_each l) (taken_if (n == n) (line ∷ []) [] (eq_
 -- all other links stay as they are
 pub others_kept : (b : Book) (n : ℕ) (line : Line) → ((m : ℕ) → m ≢ n → IsUnknown (b.link m)) → (m : ℕ) → m ≢ n → IsUnknown (noted_each (b.link m) (if_mine (n == m) line))
 others_kept b n line h m other = if_false (λ (ls : List Line). IsUnknown (noted_each (b.link m) ls)) (n == m) (line ∷ []) [] (ne_test n m (λ e. other (sym e))) (h m other)
-
--- the numbers, where only links, stories and the connection change
-pub numbers_kept : (b : Book) (link : ℕ → Ledger) (story : ℕ → Story) (t : Inner) (life : Life) (free : ℕ) (requests : List Request) (waiting admitted : List Waiting) (fresh moved letting pending started : List ℕ) → TiedNumbers b t
-    → TiedNumbers (record b { link = link; story = story }) (record t { life = life; free = free; requests = requests; waiting = waiting; admitted = admitted; fresh = fresh; moved = moved; letting = letting; pending = pending; started = started })
-numbers_kept b link story t life free requests waiting admitted fresh moved letting pending started h = record {
-  turns = h.turns;
-  links = h.links;
-  timers = h.timers;
-  aims = h.aims;
-  timed = h.timed;
-  submissions = h.submissions;
-  timeout = h.timeout;
-  shut = h.shut;
-  settings = record { size_is = h.settings.size_is; bound_is = h.settings.bound_is; limit_is = h.settings.limit_is; some = h.settings.some; limited = h.settings.limited };
-  one = h.one;
-  only = h.only;
-}
 
 -- one request's story changes
 pub one_changed : (b : Book) (t : Inner) (p : ℕ) (g : Story → Story) → Tied b t → p < length t.requests

@@ -2,7 +2,7 @@
 use Rattle.std.proofs.Common.{Bool, List, None, Option, Some, [], ap, append_assoc, arith, false, inl, inr, length, refl, slice_get, slice_set, subst, suc, sym, true, zero, ℕ, ◌+◌, ◌-◌, ◌++◌, ◌<◌, ◌≤◌, ◌∙◌, ◌∷◌, ◌≡◌, ◌≢◌, ◌⊎◌}
 use Rattle.std.proofs.lemmas.List.{append-nil, length-append}
 use Rattle.std.specs.List.{AllByRecursion}
-use Rattle.std.specs.Prelude.{is_none, is_some, min, max, nat_lt, not, if◌then◌else◌, ◌==◌, ◌&&◌, ◌||◌}
+use Rattle.std.specs.Prelude.{is_none, is_some, min, nat_lt, not, ◌==◌, ◌&&◌, ◌||◌}
 use Rattle.containers.proofs.Choices.{by_test, chosen, eq_from, eq_test, left_if, ne_from, ne_test, not_both, not_lt_from, taken_if}
 use Rattle.containers.proofs.Places.{get_within}
 use Rattle.driver_model.specs.Shape.{permits_for}
@@ -26,7 +26,7 @@ use Rattle.shared_session.specs.declared.core_state.Core.{Core}
 use Rattle.shared_session.specs.Turn.{timer_of, timers_of}
 use Rattle.session_laws.proofs.Entered.{shown_more, timers_more}
 use Rattle.session_laws.proofs.Settle.{book_of_more, seen, trace_of_acts}
-use Rattle.mux_conn.specs.Requests.{if_there, is_admitted, is_admitted_at, is_open as is_open_progress, is_open_at, is_placed, is_placed_at, is_waiting, is_waiting_at, name_at, permits_at, with_permits}
+use Rattle.mux_conn.specs.Requests.{if_there, is_admitted, is_admitted_at, is_open as is_open_progress, is_placed, is_waiting, is_waiting_at, name_at, permits_at, with_permits}
 use Rattle.mux_conn.specs.declared.life.Life.{Life}
 use Rattle.mux_conn.specs.declared.life.Life.TheVariants.{Ready}
 use Rattle.mux_conn.specs.declared.request.Pending.{Pending}
@@ -36,21 +36,21 @@ use Rattle.mux_conn.specs.declared.request.Request.{Request}
 use Rattle.mux_conn.specs.declared.request.Waiting.{Waiting}
 use Rattle.legal_trace.specs.Book.{Book, book, entered, if_own}
 use Rattle.legal_trace.specs.Ledger.{Ledger}
-use Rattle.legal_trace.specs.Legal.{CanMove, IsFirstToMove, MayTake, MayTime, NoneEnds}
+use Rattle.legal_trace.specs.Legal.{IsFirstToMove, MayTake, MayTime, NoneEnds}
 use Rattle.legal_trace.specs.Steps.{is_due, is_let_in, next_step, permits_held, permits_on, takes}
-use Rattle.legal_trace.specs.Story.{Story, awaited_in, clocked, holds, is_no_error, is_open, is_told, is_unstarted, packed_in, shape, shape_in}
-use Rattle.session_laws.proofs.Ahead.{IsRunning, ask_step, full_step, kept_unstarted, running_of, take_step}
+use Rattle.legal_trace.specs.Story.{Story, awaited_in, clocked, holds, is_no_error, is_open, is_told, is_unstarted, packed_in, shape}
+use Rattle.session_laws.proofs.Ahead.{IsRunning, ask_step, full_step, kept_unstarted, running_of, take_step, waiting_open}
 use Rattle.session_laws.proofs.Going.{IsGoing, applied_up, going_more, moves_later, queue_stays}
 use Rattle.session_laws.proofs.InLine.{first_is_least, kept_ids}
-use Rattle.session_laws.proofs.Kept.{numbers_kept, of_same, tries_same}
-use Rattle.session_laws.proofs.Names.{earlier_name, get_more, get_some, length_with, name_placed, name_of_some, name_with, name_within, names_with, open_within, owners_with, permits_other, permits_with, same_name, there_within, was_with, with_other, with_same}
+use Rattle.session_laws.proofs.Kept.{of_same, tries_same}
+use Rattle.session_laws.proofs.Names.{earlier_name, get_more, length_with, name_placed, name_of_some, name_with, name_within, names_with, owners_with, permits_other, permits_with, same_name, there_within, was_with, with_other, with_same}
 use Rattle.session_laws.proofs.Numbers.{IsIn, Rising, in_right, rising_in, rising_right}
 use Rattle.session_laws.proofs.Owes.{request_story}
 use Rattle.session_laws.proofs.Permits.{held_changed, held_same, on_this}
-use Rattle.session_laws.proofs.Place.{waiting_open}
-use Rattle.session_laws.proofs.Start.{early_open, on_link}
 use Rattle.session_laws.proofs.States.{IsFit}
-use Rattle.session_laws.proofs.Tied.{IsAim, has_ended, AreAimed, AreLate, AreQueued, Inner, IsEntry, IsKept, IsOf, IsPacked, IsQueued, IsRequest, Tied, TiedLines, TiedNames, TiedNumbers, TiedPermits, TiedStory, TiedTries, TiedWaits, link_in, owner_of, owners_each, queue_ids, shown_wait, waiting_ids}
+use Rattle.session_laws.proofs.Tied.{IsAim, has_ended, AreAimed, AreQueued, Inner, IsEntry, IsKept, IsOf, IsPacked, IsQueued, IsRequest, Tied, TiedLines, TiedNames, TiedNumbers, TiedPermits, TiedStory, TiedTries, TiedWaits, link_in, owners_each, queue_ids, shown_wait, waiting_ids, numbers_kept}
+use Rattle.session_laws.proofs.Moves.{or_true}
+use Rattle.session_laws.proofs.Behind.{some_more}
 
 -- requests of which one holds other permits, and waits still
 --
@@ -477,10 +477,6 @@ ask_tied b t p number ms w alone h =
       one = k.one;
       only = k.only;
     }) h
-  where
-    some_more : (xs : List Purpose) (x : Purpose) → xs ++ x ∷ [] ≡ [] → ⊥
-    some_more [] x e = cc
-    some_more (y ∷ ys) x e = cc
 
 -- a request is let in by its connection
 --
@@ -536,10 +532,6 @@ some_taken before f acts conn started link q qs k o e some h =
   where
     some_less : (n : ℕ) → 0 < n → nat_lt 0 n ≡ true
     some_less n l = by_test (nat_lt 0 n) _ (λ t. t) (λ f1. absurd (let most = not_lt_from 0 n f1 in omega arith))
-
-    or_true : (x : Bool) → (x || true) ≡ true
-    or_true true = refl
-    or_true false = refl
 
 -- where they aren't it takes none
 none_taken : (before : List Action) (f : Core) (acts : List LinkAct) (conn : MultiplexedConnection) (started : List ℕ) (link : LinkState) (q : Waiting) (qs : List Waiting) → IsOpening (seen f acts conn [] started) link q qs → conn.limit ≡ None
@@ -630,10 +622,6 @@ let_timed before f t link q qs count ms acts o e same h =
       going = subst (λ ts. IsGoing (trace_of_acts before f (acts ++ a ∷ [])) (lets t p count (t.free - count) ts)) (append_assoc f.timers (timers_of acts) (what ∷ []) ∙ ap (λ ts. f.timers ++ ts) (sym (timers_more acts a))) there;
       is = ap (is_let_in t.limit) story_is ∙ (λ i. h.has i && or_true (is_none (b.story n).timeout) i);
     }
-  where
-    or_true : (x : Bool) → (x || true) ≡ true
-    or_true true = refl
-    or_true false = refl
 
 -- by its time
 let_by_time : (before : List Action) (f : Core) (t : Inner) (link : LinkState) (q : Waiting) (qs : List Waiting) (count : ℕ) (v : Work) (timeout : Option ℕ) → IsOpening t link q qs → q.timeout ≡ timeout → t.link ≡ f.single.link → name_at v.conn.requests q.number ≡ name_at t.requests q.number

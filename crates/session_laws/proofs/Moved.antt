@@ -1,14 +1,13 @@
 -- All requests of a connection are moved.
 use Rattle.std.proofs.Common.{Bool, List, [], ap, false, inl, inr, length, refl, subst, sym, true, ℕ, ◌++◌, ◌∙◌, ◌∷◌, ◌≡◌, ◌⊎◌}
-use Rattle.std.specs.Prelude.{not}
 use Rattle.containers.proofs.Choices.{chosen, left_if, not_both, taken_if}
 use Rattle.redis_error.specs.declared.redis_error.RedisError.{RedisError}
 use Rattle.driver_model.specs.declared.action.Action.{Action}
 use Rattle.driver_model.specs.declared.outcome.Outcome.{Outcome}
 use Rattle.driver_model.specs.declared.outcome.Outcome.TheVariants as outcome
-use Rattle.link_core.specs.Link.{LinkState, holds_back, is_full}
+use Rattle.link_core.specs.Link.{LinkState, holds_back}
 use Rattle.link_laws.specs.Settles.{awaited_ids, wanted}
-use Rattle.mux_conn.specs.Connection.{Work, admits_none, admits_none_at, has_no_permit, has_room, with_link}
+use Rattle.mux_conn.specs.Connection.{Work, admits_none, admits_none_at, has_no_permit, with_link}
 use Rattle.mux_conn.specs.Effects.{failed_each, nobody_waits, waiting_failed}
 use Rattle.mux_conn.specs.Passes.{admitted, admitted_all, admitted_at, admitted_each, moved_up_all, moved_up_each, passed, started_at, still_admitted, still_waiting}
 use Rattle.mux_conn.specs.Requests.{answered, with_permits, is_open as is_open_progress, is_open_at, is_waiting, is_waiting_at}
@@ -26,7 +25,7 @@ use Rattle.session_laws.proofs.Going.{IsGoing}
 use Rattle.session_laws.proofs.InLine.{kept_ids}
 use Rattle.session_laws.proofs.Names.{open_within, with_other, with_then}
 use Rattle.session_laws.proofs.Numbers.{IsIn, Rising, rising_right}
-use Rattle.session_laws.proofs.Passes.{IsDone, IsSeated, IsUp, admitted_done, moved_up_seated, moved_up_waits, moving, started_keeps, started_up}
+use Rattle.session_laws.proofs.Passes.{IsDone, IsSeated, IsUp, admitted_done, moved_up_seated, moved_up_waits, moving, started_keeps, started_up, no_room}
 use Rattle.session_laws.proofs.Settle.{Holds, answered_leaves, failed_leaves, seen, trace_of_acts}
 use Rattle.session_laws.proofs.States.{IsFit, IsFitIn, IsStill}
 use Rattle.session_laws.proofs.Tied.{Inner, Sound, Tied, has_ended, link_in, queue_ids, waiting_ids}
@@ -48,14 +47,6 @@ pub record IsReady (before : List Action) (f : Core) (w : Work) (started : List 
 
 -- on a link that is up
 --
--- where a connection that is up has no room, its queue is full
-no_room : (life : Life) (link : LinkState) → life ≡ Ready link → has_room life ≡ false → is_full link ≡ true
-no_room life link e none = full (is_full link) (ap has_room (sym e) ∙ none)
-  where
-    full : (x : Bool) → not x ≡ false → x ≡ true
-    full true e = refl
-    full false e = cc
-
 -- there is one link
 one_link : (life : Life) (link link' : LinkState) → life ≡ Ready link → life ≡ Ready link' → link ≡ link'
 one_link life link link' e k = let both : Ready link ≡ Ready link' = sym e ∙ k in cc

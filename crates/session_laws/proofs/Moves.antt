@@ -37,13 +37,14 @@ unstarted_alive s e = either_one (is_open s) (is_told s) (both_right (length s.t
 pub open_unstarted : (s : Story) → s.tries ≡ [] → is_open s ≡ true → is_unstarted s ≡ true
 open_unstarted s none o = λ i. (length (none i) == 0) && (o i || is_told s)
 
+-- what is true in any case
+pub or_true : (a : Bool) → (a || true) ≡ true
+or_true true = refl
+or_true false = refl
+
 -- and for one that was told
 pub told_unstarted : (s : Story) → s.tries ≡ [] → is_told s ≡ true → is_unstarted s ≡ true
 told_unstarted s none e = (λ i. (length (none i) == 0) && (is_open s || e i)) ∙ or_true (is_open s)
-  where
-    or_true : (a : Bool) → (a || true) ≡ true
-    or_true true = refl
-    or_true false = refl
 
 -- what is in the row has started
 row_started : (b : Book) (t : Inner) (p : ℕ) → Tied b t → has_ended t.life ≡ false → p < length t.requests → IsIn p (row_ids (link_in t.life).row) → (b.story (name_at t.requests p)).tries ≢ []

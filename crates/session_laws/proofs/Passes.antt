@@ -26,7 +26,7 @@ use Rattle.shared_session.specs.declared.core_state.Core.{Core}
 use Rattle.legal_trace.specs.Book.{Book, book}
 use Rattle.legal_trace.specs.Legal.{MayTell, NoneEnds}
 use Rattle.legal_trace.specs.Steps.{is_let_in}
-use Rattle.session_laws.proofs.Ahead.{IsRunning, first_step, kept_unstarted}
+use Rattle.session_laws.proofs.Ahead.{IsRunning, first_step, kept_unstarted, waiting_open}
 use Rattle.session_laws.proofs.Entered.{shown_more}
 use Rattle.session_laws.proofs.Going.{IsGoing, applied_up, first_behind, going_more}
 use Rattle.session_laws.proofs.InLine.{kept_ids}
@@ -34,7 +34,7 @@ use Rattle.session_laws.proofs.LetIn.{IsOpening, let_in_conn, let_in_going, perm
 use Rattle.session_laws.proofs.Names.{length_still, length_with, name_still, name_with, open_within, permits_still, permits_with, there_same, with_same}
 use Rattle.session_laws.proofs.Numbers.{IsIn, Rising, rising_left, rising_right, rising_tail, rising_without}
 use Rattle.session_laws.proofs.Owes.{request_story}
-use Rattle.session_laws.proofs.Place.{IsNext, admit_tied, next_admitted, next_waiting, passed_admitted, passed_waiting, place_tied, tell_tied, waiting_open, with_place, with_told}
+use Rattle.session_laws.proofs.Place.{IsNext, admit_tied, next_admitted, next_waiting, passed_admitted, passed_waiting, place_tied, tell_tied, with_place, with_told}
 use Rattle.session_laws.proofs.Settle.{answered_leaves, seen, trace_of_acts}
 use Rattle.session_laws.proofs.Start.{on_link}
 use Rattle.session_laws.proofs.Starts.{each_fit, each_going, each_held, shown_is, shows, shows_timers}
@@ -239,6 +239,14 @@ not_full false e = refl
 free_link : (life : Life) (link : LinkState) → life ≡ Ready link → has_room life ≡ true → is_full link ≡ false
 free_link life link e room = not_full (is_full link) (ap has_room (sym e) ∙ room)
 
+-- where a connection that is up has no room, its queue is full
+pub no_room : (life : Life) (link : LinkState) → life ≡ Ready link → has_room life ≡ false → is_full link ≡ true
+no_room life link e none = full (is_full link) (ap has_room (sym e) ∙ none)
+  where
+    full : (x : Bool) → not x ≡ false → x ≡ true
+    full true e = refl
+    full false e = cc
+
 -- one that waits for a place no longer
 gone_admitted : (before : List Action) (f : Core) (w : Work) (q : Waiting) (qs waiting : List Waiting) → IsUp before f w (q ∷ qs) waiting [] (kept_ids (q ∷ qs) waiting) → is_admitted_at w.conn.requests q.number ≡ false → IsUp before f w qs waiting [] (kept_ids qs waiting)
 gone_admitted before f w q qs waiting h gone =
@@ -373,27 +381,22 @@ letting_up before f w q qs s wt some =
       settled = refl;
       fit = h.fit;
       held = h.held;
-      full = elim s.full [ inl empty ↦ inl empty | inr none ↦ inr (full_link w.conn.life h.link h.life none) ];
+      full = elim s.full [ inl empty ↦ inl empty | inr none ↦ inr (no_room w.conn.life h.link h.life none) ];
       waiting = refl;
       is_waiting = wt;
     } in
-    let k = let_in_going before f w w.conn.admitted h.started h.link q qs opening some h.going in
-    (record {
-      link = h.link;
-      life = h.life;
-      fit = h.fit;
-      held = h.held;
-      started = h.started;
-      going = k.going;
-      order = subst (Rising 0 (w.conn.moved ++ waiting_ids (q ∷ qs))) (sym (length_with w.conn.requests p progress.Waiting count)) h.order;
-    }, ap (λ n. is_let_in w.conn.limit ((book (trace_of_acts before f (let_in w q).acts)).story n)) (name_with w.conn.requests p progress.Waiting count p) ∙ k.is)
-  where
-    is_true : (x : Bool) → not x ≡ false → x ≡ true
-    is_true true e = refl
-    is_true false e = cc
-
-    full_link : (life : Life) (link : LinkState) → life ≡ Ready link → has_room life ≡ false → is_full link ≡ true
-    full_link life link e none = is_true (is_full link) (ap has_room (sym e) ∙ none)
+    let k = let_in_going before f w w.conn.admitted h.started h.link q qs opening some h.going in (
+      record {
+        link = h.link;
+        life = h.life;
+        fit = h.fit;
+        held = h.held;
+        started = h.started;
+        going = k.going;
+        order = subst (Rising 0 (w.conn.moved ++ waiting_ids (q ∷ qs))) (sym (length_with w.conn.requests p progress.Waiting count)) h.order;
+      },
+      ap (λ n. is_let_in w.conn.limit ((book (trace_of_acts before f (let_in w q).acts)).story n)) (name_with w.conn.requests p progress.Waiting count p) ∙ k.is,
+    )
 
 -- where the queue has room it takes its place
 admitted_seated : (before : List Action) (f : Core) (w : Work) (q : Waiting) (qs : List Waiting) → IsSeated before f w (q ∷ qs) → is_waiting_at w.conn.requests q.number ≡ true → has_no_permit w.conn.limit w.conn.free ≡ false → w.conn.admitted ≡ [] → has_room w.conn.life ≡ true

@@ -1,8 +1,8 @@
 -- The permits that submissions hold, and those that are free.
-use Rattle.std.proofs.Common.{Bool, List, None, Option, Some, [], ap, arith, false, inl, inr, length, refl, subst, suc, sym, true, zero, ℕ, ◌+◌, ◌-◌, ◌<◌, ◌≤◌, ◌∙◌, ◌∷◌, ◌≡◌, ◌≢◌, ◌⊎◌}
+use Rattle.std.proofs.Common.{List, Option, Some, [], ap, arith, false, inl, inr, length, refl, subst, suc, sym, true, zero, ℕ, ◌+◌, ◌<◌, ◌≤◌, ◌∙◌, ◌≡◌, ◌≢◌}
 use Rattle.std.specs.Prelude.{is_none, is_some, if◌then◌else◌, min, nat_le, nat_lt, unwrap_or, ◌==◌, ◌&&◌, ◌||◌}
-use Rattle.containers.proofs.Choices.{by_test, eq_from, eq_test, le_test, left_if, ne_from, not_both, taken_if}
-use Rattle.mux_conn.specs.Requests.{given_back, is_admitted, is_admitted_at, is_placed, is_placed_at, is_waiting, is_waiting_at, at_progress, name_at, permits_at, with_permits}
+use Rattle.containers.proofs.Choices.{by_test, eq_from, eq_test, ne_from, not_both, taken_if}
+use Rattle.mux_conn.specs.Requests.{given_back, is_admitted, is_placed, is_waiting, is_waiting_at, at_progress, name_at, permits_at, with_permits}
 use Rattle.mux_conn.specs.declared.request.Pending.{Pending}
 use Rattle.mux_conn.specs.declared.request.Progress.{Progress}
 use Rattle.mux_conn.specs.declared.request.Progress.TheVariants as progress

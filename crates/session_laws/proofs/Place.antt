@@ -30,17 +30,14 @@ use Rattle.session_laws.proofs.Answer.{answer_closes, lines_answered}
 use Rattle.session_laws.proofs.Behind.{open_unanswered}
 use Rattle.session_laws.proofs.Closing.{Closes, closed_other, kept_other, late_closed, story_closed, tries_closed, waits_closed, with_closed}
 use Rattle.session_laws.proofs.InLine.{awaited_in, kept_ids}
-use Rattle.session_laws.proofs.Kept.{numbers_kept, of_same}
+use Rattle.session_laws.proofs.Kept.{of_same}
 use Rattle.session_laws.proofs.Names.{length_still, length_with, name_still, name_was, name_with, name_within, names_progressed, names_with, open_within, owners_still, owners_with, permits_still, there_other, there_same, there_then, with_same}
 use Rattle.session_laws.proofs.Numbers.{IsIn, Rising, in_either, in_left, in_right, rising_apart, rising_in, rising_right, rising_tail, rising_without}
 use Rattle.session_laws.proofs.Owes.{in_line, request_story}
 use Rattle.session_laws.proofs.Permits.{permits_closed, permits_further, permits_let}
-use Rattle.session_laws.proofs.Start.{admitted_open, early_open, not_dialing, on_link}
-use Rattle.session_laws.proofs.Tied.{AreLate, AreQueued, Inner, IsEntry, IsKept, IsOf, IsPacked, IsQueued, Tied, TiedLines, TiedStory, TiedTries, TiedWaits, owner_of, owners_each, queue_ids, relined, shown_wait, waiting_ids}
-
--- a request that still waits for the connection is open
-pub waiting_open : (requests : List Request) (p : ℕ) → is_waiting_at requests p ≡ true → is_open_at requests p ≡ true
-waiting_open requests p w = (early_open requests p w).0
+use Rattle.session_laws.proofs.Start.{not_dialing, on_link}
+use Rattle.session_laws.proofs.Tied.{AreLate, AreQueued, Inner, IsEntry, IsKept, IsOf, IsPacked, IsQueued, Tied, TiedLines, TiedStory, TiedTries, TiedWaits, owner_of, owners_each, queue_ids, relined, shown_wait, waiting_ids, numbers_kept}
+use Rattle.session_laws.proofs.Ahead.{admitted_open, early_open, waiting_open}
 
 -- those that wait no longer are passed over
 --

@@ -1,5 +1,5 @@
 -- The first message of the queue starts.
-use Rattle.std.proofs.Common.{List, None, Option, Some, [], ap, append_assoc, arith, false, inl, inr, length, refl, slice_get, subst, suc, sym, true, ℕ, ◌++◌, ◌<◌, ◌∙◌, ◌∷◌, ◌≡◌, ◌≢◌, ◌⊎◌}
+use Rattle.std.proofs.Common.{List, None, Some, [], ap, append_assoc, arith, false, inl, inr, length, refl, slice_get, subst, suc, sym, true, ℕ, ◌++◌, ◌<◌, ◌∙◌, ◌∷◌, ◌≡◌, ◌≢◌, ◌⊎◌}
 use Rattle.std.proofs.lemmas.List.{append-nil}
 use Rattle.std.specs.Prelude.{if◌then◌else◌, ◌==◌}
 use Rattle.containers.proofs.Places.{get_within}
@@ -15,24 +15,22 @@ use Rattle.link_laws.proofs.Once.{wanted-append}
 use Rattle.link_laws.proofs.TiedLink.{all_push, begun_tied, queue_tied}
 use Rattle.link_laws.specs.Settles.{awaited_ids, wanted}
 use Rattle.link_laws.specs.Starts.{begun, start_from}
-use Rattle.mux_conn.specs.Requests.{if_there, is_admitted, is_admitted_at, is_open as is_open_progress, is_open_at, is_placed, is_placed_at, is_waiting, is_waiting_at, name_at}
+use Rattle.mux_conn.specs.Requests.{is_admitted_at, is_open_at, is_placed_at, is_waiting_at, name_at}
 use Rattle.mux_conn.specs.declared.life.Life.TheVariants.{Dialing, Ready}
-use Rattle.mux_conn.specs.declared.request.Progress.{Progress}
-use Rattle.mux_conn.specs.declared.request.Progress.TheVariants as progress
 use Rattle.mux_conn.specs.declared.request.Request.{Request}
 use Rattle.mux_conn.specs.declared.request.Waiting.{Waiting}
 use Rattle.legal_trace.specs.Book.{Book, entered, if_own, message_of}
 use Rattle.legal_trace.specs.Ledger.{Ledger, Start, begins, noted}
 use Rattle.legal_trace.specs.Story.{Story, is_told, shape, shape_in, tried}
-use Rattle.session_laws.proofs.Ahead.{queue_within}
+use Rattle.session_laws.proofs.Ahead.{queue_within, admitted_open, early_open}
 use Rattle.session_laws.proofs.Behind.{nil_told, open_untold, some_more}
 use Rattle.session_laws.proofs.InLine.{awaited_in, first_is_apart, kept_ids}
-use Rattle.session_laws.proofs.Kept.{SameOutcomes, SameSubmissions, SameTimes, mine_noted, numbers_kept, one_changed, others_kept, packed_same, queued_same, tied_by}
+use Rattle.session_laws.proofs.Kept.{SameOutcomes, SameSubmissions, SameTimes, mine_noted, one_changed, others_kept, packed_same, queued_same, tied_by}
 use Rattle.session_laws.proofs.Names.{get_more, get_some, name_of_some, open_within, same_name}
 use Rattle.session_laws.proofs.Numbers.{IsIn, Rising, in_left, in_right, rising_apart, rising_in, rising_left, rising_right}
 use Rattle.session_laws.proofs.Owes.{get_in, request_story}
 use Rattle.session_laws.proofs.Permits.{IsHolding, holding_same, permits_same}
-use Rattle.session_laws.proofs.Tied.{AreQueued, Inner, IsEntry, IsQueued, IsRequest, Tied, TiedLines, TiedTries, TiedWaits, link_in, owner_of, owners_each, owners_of, queue_ids, shown_wait}
+use Rattle.session_laws.proofs.Tied.{AreQueued, Inner, IsEntry, IsQueued, IsRequest, Tied, TiedLines, TiedTries, TiedWaits, link_in, owner_of, owners_each, owners_of, queue_ids, shown_wait, numbers_kept}
 
 -- the action that its start shows
 abbrev pub start_action : Inner → LinkState → Queued → Action
@@ -205,34 +203,6 @@ tried_loses m link k story n = chosen (λ (x : Story). (x.waiting ≡ None) ⊎ 
 -- and keeps that of any other
 tried_others : (m link k : ℕ) (story : ℕ → Story) (n : ℕ) → m ≢ n → (tried_at m link k story n).waiting ≡ (story n).waiting
 tried_others m link k story n other = ap (λ (x : Story). x.waiting) (left_if (m == n) (tried (story n) link k) (story n) (ne_test m n other))
-
--- one that waits for a place is open, and has none
-pub admitted_open : (requests : List Request) (p : ℕ) → is_admitted_at requests p ≡ true → (is_open_at requests p ≡ true) × (is_placed_at requests p ≡ false)
-admitted_open requests p e = by_request (slice_get requests p) e
-  where
-    by_progress : (r : Progress) → is_admitted r ≡ true → (is_open_progress r ≡ true) × (is_placed r ≡ false)
-    by_progress progress.Waiting e = cc
-    by_progress progress.Admitted e = (refl, refl)
-    by_progress progress.Placed e = cc
-    by_progress progress.Closed e = cc
-
-    by_request : (r : Option Request) → if_there is_admitted r ≡ true → (if_there is_open_progress r ≡ true) × (if_there is_placed r ≡ false)
-    by_request None e = cc
-    by_request (Some r) e = by_progress r.progress e
-
--- and so is one that waits for the connection
-pub early_open : (requests : List Request) (p : ℕ) → is_waiting_at requests p ≡ true → (is_open_at requests p ≡ true) × (is_placed_at requests p ≡ false)
-early_open requests p e = by_request (slice_get requests p) e
-  where
-    by_progress : (r : Progress) → is_waiting r ≡ true → (is_open_progress r ≡ true) × (is_placed r ≡ false)
-    by_progress progress.Waiting e = (refl, refl)
-    by_progress progress.Admitted e = cc
-    by_progress progress.Placed e = cc
-    by_progress progress.Closed e = cc
-
-    by_request : (r : Option Request) → if_there is_waiting r ≡ true → (if_there is_open_progress r ≡ true) × (if_there is_placed r ≡ false)
-    by_request None e = cc
-    by_request (Some r) e = by_progress r.progress e
 
 -- who is open and has no place is none of the queue
 queued_apart : (b : Book) (t : Inner) (q : Queued) → Tied b t → q.id < length t.requests → IsQueued b.story t.requests q → (is_open_at t.requests q.id ≡ true) × (is_placed_at t.requests q.id ≡ false) → ⊥

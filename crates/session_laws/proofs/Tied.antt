@@ -310,16 +310,16 @@ inner c started = record {
 pub no_opening : (e : Event) (config : Config) (word : ℕ) → ◌≡◌ {A = Option Cause} (Some (cause.Event e)) (Some (cause.Opening config word)) → ⊥
 no_opening e config word is = cc
 
--- the numbers, where only the connection's requests and lists change
-pub numbers_again : (b : Book) (t : Inner) (free : ℕ) (requests : List Request) (waiting admitted : List Waiting) (fresh moved letting pending : List ℕ) → TiedNumbers b t
-    → TiedNumbers b (record t { free = free; requests = requests; waiting = waiting; admitted = admitted; fresh = fresh; moved = moved; letting = letting; pending = pending })
-numbers_again b t free requests waiting admitted fresh moved letting pending h = record {
+-- the numbers, where only links, stories and the connection change
+pub numbers_kept : (b : Book) (link : ℕ → Ledger) (story : ℕ → Story) (t : Inner) (life : Life) (free : ℕ) (requests : List Request) (waiting admitted : List Waiting) (fresh moved letting pending started : List ℕ) → TiedNumbers b t
+    → TiedNumbers (record b { link = link; story = story }) (record t { life = life; free = free; requests = requests; waiting = waiting; admitted = admitted; fresh = fresh; moved = moved; letting = letting; pending = pending; started = started })
+numbers_kept b link story t life free requests waiting admitted fresh moved letting pending started h = record {
   turns = h.turns;
   links = h.links;
-  submissions = h.submissions;
   timers = h.timers;
   aims = h.aims;
   timed = h.timed;
+  submissions = h.submissions;
   timeout = h.timeout;
   shut = h.shut;
   settings = record { size_is = h.settings.size_is; bound_is = h.settings.bound_is; limit_is = h.settings.limit_is; some = h.settings.some; limited = h.settings.limited };
@@ -334,7 +334,7 @@ pub relined : (b : Book) (t : Inner) (waiting admitted : List Waiting) (fresh mo
     → TiedLines b.story t.requests (link_in t.life) waiting admitted pending t.started → TiedWaits b.story t.requests t.life fresh moved → AreLate b.story t.requests pending
     → Tied b (record t { waiting = waiting; admitted = admitted; fresh = fresh; moved = moved; pending = pending })
 relined b t waiting admitted fresh moved pending h lines waits late = record {
-  numbers = numbers_again b t t.free t.requests waiting admitted fresh moved t.letting pending h.numbers;
+  numbers = numbers_kept b b.link b.story t t.life t.free t.requests waiting admitted fresh moved t.letting pending t.started h.numbers;
   others = h.others;
   life = h.life;
   link = h.link;

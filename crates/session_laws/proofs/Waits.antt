@@ -24,18 +24,16 @@ use Rattle.legal_trace.specs.Book.{Book, entered, if_own}
 use Rattle.legal_trace.specs.Legal.{IsWaiting, IsWritten, MayWait, WaitHolds}
 use Rattle.legal_trace.specs.Steps.{starts_or_waits}
 use Rattle.legal_trace.specs.Story.{Story, awaited_in, is_no_error, is_told, waits as waits_now}
-use Rattle.session_laws.proofs.Ahead.{IsRunning, dialing_step, full_step, permit_step, queue_step, queue_within, running_of}
+use Rattle.session_laws.proofs.Ahead.{IsRunning, dialing_step, full_step, permit_step, queue_step, queue_within, running_of, waiting_open, admitted_open}
 use Rattle.session_laws.proofs.InLine.{awaited_in as in_queue, chosen_in, kept_ids, kept_in, row_ids, wanted_in}
-use Rattle.session_laws.proofs.Kept.{SameOutcomes, SameSubmissions, SameTimes, numbers_kept, one_changed, packed_same, queued_same, tries_same}
+use Rattle.session_laws.proofs.Kept.{SameOutcomes, SameSubmissions, SameTimes, one_changed, packed_same, queued_same, tries_same}
 use Rattle.session_laws.proofs.Moves.{later_of, open_unstarted}
 use Rattle.session_laws.proofs.Names.{earlier_name, get_some, name_of_some, open_within, same_name, there_within}
 use Rattle.session_laws.proofs.Numbers.{IsIn, Rising, in_either, in_left, in_right, rising_apart, rising_from, rising_in, rising_right}
 use Rattle.session_laws.proofs.Owes.{later_unstarted, none_open, open_request, request_story, row_in_line}
-use Rattle.session_laws.proofs.Start.{admitted_open}
 use Rattle.session_laws.proofs.Permits.{IsHolding, permits_same}
-use Rattle.session_laws.proofs.Place.{waiting_open}
 use Rattle.session_laws.proofs.States.{IsFit}
-use Rattle.session_laws.proofs.Tied.{AreQueued, Inner, IsEntry, IsKept, IsQueued, IsRequest, Tied, TiedWaits, has_ended, link_in, queue_ids, shown_wait, waiting_ids}
+use Rattle.session_laws.proofs.Tied.{AreQueued, Inner, IsEntry, IsKept, IsQueued, IsRequest, Tied, TiedWaits, has_ended, link_in, queue_ids, shown_wait, waiting_ids, numbers_kept}
 
 -- how far a request has come
 --

@@ -18,13 +18,13 @@ use Rattle.legal_trace.specs.Book.{Book, book, entered}
 use Rattle.legal_trace.specs.Ledger.{IsOffered, noted, offers}
 use Rattle.legal_trace.specs.Legal.{IsMoved, IsWritten, MayWrite, NoneEnds}
 use Rattle.session_laws.proofs.Going.{is_moved, none_ends_kept}
-use Rattle.session_laws.proofs.Kept.{mine_noted, numbers_kept, others_kept, tied_by}
+use Rattle.session_laws.proofs.Kept.{mine_noted, others_kept, tied_by}
 use Rattle.session_laws.proofs.Moved.{HasMoved}
 use Rattle.session_laws.proofs.Settle.{book_of_more, holds_more, seen, trace_of_acts}
 use Rattle.session_laws.proofs.Start.{on_link}
 use Rattle.session_laws.proofs.Took.{queue_waits}
 use Rattle.session_laws.proofs.States.{IsFit}
-use Rattle.session_laws.proofs.Tied.{Inner, Tied, TiedLife, link_in, owner_of, has_ended}
+use Rattle.session_laws.proofs.Tied.{Inner, Tied, TiedLife, link_in, owner_of, has_ended, numbers_kept}
 
 -- an offer
 --
