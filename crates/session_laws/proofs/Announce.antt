@@ -33,7 +33,6 @@ use Rattle.session_laws.proofs.Entered.{book_more, sound_more}
 use Rattle.session_laws.proofs.Answer.{some_end}
 use Rattle.session_laws.proofs.Kept.{tied_by}
 use Rattle.session_laws.proofs.Settle.{seen, trace_of_acts, Holds}
-use Rattle.session_laws.proofs.Names.{get_some}
 
 -- bad events
 --

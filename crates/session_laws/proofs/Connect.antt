@@ -1,5 +1,5 @@
 -- The opening of the connection's link ends: its connect succeeds, is refused, or isn't answered in time.
-use Rattle.std.proofs.Common.{inl, inr, length, ◌⊎◌, ◌≡◌, ℕ, ◌+◌, Bool, true, false, ◌&&◌, not, List, [], ◌∷◌, ◌++◌, Option, None, is_some, refl, sym, ap, ◌∙◌, subst, arith, if◌then◌else◌, ◌≢◌, ◌-◌, Some}
+use Rattle.std.proofs.Common.{inl, inr, length, ◌≡◌, ℕ, ◌+◌, Bool, true, false, ◌&&◌, not, List, [], ◌∷◌, ◌++◌, Option, None, is_some, refl, sym, ap, ◌∙◌, subst, arith, if◌then◌else◌, ◌≢◌, ◌-◌, Some}
 use Rattle.std.proofs.lemmas.List.{append-nil}
 use Rattle.containers.proofs.Choices.{chosen, taken_if, left_if}
 use Rattle.redis_error.specs.declared.fault_kind.FaultKind.{FaultKind}
@@ -32,7 +32,7 @@ use Rattle.legal_trace.specs.Ledger.{Ledger, Ending, hears, noted, ending, endin
 use Rattle.legal_trace.specs.Book.{Book, blank_book, book, entered}
 use Rattle.legal_trace.specs.Story.{Story}
 use Rattle.legal_trace.specs.Legal.{AllStand, NoneEnds, VerdictsAreShown, FailuresAreShown, MayBeCreated, MayFail}
-use Rattle.session_laws.proofs.Tied.{Inner, inner, queue_ids, shown_wait, waiting_ids, no_link, link_in, owner_of, TiedLife, TiedLines, AreQueued, TiedWaits, Tied, Sound, has_ended}
+use Rattle.session_laws.proofs.Tied.{Inner, inner, queue_ids, shown_wait, waiting_ids, no_link, link_in, owner_of, TiedLife, TiedLines, AreQueued, TiedWaits, Tied, has_ended}
 use Rattle.session_laws.proofs.States.{IsFit, Between, HasApplied}
 use Rattle.session_laws.proofs.Entered.{all_stand-append, book_more, sound_more, shown_more}
 use Rattle.session_laws.proofs.Owes.{none_owed}

@@ -1,10 +1,8 @@
 -- A response timer fires: where its request is open, its time is over. And the event that sets a time.
-use Rattle.std.proofs.Common.{◌≡◌, ◌≢◌, ◌⊎◌, inl, inr, ℕ, ◌+◌, ◌<◌, ◌==◌, Bool, true, false, ◌&&◌, ◌||◌, not, is_some, List, [], ◌∷◌, ◌++◌, length, Option, Some, None, slice_get, suc, if◌then◌else◌, refl, sym, ap, ◌∙◌, subst, arith}
+use Rattle.std.proofs.Common.{◌≡◌, ◌≢◌, inl, inr, ℕ, ◌+◌, ◌<◌, ◌==◌, true, false, ◌&&◌, ◌||◌, not, is_some, List, [], ◌∷◌, ◌++◌, length, Option, Some, None, slice_get, suc, if◌then◌else◌, refl, sym, ap, ◌∙◌, subst, arith}
 use Rattle.std.specs.List.{AllByRecursion}
-use Rattle.std.proofs.lemmas.List.{append-nil}
 use Rattle.containers.proofs.Choices.{by_test, both_left, chosen, left_if, taken_if, eq_from, eq_test, if_false, if_true, ne_from, ne_test, not_both}
 use Rattle.redis_error.specs.declared.fault_kind.FaultKind.TheVariants as kinds
-use Rattle.redis_error.specs.declared.redis_error.RedisError.{RedisError}
 use Rattle.redis_error.specs.declared.redis_error.RedisError.TheVariants as error
 use Rattle.driver_model.specs.declared.action.Action.{Action}
 use Rattle.driver_model.specs.declared.action.Action.TheVariants as action
@@ -32,26 +30,26 @@ use Rattle.mux_conn.specs.Requests.{is_open_at, name_at, permits_at, given_back,
 use Rattle.mux_conn.specs.declared.request.Progress.TheVariants as progress
 use Rattle.mux_conn.specs.Effects.{cancelled_in, timed_out}
 use Rattle.shared_session.specs.declared.core_state.Core.{Core}
-use Rattle.shared_session.specs.Turn.{Turning, with_work, work_of, heard, fired_by, late_by, effect, counted, is_bad}
-use Rattle.legal_trace.specs.Ledger.{Ledger, ending, hears, is_over, noted}
+use Rattle.shared_session.specs.Turn.{with_work, heard, late_by, effect, counted, is_bad}
+use Rattle.legal_trace.specs.Ledger.{hears, is_over, noted}
 use Rattle.legal_trace.specs.Owed.{owed, owed_to_try}
 use Rattle.legal_trace.specs.Story.{Story, answered, awaited_in, bytes_of, fires, is_no_error, is_open, is_told, last_of}
 use Rattle.legal_trace.specs.Book.{Book, after_event, book, entered, if_own, is_clock_of}
 use Rattle.legal_trace.specs.Legal.{NoneEnds}
 use Rattle.session_laws.proofs.Numbers.{IsIn, in_left, in_right, in_either, Rising, rising_in, rising_right, rising_tail}
-use Rattle.session_laws.proofs.Tied.{Inner, inner, no_link, link_in, owner_of, queue_ids, IsEntry, IsQueued, IsRequest, AreQueued, AreLate, TiedLines, TiedPermits, TiedStory, TiedWaits, Tied, has_ended, shown_wait}
+use Rattle.session_laws.proofs.Tied.{Inner, inner, no_link, link_in, owner_of, queue_ids, IsEntry, IsQueued, IsRequest, AreQueued, TiedLines, TiedPermits, TiedStory, TiedWaits, Tied, has_ended, shown_wait}
 use Rattle.session_laws.proofs.States.{Between, HasApplied}
 use Rattle.session_laws.proofs.Behind.{open_untold}
 use Rattle.session_laws.proofs.Names.{name_of_some, open_within, same_name}
-use Rattle.session_laws.proofs.InLine.{row_ids, chosen_in, kept_ids, kept_in, line_of, open_in_line, wanted_in}
+use Rattle.session_laws.proofs.InLine.{row_ids, chosen_in, kept_ids, line_of, open_in_line, wanted_in}
 use Rattle.session_laws.proofs.Owes.{answered_closed, in_time, line_unowed, lives, none_open, not_empty, request_story, row_in_line}
 use Rattle.session_laws.proofs.Permits.{IsHolding, permits_same}
 use Rattle.session_laws.proofs.Kept.{one_changed, packed_same, queued_same, tied_by, tries_same}
 use Rattle.session_laws.proofs.Closing.{told_closed}
 use Rattle.session_laws.proofs.Answer.{answer_apart, may_answer, owed_untold}
-use Rattle.session_laws.proofs.Settle.{Holds, book_of_more, holds_more, seen, trace_of_acts}
+use Rattle.session_laws.proofs.Settle.{book_of_more, holds_more, seen, trace_of_acts}
 use Rattle.session_laws.proofs.Announce.{announced_sound, first_book, holds_first, turn_of, turned}
-use Rattle.session_laws.proofs.Heard.{none_ends, silent_applied, silent_no_end}
+use Rattle.session_laws.proofs.Heard.{silent_applied}
 use Rattle.session_laws.proofs.Cancel.{IsSilent, left_fit, left_life, left_link, left_others, none_more, queued_apart, silenced_wanted, silent_core, silent_ends, silent_numbers, silent_others, still_dials, still_tied, was_ready, without_awaited, without_others, without_rises}
 
 -- a story whose timer fires

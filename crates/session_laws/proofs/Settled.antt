@@ -16,7 +16,6 @@ use Rattle.mux_conn.specs.Requests.{is_admitted_at, is_open_at, is_placed_at, is
 use Rattle.mux_conn.specs.Turn.{flushed, fresh_each_shown, fresh_wait, is_from, moved_each_shown, moved_wait, wait_shown, waits_shown}
 use Rattle.mux_conn.specs.declared.act.LinkAct.TheVariants as act
 use Rattle.mux_conn.specs.declared.connection.MultiplexedConnection.{MultiplexedConnection}
-use Rattle.mux_conn.specs.declared.request.Request.{Request}
 use Rattle.redis_error.specs.declared.redis_error.RedisError.{RedisError}
 use Rattle.mux_conn.specs.declared.life.Life.{Life}
 use Rattle.mux_conn.specs.declared.life.Life.TheVariants.{Dialing, Ended, Ready}
@@ -24,9 +23,8 @@ use Rattle.shared_session.specs.Turn.{Turning, moved_on, timed, with_work, work_
 use Rattle.shared_session.specs.declared.core_state.Core.{Core}
 use Rattle.legal_trace.specs.Book.{Book, book}
 use Rattle.legal_trace.specs.Legal.{IsMoved, IsSettled, IsStarted, IsWaiting, IsWritten, NoneEnds, WaitHolds}
-use Rattle.legal_trace.specs.Story.{Story, last_of}
+use Rattle.legal_trace.specs.Story.{last_of}
 use Rattle.session_laws.proofs.Ahead.{dialing_step, placed_open}
-use Rattle.session_laws.proofs.Entered.{shown_more, sound_more}
 use Rattle.session_laws.proofs.Going.{is_moved}
 use Rattle.session_laws.proofs.InLine.{awaited_in, first_is_least, kept_ids, wanted_in}
 use Rattle.session_laws.proofs.Moved.{IsReady, passed_moved}
@@ -38,7 +36,7 @@ use Rattle.session_laws.proofs.Settle.{book_of_more, seen, sound_act, trace_of_a
 use Rattle.session_laws.proofs.Start.{admitted_open}
 use Rattle.session_laws.proofs.States.{Between, HasApplied, IsFitIn, IsStill, trace_with}
 use Rattle.session_laws.proofs.Tied.{Inner, Sound, Tied, TiedLife, TiedWaits, has_ended, link_in, owner_of, queue_ids, relined, shown_wait, waiting_ids}
-use Rattle.session_laws.proofs.Waits.{IsEarly, IsPlacedOrKept, IsQuiet, WaitsSo, admitted_there, admitted_unplaced, awaited_placed, behind_places, dialing_admits, fresh_waits, located, moved_waits, passed_waits, permit_holds, place_holds, placed_there, room_holds, stale_waits, wait_may, wait_tied, waiting_apart, waiting_is, waits_at, wanted_placed, with_unshown}
+use Rattle.session_laws.proofs.Waits.{IsEarly, IsPlacedOrKept, IsQuiet, WaitsSo, admitted_there, admitted_unplaced, awaited_placed, behind_places, dialing_admits, fresh_waits, located, moved_waits, passed_waits, permit_holds, place_holds, placed_there, room_holds, stale_waits, wait_may, wait_tied, waiting_apart, waiting_is, waiting_there, waits_at, with_unshown}
 use Rattle.session_laws.proofs.Write.{HasWritten, IsOfferedIn, is_written, written_holds}
 
 -- the bytes of a turn are offered, and its waits are shown but for these: of those that were moved, and of those that came
@@ -145,9 +143,13 @@ place_shown before f w p ps fresh started link e a h =
     let o = (admitted_open w.conn.requests p a).0 in
     let i = admitted_there b t p h.sound.tied refl a in
     let queue = queue_ids (link_in w.conn.life).queue in
-    one_shown before f w p wait.Place (p ∷ ps) fresh started ps fresh h (ap has_ended e) o
-    (inr (inl (a, i)), h.sound.tied.waits.no_place p (inl refl) a, place_holds b t p link h.sound.tied q e a i, (λ m l j. behind_first p ps (length w.conn.requests) m h.sound.tied.waits.rising l j),
-    (λ m l v x. behind_places b t p m h.sound.tied refl (ap has_ended e) (in_right p queue (waiting_ids w.conn.admitted) i) v l))
+    one_shown before f w p wait.Place (p ∷ ps) fresh started ps fresh h (ap has_ended e) o (
+      inr (inl (a, i)),
+      h.sound.tied.waits.no_place p (inl refl) a,
+      place_holds b t p link h.sound.tied q e a i,
+      (λ m l j. behind_first p ps (length w.conn.requests) m h.sound.tied.waits.rising l j),
+      (λ m l v x. behind_places b t p m h.sound.tied refl (ap has_ended e) (in_right p queue (waiting_ids w.conn.admitted) i) v l),
+    )
     (moved_waits b t p wait.Place ps h.sound.tied refl (open_within w.conn.requests p o) (admitted_so b t p h.sound.tied a))
 
 -- who is in the queue shows that it waits for room
@@ -159,9 +161,13 @@ room_shown before f w p ps fresh started link e placed i h =
     let q = showing_quiet before f w (p ∷ ps) fresh started h in
     let o = placed_open w.conn.requests p placed in
     let queue = (link_in w.conn.life).queue in
-    one_shown before f w p wait.Room (p ∷ ps) fresh started ps fresh h (ap has_ended e) o
-    (inl i, h.sound.tied.waits.no_room p (inl refl) i, room_holds b t p link h.sound.tied q e (awaited_in p queue i), (λ m l j. behind_first p ps (length w.conn.requests) m h.sound.tied.waits.rising l j),
-    (λ m l v x. behind_places b t p m h.sound.tied refl (ap has_ended e) (in_left p (queue_ids queue) (waiting_ids w.conn.admitted) (awaited_in p queue i)) v l))
+    one_shown before f w p wait.Room (p ∷ ps) fresh started ps fresh h (ap has_ended e) o (
+      inl i,
+      h.sound.tied.waits.no_room p (inl refl) i,
+      room_holds b t p link h.sound.tied q e (awaited_in p queue i),
+      (λ m l j. behind_first p ps (length w.conn.requests) m h.sound.tied.waits.rising l j),
+      (λ m l v x. behind_places b t p m h.sound.tied refl (ap has_ended e) (in_left p (queue_ids queue) (waiting_ids w.conn.admitted) (awaited_in p queue i)) v l),
+    )
     (moved_waits b t p wait.Room ps h.sound.tied refl (open_within w.conn.requests p o) (placed_so t p placed))
 
 -- on a link that is up, one of those that were moved shows its wait, if it has one
@@ -264,21 +270,6 @@ early_kind t up = record {
     by_life Dialing f = inl refl
     by_life (Ready link) f = inr refl
     by_life (Ended x) f = cc
-
--- one that waits is among those
-waiting_there : (b : Book) (t : Inner) (p : ℕ) → Tied b t → t.pending ≡ [] → is_waiting_at t.requests p ≡ true → IsIn p (waiting_ids t.waiting)
-waiting_there b t p h none w =
-    let apart = waiting_apart t.requests p w in
-    elim (located b t p h none (waiting_open t.requests p w)) [
-      | inl i ↦ absurd (not_both (is_placed_at t.requests p) apart.1 (wanted_placed t.requests (link_in t.life).row p h.lines.entries i))
-      | inr at ↦ elim at as (λ _. IsIn p (waiting_ids t.waiting)) [
-        | inl i ↦ absurd (not_both (is_placed_at t.requests p) apart.1 (awaited_placed b.story t.requests (link_in t.life).queue p h.lines.queued i))
-        | inr k ↦ elim k as (λ _. IsIn p (waiting_ids t.waiting)) [
-          | inl a ↦ absurd (not_both (is_admitted_at t.requests p) apart.0 a.0)
-          | inr x ↦ x.1
-        ]
-      ]
-    ]
 
 -- its wait is true, and was not shown
 record EarlyHolds (b : Book) (t : Inner) (p : ℕ) (kind : WaitKind) : Type 0 where
