@@ -377,16 +377,18 @@ letting_up before f w q qs s wt some =
       waiting = refl;
       is_waiting = wt;
     } in
-    let k = let_in_going before f w w.conn.admitted h.started h.link q qs opening some h.going in
-    (record {
-      link = h.link;
-      life = h.life;
-      fit = h.fit;
-      held = h.held;
-      started = h.started;
-      going = k.going;
-      order = subst (Rising 0 (w.conn.moved ++ waiting_ids (q ∷ qs))) (sym (length_with w.conn.requests p progress.Waiting count)) h.order;
-    }, ap (λ n. is_let_in w.conn.limit ((book (trace_of_acts before f (let_in w q).acts)).story n)) (name_with w.conn.requests p progress.Waiting count p) ∙ k.is)
+    let k = let_in_going before f w w.conn.admitted h.started h.link q qs opening some h.going in (
+      record {
+        link = h.link;
+        life = h.life;
+        fit = h.fit;
+        held = h.held;
+        started = h.started;
+        going = k.going;
+        order = subst (Rising 0 (w.conn.moved ++ waiting_ids (q ∷ qs))) (sym (length_with w.conn.requests p progress.Waiting count)) h.order;
+      },
+      ap (λ n. is_let_in w.conn.limit ((book (trace_of_acts before f (let_in w q).acts)).story n)) (name_with w.conn.requests p progress.Waiting count p) ∙ k.is,
+    )
   where
     is_true : (x : Bool) → not x ≡ false → x ≡ true
     is_true true e = refl
