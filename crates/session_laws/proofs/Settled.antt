@@ -34,7 +34,7 @@ use Rattle.session_laws.proofs.Owes.{IsOpenRequest, lives, none_open, open_reque
 use Rattle.session_laws.proofs.Settle.{book_of_more, seen, sound_act, trace_of_acts}
 use Rattle.session_laws.proofs.States.{Between, HasApplied, IsFitIn, IsStill, trace_with}
 use Rattle.session_laws.proofs.Tied.{Inner, Sound, Tied, TiedLife, TiedWaits, has_ended, link_in, owner_of, queue_ids, relined, shown_wait, waiting_ids}
-use Rattle.session_laws.proofs.Waits.{IsEarly, IsPlacedOrKept, IsQuiet, WaitsSo, admitted_there, admitted_unplaced, awaited_placed, behind_places, dialing_admits, fresh_waits, located, moved_waits, passed_waits, permit_holds, place_holds, placed_there, room_holds, stale_waits, wait_may, wait_tied, waiting_apart, waiting_is, waits_at, wanted_placed, with_unshown}
+use Rattle.session_laws.proofs.Waits.{IsEarly, IsPlacedOrKept, IsQuiet, WaitsSo, admitted_there, admitted_unplaced, awaited_placed, behind_places, dialing_admits, fresh_waits, located, moved_waits, passed_waits, permit_holds, place_holds, placed_there, room_holds, stale_waits, wait_may, wait_tied, waiting_apart, waiting_is, waiting_there, waits_at, with_unshown}
 use Rattle.session_laws.proofs.Write.{HasWritten, IsOfferedIn, is_written, written_holds}
 
 -- the bytes of a turn are offered, and its waits are shown but for these: of those that were moved, and of those that came
@@ -268,21 +268,6 @@ early_kind t up = record {
     by_life Dialing f = inl refl
     by_life (Ready link) f = inr refl
     by_life (Ended x) f = cc
-
--- one that waits is among those
-waiting_there : (b : Book) (t : Inner) (p : ℕ) → Tied b t → t.pending ≡ [] → is_waiting_at t.requests p ≡ true → IsIn p (waiting_ids t.waiting)
-waiting_there b t p h none w =
-    let apart = waiting_apart t.requests p w in
-    elim (located b t p h none (waiting_open t.requests p w)) [
-      | inl i ↦ absurd (not_both (is_placed_at t.requests p) apart.1 (wanted_placed t.requests (link_in t.life).row p h.lines.entries i))
-      | inr at ↦ elim at as (λ _. IsIn p (waiting_ids t.waiting)) [
-        | inl i ↦ absurd (not_both (is_placed_at t.requests p) apart.1 (awaited_placed b.story t.requests (link_in t.life).queue p h.lines.queued i))
-        | inr k ↦ elim k as (λ _. IsIn p (waiting_ids t.waiting)) [
-          | inl a ↦ absurd (not_both (is_admitted_at t.requests p) apart.0 a.0)
-          | inr x ↦ x.1
-        ]
-      ]
-    ]
 
 -- its wait is true, and was not shown
 record EarlyHolds (b : Book) (t : Inner) (p : ℕ) (kind : WaitKind) : Type 0 where

@@ -224,7 +224,7 @@ untried_there b t p h none up o untried =
     ]
 
 -- a message of the row that is wanted has its place
-pub wanted_placed : (requests : List Request) (row : List Entry) (p : ℕ) → AllByRecursion (IsEntry requests) row → IsIn p (wanted row) → is_placed_at requests p ≡ true
+wanted_placed : (requests : List Request) (row : List Entry) (p : ℕ) → AllByRecursion (IsEntry requests) row → IsIn p (wanted row) → is_placed_at requests p ≡ true
 wanted_placed requests [] p all i = absurd i
 wanted_placed requests (e ∷ es) p all i = elim (in_either p (if e.awaited then e.id ∷ [] else []) (wanted es) i) [
   | inl j ↦ subst (λ n. is_placed_at requests n ≡ true) (chosen_in e.awaited p e.id j) (all.0.placed_at (own e.awaited j))
@@ -375,6 +375,21 @@ names_differ b t p q h l m other same = other (same_name t.table t.requests p q 
 shown_then : (b : Book) (t : Inner) (p q : ℕ) (kind : WaitKind) → Tied b t → p < length t.requests → q < length t.requests → p ≢ q → shown_wait (waits_at (name_at t.requests p) kind b.story) t.requests q ≡ shown_wait b.story t.requests q
 shown_then b t p q kind h l m other = shown_other b.story t.requests p q kind (names_differ b t p q h l m other)
 
+-- who waits for the connection, or for a permit, is among those
+pub waiting_there : (b : Book) (t : Inner) (p : ℕ) → Tied b t → t.pending ≡ [] → is_waiting_at t.requests p ≡ true → IsIn p (waiting_ids t.waiting)
+waiting_there b t p h none w =
+    let apart = waiting_apart t.requests p w in
+    elim (located b t p h none (waiting_open t.requests p w)) [
+      | inl i ↦ absurd (not_both (is_placed_at t.requests p) apart.1 (wanted_placed t.requests (link_in t.life).row p h.lines.entries i))
+      | inr at ↦ elim at as (λ _. IsIn p (waiting_ids t.waiting)) [
+        | inl i ↦ absurd (not_both (is_placed_at t.requests p) apart.1 (awaited_placed b.story t.requests (link_in t.life).queue p h.lines.queued i))
+        | inr k ↦ elim k as (λ _. IsIn p (waiting_ids t.waiting)) [
+          | inl a ↦ absurd (not_both (is_admitted_at t.requests p) apart.0 a.0)
+          | inr x ↦ x.1
+        ]
+      ]
+    ]
+
 -- who waits for the connection, or for a permit, stands behind who has a place or waits for one
 pub behind_places : (b : Book) (t : Inner) (p m : ℕ) → Tied b t → t.pending ≡ [] → has_ended t.life ≡ false → IsIn p (queue_ids (link_in t.life).queue ++ waiting_ids t.admitted) → is_waiting_at t.requests m ≡ true → m < p → ⊥
 behind_places b t p m h none up i w less =
@@ -383,17 +398,7 @@ behind_places b t p m h none up i w less =
     let last = waiting_ids t.waiting in
     let line = rising_right 0 t.started (queue ++ (admitted ++ last)) (length t.requests) h.lines.line in
     let all = subst (λ ns. Rising 0 ns (length t.requests)) (sym (append_assoc queue admitted last)) line in
-    let apart = waiting_apart t.requests m w in
-    let there : IsIn m last = elim (located b t m h none (waiting_open t.requests m w)) [
-      | inl j ↦ absurd (not_both (is_placed_at t.requests m) apart.1 (wanted_placed t.requests (link_in t.life).row m h.lines.entries j))
-      | inr k ↦ elim k as (λ _. IsIn m last) [
-        | inl j ↦ absurd (not_both (is_placed_at t.requests m) apart.1 (awaited_placed b.story t.requests (link_in t.life).queue m h.lines.queued j))
-        | inr k ↦ elim k as (λ _. IsIn m last) [
-          | inl a ↦ absurd (not_both (is_admitted_at t.requests m) apart.0 a.0)
-          | inr x ↦ x.1
-        ]
-      ]
-    ] in
+    let there = waiting_there b t m h none w in
     let k = rising_apart 0 (queue ++ admitted) last (length t.requests) p m all i there in
     omega arith
 
