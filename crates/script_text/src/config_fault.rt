@@ -1,11 +1,14 @@
 ghost use Rattle.std.specs.Prelude.{◌≡◌, not, is_some, is_none, codes};
 ghost use Rattle.std.specs.List.{list_all};
 ghost use Rattle.script_text.specs.ConfigLine.{keys, is_setting, values, only, gives};
-ghost use Rattle.script_text.specs.ConfigLine.{allows_connect, single, config_of};
+ghost use Rattle.script_text.specs.ConfigLine.{time_limit, allows, allows_queue, allows_optional};
+ghost use Rattle.script_text.specs.ConfigLine.{gives_fixed, are_allowed, single, config_of};
 ghost use Rattle.script_text.specs.Faults.{FindsFault, values_reason};
+ghost use Rattle.script_text.specs.Numbers.{number, max_u32, max_u64};
 
 use crate::config_line::{
-    allows_connect, gives_only, has_value, is_known_setting, only_value, value,
+    allows_boundary, allows_buffer, allows_connect, gives_only, has_value, is_known_setting,
+    only_value, value,
 };
 use crate::fault::Fault;
 use crate::line::Line;
@@ -82,13 +85,76 @@ fn only_fault(words: &[Bytes], key: &[u8], value: &[u8], reason: ConfigReason) -
 
 /// What is wrong with how long the connect may take.
 fn connect_fault(words: &[Bytes]) -> Option<Fault>
-    ensures { is_some result ≡ not (allows_connect (values (codes "connect") words.now)) }
+    ensures { is_some result ≡ not (allows time_limit (values (codes "connect") words.now)) }
 {
     if allows_connect(words) {
         return None;
     }
     let wrong = Reason::Config(ConfigReason::Connect);
     Some(values_fault(words, b"connect", wrong))
+}
+
+/// What is wrong with the size of the queue.
+fn buffer_fault(words: &[Bytes]) -> Option<Fault>
+    ensures { is_some result ≡ not (allows (number max_u32) (values (codes "buffer") words.now)) }
+{
+    if allows_buffer(words) {
+        return None;
+    }
+    let wrong = Reason::Config(ConfigReason::Buffer);
+    Some(values_fault(words, b"buffer", wrong))
+}
+
+/// What is wrong with the boundary.
+fn boundary_fault(words: &[Bytes]) -> Option<Fault>
+    ensures { is_some result ≡ not (allows (number max_u64) (values (codes "boundary") words.now)) }
+{
+    if allows_boundary(words) {
+        return None;
+    }
+    let wrong = Reason::Config(ConfigReason::Boundary);
+    Some(values_fault(words, b"boundary", wrong))
+}
+
+/// What is wrong with what is given of the queue.
+fn queue_fault(words: &[Bytes]) -> Option<Fault>
+    ensures { is_some result ≡ not (allows_queue words.now) }
+{
+    if let Some(fault) = buffer_fault(words) {
+        return Some(fault);
+    }
+    boundary_fault(words)
+}
+
+/// What is wrong with a setting that may be left out.
+fn optional_fault(words: &[Bytes]) -> Option<Fault>
+    ensures { is_some result ≡ not (allows_optional words.now) }
+{
+    if let Some(fault) = connect_fault(words) {
+        return Some(fault);
+    }
+    queue_fault(words)
+}
+
+/// What is wrong with a setting that has one value alone.
+fn fixed_fault(words: &[Bytes]) -> Option<Fault>
+    ensures { is_some result ≡ not (gives_fixed words.now) }
+{
+    if let Some(fault) = only_fault(words, b"response", b"none", ConfigReason::OnlyNone) {
+        return Some(fault);
+    }
+    only_fault(words, b"lib", b"off", ConfigReason::OnlyOff)
+}
+
+/// What is wrong with a setting other than the URL.
+#[tactic(auto, using(crate::proofs::Values::first_fails, crate::proofs::Values::second_tells))]
+fn allowed_fault(words: &[Bytes]) -> Option<Fault>
+    ensures { is_some result ≡ not (are_allowed words.now) }
+{
+    if let Some(fault) = optional_fault(words) {
+        return Some(fault);
+    }
+    fixed_fault(words)
 }
 
 /// What is wrong with the URL: that it doesn't stand just once. Whether it is an address is no matter of the script.
@@ -110,13 +176,7 @@ fn single_fault(words: &[Bytes]) -> Option<Fault>
     if let Some(fault) = setting_fault(words) {
         return Some(fault);
     }
-    if let Some(fault) = connect_fault(words) {
-        return Some(fault);
-    }
-    if let Some(fault) = only_fault(words, b"response", b"none", ConfigReason::OnlyNone) {
-        return Some(fault);
-    }
-    if let Some(fault) = only_fault(words, b"lib", b"off", ConfigReason::OnlyOff) {
+    if let Some(fault) = allowed_fault(words) {
         return Some(fault);
     }
     url_fault(words)

@@ -52,6 +52,10 @@ pub enum ConfigReason {
     NoKey,
     /// How long the connect may take: neither a number nor `none`.
     Connect,
+    /// The size of the queue: no number of 32 bits.
+    Buffer,
+    /// The boundary: no number of 64 bits.
+    Boundary,
     /// A value other than `none`.
     OnlyNone,
     /// A value other than `off`.
@@ -136,15 +140,25 @@ impl ConfigReason {
     fn sentence(self) -> &'static [u8] {
         match self {
             ConfigReason::Name => {
-                b"the first line is config single url=URL response=none lib=off, with connect=MS or connect=none where wanted"
+                b"the first line is config single url=URL response=none lib=off, with connect=MS or connect=none, buffer=COUNT and boundary=BYTES where wanted"
             }
             ConfigReason::Kind => b"only single is supported yet",
-            ConfigReason::Setting => b"a setting is KEY=VALUE, with url, connect, response or lib",
-            ConfigReason::UnknownKey => b"the keys are url, connect, response and lib",
+            ConfigReason::Setting => {
+                b"a setting is KEY=VALUE, with url, connect, response, buffer, boundary or lib"
+            }
+            ConfigReason::UnknownKey => {
+                b"the keys are url, connect, response, buffer, boundary and lib"
+            }
             ConfigReason::KeyTwice => b"each key stands once",
             ConfigReason::NoKey => b"each of url, response and lib stands once",
             ConfigReason::Connect => {
                 b"connect is a number of milliseconds, at most 18446744073709551615, or none"
+            }
+            ConfigReason::Buffer => {
+                b"buffer is a number of messages, digits alone without a leading zero, at most 4294967295"
+            }
+            ConfigReason::Boundary => {
+                b"boundary is a number of bytes, digits alone without a leading zero, at most 18446744073709551615"
             }
             ConfigReason::OnlyNone => b"only none is supported yet",
             ConfigReason::OnlyOff => b"only off is supported yet",

@@ -118,6 +118,43 @@ const FIRST_LINES: [(&[u8], u32); 28] = [
     (b"config single url= response=none lib=off\nend\n", 0),
 ];
 
+/// Settings, each line with the line at fault, or 0.
+const QUEUE_LINES: [(&[u8], u32); 15] = [
+    (b"url=a response=none lib=off buffer=1 boundary=0", 0),
+    (
+        b"buffer=0 boundary=18446744073709551615 url=a response=none lib=off",
+        0,
+    ),
+    (b"url=a response=none lib=off buffer=4294967295", 0),
+    (b"url=a response=none lib=off buffer=4294967296", 1),
+    (b"url=a response=none lib=off buffer=01", 1),
+    (b"url=a response=none lib=off buffer=+1", 1),
+    (b"url=a response=none lib=off buffer=none", 1),
+    (b"url=a response=none lib=off buffer=", 1),
+    (b"url=a response=none lib=off buffer=1 buffer=1", 1),
+    (
+        b"url=a response=none lib=off boundary=18446744073709551616",
+        1,
+    ),
+    (b"url=a response=none lib=off boundary=00", 1),
+    (b"url=a response=none lib=off boundary=-1", 1),
+    (b"url=a response=none lib=off boundary=1 boundary=1", 1),
+    (b"url=a response=none lib=off boundary", 1),
+    (b"url=a lib=off buffer=1 boundary=1", 1),
+];
+
+#[test]
+fn queue_settings(rt: HostRuntime) -> Result<(), Fail> {
+    for (settings, line) in QUEUE_LINES {
+        let mut text = Bytes::from_slice(rt.alloc(), b"config single ")?;
+        text.extend_from_slice(settings)?;
+        text.extend_from_slice(b"\nend\n")?;
+        let found = fault(rt.alloc(), text.as_slice())?;
+        assert_eq!(rt; found, line);
+    }
+    Ok(())
+}
+
 #[test]
 fn first_lines(rt: HostRuntime) -> Result<(), Fail> {
     for (text, line) in FIRST_LINES {
@@ -275,6 +312,36 @@ fn settings_as_given(rt: HostRuntime) -> Result<(), Fail> {
         let config = read_script(rt.alloc(), text.as_slice())?.config;
         assert!(rt; config.url.as_slice() == url);
         assert!(rt; config.connect == connect);
+    }
+    Ok(())
+}
+
+/// Settings, each line with the size of the queue and with the boundary.
+const QUEUES: [(&[u8], Option<u32>, Option<u64>); 5] = [
+    (b"url=a response=none lib=off", None, None),
+    (b"url=a response=none lib=off buffer=0", Some(0), None),
+    (b"boundary=0 url=a response=none lib=off", None, Some(0)),
+    (
+        b"buffer=4294967295 url=a response=none boundary=18446744073709551615 lib=off",
+        Some(u32::MAX),
+        Some(u64::MAX),
+    ),
+    (
+        b"boundary=30 response=none url=a buffer=7 connect=5 lib=off",
+        Some(7),
+        Some(30),
+    ),
+];
+
+#[test]
+fn queues_as_given(rt: HostRuntime) -> Result<(), Fail> {
+    for (settings, buffer, boundary) in QUEUES {
+        let mut text = Bytes::from_slice(rt.alloc(), b"config single ")?;
+        text.extend_from_slice(settings)?;
+        text.extend_from_slice(b"\nend\n")?;
+        let config = read_script(rt.alloc(), text.as_slice())?.config;
+        assert!(rt; config.buffer == buffer);
+        assert!(rt; config.boundary == boundary);
     }
     Ok(())
 }

@@ -1,5 +1,5 @@
 -- The configuration, the word and the events are read back from the words of their causes.
-use Rattle.std.proofs.Common.{◌≡◌, ℕ, true, false, ◌&&◌, ◌<◌, ◌^◌, ◌==◌, List, [], ◌∷◌, ◌++◌, All, Option, Some, None, map, option_map, option_and_then, decimal, refl, sym, ap, ◌∙◌, if◌then◌else◌, arith}
+use Rattle.std.proofs.Common.{◌≡◌, ℕ, Bool, true, false, ◌&&◌, ◌<◌, ◌^◌, ◌==◌, List, [], ◌∷◌, ◌++◌, All, Option, Some, None, map, option_map, option_and_then, decimal, refl, sym, ap, ◌∙◌, if◌then◌else◌, arith}
 use Rattle.std.proofs.lemmas.List.Elements.{All-head, All-tail}
 use Rattle.std.specs.Prelude.{is_some}
 use Rattle.driver_model.specs.declared.action.Cause.TheVariants as cause
@@ -20,7 +20,7 @@ use Rattle.script_text.specs.Words.{LineWords, all_of}
 use Rattle.legal_trace.specs.Legal.{event_causes}
 use Rattle.trace_text.specs.Show.{url, draw_words, config_words, first_of, behind_first, submission_words, submission_more, event_words, event_more}
 use Rattle.containers.proofs.Choices.{chosen, eq_from}
-use Rattle.text_laws.specs.Fits.{FitsSubmission, FitsKind, FitsEvent, FitsLimit, FitsConfig, FitsHistory, HasForm, HaveForms}
+use Rattle.text_laws.specs.Fits.{FitsSubmission, FitsKind, FitsEvent, FitsLimit, FitsNumber, FitsConfig, FitsHistory, HasForm, HaveForms}
 use Rattle.text_laws.specs.History.{drawn, opening_in, drawing, event_in, script_with, history_in}
 use Rattle.text_laws.proofs.Bytes.{number_back, decimal_is_no_none}
 use Rattle.text_laws.proofs.Turns.{cause_line}
@@ -121,19 +121,81 @@ time_back : (ms : ℕ) → ms < 2 ^ 64 → time_limit (decimal ms) ≡ Some (Som
 time_back ms small =
     ap (λ b. if b then Some None else option_map Some (number max_u64 (decimal ms))) (decimal_is_no_none ms) ∙ ap (option_map Some) (long_number ms small)
 
+-- whether a setting is allowed, and what is read of it
+record Setting (A : Type 0) : Type 0 where
+  allowed : Bool
+  read : Option A
+
+-- what it is where it isn't there, and where its value is read so
+abbrev left_out : {A : Type 0} → Setting A
+left_out = record { allowed = true; read = None }
+
+abbrev read_as : {A : Type 0} → Option A → Setting A
+read_as found = record { allowed = is_some found; read = found }
+
+-- the setting of the time, and that of a number
+abbrev limit_setting : Option (Option ℕ) → Setting (Option ℕ)
+limit_setting None = left_out
+limit_setting (Some None) = read_as (Some None)
+limit_setting (Some (Some ms)) = read_as (time_limit (decimal ms))
+
+abbrev number_setting : ℕ → Option ℕ → Setting ℕ
+number_setting most None = left_out
+number_setting most (Some n) = read_as (number most (decimal n))
+
+-- as it was given
+abbrev as_given : {A : Type 0} → Option A → Setting A
+as_given found = record { allowed = true; read = found }
+
+limit_back : (connect : Option (Option ℕ)) → FitsLimit connect → limit_setting connect ≡ as_given connect
+limit_back None fits = refl
+limit_back (Some None) fits = refl
+limit_back (Some (Some ms)) fits = ap read_as (time_back ms fits)
+
+size_back : (buffer : Option ℕ) → FitsNumber (2 ^ 32) buffer → number_setting max_u32 buffer ≡ as_given buffer
+size_back None fits = refl
+size_back (Some size) fits = ap read_as (small_number size fits)
+
+boundary_back : (boundary : Option ℕ) → FitsNumber (2 ^ 64) boundary → number_setting max_u64 boundary ≡ as_given boundary
+boundary_back None fits = refl
+boundary_back (Some bytes) fits = ap read_as (long_number bytes fits)
+
+-- a configuration by what is read of its settings
+abbrev config_by : List ℕ → Setting (Option ℕ) → Setting ℕ → Setting ℕ → Option Config
+config_by address connect buffer boundary =
+    if connect.allowed && (buffer.allowed && boundary.allowed) && (true && true)
+    then Some (record { url = address; connect = connect.read; buffer = buffer.read; boundary = boundary.read }) else None
+
 -- the words of a configuration
-abbrev config_line : List ℕ → Option (Option ℕ) → LineWords
-config_line address connect = record { words = config_words (record { url = address; connect = connect }); more = [] }
+abbrev config_line : List ℕ → Option (Option ℕ) → Option ℕ → Option ℕ → LineWords
+config_line address connect buffer boundary = record { words = config_words (record { url = address; connect = connect; buffer = buffer; boundary = boundary }); more = [] }
 
-settings_back : (address : List ℕ) (connect : Option (Option ℕ)) → FitsLimit connect → config_of (config_line address connect) ≡ Some (record { url = address; connect = connect })
+abbrev IsReadBy : List ℕ → Option (Option ℕ) → Option ℕ → Option ℕ → Type 0
+IsReadBy address connect buffer boundary =
+    config_of (config_line address connect buffer boundary) ≡ config_by address (limit_setting connect) (number_setting max_u32 buffer) (number_setting max_u64 boundary)
+
+-- the settings are found among the words
+settings_found : (address : List ℕ) (connect : Option (Option ℕ)) (buffer boundary : Option ℕ) → IsReadBy address connect buffer boundary
 unfolding url config_of
-settings_back address None fits = refl
-settings_back address (Some None) fits = refl
-settings_back address (Some (Some ms)) fits =
-    ap (λ (limit : Option (Option ℕ)). if is_some limit && true && true then Some (record { url = address; connect = limit }) else None) (time_back ms fits)
+settings_found address None None None = refl
+settings_found address None None (Some bytes) = refl
+settings_found address None (Some size) None = refl
+settings_found address None (Some size) (Some bytes) = refl
+settings_found address (Some None) None None = refl
+settings_found address (Some None) None (Some bytes) = refl
+settings_found address (Some None) (Some size) None = refl
+settings_found address (Some None) (Some size) (Some bytes) = refl
+settings_found address (Some (Some ms)) None None = refl
+settings_found address (Some (Some ms)) None (Some bytes) = refl
+settings_found address (Some (Some ms)) (Some size) None = refl
+settings_found address (Some (Some ms)) (Some size) (Some bytes) = refl
 
-config_back : (config : Config) → FitsConfig config → config_of (config_line config.url config.connect) ≡ Some config
-config_back config fits = settings_back config.url config.connect fits.connect
+config_back : (config : Config) → FitsConfig config → config_of (config_line config.url config.connect config.buffer config.boundary) ≡ Some config
+config_back config fits =
+    settings_found config.url config.connect config.buffer config.boundary
+    ∙ ap (λ s. config_by config.url s (number_setting max_u32 config.buffer) (number_setting max_u64 config.boundary)) (limit_back config.connect fits.connect)
+    ∙ ap (λ s. config_by config.url (as_given config.connect) s (number_setting max_u64 config.boundary)) (size_back config.buffer fits.buffer)
+    ∙ ap (λ s. config_by config.url (as_given config.connect) (as_given config.buffer) s) (boundary_back config.boundary fits.boundary)
 
 config_undrawn : (config : Config) → IsUndrawn (config_words config)
 config_undrawn config = refl

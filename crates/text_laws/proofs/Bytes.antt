@@ -20,7 +20,7 @@ use Rattle.redis_error.specs.declared.fault_kind.FaultKind.{FaultKind}
 use Rattle.redis_error.specs.declared.fault_kind.FaultKind.TheVariants as fault
 use Rattle.redis_error.specs.Names.{fault_name}
 use Rattle.script_text.specs.Numbers.{is_decimal, number}
-use Rattle.trace_text.specs.Show.{url, connect_words, plain_words, draw_words, config_words, first_of, behind_first, submission_words, submission_more, event_words, event_more, cause_words, cause_more}
+use Rattle.trace_text.specs.Show.{url, connect_words, buffer_words, boundary_words, queue_words, later_words, draw_words, config_words, first_of, behind_first, submission_words, submission_more, event_words, event_more, cause_words, cause_more}
 use Rattle.containers.proofs.Choices.{chosen, lt_from, not_lt_from, le_test, ne_test}
 use Rattle.text_laws.specs.Fits.{IsByte, AreBytes, FitsSubmission, FitsKind, FitsEvent, FitsConfig}
 
@@ -175,15 +175,30 @@ connect_bytes (Some None) = word_and (codes "connect=none") [] (looked (codes "c
 connect_bytes (Some (Some ms)) =
     word_and (codes "connect=" ++ decimal ms) [] (All-append IsByte (codes "connect=") (decimal ms) (looked (codes "connect=") refl) (decimal_bytes ms)) no_words
 
-plain_bytes : All AreBytes plain_words
-plain_bytes = word_and (codes "response=none") (codes "lib=off" ∷ []) (looked (codes "response=none") refl) (word_and (codes "lib=off") [] (looked (codes "lib=off") refl) no_words)
+buffer_bytes : (buffer : Option ℕ) → All AreBytes (buffer_words buffer)
+buffer_bytes None = no_words
+buffer_bytes (Some size) =
+    word_and (codes "buffer=" ++ decimal size) [] (All-append IsByte (codes "buffer=") (decimal size) (looked (codes "buffer=") refl) (decimal_bytes size)) no_words
+
+boundary_bytes : (boundary : Option ℕ) → All AreBytes (boundary_words boundary)
+boundary_bytes None = no_words
+boundary_bytes (Some bytes) =
+    word_and (codes "boundary=" ++ decimal bytes) [] (All-append IsByte (codes "boundary=") (decimal bytes) (looked (codes "boundary=") refl) (decimal_bytes bytes)) no_words
+
+queue_bytes : (config : Config) → All AreBytes (queue_words config)
+queue_bytes config = All-append AreBytes (buffer_words config.buffer) (boundary_words config.boundary) (buffer_bytes config.buffer) (boundary_bytes config.boundary)
+
+later_bytes : (config : Config) → All AreBytes (later_words config)
+later_bytes config =
+    word_and (codes "response=none") (queue_words config ++ codes "lib=off" ∷ []) (looked (codes "response=none") refl)
+    (All-append AreBytes (queue_words config) (codes "lib=off" ∷ []) (queue_bytes config) (word_and (codes "lib=off") [] (looked (codes "lib=off") refl) no_words))
 
 config_bytes : (config : Config) → FitsConfig config → All AreBytes (config_words config)
 config_bytes config fits =
-    let settings = connect_words config.connect ++ plain_words in
+    let settings = connect_words config.connect ++ later_words config in
     word_and (codes "config") (codes "single" ∷ url config ∷ settings) (looked (codes "config") refl)
     (word_and (codes "single") (url config ∷ settings) (looked (codes "single") refl)
-    (word_and (url config) settings (url_bytes config fits) (All-append AreBytes (connect_words config.connect) plain_words (connect_bytes config.connect) plain_bytes)))
+    (word_and (url config) settings (url_bytes config fits) (All-append AreBytes (connect_words config.connect) (later_words config) (connect_bytes config.connect) (later_bytes config))))
 
 -- a cause that its type holds
 abbrev pub FitsCause : Cause → Type 0

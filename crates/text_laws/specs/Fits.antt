@@ -54,10 +54,17 @@ FitsLimit None = Unit {0}
 FitsLimit (Some None) = Unit {0}
 FitsLimit (Some (Some ms)) = ms < 2 ^ 64
 
+-- a number that is less than this, where there is one
+abbrev pub FitsNumber : ℕ → Option ℕ → Type 0
+FitsNumber bound None = Unit {0}
+FitsNumber bound (Some n) = n < bound
+
 -- a configuration that its type holds
 pub record FitsConfig (config : Config) : Type 0 where
   pub url : AreBytes config.url
   pub connect : FitsLimit config.connect
+  pub buffer : FitsNumber (2 ^ 32) config.buffer
+  pub boundary : FitsNumber (2 ^ 64) config.boundary
 
 -- a history that the types hold
 pub record FitsHistory (c : Config) (w : ℕ) (es : List Event) : Type 0 where

@@ -1,8 +1,8 @@
 ghost use Rattle.std.specs.Prelude.{◌≡◌, ◌++◌, ◌∷◌, [], OnOk, decimal};
 ghost use Rattle.redis_error.specs.Names.{fault_name};
 ghost use Rattle.trace_text.specs.Words.{following, separated};
-ghost use Rattle.trace_text.specs.Show.{behind_first, config_words, connect_words, first_of};
-ghost use Rattle.trace_text.specs.Show.{boundary_words, buffer_words, later_words, queue_words, url};
+ghost use Rattle.trace_text.specs.Show.{behind_first, config_words, connect_words, first_of, url};
+ghost use Rattle.trace_text.specs.Show.{boundary_words, buffer_words, later_words, queue_words};
 ghost use Rattle.trace_text.specs.Show.{cause_more, cause_words, event_more, event_words};
 ghost use Rattle.trace_text.specs.Show.{submission_more, submission_words};
 ghost use Rattle.trace_text.specs.Writer.{Added, AddedWords, AddedParts};

@@ -1,6 +1,7 @@
 ghost use Rattle.std.specs.Prelude.{◌≡◌, ◌++◌, ◌∷◌, [], OnOk};
 ghost use Rattle.trace_text.specs.Words.{following};
-ghost use Rattle.trace_text.specs.Show.{address, draw_words, owner_word, submission_word, wait_word};
+ghost use Rattle.trace_text.specs.Show.{address, draw_words, owner_word, submission_word};
+ghost use Rattle.trace_text.specs.Show.{wait_word};
 ghost use Rattle.trace_text.specs.Writer.{AddedWords};
 
 use crate::writer::Writer;
