@@ -99,7 +99,7 @@ fn opened(alloc: Global, config: &Config) -> Result<Core, AllocError>
         table: Seq::new(alloc),
         single: Single {
             link: FIRST_LINK,
-            connection: MultiplexedConnection::new(alloc),
+            connection: MultiplexedConnection::new(alloc, config.buffer_size(), config.boundary()),
         },
     })
 }

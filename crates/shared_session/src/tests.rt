@@ -1,7 +1,7 @@
 use crate::{MakeError, ReplayError, Session, StepError};
 use containers::{Bytes, Names};
 use driver_model::{
-    Action, Commands, Config, Event, EventKind, Outcome, Owner, Purpose, Submission,
+    Action, Commands, Config, Event, EventKind, Outcome, Owner, Purpose, Submission, WaitKind,
 };
 use redis_error::{ConfigName, FaultKind, RedisError};
 use resp_value::{Aborts, Value};
@@ -15,6 +15,8 @@ enum Told {
     EmptyCommand,
     /// A command whose reply nobody awaits.
     NoReply,
+    /// A pipeline of commands of one word each.
+    Pipe(&'static [&'static [u8]]),
     /// A transaction of commands of one word each.
     Multi(&'static [&'static [u8]]),
     /// A pipeline of one command: how many replies it skips, and how many it keeps.
@@ -36,8 +38,17 @@ fn config_of(
     url: &[u8],
     connect: Option<Option<u64>>,
 ) -> Result<Config, AllocError> {
-    let url = Bytes::from_slice(alloc, url)?;
-    Ok(Config { url, connect })
+    let mut config = Config::new(Bytes::from_slice(alloc, url)?);
+    config.connect = connect;
+    Ok(config)
+}
+
+/// A connect of any length, a queue of this size, and this boundary.
+fn queue_of(alloc: Global, buffer: u32, boundary: u64) -> Result<Config, AllocError> {
+    let mut config = config_of(alloc, b"redis://h", UNBOUNDED)?;
+    config.buffer = Some(buffer);
+    config.boundary = Some(boundary);
+    Ok(config)
 }
 
 /// A connect of any length.
@@ -57,12 +68,12 @@ fn one_word(alloc: Global, word: &[u8]) -> Result<Names, AllocError> {
     Ok(args)
 }
 
-fn multi(alloc: Global, words: &[&[u8]]) -> Result<Submission, AllocError> {
+fn one_word_each(alloc: Global, words: &[&[u8]]) -> Result<Commands, AllocError> {
     let mut commands = Commands::new(alloc);
     for word in words {
         commands.push(one_word(alloc, word)?)?;
     }
-    Ok(Submission::Multi { commands })
+    Ok(commands)
 }
 
 fn packed(alloc: Global, offset: u32, count: u32) -> Result<Submission, AllocError> {
@@ -83,8 +94,14 @@ fn kind(alloc: Global, told: &Told) -> Result<EventKind, AllocError> {
             let submission = Submission::NoReply { args };
             Ok(EventKind::Submit { submission })
         }
+        Told::Pipe(words) => {
+            let commands = one_word_each(alloc, words)?;
+            let submission = Submission::Pipe { commands };
+            Ok(EventKind::Submit { submission })
+        }
         Told::Multi(words) => {
-            let submission = multi(alloc, words)?;
+            let commands = one_word_each(alloc, words)?;
+            let submission = Submission::Multi { commands };
             Ok(EventKind::Submit { submission })
         }
         Told::Packed(offset, count) => {
@@ -178,6 +195,14 @@ fn number_of(owner: &Owner) -> u32 {
     }
 }
 
+fn wait_word(wait: WaitKind) -> &'static str {
+    match wait {
+        WaitKind::Connect => "",
+        WaitKind::Place => " place",
+        WaitKind::Room => " room",
+    }
+}
+
 fn write(text: &Bytes, log: &mut Vec<u8>) -> Result<(), AllocError> {
     log.extend_from_slice(b"write ".as_slice())?;
     log.extend_from_slice(text.as_slice())?;
@@ -217,7 +242,9 @@ fn show(alloc: Global, action: &Action, log: &mut Vec<u8>) -> Result<(), AllocEr
         }
         Action::Close { link } => format!(in alloc; "close {link}; ")?,
         Action::Write { link: _, bytes } => return write(bytes, log),
-        Action::Wait { owner, wait: _ } => format!(in alloc; "wait {}; ", number_of(owner))?,
+        Action::Wait { owner, wait } => {
+            format!(in alloc; "wait {}{}; ", number_of(owner), wait_word(*wait))?
+        }
         Action::Start {
             link: _,
             message,
@@ -337,11 +364,21 @@ fn replay(
     list: &[Told],
     actions: &mut Vec<Action>,
 ) -> Result<Option<u32>, AllocError> {
+    let config = config_of(alloc, b"redis://h", connect)?;
+    replay_with(alloc, config, list, actions)
+}
+
+/// The same with this configuration.
+fn replay_with(
+    alloc: Global,
+    config: Config,
+    list: &[Told],
+    actions: &mut Vec<Action>,
+) -> Result<Option<u32>, AllocError> {
     let mut events = Vec::new(alloc);
     for told in list {
         events.push(event(alloc, told)?)?;
     }
-    let config = config_of(alloc, b"redis://h", connect)?;
     match Session::replay(alloc, config, 0, events.as_slice(), actions) {
         Ok(()) => Ok(None),
         Err(ReplayError::BadEvent { index }) => Ok(Some(index)),
@@ -392,6 +429,23 @@ fn compare_within(
 ) -> Result<(), AllocError> {
     let mut actions = Vec::new(alloc);
     assert_eq!(rt; replay(alloc, connect, list, &mut actions)?, None);
+    let log = show_all(alloc, actions.as_slice())?;
+    assert_eq!(rt; log.as_slice(), wanted.as_bytes());
+    Ok(())
+}
+
+/// The same, where it may take any time, and the queue has this size and this boundary.
+fn compare_queue(
+    rt: &impl Abort,
+    alloc: Global,
+    buffer: u32,
+    boundary: u64,
+    list: &[Told],
+    wanted: &str,
+) -> Result<(), AllocError> {
+    let mut actions = Vec::new(alloc);
+    let config = queue_of(alloc, buffer, boundary)?;
+    assert_eq!(rt; replay_with(alloc, config, list, &mut actions)?, None);
     let log = show_all(alloc, actions.as_slice())?;
     assert_eq!(rt; log.as_slice(), wanted.as_bytes());
     Ok(())
@@ -475,10 +529,46 @@ write *1\r\n$4\r\nPING\r\n; turn 3; close 0; 0 closed; ";
     compare(&rt, alloc, list.as_slice(), wanted)
 }
 
-/// What is refused of a configuration.
+#[test]
+fn messages_wait_for_room(rt: HostRuntime) -> Result<(), AllocError> {
+    let list = [
+        Told::Connected(0),
+        Told::Get("a"),
+        Told::Pipe(&[b"PING", b"PING"]),
+        Told::Get("b"),
+        Told::ReadFault(0, FaultKind::Reset),
+    ];
+    let wanted = "turn 0; connect 0 6379; turn 1; created; turn 2; start 0 0 1 20; \
+write *2\r\n$3\r\nGET\r\n$1\r\na\r\n; turn 3; start 1 1 2 28; turn 4; wait 2 room; \
+turn 5; close 0; 0 reset; 1 closed; 2 closed; ";
+    compare_queue(&rt, rt.alloc(), 50, 30, list.as_slice(), wanted)
+}
+
+#[test]
+fn submissions_wait_for_a_place(rt: HostRuntime) -> Result<(), AllocError> {
+    let list = [
+        Told::Connected(0),
+        Told::Get("a"),
+        Told::Get("b"),
+        Told::Get("c"),
+        Told::Wrote(0, 7),
+        Told::Wrote(0, 13),
+    ];
+    let wanted = "turn 0; connect 0 6379; turn 1; created; turn 2; start 0 0 1 20; \
+write *2\r\n$3\r\nGET\r\n$1\r\na\r\n; turn 3; wait 1 room; turn 4; wait 2 place; \
+turn 5; write \nGET\r\n$1\r\na\r\n; turn 6; start 1 1 1 20; \
+write *2\r\n$3\r\nGET\r\n$1\r\nb\r\n; wait 2 room; ";
+    compare_queue(&rt, rt.alloc(), 1, 0, list.as_slice(), wanted)
+}
+
+/// What is refused of the configuration of an address.
 fn refusal_of(alloc: Global, url: &[u8]) -> Result<&'static str, AllocError> {
+    refusal(alloc, config_of(alloc, url, None)?)
+}
+
+/// What is refused of a configuration.
+fn refusal(alloc: Global, config: Config) -> Result<&'static str, AllocError> {
     let mut actions = Vec::new(alloc);
-    let config = config_of(alloc, url, None)?;
     match Session::replay(alloc, config, 0, &[], &mut actions) {
         Ok(()) => Ok("nothing"),
         Err(ReplayError::Config { name }) => Ok(name.name()),
@@ -506,6 +596,21 @@ fn configurations_are_refused(rt: HostRuntime) -> Result<(), AllocError> {
     for row in ADDRESSES {
         assert_eq!(rt; refusal_of(rt.alloc(), row.0)?, row.1);
     }
+    Ok(())
+}
+
+#[test]
+fn a_queue_that_holds_nothing_is_refused(rt: HostRuntime) -> Result<(), AllocError> {
+    let alloc = rt.alloc();
+    assert_eq!(rt; refusal(alloc, queue_of(alloc, 0, 8192)?)?, "buffer");
+    assert_eq!(rt; refusal(alloc, queue_of(alloc, 1, 0)?)?, "nothing");
+    let mut actions = Vec::new(alloc);
+    match Session::new(alloc, queue_of(alloc, 0, 8192)?, 0, &mut actions) {
+        Ok(_) => assert!(rt; false),
+        Err(MakeError::Config { name }) => assert!(rt; name == ConfigName::Buffer),
+        Err(MakeError::NoMemory) => return Err(AllocError),
+    }
+    assert_eq!(rt; actions.len(), 0);
     Ok(())
 }
 
