@@ -16,7 +16,7 @@ use Rattle.legal_trace.proofs.Books.{stand_front, stand_behind}
 use Rattle.legal_laws.specs.Starts.{IsStart, Leaves, LeftStartNoMore}
 use Rattle.legal_laws.proofs.Bounds.{start_of}
 use Rattle.legal_laws.proofs.Held.{not_open}
-use Rattle.legal_laws.proofs.InLine.{submissions_grow, stays_out, starter_in_line}
+use Rattle.legal_laws.proofs.InLine.{submissions_grow, leaver_is_done, stays_out, starter_to_start}
 use Rattle.legal_laws.proofs.Moves.{open_or_told}
 use Rattle.legal_laws.proofs.Numbers.{HasStories, open_is_numbered}
 use Rattle.legal_laws.proofs.Sound.{Sound, sound_behind}
@@ -36,22 +36,7 @@ error_is_done s e o u = elim (open_or_told (answered s (outcome.Fault e)) u) [
       let x : false ≡ true = sym (ap (λ (os : List Outcome). is_no_error (os ++ outcome.Fault e ∷ [])) (open_has_none s o)) ∙ good in cc x
 ]
 
--- what is cancelled is not open
-gone : (p q : Bool) → (p && q && not true) ≡ true → ⊥
-gone true true e = cc e
-gone true false e = cc e
-gone false q e = cc e
-
--- an open submission whose caller goes is done
-leaver_is_done : (s : Story) → is_open s ≡ true → is_unstarted (left s) ≡ true → ⊥
-leaver_is_done s o = chosen (λ t. is_unstarted t ≡ true → ⊥) (is_open s) (record s { cancelled = true; waiting = None }) s
-    (λ t u. elim (open_or_told (record s { cancelled = true; waiting = None }) u) [
-      | inl still ↦ gone (is_some s.submission) (length s.outcomes == 0) still
-      | inr told ↦ let x : false ≡ true = sym (ap is_no_error (open_has_none s o)) ∙ both_right (not (is_awaited s)) (is_no_error s.outcomes) told in cc x
-    ])
-    (λ f u. not_both (is_open s) f o)
-
--- so whoever leaves stands in no line
+-- so whoever leaves is to start no more
 done_behind : (b : Book) (a : Action) (n : ℕ) → MayStand b a → Leaves b n a → is_unstarted ((entered b a).story n) ≡ true → ⊥
 done_behind b (action.Outcome m (outcome.Fault e)) n may is =
     let o : is_open (b.story n) ≡ true = subst (IsOpen b) is (outcome_is_open b m (outcome.Fault e) may) in
@@ -76,7 +61,7 @@ none_behind b middle more a c l n sound all leaves start =
     let s = start_of (entered_each after middle) c l n (stand_behind after middle (c ∷ more) all.1).0 start in
     stays_out after middle (stand_front after middle (c ∷ more) all.1) l n (omega (arith, grows, numbered))
     (λ e. done_behind b a n all.0 leaves (both_right ((after.story n).link == l) (is_unstarted (after.story n)) e))
-    (starter_in_line (entered_each after middle) l s.0 n s.1 s.2 s.3)
+    (starter_to_start (entered_each after middle) l s.0 n s.1 s.2 s.3)
 
 -- nor in a legal trace
 pub left_start_no_more : (config : Config) (word : ℕ) (events : List Event) (trace : List Action) → Legal config word events trace → LeftStartNoMore trace

@@ -15,6 +15,7 @@ pub mod Next
 pub mod Equal
 pub mod Held
 pub mod InLine
+pub mod Overdue
 pub mod Segments
 pub mod Creation
 pub mod Seated
