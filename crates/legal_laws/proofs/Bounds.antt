@@ -16,7 +16,7 @@ use Rattle.legal_trace.specs.Legal.{MayStand, MayAnswer, MayTell, MayStart, AllS
 use Rattle.legal_trace.proofs.Books.{stand_front, stand_behind}
 use Rattle.legal_laws.specs.Starts.{IsStart, HasPlace, StaysWithin}
 use Rattle.legal_laws.proofs.Configured.{configured_behind}
-use Rattle.legal_laws.proofs.Moves.{starts_mean, tells_mean, starter_moves}
+use Rattle.legal_trace.proofs.Moves.{starts_mean, tells_mean, starter_moves}
 use Rattle.legal_laws.proofs.Numbers.{mover_is_numbered}
 use Rattle.legal_laws.proofs.Seated.{IsSeated, seated_behind}
 use Rattle.legal_laws.proofs.Sound.{Sound, sound_behind}
@@ -60,7 +60,7 @@ has_place config b n c e =
     subst (λ o. line_before (permits_in o) b.story (b.story n).link n < configured buffer_size o) c (not_le_from (queue_size b) (line_before (permits_in b.config) b.story (b.story n).link n) e)
 
 -- where the event was applied, a turn began
-applied_began : (b : Book) → Sound b → IsApplied b → b.turns ≢ 0
+pub applied_began : (b : Book) → Sound b → IsApplied b → b.turns ≢ 0
 applied_began b sound done none = done.created.asked (sound.opens.no_links none)
 
 -- whoever is told without a message is told at its place
@@ -75,14 +75,14 @@ pub record IsReady (config : Config) (b : Book) : Type 0 where
   pub configured : b.turns ≢ 0 → b.config ≡ Some config
 
 -- so it is of each front of a legal trace
-ready_behind : (config : Config) (word : ℕ) (events : List Event) (front more : List Action) → Legal config word events (front ++ more) → IsReady config (book front)
+pub ready_behind : (config : Config) (word : ℕ) (events : List Event) (front more : List Action) → Legal config word events (front ++ more) → IsReady config (book front)
 unfolding book
 ready_behind config word events front more h =
     let all : AllStand blank_book front = stand_front blank_book front more h.each in
     record { sound = sound_behind front all; seated = seated_behind front all; configured = configured_behind blank_book front more config word (event_causes events) all h.turns refl }
 
 -- and what comes next may stand there
-next_may : (config : Config) (word : ℕ) (events : List Event) (front more : List Action) (a : Action) → Legal config word events (front ++ a ∷ more) → MayStand (book front) a
+pub next_may : (config : Config) (word : ℕ) (events : List Event) (front more : List Action) (a : Action) → Legal config word events (front ++ a ∷ more) → MayStand (book front) a
 unfolding book
 next_may config word events front more a h = (stand_behind blank_book front (a ∷ more) h.each).0
 

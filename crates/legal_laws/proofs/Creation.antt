@@ -22,7 +22,7 @@ use Rattle.legal_trace.proofs.Ledgers.{mine_keeps}
 use Rattle.legal_trace.proofs.Plain.{not_none, same_some}
 use Rattle.legal_laws.specs.Creation.{shown_by, creations, HasFailed, IsUnopened, AnswersTell, TellsOfOpening}
 use Rattle.legal_laws.proofs.Links.{lines_may}
-use Rattle.legal_laws.proofs.Moves.{mover_is_up, teller_moves}
+use Rattle.legal_trace.proofs.Moves.{mover_is_up, teller_moves}
 use Rattle.legal_laws.proofs.Numbers.{up_is_numbered, over_is_numbered}
 use Rattle.legal_laws.proofs.Overdue.{TimesRun, times_run, failed_in_time}
 use Rattle.legal_laws.proofs.Quiet.{IsQuiet, hears_quiet, ends_quiet, failed_is_over, failed_stays}

@@ -14,7 +14,7 @@ use Rattle.legal_trace.specs.Owed.{owed_to_message, owed_to_try}
 use Rattle.legal_trace.specs.Book.{Book, entered, if_mine, message_of, is_clock_of}
 use Rattle.legal_trace.specs.Legal.{MayTell, MayStart, link_of, NoneIsOwed, IsApplied, IsMoved, IsWritten}
 use Rattle.legal_trace.proofs.Ledgers.{mine_keeps}
-use Rattle.legal_laws.proofs.Moves.{mover_is_up, starter_moves, step_of, line_alike, permits_alike}
+use Rattle.legal_trace.proofs.Moves.{mover_is_up, starter_moves, step_of, line_alike, permits_alike}
 use Rattle.legal_laws.proofs.Tales.{open_has_none, last_behind}
 use Rattle.legal_laws.proofs.Owes.{owed_story, owed_again, owed_by_last, begins_keeps, new_is_owed_nothing}
 use Rattle.legal_trace.proofs.Plain.{not_empty}

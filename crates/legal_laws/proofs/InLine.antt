@@ -15,7 +15,7 @@ use Rattle.legal_trace.specs.Steps.{permits_in, is_let_in, is_in_line, line_befo
 use Rattle.legal_trace.specs.Legal.{MayStand, MayAnswer, MayTell, MayTake, MayStart, AllStand}
 use Rattle.legal_trace.proofs.Plain.{not_empty}
 use Rattle.legal_laws.proofs.Held.{not_open}
-use Rattle.legal_laws.proofs.Moves.{has_no_tries, open_or_told, both_hold, holds_some, is_timed, takes_mean}
+use Rattle.legal_trace.proofs.Moves.{has_no_tries, open_or_told, both_hold, holds_some, is_timed, takes_mean}
 use Rattle.legal_laws.proofs.Tales.{open_has_none, unstarted_gets_a_fault}
 
 -- its message has not started, and is to start on that link

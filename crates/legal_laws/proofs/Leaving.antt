@@ -1,7 +1,9 @@
 -- Whoever left starts no message.
 use Rattle.std.proofs.Common.{◌≡◌, ◌⊎◌, inl, inr, ℕ, ◌<◌, ◌≤◌, ◌==◌, Bool, true, false, ◌&&◌, not, List, [], ◌∷◌, ◌++◌, length, is_some, None, refl, sym, ◌∙◌, ap, subst, arith}
 use Rattle.containers.proofs.Choices.{chosen, ne_from, not_both, both_right}
+use Rattle.redis_error.specs.declared.fault_kind.FaultKind.TheVariants as kind
 use Rattle.redis_error.specs.declared.redis_error.RedisError.{RedisError}
+use Rattle.redis_error.specs.declared.redis_error.RedisError.TheVariants as error
 use Rattle.driver_model.specs.declared.action.Action.{Action}
 use Rattle.driver_model.specs.declared.action.Action.TheVariants as action
 use Rattle.driver_model.specs.declared.action.Cause.TheVariants as cause
@@ -14,10 +16,11 @@ use Rattle.legal_trace.specs.Book.{Book, blank_book, book, entered, entered_each
 use Rattle.legal_trace.specs.Legal.{MayStand, MayAnswer, MayTell, AllStand, IsOpen, Legal}
 use Rattle.legal_trace.proofs.Books.{stand_front, stand_behind}
 use Rattle.legal_laws.specs.Starts.{IsStart, Leaves, LeftStartNoMore}
+use Rattle.legal_laws.specs.Permits.{TimedOutStartNoMore}
 use Rattle.legal_laws.proofs.Bounds.{start_of}
 use Rattle.legal_laws.proofs.Held.{not_open}
 use Rattle.legal_laws.proofs.InLine.{submissions_grow, leaver_is_done, stays_out, starter_to_start}
-use Rattle.legal_laws.proofs.Moves.{open_or_told}
+use Rattle.legal_trace.proofs.Moves.{open_or_told}
 use Rattle.legal_laws.proofs.Numbers.{HasStories, open_is_numbered}
 use Rattle.legal_laws.proofs.Sound.{Sound, sound_behind}
 use Rattle.legal_laws.proofs.Tales.{open_has_none}
@@ -69,3 +72,8 @@ unfolding book
 left_start_no_more config word events trace h front middle more a c l n is leaves start =
     let all : AllStand blank_book (front ++ a ∷ (middle ++ c ∷ more)) = subst (AllStand blank_book) is h.each in
     none_behind (book front) middle more a c l n (sound_behind front (stand_front blank_book front (a ∷ (middle ++ c ∷ more)) all)) (stand_behind blank_book front (a ∷ (middle ++ c ∷ more)) all) leaves start
+
+-- so whoever was told that its time is over starts no message
+pub timed_out_start_no_more : (config : Config) (word : ℕ) (events : List Event) (trace : List Action) → Legal config word events trace → TimedOutStartNoMore trace
+timed_out_start_no_more config word events trace h front middle more c l n is start =
+    left_start_no_more config word events trace h front middle more (action.Outcome n (outcome.Fault (error.Io kind.TimedOut))) c l n is refl start

@@ -21,7 +21,7 @@ use Rattle.legal_trace.specs.Events.{is_bad_event, is_no_link}
 use Rattle.legal_trace.specs.Legal.{MayStand, MayStart, AllStand, Legal}
 use Rattle.legal_laws.specs.Links.{LinksAreLegal, TakesInOrder, lines_for}
 use Rattle.legal_trace.proofs.Ledgers.{may_append}
-use Rattle.legal_laws.proofs.Moves.{has_no_tries, open_or_told, mover_is_up, starter_moves}
+use Rattle.legal_trace.proofs.Moves.{has_no_tries, open_or_told, mover_is_up, starter_moves}
 use Rattle.legal_laws.proofs.Streams.{takes_in_order}
 use Rattle.legal_laws.proofs.Sound.{Sound, stays_sound, blank_is_sound}
 use Rattle.legal_laws.proofs.Owes.{has_bytes}

@@ -24,7 +24,7 @@ use Rattle.legal_trace.specs.Book.{Book, book}
 use Rattle.legal_trace.specs.Steps.{Step, waits, takes, asks, tells, starts, nothing, next_step}
 use Rattle.legal_trace.specs.Legal.{MayStand, MayConnect, MayTimeConnect, MayTime, MayTake, MayTimer, MayClose, MayFail, MayShowCreation, MayAnswer, MayTell, MayStart, MayWrite, MayWait, IsOpen, IsWaiting, link_of, CanMove}
 use Rattle.legal_laws.specs.Next.{BothAnnounce, OneIsNext, OneIsNextBehind}
-use Rattle.legal_laws.proofs.Moves.{teller_moves, starter_moves, taker_moves, asker_moves, same_kind}
+use Rattle.legal_trace.proofs.Moves.{teller_moves, starter_moves, taker_moves, asker_moves, same_kind}
 use Rattle.legal_laws.proofs.Ranks.{answer_rank, creation_rank, rank, same_rank, outcome_rank, timer_rank, not_offered, not_shown}
 use Rattle.legal_trace.proofs.Plain.{not_none, same_some}
 use Rattle.legal_laws.proofs.Sound.{Sound, sound_behind}

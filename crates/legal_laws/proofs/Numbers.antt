@@ -20,7 +20,7 @@ use Rattle.legal_trace.specs.Events.{is_bad_event}
 use Rattle.legal_trace.specs.Legal.{MayAnswer, MayTell, MayTimer, MayStand, IsOpen, CanMove}
 use Rattle.legal_trace.proofs.Ledgers.{each_keeps, mine_keeps, IsAsked, asked_keeps, IsUnasked, unasked_hears}
 use Rattle.legal_trace.proofs.Plain.{not_none}
-use Rattle.legal_laws.proofs.Moves.{open_or_told, starter_moves, taker_moves, asker_moves}
+use Rattle.legal_trace.proofs.Moves.{open_or_told, starter_moves, taker_moves, asker_moves}
 
 -- the links below that number were asked for, and no others
 pub record LinksAreNumbered (links : ℕ) (link : ℕ → Ledger) : Type 0 where

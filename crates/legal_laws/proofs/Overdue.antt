@@ -19,7 +19,7 @@ use Rattle.legal_trace.specs.Legal.{MayTimer, MayTime, MayStand, AllStand, link_
 use Rattle.legal_trace.proofs.Ledgers.{mine_keeps}
 use Rattle.legal_trace.proofs.Plain.{not_none}
 use Rattle.legal_laws.proofs.InLine.{follows, submissions_grow}
-use Rattle.legal_laws.proofs.Moves.{mover_is_up, asker_moves}
+use Rattle.legal_trace.proofs.Moves.{mover_is_up, asker_moves}
 use Rattle.legal_laws.proofs.Numbers.{mover_is_numbered}
 use Rattle.legal_laws.proofs.Quiet.{IsQuiet, hears_quiet, ends_quiet}
 use Rattle.legal_laws.proofs.Sound.{Sound, stays_sound, blank_is_sound}

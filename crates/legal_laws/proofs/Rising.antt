@@ -16,7 +16,7 @@ use Rattle.legal_trace.proofs.Plain.{not_empty}
 use Rattle.legal_laws.specs.Starts.{IsStart, StartsRise}
 use Rattle.legal_laws.proofs.Bounds.{start_of, starter_inside}
 use Rattle.legal_laws.proofs.InLine.{is_to_start, submissions_grow, stays_out, starter_to_start, earlier}
-use Rattle.legal_laws.proofs.Moves.{has_no_tries, holds_some, is_timed, starts_mean, told_is_due, free_is_due, starter_moves}
+use Rattle.legal_trace.proofs.Moves.{has_no_tries, holds_some, is_timed, starts_mean, told_is_due, free_is_due, starter_moves}
 use Rattle.legal_laws.proofs.Numbers.{mover_is_numbered}
 use Rattle.legal_laws.proofs.Seated.{IsSeated, holds_like, seated_behind}
 use Rattle.legal_laws.proofs.Sound.{Sound, sound_behind}

@@ -15,7 +15,7 @@ use Rattle.legal_trace.specs.Story.{Story, is_open, is_told, is_awaited, is_no_e
 use Rattle.legal_trace.specs.Book.{Book, blank_book, book, entered, entered_each, current, is_clock_of, after_event}
 use Rattle.legal_trace.specs.Steps.{configured, queue_size, permits_in, free_permits, is_let_in, is_in_line, line_before, is_outside}
 use Rattle.legal_trace.specs.Legal.{MayStand, MayAnswer, MayTell, MayTake, AllStand, CanMove, link_of}
-use Rattle.legal_laws.proofs.Moves.{lt_test, both_hold, holds_some, is_timed, tells_mean, takes_mean, holder_is_timed, rester_holds, teller_moves, taker_moves}
+use Rattle.legal_trace.proofs.Moves.{lt_test, both_hold, holds_some, is_timed, tells_mean, takes_mean, holder_is_timed, rester_holds, teller_moves, taker_moves}
 use Rattle.legal_laws.proofs.InLine.{is_to_start, is_admitted, Follows, first_holds, second_holds, follows, owed_is_done, to_start_before, shorter}
 use Rattle.legal_laws.proofs.Numbers.{HasStories, mover_is_numbered}
 use Rattle.legal_laws.proofs.Sound.{Sound, stays_sound, blank_is_sound}
@@ -239,7 +239,7 @@ untold_before : (limit : Option ℕ) (before after : Story) → Follows limit be
 untold_before limit before after f u n = by_test (is_told before) (is_told before ≡ false) (λ t. absurd (not_both (is_told after) n (f.told u t))) (λ e. e)
 
 -- who holds no permits gains none but by taking them, which a numbered one does
-holder_is_numbered : (b : Book) (n : ℕ) → HasStories b → (0 < (b.story n).permits) ⊎ TakesNow b n → n < b.submissions
+pub holder_is_numbered : (b : Book) (n : ℕ) → HasStories b → (0 < (b.story n).permits) ⊎ TakesNow b n → n < b.submissions
 holder_is_numbered b n stories (inl i) = by_test (nat_lt n b.submissions) (n < b.submissions) (lt_from n b.submissions)
     (λ f. absurd (let none : (b.story n).permits ≡ 0 = ap (λ (s : Story). s.permits) (stories n (not_lt_from n b.submissions f)) in omega (arith, none, i)))
 holder_is_numbered b n stories (inr now) = mover_is_numbered b n stories (taker_moves b n now.0 now.1 now.2)

@@ -1,7 +1,7 @@
 -- Submissions whose messages haven't started: what they have, and what it tells that they make a step next, or wait.
 use Rattle.std.proofs.Common.{◌≡◌, ◌⊎◌, inl, inr, ℕ, zero, suc, ◌+◌, ◌-◌, ◌<◌, ◌≤◌, ◌==◌, nat_lt, nat_le, min, Bool, true, false, ◌&&◌, ◌||◌, length, Option, None, Some, is_none, is_some, if◌then◌else◌, [], refl, sym, ◌∙◌, ap, subst, arith}
 use Rattle.std.proofs.lemmas.List.{nil_from_length}
-use Rattle.containers.proofs.Choices.{by_test, both_left, both_right, eq_from, not_lt_from}
+use Rattle.containers.proofs.Choices.{by_test, both_left, both_right, eq_from, not_both, not_lt_from}
 use Rattle.driver_model.specs.declared.action.Purpose.{Purpose}
 use Rattle.driver_model.specs.declared.action.WaitKind.{WaitKind}
 use Rattle.driver_model.specs.declared.action.WaitKind.TheVariants as wait
@@ -147,12 +147,12 @@ placed_starts false true true e = absurd (cc e)
 placed_starts false true false e = (refl, refl)
 placed_starts false false held e = absurd (cc e)
 
--- and so has who is told there
-placed_tells : (outside awaited held : Bool) → step_placed outside awaited held ≡ tells → outside ≡ false
+-- and so has who is told there, and its reply isn't awaited
+placed_tells : (outside awaited held : Bool) → step_placed outside awaited held ≡ tells → (outside ≡ false) × (awaited ≡ false)
 placed_tells true awaited held e = absurd (cc e)
 placed_tells false true true e = absurd (cc e)
 placed_tells false true false e = absurd (cc e)
-placed_tells false false held e = refl
+placed_tells false false held e = (refl, refl)
 
 -- whoever was told and starts isn't held back
 told_starts : (held : Bool) → starts_or_waits held ≡ starts → held ≡ false
@@ -205,16 +205,17 @@ starts_mean b n e =
           (r.0, r.1, q.1, inr (p.0, q.0))
     ]
 
--- where it is to be told, its link is up, and it was let in and has a place
+-- where it is to be told, its link is up, it was let in and has a place, and its reply isn't awaited
 pub tells_mean : (b : Book) (n : ℕ) → next_step b n ≡ tells
-    → (dials (link_of b n) ≡ false) × ((link_of b n).up ≡ true) × (is_let_in (permits_in b.config) (b.story n) ≡ true) × (is_outside b n ≡ false)
+    → (dials (link_of b n) ≡ false) × ((link_of b n).up ≡ true) × (is_let_in (permits_in b.config) (b.story n) ≡ true) × (is_outside b n ≡ false) × (is_awaited (b.story n) ≡ false)
 tells_mean b n e =
     let r = ready_of (dials (link_of b n)) (link_of b n).up (up_step b n) tells refl e in
     elim (open_next (is_told (b.story n)) (is_held_back b (link_of b n)) (untold_step b n) tells r.2) [
       | inl told ↦ absurd (told_tells (is_held_back b (link_of b n)) told.1)
       | inr not_told ↦
           let p = past_timer b n tells (inr refl) not_told.1 in
-          (r.0, r.1, p.0, placed_tells (is_outside b n) (is_awaited (b.story n)) (is_held_back b (link_of b n)) p.1)
+          let q = placed_tells (is_outside b n) (is_awaited (b.story n)) (is_held_back b (link_of b n)) p.1 in
+          (r.0, r.1, p.0, q.0, q.1)
     ]
 
 -- what is taken is free
@@ -281,7 +282,7 @@ asks_mean b n ms e =
       | inr not_told ↦
           let h = holding_next (permits_in b.config) (b.story n).permits (λ limit. step_taking (free_permits b (b.story n).link limit) (permits_for (shape (b.story n)) limit)) (step_timed (b.story n).timeout (b.story n).clock (step_placed (is_outside b n) (is_awaited (b.story n)) (is_held_back b (link_of b n)))) (asks ms)
           (λ most. taking_asks (free_permits b (b.story n).link most) (permits_for (shape (b.story n)) most) ms) not_told.1 in
-          (h.0, timed_asks (b.story n).timeout (b.story n).clock (is_outside b n) (is_awaited (b.story n)) (is_held_back b (link_of b n)) ms h.1)
+          let t = timed_asks (b.story n).timeout (b.story n).clock (is_outside b n) (is_awaited (b.story n)) (is_held_back b (link_of b n)) ms h.1 in (h.0, t.0, t.1)
     ]
 
 -- what an open submission that holds its permits does with a place on a link that isn't held back is due
@@ -359,3 +360,17 @@ rester_holds b n limit d u t p free none =
     (takes_due (free_permits b (b.story n).link limit) (permits_for (shape (b.story n)) limit) free)
     (λ due. none (untold_is_due b n d u t
     (subst (λ o. is_due (step_holding o (b.story n).permits (λ k. step_taking (free_permits b (b.story n).link k) (permits_for (shape (b.story n)) k)) (step_timed (b.story n).timeout (b.story n).clock (step_placed (is_outside b n) (is_awaited (b.story n)) (is_held_back b (link_of b n))))) ≡ true) (sym p) due)))
+
+-- whoever starts at its place without being told is awaited
+awaited_at_its_place : (outside awaited held : Bool) → step_placed outside awaited held ≡ starts → awaited ≡ true
+awaited_at_its_place true awaited held e = absurd (cc e)
+awaited_at_its_place false true held e = refl
+awaited_at_its_place false false held e = absurd (cc e)
+
+pub placed_is_awaited : (b : Book) (n : ℕ) → is_told (b.story n) ≡ false → next_step b n ≡ starts → is_awaited (b.story n) ≡ true
+placed_is_awaited b n untold e =
+    let r = ready_of (dials (link_of b n)) (link_of b n).up (up_step b n) starts refl e in
+    elim (open_next (is_told (b.story n)) (is_held_back b (link_of b n)) (untold_step b n) starts r.2) [
+      | inl told ↦ absurd (not_both (is_told (b.story n)) untold told.0)
+      | inr not_told ↦ awaited_at_its_place (is_outside b n) (is_awaited (b.story n)) (is_held_back b (link_of b n)) (past_timer b n starts (inl refl) not_told.1).1
+    ]
