@@ -26,7 +26,8 @@ HoldsWithin config trace =
 -- and none is taken where they aren't counted
 abbrev pub TakesWhereCounted : Config → List Action → Type 0
 TakesWhereCounted config trace =
-    (front more : List Action) (who : Owner) (l count : ℕ) → trace ≡ front ++ action.Took who l count ∷ more → config.limit ≡ None → ⊥
+    (front more : List Action) (who : Owner) (l count : ℕ) → trace ≡ front ++ action.Took who l count ∷ more
+    → config.limit ≡ None → ⊥
 
 pub record KeepsPermits (config : Config) (trace : List Action) : Type 0 where
   pub within : HoldsWithin config trace
@@ -40,20 +41,22 @@ IsAsking n _ = ⊥
 -- each submission has one at most
 abbrev pub AsksOnce : List Action → Type 0
 AsksOnce trace =
-    (front middle more : List Action) (a c : Action) (n : ℕ) → trace ≡ front ++ a ∷ (middle ++ c ∷ more) → IsAsking n a
-    → IsAsking n c → ⊥
+    (front middle more : List Action) (a c : Action) (n : ℕ) → trace ≡ front ++ a ∷ (middle ++ c ∷ more)
+    → IsAsking n a → IsAsking n c → ⊥
 
 -- it is of the time that was in force where the submission was handed in
 abbrev pub AsksInForce : List Action → Type 0
 AsksInForce trace =
     (front middle more : List Action) (k t ms round : ℕ) (e : Event) (s : Submission)
-    → trace ≡ front ++ action.Turn k (cause.Event e) ∷ (middle ++ action.Timer t ms (purpose.Response (owner.Try (book front).submissions round)) ∷ more)
+    → trace ≡ front ++ action.Turn k (cause.Event e) ∷
+        (middle ++ action.Timer t ms (purpose.Response (owner.Try (book front).submissions round)) ∷ more)
     → e.kind ≡ event.Submit s → (book front).timeout ≡ Some ms
 
 -- and the submission holds its permits, where they are counted
 abbrev pub AsksHolding : Config → List Action → Type 0
 AsksHolding config trace =
-    (front more : List Action) (t ms n round : ℕ) → trace ≡ front ++ action.Timer t ms (purpose.Response (owner.Try n round)) ∷ more
+    (front more : List Action) (t ms n round : ℕ)
+    → trace ≡ front ++ action.Timer t ms (purpose.Response (owner.Try n round)) ∷ more
     → (config.limit ≡ None) ⊎ (0 < ((book front).story n).permits)
 
 pub record AsksTimers (config : Config) (trace : List Action) : Type 0 where
