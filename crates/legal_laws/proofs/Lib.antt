@@ -24,3 +24,4 @@ pub mod Permits
 pub mod Timers
 pub mod Rising
 pub mod Leaving
+pub mod Fired

@@ -1,5 +1,5 @@
 -- The permits that a trace takes, and the timers of its submissions.
-use Rattle.std.specs.Prelude.{◌≡◌, ◌⊎◌, ℕ, ◌<◌, ◌≤◌, List, ◌∷◌, ◌++◌, Some, None}
+use Rattle.std.specs.Prelude.{◌≡◌, ◌⊎◌, ℕ, ◌<◌, ◌≤◌, List, ◌∷◌, ◌++◌, Some, None, true, slice_get}
 use Rattle.redis_error.specs.declared.fault_kind.FaultKind.TheVariants as kind
 use Rattle.redis_error.specs.declared.redis_error.RedisError.TheVariants as error
 use Rattle.driver_model.specs.declared.action.Action.{Action}
@@ -13,8 +13,9 @@ use Rattle.driver_model.specs.declared.event.Event.{Event}
 use Rattle.driver_model.specs.declared.event.EventKind.TheVariants as event
 use Rattle.driver_model.specs.declared.event.Submission.{Submission}
 use Rattle.driver_model.specs.declared.outcome.Outcome.TheVariants as outcome
-use Rattle.legal_trace.specs.Book.{book}
+use Rattle.legal_trace.specs.Book.{book, is_clock_of}
 use Rattle.legal_trace.specs.Steps.{permits_held}
+use Rattle.legal_trace.specs.Legal.{IsOpen}
 use Rattle.legal_laws.specs.Starts.{IsStart}
 
 -- behind each front of a trace its submissions hold no more permits of a link than its configuration has
@@ -69,3 +70,10 @@ abbrev pub TimedOutStartNoMore : List Action → Type 0
 TimedOutStartNoMore trace =
     (front middle more : List Action) (c : Action) (l n : ℕ)
     → trace ≡ front ++ action.Outcome n (outcome.Fault (error.Io kind.TimedOut)) ∷ (middle ++ c ∷ more) → IsStart l n c → ⊥
+
+-- nor once its timer fired while it was open
+abbrev pub FiredStartNoMore : List Action → Type 0
+FiredStartNoMore trace =
+    (front middle more : List Action) (k t : ℕ) (e : Event) (c : Action) (l n : ℕ)
+    → trace ≡ front ++ action.Turn k (cause.Event e) ∷ (middle ++ c ∷ more) → e.kind ≡ event.Fired t
+    → is_clock_of n (slice_get (book front).timers t) ≡ true → IsOpen (book front) n → IsStart l n c → ⊥

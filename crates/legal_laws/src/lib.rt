@@ -10,7 +10,7 @@ ghost use Rattle.legal_laws.specs.Next.{OneIsNextBehind};
 ghost use Rattle.legal_laws.specs.Creation.{TellsOfOpening};
 ghost use Rattle.legal_laws.specs.Starts.{StartsRise, LeftStartNoMore};
 ghost use Rattle.legal_laws.specs.Laws.{OfEachLegal, LinksTakeInOrder, OneIsLegal, TurnsAreInOrder};
-ghost use Rattle.legal_laws.specs.Permits.{TimedOutStartNoMore};
+ghost use Rattle.legal_laws.specs.Permits.{TimedOutStartNoMore, FiredStartNoMore};
 ghost use Rattle.legal_laws.specs.Laws.{EachStaysWithin, EachKeepsPermits, EachAsksTimers};
 
 /// Does nothing. Its contract: what a legal trace tells of each link is legal by itself. What the
@@ -78,11 +78,12 @@ pub fn starts_follow_the_submissions()
 {}
 
 /// Does nothing. Its contract: in a legal trace no message of a submission starts behind an outcome
-/// of it that is an error, among them the one that its time is over, nor once its caller went while
-/// it was open.
+/// of it that is an error, among them the one that its time is over, nor once its caller went, or
+/// its timer fired, while it was open.
 pub fn whoever_left_never_starts()
     ensures left { OfEachLegal LeftStartNoMore }
     ensures timed_out { OfEachLegal TimedOutStartNoMore }
+    ensures fired { OfEachLegal FiredStartNoMore }
 {}
 
 /// Does nothing. Its contract: behind each front of a legal trace all submissions together hold no
