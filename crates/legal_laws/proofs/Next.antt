@@ -100,7 +100,9 @@ take_moving b n l count may = (n, taker_moves b n l count may, may.in_order, ap 
 -- and a timer of a submission
 ask_moving : (b : Book) (t ms : ℕ) (what : Purpose) → MayTime b t ms what → IsMoving b (action.Timer t ms what)
 ask_moving b t ms what may = (
-  may.n, asker_moves b t ms what may, may.in_order,
+  may.n,
+  asker_moves b t ms what may,
+  may.in_order,
   ap (λ x. action.Timer x ms what) may.next ∙ (ap (action.Timer (length b.timers) ms) may.is_for ∙ sym (ap (move_of b may.n) may.asks)),
 )
 

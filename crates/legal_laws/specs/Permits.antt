@@ -50,7 +50,7 @@ abbrev pub AsksInForce : List Action → Type 0
 AsksInForce trace =
     (front middle more : List Action) (k t ms round : ℕ) (e : Event) (s : Submission)
     → trace ≡ front ++ action.Turn k (cause.Event e) ∷
-        (middle ++ action.Timer t ms (purpose.Response (owner.Try (book front).submissions round)) ∷ more)
+    (middle ++ action.Timer t ms (purpose.Response (owner.Try (book front).submissions round)) ∷ more)
     → e.kind ≡ event.Submit s → (book front).timeout ≡ Some ms
 
 -- and the submission holds its permits, where they are counted

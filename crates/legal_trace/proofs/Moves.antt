@@ -34,8 +34,8 @@ abbrev pub step_of : Option Config → Story → ℕ → ℕ → Ledger → Step
 step_of config s line held l =
     if dials l then waits wait.Connect
     else if l.up then step_open (is_told s) (is_held (configured boundary config) l)
-        (step_holding (permits_in config) s.permits (λ limit. step_taking (limit - held) (permits_for (shape s) limit))
-        (step_timed s.timeout s.clock (step_placed (nat_le (configured buffer_size config) line) (is_awaited s) (is_held (configured boundary config) l))))
+    (step_holding (permits_in config) s.permits (λ limit. step_taking (limit - held) (permits_for (shape s) limit))
+    (step_timed s.timeout s.clock (step_placed (nat_le (configured buffer_size config) line) (is_awaited s) (is_held (configured boundary config) l))))
     else nothing
 
 -- where the same stand in line, as many do
