@@ -1,5 +1,5 @@
 -- How far requests have come, by their numbers.
-use Rattle.std.specs.Prelude.{ℕ, ◌+◌, Bool, true, false, List, [], ◌∷◌, ◌++◌, length, Option, Some, None, slice_get, slice_set, if◌then◌else◌}
+use Rattle.std.specs.Prelude.{ℕ, ◌+◌, min, Bool, true, false, List, [], ◌∷◌, ◌++◌, length, Option, Some, None, unwrap_or, slice_get, slice_set, if◌then◌else◌}
 use Rattle.driver_model.specs.declared.outcome.Outcome.{Outcome}
 use Rattle.driver_model.specs.declared.outcome.Shape.{Shape}
 use Rattle.mux_conn.specs.declared.act.LinkAct.TheVariants as act
@@ -81,9 +81,13 @@ at_progress requests p now = with_permits requests p now (permits_at requests p)
 abbrev pub progressed : Work → ℕ → Progress → Work
 progressed w p now = record w { conn = record w.conn { requests = at_progress w.conn.requests p now } }
 
+-- so many permits are free after so many more have come back: no more than there are, where they are counted
+abbrev pub given_back : Option ℕ → ℕ → ℕ → ℕ
+given_back limit free count = min (unwrap_or limit 0) (free + count)
+
 -- request p is closed, and its permits are free
 abbrev pub closed : MultiplexedConnection → ℕ → MultiplexedConnection
-closed c p = record c { requests = with_permits c.requests p progress.Closed 0; free = c.free + permits_at c.requests p }
+closed c p = record c { requests = with_permits c.requests p progress.Closed 0; free = given_back c.limit c.free (permits_at c.requests p) }
 
 -- an open request is answered, and any other stays as it is
 abbrev pub answered : Work → ℕ → Outcome → Work
