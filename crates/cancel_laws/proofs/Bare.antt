@@ -1,5 +1,5 @@
 -- A connection does the same where one request's outcome is looked away from, once its message has left the queue.
-use Rattle.std.proofs.Common.{◌≡◌, ◌≢◌, ℕ, ◌<◌, ◌==◌, Bool, true, false, List, [], ◌∷◌, ◌++◌, length, if◌then◌else◌, refl, sym, ap, ◌∙◌, append_assoc, Some, None}
+use Rattle.std.proofs.Common.{◌≡◌, ◌≢◌, ℕ, ◌<◌, ◌==◌, ◌&&◌, Bool, true, false, List, [], ◌∷◌, ◌++◌, length, if◌then◌else◌, refl, sym, ap, ◌∙◌, append_assoc, Option, Some, None}
 use Rattle.std.proofs.lemmas.List.{append-nil}
 use Rattle.containers.proofs.Choices.{by_test, chosen, either, either_by, taken_if, left_if, eq_from, ne_from, eq_test, ne_test}
 use Rattle.redis_error.specs.declared.fault_kind.FaultKind.TheVariants as kinds
@@ -7,6 +7,7 @@ use Rattle.redis_error.specs.declared.fault_kind.FaultKind.{FaultKind}
 use Rattle.redis_error.specs.declared.redis_error.RedisError.TheVariants as error
 use Rattle.redis_error.specs.declared.redis_error.RedisError.{RedisError}
 use Rattle.resp_value.specs.declared.value.Value.TheVariants.{Nil}
+use Rattle.driver_model.specs.declared.action.WaitKind.{WaitKind}
 use Rattle.driver_model.specs.declared.action.WaitKind.TheVariants as wait
 use Rattle.driver_model.specs.declared.news.LinkFault.{LinkFault}
 use Rattle.driver_model.specs.declared.news.LinkFault.TheVariants as fault
@@ -30,17 +31,17 @@ use Rattle.mux_conn.specs.declared.life.Life.TheVariants.{Dialing, Ready, Ended}
 use Rattle.mux_conn.specs.declared.request.Progress.TheVariants as progress
 use Rattle.mux_conn.specs.declared.request.Request.{Request}
 use Rattle.mux_conn.specs.declared.request.Waiting.{Waiting}
-use Rattle.mux_conn.specs.Connection.{Work, acted, at_life, with_link, awaits_connect, moves_none}
-use Rattle.mux_conn.specs.Requests.{is_open_at, is_waiting_at, name_at, at_progress, progressed, answered, waiting_of, asked}
-use Rattle.mux_conn.specs.Effects.{new_link, settled_each, failed_each, waiting_failed, ended, opening_failed, connected_at, refused_at, overdue_at, taken_at, failed_at, broken_at, read_to, read_at, shut_at, applied, cancelled_in, left}
-use Rattle.mux_conn.specs.Passes.{shown_each, starts_with, started_at, started, message_of, placed_at, told_at_place, moved_at, moved, still_waiting, moved_each, moved_all, passed}
-use Rattle.mux_conn.specs.Turn.{written_at, written, wait_shown, waits_each, waits_shown, flushed}
+use Rattle.mux_conn.specs.Connection.{Work, acted, at_life, with_link, awaits_connect, admits_none, has_room, first_queued}
+use Rattle.mux_conn.specs.Requests.{is_open, is_waiting, is_admitted, is_placed, is_open_at, is_waiting_at, is_admitted_at, is_placed_at, name_at, at_progress, progressed, answered, waiting_of, asked}
+use Rattle.mux_conn.specs.Effects.{new_link, settled_each, failed_each, nobody_waits, waiting_failed, ended, opening_failed, connected_at, refused_at, overdue_at, taken_at, failed_at, broken_at, read_to, read_at, shut_at, applied, cancelled_in, left}
+use Rattle.mux_conn.specs.Passes.{shown_each, starts_with, started_at, started, message_of, placed_at, told_at_place, seated, still_admitted, moved_up, moved_up_each, moved_up_all, put_behind, seated_or_behind, admitted_at, admitted, still_waiting, admitted_each, admitted_all, passed}
+use Rattle.mux_conn.specs.Turn.{written_at, written, is_from, moved_wait, fresh_wait, wait_shown, moved_each_shown, moved_shown, fresh_each_shown, fresh_shown, waits_shown, flushed}
 use Rattle.cancel_laws.specs.ButFor.{hushed_link, hushed_life}
-use Rattle.cancel_laws.proofs.Requests.{names, name_stays, progress_twice, progress_apart, progress_push, progress_count, own_closed, open_other, closed_set, waiting_same, other_number}
+use Rattle.cancel_laws.proofs.Requests.{names, name_stays, progress_twice, progress_apart, progress_push, progress_count, own_closed, closed_set, test_other, same_test, other_test, admitted_now}
 use Rattle.cancel_laws.proofs.Names.{IsOwn, own_name, other_name}
 use Rattle.cancel_laws.proofs.Links.{alike_hushed, none_leaves, hushed_started, hushed_came, hushed_cancelled, own_cancelled}
-use Rattle.cancel_laws.proofs.Kept.{other_act, IsPlain, At, There, answered_kept, settled_kept, over_kept, started_kept, told_kept, moved_kept, written_kept, wait_kept}
-use Rattle.cancel_laws.proofs.Gone.{NoneQueued, IsGone, gone_kept}
+use Rattle.cancel_laws.proofs.Kept.{other_act, IsPlain, At, There, answered_kept, settled_kept, failed_each_kept, over_kept, started_kept, told_kept, moved_up_kept, moved_up_all_kept, admitted_kept, written_kept, wait_kept, moved_shown_kept}
+use Rattle.cancel_laws.proofs.Gone.{NoneQueued, NoneIs, IsGone, gone_kept, IsAway, away_kept}
 
 -- the acts of a turn, but for the outcomes of submission n
 abbrev pub other_acts : ℕ → List LinkAct → List LinkAct
@@ -87,7 +88,7 @@ bare_acted n p w a plain = ap (λ (xs : List LinkAct). record (bare n p w) { act
 --
 -- all others are as open as they were
 open_same : (r : List Request) (p q : ℕ) → q ≢ p → is_open_at r q ≡ is_open_at (at_progress r p progress.Closed) q
-open_same r p q o = sym (open_other r p q progress.Closed (λ e. o (sym e)))
+open_same r p q o = sym (test_other is_open r p q progress.Closed (λ e. o (sym e)))
 
 -- one that is closed stays as it is
 closed_stays : (w : Work) (q : ℕ) (o : Outcome) → is_open_at w.conn.requests q ≡ false → answered w q o ≡ w
@@ -173,7 +174,10 @@ bare_failed_each n p w e (q ∷ qs) h =
 
 -- those that wait
 bare_waiting : (n p : ℕ) (w : Work) (e : RedisError) → At (There (IsGone n p)) w → bare n p (waiting_failed w e) ≡ waiting_failed (bare n p w) e
-bare_waiting n p w e h = bare_failed_each n p (record w { conn = record w.conn { waiting = [] } }) e w.conn.waiting h
+bare_waiting n p w e h =
+    let d = failed_each (nobody_waits w) e w.conn.admitted in
+    bare_failed_each n p d e w.conn.waiting (failed_each_kept (gone_kept n p) (nobody_waits w) e w.conn.admitted h)
+    ∙ ap (λ (x : Work). failed_each x e w.conn.waiting) (bare_failed_each n p (nobody_waits w) e w.conn.admitted h)
 
 -- the end of a link
 bare_ended : (n p : ℕ) (w : Work) (ss later : List Settled) → At (There (IsGone n p)) w → others p ss ≡ others p later → bare n p (ended w ss) ≡ ended (bare n p w) later
@@ -203,7 +207,7 @@ bare_failed n p w f (Ended e) h = refl
 
 -- the connect
 bare_connected : (n p : ℕ) (w : Work) (life : Life) → bare n p (connected_at w life) ≡ connected_at (bare n p w) (hushed_life p life)
-bare_connected n p w Dialing = bare_acted n p (with_link w new_link) (act.Created None) (λ m. refl)
+bare_connected n p w Dialing = bare_acted n p (with_link w (new_link w.conn)) (act.Created None) (λ m. refl)
 bare_connected n p w (Ready l) = refl
 bare_connected n p w (Ended e) = refl
 
@@ -241,7 +245,7 @@ bare_read n p w s t h link out =
 -- bytes come
 bare_came : (n p : ℕ) (w : Work) (piece : List ℕ) (life : Life) → IsGone n p w.conn.requests life → bare n p (read_at w piece life) ≡ read_at (bare n p w) piece (hushed_life p life)
 bare_came n p w piece (Ready l) h =
-    bare_read n p w (piece_dealt (record { link = l; out = [] }) piece) (piece_dealt (record { link = hushed_link p l; out = [] }) piece) ((gone_kept n p).come w.conn.requests l w.acts piece h)
+    bare_read n p w (piece_dealt (record { link = l; out = [] }) piece) (piece_dealt (record { link = hushed_link p l; out = [] }) piece) ((gone_kept n p).come w.conn.requests l w.conn.moved w.acts piece h)
     (hushed_came p l piece) (bytes_alike p l (hushed_link p l) [] [] piece (alike_hushed p l) refl).out
 bare_came n p w piece Dialing h = refl
 bare_came n p w piece (Ended e) h = refl
@@ -347,7 +351,10 @@ bare_started n p w h = bare_started_at n p w w.conn.life h.none
 -- a request takes its place
 bare_placed : (n p : ℕ) (w : Work) (q : Waiting) (l : LinkState) → q.number ≢ p → bare n p (placed_at w q (Ready l)) ≡ placed_at (bare n p w) q (Ready (hushed_link p l))
 bare_placed n p w q l o =
-    ap (λ (r : List Request). record (bare n p w) { conn = record (bare_conn p w.conn) { requests = r; life = Ready (enqueued (hushed_link p l) (message_of q)) } })
+    ap
+    (λ (r : List Request). record (bare n p w) {
+      conn = record (bare_conn p w.conn) { requests = r; life = Ready (enqueued (hushed_link p l) (message_of q)); moved = w.conn.moved ++ q.number ∷ [] };
+    })
     (progress_apart w.conn.requests q.number p progress.Placed progress.Closed o)
 
 -- and is answered there, if nobody awaits its reply
@@ -355,43 +362,93 @@ bare_told : (n p : ℕ) (w : Work) (q : Waiting) → At (There (IsGone n p)) w �
 bare_told n p w q h =
     either (bare n p) q.awaited w (answered w q.number (outcome.One Nil)) (bare n p w) (answered (bare n p w) q.number (outcome.One Nil)) (λ t. refl) (λ f. bare_answered n p w q.number (outcome.One Nil) h)
 
--- a request that waits is moved
-bare_moved_at : (n p : ℕ) (w : Work) (q : Waiting) (life : Life) → is_waiting_at w.conn.requests q.number ≡ true → IsGone n p w.conn.requests life → At (There (IsGone n p)) w
-    → bare n p (moved_at w q life) ≡ moved_at (bare n p w) q (hushed_life p life)
-bare_moved_at n p w q (Ready l) t g h =
+-- and messages start
+bare_seated_at : (n p : ℕ) (w : Work) (q : Waiting) (life : Life) → is_admitted_at w.conn.requests q.number ≡ true → IsGone n p w.conn.requests life → At (There (IsGone n p)) w
+    → bare n p (started (told_at_place (placed_at w q life) q)) ≡ started (told_at_place (placed_at (bare n p w) q (hushed_life p life)) q)
+bare_seated_at n p w q (Ready l) t g h =
     let d = placed_at w q (Ready l) in
-    let k : At (There (IsGone n p)) d = (gone_kept n p).place w.conn.requests l w.acts q t g in
+    let k : At (There (IsGone n p)) d = (gone_kept n p).place w.conn.requests l (w.conn.moved ++ q.number ∷ []) w.acts q t g in
     bare_started n p (told_at_place d q) (told_kept (gone_kept n p) d q k) ∙ ap started (bare_told n p d q k)
-    ∙ ap (λ (x : Work). started (told_at_place x q)) (bare_placed n p w q l (other_number w.conn.requests q.number p t g.past))
-bare_moved_at n p w q (Ended e) t g h = bare_answered n p w q.number (outcome.Fault e) h
-bare_moved_at n p w q Dialing t g h = refl
+    ∙ ap (λ (x : Work). started (told_at_place x q)) (bare_placed n p w q l (other_test is_admitted w.conn.requests q.number p t g.seated))
+bare_seated_at n p w q Dialing t g h = bare_started n p (told_at_place w q) (told_kept (gone_kept n p) w q h) ∙ ap started (bare_told n p w q h)
+bare_seated_at n p w q (Ended e) t g h = bare_started n p (told_at_place w q) (told_kept (gone_kept n p) w q h) ∙ ap started (bare_told n p w q h)
 
--- and any other stays
-bare_moved : (n p : ℕ) (w : Work) (q : Waiting) → At (There (IsGone n p)) w → bare n p (moved w q) ≡ moved (bare n p w) q
-bare_moved n p w q h =
-    either_by (bare n p) (is_waiting_at w.conn.requests q.number) (is_waiting_at (at_progress w.conn.requests p progress.Closed) q.number) (moved_at w q w.conn.life) w _ (bare n p w)
-    (waiting_same w.conn.requests p q.number h.past)
-    (λ t. bare_moved_at n p w q w.conn.life t h h)
+-- on the link that the connection has
+bare_seated : (n p : ℕ) (w : Work) (q : Waiting) → is_admitted_at w.conn.requests q.number ≡ true → At (There (IsGone n p)) w → bare n p (seated w q) ≡ seated (bare n p w) q
+bare_seated n p w q t h = bare_seated_at n p w q w.conn.life t h h
+
+-- one that waits for a place takes it
+bare_moved_up : (n p : ℕ) (w : Work) (q : Waiting) → At (There (IsGone n p)) w → bare n p (moved_up w q) ≡ moved_up (bare n p w) q
+bare_moved_up n p w q h =
+    either_by (bare n p) (is_admitted_at w.conn.requests q.number) (is_admitted_at (at_progress w.conn.requests p progress.Closed) q.number) (seated w q) w _ (bare n p w)
+    (same_test is_admitted w.conn.requests p q.number refl h.seated)
+    (λ t. bare_seated n p w q t h)
     (λ f. refl)
 
--- whether requests can be moved doesn't depend on the row
-stuck_same : (p : ℕ) (life : Life) → moves_none life ≡ moves_none (hushed_life p life)
+-- whether the queue has room doesn't depend on the row
+room_same : (p : ℕ) (life : Life) → has_room life ≡ has_room (hushed_life p life)
+room_same p Dialing = refl
+room_same p (Ready l) = refl
+room_same p (Ended e) = refl
+
+-- more of them take theirs
+bare_moved_up_each : (n p : ℕ) (w : Work) (qs : List Waiting) → At (There (IsGone n p)) w → bare n p (moved_up_each w qs) ≡ moved_up_each (bare n p w) qs
+bare_moved_up_each n p w [] h = refl
+bare_moved_up_each n p w (q ∷ qs) h =
+    either_by (bare n p) (has_room w.conn.life) (has_room (hushed_life p w.conn.life)) _ _ _ _ (room_same p w.conn.life)
+    (λ t. bare_moved_up_each n p (moved_up w q) qs (moved_up_kept (gone_kept n p) w q h) ∙ ap (λ (x : Work). moved_up_each x qs) (bare_moved_up n p w q h))
+    (λ f. refl)
+
+-- a request takes its place, or goes behind those that wait for one
+bare_seated_or_behind : (n p : ℕ) (w : Work) (q : Waiting) → is_admitted_at w.conn.requests q.number ≡ true → At (There (IsGone n p)) w
+    → bare n p (seated_or_behind w q) ≡ seated_or_behind (bare n p w) q
+bare_seated_or_behind n p w q t h =
+    either_by (bare n p) (has_room w.conn.life) (has_room (hushed_life p w.conn.life)) (seated w q) (put_behind w q) (seated (bare n p w) q) (put_behind (bare n p w) q) (room_same p w.conn.life)
+    (λ u. bare_seated n p w q t h)
+    (λ f. refl)
+
+-- a request that waits for the connection is moved
+bare_admitted_at : (n p : ℕ) (w : Work) (q : Waiting) (life : Life) → is_waiting_at w.conn.requests q.number ≡ true → At (There (IsGone n p)) w
+    → bare n p (admitted_at w q life) ≡ admitted_at (bare n p w) q (hushed_life p life)
+bare_admitted_at n p w q (Ready l) t h =
+    let d = progressed w q.number progress.Admitted in
+    let k : At (There (IsGone n p)) d = (gone_kept n p).admit w.conn.requests w.conn.life w.conn.moved w.acts q.number t h in
+    bare_seated_or_behind n p d q (admitted_now w.conn.requests q.number t) k
+    ∙ ap (λ (r : List Request). seated_or_behind (record (bare n p w) { conn = record (bare_conn p w.conn) { requests = r } }) q)
+    (progress_apart w.conn.requests q.number p progress.Admitted progress.Closed (other_test is_waiting w.conn.requests q.number p t h.past))
+bare_admitted_at n p w q (Ended e) t h = bare_answered n p w q.number (outcome.Fault e) h
+bare_admitted_at n p w q Dialing t h = refl
+
+-- and any other stays
+bare_admitted : (n p : ℕ) (w : Work) (q : Waiting) → At (There (IsGone n p)) w → bare n p (admitted w q) ≡ admitted (bare n p w) q
+bare_admitted n p w q h =
+    either_by (bare n p) (is_waiting_at w.conn.requests q.number) (is_waiting_at (at_progress w.conn.requests p progress.Closed) q.number) (admitted_at w q w.conn.life) w _ (bare n p w)
+    (same_test is_waiting w.conn.requests p q.number refl h.past)
+    (λ t. bare_admitted_at n p w q w.conn.life t h)
+    (λ f. refl)
+
+-- whether requests can be moved at all doesn't depend on the row
+stuck_same : (p : ℕ) (life : Life) → admits_none life ≡ admits_none (hushed_life p life)
 stuck_same p Dialing = refl
 stuck_same p (Ready l) = refl
 stuck_same p (Ended e) = refl
 
--- all that wait are moved
-bare_moved_each : (n p : ℕ) (w : Work) (qs : List Waiting) → At (There (IsGone n p)) w → bare n p (moved_each w qs) ≡ moved_each (bare n p w) qs
-bare_moved_each n p w [] h = refl
-bare_moved_each n p w (q ∷ qs) h =
-    either_by (bare n p) (moves_none w.conn.life) (moves_none (hushed_life p w.conn.life)) _ _ _ _ (stuck_same p w.conn.life) (λ t. refl)
-    (λ f. bare_moved_each n p (moved w q) qs (moved_kept (gone_kept n p) w q h) ∙ ap (λ (x : Work). moved_each x qs) (bare_moved n p w q h))
+-- all that wait for the connection are moved
+bare_admitted_each : (n p : ℕ) (w : Work) (qs : List Waiting) → At (There (IsGone n p)) w → bare n p (admitted_each w qs) ≡ admitted_each (bare n p w) qs
+bare_admitted_each n p w [] h = refl
+bare_admitted_each n p w (q ∷ qs) h =
+    either_by (bare n p) (admits_none w.conn.life) (admits_none (hushed_life p w.conn.life)) _ _ _ _ (stuck_same p w.conn.life) (λ t. refl)
+    (λ f. bare_admitted_each n p (admitted w q) qs (admitted_kept (gone_kept n p) w q h) ∙ ap (λ (x : Work). admitted_each x qs) (bare_admitted n p w q h))
 
 -- what a turn moves
 pub bare_passed : (n p : ℕ) (w : Work) → At (There (IsGone n p)) w → bare n p (passed w) ≡ passed (bare n p w)
 bare_passed n p w h =
     let d = started w in
-    bare_moved_each n p (still_waiting d []) d.conn.waiting (started_kept (gone_kept n p) w h) ∙ ap moved_all (bare_started n p w h)
+    let e = moved_up_all d in
+    let k : At (There (IsGone n p)) d = started_kept (gone_kept n p) w h in
+    bare_admitted_each n p (still_waiting e []) e.conn.waiting (moved_up_all_kept (gone_kept n p) d k)
+    ∙ ap admitted_all (bare_moved_up_each n p (still_admitted d []) d.conn.admitted k)
+    ∙ ap (λ (x : Work). admitted_all (moved_up_all x)) (bare_started n p w h)
 
 -- what a turn ends with
 --
@@ -409,24 +466,59 @@ dialing_same p (Ready l) = refl
 dialing_same p (Ended e) = refl
 
 -- a wait is shown
-bare_wait : (n p : ℕ) (w : Work) (q : ℕ) → At (There (IsGone n p)) w → bare n p (wait_shown w q) ≡ wait_shown (bare n p w) q
-bare_wait n p w q h =
-    either_by (bare n p) (is_waiting_at w.conn.requests q) (is_waiting_at (at_progress w.conn.requests p progress.Closed) q) _ w _ (bare n p w) (waiting_same w.conn.requests p q h.past)
-    (λ t.
-    either_by (bare n p) (awaits_connect w.conn.life) (awaits_connect (hushed_life p w.conn.life)) _ w _ (bare n p w) (dialing_same p w.conn.life)
-    (λ u.
-    bare_acted n p w (act.Wait (name_at w.conn.requests q) wait.Connect) (λ m. refl)
-    ∙ ap (λ (m : ℕ). acted (bare n p w) (act.Wait m wait.Connect)) (sym (name_stays w.conn.requests p q progress.Closed)))
-    (λ f. refl))
-    (λ f. refl)
+bare_wait : (n p : ℕ) (w : Work) (q : ℕ) (kind : Option WaitKind) → bare n p (wait_shown w q kind) ≡ wait_shown (bare n p w) q kind
+bare_wait n p w q None = refl
+bare_wait n p w q (Some kind) =
+    bare_acted n p w (act.Wait (name_at w.conn.requests q) kind) (λ m. refl)
+    ∙ ap (λ (m : ℕ). acted (bare n p w) (act.Wait m kind)) (sym (name_stays w.conn.requests p q progress.Closed))
 
--- all waits of a turn
-bare_waits : (n p : ℕ) (w : Work) (qs : List ℕ) → At (There (IsGone n p)) w → bare n p (waits_each w qs) ≡ waits_each (bare n p w) qs
-bare_waits n p w [] h = refl
-bare_waits n p w (q ∷ qs) h = bare_waits n p (wait_shown w q) qs (wait_kept (gone_kept n p) w q h) ∙ ap (λ (x : Work). waits_each x qs) (bare_wait n p w q h)
+-- nor does who is the first of the queue depend on the row
+first_same : (p : ℕ) (life : Life) → first_queued life ≡ first_queued (hushed_life p life)
+first_same p Dialing = refl
+first_same p (Ready l) = refl
+first_same p (Ended e) = refl
+
+-- what another request that was moved waits for
+moved_wait_same : (n p : ℕ) (c : MultiplexedConnection) (q : ℕ) → q ≢ p → IsGone n p c.requests c.life → moved_wait c q ≡ moved_wait (bare_conn p c) q
+moved_wait_same n p c q o h =
+    let a = same_test is_admitted c.requests p q refl h.seated in
+    let b : is_placed_at c.requests q ≡ is_placed_at (at_progress c.requests p progress.Closed) q = sym (test_other is_placed c.requests p q progress.Closed (λ e. o (sym e))) in
+    let f = first_same p c.life in
+    λ i. if a i then Some wait.Place else if b i && is_from (f i) q then Some wait.Room else None
+
+-- what one that came waits for
+fresh_wait_same : (n p : ℕ) (c : MultiplexedConnection) (q : ℕ) → IsGone n p c.requests c.life → fresh_wait c q ≡ fresh_wait (bare_conn p c) q
+fresh_wait_same n p c q h =
+    let a = same_test is_waiting c.requests p q refl h.past in
+    let d = dialing_same p c.life in
+    λ i. if a i && d i then Some wait.Connect else None
+
+-- all waits of those that were moved
+bare_moved_each_shown : (n p : ℕ) (w : Work) (qs : List ℕ) → NoneIs p qs → At (There (IsGone n p)) w → bare n p (moved_each_shown w qs) ≡ moved_each_shown (bare n p w) qs
+bare_moved_each_shown n p w [] o h = refl
+bare_moved_each_shown n p w (q ∷ qs) o h =
+    let kind = moved_wait w.conn q in
+    bare_moved_each_shown n p (wait_shown w q kind) qs o.1 (wait_kept (gone_kept n p) w q kind h)
+    ∙ ap (λ (x : Work). moved_each_shown x qs) (bare_wait n p w q kind ∙ ap (wait_shown (bare n p w) q) (moved_wait_same n p w.conn q o.0 h))
+
+-- of whom none is request p
+bare_moved_shown : (n p : ℕ) (w : Work) → At (IsAway n p) w → bare n p (moved_shown w) ≡ moved_shown (bare n p w)
+bare_moved_shown n p w h = bare_moved_each_shown n p (record w { conn = record w.conn { moved = [] } }) w.conn.moved h.unmoved h.gone
+
+-- and all waits of those that came
+bare_fresh_each_shown : (n p : ℕ) (w : Work) (qs : List ℕ) → At (There (IsGone n p)) w → bare n p (fresh_each_shown w qs) ≡ fresh_each_shown (bare n p w) qs
+bare_fresh_each_shown n p w [] h = refl
+bare_fresh_each_shown n p w (q ∷ qs) h =
+    let kind = fresh_wait w.conn q in
+    bare_fresh_each_shown n p (wait_shown w q kind) qs (wait_kept (gone_kept n p) w q kind h)
+    ∙ ap (λ (x : Work). fresh_each_shown x qs) (bare_wait n p w q kind ∙ ap (wait_shown (bare n p w) q) (fresh_wait_same n p w.conn q h))
 
 -- what a turn ends with
-pub bare_flushed : (n p : ℕ) (w : Work) → At (There (IsGone n p)) w → bare n p (flushed w) ≡ flushed (bare n p w)
+pub bare_flushed : (n p : ℕ) (w : Work) → At (IsAway n p) w → bare n p (flushed w) ≡ flushed (bare n p w)
 bare_flushed n p w h =
     let d = written w in
-    bare_waits n p (record d { conn = record d.conn { fresh = [] } }) d.conn.fresh (written_kept (gone_kept n p) w h) ∙ ap waits_shown (bare_written_at n p w w.conn.life)
+    let k : At (IsAway n p) d = written_kept (away_kept n p) w h in
+    let e = moved_shown d in
+    let m : At (IsAway n p) e = moved_shown_kept (away_kept n p) d k in
+    bare_fresh_each_shown n p (record e { conn = record e.conn { fresh = [] } }) e.conn.fresh m.gone ∙ ap fresh_shown (bare_moved_shown n p d k)
+    ∙ ap waits_shown (bare_written_at n p w w.conn.life)

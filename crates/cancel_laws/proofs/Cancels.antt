@@ -15,7 +15,7 @@ use Rattle.mux_conn.specs.declared.connection.MultiplexedConnection.{Multiplexed
 use Rattle.mux_conn.specs.declared.life.Life.{Life}
 use Rattle.mux_conn.specs.declared.life.Life.TheVariants.{Dialing, Ready, Ended}
 use Rattle.mux_conn.specs.declared.request.Pending.{Pending}
-use Rattle.mux_conn.specs.Requests.{if_there, is_open, is_waiting, is_open_at}
+use Rattle.mux_conn.specs.Requests.{if_there, is_open, is_waiting, is_admitted, is_open_at}
 use Rattle.mux_conn.specs.Effects.{cancelled_in, left}
 use Rattle.shared_session.specs.declared.core_state.Core.{Core}
 use Rattle.shared_session.specs.Turn.{Turning, work_of, with_work, heard, left_by, counted, moved_on, exceeds_offer, is_bad, shown_each, actions_of, next_turn}
@@ -27,7 +27,7 @@ use Rattle.cancel_laws.proofs.Requests.{own_closed}
 use Rattle.cancel_laws.proofs.Names.{own_of}
 use Rattle.cancel_laws.proofs.Links.{none_from}
 use Rattle.cancel_laws.proofs.Kept.{There, AtCore, turn_kept}
-use Rattle.cancel_laws.proofs.Gone.{NoneQueued, NoneInRow, IsGone, IsHushed, hushed_kept, hushed_asks, quiet_life}
+use Rattle.cancel_laws.proofs.Gone.{NoneQueued, NoneInRow, NoneIs, IsAway, IsHushed, hushed_kept, hushed_asks, quiet_life}
 use Rattle.cancel_laws.proofs.Bare.{own_left}
 use Rattle.cancel_laws.proofs.Once.{IsOnce, silenced_once, row_once}
 use Rattle.cancel_laws.proofs.Rest.{nothing_moves, left_idle}
@@ -39,29 +39,42 @@ use Rattle.cancel_laws.proofs.Outcomes.{told-append, all_told_unnumbered, erased
 
 -- the turn of the cancel
 --
--- where submission n is request p, the turn of its cancel is the request's cancel
-cancel_turn : (c : Core) (n : ℕ) (p : Pending) → IsReady c → slice_get c.table n ≡ Some (Some p)
+-- where submission n is request p, whose message isn't in the queue, the turn of its cancel is the request's cancel
+cancel_turn : (c : Core) (n : ℕ) (p : Pending) → IsReady c → slice_get c.table n ≡ Some (Some p) → NoneQueued p.number c.single.connection.life
     → next_turn c (event.Cancel n) ≡ record { core = record c { turns = c.turns + 1; single = record c.single { connection = left c.single.connection p.number } }; acts = [] }
 unfolding next_turn
-cancel_turn c n p r there =
+cancel_turn c n p r there none =
     let t = heard (counted c) (event.Cancel n) in
     let d = left_by t (Some (Some p)) in
     ap (λ (who : Option (Option Pending)). moved_on (left_by t who)) there
-    ∙ ap (with_work d) (nothing_moves (work_of d) (left_idle c.single.connection p.number r.idle))
+    ∙ ap (with_work d) (nothing_moves (work_of d) (left_idle c.single.connection p.number none r.idle))
     ∙ ap
     (λ (b : Bool). record { core = record c { turns = c.turns + 1; shut = b; single = record c.single { connection = left c.single.connection p.number } }; acts = [] })
     (or-false c.shut)
 
 -- a started request is gone from the queue
-started_gone : (n : ℕ) (c : Core) (h : HasStarted n c) → IsReady c → AtCore (There (IsGone n h.pending.number)) c
-started_gone n c h r =
+started_none : (n : ℕ) (c : Core) (h : HasStarted n c) → NoneQueued h.pending.number c.single.connection.life
+started_none n c h = let p = h.pending.number in subst (NoneQueued p) (sym h.up) (none_from p h.link.queue h.gone)
+
+-- and it waits for nothing
+started_away : (n : ℕ) (c : Core) (h : HasStarted n c) → IsReady c → AtCore (IsAway n h.pending.number) c
+started_away n c h r =
     let p = h.pending.number in
     record {
-      there = get_within c.single.connection.requests p h.request h.known;
-      own = own_of n h.pending c.table _ r.named h.there;
-      past = ap (if_there is_waiting) h.known ∙ ap is_waiting h.placed;
-      none = subst (NoneQueued p) (sym h.up) (none_from p h.link.queue h.gone);
+      gone = record {
+        there = get_within c.single.connection.requests p h.request h.known;
+        own = own_of n h.pending c.table _ r.named h.there;
+        past = ap (if_there is_waiting) h.known ∙ ap is_waiting h.placed;
+        seated = ap (if_there is_admitted) h.known ∙ ap is_admitted h.placed;
+        none = started_none n c h;
+      };
+      unmoved = subst (NoneIs p) (sym r.idle.calm) tt;
     }
+
+-- so its cancel's turn is its cancel
+started_cancel : (n : ℕ) (c : Core) (h : HasStarted n c) → IsReady c
+    → next_turn c (event.Cancel n) ≡ record { core = record c { turns = c.turns + 1; single = record c.single { connection = left c.single.connection h.pending.number } }; acts = [] }
+started_cancel n c h r = cancel_turn c n h.pending r h.there (started_none n c h)
 
 -- and it is open
 started_open : (n : ℕ) (c : Core) (h : HasStarted n c) → is_open_at c.single.connection.requests h.pending.number ≡ true
@@ -71,13 +84,13 @@ started_open n c h = ap (if_there is_open) h.known ∙ ap is_open h.placed
 cancel_alike : (n : ℕ) (c : Core) (h : HasStarted n c) → IsReady c → AreAlike n h.pending.number c (next_turn c (event.Cancel n)).core
 cancel_alike n c h r =
     let p = h.pending.number in
-    let gone = started_gone n c h r in
+    let gone = started_away n c h r in
     let within = get_within c.table n (Some h.pending) h.there in
-    let own = own_left p c.single.connection gone.none in
+    let own = own_left p c.single.connection gone.gone.none in
     record {
       same =
           ap (λ (x : MultiplexedConnection). record (bare_core p c) { single = record c.single { connection = x } }) (sym own)
-          ∙ ap (λ (x : Turning). bare_core p x.core) (sym (cancel_turn c n h.pending r h.there));
+          ∙ ap (λ (x : Turning). bare_core p x.core) (sym (started_cancel n c h r));
       within = within;
       within_too = more_after n c (event.Cancel n) within;
       gone = gone;
@@ -92,11 +105,11 @@ left_closed c p = chosen (λ (x : MultiplexedConnection). is_open_at x.requests 
 cancel_silent : (n : ℕ) (c : Core) (h : HasStarted n c) → IsReady c → AtCore (IsSilent n h.pending.number) (next_turn c (event.Cancel n)).core
 cancel_silent n c h r =
     let p = h.pending.number in
-    let g = (cancel_alike n c h r).gone_too in
+    let g = (cancel_alike n c h r).gone_too.gone in
     record {
       there = g.there;
       own = g.own;
-      closed = ap (λ (x : Turning). is_open_at x.core.single.connection.requests p) (cancel_turn c n h.pending r h.there) ∙ left_closed c.single.connection p;
+      closed = ap (λ (x : Turning). is_open_at x.core.single.connection.requests p) (started_cancel n c h r) ∙ left_closed c.single.connection p;
       unshown = refl;
     }
 
@@ -113,8 +126,8 @@ cancel_hushed n c h r =
     let quiet : NoneInRow p (cancelled_in x.life p) =
     subst (λ (life : Life). NoneInRow p (cancelled_in life p)) (sym h.up) (silenced_once p h.link.row (row_once p x.requests h.link h.request once h.known)) in
     record {
-      gone = (cancel_alike n c h r).gone_too;
-      quiet = subst (λ (y : Turning). NoneInRow p y.core.single.connection.life) (sym (cancel_turn c n h.pending r h.there)) (left_quiet x p (started_open n c h) quiet);
+      gone = (cancel_alike n c h r).gone_too.gone;
+      quiet = subst (λ (y : Turning). NoneInRow p y.core.single.connection.life) (sym (started_cancel n c h r)) (left_quiet x p (started_open n c h) quiet);
     }
 
 -- and never again
@@ -124,8 +137,8 @@ hushed_on n p c (e ∷ es) l h =
     hushed_on n p (next_turn c e.kind).core es (more_after n c e.kind l) (turn_kept (hushed_kept n p) c (hushed_asks n p (length c.table) (above n c.table l)) e.kind h)
 
 -- the turn of the cancel shows nothing
-cancel_shows : (c : Core) (draw n : ℕ) (p : Pending) → IsReady c → slice_get c.table n ≡ Some (Some p) → actions_of c (cancel_of draw n) ≡ action.Turn c.turns (cause.Event (cancel_of draw n)) ∷ []
-cancel_shows c draw n p r there = ap (λ (x : Turning). action.Turn c.turns (cause.Event (cancel_of draw n)) ∷ shown_each c.single.link x.acts) (cancel_turn c n p r there)
+cancel_shows : (c : Core) (draw n : ℕ) (h : HasStarted n c) → IsReady c → actions_of c (cancel_of draw n) ≡ action.Turn c.turns (cause.Event (cancel_of draw n)) ∷ []
+cancel_shows c draw n h r = ap (λ (x : Turning). action.Turn c.turns (cause.Event (cancel_of draw n)) ∷ shown_each c.single.link x.acts) (started_cancel n c h r)
 
 -- histories
 --
@@ -192,7 +205,7 @@ goes_on config word draw n before after h =
       later_with = turns_on d after;
       plain = trace_split config word before after;
       with_more = trace_split config word before (cancel_of draw n ∷ after)
-          ∙ ap (λ (xs : List Action). trace_of config word before ++ (xs ++ turns_on d after)) (cancel_shows c draw n h.pending r h.there ∙ number);
+          ∙ ap (λ (xs : List Action). trace_of config word before ++ (xs ++ turns_on d after)) (cancel_shows c draw n h r ∙ number);
       alike = shown_alike n h.pending.number c d after (cancel_alike n c h r) ∙ silent_after config word n before after h;
     }
 

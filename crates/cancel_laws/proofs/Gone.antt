@@ -2,16 +2,17 @@
 use Rattle.std.proofs.Common.{◌≡◌, ◌≢◌, ℕ, ◌<◌, ◌==◌, ◌&&◌, Bool, false, List, [], ◌∷◌, ◌++◌, length, refl, sym, ap, ◌∙◌, subst, arith, length-append}
 use Rattle.containers.proofs.Choices.{ne_test}
 use Rattle.link_core.specs.declared.message.Entry.{Entry}
+use Rattle.mux_conn.specs.declared.act.LinkAct.{LinkAct}
 use Rattle.mux_conn.specs.declared.life.Life.{Life}
 use Rattle.mux_conn.specs.declared.life.Life.TheVariants.{Dialing, Ready, Ended}
 use Rattle.mux_conn.specs.declared.request.Progress.{Progress}
 use Rattle.mux_conn.specs.declared.request.Progress.TheVariants as progress
 use Rattle.mux_conn.specs.declared.request.Request.{Request}
-use Rattle.mux_conn.specs.Requests.{is_waiting_at, at_progress}
+use Rattle.mux_conn.specs.Requests.{is_waiting, is_admitted, is_waiting_at, is_admitted_at, at_progress}
 use Rattle.mux_conn.specs.Effects.{cancelled_in}
 use Rattle.mux_conn.specs.Passes.{message_of}
 use Rattle.cancel_laws.specs.ButFor.{hushed_life}
-use Rattle.cancel_laws.proofs.Requests.{names, names_stay, names_push, progress_count, past_set, past_push, other_number}
+use Rattle.cancel_laws.proofs.Requests.{names, names_stay, names_push, progress_count, past_set, test_other, test_push, other_test}
 use Rattle.cancel_laws.proofs.Names.{IsOwn, own_push}
 use Rattle.cancel_laws.proofs.Links.{NoneOf, NoneWanted, none_push, none_without, none_started, none_came, quiet_starts, quiet_came, quiet_silenced, quiet_stays}
 use Rattle.cancel_laws.proofs.Kept.{IsKept, IsKeptThere, There, kept_there, CanAsk}
@@ -28,11 +29,12 @@ NoneInRow p Dialing = Unit {0}
 NoneInRow p (Ready l) = NoneWanted p l.row
 NoneInRow p (Ended e) = Unit {0}
 
--- request p has the name n, doesn't wait for its place, and isn't in the queue
+-- request p has the name n, waits neither for the connection nor for a place, and isn't in the queue
 pub record IsGone (n p : ℕ) (r : List Request) (life : Life) : Type 0 where
   pub there : p < length r
   pub own : IsOwn n p (names r)
   pub past : is_waiting_at r p ≡ false
+  pub seated : is_admitted_at r p ≡ false
   pub none : NoneQueued p life
 
 -- a change of progress
@@ -58,25 +60,40 @@ not_awaited p q awaited o = ap (λ (b : Bool). b && awaited) (ne_test q p o)
 -- each single change keeps that
 gone_there : (n p : ℕ) → IsKeptThere (IsGone n p)
 gone_there n p = record {
-  answer = λ r life q h. record { there = within_kept r p q progress.Closed h.there; own = own_kept n p r q progress.Closed h.own; past = past_set r q p progress.Closed refl h.past; none = h.none };
+  answer = λ r life q h. record {
+    there = within_kept r p q progress.Closed h.there;
+    own = own_kept n p r q progress.Closed h.own;
+    past = past_set is_waiting r q p progress.Closed refl h.past;
+    seated = past_set is_admitted r q p progress.Closed refl h.seated;
+    none = h.none;
+  };
   cancel = λ r life q h. record {
     there = within_kept r p q progress.Closed h.there;
     own = own_kept n p r q progress.Closed h.own;
-    past = past_set r q p progress.Closed refl h.past;
+    past = past_set is_waiting r q p progress.Closed refl h.past;
+    seated = past_set is_admitted r q p progress.Closed refl h.seated;
     none = none_cancelled p q life h.none;
   };
-  connect = λ r h. record { there = h.there; own = h.own; past = h.past; none = tt };
+  connect = λ r size bound h. record { there = h.there; own = h.own; past = h.past; seated = h.seated; none = tt };
+  admit = λ r life q t h. record {
+    there = within_kept r p q progress.Admitted h.there;
+    own = own_kept n p r q progress.Admitted h.own;
+    past = past_set is_waiting r q p progress.Admitted refl h.past;
+    seated = test_other is_admitted r q p progress.Admitted (other_test is_waiting r q p t h.past) ∙ h.seated;
+    none = h.none;
+  };
   place = λ r l q t h. record {
     there = within_kept r p q.number progress.Placed h.there;
     own = own_kept n p r q.number progress.Placed h.own;
-    past = past_set r q.number p progress.Placed refl h.past;
-    none = none_push p l.queue (message_of q) h.none (not_awaited p q.number q.awaited (other_number r q.number p t h.past));
+    past = past_set is_waiting r q.number p progress.Placed refl h.past;
+    seated = past_set is_admitted r q.number p progress.Placed refl h.seated;
+    none = none_push p l.queue (message_of q) h.none (not_awaited p q.number q.awaited (other_test is_admitted r q.number p t h.seated));
   };
-  start = λ r l h. record { there = h.there; own = h.own; past = h.past; none = none_started p (record { link = l; out = [] }) l.queue h.none };
-  offer = λ r l h. record { there = h.there; own = h.own; past = h.past; none = h.none };
-  write = λ r l k h. record { there = h.there; own = h.own; past = h.past; none = h.none };
-  come = λ r l piece h. record { there = h.there; own = h.own; past = h.past; none = none_came p l piece h.none };
-  end = λ r life e h. record { there = h.there; own = h.own; past = h.past; none = tt };
+  start = λ r l h. record { there = h.there; own = h.own; past = h.past; seated = h.seated; none = none_started p (record { link = l; out = [] }) l.queue h.none };
+  offer = λ r l h. record { there = h.there; own = h.own; past = h.past; seated = h.seated; none = h.none };
+  write = λ r l k h. record { there = h.there; own = h.own; past = h.past; seated = h.seated; none = h.none };
+  come = λ r l piece h. record { there = h.there; own = h.own; past = h.past; seated = h.seated; none = none_came p l piece h.none };
+  end = λ r life e h. record { there = h.there; own = h.own; past = h.past; seated = h.seated; none = tt };
 }
 
 -- so each part of a turn does
@@ -90,13 +107,52 @@ gone_asked n p m r life o h =
     record {
       there = omega (arith, h.there, length-append r (x ∷ []));
       own = subst (IsOwn n p) (sym (names_push r x)) (own_push n p m (names r) o h.own);
-      past = past_push r p x h.there ∙ h.past;
+      past = test_push is_waiting r p x h.there ∙ h.past;
+      seated = test_push is_admitted r p x h.there ∙ h.seated;
       none = h.none;
     }
 
+-- where it wasn't moved
+--
+-- no number of these is p
+abbrev pub NoneIs : ℕ → List ℕ → Type 0
+NoneIs p [] = Unit {0}
+NoneIs p (q ∷ qs) = (q ≢ p) × NoneIs p qs
+
+-- nor is it where one more isn't
+none_is_push : (p : ℕ) (qs : List ℕ) (q : ℕ) → q ≢ p → NoneIs p qs → NoneIs p (qs ++ q ∷ [])
+none_is_push p [] q o h = (o, tt)
+none_is_push p (x ∷ qs) q o h = (h.0, none_is_push p qs q o h.1)
+
+-- that request, where it was not moved in this turn
+pub record IsAway (n p : ℕ) (r : List Request) (life : Life) (ms : List ℕ) (xs : List LinkAct) : Type 0 where
+  pub gone : IsGone n p r life
+  pub unmoved : NoneIs p ms
+
+-- so each part of a turn does
+pub away_kept : (n p : ℕ) → IsKept (IsAway n p)
+away_kept n p = record {
+  answer = λ r life ms xs q o t h. record { gone = (gone_there n p).answer r life q h.gone; unmoved = h.unmoved };
+  cancel = λ r life ms xs q t h. record { gone = (gone_there n p).cancel r life q h.gone; unmoved = h.unmoved };
+  connect = λ r size bound ms xs h. record { gone = (gone_there n p).connect r size bound h.gone; unmoved = h.unmoved };
+  admit = λ r life ms xs q t h. record { gone = (gone_there n p).admit r life q t h.gone; unmoved = h.unmoved };
+  note = λ r life ms xs q t h. record { gone = h.gone; unmoved = none_is_push p ms q (other_test is_admitted r q p t h.gone.seated) h.unmoved };
+  place = λ r l ms xs q t h. record { gone = (gone_there n p).place r l q t h.gone; unmoved = h.unmoved };
+  start = λ r l ms xs h. record { gone = (gone_there n p).start r l h.gone; unmoved = h.unmoved };
+  offer = λ r l ms xs h. record { gone = (gone_there n p).offer r l h.gone; unmoved = h.unmoved };
+  write = λ r l ms xs k h. record { gone = (gone_there n p).write r l k h.gone; unmoved = h.unmoved };
+  come = λ r l ms xs piece h. record { gone = (gone_there n p).come r l piece h.gone; unmoved = h.unmoved };
+  end = λ r life ms xs e h. record { gone = (gone_there n p).end r life e h.gone; unmoved = h.unmoved };
+  show = λ r life ms xs a plain h. record { gone = h.gone; unmoved = h.unmoved };
+  calm = λ r life ms xs h. record { gone = h.gone; unmoved = tt };
+}
+
 -- and one more submission does
-pub gone_asks : (n p m : ℕ) → m ≢ n → CanAsk (There (IsGone n p)) m
-gone_asks n p m o = record { ask = λ r life xs h. gone_asked n p m r life o h; refuse = λ r life xs x h. h }
+pub away_asks : (n p m : ℕ) → m ≢ n → CanAsk (IsAway n p) m
+away_asks n p m o = record {
+  ask = λ r life ms xs h. record { gone = gone_asked n p m r life o h.gone; unmoved = h.unmoved };
+  refuse = λ r life ms xs x h. record { gone = h.gone; unmoved = h.unmoved };
+}
 
 -- where its verdict is not wanted
 --
@@ -116,7 +172,8 @@ hushed_there : (n p : ℕ) → IsKeptThere (IsHushed n p)
 hushed_there n p = record {
   answer = λ r life q h. record { gone = (gone_there n p).answer r life q h.gone; quiet = h.quiet };
   cancel = λ r life q h. record { gone = (gone_there n p).cancel r life q h.gone; quiet = quiet_cancelled p q life h.quiet };
-  connect = λ r h. record { gone = (gone_there n p).connect r h.gone; quiet = tt };
+  connect = λ r size bound h. record { gone = (gone_there n p).connect r size bound h.gone; quiet = tt };
+  admit = λ r life q t h. record { gone = (gone_there n p).admit r life q t h.gone; quiet = h.quiet };
   place = λ r l q t h. record { gone = (gone_there n p).place r l q t h.gone; quiet = h.quiet };
   start = λ r l h. record { gone = (gone_there n p).start r l h.gone; quiet = quiet_starts p (record { link = l; out = [] }) l.queue h.gone.none h.quiet };
   offer = λ r l h. record { gone = (gone_there n p).offer r l h.gone; quiet = h.quiet };
@@ -131,7 +188,7 @@ hushed_kept n p = kept_there (hushed_there n p)
 
 -- and one more submission does
 pub hushed_asks : (n p m : ℕ) → m ≢ n → CanAsk (There (IsHushed n p)) m
-hushed_asks n p m o = record { ask = λ r life xs h. record { gone = gone_asked n p m r life o h.gone; quiet = h.quiet }; refuse = λ r life xs x h. h }
+hushed_asks n p m o = record { ask = λ r life ms xs h. record { gone = gone_asked n p m r life o h.gone; quiet = h.quiet }; refuse = λ r life ms xs x h. h }
 
 -- where nobody awaits it, its verdict is not wanted
 pub quiet_life : (p : ℕ) (life : Life) → NoneInRow p life → hushed_life p life ≡ life

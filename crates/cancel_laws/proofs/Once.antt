@@ -1,5 +1,5 @@
 -- A request has at most one message on its link.
-use Rattle.std.proofs.Common.{◌≡◌, ℕ, zero, suc, ◌+◌, ◌≤◌, ◌==◌, nat_lt, ◌&&◌, Bool, true, false, List, [], ◌∷◌, ◌++◌, length, Option, Some, None, slice_get, if◌then◌else◌, refl, ap, subst, arith}
+use Rattle.std.proofs.Common.{◌≡◌, ℕ, zero, suc, ◌+◌, ◌≤◌, ◌==◌, nat_lt, ◌&&◌, Bool, true, List, [], ◌∷◌, ◌++◌, length, Option, Some, None, slice_get, if◌then◌else◌, refl, ap, subst, arith}
 use Rattle.std.proofs.Math.Bool.{and-false}
 use Rattle.containers.proofs.Choices.{by_test, chosen, taken_if, left_if, eq_from}
 use Rattle.resp_value.specs.Data.{Data}
@@ -16,7 +16,7 @@ use Rattle.mux_conn.specs.declared.life.Life.TheVariants.{Dialing, Ready, Ended}
 use Rattle.mux_conn.specs.declared.request.Progress.{Progress}
 use Rattle.mux_conn.specs.declared.request.Progress.TheVariants as progress
 use Rattle.mux_conn.specs.declared.request.Request.{Request}
-use Rattle.mux_conn.specs.Requests.{is_waiting, is_waiting_at, at_progress}
+use Rattle.mux_conn.specs.Requests.{is_waiting, is_admitted, is_waiting_at, is_admitted_at, at_progress}
 use Rattle.mux_conn.specs.Effects.{cancelled_in}
 use Rattle.mux_conn.specs.Passes.{message_of}
 use Rattle.cancel_laws.proofs.Links.{NoneWanted}
@@ -49,6 +49,7 @@ all_of p (Ended e) = 0
 -- how often it may, by its progress
 abbrev pub share_by : Progress → ℕ
 share_by progress.Waiting = 0
+share_by progress.Admitted = 0
 share_by progress.Placed = 1
 share_by progress.Closed = 1
 
@@ -67,31 +68,42 @@ pub record IsOnce (p : ℕ) (r : List Request) (life : Life) : Type 0 where
 
 -- progress
 --
--- one that doesn't wait may have one
-share_whole : (x : Progress) → is_waiting x ≡ false → share_by x ≡ 1
-share_whole progress.Waiting e = cc
-share_whole progress.Placed e = refl
-share_whole progress.Closed e = refl
-
--- and no request may have more
+-- no request may have more than one
 share_most : (x : Progress) → share_by x ≤ 1
 share_most progress.Waiting = omega arith
+share_most progress.Admitted = omega arith
 share_most progress.Placed = omega arith
 share_most progress.Closed = omega arith
 
--- one that waits may have none
-share_least : (x : Progress) → is_waiting x ≡ true → share_by x ≡ 0
-share_least progress.Waiting e = refl
+-- one that waits for a place may have none
+share_least : (x : Progress) → is_admitted x ≡ true → share_by x ≡ 0
+share_least progress.Waiting e = cc
+share_least progress.Admitted e = refl
 share_least progress.Placed e = cc
 share_least progress.Closed e = cc
 
--- a request that goes on may have no less
-share_set : (r : List Request) (p q : ℕ) (x : Progress) → is_waiting x ≡ false → share r p ≤ share (at_progress r q x) p
+-- nor may one that waits for the connection
+share_first : (x : Progress) → is_waiting x ≡ true → share_by x ≡ 0
+share_first progress.Waiting e = refl
+share_first progress.Admitted e = cc
+share_first progress.Placed e = cc
+share_first progress.Closed e = cc
+
+-- a request that goes on to where it may have one may have no less
+share_set : (r : List Request) (p q : ℕ) (x : Progress) → share_by x ≡ 1 → share r p ≤ share (at_progress r q x) p
 share_set [] p q x e = omega arith
-share_set (y ∷ r) zero zero x e = omega (arith, share_most y.progress, share_whole x e)
+share_set (y ∷ r) zero zero x e = omega (arith, share_most y.progress, e)
 share_set (y ∷ r) zero (suc q) x e = omega arith
 share_set (y ∷ r) (suc p) zero x e = omega arith
 share_set (y ∷ r) (suc p) (suc q) x e = share_set r p q x e
+
+-- nor where it has waited for the connection
+share_admit : (r : List Request) (p q : ℕ) → is_waiting_at r q ≡ true → share r p ≤ share (at_progress r q progress.Admitted) p
+share_admit [] p q t = omega arith
+share_admit (y ∷ r) zero zero t = omega (arith, share_first y.progress t)
+share_admit (y ∷ r) zero (suc q) t = omega arith
+share_admit (y ∷ r) (suc p) zero t = omega arith
+share_admit (y ∷ r) (suc p) (suc q) t = share_admit r p q t
 
 -- one more request takes nothing away
 share_push : (r : List Request) (p : ℕ) (x : Request) → share r p ≤ share (r ++ x ∷ []) p
@@ -99,10 +111,10 @@ share_push [] p x = omega arith
 share_push (y ∷ r) zero x = omega arith
 share_push (y ∷ r) (suc p) x = share_push r p x
 
--- one that has waited may have one more
-share_waits : (r : List Request) (p : ℕ) (x : Progress) → is_waiting x ≡ false → is_waiting_at r p ≡ true → share r p + 1 ≤ share (at_progress r p x) p
+-- one that has waited for a place may have one more
+share_waits : (r : List Request) (p : ℕ) (x : Progress) → share_by x ≡ 1 → is_admitted_at r p ≡ true → share r p + 1 ≤ share (at_progress r p x) p
 share_waits [] p x e t = cc
-share_waits (y ∷ r) zero x e t = omega (arith, share_whole x e, share_least y.progress t)
+share_waits (y ∷ r) zero x e t = omega (arith, e, share_least y.progress t)
 share_waits (y ∷ r) (suc p) x e t = share_waits r p x e t
 
 -- the row and the queue
@@ -152,7 +164,7 @@ cancelled_once p q (Ready l) = omega (arith, times_silenced p q l.row, places_wi
 cancelled_once p q (Ended e) = omega arith
 
 -- a request that takes its place brings one, and may have it
-placed_once : (p q : ℕ) (r : List Request) (before : ℕ) → is_waiting_at r q ≡ true → before ≤ share r p → before + one p q ≤ share (at_progress r q progress.Placed) p
+placed_once : (p q : ℕ) (r : List Request) (before : ℕ) → is_admitted_at r q ≡ true → before ≤ share r p → before + one p q ≤ share (at_progress r q progress.Placed) p
 placed_once p q r before t l =
     by_test (q == p) _
     (λ e.
@@ -166,7 +178,8 @@ once_there : (p : ℕ) → IsKeptThere (IsOnce p)
 once_there p = record {
   answer = λ r life q h. record { within = omega (arith, h.within, share_set r p q progress.Closed refl) };
   cancel = λ r life q h. record { within = omega (arith, h.within, share_set r p q progress.Closed refl, cancelled_once p q life) };
-  connect = λ r h. record { within = omega arith };
+  connect = λ r size bound h. record { within = omega arith };
+  admit = λ r life q t h. record { within = omega (arith, h.within, share_admit r p q t) };
   place = λ r l q t h. record { within = omega (arith, placed_once p q.number r (all_of p (Ready l)) t h.within, places_push p l.queue (message_of q)) };
   start = λ r l h. record { within = omega (arith, h.within, starts_same p (record { link = l; out = [] }) l.queue) };
   offer = λ r l h. record { within = h.within };
@@ -183,8 +196,8 @@ once_kept p = kept_there (once_there p)
 -- and one more submission does
 pub once_asks : (p m : ℕ) → CanAsk (There (IsOnce p)) m
 once_asks p m = record {
-  ask = λ r life xs h. record { within = omega (arith, h.within, share_push r p (record { name = m; progress = progress.Waiting })) };
-  refuse = λ r life xs o h. h;
+  ask = λ r life ms xs h. record { within = omega (arith, h.within, share_push r p (record { name = m; progress = progress.Waiting })) };
+  refuse = λ r life ms xs o h. h;
 }
 
 -- a cancel silences all that there is of the message

@@ -16,9 +16,9 @@ use Rattle.shared_session.specs.Turn.{Turning, work_of, heard, left_by, requeste
 use Rattle.shared_session.specs.Replay.{opening_core, run_on}
 use Rattle.cancel_laws.proofs.Requests.{names, names_stay, names_push, names_count}
 use Rattle.cancel_laws.proofs.Names.{AreNamed, named_refused, named_asked}
-use Rattle.cancel_laws.proofs.Kept.{IsKept, IsKeptThere, There, kept_there, heard_kept, left_by_kept, effect_kept, passed_kept, flushed_kept, turn_kept}
+use Rattle.cancel_laws.proofs.Kept.{IsKept, IsKeptThere, There, kept_there, heard_kept, left_by_kept, passed_kept, flushed_kept, turn_kept}
 use Rattle.cancel_laws.proofs.Once.{IsOnce, once_kept, once_asks}
-use Rattle.cancel_laws.proofs.Rest.{IsWide, wide_kept, wide_asks, IsIdle, moves_idle}
+use Rattle.cancel_laws.proofs.Rest.{IsIdle, moves_idle}
 
 -- names
 --
@@ -31,7 +31,8 @@ names_there : (ns : List ℕ) → IsKeptThere (HasNames ns)
 names_there ns = record {
   answer = λ r life q h. names_stay r q progress.Closed ∙ h;
   cancel = λ r life q h. names_stay r q progress.Closed ∙ h;
-  connect = λ r h. h;
+  connect = λ r size bound h. h;
+  admit = λ r life q t h. names_stay r q progress.Admitted ∙ h;
   place = λ r l q t h. names_stay r q.number progress.Placed ∙ h;
   start = λ r l h. h;
   offer = λ r l h. h;
@@ -89,9 +90,8 @@ named_moved_on t h =
 
 -- where a history leads
 --
--- nothing holds messages back and nothing is left to do, and requests have one message at most and names of their own
+-- nothing is left to do, and requests have one message at most and names of their own
 pub record IsReady (c : Core) : Type 0 where
-  pub wide : IsWide c.single.connection.life
   pub idle : IsIdle c.single.connection
   pub once : (p : ℕ) → IsOnce p c.single.connection.requests c.single.connection.life
   pub named : AreNamed c.table (names c.single.connection.requests)
@@ -102,8 +102,7 @@ unfolding next_turn
 ready_turn c kind h =
     let t = effect (counted c) kind in
     record {
-      wide = turn_kept wide_kept c (wide_asks (length c.table)) kind h.wide;
-      idle = moves_idle (work_of t) (effect_kept wide_kept (counted c) (wide_asks (length c.table)) kind h.wide);
+      idle = moves_idle (work_of t);
       once = λ p. turn_kept (once_kept p) c (once_asks p (length c.table)) kind (h.once p);
       named = named_moved_on t (named_requested (heard (counted c) kind) kind (named_heard (counted c) kind h.named));
     }
@@ -116,8 +115,11 @@ ready_on c (e ∷ es) h = ready_on (next_turn c e.kind).core es (ready_turn c e.
 -- the opening
 pub opening_ready : (config : Config) (word : ℕ) → IsReady (opening_core config word)
 opening_ready config word = record {
-  wide = tt;
-  idle = record { fresh = refl; queue = tt; waiting = λ f. refl; offered = tt };
+  idle = record {
+    written = record { moved = record { seated = record { queue = tt; admitted = λ t. refl }; waiting = λ f. refl }; offered = tt };
+    calm = refl;
+    fresh = refl;
+  };
   once = λ p. record { within = omega arith };
   named = record { to = λ n p e. cc; back = λ q n e. cc };
 }

@@ -1,12 +1,12 @@
 -- Requests by their numbers: what a change of progress does, and what it leaves alone.
-use Rattle.std.proofs.Common.{◌≡◌, ◌≢◌, ℕ, zero, suc, ◌<◌, true, false, List, [], ◌∷◌, ◌++◌, length, Some, slice_get, refl, sym, ap, ◌∙◌, arith, length-set, ◌==◌}
+use Rattle.std.proofs.Common.{◌≡◌, ◌≢◌, ℕ, zero, suc, ◌<◌, Bool, true, false, List, [], ◌∷◌, ◌++◌, length, Some, slice_get, refl, sym, ap, ◌∙◌, arith, length-set, ◌==◌}
 use Rattle.containers.proofs.Choices.{by_test, eq_from, ne_from}
 use Rattle.containers.proofs.Places.{get_set_other}
 use Rattle.link_laws.proofs.Lists.{get_before}
 use Rattle.mux_conn.specs.declared.request.Progress.{Progress}
 use Rattle.mux_conn.specs.declared.request.Progress.TheVariants as progress
 use Rattle.mux_conn.specs.declared.request.Request.{Request}
-use Rattle.mux_conn.specs.Requests.{if_there, is_open, is_waiting, is_open_at, is_waiting_at, name_at, at_progress}
+use Rattle.mux_conn.specs.Requests.{if_there, is_open, is_waiting, is_admitted, is_open_at, is_waiting_at, is_admitted_at, name_at, at_progress}
 
 -- the names of requests, in order
 abbrev pub names : List Request → List ℕ
@@ -69,69 +69,83 @@ progress_push [] q now x l = absurd (omega arith)
 progress_push (z ∷ r) zero now x l = refl
 progress_push (z ∷ r) (suc q) now x l = ap (λ (zs : List Request). z ∷ zs) (progress_push r q now x (omega arith))
 
--- tests
+-- tests of progress
 --
--- one that was closed is not open
+-- one that was closed passes no test that a closed one doesn't
+pub own_past : (test : Progress → Bool) (r : List Request) (p : ℕ) → test progress.Closed ≡ false → if_there test (slice_get (at_progress r p progress.Closed) p) ≡ false
+own_past test [] p e = refl
+own_past test (x ∷ r) zero e = e
+own_past test (x ∷ r) (suc p) e = own_past test r p e
+
+-- so it is not open
 pub own_closed : (r : List Request) (p : ℕ) → is_open_at (at_progress r p progress.Closed) p ≡ false
-own_closed [] p = refl
-own_closed (x ∷ r) zero = refl
-own_closed (x ∷ r) (suc p) = own_closed r p
+own_closed r p = own_past is_open r p refl
 
--- one that doesn't wait never waits again
-pub past_set : (r : List Request) (q p : ℕ) (now : Progress) → is_waiting now ≡ false → is_waiting_at r p ≡ false → is_waiting_at (at_progress r q now) p ≡ false
-past_set [] q p now e h = h
-past_set (x ∷ xs) zero zero now e h = e
-past_set (x ∷ xs) zero (suc p) now e h = h
-past_set (x ∷ xs) (suc q) zero now e h = h
-past_set (x ∷ xs) (suc q) (suc p) now e h = past_set xs q p now e h
+-- one that fails a test fails it where any goes on to what fails it
+pub past_set : (test : Progress → Bool) (r : List Request) (q p : ℕ) (now : Progress) → test now ≡ false → if_there test (slice_get r p) ≡ false
+    → if_there test (slice_get (at_progress r q now) p) ≡ false
+past_set test [] q p now e h = h
+past_set test (x ∷ xs) zero zero now e h = e
+past_set test (x ∷ xs) zero (suc p) now e h = h
+past_set test (x ∷ xs) (suc q) zero now e h = h
+past_set test (x ∷ xs) (suc q) (suc p) now e h = past_set test xs q p now e h
 
--- one that was closed doesn't wait
-own_past : (r : List Request) (p : ℕ) → is_waiting_at (at_progress r p progress.Closed) p ≡ false
-own_past [] p = refl
-own_past (x ∷ r) zero = refl
-own_past (x ∷ r) (suc p) = own_past r p
+-- all others pass the tests that they passed
+pub test_other : (test : Progress → Bool) (r : List Request) (q p : ℕ) (now : Progress) → q ≢ p → if_there test (slice_get (at_progress r q now) p) ≡ if_there test (slice_get r p)
+test_other test r q p now o = ap (if_there test) (get_set_other r q p (record { name = name_at r q; progress = now }) o)
 
--- all others are as open as they were
-pub open_other : (r : List Request) (q p : ℕ) (now : Progress) → q ≢ p → is_open_at (at_progress r q now) p ≡ is_open_at r p
-open_other r q p now o = ap (if_there is_open) (get_set_other r q p (record { name = name_at r q; progress = now }) o)
-
--- one that doesn't wait may be closed, and the same ones wait
-pub waiting_same : (r : List Request) (p q : ℕ) → is_waiting_at r p ≡ false → is_waiting_at r q ≡ is_waiting_at (at_progress r p progress.Closed) q
-waiting_same r p q past =
+-- one that fails a test may be closed, and the same ones pass it
+pub same_test : (test : Progress → Bool) (r : List Request) (p q : ℕ) → test progress.Closed ≡ false → if_there test (slice_get r p) ≡ false
+    → if_there test (slice_get r q) ≡ if_there test (slice_get (at_progress r p progress.Closed) q)
+same_test test r p q closed past =
     by_test (q == p) _
-    (λ t. let e = eq_from q p t in ap (is_waiting_at r) e ∙ past ∙ sym (own_past r p) ∙ ap (is_waiting_at (at_progress r p progress.Closed)) (sym e))
-    (λ f.
-    let o = ne_from q p f in
-    ap (if_there is_waiting) (sym (get_set_other r p q (record { name = name_at r p; progress = progress.Closed }) (λ e. o (sym e)))))
+    (λ t.
+    let e = eq_from q p t in
+    ap (λ (k : ℕ). if_there test (slice_get r k)) e ∙ past ∙ sym (own_past test r p closed) ∙ ap (λ (k : ℕ). if_there test (slice_get (at_progress r p progress.Closed) k)) (sym e))
+    (λ f. sym (test_other test r p q progress.Closed (λ e. ne_from q p f (sym e))))
 
 -- one more request changes nothing of those before it
-pub open_push : (r : List Request) (p : ℕ) (x : Request) → p < length r → is_open_at (r ++ x ∷ []) p ≡ is_open_at r p
-open_push r p x l = ap (if_there is_open) (get_before r (x ∷ []) p l)
+pub test_push : (test : Progress → Bool) (r : List Request) (p : ℕ) (x : Request) → p < length r → if_there test (slice_get (r ++ x ∷ []) p) ≡ if_there test (slice_get r p)
+test_push test r p x l = ap (if_there test) (get_before r (x ∷ []) p l)
 
--- nor of whether they wait
-pub past_push : (r : List Request) (p : ℕ) (x : Request) → p < length r → is_waiting_at (r ++ x ∷ []) p ≡ is_waiting_at r p
-past_push r p x l = ap (if_there is_waiting) (get_before r (x ∷ []) p l)
+-- one that passes a test is not one that fails it
+pub other_test : (test : Progress → Bool) (r : List Request) (q p : ℕ) → if_there test (slice_get r q) ≡ true → if_there test (slice_get r p) ≡ false → q ≢ p
+other_test test r q p t f = λ e. let same : if_there test (slice_get r q) ≡ if_there test (slice_get r p) = ap (λ (k : ℕ). if_there test (slice_get r k)) e in cc
 
--- one that waits is not one that doesn't
-pub other_number : (r : List Request) (q p : ℕ) → is_waiting_at r q ≡ true → is_waiting_at r p ≡ false → q ≢ p
-other_number r q p t f = λ e. let same : is_waiting_at r q ≡ is_waiting_at r p = ap (is_waiting_at r) e in cc
+-- a test that none but open ones pass
+--
+-- one that passes it is open
+test_open : (test : Progress → Bool) → ((x : Progress) → test x ≡ true → is_open x ≡ true) → (r : List Request) (q : ℕ) → if_there test (slice_get r q) ≡ true → is_open_at r q ≡ true
+test_open test on [] q t = cc
+test_open test on (x ∷ r) zero t = on x.progress t
+test_open test on (x ∷ r) (suc q) t = test_open test on r q t
 
--- one that is open is not one that isn't
-pub other_open : (r : List Request) (q p : ℕ) → is_open_at r q ≡ true → is_open_at r p ≡ false → q ≢ p
-other_open r q p t f = λ e. let same : is_open_at r q ≡ is_open_at r p = ap (is_open_at r) e in cc
-
--- one that waits is open
-still_open : (x : Progress) → is_waiting x ≡ true → is_open x ≡ true
-still_open progress.Waiting t = refl
-still_open progress.Placed t = refl
-still_open progress.Closed t = cc
-
--- also by its number
+-- so is one that waits for the connection
 pub waiting_open : (r : List Request) (q : ℕ) → is_waiting_at r q ≡ true → is_open_at r q ≡ true
-waiting_open [] q t = cc
-waiting_open (x ∷ r) zero t = still_open x.progress t
-waiting_open (x ∷ r) (suc q) t = waiting_open r q t
+waiting_open r q t = test_open is_waiting still_open r q t
+  where
+    still_open : (x : Progress) → is_waiting x ≡ true → is_open x ≡ true
+    still_open progress.Waiting t = refl
+    still_open progress.Admitted t = refl
+    still_open progress.Placed t = cc
+    still_open progress.Closed t = cc
+
+-- and one that waits for a place
+pub admitted_open : (r : List Request) (q : ℕ) → is_admitted_at r q ≡ true → is_open_at r q ≡ true
+admitted_open r q t = test_open is_admitted still_open r q t
+  where
+    still_open : (x : Progress) → is_admitted x ≡ true → is_open x ≡ true
+    still_open progress.Waiting t = refl
+    still_open progress.Admitted t = refl
+    still_open progress.Placed t = cc
+    still_open progress.Closed t = cc
+
+-- one that waited for the connection waits for a place, once it may take one
+pub admitted_now : (r : List Request) (q : ℕ) → is_waiting_at r q ≡ true → is_admitted_at (at_progress r q progress.Admitted) q ≡ true
+admitted_now [] q t = cc
+admitted_now (x ∷ r) zero t = refl
+admitted_now (x ∷ r) (suc q) t = admitted_now r q t
 
 -- one that is closed stays closed where another goes on
 pub closed_set : (r : List Request) (q p : ℕ) (now : Progress) → is_open_at r q ≡ true → is_open_at r p ≡ false → is_open_at (at_progress r q now) p ≡ false
-closed_set r q p now t f = open_other r q p now (other_open r q p t f) ∙ f
+closed_set r q p now t f = test_other is_open r q p now (other_test is_open r q p t f) ∙ f

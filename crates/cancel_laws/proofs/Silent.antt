@@ -5,15 +5,15 @@ use Rattle.mux_conn.specs.declared.act.LinkAct.TheVariants as act
 use Rattle.mux_conn.specs.declared.life.Life.{Life}
 use Rattle.mux_conn.specs.declared.request.Progress.TheVariants as progress
 use Rattle.mux_conn.specs.declared.request.Request.{Request}
-use Rattle.mux_conn.specs.Requests.{is_open_at}
-use Rattle.cancel_laws.proofs.Requests.{names, names_push, closed_set, open_push, other_open, waiting_open}
+use Rattle.mux_conn.specs.Requests.{is_open, is_open_at}
+use Rattle.cancel_laws.proofs.Requests.{names, names_push, closed_set, test_push, other_test, waiting_open, admitted_open}
 use Rattle.cancel_laws.proofs.Names.{IsOwn, own_push, other_name}
 use Rattle.cancel_laws.proofs.Kept.{IsKept, CanAsk}
 use Rattle.cancel_laws.proofs.Gone.{own_kept, within_kept}
 use Rattle.cancel_laws.proofs.Bare.{other_acts, acts_plain, acts_other}
 
 -- request p has the name n, is closed, and has no outcome in this turn
-pub record IsSilent (n p : ℕ) (r : List Request) (life : Life) (xs : List LinkAct) : Type 0 where
+pub record IsSilent (n p : ℕ) (r : List Request) (life : Life) (ms : List ℕ) (xs : List LinkAct) : Type 0 where
   pub there : p < length r
   pub own : IsOwn n p (names r)
   pub closed : is_open_at r p ≡ false
@@ -26,45 +26,53 @@ unshown_more n xs a more e = more ∙ ap (λ (ys : List LinkAct). ys ++ a ∷ []
 -- each single change keeps that
 pub silent_kept : (n p : ℕ) → IsKept (IsSilent n p)
 silent_kept n p = record {
-  answer = λ r life xs q o t h.
-      let apart = other_open r q p t h.closed in
+  answer = λ r life ms xs q o t h.
+      let apart = other_test is_open r q p t h.closed in
       record {
         there = within_kept r p q progress.Closed h.there;
         own = own_kept n p r q progress.Closed h.own;
         closed = closed_set r q p progress.Closed t h.closed;
         unshown = unshown_more n xs _ (acts_other n _ xs o (other_name n p q r h.own t apart)) h.unshown;
       };
-  cancel = λ r life xs q t h. record {
+  cancel = λ r life ms xs q t h. record {
     there = within_kept r p q progress.Closed h.there;
     own = own_kept n p r q progress.Closed h.own;
     closed = closed_set r q p progress.Closed t h.closed;
     unshown = h.unshown;
   };
-  connect = λ r xs h. record { there = h.there; own = h.own; closed = h.closed; unshown = h.unshown };
-  place = λ r l xs q t h. record {
-    there = within_kept r p q.number progress.Placed h.there;
-    own = own_kept n p r q.number progress.Placed h.own;
-    closed = closed_set r q.number p progress.Placed (waiting_open r q.number t) h.closed;
+  connect = λ r size bound ms xs h. record { there = h.there; own = h.own; closed = h.closed; unshown = h.unshown };
+  admit = λ r life ms xs q t h. record {
+    there = within_kept r p q progress.Admitted h.there;
+    own = own_kept n p r q progress.Admitted h.own;
+    closed = closed_set r q p progress.Admitted (waiting_open r q t) h.closed;
     unshown = h.unshown;
   };
-  start = λ r l xs h. record { there = h.there; own = h.own; closed = h.closed; unshown = h.unshown };
-  offer = λ r l xs h. record { there = h.there; own = h.own; closed = h.closed; unshown = h.unshown };
-  write = λ r l xs k h. record { there = h.there; own = h.own; closed = h.closed; unshown = h.unshown };
-  come = λ r l xs piece h. record { there = h.there; own = h.own; closed = h.closed; unshown = h.unshown };
-  end = λ r life xs e h. record { there = h.there; own = h.own; closed = h.closed; unshown = h.unshown };
-  show = λ r life xs a plain h. record { there = h.there; own = h.own; closed = h.closed; unshown = unshown_more n xs a (acts_plain n xs a plain) h.unshown };
+  note = λ r life ms xs q t h. record { there = h.there; own = h.own; closed = h.closed; unshown = h.unshown };
+  place = λ r l ms xs q t h. record {
+    there = within_kept r p q.number progress.Placed h.there;
+    own = own_kept n p r q.number progress.Placed h.own;
+    closed = closed_set r q.number p progress.Placed (admitted_open r q.number t) h.closed;
+    unshown = h.unshown;
+  };
+  start = λ r l ms xs h. record { there = h.there; own = h.own; closed = h.closed; unshown = h.unshown };
+  offer = λ r l ms xs h. record { there = h.there; own = h.own; closed = h.closed; unshown = h.unshown };
+  write = λ r l ms xs k h. record { there = h.there; own = h.own; closed = h.closed; unshown = h.unshown };
+  come = λ r l ms xs piece h. record { there = h.there; own = h.own; closed = h.closed; unshown = h.unshown };
+  end = λ r life ms xs e h. record { there = h.there; own = h.own; closed = h.closed; unshown = h.unshown };
+  show = λ r life ms xs a plain h. record { there = h.there; own = h.own; closed = h.closed; unshown = unshown_more n xs a (acts_plain n xs a plain) h.unshown };
+  calm = λ r life ms xs h. record { there = h.there; own = h.own; closed = h.closed; unshown = h.unshown };
 }
 
 -- and one more submission does
 pub silent_asks : (n p m : ℕ) → m ≢ n → CanAsk (IsSilent n p) m
 silent_asks n p m o = record {
-  ask = λ r life xs h.
+  ask = λ r life ms xs h.
       let x : Request = record { name = m; progress = progress.Waiting } in
       record {
         there = omega (arith, h.there, length-append r (x ∷ []));
         own = subst (IsOwn n p) (sym (names_push r x)) (own_push n p m (names r) o h.own);
-        closed = open_push r p x h.there ∙ h.closed;
+        closed = test_push is_open r p x h.there ∙ h.closed;
         unshown = h.unshown;
       };
-  refuse = λ r life xs x h. record { there = h.there; own = h.own; closed = h.closed; unshown = unshown_more n xs (act.Outcome m x) (acts_other n m xs x o) h.unshown };
+  refuse = λ r life ms xs x h. record { there = h.there; own = h.own; closed = h.closed; unshown = unshown_more n xs (act.Outcome m x) (acts_other n m xs x o) h.unshown };
 }

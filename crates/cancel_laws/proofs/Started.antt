@@ -1,10 +1,13 @@
--- A submission that is handed in after the link's connect has started.
-use Rattle.std.proofs.Common.{◌≡◌, ◌≢◌, ℕ, ◌==◌, Bool, true, false, List, [], ◌∷◌, length, Some, slice_get, refl, sym, ◌∙◌, subst, arith}
-use Rattle.containers.proofs.Choices.{chosen, ne_test, not_both}
+-- A submission that is handed in after the link's connect has started, where the configuration is sound.
+use Rattle.std.proofs.Common.{◌≡◌, ◌≢◌, ℕ, zero, suc, ◌<◌, ◌==◌, nat_le, not, Bool, true, false, List, [], ◌∷◌, length, Option, Some, None, slice_get, if◌then◌else◌, refl, sym, ap, ◌∙◌, subst, arith}
+use Rattle.containers.proofs.Choices.{chosen, not_le_test, ne_test, not_both}
+use Rattle.connection_info.specs.declared.address.ConnectionInfo.{ConnectionInfo}
+use Rattle.redis_error.specs.declared.config_name.ConfigName.TheVariants as name
 use Rattle.driver_model.specs.declared.config.Config.{Config}
 use Rattle.driver_model.specs.declared.event.EventKind.TheVariants as event
 use Rattle.driver_model.specs.declared.event.Submission.{Submission}
 use Rattle.driver_model.specs.declared.event.Submission.TheVariants.{Cmd, Pipe, Multi}
+use Rattle.driver_model.specs.Config.{address, buffer_size, has_setup, buffer_fault, fault_in}
 use Rattle.driver_model.specs.Request.{packed_bytes, shape_of, is_reply_awaited}
 use Rattle.link_core.specs.Link.{LinkState, offered_of}
 use Rattle.link_core.specs.Outbox.{can_offer}
@@ -16,12 +19,12 @@ use Rattle.mux_conn.specs.declared.request.Pending.{Pending}
 use Rattle.mux_conn.specs.declared.request.Progress.TheVariants as progress
 use Rattle.mux_conn.specs.declared.request.Request.{Request}
 use Rattle.mux_conn.specs.Connection.{Work}
-use Rattle.mux_conn.specs.Requests.{asked}
-use Rattle.mux_conn.specs.Passes.{passed}
+use Rattle.mux_conn.specs.Requests.{progressed, waiting_of, asked}
+use Rattle.mux_conn.specs.Passes.{started, seated, moved_up_all, put_behind, still_waiting, passed}
 use Rattle.mux_conn.specs.Turn.{written_at, written, flushed}
 use Rattle.shared_session.specs.declared.core_state.Core.{Core}
 use Rattle.shared_session.specs.Turn.{Turning, pending, work_of, heard, counted, moved_on, next_turn}
-use Rattle.shared_session.specs.Replay.{opening_core, state_after}
+use Rattle.shared_session.specs.Replay.{opening_core, IsSound, state_after}
 use Rattle.cancel_laws.specs.Cancels.{connected_at, handed_in_after_connect, HasStarted}
 use Rattle.cancel_laws.proofs.Rest.{waits_conn}
 
@@ -60,8 +63,7 @@ all_flushed : (p : ℕ) (w : Work) → IsStarted p w.conn → IsStarted p (flush
 all_flushed p w h =
     let d = written w in
     let g = written_from p w w.conn.life refl h in
-    let c : MultiplexedConnection = record d.conn { fresh = [] } in
-    subst (IsStarted p) (sym (waits_conn (record d { conn = c }) d.conn.fresh))
+    subst (IsStarted p) (sym (waits_conn d))
     (record { request = g.request; known = g.known; placed = g.placed; link = g.link; up = g.up; gone = g.gone })
 
 -- so has its submission
@@ -73,32 +75,48 @@ no_bytes : (xs : List ℕ) → xs ≢ [] → (length xs == 0) ≡ false
 no_bytes [] some = absurd (some refl)
 no_bytes (x ∷ xs) some = ne_test (length (x ∷ xs)) 0 (λ e. omega arith)
 
+-- a queue that isn't refused holds something
+some_unless : (b : Bool) (size : ℕ) → (if b then Some name.Kind else buffer_fault size) ≡ None → 0 < size
+some_unless true size e = cc
+some_unless false zero e = cc
+some_unless false (suc size) e = omega arith
+
+-- so that of a configuration of which nothing is
+some_places : (info : Option ConnectionInfo) (size : ℕ) → fault_in info size ≡ None → 0 < size
+some_places None size e = cc
+some_places (Some info) size e = some_unless (has_setup info.redis) size e
+
 -- any submission that has bytes, and whose reply is awaited
-pub any_started : (config : Config) (word draw later : ℕ) (s : Submission) → packed_bytes s ≢ [] → is_reply_awaited s ≡ true → HasStarted 0 (handed_in_after_connect config word draw later s)
+pub any_started : (config : Config) (word draw later : ℕ) (s : Submission) → packed_bytes s ≢ [] → is_reply_awaited s ≡ true → IsSound config
+    → HasStarted 0 (handed_in_after_connect config word draw later s)
 unfolding state_after next_turn
-any_started config word draw later s some awaited =
+any_started config word draw later s some awaited sound =
     let c = (next_turn (opening_core config word) (connected_at draw).kind).core in
     let t = heard (counted c) (event.Submit s) in
     let asks : Bool → Turning = λ b. record t {
       core = record t.core { table = Some (pending 0) ∷ []; single = record t.core.single { connection = asked t.core.single.connection 0 (packed_bytes s) (shape_of s) b } };
     } in
-    let w = passed (work_of (asks true)) in
-    let f : HasStarted 0 (moved_on (asks true)).core =
-    has_started 0 (moved_on (asks true)).core (pending 0) refl
-    (all_flushed 0 w (record { request = record { name = 0; progress = progress.Placed }; known = refl; placed = refl; link = _; up = refl; gone = refl })) in
+    let room : not (nat_le (buffer_size config) 0) ≡ true = ap not (not_le_test (buffer_size config) 0 (some_places (address config) (buffer_size config) sound)) in
+    let q = waiting_of 0 (packed_bytes s) (shape_of s) true in
+    let d = progressed (still_waiting (moved_up_all (started (work_of (asks true)))) []) 0 progress.Admitted in
+    let h : IsStarted 0 (passed (work_of (asks true))).conn =
+    chosen (λ (x : Work). IsStarted 0 (still_waiting x []).conn) (not (nat_le (buffer_size config) 0)) (seated d q) (put_behind d q)
+    (λ r. record { request = record { name = 0; progress = progress.Placed }; known = refl; placed = refl; link = _; up = refl; gone = refl })
+    (λ f. absurd (not_both (not (nat_le (buffer_size config) 0)) f room)) in
+    let f : HasStarted 0 (moved_on (asks true)).core = has_started 0 (moved_on (asks true)).core (pending 0) refl (all_flushed 0 (passed (work_of (asks true))) h) in
     let g : HasStarted 0 (moved_on (asks (is_reply_awaited s))).core = subst (λ (b : Bool). HasStarted 0 (moved_on (asks b)).core) (sym awaited) f in
     chosen (λ (x : Turning). HasStarted 0 (moved_on x).core) (length (packed_bytes s) == 0) _ (asks (is_reply_awaited s))
     (λ e. absurd (not_both (length (packed_bytes s) == 0) (no_bytes (packed_bytes s) some) e))
     (λ n. g)
 
 -- a command
-pub command_started : (config : Config) (word draw later : ℕ) (name : List ℕ) (args : List (List ℕ)) → HasStarted 0 (handed_in_after_connect config word draw later (Cmd (name ∷ args)))
-command_started config word draw later name args = any_started config word draw later (Cmd (name ∷ args)) (λ e. cc) refl
+pub command_started : (config : Config) (word draw later : ℕ) (name : List ℕ) (args : List (List ℕ)) → IsSound config → HasStarted 0 (handed_in_after_connect config word draw later (Cmd (name ∷ args)))
+command_started config word draw later name args sound = any_started config word draw later (Cmd (name ∷ args)) (λ e. cc) refl sound
 
 -- a pipeline whose first command has a name
-pub pipeline_started : (config : Config) (word draw later : ℕ) (name : List ℕ) (args : List (List ℕ)) (more : List (List (List ℕ))) → HasStarted 0 (handed_in_after_connect config word draw later (Pipe ((name ∷ args) ∷ more)))
-pipeline_started config word draw later name args more = any_started config word draw later (Pipe ((name ∷ args) ∷ more)) (λ e. cc) refl
+pub pipeline_started : (config : Config) (word draw later : ℕ) (name : List ℕ) (args : List (List ℕ)) (more : List (List (List ℕ))) → IsSound config → HasStarted 0 (handed_in_after_connect config word draw later (Pipe ((name ∷ args) ∷ more)))
+pipeline_started config word draw later name args more sound = any_started config word draw later (Pipe ((name ∷ args) ∷ more)) (λ e. cc) refl sound
 
 -- a transaction
-pub transaction_started : (config : Config) (word draw later : ℕ) (args : List (List ℕ)) (more : List (List (List ℕ))) → HasStarted 0 (handed_in_after_connect config word draw later (Multi (args ∷ more)))
-transaction_started config word draw later args more = any_started config word draw later (Multi (args ∷ more)) (λ e. cc) refl
+pub transaction_started : (config : Config) (word draw later : ℕ) (args : List (List ℕ)) (more : List (List (List ℕ))) → IsSound config → HasStarted 0 (handed_in_after_connect config word draw later (Multi (args ∷ more)))
+transaction_started config word draw later args more sound = any_started config word draw later (Multi (args ∷ more)) (λ e. cc) refl sound

@@ -18,8 +18,8 @@ use Rattle.shared_session.specs.declared.core_state.Core.{Core}
 use Rattle.shared_session.specs.Turn.{Turning, work_of, with_work, shut_by, heard, refused_with, pending, asked_for, submitted, left_by, requested, effect, counted, moved_on, whole_effect, next_turn}
 use Rattle.mux_conn.specs.declared.request.Progress.TheVariants as progress
 use Rattle.cancel_laws.proofs.Requests.{progress_count}
-use Rattle.cancel_laws.proofs.Kept.{At, There, AtCore, heard_kept, effect_kept, passed_kept, turn_kept}
-use Rattle.cancel_laws.proofs.Gone.{IsGone, gone_kept, gone_asks}
+use Rattle.cancel_laws.proofs.Kept.{At, AtCore, heard_kept, effect_kept, passed_kept, turn_kept}
+use Rattle.cancel_laws.proofs.Gone.{IsAway, away_kept, away_asks}
 use Rattle.cancel_laws.proofs.Bare.{bare_conn, other_acts, acts_other, bare_applied, bare_asked, bare_left, bare_passed, bare_flushed}
 
 -- all of a session, but for the number of its turns, for how far request p has come, and whether its verdict is wanted
@@ -33,9 +33,9 @@ bare_turning n p t = record { core = bare_core p t.core; acts = other_acts n t.a
 -- the parts of a turn
 --
 -- the connection hears its link's news
-bare_heard : (n p : ℕ) (t : Turning) (kind : EventKind) → At (There (IsGone n p)) (work_of t) → bare_turning n p (heard t kind) ≡ heard (bare_turning n p t) kind
+bare_heard : (n p : ℕ) (t : Turning) (kind : EventKind) → At (IsAway n p) (work_of t) → bare_turning n p (heard t kind) ≡ heard (bare_turning n p t) kind
 bare_heard n p t kind h =
-    ap (with_work (bare_turning n p (record t { core = shut_by t.core kind }))) (bare_applied n p (work_of t) (news_of t.core.timers t.core.single.link kind) h)
+    ap (with_work (bare_turning n p (record t { core = shut_by t.core kind }))) (bare_applied n p (work_of t) (news_of t.core.timers t.core.single.link kind) h.gone)
 
 -- the next submission is another one
 pub above : (n : ℕ) (table : List (Option Pending)) → n < length table → length table ≢ n
@@ -64,16 +64,16 @@ bare_submitted n p t s l k =
     (λ f. either (bare_turning n p) (length (packed_bytes s) == 0) _ _ _ _ (λ u. bare_refused n p t error.EmptyCommand l) (λ g. bare_asked_for n p t s k))
 
 -- one that is left
-bare_left_by : (n p : ℕ) (t : Turning) (who : Option (Option Pending)) → At (There (IsGone n p)) (work_of t) → bare_turning n p (left_by t who) ≡ left_by (bare_turning n p t) who
+bare_left_by : (n p : ℕ) (t : Turning) (who : Option (Option Pending)) → At (IsAway n p) (work_of t) → bare_turning n p (left_by t who) ≡ left_by (bare_turning n p t) who
 bare_left_by n p t None h = refl
 bare_left_by n p t (Some None) h = refl
 bare_left_by n p t (Some (Some q)) h =
     ap (λ (c : MultiplexedConnection). record (bare_turning n p t) { core = record (bare_core p t.core) { single = record t.core.single { connection = c } } })
-    (bare_left p q.number t.core.single.connection h.none)
+    (bare_left p q.number t.core.single.connection h.gone.none)
 
 -- what an event is to the submissions
-bare_requested : (n p : ℕ) (t : Turning) (kind : EventKind) → n < length t.core.table → At (There (IsGone n p)) (work_of t) → bare_turning n p (requested t kind) ≡ requested (bare_turning n p t) kind
-bare_requested n p t (event.Submit s) l h = bare_submitted n p t s l h.there
+bare_requested : (n p : ℕ) (t : Turning) (kind : EventKind) → n < length t.core.table → At (IsAway n p) (work_of t) → bare_turning n p (requested t kind) ≡ requested (bare_turning n p t) kind
+bare_requested n p t (event.Submit s) l h = bare_submitted n p t s l h.gone.there
 bare_requested n p t (event.Cancel m) l h = bare_left_by n p t (slice_get t.core.table m) h
 bare_requested n p t (event.Connected m) l h = refl
 bare_requested n p t (event.Refused m f) l h = refl
@@ -86,22 +86,22 @@ bare_requested n p t (event.WriteFault m kind) l h = refl
 bare_requested n p t event.Shutdown l h = refl
 
 -- the event's own effect
-bare_effect : (n p : ℕ) (t : Turning) (kind : EventKind) → n < length t.core.table → At (There (IsGone n p)) (work_of t) → bare_turning n p (effect t kind) ≡ effect (bare_turning n p t) kind
+bare_effect : (n p : ℕ) (t : Turning) (kind : EventKind) → n < length t.core.table → At (IsAway n p) (work_of t) → bare_turning n p (effect t kind) ≡ effect (bare_turning n p t) kind
 bare_effect n p t kind l h =
-    bare_requested n p (heard t kind) kind l (heard_kept (gone_kept n p) t kind h) ∙ ap (λ (x : Turning). requested x kind) (bare_heard n p t kind h)
+    bare_requested n p (heard t kind) kind l (heard_kept (away_kept n p) t kind h) ∙ ap (λ (x : Turning). requested x kind) (bare_heard n p t kind h)
 
 -- the rest of the turn
-bare_moved_on : (n p : ℕ) (t : Turning) → At (There (IsGone n p)) (work_of t) → bare_turning n p (moved_on t) ≡ moved_on (bare_turning n p t)
+bare_moved_on : (n p : ℕ) (t : Turning) → At (IsAway n p) (work_of t) → bare_turning n p (moved_on t) ≡ moved_on (bare_turning n p t)
 bare_moved_on n p t h =
     let w = work_of t in
-    ap (with_work (bare_turning n p t)) (bare_flushed n p (passed w) (passed_kept (gone_kept n p) w h) ∙ ap flushed (bare_passed n p w h))
+    ap (with_work (bare_turning n p t)) (bare_flushed n p (passed w) (passed_kept (away_kept n p) w h) ∙ ap flushed (bare_passed n p w h.gone))
 
 -- a whole turn
-bare_turn : (n p : ℕ) (c : Core) (kind : EventKind) → n < length c.table → AtCore (There (IsGone n p)) c → bare_turning n p (next_turn c kind) ≡ whole_effect (record { core = bare_core p c; acts = [] }) kind
+bare_turn : (n p : ℕ) (c : Core) (kind : EventKind) → n < length c.table → AtCore (IsAway n p) c → bare_turning n p (next_turn c kind) ≡ whole_effect (record { core = bare_core p c; acts = [] }) kind
 unfolding next_turn
 bare_turn n p c kind l h =
     let t = counted c in
-    bare_moved_on n p (effect t kind) (effect_kept (gone_kept n p) t (gone_asks n p (length c.table) (above n c.table l)) kind h) ∙ ap moved_on (bare_effect n p t kind l h)
+    bare_moved_on n p (effect t kind) (effect_kept (away_kept n p) t (away_asks n p (length c.table) (above n c.table l)) kind h) ∙ ap moved_on (bare_effect n p t kind l h)
 
 -- tables
 --
@@ -137,8 +137,8 @@ pub record AreAlike (n p : ℕ) (c d : Core) : Type 0 where
   pub same : bare_core p c ≡ bare_core p d
   pub within : n < length c.table
   pub within_too : n < length d.table
-  pub gone : AtCore (There (IsGone n p)) c
-  pub gone_too : AtCore (There (IsGone n p)) d
+  pub gone : AtCore (IsAway n p) c
+  pub gone_too : AtCore (IsAway n p) d
 
 -- a turn of each does the same
 pub turns_same : (n p : ℕ) (c d : Core) (kind : EventKind) → AreAlike n p c d → bare_turning n p (next_turn c kind) ≡ bare_turning n p (next_turn d kind)
@@ -146,8 +146,10 @@ turns_same n p c d kind h =
     bare_turn n p c kind h.within h.gone ∙ ap (λ (x : Core). whole_effect (record { core = x; acts = [] }) kind) h.same ∙ sym (bare_turn n p d kind h.within_too h.gone_too)
 
 -- the message stays gone
-pub turn_gone : (n p : ℕ) (c : Core) (kind : EventKind) → n < length c.table → AtCore (There (IsGone n p)) c → AtCore (There (IsGone n p)) (next_turn c kind).core
-turn_gone n p c kind l h = turn_kept (gone_kept n p) c (gone_asks n p (length c.table) (above n c.table l)) kind h
+pub turn_gone : (n p : ℕ) (c : Core) (kind : EventKind) → n < length c.table → AtCore (IsAway n p) c → AtCore (IsAway n p) (next_turn c kind).core
+turn_gone n p c kind l h =
+    let k = turn_kept (away_kept n p) c (away_asks n p (length c.table) (above n c.table l)) kind h in
+    record { gone = k.gone; unmoved = k.unmoved }
 
 -- so they stay alike
 pub alike_turn : (n p : ℕ) (c d : Core) (kind : EventKind) → AreAlike n p c d → AreAlike n p (next_turn c kind).core (next_turn d kind).core

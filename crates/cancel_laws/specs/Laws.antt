@@ -5,7 +5,7 @@ use Rattle.driver_model.specs.declared.event.Event.{Event}
 use Rattle.driver_model.specs.declared.event.Submission.{Submission}
 use Rattle.driver_model.specs.declared.outcome.Outcome.{Outcome}
 use Rattle.mux_conn.specs.declared.life.Life.{Life}
-use Rattle.shared_session.specs.Replay.{state_after, trace_of, outcomes_in, outcome_at, is_bad_after}
+use Rattle.shared_session.specs.Replay.{IsSound, state_after, trace_of, outcomes_in, outcome_at, is_bad_after}
 use Rattle.cancel_laws.specs.ButFor.{hushed_life}
 use Rattle.cancel_laws.specs.Cancels.{cancel_of, handed_in_after_connect, HasStarted, GoesOn}
 
@@ -57,7 +57,9 @@ SameAreBad =
     → HasStarted n (state_after config word before)
     → is_bad_after config word (before ++ after) e ≡ is_bad_after config word (before ++ cancel_of draw n ∷ after) e
 
--- a submission has started where it is the first that is handed in, after the link's connect
+-- a submission has started where it is the first that is handed in, after the link's connect, and nothing of the
+-- configuration is refused
 abbrev pub StartsWhereHandedIn : Submission → Type 0
 StartsWhereHandedIn s =
-    (config : Config) (word draw later : ℕ) → HasStarted 0 (handed_in_after_connect config word draw later s)
+    (config : Config) (word draw later : ℕ) → IsSound config
+    → HasStarted 0 (handed_in_after_connect config word draw later s)

@@ -22,6 +22,7 @@ use Rattle.legal_trace.proofs.Ledgers.{mine_keeps}
 use Rattle.legal_trace.proofs.Plain.{not_none, same_some}
 use Rattle.legal_laws.specs.Creation.{shown_by, creations, HasFailed, IsUnopened, AnswersTell, TellsOfOpening}
 use Rattle.legal_laws.proofs.Links.{lines_may}
+use Rattle.legal_laws.proofs.Moves.{mover_is_up, teller_moves}
 use Rattle.legal_laws.proofs.Numbers.{up_is_numbered, over_is_numbered}
 use Rattle.legal_laws.proofs.Quiet.{IsQuiet, hears_quiet, ends_quiet, failed_is_over, failed_stays}
 use Rattle.legal_laws.proofs.Ranks.{none_failed}
@@ -216,7 +217,7 @@ outcome_tells front n o e all (inl owes) u = unopened_answered front n o e all o
 outcome_tells front n o e all (inr told) u =
     let b = book front in
     let over = failed_is_over (link_of b n).end e u.failed in
-    absurd (not_none (link_of b n).end over.0 ((sound_behind front all).up (b.story n).link told.moves.up) over.1)
+    absurd (not_none (link_of b n).end over.0 ((sound_behind front all).up (b.story n).link (mover_is_up b n (teller_moves b n o told))) over.1)
 
 -- each outcome of a legal trace
 answers_tell : (trace : List Action) → AllStand blank_book trace → AnswersTell trace

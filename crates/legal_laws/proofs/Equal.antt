@@ -15,7 +15,7 @@ use Rattle.legal_laws.proofs.Ranks.{rank, not_done, step_of, settled, outcome_ra
 use Rattle.legal_laws.proofs.Sound.{Sound, stays_sound, blank_is_sound}
 
 -- lists that are equal begin alike
-same_head : (c d : Cause) (cs ds : List Cause) → c ∷ cs ≡ d ∷ ds → c ≡ d
+pub same_head : (c d : Cause) (cs ds : List Cause) → c ∷ cs ≡ d ∷ ds → c ≡ d
 same_head c d cs ds e = cc
 
 -- and go on alike

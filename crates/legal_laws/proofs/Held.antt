@@ -1,5 +1,5 @@
 -- What is done stays done while messages start, are written and wait.
-use Rattle.std.proofs.Common.{◌≡◌, ◌≢◌, ◌⊎◌, inl, inr, ℕ, ◌==◌, true, List, [], ◌∷◌, Option, Some, None, if◌then◌else◌, refl, sym, subst}
+use Rattle.std.proofs.Common.{◌≡◌, ◌≢◌, ℕ, ◌==◌, true, List, [], ◌∷◌, Option, Some, None, refl, sym, ◌∙◌, ap, subst}
 use Rattle.containers.proofs.Choices.{chosen, eq_from, eq_test, if_true}
 use Rattle.driver_model.specs.declared.action.Action.{Action}
 use Rattle.driver_model.specs.declared.action.Action.TheVariants as action
@@ -7,11 +7,13 @@ use Rattle.driver_model.specs.declared.action.Owner.TheVariants as owner
 use Rattle.driver_model.specs.declared.action.WaitKind.{WaitKind}
 use Rattle.driver_model.specs.declared.outcome.Outcome.{Outcome}
 use Rattle.legal_trace.specs.Ledger.{Ledger, Line, Start, begins, offers, noted_each, ending, failure_in}
-use Rattle.legal_trace.specs.Story.{Story, Try, is_open, shape, tried, waits, answered}
+use Rattle.legal_trace.specs.Story.{Story, Try, is_open, is_unstarted, shape, tried, waits, answered}
+use Rattle.legal_trace.specs.Steps.{is_due, is_in_line, line_before, next_step}
 use Rattle.legal_trace.specs.Owed.{owed_to_message, owed_to_try}
 use Rattle.legal_trace.specs.Book.{Book, entered, if_mine, message_of}
-use Rattle.legal_trace.specs.Legal.{MayTell, MayStart, IsTold, CanMove, NoneIsOwed, IsApplied, IsMoved, IsWritten}
+use Rattle.legal_trace.specs.Legal.{MayTell, MayStart, link_of, NoneIsOwed, IsApplied, IsMoved, IsWritten}
 use Rattle.legal_trace.proofs.Ledgers.{mine_keeps}
+use Rattle.legal_laws.proofs.Moves.{mover_is_up, starter_moves, step_of, line_alike}
 use Rattle.legal_laws.proofs.Tales.{open_has_none, last_behind}
 use Rattle.legal_laws.proofs.Owes.{owed_story, owed_again, owed_by_last, begins_keeps, new_is_owed_nothing}
 use Rattle.legal_trace.proofs.Plain.{not_empty}
@@ -28,7 +30,7 @@ begun_end b l m s e = mine_keeps (λ (x : Ledger). x.end ≡ None) (l == m) (b.l
 -- the new message is owed nothing
 new_message : (b : Book) (l k n round count len : ℕ) → MayStart b l k n count len → Sound b → owed_to_message ((entered b (starting l k n round count len)).link l) k (shape (b.story n)) ≡ None
 new_message b l k n round count len may h =
-    let up : (b.link l).up ≡ true = subst (λ j. (b.link j).up ≡ true) (sym may.on_its_link) may.moves.up in
+    let up : (b.link l).up ≡ true = subst (λ j. (b.link j).up ≡ true) (sym may.on_its_link) (mover_is_up b n (starter_moves b l k n count len may)) in
     if_true (λ (lines : List Line). owed_to_message (noted_each (b.link l) lines) k (shape (b.story n)) ≡ None) (l == l) (begins (message_of b (owner.Try n round)) ∷ []) [] (eq_test l l refl)
     (new_is_owed_nothing (b.link l) (message_of b (owner.Try n round)) k (shape (b.story n)) (h.few l) (h.up l up) may.next)
 
@@ -69,7 +71,7 @@ start_applied b l k m round count len may h = record {
 }
 
 -- what is answered is not open
-not_open : (s : Story) (o : Outcome) → is_open (answered s o) ≡ true → ⊥
+pub not_open : (s : Story) (o : Outcome) → is_open (answered s o) ≡ true → ⊥
 not_open s o h = not_empty s.outcomes o (open_has_none (answered s o) h)
 
 -- so does Nil that is told at its place
@@ -100,15 +102,15 @@ write_applied b l bytes done = record {
   timed = done.timed;
 }
 
--- a write brings no link up
-written_up : (b : Book) (l j : ℕ) (bytes : List ℕ) → ((entered b (action.Write l bytes)).link j).up ≡ true → (b.link j).up ≡ true
-written_up b l j bytes = mine_keeps (λ (x : Ledger). x.up ≡ true → (b.link j).up ≡ true) (l == j) (b.link j) (offers bytes) (λ t u. u) (λ u. u)
+-- a write leaves each submission its next step
+written_step : (b : Book) (l n : ℕ) (bytes : List ℕ) → next_step (entered b (action.Write l bytes)) n ≡ next_step b n
+written_step b l n bytes = mine_keeps (λ x. step_of b.config (b.story n) (line_before b.story (b.story n).link n) x ≡ next_step b n) (l == (b.story n).link) (link_of b n) (offers bytes) (λ t. refl) refl
 
--- nothing may start behind a write that couldn't before
+-- so nothing moves behind a write that couldn't before
 pub write_moved : (b : Book) (l : ℕ) (bytes : List ℕ) → IsMoved b → IsMoved (entered b (action.Write l bytes))
 write_moved b l bytes done = record {
   applied = write_applied b l bytes done.applied;
-  moved = λ n m. done.moved n (record { unstarted = m.unstarted; wanted = m.wanted; up = written_up b l (b.story n).link bytes m.up });
+  moved = λ n m. done.moved n (record { unstarted = m.unstarted; due = sym (ap is_due (written_step b l n bytes)) ∙ m.due });
 }
 
 -- and a wait leaves all as it was
@@ -122,27 +124,31 @@ wait_applied b m round kind done = record {
   timed = done.timed;
 }
 
--- what a story has that may start
-abbrev pub StoryMoves : Book → Story → Type 0
-StoryMoves b s = (s.tries ≡ []) × ((is_open s ≡ true) ⊎ IsTold s) × ((b.link s.link).up ≡ true)
+-- a wait leaves each submission in its line
+wait_lines : (b : Book) (m round : ℕ) (kind : WaitKind) (l k : ℕ) → is_in_line l ((entered b (action.Wait (owner.Try m round) kind)).story k) ≡ is_in_line l (b.story k)
+wait_lines b m round kind l k = chosen (λ s. is_in_line l s ≡ is_in_line l (b.story k)) (m == k) (waits (b.story k) kind) (b.story k) (λ t. refl) (λ f. refl)
 
--- a wait changes neither whether a submission is open nor whether it was told
-wanted_still : (s : Story) (kind : WaitKind) → (is_open (waits s kind) ≡ true) ⊎ IsTold (waits s kind) → (is_open s ≡ true) ⊎ IsTold s
-wanted_still s kind (inl o) = inl o
-wanted_still s kind (inr told) = inr (record { unawaited = told.unawaited; told = told.told })
+-- and its next step
+wait_step : (b : Book) (m round : ℕ) (kind : WaitKind) (n : ℕ) → next_step (entered b (action.Wait (owner.Try m round) kind)) n ≡ next_step b n
+wait_step b m round kind n =
+    let c : Book = entered b (action.Wait (owner.Try m round) kind) in
+    let e : step_of b.config (b.story n) (line_before c.story (b.story n).link n) (link_of b n) ≡ next_step b n =
+    ap (λ line. step_of b.config (b.story n) line (link_of b n)) (line_alike c.story b.story (wait_lines b m round kind) (b.story n).link n) in
+    chosen (λ s. step_of b.config s (line_before c.story s.link n) (b.link s.link) ≡ next_step b n) (m == n) (waits (b.story n) kind) (b.story n) (λ t. e) (λ f. e)
 
--- what may start behind a wait could before
-waiting_moves : (b : Book) (m n : ℕ) (kind : WaitKind) → StoryMoves b (if m == n then waits (b.story n) kind else b.story n) → CanMove b n
-waiting_moves b m n kind = chosen (λ s. StoryMoves b s → CanMove b n) (m == n) (waits (b.story n) kind) (b.story n)
-    (λ t p. record { unstarted = p.0; wanted = wanted_still (b.story n) kind p.1; up = p.2 })
-    (λ f p. record { unstarted = p.0; wanted = p.1; up = p.2 })
+-- and leaves unstarted what is
+wait_unstarted : (b : Book) (m round : ℕ) (kind : WaitKind) (n : ℕ) → is_unstarted ((entered b (action.Wait (owner.Try m round) kind)).story n) ≡ is_unstarted (b.story n)
+wait_unstarted b m round kind n = chosen (λ s. is_unstarted s ≡ is_unstarted (b.story n)) (m == n) (waits (b.story n) kind) (b.story n) (λ t. refl) (λ f. refl)
 
 -- so all stays written behind a wait
 pub wait_written : (b : Book) (m round : ℕ) (kind : WaitKind) → IsWritten b → IsWritten (entered b (action.Wait (owner.Try m round) kind))
 wait_written b m round kind done = record {
   moved = record {
     applied = wait_applied b m round kind done.moved.applied;
-    moved = λ n p. done.moved.moved n (waiting_moves b m n kind (p.unstarted, p.wanted, p.up));
+    moved = λ n p. done.moved.moved n (record {
+      unstarted = sym (wait_unstarted b m round kind n) ∙ p.unstarted;
+      due = sym (ap is_due (wait_step b m round kind n)) ∙ p.due;
+    });
   };
   offered = done.offered;
 }

@@ -1,6 +1,7 @@
 pub mod Streams
 pub mod Lines
 pub mod Opens
+pub mod Moves
 pub mod Numbers
 pub mod Owes
 pub mod Tales
@@ -13,5 +14,11 @@ pub mod Ranks
 pub mod Next
 pub mod Equal
 pub mod Held
+pub mod InLine
 pub mod Segments
 pub mod Creation
+pub mod Seated
+pub mod Configured
+pub mod Bounds
+pub mod Rising
+pub mod Leaving

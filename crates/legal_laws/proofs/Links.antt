@@ -1,7 +1,7 @@
 -- What a legal trace tells of each link is legal.
 use Rattle.std.proofs.Common.{◌≡◌, ◌≢◌, inl, inr, ℕ, ◌-◌, ◌≤◌, ◌==◌, nat_lt, Bool, true, false, ◌&&◌, not, List, [], ◌∷◌, length, ◌||◌, Option, Some, None, is_some, arith, refl, sym, ◌∙◌, subst, ap}
 use Rattle.std.specs.Prelude.{slice_get}
-use Rattle.containers.proofs.Choices.{chosen, eq_from, or_right, not_lt_from}
+use Rattle.containers.proofs.Choices.{chosen, eq_from, both_right, or_right, not_lt_from}
 use Rattle.driver_model.specs.declared.action.Action.{Action}
 use Rattle.driver_model.specs.declared.action.Action.TheVariants as action
 use Rattle.driver_model.specs.declared.action.Cause.TheVariants as cause
@@ -15,12 +15,13 @@ use Rattle.driver_model.specs.declared.action.Purpose.{Purpose}
 use Rattle.driver_model.specs.declared.action.Purpose.TheVariants as purpose
 use Rattle.driver_model.specs.News.{silence, connected, refused, overdue, took, came, failed, news_of, of_timer}
 use Rattle.legal_trace.specs.Ledger.{Ledger, Line, asks, begins, offers, ends, is_over, IsWithin, MayNote, AllNoted}
-use Rattle.legal_trace.specs.Story.{bytes_of}
+use Rattle.legal_trace.specs.Story.{is_awaited, is_no_error, bytes_of}
 use Rattle.legal_trace.specs.Book.{Book, blank_book, entered, lines_of, lines_of_each, if_mine, message_of}
 use Rattle.legal_trace.specs.Events.{is_bad_event, is_no_link}
 use Rattle.legal_trace.specs.Legal.{MayStand, MayStart, AllStand, Legal}
 use Rattle.legal_laws.specs.Links.{LinksAreLegal, TakesInOrder, lines_for}
 use Rattle.legal_trace.proofs.Ledgers.{may_append}
+use Rattle.legal_laws.proofs.Moves.{has_no_tries, open_or_told, mover_is_up, starter_moves}
 use Rattle.legal_laws.proofs.Streams.{takes_in_order}
 use Rattle.legal_laws.proofs.Sound.{Sound, stays_sound, blank_is_sound}
 use Rattle.legal_laws.proofs.Owes.{has_bytes}
@@ -66,9 +67,9 @@ within b l (event.Cancel n) good h = tt
 
 -- a message that may start has bytes
 pub starts_with_bytes : (b : Book) (l k n count len : ℕ) → MayStart b l k n count len → Sound b → bytes_of (b.story n) ≢ []
-starts_with_bytes b l k n count len may h = elim may.moves.wanted [
+starts_with_bytes b l k n count len may h = elim (open_or_told (b.story n) may.unstarted) [
   | inl o ↦ has_bytes b (b.story n) (may.applied.answered n o)
-  | inr told ↦ (h.once n).told told.told may.moves.unstarted
+  | inr told ↦ (h.once n).told (both_right (not (is_awaited (b.story n))) (is_no_error (b.story n).outcomes) told) (has_no_tries (b.story n) may.unstarted)
 ]
 
 -- the link of a connect was not asked for before
@@ -86,7 +87,7 @@ lines_may b l (action.Write m bytes) may h = may_mine (m == l) (b.link l) (offer
 lines_may b l (action.Wait (owner.Try n round) kind) may h = tt
 lines_may b l (action.Start m k (owner.Try n round) count len) may h =
     may_mine (m == l) (b.link l) (begins (message_of b (owner.Try n round)))
-    (λ t. (subst (λ j. (b.link j).up ≡ true) (sym may.1.on_its_link ∙ eq_from m l t) may.1.moves.up, starts_with_bytes b m k n count len may.1 h))
+    (λ t. (subst (λ j. (b.link j).up ≡ true) (sym may.1.on_its_link ∙ eq_from m l t) (mover_is_up b n (starter_moves b m k n count len may.1)), starts_with_bytes b m k n count len may.1 h))
 lines_may b l (action.Created e) may h = tt
 lines_may b l (action.Outcome n o) may h = tt
 

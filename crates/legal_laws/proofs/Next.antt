@@ -1,31 +1,29 @@
 -- At most one action may stand next.
 use Rattle.std.proofs.Common.{◌≡◌, ◌⊎◌, inl, inr, ℕ, zero, suc, ◌<◌, ◌≤◌, nat_lt, Bool, true, false, List, [], length, Option, Some, None, refl, sym, ◌∙◌, subst, ap, arith}
-use Rattle.containers.proofs.Choices.{by_test, lt_from, not_lt_from, not_both}
+use Rattle.containers.proofs.Choices.{by_test, lt_from, not_lt_from}
 use Rattle.driver_model.specs.declared.action.Action.{Action}
 use Rattle.driver_model.specs.declared.action.Action.TheVariants as action
 use Rattle.driver_model.specs.declared.action.Cause.TheVariants as cause
 use Rattle.driver_model.specs.declared.action.Owner.TheVariants as owner
 use Rattle.driver_model.specs.declared.action.WaitKind.{WaitKind}
-use Rattle.driver_model.specs.declared.action.WaitKind.TheVariants as wait
 use Rattle.driver_model.specs.declared.action.Purpose.{Purpose}
 use Rattle.driver_model.specs.Config.{address, connect_timeout}
 use Rattle.driver_model.specs.Shape.{need_of}
 use Rattle.connection_info.specs.declared.address.ConnectionInfo.{ConnectionInfo}
 use Rattle.redis_error.specs.declared.redis_error.RedisError.{RedisError}
-use Rattle.resp_value.specs.declared.value.Value.TheVariants.{Nil}
 use Rattle.driver_model.specs.declared.config.Config.{Config}
 use Rattle.driver_model.specs.declared.event.Event.{Event}
 use Rattle.driver_model.specs.declared.outcome.Outcome.{Outcome}
-use Rattle.driver_model.specs.declared.outcome.Outcome.TheVariants as outcome
 use Rattle.legal_trace.specs.Ledger.{IsOffered, is_over, unwritten, ending, failure_in}
-use Rattle.legal_trace.specs.Story.{is_awaited, shape, bytes_of}
+use Rattle.legal_trace.specs.Story.{shape, bytes_of}
 use Rattle.legal_trace.specs.Owed.{owed}
 use Rattle.legal_trace.specs.Book.{Book, book}
-use Rattle.legal_trace.specs.Legal.{MayStand, MayConnect, MayTimer, MayClose, MayFail, MayShowCreation, MayAnswer, MayTell, MayStart, MayWrite, MayWait, IsOpen, link_of, CanMove}
+use Rattle.legal_trace.specs.Steps.{Step, tells, starts, next_step}
+use Rattle.legal_trace.specs.Legal.{MayStand, MayConnect, MayTimer, MayClose, MayFail, MayShowCreation, MayAnswer, MayTell, MayStart, MayWrite, MayWait, IsOpen, IsWaiting, link_of, CanMove}
 use Rattle.legal_laws.specs.Next.{BothAnnounce, OneIsNext, OneIsNextBehind}
-use Rattle.legal_laws.proofs.Tales.{open_has_none}
-use Rattle.legal_laws.proofs.Ranks.{answer_rank, creation_rank, rank, same_rank, outcome_rank, not_offered}
-use Rattle.legal_trace.proofs.Plain.{not_none, not_empty, same_some}
+use Rattle.legal_laws.proofs.Moves.{teller_moves, starter_moves, same_kind}
+use Rattle.legal_laws.proofs.Ranks.{answer_rank, creation_rank, rank, same_rank, outcome_rank, not_offered, not_shown}
+use Rattle.legal_trace.proofs.Plain.{not_none, same_some}
 use Rattle.legal_laws.proofs.Sound.{Sound, sound_behind}
 
 -- the least number of a kind is one
@@ -63,17 +61,18 @@ one_move b = least_is_one (CanMove b)
 -- two that are told at their places are one
 one_told : (b : Book) (m n : ℕ) (o p : Outcome) → MayTell b m o → MayTell b n p → action.Outcome m o ≡ action.Outcome n p
 one_told b m n o p h k =
-    let e : m ≡ n = one_move b m n h.moves k.moves h.in_order k.in_order in
+    let e : m ≡ n = one_move b m n (teller_moves b m o h) (teller_moves b n p k) h.in_order k.in_order in
     let f : o ≡ p = h.nil ∙ sym k.nil in cc (e, f)
 
--- one that is told is open, and one that was told isn't
+-- no step tells and starts
+not_both_steps : (s : Step) → s ≡ tells → s ≡ starts → ⊥
+not_both_steps s e f = let x : tells ≡ starts = sym e ∙ f in cc x
+
+-- so one that is told doesn't start
 told_or_starts : (b : Book) (m n : ℕ) (o : Outcome) (l k count len : ℕ) → MayTell b m o → MayStart b l k n count len → ⊥
 told_or_starts b m n o l k count len h s =
-    let e : m ≡ n = one_move b m n h.moves s.moves h.in_order s.in_order in
-    elim s.wanted [
-      | inl awaited ↦ not_both (is_awaited (b.story n)) (subst (λ j. is_awaited (b.story j) ≡ false) e h.unawaited) awaited
-      | inr told ↦ not_empty [] (outcome.One Nil) (sym told.told ∙ open_has_none (b.story n) (subst (IsOpen b) e h.asked))
-    ]
+    let e : m ≡ n = one_move b m n (teller_moves b m o h) (starter_moves b l k n count len s) h.in_order s.in_order in
+    not_both_steps (next_step b n) (subst (λ j. next_step b j ≡ tells) e h.tells) s.starts
 
 -- two connects are one
 one_connect : (b : Book) (l m : ℕ) (host other : List ℕ) (port number : ℕ) → MayConnect b l host port → MayConnect b m other number → action.Connect l host port ≡ action.Connect m other number
@@ -114,7 +113,7 @@ one_close b l m h k =
 -- two starts are one
 one_start : (b : Book) (l m k j n i count len items long : ℕ) → MayStart b l k n count len → MayStart b m j i items long → action.Start l k (owner.Try n 0) count len ≡ action.Start m j (owner.Try i 0) items long
 one_start b l m k j n i count len items long h s =
-    let e : n ≡ i = one_move b n i h.moves s.moves h.in_order s.in_order in
+    let e : n ≡ i = one_move b n i (starter_moves b l k n count len h) (starter_moves b m j i items long s) h.in_order s.in_order in
     let on : l ≡ m = h.on_its_link ∙ (ap (λ x. (b.story x).link) e ∙ sym s.on_its_link) in
     let next : k ≡ j = h.next ∙ (ap (λ x. length (b.link x).starts) on ∙ sym s.next) in
     let counts : count ≡ items = h.needs_its_items ∙ (ap (λ x. need_of (shape (b.story x))) e ∙ sym s.needs_its_items) in
@@ -132,10 +131,12 @@ one_write b l m bytes other h k =
 
 -- two waits are one
 one_wait : (b : Book) (m n : ℕ) (kind other : WaitKind) → MayWait b m kind → MayWait b n other → action.Wait (owner.Try m 0) kind ≡ action.Wait (owner.Try n 0) other
-one_wait b m n wait.Connect wait.Connect h k =
-    ap (λ j. action.Wait (owner.Try j 0) wait.Connect) (least_is_one (λ j. IsOpen b j × ((b.story j).tries ≡ []) × ((b.story j).waiting ≡ None)) m n
-    (h.asked, h.unstarted, h.new) (k.asked, k.unstarted, k.new)
-    (λ j i w. h.in_order j i w.0 w.1 w.2) (λ j i w. k.in_order j i w.0 w.1 w.2))
+one_wait b m n kind other h k =
+    let e : m ≡ n = least_is_one (λ j. IsOpen b j × ((b.story j).tries ≡ []) × (IsWaiting b j → ⊥)) m n
+    (h.asked, h.unstarted, not_shown b m kind h) (k.asked, k.unstarted, not_shown b n other k)
+    (λ j i w. w.2 (h.in_order j i w.0 w.1)) (λ j i w. w.2 (k.in_order j i w.0 w.1)) in
+    let f : kind ≡ other = same_kind (next_step b m) kind other h.holds (ap (next_step b) e ∙ k.holds) in
+    cc (e, f)
 
 -- it is an outcome that is owed, of a link that has ended or of one that has not
 abbrev pub IsAnswering : Book → Bool → Action → Type 0

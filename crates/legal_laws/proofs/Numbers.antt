@@ -14,12 +14,13 @@ use Rattle.driver_model.specs.declared.action.Purpose.TheVariants as purpose
 use Rattle.driver_model.specs.News.{News, silence, connected, refused, overdue, took, came, failed, news_of, for_link, of_timer}
 use Rattle.driver_model.specs.declared.outcome.Outcome.{Outcome}
 use Rattle.legal_trace.specs.Ledger.{Ledger, End, asks, begins, offers, ends, is_over, ending, ending_up, ending_asked, noted_each}
-use Rattle.legal_trace.specs.Story.{Story, blank_story, is_open, is_awaited, handed_in, left, tried, waits, answered}
+use Rattle.legal_trace.specs.Story.{Story, blank_story, is_open, is_told, handed_in, left, tried, waits, answered}
 use Rattle.legal_trace.specs.Book.{Book, entered, lines_of, if_mine, message_of, current, after_event, submitted_by}
 use Rattle.legal_trace.specs.Events.{is_bad_event}
-use Rattle.legal_trace.specs.Legal.{MayAnswer, MayTell, MayStand, IsTold, IsOpen, CanMove}
+use Rattle.legal_trace.specs.Legal.{MayAnswer, MayTell, MayStand, IsOpen, CanMove}
 use Rattle.legal_trace.proofs.Ledgers.{each_keeps, mine_keeps, IsAsked, asked_keeps, IsUnasked, unasked_hears}
 use Rattle.legal_trace.proofs.Plain.{not_none}
+use Rattle.legal_laws.proofs.Moves.{open_or_told, starter_moves}
 
 -- the links below that number were asked for, and no others
 pub record LinksAreNumbered (links : ℕ) (link : ℕ → Ledger) : Type 0 where
@@ -152,14 +153,14 @@ open_is_numbered b n h o = by_test (nat_le b.submissions n) (n < b.submissions)
     (λ f. not_le_from b.submissions n f)
 
 -- so is one that was told
-told_is_numbered : (b : Book) (n : ℕ) → HasStories b → IsTold (b.story n) → n < b.submissions
+told_is_numbered : (b : Book) (n : ℕ) → HasStories b → is_told (b.story n) ≡ true → n < b.submissions
 told_is_numbered b n h o = by_test (nat_le b.submissions n) (n < b.submissions)
-    (λ t. absurd (let e : true ≡ false = subst (λ (s : Story). is_awaited s ≡ false) (h n (le_from b.submissions n t)) o.unawaited in cc e))
+    (λ t. absurd (let e : false ≡ true = subst (λ (s : Story). is_told s ≡ true) (h n (le_from b.submissions n t)) o in cc e))
     (λ f. not_le_from b.submissions n f)
 
--- so is one whose message may start
-mover_is_numbered : (b : Book) (n : ℕ) → HasStories b → CanMove b n → n < b.submissions
-mover_is_numbered b n h moves = elim moves.wanted [ inl o ↦ open_is_numbered b n h o | inr told ↦ told_is_numbered b n h told ]
+-- so is one that makes a step
+pub mover_is_numbered : (b : Book) (n : ℕ) → HasStories b → CanMove b n → n < b.submissions
+mover_is_numbered b n h moves = elim (open_or_told (b.story n) moves.unstarted) [ inl o ↦ open_is_numbered b n h o | inr told ↦ told_is_numbered b n h told ]
 
 -- what happens to a numbered submission leaves the others blank
 others_blank : (b : Book) (m n : ℕ) (changed : Story) → HasStories b → b.submissions ≤ n → m < b.submissions → (if m == n then changed else b.story n) ≡ blank_story
@@ -194,6 +195,6 @@ stories_kept b (action.Timer t ms what) may h n i = h n i
 stories_kept b (action.Close l) may h n i = h n i
 stories_kept b (action.Write l bytes) may h n i = h n i
 stories_kept b (action.Wait (owner.Try m round) kind) may h n i = others_blank b m n (waits (b.story n) kind) h i (open_is_numbered b m h may.1.asked)
-stories_kept b (action.Start l k (owner.Try m round) count len) may h n i = others_blank b m n (tried (b.story n) l k) h i (mover_is_numbered b m h may.1.moves)
+stories_kept b (action.Start l k (owner.Try m round) count len) may h n i = others_blank b m n (tried (b.story n) l k) h i (mover_is_numbered b m h (starter_moves b l k m count len may.1))
 stories_kept b (action.Created e) may h n i = h n i
 stories_kept b (action.Outcome m o) may h n i = others_blank b m n (answered (b.story n) o) h i (outcome_is_numbered b m o h may)

@@ -7,11 +7,14 @@ use Rattle.driver_model.specs.declared.action.Action.TheVariants as action
 use Rattle.driver_model.specs.declared.action.Cause.TheVariants as cause
 use Rattle.driver_model.specs.declared.action.Owner.TheVariants as owner
 use Rattle.driver_model.specs.declared.outcome.Outcome.{Outcome}
+use Rattle.driver_model.specs.declared.action.WaitKind.{WaitKind}
 use Rattle.driver_model.specs.Config.{connect_timeout}
 use Rattle.legal_trace.specs.Ledger.{End, Ending, is_over, IsOffered, ending}
 use Rattle.legal_trace.specs.Story.{Try, last_of}
 use Rattle.legal_trace.specs.Book.{Book}
-use Rattle.legal_trace.specs.Legal.{MayStand, MayAnswer, MayTell, MayWrite, MayShowCreation, IsOpen, link_of, NoneIsOwed, VerdictsAreShown, NoneEnds, FailuresAreShown, IsTimed, IsCreated, IsApplied, IsMoved, IsWritten, IsSettled, IsStarted, IsWaiting, CanMove}
+use Rattle.legal_trace.specs.Steps.{next_step}
+use Rattle.legal_trace.specs.Legal.{MayStand, MayAnswer, MayTell, MayWrite, MayWait, MayShowCreation, IsOpen, link_of, NoneIsOwed, VerdictsAreShown, NoneEnds, FailuresAreShown, IsTimed, IsCreated, IsApplied, IsMoved, IsWritten, IsSettled, IsStarted, IsWaiting, CanMove}
+use Rattle.legal_laws.proofs.Moves.{teller_moves, starter_moves, same_kind}
 use Rattle.legal_laws.proofs.Numbers.{up_is_numbered, over_is_numbered, open_is_numbered, unasked_stays}
 use Rattle.legal_laws.proofs.Opens.{still_stays}
 use Rattle.legal_laws.proofs.Quiet.{failed_is_over}
@@ -93,9 +96,13 @@ not_offered b l bytes may h = elim h [ inl nothing ↦ may.some (may.all ∙ not
 not_started : (ts : List Try) (t : Try) → ts ≡ [] → last_of ts ≡ Some t → ⊥
 not_started ts t none last = not_none (last_of ts) t (ap last_of none) last
 
--- a wait that is to be shown is not
-not_gone : (b : Book) (n : ℕ) → (b.story n).tries ≡ [] → (b.story n).waiting ≡ None → IsStarted b n ⊎ IsWaiting b n → ⊥
-not_gone b n unstarted new h = elim h [ inl s ↦ not_started (b.story n).tries s.try unstarted s.last | inr w ↦ not_none (b.story n).waiting w.kind new w.shown ]
+-- a wait that is to be shown isn't the one that stands
+pub not_shown : (b : Book) (n : ℕ) (kind : WaitKind) → MayWait b n kind → IsWaiting b n → ⊥
+not_shown b n kind may w = may.new (w.shown ∙ ap Some (same_kind (next_step b n) w.kind kind w.holds may.holds))
+
+-- so it is due
+not_gone : (b : Book) (n : ℕ) (kind : WaitKind) → MayWait b n kind → IsStarted b n ⊎ IsWaiting b n → ⊥
+not_gone b n kind may h = elim h [ inl s ↦ not_started (b.story n).tries s.try may.unstarted s.last | inr w ↦ not_shown b n kind may w ]
 
 -- an outcome that is owed is due
 answer_not_done : (b : Book) (n : ℕ) (o : Outcome) (over : Bool) → is_over (link_of b n) ≡ over → MayAnswer b n o → Step (answer_rank over) b → ⊥
@@ -105,7 +112,7 @@ answer_not_done b n o true e may h = not_none (owed b n) o (h n may.asked) may.o
 -- so is any outcome that may stand
 outcome_not_done : (b : Book) (n : ℕ) (o : Outcome) (may : MayAnswer b n o ⊎ MayTell b n o) → Step (outcome_rank b n o may) b → ⊥
 outcome_not_done b n o (inl owes) h = answer_not_done b n o (is_over (link_of b n)) refl owes h
-outcome_not_done b n o (inr told) h = h n told.moves
+outcome_not_done b n o (inr told) h = h n (teller_moves b n o told)
 
 -- the creation that may be shown is due
 creation_not_done : (b : Book) (e : Option RedisError) → MayShowCreation b e → Step (creation_rank e) b → ⊥
@@ -120,9 +127,9 @@ not_done b (action.Timer t ms what) may h = h may.config may.word may.opens (λ 
 not_done b (action.Outcome n o) may h = outcome_not_done b n o may h
 not_done b (action.Close l) may h = not_none (ending (b.link l)) may.why (h l) may.ends
 not_done b (action.Created e) may h = creation_not_done b e may h
-not_done b (action.Start l k (owner.Try n round) count len) may h = h n may.1.moves
+not_done b (action.Start l k (owner.Try n round) count len) may h = h n (starter_moves b l k n count len may.1)
 not_done b (action.Write l bytes) may h = not_offered b l bytes may (h l may.up)
-not_done b (action.Wait (owner.Try n round) kind) may h = not_gone b n may.1.unstarted may.1.new (h n may.1.asked)
+not_done b (action.Wait (owner.Try n round) kind) may h = not_gone b n kind may.1 (h n may.1.asked)
 not_done b (action.Turn k (cause.Event e)) may h = h
 
 -- once there is a link a turn has begun

@@ -3,7 +3,6 @@ use Rattle.std.proofs.Common.{◌≡◌, ◌≢◌, ◌⊎◌, inl, inr, ℕ, �
 use Rattle.std.proofs.lemmas.List.{nil_from_length}
 use Rattle.std.proofs.lemmas.Bool.Decides.{nat_tests}
 use Rattle.containers.proofs.Choices.{chosen, eq_from, eq_test, if_true}
-use Rattle.resp_value.specs.declared.value.Value.TheVariants.{Nil}
 use Rattle.redis_error.specs.declared.redis_error.RedisError.{RedisError}
 use Rattle.driver_model.specs.Request.{packed_bytes}
 use Rattle.redis_error.specs.declared.redis_error.RedisError.TheVariants as error
@@ -16,7 +15,7 @@ use Rattle.driver_model.specs.declared.event.EventKind.TheVariants as event
 use Rattle.driver_model.specs.declared.outcome.Outcome.{Outcome}
 use Rattle.driver_model.specs.declared.outcome.Outcome.TheVariants as outcome
 use Rattle.legal_trace.specs.Ledger.{Ledger, Line, End, begins, noted_each}
-use Rattle.legal_trace.specs.Story.{Story, Try, is_open, handed_in, left, tried, waits, answered, last_of, bytes_of}
+use Rattle.legal_trace.specs.Story.{Story, Try, is_open, is_no_error, handed_in, left, tried, waits, answered, last_of, bytes_of}
 use Rattle.legal_trace.specs.Owed.{owed, owed_to_try, owed_unstarted}
 use Rattle.legal_trace.specs.Book.{Book, entered, lines_of, message_of, current, after_event}
 use Rattle.legal_trace.specs.Legal.{MayAnswer, MayTell, MayStand, IsOpen}
@@ -26,30 +25,31 @@ use Rattle.legal_trace.proofs.Plain.{not_empty, same_some}
 use Rattle.legal_laws.proofs.Numbers.{HasStories}
 
 -- one that started no message is owed a fault, if anything
-a_fault_only : (late empty : Bool) (x y : RedisError) (end : Option End) (o : Outcome) → (if late then Some (outcome.Fault x) else if empty then Some (outcome.Fault y) else owed_unstarted end) ≡ Some o → o ≡ outcome.One Nil → ⊥
-a_fault_only true empty x y end o e n = cc
-a_fault_only false true x y end o e n = cc
-a_fault_only false false x y None o e n = cc
-a_fault_only false false x y (Some end) o e n = cc
+a_fault_only : (late empty : Bool) (x y : RedisError) (end : Option End) (o : Outcome) → (if late then Some (outcome.Fault x) else if empty then Some (outcome.Fault y) else owed_unstarted end) ≡ Some o → is_no_error (o ∷ []) ≡ true → ⊥
+a_fault_only late empty x y end (outcome.Fault e) owes n = cc n
+a_fault_only true empty x y end (outcome.One v) owes n = cc owes
+a_fault_only true empty x y end (outcome.Many vs) owes n = cc owes
+a_fault_only false true x y end (outcome.One v) owes n = cc owes
+a_fault_only false true x y end (outcome.Many vs) owes n = cc owes
+a_fault_only false false x y None (outcome.One v) owes n = cc owes
+a_fault_only false false x y None (outcome.Many vs) owes n = cc owes
+a_fault_only false false x y (Some end) (outcome.One v) owes n = cc owes
+a_fault_only false false x y (Some end) (outcome.Many vs) owes n = cc owes
 
--- so it isn't owed Nil
-pub unstarted_gets_a_fault : (b : Book) (n : ℕ) (o : Outcome) → (b.story n).tries ≡ [] → owed b n ≡ Some o → o ≡ outcome.One Nil → ⊥
+-- so what it is owed is an error
+pub unstarted_gets_a_fault : (b : Book) (n : ℕ) (o : Outcome) → (b.story n).tries ≡ [] → owed b n ≡ Some o → is_no_error (o ∷ []) ≡ true → ⊥
 unstarted_gets_a_fault b n o none owes =
     a_fault_only (b.story n).late (length (bytes_of (b.story n)) == 0) error.Closed error.EmptyCommand (b.link (b.story n).link).end o
     (subst (λ (ts : List Try). (if (b.story n).late then Some (outcome.Fault error.Closed) else if length (bytes_of (b.story n)) == 0 then Some (outcome.Fault error.EmptyCommand) else owed_to_try b (b.story n) (last_of ts)) ≡ Some o) none owes)
 
--- it has one outcome at most, and bytes where it was told Nil and has not started
+-- it has one outcome at most, and bytes where that is no error and it has not started
 pub record IsAnsweredOnce (outcomes : List Outcome) (tries : List Try) (bytes : List ℕ) : Type 0 where
   pub once : length outcomes ≤ 1
-  pub told : outcomes ≡ outcome.One Nil ∷ [] → tries ≡ [] → bytes ≢ []
+  pub told : is_no_error outcomes ≡ true → tries ≡ [] → bytes ≢ []
 
 -- so it is of a story
 abbrev pub AnsweredOnce : Story → Type 0
 AnsweredOnce s = IsAnsweredOnce s.outcomes s.tries (bytes_of s)
-
--- lists of one outcome that are equal have the same
-same_outcome : (o p : Outcome) → o ∷ [] ≡ p ∷ [] → o ≡ p
-same_outcome o p e = cc
 
 -- an open submission has no outcome
 pub open_has_none : (s : Story) → is_open s ≡ true → s.outcomes ≡ []
@@ -57,14 +57,14 @@ open_has_none s h = nil_from_length s.outcomes (grind (nat_tests, arith, h))
 
 -- without outcomes
 unanswered : (os : List Outcome) (tries : List Try) (bytes : List ℕ) → os ≡ [] → IsAnsweredOnce os tries bytes
-unanswered os tries bytes none = record { once = omega (arith, ap length none); told = λ e t. absurd (let x : ◌≡◌ {A = List Outcome} [] (outcome.One Nil ∷ []) = sym none ∙ e in cc x) }
+unanswered os tries bytes none = record { once = omega (arith, ap length none); told = λ e t. absurd (let x : false ≡ true = sym (ap is_no_error none) ∙ e in cc x) }
 
 -- with the first
-first_outcome : (b : Book) (n : ℕ) (o : Outcome) → IsOpen b n → ((b.story n).tries ≡ [] → o ≡ outcome.One Nil → bytes_of (b.story n) ≢ []) → AnsweredOnce (answered (b.story n) o)
+first_outcome : (b : Book) (n : ℕ) (o : Outcome) → IsOpen b n → ((b.story n).tries ≡ [] → is_no_error (o ∷ []) ≡ true → bytes_of (b.story n) ≢ []) → AnsweredOnce (answered (b.story n) o)
 first_outcome b n o asked bytes =
     let none : (b.story n).outcomes ≡ [] = open_has_none (b.story n) asked in
     let one : (b.story n).outcomes ++ o ∷ [] ≡ o ∷ [] = ap (λ (os : List Outcome). os ++ o ∷ []) none in
-    record { once = omega (arith, ap length one); told = λ e t. bytes t (same_outcome o (outcome.One Nil) (sym one ∙ e)) }
+    record { once = omega (arith, ap length one); told = λ e t. bytes t (sym (ap is_no_error one) ∙ e) }
 
 -- so with each outcome that may stand
 outcome_once : (b : Book) (n : ℕ) (o : Outcome) → MayAnswer b n o ⊎ MayTell b n o → AnsweredOnce (answered (b.story n) o)

@@ -7,6 +7,7 @@ use Rattle.legal_trace.specs.Book.{blank_book}
 use Rattle.legal_trace.specs.Legal.{Legal}
 use Rattle.legal_laws.specs.Links.{lines_for, TakesInOrder}
 use Rattle.legal_laws.specs.Segments.{AreInOrder}
+use Rattle.legal_laws.specs.Starts.{StaysWithin}
 
 -- it is so of each legal trace
 abbrev pub OfEachLegal : (List Action → Type 0) → Type 0
@@ -28,3 +29,9 @@ abbrev pub TurnsAreInOrder : Type 0
 TurnsAreInOrder =
     (config : Config) (word : ℕ) (events : List Event) (trace : List Action) (h : Legal config word events trace)
     → AreInOrder 0 blank_book trace h.each
+
+-- each legal trace stays within its configuration
+abbrev pub EachStaysWithin : Type 0
+EachStaysWithin =
+    (config : Config) (word : ℕ) (events : List Event) (trace : List Action) → Legal config word events trace
+    → StaysWithin config trace

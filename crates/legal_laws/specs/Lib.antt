@@ -3,4 +3,5 @@ pub mod Answers
 pub mod Next
 pub mod Segments
 pub mod Creation
+pub mod Starts
 pub mod Laws

@@ -8,7 +8,9 @@ ghost use Rattle.legal_laws.specs.Links.{LinksAreLegal, LedgersAreTold, TakesInO
 ghost use Rattle.legal_laws.specs.Answers.{AnswersOnce, AnswersAll};
 ghost use Rattle.legal_laws.specs.Next.{OneIsNextBehind};
 ghost use Rattle.legal_laws.specs.Creation.{TellsOfOpening};
+ghost use Rattle.legal_laws.specs.Starts.{StartsRise, LeftStartNoMore};
 ghost use Rattle.legal_laws.specs.Laws.{OfEachLegal, LinksTakeInOrder, OneIsLegal, TurnsAreInOrder};
+ghost use Rattle.legal_laws.specs.Laws.{EachStaysWithin};
 
 /// Does nothing. Its contract: what a legal trace tells of each link is legal by itself. What the
 /// book of any trace has of a link is what these lines come to.
@@ -58,4 +60,24 @@ pub fn a_turn_has_five_segments()
 /// any shutdown; and none of these is left open.
 pub fn a_failed_opening_is_told()
     ensures { OfEachLegal TellsOfOpening }
+{}
+
+/// Does nothing. Its contract: in a legal trace a message starts only where no bytes of its link
+/// are unwritten, or fewer than the boundary of the configuration. Where it starts, and where a
+/// submission is answered without an error before it has a message, fewer submissions stand in line
+/// before it than the queue holds.
+pub fn no_message_starts_past_the_boundary()
+    ensures { EachStaysWithin }
+{}
+
+/// Does nothing. Its contract: in a legal trace the messages of each link start in the order of the
+/// numbers of their submissions.
+pub fn starts_follow_the_submissions()
+    ensures { OfEachLegal StartsRise }
+{}
+
+/// Does nothing. Its contract: in a legal trace no message of a submission starts behind an outcome
+/// of it that is an error, nor once its caller went while it was open.
+pub fn whoever_left_never_starts()
+    ensures { OfEachLegal LeftStartNoMore }
 {}

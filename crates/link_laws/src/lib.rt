@@ -6,7 +6,7 @@ ghost use Rattle.std.specs.Prelude.{◌≡◌, ◌+◌, ◌<◌, ℕ, true, fals
 ghost use Rattle.driver_model.specs.declared.action.Owner.{Owner};
 ghost use Rattle.driver_model.specs.declared.news.LinkFault.{LinkFault};
 ghost use Rattle.link_core.specs.declared.message.Queued.{Queued};
-ghost use Rattle.link_core.specs.Link.{LinkState, Starting, Settling, no_boundary, is_full};
+ghost use Rattle.link_core.specs.Link.{LinkState, Starting, Settling, is_full};
 ghost use Rattle.link_core.specs.Link.{holds_back, enqueued, started_all, offered_of, wrote_of};
 ghost use Rattle.link_core.specs.Link.{cancelled, piece_dealt, closed_all, faulted};
 ghost use Rattle.link_core.specs.Waiting.{without};
@@ -102,17 +102,18 @@ pub fn a_cut_changes_nothing()
 {}
 
 /// Does nothing. Its contract: messages are held back from the boundary on, and not one byte below
-/// it; never where nothing is unwritten, nor at the greatest boundary.
+/// it; never where nothing is unwritten, nor by a boundary above the unwritten bytes.
 pub fn a_link_is_held_back_at_its_boundary()
     ensures below { (s : LinkState) → length s.outbox.unwritten + 1 ≡ s.boundary
         → holds_back s ≡ false }
-    ensures at { (s : LinkState) → s.boundary < no_boundary → 0 < length s.outbox.unwritten
+    ensures at { (s : LinkState) → 0 < length s.outbox.unwritten
         → length s.outbox.unwritten ≡ s.boundary → holds_back s ≡ true }
-    ensures above { (s : LinkState) → s.boundary < no_boundary
-        → length s.outbox.unwritten ≡ s.boundary + 1 → holds_back s ≡ true }
+    ensures above { (s : LinkState) → length s.outbox.unwritten ≡ s.boundary + 1
+        → holds_back s ≡ true }
     ensures empty { (s : LinkState) → length s.outbox.unwritten ≡ 0
         → holds_back s ≡ false }
-    ensures greatest { (s : LinkState) → s.boundary ≡ no_boundary → holds_back s ≡ false }
+    ensures beyond { (s : LinkState) → length s.outbox.unwritten < s.boundary
+        → holds_back s ≡ false }
 {}
 
 /// Does nothing. Its contract: a queue is full at its size, and not one message below it.

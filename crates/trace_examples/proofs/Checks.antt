@@ -1,14 +1,11 @@
--- Tests that compute, and what each says: of choices, of lists, of all numbers below another, and of the outcomes of one submission.
-use Rattle.std.proofs.Common.{◌≡◌, ℕ, zero, suc, ◌<◌, ◌==◌, Bool, true, false, ◌&&◌, not, List, [], ◌∷◌, Option, Some, None, refl, ap, ◌∙◌, arith}
+-- Tests that compute, and what each says: of choices, of lists, of all numbers below another, and of steps.
+use Rattle.std.proofs.Common.{◌≡◌, ◌≢◌, ℕ, zero, suc, ◌<◌, ◌==◌, Bool, true, false, ◌&&◌, not, List, [], ◌∷◌, Option, Some, None, refl, ap, ◌∙◌, arith}
 use Rattle.std.specs.Option.{is_none}
 use Rattle.std.proofs.lemmas.Bool.{not-true}
-use Rattle.containers.proofs.Choices.{by_test, eq_from, ne_from, both_left, both_right}
-use Rattle.resp_value.specs.declared.value.Value.{Value}
-use Rattle.resp_value.specs.declared.value.Value.TheVariants.{Nil}
-use Rattle.driver_model.specs.declared.outcome.Outcome.{Outcome}
-use Rattle.driver_model.specs.declared.outcome.Outcome.TheVariants as outcome
-use Rattle.legal_trace.specs.Story.{Story, is_awaited}
-use Rattle.legal_trace.specs.Legal.{IsTold}
+use Rattle.containers.proofs.Choices.{by_test, eq_from, ne_from, both_left, both_right, not_both}
+use Rattle.driver_model.specs.declared.action.WaitKind.{WaitKind}
+use Rattle.driver_model.specs.declared.action.WaitKind.TheVariants as wait
+use Rattle.legal_trace.specs.Steps.{Step, waits, tells, starts, nothing}
 
 -- the second test, where the first is true
 abbrev pub holds_if : Bool → Bool → Bool
@@ -51,31 +48,50 @@ below test (suc k) n e l =
     by_test (n == k) (test n ≡ true) (λ same. ap test (eq_from n k same) ∙ both_left (test k) (each_below test k) e)
     (λ other. let apart = ne_from n k other in below test k n (both_right (test k) (each_below test k) e) (omega arith))
 
--- the only outcome is Nil
-abbrev pub is_nil : Value → Bool
-is_nil Nil = true
-is_nil _ = false
+-- two waits of one kind
+abbrev pub same_wait : WaitKind → WaitKind → Bool
+same_wait wait.Connect wait.Connect = true
+same_wait wait.Place wait.Place = true
+same_wait wait.Room wait.Room = true
+same_wait _ _ = false
 
-abbrev pub is_nil_alone : List Outcome → Bool
-is_nil_alone (outcome.One v ∷ []) = is_nil v
-is_nil_alone _ = false
+-- what this says
+wait_from : (k j : WaitKind) → same_wait k j ≡ true → k ≡ j
+wait_from wait.Connect wait.Connect e = refl
+wait_from wait.Place wait.Place e = refl
+wait_from wait.Room wait.Room e = refl
+wait_from _ _ e = cc
 
--- what these say
-nil_from : (v : Value) → is_nil v ≡ true → v ≡ Nil
-nil_from Nil e = refl
-nil_from _ e = cc
+-- each is of its own kind
+wait_is_one : (k : WaitKind) → same_wait k k ≡ true
+wait_is_one wait.Connect = refl
+wait_is_one wait.Place = refl
+wait_is_one wait.Room = refl
 
-nil_alone : (os : List Outcome) → is_nil_alone os ≡ true → os ≡ outcome.One Nil ∷ []
-nil_alone (outcome.One v ∷ []) e = ap (λ (x : Value). outcome.One x ∷ []) (nil_from v e)
-nil_alone _ e = cc
+-- two steps of one sort
+abbrev pub same_step : Step → Step → Bool
+same_step (waits k) (waits j) = same_wait k j
+same_step tells tells = true
+same_step starts starts = true
+same_step nothing nothing = true
+same_step _ _ = false
 
--- it was answered with Nil at its place, since nobody awaits its reply
-abbrev pub is_told : Story → Bool
-is_told s = not (is_awaited s) && is_nil_alone s.outcomes
+-- what this says
+pub step_from : (s t : Step) → same_step s t ≡ true → s ≡ t
+step_from (waits k) (waits j) e = ap waits (wait_from k j e)
+step_from tells tells e = refl
+step_from starts starts e = refl
+step_from nothing nothing e = refl
+step_from _ _ e = cc
 
-pub told_from : (s : Story) → is_told s ≡ true → IsTold s
-told_from s e = record { unawaited = not-true (is_awaited s) (both_left (not (is_awaited s)) (is_nil_alone s.outcomes) e); told = nil_alone s.outcomes (both_right (not (is_awaited s)) (is_nil_alone s.outcomes) e) }
+-- the wait that was shown, if one was, is of another kind
+abbrev pub is_other_wait : Option WaitKind → WaitKind → Bool
+is_other_wait None kind = true
+is_other_wait (Some shown) kind = not (same_wait shown kind)
 
--- and the other way round
-pub nil_told : (s : Story) → IsTold s → is_told s ≡ true
-nil_told s h = rw (h.unawaited, h.told)
+-- what this says
+pub other_wait : (shown : Option WaitKind) (kind : WaitKind) → is_other_wait shown kind ≡ true → shown ≢ Some kind
+other_wait None kind e same = cc same
+other_wait (Some shown) kind e same =
+    let k : shown ≡ kind = cc same in
+    not_both (same_wait shown kind) (not-true (same_wait shown kind) e) (ap (λ x. same_wait x kind) k ∙ wait_is_one kind)

@@ -1,8 +1,7 @@
 -- A trace whose steps are tested one by one is legal: each action stands where it may, since it is the next that is due.
-use Rattle.std.proofs.Common.{◌≡◌, ◌≢◌, ◌⊎◌, ℕ, ◌==◌, Bool, true, false, ◌&&◌, ◌||◌, not, List, [], ◌∷◌, length, Option, Some, None, is_some, refl, sym, ap, ◌∙◌, inl, inr, arith}
-use Rattle.std.specs.Option.{is_none}
+use Rattle.std.proofs.Common.{◌≡◌, ◌⊎◌, ℕ, ◌==◌, Bool, true, ◌&&◌, not, List, [], ◌∷◌, length, Option, Some, None, is_some, refl, sym, ap, ◌∙◌, inl, inr, arith}
 use Rattle.std.proofs.lemmas.Bool.{not-true}
-use Rattle.containers.proofs.Choices.{not_both, eq_from, ne_from, both_left, both_right}
+use Rattle.containers.proofs.Choices.{eq_from, ne_from, both_left, both_right}
 use Rattle.resp_value.specs.declared.value.Value.TheVariants.{Nil}
 use Rattle.driver_model.specs.declared.action.Action.{Action}
 use Rattle.driver_model.specs.declared.action.Action.TheVariants as action
@@ -21,14 +20,15 @@ use Rattle.connection_info.specs.declared.address.ConnectionInfo.{ConnectionInfo
 use Rattle.redis_error.specs.declared.redis_error.RedisError.{RedisError}
 use Rattle.driver_model.specs.Shape.{need_of}
 use Rattle.legal_trace.specs.Ledger.{Ending, is_over, ending, failure_in, unwritten}
-use Rattle.legal_trace.specs.Story.{is_open, is_awaited, bytes_of, shape}
+use Rattle.legal_trace.specs.Story.{is_open, is_unstarted, bytes_of, shape}
 use Rattle.legal_trace.specs.Book.{Book, blank_book, book, current, entered, entered_each}
+use Rattle.legal_trace.specs.Steps.{tells, starts, next_step}
 use Rattle.legal_trace.specs.Owed.{owed}
 use Rattle.legal_trace.specs.Events.{is_bad_event}
-use Rattle.legal_trace.specs.Legal.{IsOpen, link_of, IsTold, MayTurn, MayConnect, MayTimer, MayClose, MayBeCreated, MayFail, MayAnswer, MayTell, MayStart, MayWrite, MayWait, MayStand, AllStand, causes, event_causes, Legal}
+use Rattle.legal_trace.specs.Legal.{IsOpen, IsWaiting, link_of, MayTurn, MayConnect, MayTimer, MayClose, MayBeCreated, MayFail, MayAnswer, MayTell, MayStart, MayWrite, MayWait, MayStand, AllStand, causes, event_causes, Legal}
 use Rattle.trace_examples.proofs.Bounded.{IsBounded, is_of_first, still_bounded, blank_bounded}
-use Rattle.trace_examples.proofs.Checks.{holds_if, held, none_from, is_empty, empty_from, filled_from, each_below, below, is_told, told_from}
-use Rattle.trace_examples.proofs.Settled.{is_quiet, quiet, all_quiet, none_is_owed, all_shown, verdicts_are_shown, none_ends, no_end, failure_shown, failures_are_shown, is_applied, applied, can_move, moves, all_stay, none_before, is_moved, moved, is_written, written, wait_holds, holds, is_settled, settled}
+use Rattle.trace_examples.proofs.Checks.{holds_if, held, is_empty, empty_from, filled_from, each_below, below, same_step, step_from, is_other_wait, other_wait}
+use Rattle.trace_examples.proofs.Settled.{is_quiet, quiet, all_quiet, none_is_owed, all_shown, verdicts_are_shown, none_ends, no_end, failure_shown, failures_are_shown, is_applied, applied, all_stay, none_before, is_moved, moved, is_written, written, wait_holds, holds, is_waiting, waiting, is_settled, settled}
 
 -- a turn
 abbrev pub turn_due : Book → ℕ → Cause → Bool
@@ -67,26 +67,25 @@ write_stands b l bytes bounded e all = record {
   in_order = λ m below up. let first = eq_from l 0 (search (both_left, both_right)) in absurd (omega arith);
 }
 
--- its wait was shown, if it is open and has no message
+-- its wait was shown and is true, if it is open and has no message
 abbrev pub is_in_wait : Book → ℕ → Bool
-is_in_wait b n = holds_if (is_open (b.story n)) (holds_if (is_empty (b.story n).tries) (is_some (b.story n).waiting))
+is_in_wait b n = holds_if (is_open (b.story n)) (holds_if (is_empty (b.story n).tries) (is_waiting b n))
 
 -- what it says
-in_wait : (b : Book) (n : ℕ) → is_in_wait b n ≡ true → IsOpen b n → (b.story n).tries ≡ [] → (b.story n).waiting ≢ None
-in_wait b n e o unstarted none =
-    let shown : is_some (b.story n).waiting ≡ true = held (is_empty (b.story n).tries) (is_some (b.story n).waiting) (held (is_open (b.story n)) (holds_if (is_empty (b.story n).tries) (is_some (b.story n).waiting)) e o) (ap is_empty unstarted) in
-    not_both (is_some (b.story n).waiting) (ap is_some none) shown
+in_wait : (b : Book) (n : ℕ) → is_in_wait b n ≡ true → IsOpen b n → (b.story n).tries ≡ [] → IsWaiting b n
+in_wait b n e o unstarted =
+    waiting b n (held (is_empty (b.story n).tries) (is_waiting b n) (held (is_open (b.story n)) (holds_if (is_empty (b.story n).tries) (is_waiting b n)) e o) (ap is_empty unstarted))
 
 -- a wait of an open submission
 abbrev pub wait_due : Book → ℕ → WaitKind → Bool
-wait_due b n kind = is_written b && is_open (b.story n) && is_empty (b.story n).tries && is_none (b.story n).waiting && wait_holds b n kind && each_below (λ m. is_in_wait b m) n
+wait_due b n kind = is_written b && is_open (b.story n) && is_empty (b.story n).tries && is_other_wait (b.story n).waiting kind && wait_holds b n kind && each_below (λ m. is_in_wait b m) n
 
 wait_stands : (b : Book) (n : ℕ) (kind : WaitKind) → IsBounded b → wait_due b n kind ≡ true → MayWait b n kind
 wait_stands b n kind bounded e = record {
   written = written b bounded (search (both_left, both_right));
   asked = search (both_left, both_right);
   unstarted = empty_from (b.story n).tries (search (both_left, both_right));
-  new = none_from (b.story n).waiting (search (both_left, both_right));
+  new = other_wait (b.story n).waiting kind (search (both_left, both_right));
   holds = holds b n kind (search (both_left, both_right));
   in_order = λ m l. in_wait b m (below (λ m. is_in_wait b m) n m (search (both_left, both_right)) l);
 }
@@ -94,24 +93,20 @@ wait_stands b n kind bounded e = record {
 -- a message of the first try
 abbrev pub start_due : Book → ℕ → ℕ → ℕ → ℕ → ℕ → Bool
 start_due b l k n count len =
-    (is_applied b && (is_awaited (b.story n) || is_told (b.story n)) && can_move b n && all_stay b n) &&
+    (is_applied b && is_unstarted (b.story n) && same_step (next_step b n) starts && all_stay b n) &&
     ((l == (b.story n).link) && (k == length (b.link l).starts) && (count == need_of (shape (b.story n))) && (len == length (bytes_of (b.story n))))
 
 start_stands : (b : Book) (l k n count len : ℕ) → IsBounded b → start_due b l k n count len ≡ true → MayStart b l k n count len
 start_stands b l k n count len bounded e = record {
   applied = applied b bounded (search (both_left, both_right));
-  wanted = wanted (is_awaited (b.story n)) (search (both_left, both_right));
-  moves = moves b n (search (both_left, both_right));
+  unstarted = search (both_left, both_right);
+  starts = step_from (next_step b n) starts (search (both_left, both_right));
   in_order = none_before b n (search (both_left, both_right));
   on_its_link = eq_from l (b.story n).link (search (both_left, both_right));
   next = eq_from k (length (b.link l).starts) (search (both_left, both_right));
   needs_its_items = eq_from count (need_of (shape (b.story n))) (search (both_left, both_right));
   long_as_its_bytes = eq_from len (length (bytes_of (b.story n))) (search (both_left, both_right));
 }
-  where
-    wanted : (awaited : Bool) → (awaited || is_told (b.story n)) ≡ true → (awaited ≡ true) ⊎ IsTold (b.story n)
-    wanted true t = inl refl
-    wanted false t = inr (told_from (b.story n) t)
 
 -- the timer of the opening; for how long and for what is left to be said
 abbrev pub timer_due : Book → ℕ → Bool
@@ -170,7 +165,7 @@ created_stands b bounded e = record {
 -- an outcome: what is owed, or where nothing is, the Nil of a command whose reply nobody awaits; which it is is left to be said
 abbrev pub outcome_due : Book → ℕ → Option Outcome → Bool
 outcome_due b n (Some o) = each_below (λ m. is_quiet b m) n && holds_if (is_over (link_of b n)) (none_ends b && all_shown b && failure_shown b)
-outcome_due b n None = is_applied b && not (is_awaited (b.story n)) && can_move b n && all_stay b n
+outcome_due b n None = is_applied b && is_unstarted (b.story n) && same_step (next_step b n) tells && all_stay b n
 
 -- what is said is what is owed, or Nil
 abbrev pub IsSaid : Outcome → Option Outcome → Type 0
@@ -198,8 +193,8 @@ outcome_stands b n o bounded e said = of_owed (owed b n) refl (both_right (is_op
     of_owed None same t s = inr (record {
       applied = applied b bounded (search (both_left, both_right));
       asked = open_still;
-      unawaited = not-true (is_awaited (b.story n)) (search (both_left, both_right));
-      moves = moves b n (search (both_left, both_right));
+      unstarted = search (both_left, both_right);
+      tells = step_from (next_step b n) tells (search (both_left, both_right));
       in_order = none_before b n (search (both_left, both_right));
       nil = s;
     })

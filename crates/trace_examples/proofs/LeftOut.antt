@@ -19,4 +19,4 @@ never_offered config word events h = elim (h.settled.written.offered 0 refl) [ i
 -- a message that is held back on a link that is up
 pub held_back_last : (config : Config) (word : ℕ) (events : List Event) → Legal config word events (held_back config word) → ⊥
 unfolding book
-held_back_last config word events h = h.settled.written.moved.moved 1 (record { unstarted = refl; wanted = inl refl; up = refl })
+held_back_last config word events h = elim (h.settled.goes 1 refl) [ inl started ↦ cc started.last | inr waits ↦ cc waits.shown ]

@@ -11,3 +11,4 @@ pub mod Misplaced
 pub mod Unopened
 pub mod LeftOut
 pub mod Fronts
+pub mod Places

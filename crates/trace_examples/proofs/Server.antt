@@ -1,11 +1,13 @@
 -- The address of the server that the traces speak of.
-use Rattle.std.proofs.Common.{◌≡◌, ℕ, false, Option, Some, None, codes, pos, refl, ap}
+use Rattle.std.proofs.Common.{◌≡◌, ℕ, ◌==◌, false, Option, Some, None, codes, pos, refl, ap, ◌∙◌}
 use Rattle.std.specs.Str.Lossy.{utf8_lossy, utf8_valid_len}
 use Rattle.url.proofs.OnLiterals.{url_on_literals}
 use Rattle.connection_info.specs.declared.address.ConnectionInfo.{ConnectionInfo}
 use Rattle.connection_info.specs.declared.protocol.ProtocolVersion.TheVariants.{RESP2}
 use Rattle.driver_model.specs.Config.{address, fault_in}
-use Rattle.trace_examples.specs.Parts.{at_server}
+use Rattle.containers.proofs.Choices.{left_if}
+use Rattle.redis_error.specs.declared.config_name.ConfigName.TheVariants as name
+use Rattle.trace_examples.specs.Parts.{at_server, held_at}
 use Rattle.trace_examples.proofs.Due.{IsPlace}
 
 -- h and 6379, and nothing is said to it before the first request
@@ -21,6 +23,20 @@ is_server : (connect : Option (Option ℕ)) → address (at_server connect) ≡ 
 unfolding url_on_literals utf8_lossy utf8_valid_len
 is_server connect = refl
 
+-- also where the queue and the boundary are said
+is_held_server : (bound size : ℕ) → address (held_at bound size) ≡ Some server
+unfolding url_on_literals utf8_lossy utf8_valid_len
+is_held_server bound size = refl
+
 -- so an opening asks for it
 pub at_h : (connect : Option (Option ℕ)) → IsPlace (at_server connect) (codes "h") 6379
-at_h connect = record { sound = ap fault_in (is_server connect); info = server; configured = is_server connect; is = (refl, refl) }
+at_h connect = record { sound = ap (λ a. fault_in a 50) (is_server connect); info = server; configured = is_server connect; is = (refl, refl) }
+
+-- also where the queue holds something
+pub at_held : (bound size : ℕ) → (size == 0) ≡ false → IsPlace (held_at bound size) (codes "h") 6379
+at_held bound size some = record {
+  sound = ap (λ a. fault_in a size) (is_held_server bound size) ∙ left_if (size == 0) (Some name.Buffer) None some;
+  info = server;
+  configured = is_held_server bound size;
+  is = (refl, refl);
+}

@@ -8,15 +8,15 @@ use Rattle.driver_model.specs.Config.{connect_timeout}
 use Rattle.driver_model.specs.declared.action.Cause.{Cause}
 use Rattle.driver_model.specs.declared.action.Cause.TheVariants as cause
 use Rattle.driver_model.specs.declared.action.WaitKind.{WaitKind}
-use Rattle.driver_model.specs.declared.action.WaitKind.TheVariants as wait
 use Rattle.driver_model.specs.declared.event.Submission.{Submission}
 use Rattle.legal_trace.specs.Ledger.{Ledger, IsOffered, is_over, ending, failure_in, unwritten}
-use Rattle.legal_trace.specs.Story.{Try, last_of, is_open, is_awaited, awaited_in}
+use Rattle.legal_trace.specs.Story.{Try, last_of, is_open, is_told, is_unstarted, is_awaited, is_no_error, awaited_in}
 use Rattle.legal_trace.specs.Book.{Book}
+use Rattle.legal_trace.specs.Steps.{waits, is_due, next_step}
 use Rattle.legal_trace.specs.Owed.{owed, is_full}
-use Rattle.legal_trace.specs.Legal.{IsOpen, link_of, NoneIsOwed, VerdictsAreShown, NoneEnds, FailuresAreShown, IsTimed, IsApplied, IsTold, CanMove, IsMoved, IsWritten, WaitHolds, IsStarted, IsWaiting, IsSettled}
+use Rattle.legal_trace.specs.Legal.{IsOpen, link_of, NoneIsOwed, VerdictsAreShown, NoneEnds, FailuresAreShown, IsTimed, IsApplied, CanMove, IsMoved, IsWritten, WaitHolds, IsStarted, IsWaiting, IsSettled}
 use Rattle.trace_examples.proofs.Bounded.{IsBounded, IsIdle}
-use Rattle.trace_examples.proofs.Checks.{holds_if, held, none_from, is_empty, empty_from, filled_from, each_below, below, is_told, told_from, nil_told}
+use Rattle.trace_examples.proofs.Checks.{holds_if, held, none_from, is_empty, empty_from, filled_from, each_below, below, same_step, step_from}
 
 -- what was never handed in isn't open
 closed : (what : Option Submission) (c d : Bool) → what ≡ None → (is_some what && c && d) ≡ true → ⊥
@@ -133,47 +133,41 @@ applied b bounded e = record {
   timed = timed b (search (both_left, both_right));
 }
 
--- its message has not started and may
+-- its message has not started, and it makes a step
 abbrev pub can_move : Book → ℕ → Bool
-can_move b n = is_empty (b.story n).tries && (is_open (b.story n) || is_told (b.story n)) && (link_of b n).up
+can_move b n = is_unstarted (b.story n) && is_due (next_step b n)
 
+-- what this says
 pub moves : (b : Book) (n : ℕ) → can_move b n ≡ true → CanMove b n
-moves b n e = record {
-  unstarted = empty_from (b.story n).tries (search (both_left, both_right));
-  wanted = wanted (is_open (b.story n)) (search (both_left, both_right));
-  up = search (both_left, both_right);
-}
-  where
-    wanted : (open_still : Bool) → (open_still || is_told (b.story n)) ≡ true → (open_still ≡ true) ⊎ IsTold (b.story n)
-    wanted true t = inl refl
-    wanted false t = inr (told_from (b.story n) t)
+moves b n e = record { unstarted = both_left (is_unstarted (b.story n)) (is_due (next_step b n)) e; due = both_right (is_unstarted (b.story n)) (is_due (next_step b n)) e }
 
--- and it may not
+-- and where it isn't so
 pub stays : (b : Book) (n : ℕ) → can_move b n ≡ false → CanMove b n → ⊥
-stays b n e can = not_both (can_move b n) e (three (is_empty (b.story n).tries) (is_open (b.story n) || is_told (b.story n)) (link_of b n).up (ap is_empty can.unstarted) (wanted (is_open (b.story n)) can.wanted) can.up)
+stays b n e can = not_both (can_move b n) e (two (is_unstarted (b.story n)) (is_due (next_step b n)) can.unstarted can.due)
   where
-    wanted : (open_still : Bool) → (open_still ≡ true) ⊎ IsTold (b.story n) → (open_still || is_told (b.story n)) ≡ true
-    wanted true w = refl
-    wanted false w = elim w [ inl o ↦ cc o | inr told ↦ nil_told (b.story n) told ]
+    two : (p q : Bool) → p ≡ true → q ≡ true → (p && q) ≡ true
+    two p q x y = rw (x, y)
 
-    three : (p q r : Bool) → p ≡ true → q ≡ true → r ≡ true → (p && q && r) ≡ true
-    three p q r x y z = rw (x, y, z)
-
--- none of the submissions before n has a message that may start
+-- none of the submissions before n makes a step
 abbrev pub all_stay : Book → ℕ → Bool
 all_stay b n = each_below (λ m. not (can_move b m)) n
 
 pub none_before : (b : Book) (n : ℕ) → all_stay b n ≡ true → (m : ℕ) → m < n → CanMove b m → ⊥
 none_before b n e m l = stays b m (not-true (can_move b m) (below (λ m. not (can_move b m)) n m e l))
 
--- what was never handed in has none
+-- what was never handed in makes none
 absent_stays : (b : Book) (n : ℕ) → (b.story n).submission ≡ None → CanMove b n → ⊥
-absent_stays b n e can = elim can.wanted [
+absent_stays b n e can = elim (open_or_told (is_open (b.story n)) (is_told (b.story n)) (both_right (length (b.story n).tries == 0) (is_open (b.story n) || is_told (b.story n)) can.unstarted)) [
   | inl o ↦ closed (b.story n).submission (length (b.story n).outcomes == 0) (not (b.story n).cancelled) e o
-  | inr told ↦ let awaited : is_awaited (b.story n) ≡ true = ap awaited_in e in not_both (is_awaited (b.story n)) told.unawaited awaited
+  | inr told ↦ let awaited : is_awaited (b.story n) ≡ true = ap awaited_in e in
+      not_both (is_awaited (b.story n)) (not-true (is_awaited (b.story n)) (both_left (not (is_awaited (b.story n))) (is_no_error (b.story n).outcomes) told)) awaited
 ]
+  where
+    open_or_told : (p q : Bool) → (p || q) ≡ true → (p ≡ true) ⊎ (q ≡ true)
+    open_or_told true q t = inl refl
+    open_or_told false q t = inr t
 
--- all messages that may start have started
+-- all steps that may be made were made
 abbrev pub is_moved : Book → Bool
 is_moved b = is_applied b && all_stay b b.submissions
 
@@ -207,10 +201,10 @@ written b bounded e = record {
 
 -- a wait is true
 abbrev pub wait_holds : Book → ℕ → WaitKind → Bool
-wait_holds b n wait.Connect = (link_of b n).asked && not (link_of b n).up && is_none (link_of b n).end
+wait_holds b n kind = same_step (next_step b n) (waits kind)
 
 pub holds : (b : Book) (n : ℕ) (kind : WaitKind) → wait_holds b n kind ≡ true → WaitHolds b n kind
-holds b n wait.Connect e = (search (both_left, both_right), not-true (link_of b n).up (search (both_left, both_right)), none_from (link_of b n).end (search (both_left, both_right)))
+holds b n kind e = step_from (next_step b n) (waits kind) e
 
 -- it is started on a link that is up, takes more items, and is offered
 abbrev pub try_goes : Book → Option Try → Bool

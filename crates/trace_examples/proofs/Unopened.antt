@@ -20,6 +20,7 @@ use Rattle.trace_examples.specs.Traces.{opening}
 use Rattle.trace_examples.specs.Openings.{connect_refused, refusal_shown, overdue, timed_out}
 use Rattle.trace_examples.specs.Claims.{NoneBegins, NoneBeginsIn}
 use Rattle.trace_examples.proofs.Bounded.{IsBounded, blank_bounded, bounded_behind}
+use Rattle.trace_examples.proofs.Misplaced.{same_config}
 use Rattle.trace_examples.proofs.Settled.{first_and_idle, failed_idle}
 use Rattle.trace_examples.proofs.Stood.{book_of, may_stand, answer}
 
@@ -80,10 +81,6 @@ another_error config word events after h =
 -- a close of a link whose connect failed
 pub closed_when_refused : NoneBegins connect_refused (action.Close 0)
 closed_when_refused config word events after h = cc (may_stand config word events (connect_refused config word) after (action.Close 0) h).ends
-
--- an opening has one configuration
-same_config : (c d : Config) (v w : ℕ) → Some (cause.Opening c v) ≡ Some (cause.Opening d w) → c ≡ d
-same_config c d v w e = cc
 
 -- a timer of a connect that may take any time
 pub timer_unasked : (config : Config) (t ms : ℕ) (what : Purpose) → connect_timeout config ≡ None → NoneBeginsIn config opening (action.Timer t ms what)

@@ -1,5 +1,6 @@
 pub mod Parts
 pub mod Traces
 pub mod Openings
+pub mod Places
 pub mod Fronts
 pub mod Claims

@@ -16,7 +16,7 @@ use Rattle.driver_model.specs.declared.outcome.Outcome.TheVariants as outcome
 
 -- the server at h:6379, and what is said of the time of a connect
 abbrev pub at_server : Option (Option ℕ) → Config
-at_server connect = record { url = codes "redis://h:6379"; connect = connect }
+at_server connect = record { url = codes "redis://h:6379"; connect = connect; buffer = None; boundary = None }
 
 -- a connect that may take any time, and one that may take what it may where nothing is said: 1,000 milliseconds
 abbrev pub unbounded : Config
@@ -24,6 +24,11 @@ unbounded = at_server (Some None)
 
 abbrev pub bounded : Config
 bounded = at_server None
+
+-- a connect that may take any time, and a link whose queue holds that many messages, and on which none starts while bytes are
+-- unwritten and as many as that bound
+abbrev pub held_at : ℕ → ℕ → Config
+held_at bound size = record { url = codes "redis://h:6379"; connect = Some None; buffer = Some size; boundary = Some bound }
 
 -- these events, one after another
 abbrev pub history : List EventKind → List Event

@@ -1,8 +1,8 @@
 //! Traces that can be relied on, and traces that cannot, each with the proof.
 #![tactic(auto)]
 
-ghost use Rattle.std.specs.Prelude.{◌≡◌, ◌≢◌, ℕ, List, [], ◌∷◌, ◌++◌, Option, Some, None, drop};
-ghost use Rattle.std.specs.Prelude.{pos};
+ghost use Rattle.std.specs.Prelude.{◌≡◌, ◌≢◌, ◌<◌, ℕ, List, [], ◌∷◌, ◌++◌, Option, Some, None};
+ghost use Rattle.std.specs.Prelude.{drop, pos};
 ghost use Rattle.redis_error.specs.declared.fault_kind.FaultKind.{FaultKind};
 ghost use Rattle.redis_error.specs.declared.fault_kind.FaultKind.TheVariants.{Reset, TimedOut};
 ghost use Rattle.redis_error.specs.declared.redis_error.RedisError.{RedisError};
@@ -13,7 +13,7 @@ ghost use Rattle.resp_value.specs.Data.{Data, array, int, items_of};
 ghost use Rattle.driver_model.specs.declared.action.Action.TheVariants as action;
 ghost use Rattle.driver_model.specs.declared.action.Cause.{Cause};
 ghost use Rattle.driver_model.specs.declared.action.Owner.TheVariants as owner;
-ghost use Rattle.driver_model.specs.Config.{connect_timeout};
+ghost use Rattle.driver_model.specs.Config.{connect_timeout, boundary};
 ghost use Rattle.driver_model.specs.declared.action.Purpose.{Purpose};
 ghost use Rattle.driver_model.specs.declared.action.WaitKind.{WaitKind};
 ghost use Rattle.driver_model.specs.declared.action.WaitKind.TheVariants as wait;
@@ -43,6 +43,8 @@ ghost use Rattle.trace_examples.specs.Fronts.{ended_fronts, waiting_fronts, begu
 ghost use Rattle.trace_examples.specs.Fronts.{refused_fronts, overdue_fronts};
 ghost use Rattle.trace_examples.specs.Openings.{timed_opening, connect_refused, refusal_shown};
 ghost use Rattle.trace_examples.specs.Openings.{refused_at_first, overdue, timed_out};
+ghost use Rattle.trace_examples.specs.Places.{narrow, one_at_a_time, third_held, third_came};
+ghost use Rattle.trace_examples.specs.Places.{queue_full, second_unshown, place_fronts};
 ghost use Rattle.trace_examples.specs.Traces.{opening};
 ghost use Rattle.trace_examples.specs.Claims.{IsTraceOf, IsTraceIn};
 ghost use Rattle.trace_examples.specs.Claims.{NoneBegins, NoneBeginsIn, NoneIs};
@@ -193,8 +195,8 @@ pub fn nor_are_these_steps()
         (action.Close 0) }
     ensures held_back_behind { (number : ℕ) (c : Cause)
         → NoneBegins held_back (action.Turn number c) }
-    ensures offered_before_a_start { (bytes : List ℕ)
-        → NoneBegins first_of_both (action.Write 0 bytes) }
+    ensures offered_before_a_start { (config : Config) (bytes : List ℕ) → 11 < boundary config
+        → NoneBeginsIn config first_of_both (action.Write 0 bytes) }
     ensures offered_what_was_taken { NoneBegins taken_in_part
         (action.Write 0 (packed_bytes (command 71))) }
     ensures waits_before_an_offer { (n round : ℕ) (kind : WaitKind)
@@ -296,4 +298,77 @@ pub fn their_fronts_stand()
     ensures begun { (word : ℕ) → EachStands (begun_fronts unbounded word) }
     ensures refused { (word : ℕ) → EachStands (refused_fronts unbounded word) }
     ensures overdue { (word : ℕ) → EachStands (overdue_fronts bounded word) }
+{}
+
+/// Does nothing. Its contract: these are legal too. Where bytes are unwritten and as many as the
+/// boundary, a command waits for room, until it starts or its link fails; where the queue holds its
+/// size, it waits for a place, and has one once an earlier message starts, or its owner leaves; a
+/// command that waited for the connect waits for room behind it; and one whose reply nobody awaits
+/// is told once it has its place.
+pub fn these_wait_for_room()
+    ensures cut_off_in_wait { IsTraceIn narrow
+        (event.Connected 0 ∷ event.Submit (command 71) ∷ event.Submit two_together
+        ∷ event.Submit (command 72) ∷ event.ReadFault 0 Reset ∷ []) third_held
+        (turn 5 (event.ReadFault 0 Reset) ∷ action.Close 0
+        ∷ action.Outcome 0 (outcome.Fault (error.Io Reset))
+        ∷ action.Outcome 1 (outcome.Fault error.Closed)
+        ∷ action.Outcome 2 (outcome.Fault error.Closed) ∷ []) }
+    ensures started_later { IsTraceIn narrow
+        (event.Connected 0 ∷ event.Submit (command 71) ∷ event.Submit two_together
+        ∷ event.Submit (command 72) ∷ event.Wrote 0 11 ∷ []) third_held
+        (turn 5 (event.Wrote 0 11) ∷ action.Start 0 2 (owner.Try 2 0) 1 11
+        ∷ action.Write 0 (packed_bytes two_together ++ packed_bytes (command 72)) ∷ []) }
+    ensures a_place_and_then_room { IsTraceIn one_at_a_time
+        (event.Connected 0 ∷ event.Submit (command 71) ∷ event.Submit (command 72)
+        ∷ event.Submit (command 73) ∷ event.Wrote 0 4 ∷ event.Wrote 0 7 ∷ [])
+        (λ config word. queue_full config word (command 73))
+        (turn 5 (event.Wrote 0 4) ∷ action.Write 0 (drop 4 (packed_bytes (command 71)))
+        ∷ turn 6 (event.Wrote 0 7) ∷ action.Start 0 1 (owner.Try 1 0) 1 11
+        ∷ action.Write 0 (packed_bytes (command 72))
+        ∷ action.Wait (owner.Try 2 0) wait.Room ∷ []) }
+    ensures a_place_that_was_left { IsTraceIn one_at_a_time
+        (event.Connected 0 ∷ event.Submit (command 71) ∷ event.Submit (command 72)
+        ∷ event.Submit (command 73) ∷ event.Cancel 1 ∷ [])
+        (λ config word. queue_full config word (command 73))
+        (turn 5 (event.Cancel 1) ∷ action.Wait (owner.Try 2 0) wait.Room ∷ []) }
+    ensures the_connect_and_then_room { IsTraceIn one_at_a_time
+        (event.Submit (command 71) ∷ event.Submit (command 72) ∷ event.Connected 0 ∷ [])
+        second_unshown (action.Wait (owner.Try 1 0) wait.Room ∷ []) }
+    ensures told_once_it_has_a_place { IsTraceIn one_at_a_time
+        (event.Connected 0 ∷ event.Submit (command 71) ∷ event.Submit (command 72)
+        ∷ event.Submit (unawaited 73) ∷ event.Wrote 0 11 ∷ event.Wrote 0 11 ∷ [])
+        (λ config word. queue_full config word (unawaited 73))
+        (turn 5 (event.Wrote 0 11) ∷ action.Start 0 1 (owner.Try 1 0) 1 11
+        ∷ action.Outcome 2 (outcome.One Nil) ∷ action.Write 0 (packed_bytes (command 72))
+        ∷ turn 6 (event.Wrote 0 11) ∷ action.Start 0 2 (owner.Try 2 0) 1 11
+        ∷ action.Write 0 (packed_bytes (unawaited 73)) ∷ []) }
+{}
+
+/// Does nothing. Its contract: no trace that begins so is legal, whatever its events were and
+/// whatever comes after: starts of who has no place or whose link is held back, a Nil told while
+/// the queue is full, waits that aren't true, a turn that begins while the wait that is true isn't
+/// shown, and the second in line started before the first. Each action of their fronts stands where
+/// it may.
+pub fn nor_are_these_places()
+    ensures fronts { (word : ℕ) → EachStands (place_fronts word) }
+    ensures started_while_held_back { NoneBeginsIn one_at_a_time held_back
+        (action.Start 0 1 (owner.Try 1 0) 1 11) }
+    ensures started_without_a_place { NoneBeginsIn one_at_a_time
+        (λ config word. third_came config word (command 73))
+        (action.Start 0 1 (owner.Try 2 0) 1 11) }
+    ensures told_while_the_queue_is_full { NoneBeginsIn one_at_a_time
+        (λ config word. third_came config word (unawaited 73))
+        (action.Outcome 2 (outcome.One Nil)) }
+    ensures place_where_it_has_one { NoneBeginsIn one_at_a_time held_back
+        (action.Wait (owner.Try 1 0) wait.Place) }
+    ensures room_where_there_is_room { NoneBeginsIn narrow held_back
+        (action.Wait (owner.Try 1 0) wait.Room) }
+    ensures room_without_a_place { NoneBeginsIn one_at_a_time
+        (λ config word. third_came config word (command 73))
+        (action.Wait (owner.Try 2 0) wait.Room) }
+    ensures another_wait_was_shown { (number : ℕ) (c : Cause)
+        → NoneBeginsIn one_at_a_time second_unshown (action.Turn number c) }
+    ensures second_before_the_first { NoneBegins
+        (λ config word. both_in_wait config word (command 72))
+        (action.Start 0 0 (owner.Try 1 0) 1 11) }
 {}

@@ -1,0 +1,106 @@
+-- Where messages start, and submissions are told: within the boundary, and in their places.
+use Rattle.std.proofs.Common.{◌≡◌, ◌≢◌, ◌⊎◌, inl, inr, ℕ, ◌<◌, ◌≤◌, nat_lt, nat_le, Bool, true, false, ◌&&◌, List, [], ◌∷◌, ◌++◌, length, Some, refl, sym, ap, subst, arith}
+use Rattle.containers.proofs.Choices.{by_test, not_lt_from, not_le_from}
+use Rattle.driver_model.specs.declared.action.Action.{Action}
+use Rattle.driver_model.specs.declared.action.Action.TheVariants as action
+use Rattle.driver_model.specs.declared.action.Owner.TheVariants as owner
+use Rattle.driver_model.specs.declared.config.Config.{Config}
+use Rattle.driver_model.specs.declared.event.Event.{Event}
+use Rattle.driver_model.specs.declared.outcome.Outcome.{Outcome}
+use Rattle.driver_model.specs.Config.{buffer_size, boundary}
+use Rattle.legal_trace.specs.Ledger.{unwritten}
+use Rattle.legal_trace.specs.Story.{is_no_error}
+use Rattle.legal_trace.specs.Book.{Book, blank_book, book}
+use Rattle.legal_trace.specs.Steps.{configured, queue_size, line_before, is_outside}
+use Rattle.legal_trace.specs.Legal.{MayStand, MayAnswer, MayTell, MayStart, AllStand, IsApplied, event_causes, Legal}
+use Rattle.legal_trace.proofs.Books.{stand_front, stand_behind}
+use Rattle.legal_laws.specs.Starts.{IsStart, HasPlace, StaysWithin}
+use Rattle.legal_laws.proofs.Configured.{configured_behind}
+use Rattle.legal_laws.proofs.Moves.{starts_mean, tells_mean, starter_moves}
+use Rattle.legal_laws.proofs.Numbers.{mover_is_numbered}
+use Rattle.legal_laws.proofs.Seated.{ToldHavePlaces, seated_behind}
+use Rattle.legal_laws.proofs.Sound.{Sound, sound_behind}
+use Rattle.legal_laws.proofs.Tales.{unstarted_gets_a_fault}
+
+-- the message that starts
+pub start_of : (b : Book) (a : Action) (l n : ℕ) → MayStand b a → IsStart l n a → (k : ℕ) × (count : ℕ) × (len : ℕ) × MayStart b l k n count len
+start_of b (action.Start m k (owner.Try i round) count len) l n may is =
+    (k, count, len, subst (λ j. MayStart b j k n count len) is.0 (subst (λ j. MayStart b m k j count len) is.1 may.1))
+start_of b _ l n may is = absurd is
+
+-- the second of two, where not both hold
+the_second : (p q : Bool) → (p && q) ≡ false → p ≡ true → q ≡ false
+the_second true q e t = e
+the_second false q e t = cc
+
+-- what doesn't hold back
+free_from : (bound u : ℕ) → (nat_lt 0 u && nat_le bound u) ≡ false → (u ≡ 0) ⊎ (u < bound)
+free_from bound u e = by_test (nat_lt 0 u) ((u ≡ 0) ⊎ (u < bound))
+    (λ t. inr (not_le_from bound u (the_second (nat_lt 0 u) (nat_le bound u) e t)))
+    (λ f. let i : u ≤ 0 = not_lt_from 0 u f in inl (omega (arith, i)))
+
+-- fewer bytes are unwritten where a message starts
+start_bounds : (config : Config) (b : Book) (l k n count len : ℕ) → b.config ≡ Some config → MayStart b l k n count len → (length (unwritten (b.link l)) ≡ 0) ⊎ (length (unwritten (b.link l)) < boundary config)
+start_bounds config b l k n count len c may =
+    let free : (length (unwritten (b.link (b.story n).link)) ≡ 0) ⊎ (length (unwritten (b.link (b.story n).link)) < configured boundary b.config) =
+    free_from (configured boundary b.config) (length (unwritten (b.link (b.story n).link))) (starts_mean b n may.starts).2 in
+    subst (λ j. (length (unwritten (b.link j)) ≡ 0) ⊎ (length (unwritten (b.link j)) < boundary config)) (sym may.on_its_link)
+    (subst (λ bound. (length (unwritten (b.link (b.story n).link)) ≡ 0) ⊎ (length (unwritten (b.link (b.story n).link)) < bound)) (ap (configured boundary) c) free)
+
+-- whoever starts isn't outside
+pub starter_inside : (b : Book) (l k n count len : ℕ) → Sound b → ToldHavePlaces b → MayStart b l k n count len → is_outside b n ≡ false
+starter_inside b l k n count len sound seated may = elim ((starts_mean b n may.starts).3) [
+  | inl told ↦ seated n (mover_is_numbered b n sound.stories (starter_moves b l k n count len may)) may.unstarted told
+  | inr inside ↦ inside
+]
+
+-- whoever isn't outside has a place
+has_place : (config : Config) (b : Book) (n : ℕ) → b.config ≡ Some config → is_outside b n ≡ false → HasPlace config b n
+has_place config b n c e = subst (λ size. line_before b.story (b.story n).link n < size) (ap (configured buffer_size) c) (not_le_from (queue_size b) (line_before b.story (b.story n).link n) e)
+
+-- where the event was applied, a turn began
+applied_began : (b : Book) → Sound b → IsApplied b → b.turns ≢ 0
+applied_began b sound done none = done.created.asked (sound.opens.no_links none)
+
+-- whoever is told without a message is told at its place
+tell_of : (b : Book) (n : ℕ) (o : Outcome) → MayAnswer b n o ⊎ MayTell b n o → (b.story n).tries ≡ [] → is_no_error (o ∷ []) ≡ true → MayTell b n o
+tell_of b n o (inl owes) none good = absurd (unstarted_gets_a_fault b n o none owes.owes good)
+tell_of b n o (inr told) none good = told
+
+-- what is known of the book of a front: it is sound, who was told has a place, and once a turn began its configuration is that
+pub record IsReady (config : Config) (b : Book) : Type 0 where
+  pub sound : Sound b
+  pub seated : ToldHavePlaces b
+  pub configured : b.turns ≢ 0 → b.config ≡ Some config
+
+-- so it is of each front of a legal trace
+ready_behind : (config : Config) (word : ℕ) (events : List Event) (front more : List Action) → Legal config word events (front ++ more) → IsReady config (book front)
+unfolding book
+ready_behind config word events front more h =
+    let all : AllStand blank_book front = stand_front blank_book front more h.each in
+    record { sound = sound_behind front all; seated = seated_behind front all; configured = configured_behind blank_book front more config word (event_causes events) all h.turns refl }
+
+-- and what comes next may stand there
+next_may : (config : Config) (word : ℕ) (events : List Event) (front more : List Action) (a : Action) → Legal config word events (front ++ a ∷ more) → MayStand (book front) a
+unfolding book
+next_may config word events front more a h = (stand_behind blank_book front (a ∷ more) h.each).0
+
+-- so each legal trace stays within
+pub stays_within : (config : Config) (word : ℕ) (events : List Event) (trace : List Action) → Legal config word events trace → StaysWithin config trace
+stays_within config word events trace h = record {
+  bytes = λ front more a l n is s.
+      let legal : Legal config word events (front ++ a ∷ more) = subst (Legal config word events) is h in
+      let ready = ready_behind config word events front (a ∷ more) legal in
+      let m = start_of (book front) a l n (next_may config word events front more a legal) s in
+      start_bounds config (book front) l m.0 n m.1 m.2 (ready.configured (applied_began (book front) ready.sound m.3.applied)) m.3;
+  starts = λ front more a l n is s.
+      let legal : Legal config word events (front ++ a ∷ more) = subst (Legal config word events) is h in
+      let ready = ready_behind config word events front (a ∷ more) legal in
+      let m = start_of (book front) a l n (next_may config word events front more a legal) s in
+      has_place config (book front) n (ready.configured (applied_began (book front) ready.sound m.3.applied)) (starter_inside (book front) l m.0 n m.1 m.2 ready.sound ready.seated m.3);
+  tells = λ front more n o is none good.
+      let legal : Legal config word events (front ++ action.Outcome n o ∷ more) = subst (Legal config word events) is h in
+      let ready = ready_behind config word events front (action.Outcome n o ∷ more) legal in
+      let m = tell_of (book front) n o (next_may config word events front more (action.Outcome n o) legal) none good in
+      has_place config (book front) n (ready.configured (applied_began (book front) ready.sound m.applied)) (tells_mean (book front) n m.tells);
+}
