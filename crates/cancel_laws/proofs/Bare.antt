@@ -1,5 +1,5 @@
 -- A connection does the same where one request's outcome is looked away from, once its message has left the queue.
-use Rattle.std.proofs.Common.{◌≡◌, ◌≢◌, ℕ, ◌+◌, ◌-◌, ◌<◌, ◌==◌, ◌&&◌, Bool, true, false, List, [], ◌∷◌, ◌++◌, length, if◌then◌else◌, refl, sym, ap, ◌∙◌, append_assoc, Option, Some, None, arith}
+use Rattle.std.proofs.Common.{◌≡◌, ◌≢◌, ℕ, ◌-◌, ◌<◌, ◌==◌, ◌&&◌, Bool, true, false, List, [], ◌∷◌, ◌++◌, length, if◌then◌else◌, refl, sym, ap, ◌∙◌, append_assoc, Option, Some, None, arith}
 use Rattle.std.proofs.lemmas.List.{append-nil}
 use Rattle.containers.proofs.Choices.{by_test, chosen, either, either_by, taken_if, left_if, eq_from, ne_from, eq_test, ne_test}
 use Rattle.redis_error.specs.declared.fault_kind.FaultKind.TheVariants as kinds
@@ -28,12 +28,11 @@ use Rattle.mux_conn.specs.declared.act.LinkAct.TheVariants as act
 use Rattle.mux_conn.specs.declared.connection.MultiplexedConnection.{MultiplexedConnection}
 use Rattle.mux_conn.specs.declared.life.Life.{Life}
 use Rattle.mux_conn.specs.declared.life.Life.TheVariants.{Dialing, Ready, Ended}
-use Rattle.mux_conn.specs.declared.request.Progress.{Progress}
 use Rattle.mux_conn.specs.declared.request.Progress.TheVariants as progress
 use Rattle.mux_conn.specs.declared.request.Request.{Request}
 use Rattle.mux_conn.specs.declared.request.Waiting.{Waiting}
 use Rattle.mux_conn.specs.Connection.{Work, acted, at_life, with_link, awaits_connect, has_no_permit, admits_none_at, admits_none, has_room, first_queued}
-use Rattle.mux_conn.specs.Requests.{is_open, is_waiting, is_admitted, is_placed, is_open_at, is_waiting_at, is_admitted_at, is_placed_at, name_at, permits_at, with_permits, closed, answered, waiting_of, asked}
+use Rattle.mux_conn.specs.Requests.{is_open, is_waiting, is_admitted, is_placed, is_open_at, is_waiting_at, is_admitted_at, is_placed_at, name_at, permits_at, with_permits, given_back, closed, answered, waiting_of, asked}
 use Rattle.mux_conn.specs.Effects.{new_link, settled_each, failed_each, nobody_waits, waiting_failed, ended, opening_failed, connected_at, refused_at, overdue_at, taken_at, failed_at, broken_at, read_to, read_at, shut_at, all_fresh, applied, cancelled_in, left, timed_out}
 use Rattle.mux_conn.specs.Passes.{shown_each, starts_with, started_at, started, message_of, placed_at, told_at_place, seated, still_admitted, moved_up, moved_up_each, moved_up_all, put_behind, seated_or_behind, permits_taken, holding, took_shown, took as holds, timer_asked, let_in, admitted_at, admitted, still_waiting, admitted_each, admitted_all, passed}
 use Rattle.mux_conn.specs.Turn.{written_at, written, is_from, moved_wait, fresh_wait, wait_shown, moved_each_shown, moved_shown, fresh_each_shown, fresh_shown, waits_shown, flushed}
@@ -96,26 +95,28 @@ closed_stays : (w : Work) (q : ℕ) (o : Outcome) → is_open_at w.conn.requests
 closed_stays w q o f = left_if (is_open_at w.conn.requests q) _ w f
 
 -- the permits of a request that is closed are free already
-free_once : (r : List Request) (p free : ℕ) → free + permits_at r p + permits_at (with_permits r p progress.Closed 0) p ≡ free + permits_at r p
-free_once r p free = omega (arith, permits_own r p progress.Closed)
+free_once : (lim : Option ℕ) (r : List Request) (p free : ℕ)
+    → given_back lim (given_back lim free (permits_at r p)) (permits_at (with_permits r p progress.Closed 0) p) ≡ given_back lim free (permits_at r p)
+free_once lim r p free = omega (arith, permits_own r p progress.Closed)
 
--- where another goes on from some permits to others, and this one is closed, as many are free in any order
-free_apart : (r : List Request) (p q : ℕ) (now : Progress) (count free : ℕ) → q ≢ p
-    → free + permits_at r q + permits_at (with_permits r q now count) p ≡ free + permits_at r p + permits_at (with_permits r p progress.Closed 0) q
-free_apart r p q now count free o = omega (arith, permits_other r q p now count o, permits_other r p q progress.Closed 0 (λ e. o (sym e)))
+-- where two are closed, as many are free in any order
+free_apart : (lim : Option ℕ) (r : List Request) (p q free : ℕ) → q ≢ p
+    → given_back lim (given_back lim free (permits_at r q)) (permits_at (with_permits r q progress.Closed 0) p)
+    ≡ given_back lim (given_back lim free (permits_at r p)) (permits_at (with_permits r p progress.Closed 0) q)
+free_apart lim r p q free o = omega (arith, permits_other r q p progress.Closed 0 o, permits_other r p q progress.Closed 0 (λ e. o (sym e)))
 
 -- closed twice is closed
 closed_twice : (p : ℕ) (c : MultiplexedConnection) → closed (closed c p) p ≡ closed c p
 closed_twice p c =
     let r = progress_twice c.requests p progress.Closed progress.Closed 0 0 in
-    let f = free_once c.requests p c.free in
+    let f = free_once c.limit c.requests p c.free in
     λ i. record c { requests = r i; free = f i }
 
 -- two are closed in any order
 closed_apart : (p q : ℕ) (c : MultiplexedConnection) → q ≢ p → closed (closed c q) p ≡ closed (closed c p) q
 closed_apart p q c o =
     let r = progress_apart c.requests q p progress.Closed progress.Closed 0 0 o in
-    let f = free_apart c.requests p q progress.Closed 0 c.free o in
+    let f = free_apart c.limit c.requests p q c.free o in
     λ i. record c { requests = r i; free = f i }
 
 -- an answer of request p counts for nothing
@@ -302,7 +303,7 @@ bare_asked p c name packed shape awaited timeout l =
     let x : Request = record { name = name; progress = progress.Waiting; permits = 0 } in
     let r = progress_push c.requests p progress.Closed 0 x l in
     let k = sym (progress_count c.requests p progress.Closed 0) in
-    let f = ap (λ (j : ℕ). c.free + j) (permits_push c.requests p x l) in
+    let f = ap (given_back c.limit c.free) (permits_push c.requests p x l) in
     λ i. record (bare_conn p c) { requests = r i; free = f i; waiting = c.waiting ++ waiting_of (k i) packed shape awaited timeout ∷ []; fresh = c.fresh ++ k i ∷ [] }
 
 -- the cancel of request p itself
@@ -416,7 +417,7 @@ bare_started n p w h = bare_started_at n p w w.conn.life h.none
 bare_placed : (n p : ℕ) (w : Work) (q : Waiting) (l : LinkState) → q.number ≢ p → bare n p (placed_at w q (Ready l)) ≡ placed_at (bare n p w) q (Ready (hushed_link p l))
 bare_placed n p w q l o =
     let r = goes_apart w.conn.requests q.number p progress.Placed o in
-    let f = ap (λ (j : ℕ). w.conn.free + j) (permits_other w.conn.requests q.number p progress.Placed (permits_at w.conn.requests q.number) o) in
+    let f = ap (given_back w.conn.limit w.conn.free) (permits_other w.conn.requests q.number p progress.Placed (permits_at w.conn.requests q.number) o) in
     λ i. record (bare n p w) {
       conn = record (bare_conn p w.conn) { requests = r i; free = f i; life = Ready (enqueued (hushed_link p l) (message_of q)); moved = w.conn.moved ++ q.number ∷ [] };
     }
@@ -490,7 +491,7 @@ bare_holding p c q none o =
     none_held =
         let r = progress_apart c.requests q.number p progress.Admitted progress.Closed 0 0 o in
         let k = permits_other c.requests q.number p progress.Admitted 0 o in
-        let f : c.free - 0 + permits_at (with_permits c.requests q.number progress.Admitted 0) p ≡ c.free + permits_at c.requests p - 0 = omega (arith, k) in
+        let f : given_back c.limit (c.free - 0) (permits_at (with_permits c.requests q.number progress.Admitted 0) p) ≡ given_back c.limit c.free (permits_at c.requests p) - 0 = omega (arith, k) in
         λ i. record (bare_conn p c) { requests = r i; free = f i }
 
 -- what is shown of permits is shown by names, which stay

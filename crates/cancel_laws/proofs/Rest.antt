@@ -1,5 +1,5 @@
 -- After each turn nothing is left to do, and a turn that changes nothing shows nothing.
-use Rattle.std.proofs.Common.{◌≡◌, ◌⊎◌, inl, inr, ℕ, ◌+◌, ◌==◌, ◌&&◌, not, Bool, true, false, List, [], ◌∷◌, length, Option, Some, None, refl, sym, ap, ◌∙◌, subst}
+use Rattle.std.proofs.Common.{◌≡◌, ◌⊎◌, inl, inr, ℕ, ◌==◌, ◌&&◌, not, Bool, true, false, List, [], ◌∷◌, length, Option, Some, None, refl, sym, ap, ◌∙◌, subst}
 use Rattle.containers.proofs.Choices.{chosen, taken_if, left_if, not_both}
 use Rattle.driver_model.specs.declared.action.WaitKind.{WaitKind}
 use Rattle.resp_value.specs.declared.value.Value.TheVariants.{Nil}
@@ -14,7 +14,7 @@ use Rattle.mux_conn.specs.declared.life.Life.{Life}
 use Rattle.mux_conn.specs.declared.life.Life.TheVariants.{Dialing, Ready, Ended}
 use Rattle.mux_conn.specs.declared.request.Waiting.{Waiting}
 use Rattle.mux_conn.specs.Connection.{Work, acted, at_life, with_link, has_no_permit, admits_none_at, admits_none, has_room}
-use Rattle.mux_conn.specs.Requests.{is_open_at, is_waiting_at, is_admitted_at, name_at, permits_at, answered}
+use Rattle.mux_conn.specs.Requests.{is_open_at, is_waiting_at, is_admitted_at, name_at, closed, answered}
 use Rattle.mux_conn.specs.Effects.{cancelled_in, left}
 use Rattle.mux_conn.specs.Passes.{shown_each, starts_with, started_at, started, placed_at, told_at_place, seated, still_admitted, moved_up, moved_up_each, moved_up_all, put_behind, seated_or_behind, let_in, admitted_at, admitted, still_waiting, admitted_each, admitted_all, passed}
 use Rattle.mux_conn.specs.Turn.{written_at, written, moved_wait, fresh_wait, wait_shown, moved_each_shown, moved_shown, fresh_each_shown, fresh_shown, waits_shown, flushed}
@@ -293,7 +293,7 @@ left_idle c p unlimited none h =
       written = record {
         moved = record {
           seated = record { queue = queue_left c.life none m.seated.queue; admitted = λ u. m.seated.admitted (sym (room_left c.life none) ∙ u) };
-          waiting = λ f. m.waiting (stuck_left c.life c.limit c.free (c.free + permits_at c.requests p) unlimited ∙ f);
+          waiting = λ f. m.waiting (stuck_left c.life c.limit c.free (closed c p).free unlimited ∙ f);
         };
         offered = offered_left c.life h.written.offered;
       };
