@@ -1,5 +1,5 @@
 -- Whoever's timer fired while it was open starts no message.
-use Rattle.std.proofs.Common.{◌≡◌, ◌⊎◌, inl, inr, ℕ, ◌<◌, ◌≤◌, ◌==◌, true, false, List, [], ◌∷◌, ◌++◌, Some, None, refl, sym, ◌∙◌, ap, subst, arith}
+use Rattle.std.proofs.Common.{◌≡◌, ◌⊎◌, inl, inr, ℕ, ◌<◌, ◌≤◌, ◌==◌, true, List, [], ◌∷◌, ◌++◌, Some, None, refl, sym, ◌∙◌, subst, arith}
 use Rattle.std.specs.Prelude.{slice_get}
 use Rattle.containers.proofs.Choices.{by_test, chosen, taken_if, left_if, eq_from, ne_test, not_both}
 use Rattle.driver_model.specs.declared.action.Action.{Action}
@@ -13,7 +13,7 @@ use Rattle.driver_model.specs.declared.event.EventKind.TheVariants as event
 use Rattle.driver_model.specs.declared.outcome.Outcome.{Outcome}
 use Rattle.legal_trace.specs.Story.{Story, is_open, is_unstarted, handed_in, left, holds, clocked, fires, tried, waits, answered}
 use Rattle.legal_trace.specs.Book.{Book, blank_book, book, entered, entered_each, current, is_clock_of, after_event}
-use Rattle.legal_trace.specs.Legal.{MayStand, MayAnswer, MayTell, MayStart, AllStand, IsOpen, IsApplied, Legal}
+use Rattle.legal_trace.specs.Legal.{MayStand, MayAnswer, MayTell, AllStand, IsOpen, IsApplied, Legal}
 use Rattle.legal_trace.proofs.Books.{stand_front, stand_behind}
 use Rattle.legal_trace.proofs.Plain.{not_empty}
 use Rattle.legal_trace.proofs.Moves.{has_no_tries}

@@ -1,5 +1,5 @@
 -- Timers of submissions run only on links whose opening didn't fail.
-use Rattle.std.proofs.Common.{◌≡◌, ◌⊎◌, inl, inr, ℕ, zero, suc, ◌-◌, ◌<◌, ◌≤◌, ◌==◌, true, false, List, [], ◌∷◌, ◌++◌, Option, Some, None, refl, sym, ◌∙◌, ap, subst, arith}
+use Rattle.std.proofs.Common.{◌≡◌, ◌⊎◌, inl, inr, ℕ, zero, suc, ◌-◌, ◌<◌, ◌≤◌, ◌==◌, true, false, List, [], ◌∷◌, ◌++◌, Some, None, sym, ◌∙◌, ap, subst, arith}
 use Rattle.std.specs.Prelude.{slice_get}
 use Rattle.containers.proofs.Choices.{chosen, eq_from, not_both}
 use Rattle.redis_error.specs.declared.redis_error.RedisError.{RedisError}
@@ -8,16 +8,14 @@ use Rattle.driver_model.specs.declared.action.Action.TheVariants as action
 use Rattle.driver_model.specs.declared.action.Cause.TheVariants as cause
 use Rattle.driver_model.specs.declared.action.Owner.TheVariants as owner
 use Rattle.driver_model.specs.declared.action.Purpose.{Purpose}
-use Rattle.driver_model.specs.declared.action.Purpose.TheVariants as purpose
 use Rattle.driver_model.specs.declared.event.EventKind.{EventKind}
 use Rattle.driver_model.specs.declared.event.EventKind.TheVariants as event
 use Rattle.driver_model.specs.News.{news_of}
-use Rattle.legal_trace.specs.Ledger.{Ledger, begins, offers, ends, failure_in}
+use Rattle.legal_trace.specs.Ledger.{begins, offers, ends, failure_in}
 use Rattle.legal_trace.specs.Story.{Story, is_open, handed_in, left, holds, clocked, fires, tried, waits, answered}
 use Rattle.legal_trace.specs.Book.{Book, blank_book, book, entered, entered_each, message_of, current, is_clock_of, after_event}
 use Rattle.legal_trace.specs.Legal.{MayTimer, MayTime, MayStand, AllStand, link_of}
 use Rattle.legal_trace.proofs.Ledgers.{mine_keeps}
-use Rattle.legal_trace.proofs.Plain.{not_none}
 use Rattle.legal_laws.proofs.InLine.{follows, submissions_grow}
 use Rattle.legal_trace.proofs.Moves.{mover_is_up, asker_moves}
 use Rattle.legal_laws.proofs.Numbers.{mover_is_numbered}

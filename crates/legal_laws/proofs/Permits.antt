@@ -1,7 +1,7 @@
 -- Submissions never hold more permits than there are.
-use Rattle.std.proofs.Common.{◌≡◌, ◌≢◌, inl, inr, ℕ, zero, suc, ◌+◌, ◌-◌, ◌<◌, ◌≤◌, ◌==◌, nat_lt, nat_le, true, false, List, [], ◌∷◌, ◌++◌, Option, Some, None, refl, sym, ◌∙◌, ap, subst, arith}
+use Rattle.std.proofs.Common.{◌≡◌, ◌≢◌, ℕ, zero, suc, ◌+◌, ◌-◌, ◌<◌, ◌≤◌, ◌==◌, nat_lt, nat_le, true, List, [], ◌∷◌, ◌++◌, Some, None, refl, sym, ◌∙◌, ap, subst, arith}
 use Rattle.std.specs.Prelude.{slice_get}
-use Rattle.containers.proofs.Choices.{by_test, chosen, taken_if, left_if, eq_from, ne_from, eq_test, lt_from, not_lt_from, le_from, not_le_from}
+use Rattle.containers.proofs.Choices.{by_test, chosen, taken_if, left_if, eq_from, ne_from, lt_from, not_lt_from, le_from, not_le_from}
 use Rattle.driver_model.specs.declared.action.Action.{Action}
 use Rattle.driver_model.specs.declared.action.Action.TheVariants as action
 use Rattle.driver_model.specs.declared.action.Cause.TheVariants as cause
@@ -13,15 +13,15 @@ use Rattle.driver_model.specs.declared.event.EventKind.{EventKind}
 use Rattle.driver_model.specs.declared.event.EventKind.TheVariants as event
 use Rattle.legal_trace.specs.Story.{Story, is_open, handed_in, left, holds, clocked, fires, tried, waits, answered}
 use Rattle.legal_trace.specs.Book.{Book, blank_book, book, entered, entered_each, current, is_clock_of, after_event}
-use Rattle.legal_trace.specs.Steps.{permits_in, permits_on, permits_held, free_permits}
-use Rattle.legal_trace.specs.Legal.{MayTake, MayStand, AllStand, event_causes, Legal}
-use Rattle.legal_trace.proofs.Books.{stand_front, stand_behind}
+use Rattle.legal_trace.specs.Steps.{permits_in, permits_on, permits_held}
+use Rattle.legal_trace.specs.Legal.{MayTake, MayStand, AllStand, Legal}
+use Rattle.legal_trace.proofs.Books.{stand_front}
 use Rattle.legal_laws.specs.Permits.{KeepsPermits}
 use Rattle.legal_laws.proofs.Bounds.{IsReady, ready_behind, next_may, applied_began}
 use Rattle.legal_laws.proofs.InLine.{follows, submissions_grow}
 use Rattle.legal_trace.proofs.Moves.{takes_mean}
 use Rattle.legal_laws.proofs.Seated.{gains, holder_is_numbered}
-use Rattle.legal_laws.proofs.Sound.{Sound, stays_sound, blank_is_sound, sound_behind}
+use Rattle.legal_laws.proofs.Sound.{Sound, stays_sound, blank_is_sound}
 use Rattle.legal_trace.proofs.Plain.{not_none}
 
 -- where each holds no more, all hold no more

@@ -1,7 +1,7 @@
 -- The timers of submissions: one at most for each, of the time that was in force where it was handed in, once it holds its permits.
-use Rattle.std.proofs.Common.{◌≡◌, ◌≢◌, ◌⊎◌, inl, inr, ℕ, ◌+◌, ◌<◌, ◌≤◌, ◌==◌, nat_lt, Bool, true, false, ◌||◌, List, [], ◌∷◌, ◌++◌, Option, Some, None, is_some, is_none, refl, sym, ◌∙◌, ap, subst, arith}
+use Rattle.std.proofs.Common.{◌≡◌, ◌⊎◌, inl, inr, ℕ, ◌<◌, ◌≤◌, ◌==◌, Bool, true, false, List, [], ◌∷◌, ◌++◌, Option, Some, None, is_some, refl, sym, ◌∙◌, ap, subst, arith}
 use Rattle.std.specs.Prelude.{slice_get}
-use Rattle.containers.proofs.Choices.{chosen, if_true, left_if, eq_from, eq_test, ne_test, lt_from}
+use Rattle.containers.proofs.Choices.{chosen, if_true, left_if, eq_test, ne_test, lt_from}
 use Rattle.driver_model.specs.declared.action.Action.{Action}
 use Rattle.driver_model.specs.declared.action.Action.TheVariants as action
 use Rattle.driver_model.specs.declared.action.Cause.TheVariants as cause
@@ -17,9 +17,9 @@ use Rattle.legal_trace.specs.Story.{Story, is_open, handed_in, left, holds, cloc
 use Rattle.legal_trace.specs.Book.{Book, blank_book, book, entered, entered_each, current, is_clock_of, after_event}
 use Rattle.legal_trace.specs.Steps.{permits_in}
 use Rattle.legal_trace.specs.Legal.{MayTimer, MayTime, MayStand, AllStand, Legal}
-use Rattle.legal_trace.proofs.Books.{stand_front, stand_behind}
+use Rattle.legal_trace.proofs.Books.{stand_behind}
 use Rattle.legal_laws.specs.Permits.{IsAsking, AsksTimers}
-use Rattle.legal_laws.proofs.Bounds.{IsReady, ready_behind, next_may, applied_began}
+use Rattle.legal_laws.proofs.Bounds.{ready_behind, next_may, applied_began}
 use Rattle.legal_laws.proofs.InLine.{submissions_grow}
 use Rattle.legal_trace.proofs.Moves.{holds_some, asks_mean}
 

@@ -1,5 +1,5 @@
 -- Actions that stand where they may not: whatever comes after these fronts, no trace that begins so is legal.
-use Rattle.std.proofs.Common.{length, ap, ◌∙◌, ◌≡◌, ◌≢◌, ℕ, ◌<◌, ◌==◌, nat_le, Bool, true, false, List, [], ◌∷◌, ◌++◌, nat_lt, ◌&&◌, ◌||◌, Option, Some, None, is_none, refl, sym, inl, inr, arith}
+use Rattle.std.proofs.Common.{length, ap, ◌∙◌, ◌≡◌, ◌≢◌, ℕ, ◌<◌, nat_le, Bool, true, false, List, ◌∷◌, ◌++◌, nat_lt, ◌&&◌, ◌||◌, Option, Some, None, is_none, refl, sym, inl, inr, arith}
 use Rattle.containers.proofs.Choices.{not_both, not_le_from, not_le_test}
 use Rattle.std.specs.Fmt.{digits}
 use Rattle.resp_value.specs.declared.value.Value.TheVariants.{Nil}

@@ -1,17 +1,17 @@
 -- Permits and timers: traces that can be relied on, and actions that stand where they may not.
-use Rattle.std.proofs.Common.{◌≡◌, ℕ, [], ◌∷◌, ◌++◌, Some, None, refl, sym, ap, ◌∙◌, subst, inl, inr, arith}
+use Rattle.std.proofs.Common.{◌≡◌, ℕ, [], ◌∷◌, ◌++◌, Some, None, refl, subst, inl, inr, arith}
 use Rattle.std.specs.Fmt.{digits}
 use Rattle.containers.proofs.Choices.{ne_from}
 use Rattle.resp_value.specs.declared.value.Value.TheVariants.{Nil}
 use Rattle.resp_read.specs.Grammar.{max_depth}
 use Rattle.resp_read.specs.Values.{values, left_over, is_spoiled}
 use Rattle.resp_read.specs.Items.{items}
+use Rattle.redis_error.specs.declared.fault_kind.FaultKind.TheVariants.{TimedOut}
 use Rattle.redis_error.specs.declared.redis_error.RedisError.TheVariants as error
 use Rattle.driver_model.specs.declared.action.Action.TheVariants as action
 use Rattle.driver_model.specs.declared.action.Cause.{Cause}
 use Rattle.driver_model.specs.declared.action.Cause.TheVariants as cause
 use Rattle.driver_model.specs.declared.action.Owner.TheVariants as owner
-use Rattle.driver_model.specs.declared.action.Purpose.{Purpose}
 use Rattle.driver_model.specs.declared.action.Purpose.TheVariants as purpose
 use Rattle.driver_model.specs.declared.action.WaitKind.{WaitKind}
 use Rattle.driver_model.specs.declared.action.WaitKind.TheVariants as wait
@@ -20,15 +20,15 @@ use Rattle.driver_model.specs.declared.outcome.Outcome.TheVariants as outcome
 use Rattle.driver_model.specs.Request.{packed_bytes}
 use Rattle.legal_trace.specs.Book.{Book, current}
 use Rattle.legal_trace.specs.Events.{is_bad_event}
-use Rattle.legal_trace.specs.Steps.{Step, waits, asks, next_step}
+use Rattle.legal_trace.specs.Steps.{waits, asks, next_step}
 use Rattle.legal_trace.specs.Legal.{MayTurn, MayTimer}
-use Rattle.trace_examples.specs.Parts.{turn, command, unawaited, two_together, reply, one_reply, unbounded, limited_to}
+use Rattle.trace_examples.specs.Parts.{turn, command, unawaited, two_together, reply, one_reply, unbounded, limited_to, plain, held_for}
 use Rattle.trace_examples.specs.Traces.{came_up, arrived, both_in_wait}
-use Rattle.trace_examples.specs.Permits.{one_permit, permits_alone, permit_taken, timer_asked, second_came, time_is_over, permit_is_free, replied_late, two_taken, unawaited_first, connect_left_standing, permit_fronts}
+use Rattle.trace_examples.specs.Permits.{one_permit, permits_alone, permit_taken, timer_asked, second_came, time_is_over, permit_is_free, replied_late, two_taken, unawaited_first, connect_left_standing, second_timer, three_timers, permit_fronts}
 use Rattle.trace_examples.specs.Fronts.{EachStands}
 use Rattle.trace_examples.specs.Claims.{IsTraceIn, NoneBeginsIn}
 use Rattle.trace_examples.proofs.Due.{legal, stands}
-use Rattle.trace_examples.proofs.Server.{at_h, at_limited}
+use Rattle.trace_examples.proofs.Server.{at_h, at_limited, at_plain, at_held_for}
 use Rattle.trace_examples.proofs.Stood.{book_of, may_stand, answer, still_open}
 
 -- a command is answered once its time is over, and gives its permit to the one that waits; its reply comes later, and is nobody's
@@ -86,6 +86,30 @@ pub a_permit_that_was_left : IsTraceIn one_permit
     (action.Wait (owner.Try 1 0) wait.Permit ∷ turn 5 (event.Cancel 0) ∷ action.Took (owner.Try 1 0) 0 1 ∷ action.Timer 1 100 (purpose.Response (owner.Try 1 0)) ∷ action.Start 0 1 (owner.Try 1 0) 1 11 ∷ action.Write 0 (packed_bytes (command 72)) ∷ [])
 unfolding digits is_bad_event
 a_permit_that_was_left word = legal one_permit word _ _ refl refl (at_limited 1 (Some 100) refl, (tt, (refl, (tt, (refl, tt)))))
+
+-- a timer that fires once its owner was told is nothing
+pub fired_behind_nil : IsTraceIn one_permit
+    (event.Connected 0 ∷ event.Submit (unawaited 71) ∷ event.Fired 0 ∷ [])
+    (λ config word. arrived config word (unawaited 71))
+    (action.Took (owner.Try 0 0) 0 1 ∷ action.Timer 0 100 (purpose.Response (owner.Try 0 0)) ∷ action.Outcome 0 (outcome.One Nil) ∷ action.Start 0 0 (owner.Try 0 0) 1 11 ∷ action.Write 0 (packed_bytes (unawaited 71)) ∷ turn 3 (event.Fired 0) ∷ [])
+unfolding digits is_bad_event
+fired_behind_nil word = legal one_permit word _ _ refl refl (at_limited 1 (Some 100) refl, (tt, (refl, (refl, tt))))
+
+-- where nothing is said, the connect has a timer of 1,000 milliseconds, and a command one of 500, which its reply makes nothing
+pub where_nothing_is_said : IsTraceIn plain
+    (event.Connected 0 ∷ event.Submit (command 71) ∷ event.Fired 0 ∷ event.Bytes 0 one_reply ∷ event.Fired 1 ∷ [])
+    second_timer
+    (action.Start 0 0 (owner.Try 0 0) 1 11 ∷ action.Write 0 (packed_bytes (command 71)) ∷ turn 3 (event.Fired 0) ∷ turn 4 (event.Bytes 0 one_reply) ∷ action.Outcome 0 (reply 120) ∷ turn 5 (event.Fired 1) ∷ [])
+unfolding digits is_bad_event items values left_over is_spoiled max_depth
+where_nothing_is_said word = legal plain word _ _ refl refl (at_plain, ((refl, refl), (tt, (refl, (refl, tt)))))
+
+-- commands that wait for room and for a place are answered once their time is over
+pub timed_out_in_wait : IsTraceIn (held_for 100)
+    (event.Connected 0 ∷ event.Submit (command 71) ∷ event.Submit (command 72) ∷ event.Submit (command 73) ∷ event.Fired 1 ∷ event.Fired 2 ∷ [])
+    three_timers
+    (turn 5 (event.Fired 1) ∷ action.Outcome 1 (outcome.Fault (error.Io TimedOut)) ∷ action.Wait (owner.Try 2 0) wait.Room ∷ turn 6 (event.Fired 2) ∷ action.Outcome 2 (outcome.Fault (error.Io TimedOut)) ∷ [])
+unfolding digits is_bad_event
+timed_out_in_wait word = legal (held_for 100) word _ _ refl refl (at_held_for 100, (tt, (refl, (tt, (tt, (refl, (refl, tt)))))))
 
 -- these fronts stand
 pub permit_fronts_stand : (word : ℕ) → EachStands (permit_fronts word)

@@ -1,5 +1,5 @@
 -- Places and room: traces that can be relied on, and actions that stand where they may not.
-use Rattle.std.proofs.Common.{◌≡◌, ℕ, nat_le, drop, [], ◌∷◌, ◌++◌, Some, false, refl, inl, inr, arith}
+use Rattle.std.proofs.Common.{◌≡◌, ℕ, drop, [], ◌∷◌, ◌++◌, Some, refl, inl, inr, arith}
 use Rattle.std.specs.Fmt.{digits}
 use Rattle.resp_value.specs.declared.value.Value.TheVariants.{Nil}
 use Rattle.redis_error.specs.declared.fault_kind.FaultKind.TheVariants.{Reset}

@@ -7,7 +7,7 @@ use Rattle.connection_info.specs.declared.protocol.ProtocolVersion.TheVariants.{
 use Rattle.driver_model.specs.Config.{address, fault_in}
 use Rattle.containers.proofs.Choices.{left_if}
 use Rattle.redis_error.specs.declared.config_name.ConfigName.TheVariants as name
-use Rattle.trace_examples.specs.Parts.{at_server, held_at, limited_to}
+use Rattle.trace_examples.specs.Parts.{at_server, held_at, limited_to, plain, held_for}
 use Rattle.trace_examples.proofs.Due.{IsPlace}
 
 -- h and 6379, and nothing is said to it before the first request
@@ -54,3 +54,18 @@ at_limited limit ms some = record {
   configured = is_limited_server limit ms;
   is = (refl, refl);
 }
+
+-- and where nothing else is said, or only what holds requests up
+is_plain_server : address plain ≡ Some server
+unfolding url_on_literals utf8_lossy utf8_valid_len
+is_plain_server = refl
+
+pub at_plain : IsPlace plain (codes "h") 6379
+at_plain = record { sound = ap (λ a. fault_in a None 50) is_plain_server; info = server; configured = is_plain_server; is = (refl, refl) }
+
+is_held_for_server : (ms : ℕ) → address (held_for ms) ≡ Some server
+unfolding url_on_literals utf8_lossy utf8_valid_len
+is_held_for_server ms = refl
+
+pub at_held_for : (ms : ℕ) → IsPlace (held_for ms) (codes "h") 6379
+at_held_for ms = record { sound = ap (λ a. fault_in a None 1) (is_held_for_server ms); info = server; configured = is_held_for_server ms; is = (refl, refl) }

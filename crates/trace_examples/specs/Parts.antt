@@ -35,6 +35,15 @@ held_at bound size = record { url = codes "redis://h:6379"; connect = Some None;
 abbrev pub limited_to : ℕ → Option ℕ → Config
 limited_to limit ms = record { url = codes "redis://h:6379"; connect = Some None; response = Some ms; limit = Some limit; buffer = None; boundary = None }
 
+-- nothing said but the address: a connect may take 1,000 milliseconds, and a request 500
+abbrev pub plain : Config
+plain = record { url = codes "redis://h:6379"; connect = None; response = None; limit = None; buffer = None; boundary = None }
+
+-- a link whose queue holds one message, and on which none starts while bytes are unwritten, and so many milliseconds for a
+-- request
+abbrev pub held_for : ℕ → Config
+held_for ms = record { url = codes "redis://h:6379"; connect = Some None; response = Some (Some ms); limit = None; buffer = Some 1; boundary = Some 0 }
+
 -- these events, one after another
 abbrev pub history : List EventKind → List Event
 history [] = []

@@ -12,7 +12,7 @@ use Rattle.driver_model.specs.declared.event.EventKind.TheVariants as event
 use Rattle.driver_model.specs.declared.outcome.Outcome.TheVariants as outcome
 use Rattle.driver_model.specs.Request.{packed_bytes}
 use Rattle.trace_examples.specs.Parts.{turn, command, unawaited, two_together, one_reply, unbounded, limited_to}
-use Rattle.trace_examples.specs.Traces.{came_up, arrived, in_wait, both_in_wait}
+use Rattle.trace_examples.specs.Traces.{opening, came_up, arrived, in_wait, both_in_wait}
 
 -- one permit, and 100 milliseconds for a request; and permits alone
 abbrev pub one_permit : Config
@@ -70,6 +70,21 @@ abbrev pub connect_left_standing : Config → ℕ → List Action
 connect_left_standing config word =
     both_in_wait config word (command 72) ++
     action.Took (owner.Try 0 0) 0 1 ∷ action.Start 0 0 (owner.Try 0 0) 1 11 ∷ action.Write 0 (packed_bytes (command 71)) ∷ []
+
+-- the opening asked for a timer of its connect, and a command came, whose timer is the next
+abbrev pub second_timer : Config → ℕ → List Action
+second_timer config word =
+    opening config word ++
+    action.Timer 0 1000 (purpose.Connect 0) ∷ turn 1 (event.Connected 0) ∷ action.Created None ∷
+    turn 2 (event.Submit (command 71)) ∷ action.Timer 1 500 (purpose.Response (owner.Try 0 0)) ∷ []
+
+-- a command started; a second one has the one place of the queue, and waits for room, and a third one for the place
+abbrev pub three_timers : Config → ℕ → List Action
+three_timers config word =
+    arrived config word (command 71) ++
+    action.Timer 0 100 (purpose.Response (owner.Try 0 0)) ∷ action.Start 0 0 (owner.Try 0 0) 1 11 ∷ action.Write 0 (packed_bytes (command 71)) ∷
+    turn 3 (event.Submit (command 72)) ∷ action.Timer 1 100 (purpose.Response (owner.Try 1 0)) ∷ action.Wait (owner.Try 1 0) wait.Room ∷
+    turn 4 (event.Submit (command 73)) ∷ action.Timer 2 100 (purpose.Response (owner.Try 2 0)) ∷ action.Wait (owner.Try 2 0) wait.Place ∷ []
 
 -- the fronts of the traces that are refused for what comes next
 abbrev pub permit_fronts : ℕ → List (List Action)

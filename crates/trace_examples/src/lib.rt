@@ -46,11 +46,11 @@ ghost use Rattle.trace_examples.specs.Openings.{timed_opening, connect_refused, 
 ghost use Rattle.trace_examples.specs.Openings.{refused_at_first, overdue, timed_out};
 ghost use Rattle.trace_examples.specs.Places.{narrow, one_at_a_time, third_held, third_came};
 ghost use Rattle.trace_examples.specs.Places.{queue_full, second_unshown, place_fronts};
-ghost use Rattle.trace_examples.specs.Parts.{limited_to};
+ghost use Rattle.trace_examples.specs.Parts.{limited_to, plain, held_for};
 ghost use Rattle.trace_examples.specs.Permits.{one_permit, permits_alone, permit_taken};
 ghost use Rattle.trace_examples.specs.Permits.{timer_asked, second_came, time_is_over};
 ghost use Rattle.trace_examples.specs.Permits.{permit_is_free, replied_late, two_taken};
-ghost use Rattle.trace_examples.specs.Permits.{unawaited_first};
+ghost use Rattle.trace_examples.specs.Permits.{unawaited_first, second_timer, three_timers};
 ghost use Rattle.trace_examples.specs.Permits.{connect_left_standing, permit_fronts};
 ghost use Rattle.trace_examples.specs.Traces.{opening};
 ghost use Rattle.trace_examples.specs.Claims.{IsTraceOf, IsTraceIn};
@@ -384,7 +384,8 @@ pub fn nor_are_these_places()
 /// counted, a pipeline as many as are free up to the number of its commands, and then its timer is
 /// asked for, of the time that was in force where it came. Once its time is over it is answered so,
 /// and who waits for a permit takes it; so it does where its holder leaves, or is told at its
-/// place.
+/// place. Where nothing is said a request has 500 milliseconds, and those that wait for room or
+/// for a place are answered, too.
 pub fn these_take_permits()
     ensures timed_out_and_replied { IsTraceIn one_permit
         (event.Connected 0 ∷ event.Submit (command 71) ∷ event.Wrote 0 11
@@ -425,6 +426,25 @@ pub fn these_take_permits()
         ∷ action.Timer 1 100 (purpose.Response (owner.Try 1 0))
         ∷ action.Start 0 1 (owner.Try 1 0) 1 11
         ∷ action.Write 0 (packed_bytes (command 72)) ∷ []) }
+    ensures fired_behind_nil { IsTraceIn one_permit
+        (event.Connected 0 ∷ event.Submit (unawaited 71) ∷ event.Fired 0 ∷ [])
+        (λ config word. arrived config word (unawaited 71))
+        (action.Took (owner.Try 0 0) 0 1
+        ∷ action.Timer 0 100 (purpose.Response (owner.Try 0 0))
+        ∷ action.Outcome 0 (outcome.One Nil) ∷ action.Start 0 0 (owner.Try 0 0) 1 11
+        ∷ action.Write 0 (packed_bytes (unawaited 71)) ∷ turn 3 (event.Fired 0) ∷ []) }
+    ensures where_nothing_is_said { IsTraceIn plain
+        (event.Connected 0 ∷ event.Submit (command 71) ∷ event.Fired 0
+        ∷ event.Bytes 0 one_reply ∷ event.Fired 1 ∷ []) second_timer
+        (action.Start 0 0 (owner.Try 0 0) 1 11 ∷ action.Write 0 (packed_bytes (command 71))
+        ∷ turn 3 (event.Fired 0) ∷ turn 4 (event.Bytes 0 one_reply)
+        ∷ action.Outcome 0 (reply 120) ∷ turn 5 (event.Fired 1) ∷ []) }
+    ensures timed_out_in_wait { IsTraceIn (held_for 100)
+        (event.Connected 0 ∷ event.Submit (command 71) ∷ event.Submit (command 72)
+        ∷ event.Submit (command 73) ∷ event.Fired 1 ∷ event.Fired 2 ∷ []) three_timers
+        (turn 5 (event.Fired 1) ∷ action.Outcome 1 (outcome.Fault (error.Io TimedOut))
+        ∷ action.Wait (owner.Try 2 0) wait.Room ∷ turn 6 (event.Fired 2)
+        ∷ action.Outcome 2 (outcome.Fault (error.Io TimedOut)) ∷ []) }
 {}
 
 /// Does nothing. Its contract: no trace that begins so is legal, whatever its events were and
