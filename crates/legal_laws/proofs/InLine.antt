@@ -48,6 +48,7 @@ pub first_holds : (p q : Bool) → p ≡ true → (p || q) ≡ true
 first_holds true q e = refl
 first_holds false q e = cc
 
+-- so where the second does
 pub second_holds : (p q : Bool) → q ≡ true → (p || q) ≡ true
 second_holds true q e = refl
 second_holds false q e = e
@@ -89,6 +90,7 @@ timed_stays false true true some e = refl
 timed_stays false true false some e = refl
 timed_stays false false none some e = cc
 
+-- so it follows
 clocked_follows : (limit : Option ℕ) (s : Story) (t : ℕ) → Follows limit s (clocked s t)
 clocked_follows limit s t = record {
   link = refl;

@@ -45,6 +45,7 @@ asked_of b t ms n round may =
 abbrev Clocked : Story → Type 0
 Clocked s = is_some s.clock ≡ true
 
+-- so it does with an event
 event_clocked : (b : Book) (n : ℕ) (kind : EventKind) → Clocked (b.story n) → Clocked (after_event b n kind)
 event_clocked b n (event.Submit what) h = chosen Clocked (b.submissions == n) (handed_in (b.story n) what b.shut (current b) b.timeout) (b.story n) (λ t. h) (λ f. h)
 event_clocked b n (event.Cancel m) h = chosen Clocked (m == n) (left (b.story n)) (b.story n) (λ t. chosen Clocked (is_open (b.story n)) (record (b.story n) { cancelled = true; permits = 0; waiting = None }) (b.story n) (λ o. h) (λ o. h)) (λ f. h)
@@ -59,6 +60,7 @@ event_clocked b n (event.WriteFault l kind) h = h
 event_clocked b n (event.Timeout ms) h = h
 event_clocked b n event.Shutdown h = h
 
+-- with each action
 clock_stays : (b : Book) (a : Action) (n : ℕ) → Clocked (b.story n) → Clocked ((entered b a).story n)
 clock_stays b (action.Turn k (cause.Opening config word)) n h = h
 clock_stays b (action.Turn k (cause.Event e)) n h = event_clocked b n e.kind h
@@ -72,6 +74,7 @@ clock_stays b (action.Start l k (owner.Try m round) count len) n h = chosen Cloc
 clock_stays b (action.Created e) n h = h
 clock_stays b (action.Outcome m o) n h = chosen Clocked (m == n) (answered (b.story n) o) (b.story n) (λ e. h) (λ f. h)
 
+-- and with many
 each_clocked : (b : Book) (front : List Action) (n : ℕ) → Clocked (b.story n) → Clocked ((entered_each b front).story n)
 each_clocked b [] n h = h
 each_clocked b (a ∷ more) n h = each_clocked (entered b a) more n (clock_stays b a n h)
@@ -82,11 +85,13 @@ asked_again b (action.Timer t ms (purpose.Response (owner.Try m round))) n may i
 asked_again b (action.Timer t ms (purpose.Connect l)) n may is = absurd is
 asked_again b _ n may is = absurd is
 
+-- behind that it has one
 clocked_behind : (b : Book) (a : Action) (n : ℕ) → IsAsking n a → Clocked ((entered b a).story n)
 clocked_behind b (action.Timer t ms (purpose.Response (owner.Try m round))) n is = if_true Clocked (m == n) (clocked (b.story n) t) (b.story n) (eq_test m n is) refl
 clocked_behind b (action.Timer t ms (purpose.Connect l)) n is = absurd is
 clocked_behind b _ n is = absurd is
 
+-- so of two that are asked for, one can't be its own
 once_behind : (b : Book) (middle more : List Action) (a c : Action) (n : ℕ) → AllStand b (a ∷ (middle ++ c ∷ more)) → IsAsking n a → IsAsking n c → ⊥
 once_behind b middle more a c n all first second =
     let some : Clocked ((entered_each (entered b a) middle).story n) = each_clocked (entered b a) middle n (clocked_behind b a n first) in
@@ -110,6 +115,7 @@ event_timeout b n (event.WriteFault l kind) i = refl
 event_timeout b n (event.Timeout ms) i = refl
 event_timeout b n event.Shutdown i = refl
 
+-- so it does with each action
 timeout_stays : (b : Book) (a : Action) (n : ℕ) → n < b.submissions → ((entered b a).story n).timeout ≡ (b.story n).timeout
 timeout_stays b (action.Turn k (cause.Opening config word)) n i = refl
 timeout_stays b (action.Turn k (cause.Event e)) n i = event_timeout b n e.kind i
@@ -123,6 +129,7 @@ timeout_stays b (action.Start l k (owner.Try m round) count len) n i = chosen (�
 timeout_stays b (action.Created e) n i = refl
 timeout_stays b (action.Outcome m o) n i = chosen (λ (s : Story). s.timeout ≡ (b.story n).timeout) (m == n) (answered (b.story n) o) (b.story n) (λ e. refl) (λ f. refl)
 
+-- and with many
 each_timeout : (b : Book) (front : List Action) (n : ℕ) → n < b.submissions → ((entered_each b front).story n).timeout ≡ (b.story n).timeout
 each_timeout b [] n i = refl
 each_timeout b (a ∷ more) n i = let grows : b.submissions ≤ (entered b a).submissions = submissions_grow b a in each_timeout (entered b a) more n (omega (arith, i, grows)) ∙ timeout_stays b a n i

@@ -30,6 +30,7 @@ TakesWhereCounted config trace =
     (front more : List Action) (who : Owner) (l count : ℕ) → trace ≡ front ++ action.Took who l count ∷ more
     → config.limit ≡ None → ⊥
 
+-- both of a trace
 pub record KeepsPermits (config : Config) (trace : List Action) : Type 0 where
   pub within : HoldsWithin config trace
   pub counted : TakesWhereCounted config trace
@@ -60,6 +61,7 @@ AsksHolding config trace =
     → trace ≡ front ++ action.Timer t ms (purpose.Response (owner.Try n round)) ∷ more
     → (config.limit ≡ None) ⊎ (0 < ((book front).story n).permits)
 
+-- all three of a trace
 pub record AsksTimers (config : Config) (trace : List Action) : Type 0 where
   pub once : AsksOnce trace
   pub in_force : AsksInForce trace

@@ -169,6 +169,7 @@ told_takes : (held : Bool) (count : ℕ) → starts_or_waits held ≡ takes coun
 told_takes true count e = cc e
 told_takes false count e = cc e
 
+-- and its timer isn't asked for
 told_asks : (held : Bool) (ms : ℕ) → starts_or_waits held ≡ asks ms → ⊥
 told_asks true ms e = cc e
 told_asks false ms e = cc e
@@ -230,6 +231,7 @@ placed_takes false true true count e = cc e
 placed_takes false true false count e = cc e
 placed_takes false false held count e = cc e
 
+-- nor is a timer asked for
 placed_asks : (outside awaited held : Bool) (ms : ℕ) → step_placed outside awaited held ≡ asks ms → ⊥
 placed_asks true awaited held ms e = cc e
 placed_asks false true true ms e = cc e
@@ -292,11 +294,13 @@ placed_due false true true h o = absurd (cc h)
 placed_due false true false h o = refl
 placed_due false false held h o = refl
 
+-- so it is behind its timer
 timed_due : (timeout clock : Option ℕ) (next : Step) → is_due next ≡ true → is_due (step_timed timeout clock next) ≡ true
 timed_due None clock next e = e
 timed_due (Some ms) None next e = refl
 timed_due (Some ms) (Some t) next e = e
 
+-- and behind its permits
 holding_due : (limit : Option ℕ) (permits : ℕ) (taking : ℕ → Step) (next : Step) → holds_some limit permits ≡ true → is_due (step_holding limit permits taking next) ≡ is_due next
 holding_due None permits taking next h = refl
 holding_due (Some limit) zero taking next h = absurd (cc h)
@@ -308,11 +312,13 @@ ready_due true up step d u = absurd (cc d)
 ready_due false true step d u = refl
 ready_due false false step d u = absurd (cc u)
 
+-- whoever was told does so where the link isn't held back
 told_due : (told held : Bool) (next : Step) → told ≡ true → held ≡ false → is_due (step_open told held next) ≡ true
 told_due true true next t h = absurd (cc h)
 told_due true false next t h = refl
 told_due false held next t h = absurd (cc t)
 
+-- and whoever wasn't does what else is due
 untold_due : (told held : Bool) (next : Step) → told ≡ false → is_due (step_open told held next) ≡ is_due next
 untold_due true held next t = absurd (cc t)
 untold_due false held next t = refl
@@ -338,6 +344,7 @@ timed_from None clock next none = refl
 timed_from (Some ms) None next none = absurd (none refl)
 timed_from (Some ms) (Some t) next none = refl
 
+-- so it is in a book
 pub holder_is_timed : (b : Book) (n : ℕ) → dials (link_of b n) ≡ false → (link_of b n).up ≡ true → is_told (b.story n) ≡ false → holds_some (permits_in b.config) (b.story n).permits ≡ true
     → (is_due (next_step b n) ≡ true → ⊥) → is_timed (b.story n).timeout (b.story n).clock ≡ true
 holder_is_timed b n d u t p none = timed_from (b.story n).timeout (b.story n).clock (step_placed (is_outside b n) (is_awaited (b.story n)) (is_held_back b (link_of b n)))
@@ -353,6 +360,7 @@ holds_from : (limit permits : ℕ) (taking : ℕ → Step) (next : Step) → is_
 holds_from limit zero taking next due none = absurd (none due)
 holds_from limit (suc held) taking next due none = omega arith
 
+-- so it is in a book, too
 pub rester_holds : (b : Book) (n limit : ℕ) → dials (link_of b n) ≡ false → (link_of b n).up ≡ true → is_told (b.story n) ≡ false → permits_in b.config ≡ Some limit → 0 < free_permits b (b.story n).link limit
     → (is_due (next_step b n) ≡ true → ⊥) → 0 < (b.story n).permits
 rester_holds b n limit d u t p free none =
@@ -367,6 +375,7 @@ awaited_at_its_place true awaited held e = absurd (cc e)
 awaited_at_its_place false true held e = refl
 awaited_at_its_place false false held e = absurd (cc e)
 
+-- so it is in a book, too
 pub placed_is_awaited : (b : Book) (n : ℕ) → is_told (b.story n) ≡ false → next_step b n ≡ starts → is_awaited (b.story n) ≡ true
 placed_is_awaited b n untold e =
     let r = ready_of (dials (link_of b n)) (link_of b n).up (up_step b n) starts refl e in

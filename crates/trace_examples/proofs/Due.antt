@@ -108,10 +108,11 @@ start_stands b l k n count len bounded e = record {
   long_as_its_bytes = eq_from len (length (bytes_of (b.story n))) (search (both_left, both_right));
 }
 
--- permits that are taken, and the timer of a submission
+-- permits that are taken
 abbrev pub take_due : Book → ℕ → ℕ → ℕ → Bool
 take_due b n l count = is_applied b && is_unstarted (b.story n) && same_step (next_step b n) (takes count) && all_stay b n && (l == (b.story n).link)
 
+-- what this says
 take_stands : (b : Book) (n l count : ℕ) → IsBounded b → take_due b n l count ≡ true → MayTake b n l count
 take_stands b n l count bounded e = record {
   applied = applied b bounded (search (both_left, both_right));
@@ -121,9 +122,11 @@ take_stands b n l count bounded e = record {
   on_its_link = eq_from l (b.story n).link (search (both_left, both_right));
 }
 
+-- the timer of a submission
 abbrev pub ask_due : Book → ℕ → ℕ → ℕ → Bool
 ask_due b t ms n = is_applied b && is_unstarted (b.story n) && same_step (next_step b n) (asks ms) && all_stay b n && (t == length b.timers)
 
+-- what this says
 ask_stands : (b : Book) (t ms n : ℕ) → IsBounded b → ask_due b t ms n ≡ true → MayTime b t ms (purpose.Response (owner.Try n 0))
 ask_stands b t ms n bounded e = record {
   n = n;
@@ -151,6 +154,7 @@ abbrev pub IsTimeOf : Book → ℕ → Purpose → Type 0
 IsTimeOf b ms (purpose.Connect l) = IsTime b b.running ms (purpose.Connect l)
 IsTimeOf b ms (purpose.Response who) = Unit {0}
 
+-- so the timer of a connect may stand
 connect_timer_stands : (b : Book) (t ms l : ℕ) → timer_due b t ms (purpose.Connect l) ≡ true → IsTime b b.running ms (purpose.Connect l) → MayTimeConnect b t ms (purpose.Connect l)
 connect_timer_stands b t ms l e said = of_cause b.running refl said
   where
@@ -168,6 +172,7 @@ connect_timer_stands b t ms l e said = of_cause b.running refl said
       is_for = s.1;
     }
 
+-- and any timer
 timer_stands : (b : Book) (t ms : ℕ) (what : Purpose) → IsBounded b → timer_due b t ms what ≡ true → IsTimeOf b ms what → MayTimer b t ms what
 timer_stands b t ms (purpose.Connect l) bounded e said = inl (connect_timer_stands b t ms l e said)
 timer_stands b t ms (purpose.Response (owner.Try n round)) bounded e said =

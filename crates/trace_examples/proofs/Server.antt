@@ -60,12 +60,15 @@ is_plain_server : address plain ≡ Some server
 unfolding url_on_literals utf8_lossy utf8_valid_len
 is_plain_server = refl
 
+-- so the opening asks for it
 pub at_plain : IsPlace plain (codes "h") 6379
 at_plain = record { sound = ap (λ a. fault_in a None 50) is_plain_server; info = server; configured = is_plain_server; is = (refl, refl) }
 
+-- it is that server, too
 is_held_for_server : (ms : ℕ) → address (held_for ms) ≡ Some server
 unfolding url_on_literals utf8_lossy utf8_valid_len
 is_held_for_server ms = refl
 
+-- which its opening asks for
 pub at_held_for : (ms : ℕ) → IsPlace (held_for ms) (codes "h") 6379
 at_held_for ms = record { sound = ap (λ a. fault_in a None 1) (is_held_for_server ms); info = server; configured = is_held_for_server ms; is = (refl, refl) }

@@ -14,10 +14,11 @@ use Rattle.driver_model.specs.Request.{packed_bytes}
 use Rattle.trace_examples.specs.Parts.{turn, command, unawaited, two_together, one_reply, unbounded, limited_to}
 use Rattle.trace_examples.specs.Traces.{opening, came_up, arrived, in_wait, both_in_wait}
 
--- one permit, and 100 milliseconds for a request; and permits alone
+-- one permit, and 100 milliseconds for a request
 abbrev pub one_permit : Config
 one_permit = limited_to 1 (Some 100)
 
+-- so many permits, and any time for a request
 abbrev pub permits_alone : ℕ → Config
 permits_alone limit = limited_to limit None
 
