@@ -1,13 +1,14 @@
 ghost use Rattle.std.specs.Prelude.{◌≡◌, not, is_some, is_none, codes};
 ghost use Rattle.std.specs.List.{list_all};
 ghost use Rattle.script_text.specs.ConfigLine.{keys, is_setting, values, only, gives};
-ghost use Rattle.script_text.specs.ConfigLine.{time_limit, allows, allows_queue, allows_optional};
-ghost use Rattle.script_text.specs.ConfigLine.{gives_fixed, are_allowed, single, config_of};
+ghost use Rattle.script_text.specs.ConfigLine.{allows, allows_times, allows_queue};
+ghost use Rattle.script_text.specs.ConfigLine.{allows_numbers, allows_optional, are_allowed};
+ghost use Rattle.script_text.specs.ConfigLine.{single, config_of};
 ghost use Rattle.script_text.specs.Faults.{FindsFault, values_reason};
-ghost use Rattle.script_text.specs.Numbers.{number, max_u32, max_u64};
+ghost use Rattle.script_text.specs.Numbers.{number, max_u32, max_u64, time_limit};
 
 use crate::config_line::{
-    allows_boundary, allows_buffer, allows_connect, gives_only, has_value, is_known_setting,
+    allows_large_number, allows_number, allows_time, gives_only, has_value, is_known_setting,
     only_value, value,
 };
 use crate::fault::Fault;
@@ -83,67 +84,76 @@ fn only_fault(words: &[Bytes], key: &[u8], value: &[u8], reason: ConfigReason) -
     Some(values_fault(words, key, Reason::Config(reason)))
 }
 
-/// What is wrong with how long the connect may take.
-fn connect_fault(words: &[Bytes]) -> Option<Fault>
-    ensures { is_some result ≡ not (allows time_limit (values (codes "connect") words.now)) }
+/// What is wrong with the time of a key.
+fn time_fault(words: &[Bytes], key: &[u8], reason: ConfigReason) -> Option<Fault>
+    ensures { is_some result ≡ not (allows time_limit (values key.now words.now)) }
 {
-    if allows_connect(words) {
+    if allows_time(words, key) {
         return None;
     }
-    let wrong = Reason::Config(ConfigReason::Connect);
-    Some(values_fault(words, b"connect", wrong))
+    Some(values_fault(words, key, Reason::Config(reason)))
 }
 
-/// What is wrong with the size of the queue.
-fn buffer_fault(words: &[Bytes]) -> Option<Fault>
-    ensures { is_some result ≡ not (allows (number max_u32) (values (codes "buffer") words.now)) }
+/// What is wrong with the number of 32 bits of a key.
+fn number_fault(words: &[Bytes], key: &[u8], reason: ConfigReason) -> Option<Fault>
+    ensures { is_some result ≡ not (allows (number max_u32) (values key.now words.now)) }
 {
-    if allows_buffer(words) {
+    if allows_number(words, key) {
         return None;
     }
-    let wrong = Reason::Config(ConfigReason::Buffer);
-    Some(values_fault(words, b"buffer", wrong))
+    Some(values_fault(words, key, Reason::Config(reason)))
 }
 
 /// What is wrong with the boundary.
 fn boundary_fault(words: &[Bytes]) -> Option<Fault>
     ensures { is_some result ≡ not (allows (number max_u64) (values (codes "boundary") words.now)) }
 {
-    if allows_boundary(words) {
+    if allows_large_number(words, b"boundary") {
         return None;
     }
     let wrong = Reason::Config(ConfigReason::Boundary);
     Some(values_fault(words, b"boundary", wrong))
 }
 
+/// What is wrong with what is given of the times.
+fn times_fault(words: &[Bytes]) -> Option<Fault>
+    ensures { is_some result ≡ not (allows_times words.now) }
+{
+    if let Some(fault) = time_fault(words, b"connect", ConfigReason::Connect) {
+        return Some(fault);
+    }
+    time_fault(words, b"response", ConfigReason::Response)
+}
+
 /// What is wrong with what is given of the queue.
 fn queue_fault(words: &[Bytes]) -> Option<Fault>
     ensures { is_some result ≡ not (allows_queue words.now) }
 {
-    if let Some(fault) = buffer_fault(words) {
+    if let Some(fault) = number_fault(words, b"buffer", ConfigReason::Buffer) {
         return Some(fault);
     }
     boundary_fault(words)
 }
 
-/// What is wrong with a setting that may be left out.
-fn optional_fault(words: &[Bytes]) -> Option<Fault>
-    ensures { is_some result ≡ not (allows_optional words.now) }
+/// What is wrong with how many permits there are, or with what is given of the queue.
+fn numbers_fault(words: &[Bytes]) -> Option<Fault>
+    ensures { is_some result ≡ not (allows_numbers words.now) }
 {
-    if let Some(fault) = connect_fault(words) {
+    if let Some(fault) = number_fault(words, b"limit", ConfigReason::Limit) {
         return Some(fault);
     }
     queue_fault(words)
 }
 
-/// What is wrong with a setting that has one value alone.
-fn fixed_fault(words: &[Bytes]) -> Option<Fault>
-    ensures { is_some result ≡ not (gives_fixed words.now) }
+/// What is wrong with a setting that may be left out.
+#[tactic(auto, using(crate::proofs::Values::first_fails, crate::proofs::Values::second_tells))]
+fn optional_fault(words: &[Bytes]) -> Option<Fault>
+    ensures { is_some result ≡ not (allows_optional words.now) }
 {
-    if let Some(fault) = only_fault(words, b"response", b"none", ConfigReason::OnlyNone) {
+    if let Some(fault) = times_fault(words) {
         return Some(fault);
     }
-    only_fault(words, b"lib", b"off", ConfigReason::OnlyOff)
+    numbers_fault(words)
 }
 
 /// What is wrong with a setting other than the URL.
@@ -154,7 +164,7 @@ fn allowed_fault(words: &[Bytes]) -> Option<Fault>
     if let Some(fault) = optional_fault(words) {
         return Some(fault);
     }
-    fixed_fault(words)
+    only_fault(words, b"lib", b"off", ConfigReason::OnlyOff)
 }
 
 /// What is wrong with the URL: that it doesn't stand just once. Whether it is an address is no matter of the script.
@@ -169,7 +179,7 @@ fn url_fault(words: &[Bytes]) -> Option<Fault>
 }
 
 /// What is wrong with the settings of one connection.
-#[tactic(auto, using(crate::proofs::Values::none_mapped))]
+#[tactic(auto, using(crate::proofs::Values::none_mapped, crate::proofs::Values::none_allowed))]
 fn single_fault(words: &[Bytes]) -> Option<Fault>
     ensures { FindsFault result (single words.now) }
 {

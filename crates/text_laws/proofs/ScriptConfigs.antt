@@ -4,12 +4,12 @@ use Rattle.std.specs.Option.{option_to_list}
 use Rattle.std.proofs.lemmas.List.Elements.{All-nil, All-cons, All-head, All-tail, All-append}
 use Rattle.containers.proofs.Choices.{chosen}
 use Rattle.script_text.specs.Words.{LineWords, cut_at}
-use Rattle.script_text.specs.Numbers.{number, max_u32, max_u64}
+use Rattle.script_text.specs.Numbers.{number, max_u32, max_u64, time_limit}
 use Rattle.script_text.specs.EventLine.{by_first}
-use Rattle.script_text.specs.ConfigLine.{value_of, values, only, time_limit, given, config_with, single, kinds, config_of}
+use Rattle.script_text.specs.ConfigLine.{value_of, values, only, config_with, single, kinds, config_of}
 use Rattle.text_laws.specs.Fits.{IsByte, AreBytes, FitsLimit, FitsNumber, FitsConfig}
 use Rattle.text_laws.proofs.Held.{mapped, then_read, if_read, number_within}
-use Rattle.text_laws.proofs.ScriptEvents.{IsByteLine, by_form, whole_fits}
+use Rattle.text_laws.proofs.ScriptEvents.{IsByteLine, by_form, whole_fits, time_fits}
 
 -- the second of two texts is bytes
 abbrev SecondBytes : List ℕ × List ℕ → Type 0
@@ -41,14 +41,6 @@ only_bytes [] small = tt
 only_bytes (text ∷ []) small = All-head AreBytes text [] small
 only_bytes (text ∷ next ∷ more) small = tt
 
-number_fits : (o : Option ℕ) → IfSome o (λ n. n ≤ max_u64) → FitsLimit (option_map Some o)
-number_fits None within = tt
-number_fits (Some n) within = omega (arith, within)
-
-time_fits : (value : List ℕ) → FitsLimit (time_limit value)
-time_fits value =
-    chosen FitsLimit (bytes_eq value (codes "none")) (Some None) (option_map Some (number max_u64 value)) (λ t. tt) (λ f. number_fits (number max_u64 value) (number_within max_u64 value))
-
 limit_fits : (value : Option (List ℕ)) → FitsLimit (option_and_then time_limit value)
 limit_fits None = tt
 limit_fits (Some value) = time_fits value
@@ -65,6 +57,8 @@ with_url : (words : List (List ℕ)) (url : List ℕ) → AreBytes url → FitsC
 with_url words url small = record {
   url = small;
   connect = limit_fits (only (values (codes "connect") words));
+  response = limit_fits (only (values (codes "response") words));
+  limit = given_fits max_u32 (2 ^ 32) (omega arith) (only (values (codes "limit") words));
   buffer = given_fits max_u32 (2 ^ 32) (omega arith) (only (values (codes "buffer") words));
   boundary = given_fits max_u64 (2 ^ 64) (omega arith) (only (values (codes "boundary") words));
 }

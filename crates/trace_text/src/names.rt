@@ -51,6 +51,7 @@ impl Writer {
     {
         match wait {
             WaitKind::Connect => self.word(b"connect"),
+            WaitKind::Permit => self.word(b"permit"),
             WaitKind::Place => self.word(b"place"),
             WaitKind::Room => self.word(b"room"),
         }
