@@ -39,8 +39,13 @@ impl Config {
     pub fn new(url: Bytes) -> Config
         ensures { result
             ≡ record {
-            url = url; connect = None; response = None; limit = None; buffer = None; boundary = None;
-        } }
+              url = url;
+              connect = None;
+              response = None;
+              limit = None;
+              buffer = None;
+              boundary = None;
+            } }
     {
         Config {
             url,

@@ -1,9 +1,11 @@
 ghost use Rattle.std.specs.Prelude.{◌≡◌, ◌<◌, ◌≤◌, ◌^◌, ◌∷◌, ◌++◌, length, take, drop, OnOk, IfOk};
 ghost use Rattle.resp_value.specs.View.{data_of, value_of, list_view};
-ghost use Rattle.driver_model.specs.Shape.{need_of, verdict_of, pipeline, verdict_of_transaction};
+ghost use Rattle.driver_model.specs.Shape.{need_of, permits_for, verdict_of, pipeline};
+ghost use Rattle.driver_model.specs.Shape.{verdict_of_transaction};
 ghost use Rattle.driver_model.specs.Shape.{first_of, error_at, errors_from, kept_unless_aborted};
 
 use crate::outcome::{Shape, Verdict};
+use connection_setup::permit_vec_capacity;
 use redis_error::RedisError;
 use resp_value::{Aborts, Value, Values};
 use std::alloc::{AllocError, Global};
@@ -20,6 +22,20 @@ impl Shape {
                 count,
                 transaction: _,
             } => u64::from(offset) + u64::from(count.max(1)),
+        }
+    }
+
+    /// The most permits that a message of this shape takes of so many.
+    pub fn permits_for(self, limit: u32) -> u32
+        ensures { result ≡ permits_for self limit }
+    {
+        match self {
+            Shape::Single => 1,
+            Shape::Pipeline {
+                offset: _,
+                count,
+                transaction: _,
+            } => permit_vec_capacity(count, limit),
         }
     }
 

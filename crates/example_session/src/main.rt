@@ -19,8 +19,7 @@ const SUBMISSION: u32 = 0;
 /// A session for one connection, whose opening `opening` gains.
 fn open(alloc: Global, opening: &mut Vec<driver_model::Action>) -> Result<Session, MakeError> {
     let url = Bytes::from_slice(alloc, b"redis://localhost:6379")?;
-    let config = Config { url, connect: None };
-    Session::new(alloc, config, 0, opening)
+    Session::new(alloc, Config::new(url), 0, opening)
 }
 
 /// A caller hands in GET of a key.

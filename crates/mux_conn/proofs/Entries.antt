@@ -1,10 +1,11 @@
 -- Which entry of those that wait is a request's.
-use Rattle.std.proofs.Common.{◌≡◌, ℕ, ◌+◌, ◌<◌, ◌≤◌, Bool, true, false, List, [], ◌∷◌, length, drop, get_or, Option, None, Some, refl, sym, ap, ◌∙◌}
-use Rattle.std.proofs.lemmas.List.{drop_all}
+use Rattle.std.proofs.Common.{◌≡◌, ℕ, ◌+◌, ◌<◌, ◌≤◌, Bool, true, false, List, [], ◌∷◌, ◌++◌, length, drop, get_or, append_assoc, Option, None, Some, refl, sym, ap, ◌∙◌}
+use Rattle.std.proofs.lemmas.List.{append-nil, drop_all}
 use Rattle.containers.proofs.Choices.{taken_if, left_if}
 use Rattle.link_core.proofs.FirstLemmas.{from_index}
 use Rattle.mux_conn.specs.declared.request.Waiting.{Waiting}
 use Rattle.mux_conn.specs.Connection.{Work}
+use Rattle.mux_conn.specs.Effects.{numbers_of}
 use Rattle.mux_conn.specs.Passes.{has_number, entry_of, without, still_admitted, still_waiting, seated_alone, admitted_alone}
 
 -- the entries before an index are other requests'
@@ -48,3 +49,16 @@ pub not_admitted : (w : Work) (p : ℕ) (entries : List Waiting) (found : Option
 not_admitted w p entries found is left none =
     let gone = sym is ∙ none in
     ap (still_waiting w) (left ∙ none_leaves p w.conn.waiting gone) ∙ sym (ap (admitted_alone w p) gone)
+
+-- what is noted of requests, and what is left of them, are the whole
+abbrev pub AreNoted : List ℕ → List Waiting → ℕ → Type 0
+AreNoted noted qs i = noted ++ numbers_of (drop i qs) ≡ numbers_of qs
+
+-- one more number is noted
+pub one_noted : (noted : List ℕ) (qs : List Waiting) (i : ℕ) (q : Waiting) → i < length qs → q ≡ get_or qs i q → AreNoted noted qs i → AreNoted (noted ++ q.number ∷ []) qs (i + 1)
+one_noted noted qs i q l is h =
+    append_assoc noted (q.number ∷ []) (numbers_of (drop (i + 1) qs)) ∙ ap (λ (xs : List Waiting). noted ++ numbers_of xs) (sym (from_index (has_number 0) (λ _. []) qs i q l is)) ∙ h
+
+-- all of them are noted
+pub all_noted : (noted : List ℕ) (qs : List Waiting) (i : ℕ) → length qs ≤ i → AreNoted noted qs i → noted ≡ numbers_of qs
+all_noted noted qs i l h = sym (append-nil noted) ∙ ap (λ (xs : List Waiting). noted ++ numbers_of xs) (sym (drop_all i qs l)) ∙ h

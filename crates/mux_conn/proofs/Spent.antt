@@ -15,13 +15,12 @@ use Rattle.mux_conn.specs.declared.life.Life.{Life}
 use Rattle.mux_conn.specs.declared.life.Life.TheVariants.{Dialing, Ready, Ended}
 use Rattle.mux_conn.specs.declared.request.Waiting.{Waiting}
 use Rattle.mux_conn.specs.Connection.{Work, with_link, admits_none, has_room, started_in, is_spent_in}
-use Rattle.mux_conn.specs.declared.request.Progress.TheVariants as progress
-use Rattle.mux_conn.specs.Requests.{is_open_at, is_waiting_at, is_admitted_at, progressed, answered}
+use Rattle.mux_conn.specs.Requests.{is_open_at, is_waiting_at, is_admitted_at, answered}
 use Rattle.driver_model.specs.declared.action.WaitKind.{WaitKind}
 use Rattle.driver_model.specs.News.{News}
 use Rattle.mux_conn.specs.Effects.{applied}
 use Rattle.mux_conn.specs.Passes.{shown_each, started, started_at, placed_at, told_at_place, seated, moved_up, moved_up_each, moved_up_all, still_admitted}
-use Rattle.mux_conn.specs.Passes.{put_behind, seated_or_behind, admitted_at, admitted, admitted_each, admitted_all, still_waiting, passed}
+use Rattle.mux_conn.specs.Passes.{permits_taken, took, took_shown, timer_asked, let_in, holding, put_behind, seated_or_behind, admitted_at, admitted, admitted_each, admitted_all, still_waiting, passed}
 use Rattle.mux_conn.specs.Turn.{written, written_at, moved_wait, fresh_wait, wait_shown, moved_each_shown, fresh_each_shown, moved_shown, fresh_shown, flushed, stepped}
 
 -- how many messages have started
@@ -92,10 +91,24 @@ moved_up_each_rises w (q ∷ qs) =
 behind_rises : (w : Work) (q : Waiting) → count w ≤ count (seated_or_behind w q)
 behind_rises w q = rises_either (has_room w.conn.life) (count w) (seated w q) (put_behind w q) (seated_rises w q) (le_refl (count w))
 
+-- permits and timers start nothing
+took_count : (w : Work) (p count_of : ℕ) (limit : Option ℕ) → count (took_shown w p count_of limit) ≡ count w
+took_count w p n None = refl
+took_count w p n (Some limit) = refl
+
+timer_count : (w : Work) (p : ℕ) (timeout : Option ℕ) → count (timer_asked w p timeout) ≡ count w
+timer_count w p None = refl
+timer_count w p (Some ms) = refl
+
+let_in_count : (w : Work) (q : Waiting) → count (let_in w q) ≡ count w
+let_in_count w q =
+    let n = permits_taken w.conn.limit w.conn.free q.shape in
+    timer_count (took w q.number n) q.number q.timeout ∙ took_count (record w { conn = holding w.conn q.number n }) q.number n w.conn.limit
+
 admitted_at_rises : (w : Work) (q : Waiting) (life : Life) → count w ≤ count (admitted_at w q life)
 admitted_at_rises w q Dialing = le_refl (count w)
 admitted_at_rises w q (Ended x) = let same = answered_count w q.number (outcome.Fault x) in omega (arith, same)
-admitted_at_rises w q (Ready link) = behind_rises (progressed w q.number progress.Admitted) q
+admitted_at_rises w q (Ready link) = let same = let_in_count w q in omega (arith, same, behind_rises (let_in w q) q)
 
 admitted_rises : (w : Work) (q : Waiting) → count w ≤ count (admitted w q)
 admitted_rises w q = rises_either (is_waiting_at w.conn.requests q.number) (count w) (admitted_at w q w.conn.life) w (admitted_at_rises w q w.conn.life) (le_refl (count w))
@@ -103,7 +116,7 @@ admitted_rises w q = rises_either (is_waiting_at w.conn.requests q.number) (coun
 admitted_each_rises : (w : Work) (qs : List Waiting) → count w ≤ count (admitted_each w qs)
 admitted_each_rises w [] = le_refl (count w)
 admitted_each_rises w (q ∷ qs) =
-    rises_either (admits_none w.conn.life) (count w) (still_waiting w (q ∷ qs)) (admitted_each (admitted w q) qs) (le_refl (count w))
+    rises_either (admits_none w.conn) (count w) (still_waiting w (q ∷ qs)) (admitted_each (admitted w q) qs) (le_refl (count w))
     (omega (arith, admitted_rises w q, admitted_each_rises (admitted w q) qs))
 
 -- a count that has risen past the last number stays there
@@ -117,9 +130,9 @@ spent_in_moved_up w v q qs room is h =
     (past (count (moved_up w q)) (count (moved_up_each (moved_up w q) qs)) (moved_up_each_rises (moved_up w q) qs) h)
 
 -- and so of those that wait for the connection
-pub spent_in_admitted : (w v : Work) (q : Waiting) (qs : List Waiting) → admits_none w.conn.life ≡ false → admitted_each w (q ∷ qs) ≡ v → is_spent_in (admitted w q).conn.life ≡ true → is_spent_in v.conn.life ≡ true
+pub spent_in_admitted : (w v : Work) (q : Waiting) (qs : List Waiting) → admits_none w.conn ≡ false → admitted_each w (q ∷ qs) ≡ v → is_spent_in (admitted w q).conn.life ≡ true → is_spent_in v.conn.life ≡ true
 spent_in_admitted w v q qs free is h =
-    subst (λ (x : Work). is_spent_in x.conn.life ≡ true) (sym (left_if (admits_none w.conn.life) (still_waiting w (q ∷ qs)) (admitted_each (admitted w q) qs) free) ∙ is)
+    subst (λ (x : Work). is_spent_in x.conn.life ≡ true) (sym (left_if (admits_none w.conn) (still_waiting w (q ∷ qs)) (admitted_each (admitted w q) qs) free) ∙ is)
     (past (count (admitted w q)) (count (admitted_each (admitted w q) qs)) (admitted_each_rises (admitted w q) qs) h)
 
 -- those that take a place run out before the others are admitted

@@ -1,5 +1,5 @@
 ghost use Rattle.std.specs.Prelude.{◌≡◌, ◌<◌, [], length, true, false, None, Some, slice_get};
-ghost use Rattle.std.specs.Prelude.{OnOk, OnErr, IfOk, IsErrOf, MatchOption};
+ghost use Rattle.std.specs.Prelude.{OnOk, OnErr, IfOk, IsErrOf, MatchOption, ◌≤◌};
 ghost use Rattle.mux_conn.specs.Passes.{entry_of, without, has_number};
 ghost use Rattle.mux_conn.specs.Places.{IsPlaceOf};
 ghost use Rattle.link_core.specs.Link.{is_spent, starting_with, started_all};
@@ -8,9 +8,9 @@ use crate::act::LinkAct;
 use crate::connection::MultiplexedConnection;
 use crate::errors::ConnectionError;
 use crate::life::Life;
-use crate::request::{Progress, Waiting};
+use crate::request::{Progress, Request, Waiting};
 use containers::Queue;
-use driver_model::Outcome;
+use driver_model::{Outcome, Shape};
 use link_core::{EnqueueError, LinkCore, StartError, Started};
 use resp_value::Value;
 use std::alloc::{AllocError, Global};
@@ -66,6 +66,103 @@ impl MultiplexedConnection {
         }
         self.show_starts(starts, out)?;
         Ok(())
+    }
+}
+
+impl MultiplexedConnection {
+    ghost use Rattle.mux_conn.specs.Connection.{work_with};
+    ghost use Rattle.mux_conn.specs.Passes.{permits_taken, holding, took, timer_asked, let_in};
+
+    /// How many permits a message of this shape takes: as many as are free, and no more than it may.
+    fn permits_taken(&self, shape: Shape) -> u32
+        ensures value { result ≡ permits_taken self.now.limit self.now.free shape }
+        ensures free { result ≤ self.now.free }
+    {
+        match self.limit {
+            Some(limit) => self.free.min(shape.permits_for(limit)),
+            None => 0,
+        }
+    }
+
+    /// A request may take a place, and holds so many permits, which aren't free any more.
+    fn hold(&mut self, number: u32, count: u32)
+        requires there { number < length self.old.requests }
+        requires free { count ≤ self.old.free }
+        ensures conn { self.new ≡ holding self.old number count }
+        ensures count { length self.new.requests ≡ length self.old.requests }
+        ensures failure { self.new.failure ≡ self.old.failure }
+    {
+        let name = self.name(u64::from(number));
+        self.requests.set(
+            number as usize,
+            Request {
+                name,
+                progress: Progress::Admitted,
+                permits: count,
+            },
+        );
+        self.free -= count;
+    }
+
+    /// A request takes its permits, which is shown where they are counted.
+    fn take_permits(
+        &mut self,
+        number: u32,
+        count: u32,
+        out: &mut Vec<LinkAct>,
+    ) -> Result<(), AllocError>
+        requires there { number < length self.old.requests }
+        requires free { count ≤ self.old.free }
+        ensures work { OnOk result (
+            work_with self.new out.new.items
+            ≡ took (work_with self.old out.old.items) number count
+            ) }
+        ensures count { length self.new.requests ≡ length self.old.requests }
+        ensures failure { self.new.failure ≡ self.old.failure }
+    {
+        self.hold(number, count);
+        if self.limit.is_some() {
+            let request = self.name(u64::from(number));
+            out.push(LinkAct::Took { request, count })?;
+        }
+        Ok(())
+    }
+
+    /// The timer of a request is asked for, where it is to be answered within a time.
+    fn ask_timer(
+        &self,
+        number: u32,
+        timeout: Option<u64>,
+        out: &mut Vec<LinkAct>,
+    ) -> Result<(), AllocError>
+        ensures { OnOk result (
+            work_with self.now out.new.items
+            ≡ timer_asked (work_with self.now out.old.items) number timeout
+            ) }
+    {
+        match timeout {
+            Some(ms) => {
+                let request = self.name(u64::from(number));
+                out.push(LinkAct::Timer { request, ms })?;
+                Ok(())
+            }
+            None => Ok(()),
+        }
+    }
+
+    /// A request takes its permits, and its timer is asked for.
+    fn let_in(&mut self, request: &Waiting, out: &mut Vec<LinkAct>) -> Result<(), AllocError>
+        requires { request.now.number < length self.old.requests }
+        ensures work { OnOk result (
+            work_with self.new out.new.items
+            ≡ let_in (work_with self.old out.old.items) request.now
+            ) }
+        ensures count { length self.new.requests ≡ length self.old.requests }
+        ensures failure { self.new.failure ≡ self.old.failure }
+    {
+        let count = self.permits_taken(request.shape);
+        self.take_permits(request.number, count, out)?;
+        self.ask_timer(request.number, request.timeout, out)
     }
 }
 
@@ -226,14 +323,14 @@ impl MultiplexedConnection {
         Ok(())
     }
 
-    /// A request that still waits for the connection may take a place now. On a link that has ended it is answered.
+    /// A request that still waits for the connection, or for a permit, is let in. On a link that has ended it is answered.
     fn admit(
         &mut self,
         alloc: Global,
         request: Waiting,
         out: &mut Vec<LinkAct>,
     ) -> Result<(), ConnectionError>
-        requires { admits_none self.old.life ≡ false }
+        requires { admits_none self.old ≡ false }
         ensures work { OnOk result (
             work_with self.new out.new.items
             ≡ admitted (work_with self.old out.old.items) request
@@ -251,11 +348,11 @@ impl MultiplexedConnection {
             self.answer(u64::from(request.number), Outcome::Fault(error), out)?;
             return Ok(());
         }
-        self.set_progress(request.number, Progress::Admitted);
+        self.let_in(&request, out)?;
         self.seat_or_put_behind(alloc, request, out)
     }
 
-    /// Those that wait for the connection are moved in order, as long as they can be.
+    /// Those that wait for the connection, or for permits, are moved in order, as long as they can be.
     fn admit_all(&mut self, alloc: Global, out: &mut Vec<LinkAct>) -> Result<(), ConnectionError>
         ensures work { OnOk result (
             work_with self.new out.new.items ≡ admitted_all (work_with self.old out.old.items)
@@ -266,7 +363,7 @@ impl MultiplexedConnection {
         ensures failure { self.new.failure ≡ self.old.failure }
     {
         let mut rest = std::mem::replace(&mut self.waiting, Queue::new(alloc));
-        'requests: while !self.life.admits_none() {
+        'requests: while !self.admits_none() {
             match rest.pop_front() {
                 Some(request) => match self.admit(alloc, request, out) {
                     Ok(()) => {}
@@ -349,8 +446,8 @@ impl MultiplexedConnection {
         }
     }
 
-    /// One request that waits for the connection is moved as far as it can go. The answer is whether it is among those that
-    /// wait for it, and moves.
+    /// One request that waits for the connection, or for a permit, is moved as far as it can go. The answer is whether it is
+    /// among those that wait for it, and moves.
     fn admit_alone(
         &mut self,
         alloc: Global,
@@ -358,7 +455,7 @@ impl MultiplexedConnection {
         out: &mut Vec<LinkAct>,
     ) -> Result<bool, ConnectionError>
         ensures answer { IfOk result (λ moves.
-            moves ≡ (is_there (entry_of number self.old.waiting) && not (admits_none self.old.life))
+            moves ≡ (is_there (entry_of number self.old.waiting) && not (admits_none self.old))
             ) }
         ensures work { OnOk result (
             work_with self.new out.new.items
@@ -371,7 +468,7 @@ impl MultiplexedConnection {
         ensures count { length self.new.requests ≡ length self.old.requests }
         ensures failure { self.new.failure ≡ self.old.failure }
     {
-        if self.life.admits_none() {
+        if self.admits_none() {
             return Ok(false);
         }
         let found = take_entry(alloc, &mut self.waiting, number)?;

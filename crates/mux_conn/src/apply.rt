@@ -1,9 +1,10 @@
-ghost use Rattle.std.specs.Prelude.{◌≡◌, ◌≤◌, [], length, OnOk};
+ghost use Rattle.std.specs.Prelude.{◌≡◌, ◌≤◌, [], length, OnOk, IfOk};
+ghost use Rattle.mux_conn.specs.Effects.{numbers_of};
 
 use crate::act::LinkAct;
 use crate::connection::MultiplexedConnection;
 use crate::life::Life;
-use crate::request::{Pending, Progress, Waiting};
+use crate::request::{Pending, Waiting};
 use containers::Queue;
 use driver_model::{LinkFault, LinkNews, Outcome};
 use link_core::{LinkCore, Settled};
@@ -17,7 +18,8 @@ impl MultiplexedConnection {
     ghost use Rattle.mux_conn.specs.Effects.{settled_each, failed_each, waiting_failed};
     ghost use Rattle.mux_conn.specs.Effects.{ended, ended_by, opening_failed, refused_at, overdue_at};
     ghost use Rattle.mux_conn.specs.Effects.{connected_at, taken_at, read_at, failed_at, shut_at};
-    ghost use Rattle.mux_conn.specs.Effects.{applied, left, CanTake, IsWithin};
+    ghost use Rattle.mux_conn.specs.Effects.{applied, cancelled_in, left, timed_out};
+    ghost use Rattle.mux_conn.specs.Effects.{CanTake, IsWithin};
 
     /// What the link has settled is answered, in order.
     fn settle(&mut self, settled: Vec<Settled>, out: &mut Vec<LinkAct>) -> Result<(), AllocError>
@@ -159,7 +161,7 @@ impl MultiplexedConnection {
         Ok(())
     }
 
-    /// The connect is answered.
+    /// The connect is answered: the waits of all that waited for it are to be shown anew.
     fn connect(&mut self, alloc: Global, out: &mut Vec<LinkAct>) -> Result<(), AllocError>
         ensures work { OnOk result (
             work_with self.new out.new.items
@@ -169,6 +171,7 @@ impl MultiplexedConnection {
         ensures failure { self.new.failure ≡ self.old.failure }
     {
         if self.life.is_dialing() {
+            self.fresh = numbers(alloc, &self.waiting)?;
             let link = LinkCore::new(alloc, self.size, self.boundary);
             self.life = Life::Ready { link };
             out.push(LinkAct::Created { error: None })?;
@@ -291,6 +294,17 @@ impl MultiplexedConnection {
         }
     }
 
+    /// The message of a request leaves the queue, or is answered to nobody.
+    fn take_back(&mut self, number: u64)
+        ensures { self.new ≡ record self.old { life = cancelled_in self.old.life number } }
+    {
+        match &mut self.life {
+            Life::Ready { link } => link.cancel(number),
+            Life::Dialing => {}
+            Life::Ended { error: _ } => {}
+        }
+    }
+
     /// The caller of a request has gone. Takes no memory.
     pub fn cancel(&mut self, request: Pending)
         ensures conn { self.new ≡ left self.old request.number }
@@ -301,11 +315,38 @@ impl MultiplexedConnection {
         if !self.is_open(number) {
             return;
         }
-        self.set_progress(request.number, Progress::Closed);
-        match &mut self.life {
-            Life::Ready { link } => link.cancel(number),
-            Life::Dialing => {}
-            Life::Ended { error: _ } => {}
-        }
+        self.close(number);
+        self.take_back(number);
     }
+
+    /// The time in which a request was to be answered is over: where it is open, it is answered with that, and its message
+    /// leaves the queue, or is answered to nobody.
+    pub fn time_out(&mut self, request: Pending, out: &mut Vec<LinkAct>) -> Result<(), AllocError>
+        ensures work { OnOk result (
+            work_with self.new out.new.items
+            ≡ timed_out (work_with self.old out.old.items) request.number
+            ) }
+        ensures count { length self.new.requests ≡ length self.old.requests }
+        ensures failure { self.new.failure ≡ self.old.failure }
+    {
+        let number = u64::from(request.number);
+        if !self.is_open(number) {
+            return Ok(());
+        }
+        self.take_back(number);
+        let fault = FaultKind::TimedOut;
+        self.answer(number, Outcome::Fault(RedisError::Io { fault }), out)
+    }
+}
+
+/// The numbers of requests that have no place.
+fn numbers(alloc: Global, waiting: &Queue<Waiting>) -> Result<Queue<u32>, AllocError>
+    ensures { IfOk result (λ numbers. numbers ≡ numbers_of waiting.now) }
+{
+    let mut numbers = Queue::new(alloc);
+    let len = waiting.len();
+    for index in 0..len {
+        numbers.push_back(waiting.at(index).number)?;
+    }
+    Ok(numbers)
 }

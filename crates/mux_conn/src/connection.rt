@@ -1,5 +1,6 @@
 ghost use Rattle.std.specs.Prelude.{◌≡◌, ◌<◌, ◌≤◌, ◌^◌, ◌++◌, ◌∷◌, [], length, OnOk, OnErr, IfOk};
-ghost use Rattle.std.specs.Prelude.{true};
+ghost use Rattle.std.specs.Prelude.{true, min, unwrap_or, ◌+◌};
+ghost use Rattle.mux_conn.specs.Requests.{given_back};
 
 use crate::act::LinkAct;
 use crate::errors::ConnectionError;
@@ -54,18 +55,22 @@ impl Drop for MultiplexedConnection {
 
 impl MultiplexedConnection {
     ghost use Rattle.mux_conn.specs.Requests.{is_open_at, is_waiting_at, is_admitted_at};
-    ghost use Rattle.mux_conn.specs.Requests.{is_placed_at, name_at, progressed, answered, asked};
-    ghost use Rattle.mux_conn.specs.Connection.{work_with, started_in};
+    ghost use Rattle.mux_conn.specs.Requests.{is_placed_at, name_at, permits_at, closed, answered};
+    ghost use Rattle.mux_conn.specs.Requests.{asked, progressed};
+    ghost use Rattle.mux_conn.specs.Connection.{work_with, started_in, admits_none};
     ghost use Rattle.mux_conn.specs.Turn.{dialing};
 
     /// A connection whose connect isn't answered. The queue of its link will hold `size` messages, at least one, and no
-    /// message will start on it while `boundary` bytes or more, and at least one, are unwritten. Takes no memory.
-    pub fn new(alloc: Global, size: u32, boundary: u64) -> MultiplexedConnection
-        ensures { result ≡ dialing size boundary }
+    /// message will start on it while `boundary` bytes or more, and at least one, are unwritten. Its requests will hold no
+    /// more than `limit` permits, at least one, and where there is no limit they need none. Takes no memory.
+    pub fn new(alloc: Global, size: u32, boundary: u64, limit: Option<u32>) -> MultiplexedConnection
+        ensures { result ≡ dialing size boundary limit }
     {
         MultiplexedConnection {
             size,
             boundary,
+            limit,
+            free: limit.unwrap_or(0),
             life: Life::Dialing,
             requests: Seq::new(alloc),
             waiting: Queue::new(alloc),
@@ -74,6 +79,17 @@ impl MultiplexedConnection {
             moved: Queue::new(alloc),
             failure: None,
         }
+    }
+
+    /// Whether no request that waits for the connection, or for a permit of it, can be moved.
+    pub fn admits_none(&self) -> bool
+        ensures { result ≡ admits_none self.now }
+    {
+        let empty = match self.limit {
+            Some(_) => self.free == 0,
+            None => false,
+        };
+        self.life.admits_none(empty)
     }
 
     /// How many messages of its link have started, where it is up.
@@ -160,7 +176,17 @@ impl MultiplexedConnection {
         self.requests.at(number as usize).name
     }
 
-    /// A request has come so far.
+    /// How many permits a request holds, and 0 where there is none of that number.
+    pub fn permits(&self, number: u64) -> u32
+        ensures { result ≡ permits_at self.now.requests number }
+    {
+        if number >= self.requests.len() as u64 {
+            return 0;
+        }
+        self.requests.at(number as usize).permits
+    }
+
+    /// A request has come so far, and holds as many permits as before.
     pub(crate) fn set_progress(&mut self, number: u32, progress: Progress)
         requires { number < length self.old.requests }
         ensures work { work_with self.new []
@@ -169,8 +195,35 @@ impl MultiplexedConnection {
         ensures failure { self.new.failure ≡ self.old.failure }
     {
         let name = self.name(u64::from(number));
-        self.requests
-            .set(number as usize, Request { name, progress });
+        let permits = self.permits(u64::from(number));
+        self.requests.set(
+            number as usize,
+            Request {
+                name,
+                progress,
+                permits,
+            },
+        );
+    }
+
+    /// A request is closed, and its permits are free. Takes no memory.
+    pub(crate) fn close(&mut self, number: u64)
+        requires { number < length self.old.requests }
+        ensures conn { self.new ≡ closed self.old number }
+        ensures count { length self.new.requests ≡ length self.old.requests }
+        ensures failure { self.new.failure ≡ self.old.failure }
+    {
+        let name = self.name(number);
+        let permits = self.permits(number);
+        self.requests.set(
+            number as usize,
+            Request {
+                name,
+                progress: Progress::Closed,
+                permits: 0,
+            },
+        );
+        self.free = give_back(self.limit, self.free, permits);
     }
 
     /// A request that is open is answered.
@@ -191,13 +244,7 @@ impl MultiplexedConnection {
             return Ok(());
         }
         let name = self.name(number);
-        self.requests.set(
-            number as usize,
-            Request {
-                name,
-                progress: Progress::Closed,
-            },
-        );
+        self.close(number);
         out.push(LinkAct::Outcome {
             request: name,
             outcome,
@@ -206,30 +253,41 @@ impl MultiplexedConnection {
     }
 
     /// A request of that name, which waits for the connection until the next `step` or `advance`. Its message has these bytes,
-    /// which aren't none.
+    /// which aren't none. Once it has its permits it is to be answered within `timeout` milliseconds, if within any.
     pub fn ask(
         &mut self,
         name: u32,
         packed: Bytes,
         shape: Shape,
         awaited: bool,
+        timeout: Option<u64>,
     ) -> Result<Pending, AllocError>
         requires { length self.old.requests < 2 ^ 32 }
-        ensures conn { OnOk result (self.new ≡ asked self.old name packed shape awaited) }
+        ensures conn { OnOk result (self.new ≡ asked self.old name packed shape awaited timeout) }
         ensures number { IfOk result (λ p. p.number ≡ length self.old.requests) }
     {
         let number = self.requests.len() as u32;
         self.requests.push(Request {
             name,
             progress: Progress::Waiting,
+            permits: 0,
         })?;
         self.waiting.push_back(Waiting {
             number,
             packed,
             shape,
             awaited,
+            timeout,
         })?;
         self.fresh.push_back(number)?;
         Ok(Pending { number })
     }
+}
+
+/// How many permits are free after so many more have come back: no more than there are, where they are counted.
+fn give_back(limit: Option<u32>, free: u32, count: u32) -> u32
+    ensures { result ≡ given_back limit free count }
+{
+    let most = u64::from(limit.unwrap_or(0));
+    most.min(u64::from(free) + u64::from(count)) as u32
 }

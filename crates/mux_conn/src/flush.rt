@@ -48,14 +48,17 @@ impl MultiplexedConnection {
         None
     }
 
-    /// What a request of this turn waits for, if it waits: the connect.
+    /// What a request waits for that has come into this turn without permits, if it waits: the connect, or a permit.
     fn fresh_wait(&self, number: u32) -> Option<WaitKind>
         ensures { result ≡ fresh_wait self.now number }
     {
-        if self.is_waiting(number) && self.life.is_dialing() {
+        if !self.is_waiting(number) {
+            return None;
+        }
+        if self.life.is_dialing() {
             return Some(WaitKind::Connect);
         }
-        None
+        Some(WaitKind::Permit)
     }
 
     /// The wait of a request is shown, if it waits.
@@ -96,7 +99,7 @@ impl MultiplexedConnection {
         Ok(())
     }
 
-    /// The waits of requests that came in this turn are shown.
+    /// The waits of requests that came in this turn, or whose connect was answered, are shown.
     fn show_fresh(&mut self, alloc: Global, out: &mut Vec<LinkAct>) -> Result<(), AllocError>
         ensures work { OnOk result (
             work_with self.new out.new.items ≡ fresh_shown (work_with self.old out.old.items)

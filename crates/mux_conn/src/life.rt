@@ -15,7 +15,7 @@ pub enum Life {
 
 impl Life {
     ghost use Rattle.std.specs.Prelude.{◌≡◌};
-    ghost use Rattle.mux_conn.specs.Connection.{awaits_connect, admits_none, has_room};
+    ghost use Rattle.mux_conn.specs.Connection.{awaits_connect, admits_none_at, has_room};
     ghost use Rattle.mux_conn.specs.Connection.{first_queued};
 
     /// Whether the connect isn't answered.
@@ -29,13 +29,14 @@ impl Life {
         }
     }
 
-    /// Whether no request that waits for the connection can be moved.
-    pub fn admits_none(&self) -> bool
-        ensures { result ≡ admits_none self.now }
+    /// Whether no request that waits for the connection, or for a permit of it, can be moved, where `empty` says whether no
+    /// permit is free.
+    pub fn admits_none(&self, empty: bool) -> bool
+        ensures { result ≡ admits_none_at self.now empty }
     {
         match self {
             Life::Dialing => true,
-            Life::Ready { link: _ } => false,
+            Life::Ready { link: _ } => empty,
             Life::Ended { error: _ } => false,
         }
     }

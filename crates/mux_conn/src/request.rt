@@ -54,6 +54,7 @@ impl Waiting {
             packed,
             shape: self.shape,
             awaited: self.awaited,
+            timeout: self.timeout,
         })
     }
 }

@@ -17,6 +17,12 @@ enum Call {
     Ask(u32, &'static str),
     /// The same, whose reply nobody awaits.
     AskUnawaited(u32, &'static str),
+    /// The same of a request that is to be answered within so many milliseconds.
+    AskWithin(u32, &'static str, u64),
+    /// The same of a pipeline of which so many replies are kept.
+    AskPipe(u32, &'static str, u32),
+    /// The time of the request of this number is over.
+    TimeOut(u32),
     /// The request of this number is moved.
     Advance(u32),
     /// The caller of the request of this number goes.
@@ -82,11 +88,30 @@ fn describe_wait(
 ) -> Result<(), AllocError> {
     let what: &str = match kind {
         WaitKind::Connect => "",
+        WaitKind::Permit => " for a permit",
         WaitKind::Place => " for a place",
         WaitKind::Room => " for room",
     };
     log.extend_from_slice(format!(in alloc; "{request} waits")?.as_bytes())?;
     log.extend_from_slice(what.as_bytes())
+}
+
+fn describe_took(
+    alloc: Global,
+    request: u32,
+    count: u32,
+    log: &mut Vec<u8>,
+) -> Result<(), AllocError> {
+    log.extend_from_slice(format!(in alloc; "{request} takes {count}")?.as_bytes())
+}
+
+fn describe_timer(
+    alloc: Global,
+    request: u32,
+    ms: u64,
+    log: &mut Vec<u8>,
+) -> Result<(), AllocError> {
+    log.extend_from_slice(format!(in alloc; "{request} within {ms}")?.as_bytes())
 }
 
 fn describe_answer(
@@ -118,6 +143,8 @@ fn describe_creation(error: &Option<RedisError>, log: &mut Vec<u8>) -> Result<()
 fn describe_act(alloc: Global, act: &LinkAct, log: &mut Vec<u8>) -> Result<(), AllocError> {
     match act {
         LinkAct::Created { error } => describe_creation(error, log),
+        LinkAct::Took { request, count } => describe_took(alloc, *request, *count, log),
+        LinkAct::Timer { request, ms } => describe_timer(alloc, *request, *ms, log),
         LinkAct::Close => log.extend_from_slice(b"close".as_slice()),
         LinkAct::Write { bytes } => describe_write(bytes, log),
         LinkAct::Wait { request, wait } => describe_wait(alloc, *request, *wait, log),
@@ -145,14 +172,36 @@ fn ask(
     conn: &mut MultiplexedConnection,
     name: u32,
     text: &str,
+    shape: Shape,
     awaited: bool,
+    timeout: Option<u64>,
 ) -> Result<(), AllocError> {
     let packed = Bytes::from_slice(alloc, text.as_bytes())?;
     assert!(rt; conn.requests.len() < 4_294_967_296);
-    match conn.ask(name, packed, Shape::Single, awaited) {
+    match conn.ask(name, packed, shape, awaited, timeout) {
         Ok(_) => Ok(()),
         Err(error) => Err(error),
     }
+}
+
+/// A pipeline of which so many replies are kept.
+fn pipe(count: u32) -> Shape {
+    Shape::Pipeline {
+        offset: 0,
+        count,
+        transaction: false,
+    }
+}
+
+fn time_out(
+    alloc: Global,
+    conn: &mut MultiplexedConnection,
+    number: u32,
+    log: &mut Vec<u8>,
+) -> Result<(), AllocError> {
+    let mut acts = Vec::new(alloc);
+    conn.time_out(Pending { number }, &mut acts)?;
+    describe(alloc, acts.as_slice(), log)
 }
 
 fn advance(
@@ -249,8 +298,17 @@ fn make(
     log: &mut Vec<u8>,
 ) -> Result<(), AllocError> {
     match call {
-        Call::Ask(name, text) => ask(rt, alloc, conn, *name, text, true),
-        Call::AskUnawaited(name, text) => ask(rt, alloc, conn, *name, text, false),
+        Call::Ask(name, text) => ask(rt, alloc, conn, *name, text, Shape::Single, true, None),
+        Call::AskUnawaited(name, text) => {
+            ask(rt, alloc, conn, *name, text, Shape::Single, false, None)
+        }
+        Call::AskWithin(name, text, ms) => {
+            ask(rt, alloc, conn, *name, text, Shape::Single, true, Some(*ms))
+        }
+        Call::AskPipe(name, text, count) => {
+            ask(rt, alloc, conn, *name, text, pipe(*count), true, None)
+        }
+        Call::TimeOut(number) => time_out(alloc, conn, *number, log),
         Call::Advance(number) => advance(alloc, conn, *number, log),
         Call::Cancel(number) => {
             conn.cancel(Pending { number: *number });
@@ -291,7 +349,30 @@ fn run_with(
     calls: &[Call],
     wanted: &str,
 ) -> Result<(), AllocError> {
-    let mut conn = MultiplexedConnection::new(alloc, size, boundary);
+    let conn = MultiplexedConnection::new(alloc, size, boundary, None);
+    run_on(rt, alloc, conn, calls, wanted)
+}
+
+/// The same with the queue and the boundary that nothing else was asked of, and so many permits.
+fn run_limited(
+    rt: &impl Abort,
+    alloc: Global,
+    limit: u32,
+    calls: &[Call],
+    wanted: &str,
+) -> Result<(), AllocError> {
+    let conn = MultiplexedConnection::new(alloc, 50, 8192, Some(limit));
+    run_on(rt, alloc, conn, calls, wanted)
+}
+
+/// The same at this connection.
+fn run_on(
+    rt: &impl Abort,
+    alloc: Global,
+    mut conn: MultiplexedConnection,
+    calls: &[Call],
+    wanted: &str,
+) -> Result<(), AllocError> {
     let mut log = Vec::new(alloc);
     for next in calls {
         make(rt, alloc, &mut conn, next, &mut log)?;
@@ -569,4 +650,109 @@ fn requests_move_alone_to_a_place(rt: HostRuntime) -> Result<(), AllocError> {
     let wanted = "created; start 0 of 7, 2; write aa; 8 waits for room; 9 waits for a place; \
 moves; stays; 6 waits for a place; moves; stays; 6 waits for room; start 1 of 6, 1; write d; 9 waits for room; ";
     run_with(&rt, rt.alloc(), 1, 0, calls.as_slice(), wanted)
+}
+
+#[test]
+fn permits_are_taken_in_order_and_come_back(rt: HostRuntime) -> Result<(), AllocError> {
+    let calls = [
+        Call::Connected,
+        Call::Ask(7, "a"),
+        Call::AskPipe(8, "b", 5),
+        Call::Ask(9, "c"),
+        Call::Turn,
+        Call::Took(2),
+        Call::Came("+x\r\n"),
+    ];
+    let wanted = "created; 7 takes 1; start 0 of 7, 1; 8 takes 1; start 1 of 8, 1; write ab; \
+9 waits for a permit; 7 x; 9 takes 1; start 2 of 9, 1; write c; ";
+    run_limited(&rt, rt.alloc(), 2, calls.as_slice(), wanted)
+}
+
+#[test]
+fn a_pipeline_takes_as_many_permits_as_are_free(rt: HostRuntime) -> Result<(), AllocError> {
+    let calls = [
+        Call::Connected,
+        Call::AskPipe(7, "a", 3),
+        Call::Turn,
+        Call::Ask(8, "b"),
+        Call::AskPipe(9, "c", 0),
+        Call::Turn,
+        Call::Cancel(0),
+        Call::Turn,
+    ];
+    let wanted = "created; 7 takes 3; start 0 of 7, 1; write a; 8 takes 1; start 1 of 8, 1; \
+9 waits for a permit; 9 takes 1; start 2 of 9, 1; ";
+    run_limited(&rt, rt.alloc(), 4, calls.as_slice(), wanted)
+}
+
+#[test]
+fn a_permit_is_back_at_once_where_no_reply_is_awaited(rt: HostRuntime) -> Result<(), AllocError> {
+    let calls = [
+        Call::Connected,
+        Call::AskUnawaited(7, "a"),
+        Call::AskUnawaited(8, "b"),
+        Call::Ask(9, "c"),
+        Call::Turn,
+    ];
+    let wanted = "created; 7 takes 1; 7 nil; start 0 of 7, 1; 8 takes 1; 8 nil; start 1 of 8, 1; \
+9 takes 1; start 2 of 9, 1; write abc; ";
+    run_limited(&rt, rt.alloc(), 1, calls.as_slice(), wanted)
+}
+
+#[test]
+fn waits_for_the_connect_become_waits_for_a_permit(rt: HostRuntime) -> Result<(), AllocError> {
+    let calls = [
+        Call::Ask(7, "a"),
+        Call::Ask(8, "b"),
+        Call::Turn,
+        Call::Connected,
+    ];
+    let wanted = "7 waits; 8 waits; created; 7 takes 1; start 0 of 7, 1; write a; \
+8 waits for a permit; ";
+    run_limited(&rt, rt.alloc(), 1, calls.as_slice(), wanted)
+}
+
+#[test]
+fn a_request_is_answered_within_its_time(rt: HostRuntime) -> Result<(), AllocError> {
+    let calls = [
+        Call::Connected,
+        Call::AskWithin(7, "a", 500),
+        Call::Turn,
+        Call::Took(1),
+        Call::TimeOut(0),
+        Call::TimeOut(0),
+        Call::AskWithin(8, "b", 9),
+        Call::Came("+x\r\n"),
+        Call::Came("+y\r\n"),
+        Call::TimeOut(1),
+        Call::TimeOut(2),
+    ];
+    let wanted = "created; 7 within 500; start 0 of 7, 1; write a; 7 timed-out; 8 within 9; \
+start 1 of 8, 1; write b; 8 y; ";
+    run(&rt, rt.alloc(), calls.as_slice(), wanted)
+}
+
+#[test]
+fn a_time_is_over_before_a_message_starts(rt: HostRuntime) -> Result<(), AllocError> {
+    let alloc = rt.alloc();
+    let calls = [
+        Call::Connected,
+        Call::AskWithin(7, "aa", 5),
+        Call::AskWithin(8, "b", 5),
+        Call::AskWithin(9, "c", 5),
+        Call::AskWithin(6, "d", 5),
+        Call::Turn,
+        Call::TimeOut(2),
+        Call::Turn,
+        Call::TimeOut(1),
+        Call::Turn,
+        Call::TimeOut(3),
+        Call::Took(2),
+    ];
+    let wanted =
+        "created; 7 takes 1; 7 within 5; start 0 of 7, 2; 8 takes 1; 8 within 5; 9 takes 1; \
+9 within 5; write aa; 8 waits for room; 9 waits for a place; 6 waits for a permit; 9 timed-out; \
+6 takes 1; 6 within 5; 6 waits for a place; 8 timed-out; 6 waits for room; 6 timed-out; ";
+    let conn = MultiplexedConnection::new(alloc, 1, 0, Some(3));
+    run_on(&rt, alloc, conn, calls.as_slice(), wanted)
 }

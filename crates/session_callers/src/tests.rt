@@ -4,6 +4,7 @@ use crate::{Caller, Claim, SharedSession};
 use containers::{Bytes, Names};
 use driver_model::{Action, Config, Event, EventKind, Outcome, Submission};
 use resp_value::Value;
+use shared_session::MakeError;
 use std::alloc::{AllocError, Global};
 use std::sync::Wait;
 use std::test::*;
@@ -18,12 +19,20 @@ fn get(alloc: Global, key: &str) -> Result<Submission, AllocError> {
 fn start(alloc: Global, out: &mut Vec<Action>) -> Result<(SharedSession, Caller), AllocError>
     ensures { IfOk result (λ made. made.1.table ≡ made.0.table.shared.table_id) }
 {
-    let url = Bytes::from_slice(alloc, b"redis://h")?;
-    let connect = Some(None);
-    let config = Config { url, connect };
+    let mut config = Config::new(Bytes::from_slice(alloc, b"redis://h")?);
+    config.connect = Some(None);
     match SharedSession::new(alloc, config, 0, out) {
         Ok(made) => Ok(made),
         Err(_) => Err(AllocError),
+    }
+}
+
+/// What is refused of a configuration.
+fn refusal(alloc: Global, config: Config, out: &mut Vec<Action>) -> &'static str {
+    match SharedSession::new(alloc, config, 0, out) {
+        Ok(_) => "nothing",
+        Err(MakeError::Config { name }) => name.name(),
+        Err(MakeError::NoMemory) => "no memory",
     }
 }
 
@@ -145,5 +154,16 @@ fn the_dial_is_claimed_once(rt: HostRuntime) -> Result<(), AllocError> {
     };
     assert_eq!(rt; first, 1);
     assert_eq!(rt; second, 1);
+    Ok(())
+}
+
+#[test]
+fn a_queue_that_holds_nothing_is_refused(rt: HostRuntime) -> Result<(), AllocError> {
+    let alloc = rt.alloc();
+    let mut out = Vec::new(alloc);
+    let mut config = Config::new(Bytes::from_slice(alloc, b"redis://h")?);
+    config.buffer = Some(0);
+    assert_eq!(rt; refusal(alloc, config, &mut out), "buffer");
+    assert_eq!(rt; out.len(), 0);
     Ok(())
 }

@@ -19,9 +19,12 @@ use Rattle.mux_conn.specs.declared.request.Pending.{Pending}
 use Rattle.mux_conn.specs.declared.act.LinkAct.{LinkAct}
 use Rattle.mux_conn.specs.declared.act.LinkAct.TheVariants as act
 use Rattle.driver_model.specs.declared.action.Action.TheVariants as action
+use Rattle.driver_model.specs.declared.action.Owner.TheVariants as owner
+use Rattle.driver_model.specs.declared.action.Purpose.{Purpose}
+use Rattle.driver_model.specs.declared.action.Purpose.TheVariants as purpose
 use Rattle.driver_model.specs.declared.action.Cause.TheVariants as cause
-use Rattle.shared_session.specs.Turn.{Turning, counted, heard, submitted, left_by, requested, next_turn, shown_each, actions_of, is_bad, has_run_out, spends, IsFewer}
-use Rattle.shared_session.specs.Done.{done_by, done_each, put_each}
+use Rattle.shared_session.specs.Turn.{Turning, counted, heard, submitted, left_by, late_by, fired_by, requested, next_turn, shown_each, actions_of, is_bad, has_run_out, spends, IsFewer}
+use Rattle.shared_session.specs.Done.{done_each, put_each}
 use Rattle.shared_session.specs.Replay.{connect_timers, connect_asked, opening_core, opening_actions, run_on, state_after, turns_on, trace_of, with_room, told_each, outcomes_in, AreGood, AreGoodOn, AreUnspent, AreUnspentOn, is_bad_after, is_spent_after}
 use Rattle.shared_session.specs.Stops.{Shown, IsBadAt, IsSpentAt, IsSpentBy}
 use Rattle.shared_session.specs.declared.session.Failure.{Failure}
@@ -59,14 +62,16 @@ told_append os [] t = refl
 told_append os (a ∷ s) t = told_append _ s t
 
 -- the acts of a turn tell the outcomes that were kept
-told_shown : (os : List (Option Outcome)) (link : ℕ) (acts : List LinkAct) → told_each os (shown_each link acts) ≡ put_each os (done_each acts)
-told_shown os link [] = refl
-told_shown os link (act.Outcome n o ∷ more) = told_shown _ link more
-told_shown os link (act.Created e ∷ more) = told_shown os link more
-told_shown os link (act.Close ∷ more) = told_shown os link more
-told_shown os link (act.Write bytes ∷ more) = told_shown os link more
-told_shown os link (act.Wait n kind ∷ more) = told_shown os link more
-told_shown os link (act.Start message n need len ∷ more) = told_shown os link more
+told_shown : (link : ℕ) (acts : List LinkAct) (os : List (Option Outcome)) (timers : ℕ) → told_each os (shown_each link timers acts) ≡ put_each os (done_each acts)
+told_shown link [] os t = refl
+told_shown link (act.Outcome n o ∷ more) os t = told_shown link more _ _
+told_shown link (act.Created e ∷ more) os t = told_shown link more os _
+told_shown link (act.Took n count ∷ more) os t = told_shown link more os _
+told_shown link (act.Timer n ms ∷ more) os t = told_shown link more os _
+told_shown link (act.Close ∷ more) os t = told_shown link more os _
+told_shown link (act.Write bytes ∷ more) os t = told_shown link more os _
+told_shown link (act.Wait n kind ∷ more) os t = told_shown link more os _
+told_shown link (act.Start message n need len ∷ more) os t = told_shown link more os _
 
 -- the connect and its timer tell no outcome
 told_asked : (info : Option ConnectionInfo) (timeout : Option ℕ) → told_each [] (connect_asked info timeout) ≡ []
@@ -85,7 +90,7 @@ unfolding outcomes_in
 outcomes-more config word es e =
     let c = state_after config word es in
     ap (λ (t : List Action). told_each [] t) (trace_of-more config word es e) ∙ told_append [] (trace_of config word es) (actions_of c e)
-    ∙ told_shown (with_room (told_each [] (trace_of config word es)) e.kind) c.single.link (next_turn c e.kind).acts
+    ∙ told_shown c.single.link (next_turn c e.kind).acts (with_room (told_each [] (trace_of config word es)) e.kind) (length c.timers)
 
 -- what an event is to the submissions leaves the number of turns
 submitted_turns : (t : Turning) (what : Submission) → (submitted t what).core.turns ≡ t.core.turns
@@ -98,12 +103,23 @@ left_turns t None = refl
 left_turns t (Some None) = refl
 left_turns t (Some (Some p)) = refl
 
+late_turns : (t : Turning) (slot : Option (Option Pending)) → (late_by t slot).core.turns ≡ t.core.turns
+late_turns t None = refl
+late_turns t (Some None) = refl
+late_turns t (Some (Some p)) = refl
+
+fired_turns : (t : Turning) (slot : Option Purpose) → (fired_by t slot).core.turns ≡ t.core.turns
+fired_turns t None = refl
+fired_turns t (Some (purpose.Connect l)) = refl
+fired_turns t (Some (purpose.Response (owner.Try n round))) = late_turns t (slice_get t.core.table n)
+
 requested_turns : (t : Turning) (kind : EventKind) → (requested t kind).core.turns ≡ t.core.turns
 requested_turns t (event.Submit what) = submitted_turns t what
 requested_turns t (event.Cancel n) = left_turns t (slice_get t.core.table n)
 requested_turns t (event.Connected l) = refl
 requested_turns t (event.Refused l f) = refl
-requested_turns t (event.Fired n) = refl
+requested_turns t (event.Fired n) = fired_turns t (slice_get t.core.timers n)
+requested_turns t (event.Timeout ms) = refl
 requested_turns t (event.Wrote l count) = refl
 requested_turns t (event.Bytes l piece) = refl
 requested_turns t (event.Ended l) = refl
@@ -177,12 +193,13 @@ unfolding AreUnspent state_after
 unspent-more config word es e all free = unspent_on-more (opening_core config word) es e all free
 
 -- what is shown of a turn is the actions of the history's next turn
-pub shown_kept : (before after : Core) (config : Config) (word : ℕ) (es : List Event) (e : Event) (number link : ℕ) (acts : List LinkAct) (old new : List Action) →
-    before ≡ state_after config word es → ◌≡◌ {A = Turning} (record { core = after; acts = acts }) (next_turn before e.kind) → number ≡ before.turns → link ≡ before.single.link
-    → new ≡ old ++ (action.Turn number (cause.Event e) ∷ shown_each link acts) → new ≡ old ++ actions_of (state_after config word es) e
-shown_kept before after config word es e number link acts old new b a n l s =
-    rw (← b) (s ∙ ap (λ (k : ℕ). old ++ (action.Turn k (cause.Event e) ∷ shown_each link acts)) n ∙ ap (λ (k : ℕ). old ++ (action.Turn before.turns (cause.Event e) ∷ shown_each k acts)) l
-    ∙ ap (λ (t : Turning). old ++ (action.Turn before.turns (cause.Event e) ∷ shown_each before.single.link t.acts)) a)
+pub shown_kept : (before after : Core) (config : Config) (word : ℕ) (es : List Event) (e : Event) (number link timers : ℕ) (acts : List LinkAct) (old new : List Action) →
+    before ≡ state_after config word es → ◌≡◌ {A = Turning} (record { core = after; acts = acts }) (next_turn before e.kind) → number ≡ before.turns → link ≡ before.single.link → timers ≡ length before.timers
+    → new ≡ old ++ (action.Turn number (cause.Event e) ∷ shown_each link timers acts) → new ≡ old ++ actions_of (state_after config word es) e
+shown_kept before after config word es e number link timers acts old new b a n l t s =
+    rw (← b) (s ∙ ap (λ (k : ℕ). old ++ (action.Turn k (cause.Event e) ∷ shown_each link timers acts)) n ∙ ap (λ (k : ℕ). old ++ (action.Turn before.turns (cause.Event e) ∷ shown_each k timers acts)) l
+    ∙ ap (λ (k : ℕ). old ++ (action.Turn before.turns (cause.Event e) ∷ shown_each before.single.link k acts)) t
+    ∙ ap (λ (x : Turning). old ++ (action.Turn before.turns (cause.Event e) ∷ shown_each before.single.link (length before.timers) x.acts)) a)
 
 few_timers : (timeout : Option ℕ) → nat_le (2 ^ 32) (length (connect_timers timeout)) ≡ false
 few_timers None = refl

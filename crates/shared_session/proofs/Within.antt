@@ -29,6 +29,7 @@ either_news false life x h = tt
 timer_within : (life : Life) (n : ℕ) (slot : Option Purpose) → IsWithin life (of_timer n slot)
 timer_within life n None = tt
 timer_within life n (Some (purpose.Connect l)) = either_news (l == n) life overdue tt
+timer_within life n (Some (purpose.Response who)) = tt
 
 pub news_within : (c : Core) (kind : EventKind) → is_bad c kind ≡ false → IsWithin c.single.connection.life (news_of c.timers c.single.link kind)
 unfolding is_bad
@@ -37,6 +38,7 @@ news_within c (event.Cancel n) good = tt
 news_within c (event.Connected l) good = either_news (l == c.single.link) c.single.connection.life connected tt
 news_within c (event.Refused l f) good = either_news (l == c.single.link) c.single.connection.life (refused f) tt
 news_within c (event.Fired t) good = timer_within c.single.connection.life c.single.link (slice_get c.timers t)
+news_within c (event.Timeout ms) good = tt
 news_within c (event.Wrote l count) good = own_take (l == c.single.link) c.single.connection.life count (or_right (is_no_link c l) _ good)
 news_within c (event.Bytes l piece) good = either_news (l == c.single.link) c.single.connection.life (came piece) tt
 news_within c (event.Ended l) good = either_news (l == c.single.link) c.single.connection.life (failed _) tt
@@ -52,6 +54,7 @@ known_good c (event.Submit what) count same good = tt
 known_good c (event.Connected l) count same good = tt
 known_good c (event.Refused l f) count same good = tt
 known_good c (event.Fired t) count same good = tt
+known_good c (event.Timeout ms) count same good = tt
 known_good c (event.Wrote l n) count same good = tt
 known_good c (event.Bytes l piece) count same good = tt
 known_good c (event.Ended l) count same good = tt
@@ -67,6 +70,7 @@ bad_counted c turns (event.Cancel n) = refl
 bad_counted c turns (event.Connected l) = refl
 bad_counted c turns (event.Refused l f) = refl
 bad_counted c turns (event.Fired t) = refl
+bad_counted c turns (event.Timeout ms) = refl
 bad_counted c turns (event.Wrote l count) = refl
 bad_counted c turns (event.Bytes l piece) = refl
 bad_counted c turns (event.Ended l) = refl

@@ -1,8 +1,9 @@
 ghost use Rattle.std.specs.Prelude.{◌≡◌, ◌<◌, ◌≤◌, ◌+◌, ◌++◌, ◌∷◌, ◌^◌, [], length, slice_get};
 ghost use Rattle.std.specs.Prelude.{true, false, None, Some, OnOk, OnErr, IfErr, IsErrOf};
+ghost use Rattle.shared_session.specs.Turn.{timer_of, timers_of};
 
 use containers::{Bytes, Seq};
-use driver_model::{EventKind, Outcome, Purpose, Submission};
+use driver_model::{EventKind, Outcome, Owner, Purpose, Submission};
 use mux_conn::{ConnectionError, Life, LinkAct, MultiplexedConnection, Pending};
 use redis_error::RedisError;
 use std::alloc::{AllocError, Global};
@@ -62,7 +63,8 @@ impl Core {
     ghost use Rattle.driver_model.specs.News.{told, news_of};
     ghost use Rattle.mux_conn.specs.Effects.{IsWithin};
     ghost use Rattle.shared_session.specs.Turn.{turning_with, heard, refused_with, asked_for};
-    ghost use Rattle.shared_session.specs.Turn.{submitted, left_by, requested, effect};
+    ghost use Rattle.shared_session.specs.Turn.{submitted, left_by, late_by, fired_by, requested};
+    ghost use Rattle.shared_session.specs.Turn.{effect, timers_of};
     ghost use Rattle.shared_session.specs.Turn.{whole_effect, next_turn, is_bad, has_run_out};
     ghost use Rattle.shared_session.specs.Turn.{exceeds_offer, IsFewer, IsKnown};
 
@@ -134,7 +136,10 @@ impl Core {
         let name = self.table.len() as u32;
         let shape = submission.shape();
         let awaited = submission.awaits_reply();
-        let pending = self.single.connection.ask(name, packed, shape, awaited)?;
+        let pending = self
+            .single
+            .connection
+            .ask(name, packed, shape, awaited, self.timeout)?;
         self.table.push(Some(pending))
     }
 
@@ -182,6 +187,52 @@ impl Core {
         }
     }
 
+    /// The time of the request of a submission is over, where it has one.
+    fn run_late(&mut self, submission: u32, acts: &mut Vec<LinkAct>) -> Result<(), AllocError>
+        ensures turning { OnOk result (
+            turning_with self.new acts.new.items
+            ≡ late_by (turning_with self.old acts.old.items)
+            (slice_get self.old.table submission)
+            ) }
+        ensures fewer { IsFewer self.old → IsFewer self.new }
+        ensures failure { self.new.single.connection.failure
+            ≡ self.old.single.connection.failure }
+    {
+        if submission as usize >= self.table.len() {
+            return Ok(());
+        }
+        let request = *self.table.at(submission as usize);
+        match request {
+            Some(pending) => self.single.connection.time_out(pending, acts),
+            None => Ok(()),
+        }
+    }
+
+    /// A timer fires: the time of a request is over, where it was asked for that.
+    fn fire(&mut self, timer: u32, acts: &mut Vec<LinkAct>) -> Result<(), AllocError>
+        ensures turning { OnOk result (
+            turning_with self.new acts.new.items
+            ≡ fired_by (turning_with self.old acts.old.items) (slice_get self.old.timers timer)
+            ) }
+        ensures fewer { IsFewer self.old → IsFewer self.new }
+        ensures failure { self.new.single.connection.failure
+            ≡ self.old.single.connection.failure }
+    {
+        if timer as usize >= self.timers.len() {
+            return Ok(());
+        }
+        let purpose = *self.timers.at(timer as usize);
+        match purpose {
+            Purpose::Connect { link: _ } => Ok(()),
+            Purpose::Response {
+                owner: Owner::Try {
+                    submission,
+                    round: _,
+                },
+            } => self.run_late(submission, acts),
+        }
+    }
+
     /// What an event is to the submissions.
     fn take_requests(
         &mut self,
@@ -207,6 +258,11 @@ impl Core {
                 self.leave(*submission);
                 Ok(())
             }
+            EventKind::Fired { timer } => self.fire(*timer, acts),
+            EventKind::Timeout { ms } => {
+                self.timeout = *ms;
+                Ok(())
+            }
             _ => Ok(()),
         }
     }
@@ -230,6 +286,7 @@ impl Core {
             EventKind::Ended { link } => *link >= self.links,
             EventKind::ReadFault { link, fault: _ } => *link >= self.links,
             EventKind::WriteFault { link, fault: _ } => *link >= self.links,
+            EventKind::Timeout { ms: _ } => false,
             EventKind::Shutdown => false,
         }
     }
@@ -289,7 +346,7 @@ impl Core {
         self.single.connection.flush(alloc, acts)
     }
 
-    /// One turn, whose acts `acts` gains.
+    /// One turn, whose acts `acts` gains. Its timers get their numbers.
     #[tactic(auto, unfolding(crate::specs::Turn::next_turn))]
     pub fn turn(
         &mut self,
@@ -307,6 +364,9 @@ impl Core {
             turning_with self.new acts.new.items ≡ next_turn self.old event.now
             ) }
         ensures unspent { OnOk result (has_run_out self.new ≡ false) }
+        ensures timers { OnOk result (
+            length self.old.timers + length (timers_of acts.new.items) < 2 ^ 32
+            ) }
         ensures spent { IsErrOf result ConnectionError.Spent
             → has_run_out (next_turn self.old event.now).core ≡ true }
         ensures fewer { OnOk result (IsFewer self.new) }
@@ -317,9 +377,35 @@ impl Core {
             Ok(()) => {}
             Err(error) => return Err(error),
         }
+        note_timers(acts.as_slice(), &mut self.timers)?;
         if self.is_spent() {
             return Err(ConnectionError::Spent);
         }
         Ok(())
+    }
+}
+
+/// What the timers of acts are for is kept, in order.
+fn note_timers(acts: &[LinkAct], timers: &mut Seq<Purpose>) -> Result<(), AllocError>
+    ensures { OnOk result (timers.new ≡ timers.old ++ timers_of acts.now) }
+{
+    for act in acts {
+        note_timer(act, timers)?;
+    }
+    Ok(())
+}
+
+/// What the timer of an act is for is kept, if it asks for one.
+fn note_timer(act: &LinkAct, timers: &mut Seq<Purpose>) -> Result<(), AllocError>
+    ensures { OnOk result (timers.new ≡ timers.old ++ timer_of act.now) }
+{
+    match act {
+        LinkAct::Timer { request, ms: _ } => timers.push(Purpose::Response {
+            owner: Owner::Try {
+                submission: *request,
+                round: 0,
+            },
+        }),
+        _ => Ok(()),
     }
 }

@@ -1,6 +1,6 @@
 ghost use Rattle.std.specs.Prelude.{◌≡◌, ◌⊎◌, ℕ, ◌<◌, ◌+◌, ◌^◌, ◌↔◌, [], ◌∷◌, ◌++◌, length, true};
 ghost use Rattle.std.specs.Prelude.{false, Some, OnOk, OnErr, IfOk, IsErrOf, option_copied};
-ghost use Rattle.shared_session.specs.Turn.{shown_each};
+ghost use Rattle.shared_session.specs.Turn.{shown_each, timers_of};
 ghost use Rattle.shared_session.specs.Done.{done_each, put_each};
 ghost use Rattle.driver_model.specs.Config.{address, first_fault};
 ghost use Rattle.shared_session.specs.Replay.{first_link, opening_core, opening_actions, with_room};
@@ -95,11 +95,17 @@ fn opened(alloc: Global, config: &Config) -> Result<Core, AllocError>
         turns: 1,
         links: FIRST_LINK + 1,
         shut: false,
+        timeout: config.response_timeout(),
         timers,
         table: Seq::new(alloc),
         single: Single {
             link: FIRST_LINK,
-            connection: MultiplexedConnection::new(alloc),
+            connection: MultiplexedConnection::new(
+                alloc,
+                config.buffer_size(),
+                config.boundary(),
+                config.limit,
+            ),
         },
     })
 }
@@ -275,6 +281,7 @@ impl Session {
         self.failure = Failure::NoMemory;
         let number = self.core.turns as u32;
         let link = self.core.single.link;
+        let timers = self.core.timers.len() as u64;
         let mut acts = Vec::new(alloc);
         match self.core.turn(alloc, &event.kind, &mut acts) {
             Ok(()) => {}
@@ -285,7 +292,7 @@ impl Session {
             Err(ConnectionError::NoMemory) => return Err(StepError::NoMemory),
         }
         let mut done = Queue::new(alloc);
-        match show_turn(alloc, number, link, &event, acts, &mut done, out) {
+        match show_turn(alloc, number, link, timers, &event, acts, &mut done, out) {
             Ok(()) => {}
             Err(_) => return Err(StepError::NoMemory),
         }
@@ -302,20 +309,22 @@ impl Session {
     }
 }
 
-/// A turn is shown, and its outcomes kept. After an error `out` is as it was.
+/// A turn is shown, where so many timers were asked for before it, and its outcomes kept. After an error `out` is as it was.
 fn show_turn(
     alloc: Global,
     number: u32,
     link: u32,
+    timers: u64,
     event: &Event,
     acts: Vec<LinkAct>,
     done: &mut Queue<Done>,
     out: &mut Vec<Action>,
 ) -> Result<(), AllocError>
+    requires { timers + length (timers_of acts.items) < 2 ^ 32 }
     ensures actions { OnOk result (
         out.new.items
         ≡ out.old.items
-        ++ (Action.Turn number (Cause.Event event.now) ∷ shown_each link acts.items)
+        ++ (Action.Turn number (Cause.Event event.now) ∷ shown_each link timers acts.items)
         ) }
     ensures done { OnOk result (done.new ≡ done.old ++ done_each acts.items) }
     ensures err { OnErr result (out.new.items ≡ out.old.items) }
@@ -326,7 +335,7 @@ fn show_turn(
         number,
         cause: Cause::Event { event },
     })?;
-    match show_each(alloc, link, acts, done, out) {
+    match show_each(alloc, link, timers, acts, done, out) {
         Ok(()) => Ok(()),
         Err(error) => {
             out.truncate(before);

@@ -1,9 +1,9 @@
-ghost use Rattle.std.specs.Prelude.{◌≡◌, ◌++◌, ◌∷◌, [], length, take, OnOk, OnErr};
-ghost use Rattle.shared_session.specs.Turn.{shown, shown_each};
+ghost use Rattle.std.specs.Prelude.{◌≡◌, ◌<◌, ◌≤◌, ◌+◌, ◌^◌, ◌++◌, ◌∷◌, [], length, take, OnOk, OnErr};
+ghost use Rattle.shared_session.specs.Turn.{shown, shown_each, timer_of, timers_of};
 ghost use Rattle.shared_session.specs.Done.{done_by, done_each};
 
 use containers::Queue;
-use driver_model::{Action, Outcome, Owner};
+use driver_model::{Action, Outcome, Owner, Purpose};
 use mux_conn::LinkAct;
 use std::alloc::{AllocError, Global};
 
@@ -24,12 +24,25 @@ fn try_of(submission: u32) -> Owner
     }
 }
 
-/// What an act of the connection of that link shows.
-fn action_of(link: u32, act: LinkAct) -> Action
-    ensures { result ≡ shown link act }
+/// What an act of the connection of that link shows, where so many timers were asked for before.
+fn action_of(link: u32, timer: u64, act: LinkAct) -> Action
+    requires { timer + length (timer_of act) < 2 ^ 32 }
+    ensures { result ≡ shown link timer act }
 {
     match act {
         LinkAct::Created { error } => Action::Created { error },
+        LinkAct::Took { request, count } => Action::Took {
+            owner: try_of(request),
+            link,
+            count,
+        },
+        LinkAct::Timer { request, ms } => Action::Timer {
+            timer: timer as u32,
+            ms,
+            purpose: Purpose::Response {
+                owner: try_of(request),
+            },
+        },
         LinkAct::Close => Action::Close { link },
         LinkAct::Write { bytes } => Action::Write { link, bytes },
         LinkAct::Wait { request, wait } => Action::Wait {
@@ -55,6 +68,16 @@ fn action_of(link: u32, act: LinkAct) -> Action
     }
 }
 
+/// How many timers an act asks for.
+fn timers_in(act: &LinkAct) -> u64
+    ensures { result ≡ length (timer_of act.now) }
+{
+    match act {
+        LinkAct::Timer { request: _, ms: _ } => 1,
+        _ => 0,
+    }
+}
+
 /// The outcome that an act tells is kept.
 fn note_done(alloc: Global, act: &LinkAct, done: &mut Queue<Done>) -> Result<(), AllocError>
     ensures { OnOk result (done.new ≡ done.old ++ done_by act.now) }
@@ -71,22 +94,30 @@ fn note_done(alloc: Global, act: &LinkAct, done: &mut Queue<Done>) -> Result<(),
     }
 }
 
-/// The acts of a turn are shown, and their outcomes kept. After an error `out` begins with what it held.
+/// The acts of a turn are shown, where so many timers were asked for before it, and their outcomes kept. After an error `out`
+/// begins with what it held.
 pub fn show_each(
     alloc: Global,
     link: u32,
+    timers: u64,
     acts: Vec<LinkAct>,
     done: &mut Queue<Done>,
     out: &mut Vec<Action>,
 ) -> Result<(), AllocError>
-    ensures actions { OnOk result (out.new.items ≡ out.old.items ++ shown_each link acts.items) }
+    requires { timers + length (timers_of acts.items) < 2 ^ 32 }
+    ensures actions { OnOk result (
+        out.new.items ≡ out.old.items ++ shown_each link timers acts.items
+        ) }
     ensures done { OnOk result (done.new ≡ done.old ++ done_each acts.items) }
     ensures err { OnErr result (take (length out.old.items) out.new.items ≡ out.old.items) }
 {
+    let mut timer = timers;
     let mut rest = Queue::from_vec(acts);
     while let Some(act) = rest.pop_front() {
         note_done(alloc, &act, done)?;
-        out.push(action_of(link, act))?;
+        let more = timers_in(&act);
+        out.push(action_of(link, timer, act))?;
+        timer += more;
     }
     Ok(())
 }

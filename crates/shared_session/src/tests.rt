@@ -1,7 +1,7 @@
 use crate::{MakeError, ReplayError, Session, StepError};
 use containers::{Bytes, Names};
 use driver_model::{
-    Action, Commands, Config, Event, EventKind, Outcome, Owner, Purpose, Submission,
+    Action, Commands, Config, Event, EventKind, Outcome, Owner, Purpose, Submission, WaitKind,
 };
 use redis_error::{ConfigName, FaultKind, RedisError};
 use resp_value::{Aborts, Value};
@@ -15,6 +15,8 @@ enum Told {
     EmptyCommand,
     /// A command whose reply nobody awaits.
     NoReply,
+    /// A pipeline of commands of one word each.
+    Pipe(&'static [&'static [u8]]),
     /// A transaction of commands of one word each.
     Multi(&'static [&'static [u8]]),
     /// A pipeline of one command: how many replies it skips, and how many it keeps.
@@ -23,6 +25,8 @@ enum Told {
     Connected(u32),
     Refused(u32, FaultKind),
     Fired(u32),
+    /// From now on so many milliseconds for a request.
+    Timeout(Option<u64>),
     Wrote(u32, u64),
     Bytes(u32, &'static str),
     Ended(u32),
@@ -36,8 +40,30 @@ fn config_of(
     url: &[u8],
     connect: Option<Option<u64>>,
 ) -> Result<Config, AllocError> {
-    let url = Bytes::from_slice(alloc, url)?;
-    Ok(Config { url, connect })
+    let mut config = Config::new(Bytes::from_slice(alloc, url)?);
+    config.connect = connect;
+    config.response = UNBOUNDED;
+    Ok(config)
+}
+
+/// A connect of any length, so many milliseconds for a request, and so many permits.
+fn limits_of(
+    alloc: Global,
+    response: Option<Option<u64>>,
+    limit: Option<u32>,
+) -> Result<Config, AllocError> {
+    let mut config = config_of(alloc, b"redis://h", UNBOUNDED)?;
+    config.response = response;
+    config.limit = limit;
+    Ok(config)
+}
+
+/// A connect of any length, a queue of this size, and this boundary.
+fn queue_of(alloc: Global, buffer: u32, boundary: u64) -> Result<Config, AllocError> {
+    let mut config = config_of(alloc, b"redis://h", UNBOUNDED)?;
+    config.buffer = Some(buffer);
+    config.boundary = Some(boundary);
+    Ok(config)
 }
 
 /// A connect of any length.
@@ -57,12 +83,12 @@ fn one_word(alloc: Global, word: &[u8]) -> Result<Names, AllocError> {
     Ok(args)
 }
 
-fn multi(alloc: Global, words: &[&[u8]]) -> Result<Submission, AllocError> {
+fn one_word_each(alloc: Global, words: &[&[u8]]) -> Result<Commands, AllocError> {
     let mut commands = Commands::new(alloc);
     for word in words {
         commands.push(one_word(alloc, word)?)?;
     }
-    Ok(Submission::Multi { commands })
+    Ok(commands)
 }
 
 fn packed(alloc: Global, offset: u32, count: u32) -> Result<Submission, AllocError> {
@@ -83,8 +109,14 @@ fn kind(alloc: Global, told: &Told) -> Result<EventKind, AllocError> {
             let submission = Submission::NoReply { args };
             Ok(EventKind::Submit { submission })
         }
+        Told::Pipe(words) => {
+            let commands = one_word_each(alloc, words)?;
+            let submission = Submission::Pipe { commands };
+            Ok(EventKind::Submit { submission })
+        }
         Told::Multi(words) => {
-            let submission = multi(alloc, words)?;
+            let commands = one_word_each(alloc, words)?;
+            let submission = Submission::Multi { commands };
             Ok(EventKind::Submit { submission })
         }
         Told::Packed(offset, count) => {
@@ -105,6 +137,7 @@ fn kind(alloc: Global, told: &Told) -> Result<EventKind, AllocError> {
             fault: *fault,
         }),
         Told::Fired(timer) => Ok(EventKind::Fired { timer: *timer }),
+        Told::Timeout(ms) => Ok(EventKind::Timeout { ms: *ms }),
         Told::Wrote(link, count) => Ok(EventKind::Wrote {
             link: *link,
             count: *count,
@@ -178,6 +211,15 @@ fn number_of(owner: &Owner) -> u32 {
     }
 }
 
+fn wait_word(wait: WaitKind) -> &'static str {
+    match wait {
+        WaitKind::Connect => "",
+        WaitKind::Permit => " permit",
+        WaitKind::Place => " place",
+        WaitKind::Room => " room",
+    }
+}
+
 fn write(text: &Bytes, log: &mut Vec<u8>) -> Result<(), AllocError> {
     log.extend_from_slice(b"write ".as_slice())?;
     log.extend_from_slice(text.as_slice())?;
@@ -191,8 +233,13 @@ fn show_timer(
     purpose: Purpose,
     log: &mut Vec<u8>,
 ) -> Result<(), AllocError> {
-    let Purpose::Connect { link } = purpose;
-    log.extend_from_slice(format!(in alloc; "timer {timer} {ms} connect {link}; ")?.as_bytes())
+    let line = match purpose {
+        Purpose::Connect { link } => format!(in alloc; "timer {timer} {ms} connect {link}; ")?,
+        Purpose::Response { owner } => {
+            format!(in alloc; "timer {timer} {ms} response {}; ", number_of(&owner))?
+        }
+    };
+    log.extend_from_slice(line.as_bytes())
 }
 
 fn show_creation(error: &Option<RedisError>, log: &mut Vec<u8>) -> Result<(), AllocError> {
@@ -215,9 +262,16 @@ fn show(alloc: Global, action: &Action, log: &mut Vec<u8>) -> Result<(), AllocEr
         Action::Timer { timer, ms, purpose } => {
             return show_timer(alloc, *timer, *ms, *purpose, log);
         }
+        Action::Took {
+            owner,
+            link: _,
+            count,
+        } => format!(in alloc; "took {} {count}; ", number_of(owner))?,
         Action::Close { link } => format!(in alloc; "close {link}; ")?,
         Action::Write { link: _, bytes } => return write(bytes, log),
-        Action::Wait { owner, wait: _ } => format!(in alloc; "wait {}; ", number_of(owner))?,
+        Action::Wait { owner, wait } => {
+            format!(in alloc; "wait {}{}; ", number_of(owner), wait_word(*wait))?
+        }
         Action::Start {
             link: _,
             message,
@@ -337,11 +391,21 @@ fn replay(
     list: &[Told],
     actions: &mut Vec<Action>,
 ) -> Result<Option<u32>, AllocError> {
+    let config = config_of(alloc, b"redis://h", connect)?;
+    replay_with(alloc, config, list, actions)
+}
+
+/// The same with this configuration.
+fn replay_with(
+    alloc: Global,
+    config: Config,
+    list: &[Told],
+    actions: &mut Vec<Action>,
+) -> Result<Option<u32>, AllocError> {
     let mut events = Vec::new(alloc);
     for told in list {
         events.push(event(alloc, told)?)?;
     }
-    let config = config_of(alloc, b"redis://h", connect)?;
     match Session::replay(alloc, config, 0, events.as_slice(), actions) {
         Ok(()) => Ok(None),
         Err(ReplayError::BadEvent { index }) => Ok(Some(index)),
@@ -392,6 +456,33 @@ fn compare_within(
 ) -> Result<(), AllocError> {
     let mut actions = Vec::new(alloc);
     assert_eq!(rt; replay(alloc, connect, list, &mut actions)?, None);
+    let log = show_all(alloc, actions.as_slice())?;
+    assert_eq!(rt; log.as_slice(), wanted.as_bytes());
+    Ok(())
+}
+
+/// The same, where it may take any time, and the queue has this size and this boundary.
+fn compare_queue(
+    rt: &impl Abort,
+    alloc: Global,
+    buffer: u32,
+    boundary: u64,
+    list: &[Told],
+    wanted: &str,
+) -> Result<(), AllocError> {
+    compare_with(rt, alloc, queue_of(alloc, buffer, boundary)?, list, wanted)
+}
+
+/// The same with this configuration.
+fn compare_with(
+    rt: &impl Abort,
+    alloc: Global,
+    config: Config,
+    list: &[Told],
+    wanted: &str,
+) -> Result<(), AllocError> {
+    let mut actions = Vec::new(alloc);
+    assert_eq!(rt; replay_with(alloc, config, list, &mut actions)?, None);
     let log = show_all(alloc, actions.as_slice())?;
     assert_eq!(rt; log.as_slice(), wanted.as_bytes());
     Ok(())
@@ -475,10 +566,137 @@ write *1\r\n$4\r\nPING\r\n; turn 3; close 0; 0 closed; ";
     compare(&rt, alloc, list.as_slice(), wanted)
 }
 
-/// What is refused of a configuration.
+#[test]
+fn messages_wait_for_room(rt: HostRuntime) -> Result<(), AllocError> {
+    let list = [
+        Told::Connected(0),
+        Told::Get("a"),
+        Told::Pipe(&[b"PING", b"PING"]),
+        Told::Get("b"),
+        Told::ReadFault(0, FaultKind::Reset),
+    ];
+    let wanted = "turn 0; connect 0 6379; turn 1; created; turn 2; start 0 0 1 20; \
+write *2\r\n$3\r\nGET\r\n$1\r\na\r\n; turn 3; start 1 1 2 28; turn 4; wait 2 room; \
+turn 5; close 0; 0 reset; 1 closed; 2 closed; ";
+    compare_queue(&rt, rt.alloc(), 50, 30, list.as_slice(), wanted)
+}
+
+#[test]
+fn submissions_wait_for_a_place(rt: HostRuntime) -> Result<(), AllocError> {
+    let list = [
+        Told::Connected(0),
+        Told::Get("a"),
+        Told::Get("b"),
+        Told::Get("c"),
+        Told::Wrote(0, 7),
+        Told::Wrote(0, 13),
+    ];
+    let wanted = "turn 0; connect 0 6379; turn 1; created; turn 2; start 0 0 1 20; \
+write *2\r\n$3\r\nGET\r\n$1\r\na\r\n; turn 3; wait 1 room; turn 4; wait 2 place; \
+turn 5; write \nGET\r\n$1\r\na\r\n; turn 6; start 1 1 1 20; \
+write *2\r\n$3\r\nGET\r\n$1\r\nb\r\n; wait 2 room; ";
+    compare_queue(&rt, rt.alloc(), 1, 0, list.as_slice(), wanted)
+}
+
+#[test]
+fn a_timer_gives_the_permit_to_the_next(rt: HostRuntime) -> Result<(), AllocError> {
+    let alloc = rt.alloc();
+    let list = [
+        Told::Connected(0),
+        Told::Get("a"),
+        Told::Wrote(0, 20),
+        Told::Get("b"),
+        Told::Fired(0),
+        Told::Bytes(0, "+PONG\r\n"),
+    ];
+    let wanted =
+        "turn 0; connect 0 6379; turn 1; created; turn 2; took 0 1; timer 0 100 response 0; \
+start 0 0 1 20; write *2\r\n$3\r\nGET\r\n$1\r\na\r\n; turn 3; turn 4; wait 1 permit; turn 5; 0 timed-out; \
+took 1 1; timer 1 100 response 1; start 1 1 1 20; write *2\r\n$3\r\nGET\r\n$1\r\nb\r\n; turn 6; ";
+    let config = limits_of(alloc, Some(Some(100)), Some(1))?;
+    compare_with(&rt, alloc, config, list.as_slice(), wanted)
+}
+
+#[test]
+fn a_late_timer_changes_nothing(rt: HostRuntime) -> Result<(), AllocError> {
+    let alloc = rt.alloc();
+    let list = [
+        Told::Connected(0),
+        Told::Get("a"),
+        Told::Bytes(0, "+OK\r\n"),
+        Told::Fired(1),
+    ];
+    let wanted = "turn 0; connect 0 6379; timer 0 1000 connect 0; turn 1; created; turn 2; \
+timer 1 500 response 0; start 0 0 1 20; write *2\r\n$3\r\nGET\r\n$1\r\na\r\n; turn 3; 0 okay; turn 4; ";
+    let config = Config::new(Bytes::from_slice(alloc, b"redis://h")?);
+    compare_with(&rt, alloc, config, list.as_slice(), wanted)
+}
+
+#[test]
+fn a_submission_keeps_the_time_that_it_came_with(rt: HostRuntime) -> Result<(), AllocError> {
+    let alloc = rt.alloc();
+    let list = [
+        Told::Get("a"),
+        Told::Timeout(None),
+        Told::Get("b"),
+        Told::Timeout(Some(7)),
+        Told::Get("c"),
+        Told::Connected(0),
+        Told::Fired(1),
+    ];
+    let wanted =
+        "turn 0; connect 0 6379; turn 1; wait 0; turn 2; turn 3; wait 1; turn 4; turn 5; wait 2; \
+turn 6; created; timer 0 500 response 0; start 0 0 1 20; start 1 1 1 20; timer 1 7 response 2; \
+start 2 2 1 20; write *2\r\n$3\r\nGET\r\n$1\r\na\r\n*2\r\n$3\r\nGET\r\n$1\r\nb\r\n\
+*2\r\n$3\r\nGET\r\n$1\r\nc\r\n; turn 7; 2 timed-out; ";
+    let config = limits_of(alloc, None, None)?;
+    compare_with(&rt, alloc, config, list.as_slice(), wanted)
+}
+
+#[test]
+fn a_pipeline_takes_several_permits(rt: HostRuntime) -> Result<(), AllocError> {
+    let alloc = rt.alloc();
+    let list = [
+        Told::NoReply,
+        Told::Pipe(&[b"PING", b"PING"]),
+        Told::Get("a"),
+        Told::Connected(0),
+        Told::Cancel(1),
+    ];
+    let wanted =
+        "turn 0; connect 0 6379; turn 1; wait 0; turn 2; wait 1; turn 3; wait 2; turn 4; created; \
+took 0 1; 0 nil; start 0 0 1 14; took 1 2; start 1 1 2 28; write *1\r\n$4\r\nSAVE\r\n\
+*1\r\n$4\r\nPING\r\n*1\r\n$4\r\nPING\r\n; wait 2 permit; turn 5; took 2 1; start 2 2 1 20; ";
+    let config = limits_of(alloc, UNBOUNDED, Some(2))?;
+    compare_with(&rt, alloc, config, list.as_slice(), wanted)
+}
+
+#[test]
+fn a_time_is_over_before_a_place_is_free(rt: HostRuntime) -> Result<(), AllocError> {
+    let alloc = rt.alloc();
+    let list = [
+        Told::Connected(0),
+        Told::Get("a"),
+        Told::Get("b"),
+        Told::Get("c"),
+        Told::Fired(2),
+    ];
+    let wanted = "turn 0; connect 0 6379; turn 1; created; turn 2; timer 0 5 response 0; \
+start 0 0 1 20; write *2\r\n$3\r\nGET\r\n$1\r\na\r\n; turn 3; timer 1 5 response 1; wait 1 room; \
+turn 4; timer 2 5 response 2; wait 2 place; turn 5; 2 timed-out; ";
+    let mut config = queue_of(alloc, 1, 0)?;
+    config.response = Some(Some(5));
+    compare_with(&rt, alloc, config, list.as_slice(), wanted)
+}
+
+/// What is refused of the configuration of an address.
 fn refusal_of(alloc: Global, url: &[u8]) -> Result<&'static str, AllocError> {
+    refusal(alloc, config_of(alloc, url, None)?)
+}
+
+/// What is refused of a configuration.
+fn refusal(alloc: Global, config: Config) -> Result<&'static str, AllocError> {
     let mut actions = Vec::new(alloc);
-    let config = config_of(alloc, url, None)?;
     match Session::replay(alloc, config, 0, &[], &mut actions) {
         Ok(()) => Ok("nothing"),
         Err(ReplayError::Config { name }) => Ok(name.name()),
@@ -506,6 +724,24 @@ fn configurations_are_refused(rt: HostRuntime) -> Result<(), AllocError> {
     for row in ADDRESSES {
         assert_eq!(rt; refusal_of(rt.alloc(), row.0)?, row.1);
     }
+    Ok(())
+}
+
+#[test]
+fn a_queue_that_holds_nothing_is_refused(rt: HostRuntime) -> Result<(), AllocError> {
+    let alloc = rt.alloc();
+    assert_eq!(rt; refusal(alloc, queue_of(alloc, 0, 8192)?)?, "buffer");
+    assert_eq!(rt; refusal(alloc, queue_of(alloc, 1, 0)?)?, "nothing");
+    let mut config = queue_of(alloc, 0, 0)?;
+    config.limit = Some(0);
+    assert_eq!(rt; refusal(alloc, config)?, "limit");
+    let mut actions = Vec::new(alloc);
+    match Session::new(alloc, queue_of(alloc, 0, 8192)?, 0, &mut actions) {
+        Ok(_) => assert!(rt; false),
+        Err(MakeError::Config { name }) => assert!(rt; name == ConfigName::Buffer),
+        Err(MakeError::NoMemory) => return Err(AllocError),
+    }
+    assert_eq!(rt; actions.len(), 0);
     Ok(())
 }
 

@@ -6,7 +6,7 @@ use Rattle.mux_conn.proofs.Spent.{spent_in_admitted}
 use Rattle.mux_conn.proofs.connection.MultiplexedConnection.admit_all.Goals as goal
 
 -- where none can be moved, all still wait
-stays : (w : Work) (qs : List Waiting) (stuck : Bool) → admits_none w.conn.life ≡ stuck → stuck ≡ true → still_waiting w qs ≡ admitted_each w qs
+stays : (w : Work) (qs : List Waiting) (stuck : Bool) → admits_none w.conn ≡ stuck → stuck ≡ true → still_waiting w qs ≡ admitted_each w qs
 stays w [] stuck is e = refl
 stays w (q ∷ qs) true is e = rw is refl
 stays w (q ∷ qs) false is e = cc
