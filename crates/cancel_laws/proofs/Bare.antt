@@ -1,5 +1,5 @@
 -- A connection does the same where one request's outcome is looked away from, once its message has left the queue.
-use Rattle.std.proofs.Common.{◌≡◌, ◌≢◌, ℕ, ◌<◌, ◌==◌, ◌&&◌, Bool, true, false, List, [], ◌∷◌, ◌++◌, length, if◌then◌else◌, refl, sym, ap, ◌∙◌, append_assoc, Option, Some, None}
+use Rattle.std.proofs.Common.{◌≡◌, ◌≢◌, ℕ, ◌-◌, ◌<◌, ◌==◌, ◌&&◌, Bool, true, false, List, [], ◌∷◌, ◌++◌, length, if◌then◌else◌, refl, sym, ap, ◌∙◌, append_assoc, Option, Some, None, arith}
 use Rattle.std.proofs.lemmas.List.{append-nil}
 use Rattle.containers.proofs.Choices.{by_test, chosen, either, either_by, taken_if, left_if, eq_from, ne_from, eq_test, ne_test}
 use Rattle.redis_error.specs.declared.fault_kind.FaultKind.TheVariants as kinds
@@ -31,16 +31,16 @@ use Rattle.mux_conn.specs.declared.life.Life.TheVariants.{Dialing, Ready, Ended}
 use Rattle.mux_conn.specs.declared.request.Progress.TheVariants as progress
 use Rattle.mux_conn.specs.declared.request.Request.{Request}
 use Rattle.mux_conn.specs.declared.request.Waiting.{Waiting}
-use Rattle.mux_conn.specs.Connection.{Work, acted, at_life, with_link, awaits_connect, admits_none, has_room, first_queued}
-use Rattle.mux_conn.specs.Requests.{is_open, is_waiting, is_admitted, is_placed, is_open_at, is_waiting_at, is_admitted_at, is_placed_at, name_at, at_progress, progressed, answered, waiting_of, asked}
-use Rattle.mux_conn.specs.Effects.{new_link, settled_each, failed_each, nobody_waits, waiting_failed, ended, opening_failed, connected_at, refused_at, overdue_at, taken_at, failed_at, broken_at, read_to, read_at, shut_at, applied, cancelled_in, left}
-use Rattle.mux_conn.specs.Passes.{shown_each, starts_with, started_at, started, message_of, placed_at, told_at_place, seated, still_admitted, moved_up, moved_up_each, moved_up_all, put_behind, seated_or_behind, admitted_at, admitted, still_waiting, admitted_each, admitted_all, passed}
+use Rattle.mux_conn.specs.Connection.{Work, acted, at_life, with_link, awaits_connect, has_no_permit, admits_none_at, admits_none, has_room, first_queued}
+use Rattle.mux_conn.specs.Requests.{is_open, is_waiting, is_admitted, is_placed, is_open_at, is_waiting_at, is_admitted_at, is_placed_at, name_at, permits_at, with_permits, given_back, closed, answered, waiting_of, asked}
+use Rattle.mux_conn.specs.Effects.{new_link, settled_each, failed_each, nobody_waits, waiting_failed, ended, opening_failed, connected_at, refused_at, overdue_at, taken_at, failed_at, broken_at, read_to, read_at, shut_at, all_fresh, applied, cancelled_in, left, timed_out}
+use Rattle.mux_conn.specs.Passes.{shown_each, starts_with, started_at, started, message_of, placed_at, told_at_place, seated, still_admitted, moved_up, moved_up_each, moved_up_all, put_behind, seated_or_behind, permits_taken, holding, took_shown, took as holds, timer_asked, let_in, admitted_at, admitted, still_waiting, admitted_each, admitted_all, passed}
 use Rattle.mux_conn.specs.Turn.{written_at, written, is_from, moved_wait, fresh_wait, wait_shown, moved_each_shown, moved_shown, fresh_each_shown, fresh_shown, waits_shown, flushed}
 use Rattle.cancel_laws.specs.ButFor.{hushed_link, hushed_life}
-use Rattle.cancel_laws.proofs.Requests.{names, name_stays, progress_twice, progress_apart, progress_push, progress_count, own_closed, closed_set, test_other, same_test, other_test, admitted_now}
+use Rattle.cancel_laws.proofs.Requests.{names, name_stays, progress_twice, progress_apart, progress_push, progress_count, permits_other, permits_own, permits_push, goes_apart, own_closed, closed_set, test_other, same_test, other_test}
 use Rattle.cancel_laws.proofs.Names.{IsOwn, own_name, other_name}
 use Rattle.cancel_laws.proofs.Links.{alike_hushed, none_leaves, hushed_started, hushed_came, hushed_cancelled, own_cancelled}
-use Rattle.cancel_laws.proofs.Kept.{other_act, IsPlain, At, There, answered_kept, settled_kept, failed_each_kept, over_kept, started_kept, told_kept, moved_up_kept, moved_up_all_kept, admitted_kept, written_kept, wait_kept, moved_shown_kept}
+use Rattle.cancel_laws.proofs.Kept.{other_act, IsPlain, At, There, answered_kept, settled_kept, failed_each_kept, over_kept, started_kept, told_kept, moved_up_kept, moved_up_all_kept, let_in_admitted, let_in_kept, admitted_kept, unlimited_kept, written_kept, wait_kept, moved_shown_kept}
 use Rattle.cancel_laws.proofs.Gone.{NoneQueued, NoneIs, IsGone, gone_kept, IsAway, away_kept}
 
 -- the acts of a turn, but for the outcomes of submission n
@@ -48,9 +48,9 @@ abbrev pub other_acts : ℕ → List LinkAct → List LinkAct
 other_acts n [] = []
 other_acts n (a ∷ more) = other_act n a ++ other_acts n more
 
--- all of a connection, but for how far request p has come and whether its verdict is wanted
+-- all of a connection, but for how far request p has come and whether its verdict is wanted, where its permits are free
 abbrev pub bare_conn : ℕ → MultiplexedConnection → MultiplexedConnection
-bare_conn p c = record c { life = hushed_life p c.life; requests = at_progress c.requests p progress.Closed }
+bare_conn p c = record (closed c p) { life = hushed_life p c.life }
 
 -- and but for the outcomes of submission n, whose request it is
 abbrev pub bare : ℕ → ℕ → Work → Work
@@ -87,43 +87,70 @@ bare_acted n p w a plain = ap (λ (xs : List LinkAct). record (bare n p w) { act
 -- answers
 --
 -- all others are as open as they were
-open_same : (r : List Request) (p q : ℕ) → q ≢ p → is_open_at r q ≡ is_open_at (at_progress r p progress.Closed) q
-open_same r p q o = sym (test_other is_open r p q progress.Closed (λ e. o (sym e)))
+open_same : (r : List Request) (p q : ℕ) → q ≢ p → is_open_at r q ≡ is_open_at (with_permits r p progress.Closed 0) q
+open_same r p q o = sym (test_other is_open r p q progress.Closed 0 (λ e. o (sym e)))
 
 -- one that is closed stays as it is
 closed_stays : (w : Work) (q : ℕ) (o : Outcome) → is_open_at w.conn.requests q ≡ false → answered w q o ≡ w
 closed_stays w q o f = left_if (is_open_at w.conn.requests q) _ w f
 
+-- the permits of a request that is closed are free already
+free_once : (lim : Option ℕ) (r : List Request) (p free : ℕ)
+    → given_back lim (given_back lim free (permits_at r p)) (permits_at (with_permits r p progress.Closed 0) p) ≡ given_back lim free (permits_at r p)
+free_once lim r p free = omega (arith, permits_own r p progress.Closed)
+
+-- where two are closed, as many are free in any order
+free_apart : (lim : Option ℕ) (r : List Request) (p q free : ℕ) → q ≢ p
+    → given_back lim (given_back lim free (permits_at r q)) (permits_at (with_permits r q progress.Closed 0) p)
+    ≡ given_back lim (given_back lim free (permits_at r p)) (permits_at (with_permits r p progress.Closed 0) q)
+free_apart lim r p q free o = omega (arith, permits_other r q p progress.Closed 0 o, permits_other r p q progress.Closed 0 (λ e. o (sym e)))
+
+-- closed twice is closed
+closed_twice : (p : ℕ) (c : MultiplexedConnection) → closed (closed c p) p ≡ closed c p
+closed_twice p c =
+    let r = progress_twice c.requests p progress.Closed progress.Closed 0 0 in
+    let f = free_once c.limit c.requests p c.free in
+    λ i. record c { requests = r i; free = f i }
+
+-- two are closed in any order
+closed_apart : (p q : ℕ) (c : MultiplexedConnection) → q ≢ p → closed (closed c q) p ≡ closed (closed c p) q
+closed_apart p q c o =
+    let r = progress_apart c.requests q p progress.Closed progress.Closed 0 0 o in
+    let f = free_apart c.limit c.requests p q c.free o in
+    λ i. record c { requests = r i; free = f i }
+
 -- an answer of request p counts for nothing
 answered_own : (n p : ℕ) (w : Work) (o : Outcome) → IsOwn n p (names w.conn.requests) → bare n p (answered w p o) ≡ bare n p w
 answered_own n p w o own = own_case (is_open_at w.conn.requests p) (λ t. same t)
   where
-    same : is_open_at w.conn.requests p ≡ true → bare n p (acted (progressed w p progress.Closed) (act.Outcome (name_at w.conn.requests p) o)) ≡ bare n p w
-    same t =
-        let r = progress_twice w.conn.requests p progress.Closed progress.Closed in
-        let xs = acts_own n (name_at w.conn.requests p) w.acts o (own_name n p w.conn.requests own t) in
-        λ i. record { conn = record (bare_conn p w.conn) { requests = r i }; acts = xs i }
+    once : Work
+    once = acted (record w { conn = closed w.conn p }) (act.Outcome (name_at w.conn.requests p) o)
 
-    own_case : (b : Bool) → (b ≡ true → bare n p (acted (progressed w p progress.Closed) (act.Outcome (name_at w.conn.requests p) o)) ≡ bare n p w)
-        → bare n p (if b then acted (progressed w p progress.Closed) (act.Outcome (name_at w.conn.requests p) o) else w) ≡ bare n p w
+    same : is_open_at w.conn.requests p ≡ true → bare n p once ≡ bare n p w
+    same t =
+        let c = closed_twice p w.conn in
+        let xs = acts_own n (name_at w.conn.requests p) w.acts o (own_name n p w.conn.requests own t) in
+        λ i. record { conn = record (c i) { life = hushed_life p w.conn.life }; acts = xs i }
+
+    own_case : (b : Bool) → (b ≡ true → bare n p once ≡ bare n p w) → bare n p (if b then once else w) ≡ bare n p w
     own_case true e = e refl
     own_case false e = refl
 
 -- any other answer counts
 answered_other : (n p : ℕ) (w : Work) (q : ℕ) (o : Outcome) → IsOwn n p (names w.conn.requests) → q ≢ p → bare n p (answered w q o) ≡ answered (bare n p w) q o
 answered_other n p w q o own apart =
-    either_by (bare n p) (is_open_at w.conn.requests q) (is_open_at (at_progress w.conn.requests p progress.Closed) q) _ w _ (bare n p w) (open_same w.conn.requests p q apart)
+    either_by (bare n p) (is_open_at w.conn.requests q) (is_open_at (with_permits w.conn.requests p progress.Closed 0) q) _ w _ (bare n p w) (open_same w.conn.requests p q apart)
     (λ t. same t)
     (λ f. refl)
   where
     same : is_open_at w.conn.requests q ≡ true
-        → bare n p (acted (progressed w q progress.Closed) (act.Outcome (name_at w.conn.requests q) o))
-        ≡ acted (progressed (bare n p w) q progress.Closed) (act.Outcome (name_at (bare n p w).conn.requests q) o)
+        → bare n p (acted (record w { conn = closed w.conn q }) (act.Outcome (name_at w.conn.requests q) o))
+        ≡ acted (record (bare n p w) { conn = closed (bare_conn p w.conn) q }) (act.Outcome (name_at (bare n p w).conn.requests q) o)
     same t =
-        let r = progress_apart w.conn.requests q p progress.Closed progress.Closed apart in
+        let c = closed_apart p q w.conn apart in
         let xs = acts_other n (name_at w.conn.requests q) w.acts o (other_name n p q w.conn.requests own t apart)
-        ∙ ap (λ (m : ℕ). other_acts n w.acts ++ act.Outcome m o ∷ []) (sym (name_stays w.conn.requests p q progress.Closed)) in
-        λ i. record { conn = record (bare_conn p w.conn) { requests = r i }; acts = xs i }
+        ∙ ap (λ (m : ℕ). other_acts n w.acts ++ act.Outcome m o ∷ []) (sym (name_stays w.conn.requests p q progress.Closed 0)) in
+        λ i. record { conn = record (c i) { life = hushed_life p w.conn.life }; acts = xs i }
 
 -- an answer
 bare_answered : (n p : ℕ) (w : Work) (q : ℕ) (o : Outcome) → At (There (IsGone n p)) w → bare n p (answered w q o) ≡ answered (bare n p w) q o
@@ -145,7 +172,7 @@ bare_settled n p w (s ∷ ss) h =
 closed_still : (w : Work) (p q : ℕ) (o : Outcome) → is_open_at w.conn.requests p ≡ false → is_open_at (answered w q o).conn.requests p ≡ false
 closed_still w p q o f =
     chosen (λ (x : Work). is_open_at x.conn.requests p ≡ false) (is_open_at w.conn.requests q) _ w
-    (λ t. closed_set w.conn.requests q p progress.Closed t f)
+    (λ t. closed_set w.conn.requests q p progress.Closed 0 t f)
     (λ g. f)
 
 -- and so for all that a link settled
@@ -207,7 +234,7 @@ bare_failed n p w f (Ended e) h = refl
 
 -- the connect
 bare_connected : (n p : ℕ) (w : Work) (life : Life) → bare n p (connected_at w life) ≡ connected_at (bare n p w) (hushed_life p life)
-bare_connected n p w Dialing = bare_acted n p (with_link w (new_link w.conn)) (act.Created None) (λ m. refl)
+bare_connected n p w Dialing = bare_acted n p (with_link (all_fresh w) (new_link w.conn)) (act.Created None) (λ m. refl)
 bare_connected n p w (Ready l) = refl
 bare_connected n p w (Ended e) = refl
 
@@ -245,7 +272,7 @@ bare_read n p w s t h link out =
 -- bytes come
 bare_came : (n p : ℕ) (w : Work) (piece : List ℕ) (life : Life) → IsGone n p w.conn.requests life → bare n p (read_at w piece life) ≡ read_at (bare n p w) piece (hushed_life p life)
 bare_came n p w piece (Ready l) h =
-    bare_read n p w (piece_dealt (record { link = l; out = [] }) piece) (piece_dealt (record { link = hushed_link p l; out = [] }) piece) ((gone_kept n p).come w.conn.requests l w.conn.moved w.acts piece h)
+    bare_read n p w (piece_dealt (record { link = l; out = [] }) piece) (piece_dealt (record { link = hushed_link p l; out = [] }) piece) ((gone_kept n p).come w.conn.limit w.conn.requests l w.conn.moved w.acts piece h)
     (hushed_came p l piece) (bytes_alike p l (hushed_link p l) [] [] piece (alike_hushed p l) refl).out
 bare_came n p w piece Dialing h = refl
 bare_came n p w piece (Ended e) h = refl
@@ -270,13 +297,14 @@ bare_applied n p w shut h = bare_shut n p w w.conn.life h
 -- requests
 --
 -- one more request
-pub bare_asked : (p : ℕ) (c : MultiplexedConnection) (name : ℕ) (packed : List ℕ) (shape : Shape) (awaited : Bool) → p < length c.requests
-    → bare_conn p (asked c name packed shape awaited) ≡ asked (bare_conn p c) name packed shape awaited
-bare_asked p c name packed shape awaited l =
-    let x : Request = record { name = name; progress = progress.Waiting } in
-    let r = progress_push c.requests p progress.Closed x l in
-    let k = sym (progress_count c.requests p progress.Closed) in
-    λ i. record (bare_conn p c) { requests = r i; waiting = c.waiting ++ waiting_of (k i) packed shape awaited ∷ []; fresh = c.fresh ++ k i ∷ [] }
+pub bare_asked : (p : ℕ) (c : MultiplexedConnection) (name : ℕ) (packed : List ℕ) (shape : Shape) (awaited : Bool) (timeout : Option ℕ) → p < length c.requests
+    → bare_conn p (asked c name packed shape awaited timeout) ≡ asked (bare_conn p c) name packed shape awaited timeout
+bare_asked p c name packed shape awaited timeout l =
+    let x : Request = record { name = name; progress = progress.Waiting; permits = 0 } in
+    let r = progress_push c.requests p progress.Closed 0 x l in
+    let k = sym (progress_count c.requests p progress.Closed 0) in
+    let f = ap (given_back c.limit c.free) (permits_push c.requests p x l) in
+    λ i. record (bare_conn p c) { requests = r i; free = f i; waiting = c.waiting ++ waiting_of (k i) packed shape awaited timeout ∷ []; fresh = c.fresh ++ k i ∷ [] }
 
 -- the cancel of request p itself
 own_life : (p : ℕ) (life : Life) → NoneQueued p life → hushed_life p (cancelled_in life p) ≡ hushed_life p life
@@ -287,12 +315,12 @@ own_life p (Ended e) h = refl
 -- so nothing else changes
 pub own_left : (p : ℕ) (c : MultiplexedConnection) → NoneQueued p c.life → bare_conn p (left c p) ≡ bare_conn p c
 own_left p c none =
-    let r = progress_twice c.requests p progress.Closed progress.Closed in
+    let d = closed_twice p c in
     let l = own_life p c.life none in
-    own_case (is_open_at c.requests p) (λ i. record c { requests = r i; life = l i })
+    own_case (is_open_at c.requests p) (λ i. record (d i) { life = l i })
   where
-    own_case : (b : Bool) → bare_conn p (record c { requests = at_progress c.requests p progress.Closed; life = cancelled_in c.life p }) ≡ bare_conn p c
-        → bare_conn p (if b then record c { requests = at_progress c.requests p progress.Closed; life = cancelled_in c.life p } else c) ≡ bare_conn p c
+    own_case : (b : Bool) → bare_conn p (record (closed c p) { life = cancelled_in c.life p }) ≡ bare_conn p c
+        → bare_conn p (if b then record (closed c p) { life = cancelled_in c.life p } else c) ≡ bare_conn p c
     own_case true e = e
     own_case false e = refl
 
@@ -305,15 +333,15 @@ other_life p q (Ended e) = refl
 -- and in the connection
 other_left : (p q : ℕ) (c : MultiplexedConnection) → q ≢ p → bare_conn p (left c q) ≡ left (bare_conn p c) q
 other_left p q c apart =
-    let r = progress_apart c.requests q p progress.Closed progress.Closed apart in
+    let d = closed_apart p q c apart in
     let l = other_life p q c.life in
-    either_by (bare_conn p) (is_open_at c.requests q) (is_open_at (at_progress c.requests p progress.Closed) q) _ c _ (bare_conn p c) (open_same c.requests p q apart)
-    (λ t. λ i. record c { requests = r i; life = l i })
+    either_by (bare_conn p) (is_open_at c.requests q) (is_open_at (with_permits c.requests p progress.Closed 0) q) _ c _ (bare_conn p c) (open_same c.requests p q apart)
+    (λ t. λ i. record (d i) { life = l i })
     (λ g. refl)
 
 -- request p is closed already
 left_stays : (p : ℕ) (c : MultiplexedConnection) → left (bare_conn p c) p ≡ bare_conn p c
-left_stays p c = left_if (is_open_at (at_progress c.requests p progress.Closed) p) _ (bare_conn p c) (own_closed c.requests p)
+left_stays p c = left_if (is_open_at (with_permits c.requests p progress.Closed 0) p) _ (bare_conn p c) (own_closed c.requests p)
 
 -- any cancel
 pub bare_left : (p q : ℕ) (c : MultiplexedConnection) → NoneQueued p c.life → bare_conn p (left c q) ≡ left (bare_conn p c) q
@@ -321,6 +349,43 @@ bare_left p q c none =
     by_test (q == p) _
     (λ t. let e = eq_from q p t in ap (λ (k : ℕ). bare_conn p (left c k)) e ∙ own_left p c none ∙ sym (left_stays p c) ∙ ap (left (bare_conn p c)) (sym e))
     (λ f. other_left p q c (ne_from q p f))
+
+-- the time of request p itself is over
+own_late : (n p : ℕ) (w : Work) → At (There (IsGone n p)) w → bare n p (timed_out w p) ≡ timed_out (bare n p w) p
+own_late n p w h =
+    let o = outcome.Fault (error.Io kinds.TimedOut) in
+    let d = at_life w (cancelled_in w.conn.life p) in
+    let f = own_closed w.conn.requests p in
+    let same : bare n p (if is_open_at w.conn.requests p then d else w) ≡ bare n p w = own_case (is_open_at w.conn.requests p) in
+    let own : IsOwn n p (names (if is_open_at w.conn.requests p then d else w).conn.requests) =
+    chosen (λ (x : Work). IsOwn n p (names x.conn.requests)) (is_open_at w.conn.requests p) d w (λ t. h.own) (λ g. h.own) in
+    answered_own n p (if is_open_at w.conn.requests p then d else w) o own ∙ same
+    ∙ sym (ap (λ (x : Work). answered x p o) (left_if (is_open_at (with_permits w.conn.requests p progress.Closed 0) p) (at_life (bare n p w) (cancelled_in (hushed_life p w.conn.life) p)) (bare n p w) f)
+    ∙ closed_stays (bare n p w) p o f)
+  where
+    own_case : (b : Bool) → bare n p (if b then at_life w (cancelled_in w.conn.life p) else w) ≡ bare n p w
+    own_case true = ap (at_life (bare n p w)) (own_life p w.conn.life h.none)
+    own_case false = refl
+
+-- the time of another
+other_late : (n p q : ℕ) (w : Work) → q ≢ p → At (There (IsGone n p)) w → bare n p (timed_out w q) ≡ timed_out (bare n p w) q
+other_late n p q w apart h =
+    let o = outcome.Fault (error.Io kinds.TimedOut) in
+    let d = at_life w (cancelled_in w.conn.life q) in
+    let own : IsOwn n p (names (if is_open_at w.conn.requests q then d else w).conn.requests) =
+    chosen (λ (x : Work). IsOwn n p (names x.conn.requests)) (is_open_at w.conn.requests q) d w (λ t. h.own) (λ g. h.own) in
+    answered_other n p (if is_open_at w.conn.requests q then d else w) q o own apart
+    ∙ ap (λ (x : Work). answered x q o)
+    (either_by (bare n p) (is_open_at w.conn.requests q) (is_open_at (with_permits w.conn.requests p progress.Closed 0) q) d w _ (bare n p w) (open_same w.conn.requests p q apart)
+    (λ t. ap (at_life (bare n p w)) (other_life p q w.conn.life))
+    (λ g. refl))
+
+-- and of any
+pub bare_late : (n p q : ℕ) (w : Work) → At (There (IsGone n p)) w → bare n p (timed_out w q) ≡ timed_out (bare n p w) q
+bare_late n p q w h =
+    by_test (q == p) _
+    (λ t. let e = eq_from q p t in ap (λ (k : ℕ). bare n p (timed_out w k)) e ∙ own_late n p w h ∙ ap (timed_out (bare n p w)) (sym e))
+    (λ f. other_late n p q w (ne_from q p f) h)
 
 -- moves
 --
@@ -331,7 +396,7 @@ bare_shown n p w (s ∷ ss) =
     let a = act.Start s.msg (name_at w.conn.requests s.id) s.need s.len in
     bare_shown n p (acted w a) ss
     ∙ ap (λ (x : Work). shown_each x ss) (bare_acted n p w a (λ m. refl)
-    ∙ ap (λ (m : ℕ). acted (bare n p w) (act.Start s.msg m s.need s.len)) (sym (name_stays w.conn.requests p s.id progress.Closed)))
+    ∙ ap (λ (m : ℕ). acted (bare n p w) (act.Start s.msg m s.need s.len)) (sym (name_stays w.conn.requests p s.id progress.Closed 0)))
 
 -- messages start
 bare_started_at : (n p : ℕ) (w : Work) (life : Life) → NoneQueued p life → bare n p (started_at w life) ≡ started_at (bare n p w) (hushed_life p life)
@@ -351,11 +416,11 @@ bare_started n p w h = bare_started_at n p w w.conn.life h.none
 -- a request takes its place
 bare_placed : (n p : ℕ) (w : Work) (q : Waiting) (l : LinkState) → q.number ≢ p → bare n p (placed_at w q (Ready l)) ≡ placed_at (bare n p w) q (Ready (hushed_link p l))
 bare_placed n p w q l o =
-    ap
-    (λ (r : List Request). record (bare n p w) {
-      conn = record (bare_conn p w.conn) { requests = r; life = Ready (enqueued (hushed_link p l) (message_of q)); moved = w.conn.moved ++ q.number ∷ [] };
-    })
-    (progress_apart w.conn.requests q.number p progress.Placed progress.Closed o)
+    let r = goes_apart w.conn.requests q.number p progress.Placed o in
+    let f = ap (given_back w.conn.limit w.conn.free) (permits_other w.conn.requests q.number p progress.Placed (permits_at w.conn.requests q.number) o) in
+    λ i. record (bare n p w) {
+      conn = record (bare_conn p w.conn) { requests = r i; free = f i; life = Ready (enqueued (hushed_link p l) (message_of q)); moved = w.conn.moved ++ q.number ∷ [] };
+    }
 
 -- and is answered there, if nobody awaits its reply
 bare_told : (n p : ℕ) (w : Work) (q : Waiting) → At (There (IsGone n p)) w → bare n p (told_at_place w q) ≡ told_at_place (bare n p w) q
@@ -367,7 +432,7 @@ bare_seated_at : (n p : ℕ) (w : Work) (q : Waiting) (life : Life) → is_admit
     → bare n p (started (told_at_place (placed_at w q life) q)) ≡ started (told_at_place (placed_at (bare n p w) q (hushed_life p life)) q)
 bare_seated_at n p w q (Ready l) t g h =
     let d = placed_at w q (Ready l) in
-    let k : At (There (IsGone n p)) d = (gone_kept n p).place w.conn.requests l (w.conn.moved ++ q.number ∷ []) w.acts q t g in
+    let k : At (There (IsGone n p)) d = (gone_kept n p).place w.conn.limit w.conn.requests l (w.conn.moved ++ q.number ∷ []) w.acts q t g in
     bare_started n p (told_at_place d q) (told_kept (gone_kept n p) d q k) ∙ ap started (bare_told n p d q k)
     ∙ ap (λ (x : Work). started (told_at_place x q)) (bare_placed n p w q l (other_test is_admitted w.conn.requests q.number p t g.seated))
 bare_seated_at n p w q Dialing t g h = bare_started n p (told_at_place w q) (told_kept (gone_kept n p) w q h) ∙ ap started (bare_told n p w q h)
@@ -380,7 +445,7 @@ bare_seated n p w q t h = bare_seated_at n p w q w.conn.life t h h
 -- one that waits for a place takes it
 bare_moved_up : (n p : ℕ) (w : Work) (q : Waiting) → At (There (IsGone n p)) w → bare n p (moved_up w q) ≡ moved_up (bare n p w) q
 bare_moved_up n p w q h =
-    either_by (bare n p) (is_admitted_at w.conn.requests q.number) (is_admitted_at (at_progress w.conn.requests p progress.Closed) q.number) (seated w q) w _ (bare n p w)
+    either_by (bare n p) (is_admitted_at w.conn.requests q.number) (is_admitted_at (with_permits w.conn.requests p progress.Closed 0) q.number) (seated w q) w _ (bare n p w)
     (same_test is_admitted w.conn.requests p q.number refl h.seated)
     (λ t. bare_seated n p w q t h)
     (λ f. refl)
@@ -407,46 +472,95 @@ bare_seated_or_behind n p w q t h =
     (λ u. bare_seated n p w q t h)
     (λ f. refl)
 
+-- permits
+--
+-- where permits aren't counted, none are taken
+none_taken : (lim : Option ℕ) (free : ℕ) (shape : Shape) → lim ≡ None → permits_taken lim free shape ≡ 0
+none_taken None free shape e = refl
+none_taken (Some most) free shape e = cc
+
+-- a request holds none then, and as many are free as were
+bare_holding : (p : ℕ) (c : MultiplexedConnection) (q : Waiting) → c.limit ≡ None → q.number ≢ p
+    → bare_conn p (holding c q.number (permits_taken c.limit c.free q.shape)) ≡ holding (bare_conn p c) q.number (permits_taken c.limit (bare_conn p c).free q.shape)
+bare_holding p c q none o =
+    let i = none_taken c.limit c.free q.shape none in
+    let j = none_taken c.limit (bare_conn p c).free q.shape none in
+    ap (λ (k : ℕ). bare_conn p (holding c q.number k)) i ∙ none_held ∙ ap (holding (bare_conn p c) q.number) (sym j)
+  where
+    none_held : bare_conn p (holding c q.number 0) ≡ holding (bare_conn p c) q.number 0
+    none_held =
+        let r = progress_apart c.requests q.number p progress.Admitted progress.Closed 0 0 o in
+        let k = permits_other c.requests q.number p progress.Admitted 0 o in
+        let f : given_back c.limit (c.free - 0) (permits_at (with_permits c.requests q.number progress.Admitted 0) p) ≡ given_back c.limit c.free (permits_at c.requests p) - 0 = omega (arith, k) in
+        λ i. record (bare_conn p c) { requests = r i; free = f i }
+
+-- what is shown of permits is shown by names, which stay
+bare_took : (n p : ℕ) (w : Work) (q count : ℕ) (lim : Option ℕ) → bare n p (took_shown w q count lim) ≡ took_shown (bare n p w) q count lim
+bare_took n p w q count None = refl
+bare_took n p w q count (Some most) =
+    bare_acted n p w (act.Took (name_at w.conn.requests q) count) (λ m. refl)
+    ∙ ap (λ (m : ℕ). acted (bare n p w) (act.Took m count)) (sym (name_stays w.conn.requests p q progress.Closed 0))
+
+-- and so is a timer
+bare_timer : (n p : ℕ) (w : Work) (q : ℕ) (timeout : Option ℕ) → bare n p (timer_asked w q timeout) ≡ timer_asked (bare n p w) q timeout
+bare_timer n p w q None = refl
+bare_timer n p w q (Some ms) =
+    bare_acted n p w (act.Timer (name_at w.conn.requests q) ms) (λ m. refl)
+    ∙ ap (λ (m : ℕ). acted (bare n p w) (act.Timer m ms)) (sym (name_stays w.conn.requests p q progress.Closed 0))
+
+-- a request is let in
+bare_let_in : (n p : ℕ) (w : Work) (q : Waiting) → w.conn.limit ≡ None → q.number ≢ p → bare n p (let_in w q) ≡ let_in (bare n p w) q
+bare_let_in n p w q none o =
+    let lim = w.conn.limit in
+    let count = permits_taken lim w.conn.free q.shape in
+    let count_too = permits_taken lim (bare_conn p w.conn).free q.shape in
+    let d = record w { conn = holding w.conn q.number count } in
+    let taken : count ≡ count_too = none_taken lim w.conn.free q.shape none ∙ sym (none_taken lim (bare_conn p w.conn).free q.shape none) in
+    bare_timer n p (holds w q.number count) q.number q.timeout
+    ∙ ap (λ (x : Work). timer_asked x q.number q.timeout)
+    (bare_took n p d q.number count lim
+    ∙ ap (λ (c : MultiplexedConnection). took_shown (record (bare n p w) { conn = c }) q.number count lim) (bare_holding p w.conn q none o)
+    ∙ ap (λ (k : ℕ). took_shown (record (bare n p w) { conn = holding (bare_conn p w.conn) q.number count_too }) q.number k lim) taken)
+
 -- a request that waits for the connection is moved
-bare_admitted_at : (n p : ℕ) (w : Work) (q : Waiting) (life : Life) → is_waiting_at w.conn.requests q.number ≡ true → At (There (IsGone n p)) w
+bare_admitted_at : (n p : ℕ) (w : Work) (q : Waiting) (life : Life) → is_waiting_at w.conn.requests q.number ≡ true → w.conn.limit ≡ None → At (There (IsGone n p)) w
     → bare n p (admitted_at w q life) ≡ admitted_at (bare n p w) q (hushed_life p life)
-bare_admitted_at n p w q (Ready l) t h =
-    let d = progressed w q.number progress.Admitted in
-    let k : At (There (IsGone n p)) d = (gone_kept n p).admit w.conn.requests w.conn.life w.conn.moved w.acts q.number t h in
-    bare_seated_or_behind n p d q (admitted_now w.conn.requests q.number t) k
-    ∙ ap (λ (r : List Request). seated_or_behind (record (bare n p w) { conn = record (bare_conn p w.conn) { requests = r } }) q)
-    (progress_apart w.conn.requests q.number p progress.Admitted progress.Closed (other_test is_waiting w.conn.requests q.number p t h.past))
-bare_admitted_at n p w q (Ended e) t h = bare_answered n p w q.number (outcome.Fault e) h
-bare_admitted_at n p w q Dialing t h = refl
+bare_admitted_at n p w q (Ready l) t none h =
+    bare_seated_or_behind n p (let_in w q) q (let_in_admitted w q t) (let_in_kept (gone_kept n p) w q t h)
+    ∙ ap (λ (x : Work). seated_or_behind x q) (bare_let_in n p w q none (other_test is_waiting w.conn.requests q.number p t h.past))
+bare_admitted_at n p w q (Ended e) t none h = bare_answered n p w q.number (outcome.Fault e) h
+bare_admitted_at n p w q Dialing t none h = refl
 
 -- and any other stays
-bare_admitted : (n p : ℕ) (w : Work) (q : Waiting) → At (There (IsGone n p)) w → bare n p (admitted w q) ≡ admitted (bare n p w) q
-bare_admitted n p w q h =
-    either_by (bare n p) (is_waiting_at w.conn.requests q.number) (is_waiting_at (at_progress w.conn.requests p progress.Closed) q.number) (admitted_at w q w.conn.life) w _ (bare n p w)
+bare_admitted : (n p : ℕ) (w : Work) (q : Waiting) → w.conn.limit ≡ None → At (There (IsGone n p)) w → bare n p (admitted w q) ≡ admitted (bare n p w) q
+bare_admitted n p w q none h =
+    either_by (bare n p) (is_waiting_at w.conn.requests q.number) (is_waiting_at (with_permits w.conn.requests p progress.Closed 0) q.number) (admitted_at w q w.conn.life) w _ (bare n p w)
     (same_test is_waiting w.conn.requests p q.number refl h.past)
-    (λ t. bare_admitted_at n p w q w.conn.life t h)
+    (λ t. bare_admitted_at n p w q w.conn.life t none h)
     (λ f. refl)
 
--- whether requests can be moved at all doesn't depend on the row
-stuck_same : (p : ℕ) (life : Life) → admits_none life ≡ admits_none (hushed_life p life)
-stuck_same p Dialing = refl
-stuck_same p (Ready l) = refl
-stuck_same p (Ended e) = refl
+-- where permits aren't counted, whether requests can be moved at all depends neither on the row nor on permits
+stuck_same : (p : ℕ) (life : Life) (lim : Option ℕ) (j k : ℕ) → lim ≡ None → admits_none_at life (has_no_permit lim j) ≡ admits_none_at (hushed_life p life) (has_no_permit lim k)
+stuck_same p Dialing lim j k none = refl
+stuck_same p (Ready l) None j k none = refl
+stuck_same p (Ready l) (Some most) j k none = cc
+stuck_same p (Ended e) lim j k none = refl
 
 -- all that wait for the connection are moved
-bare_admitted_each : (n p : ℕ) (w : Work) (qs : List Waiting) → At (There (IsGone n p)) w → bare n p (admitted_each w qs) ≡ admitted_each (bare n p w) qs
-bare_admitted_each n p w [] h = refl
-bare_admitted_each n p w (q ∷ qs) h =
-    either_by (bare n p) (admits_none w.conn.life) (admits_none (hushed_life p w.conn.life)) _ _ _ _ (stuck_same p w.conn.life) (λ t. refl)
-    (λ f. bare_admitted_each n p (admitted w q) qs (admitted_kept (gone_kept n p) w q h) ∙ ap (λ (x : Work). admitted_each x qs) (bare_admitted n p w q h))
+bare_admitted_each : (n p : ℕ) (w : Work) (qs : List Waiting) → w.conn.limit ≡ None → At (There (IsGone n p)) w → bare n p (admitted_each w qs) ≡ admitted_each (bare n p w) qs
+bare_admitted_each n p w [] none h = refl
+bare_admitted_each n p w (q ∷ qs) none h =
+    either_by (bare n p) (admits_none w.conn) (admits_none (bare_conn p w.conn)) _ _ _ _ (stuck_same p w.conn.life w.conn.limit w.conn.free (bare_conn p w.conn).free none) (λ t. refl)
+    (λ f. bare_admitted_each n p (admitted w q) qs (admitted_kept unlimited_kept w q none) (admitted_kept (gone_kept n p) w q h)
+    ∙ ap (λ (x : Work). admitted_each x qs) (bare_admitted n p w q none h))
 
--- what a turn moves
-pub bare_passed : (n p : ℕ) (w : Work) → At (There (IsGone n p)) w → bare n p (passed w) ≡ passed (bare n p w)
-bare_passed n p w h =
+-- what a turn moves, where permits aren't counted
+pub bare_passed : (n p : ℕ) (w : Work) → w.conn.limit ≡ None → At (There (IsGone n p)) w → bare n p (passed w) ≡ passed (bare n p w)
+bare_passed n p w none h =
     let d = started w in
     let e = moved_up_all d in
     let k : At (There (IsGone n p)) d = started_kept (gone_kept n p) w h in
-    bare_admitted_each n p (still_waiting e []) e.conn.waiting (moved_up_all_kept (gone_kept n p) d k)
+    bare_admitted_each n p (still_waiting e []) e.conn.waiting (moved_up_all_kept unlimited_kept d (started_kept unlimited_kept w none)) (moved_up_all_kept (gone_kept n p) d k)
     ∙ ap admitted_all (bare_moved_up_each n p (still_admitted d []) d.conn.admitted k)
     ∙ ap (λ (x : Work). admitted_all (moved_up_all x)) (bare_started n p w h)
 
@@ -470,7 +584,7 @@ bare_wait : (n p : ℕ) (w : Work) (q : ℕ) (kind : Option WaitKind) → bare n
 bare_wait n p w q None = refl
 bare_wait n p w q (Some kind) =
     bare_acted n p w (act.Wait (name_at w.conn.requests q) kind) (λ m. refl)
-    ∙ ap (λ (m : ℕ). acted (bare n p w) (act.Wait m kind)) (sym (name_stays w.conn.requests p q progress.Closed))
+    ∙ ap (λ (m : ℕ). acted (bare n p w) (act.Wait m kind)) (sym (name_stays w.conn.requests p q progress.Closed 0))
 
 -- nor does who is the first of the queue depend on the row
 first_same : (p : ℕ) (life : Life) → first_queued life ≡ first_queued (hushed_life p life)
@@ -482,7 +596,7 @@ first_same p (Ended e) = refl
 moved_wait_same : (n p : ℕ) (c : MultiplexedConnection) (q : ℕ) → q ≢ p → IsGone n p c.requests c.life → moved_wait c q ≡ moved_wait (bare_conn p c) q
 moved_wait_same n p c q o h =
     let a = same_test is_admitted c.requests p q refl h.seated in
-    let b : is_placed_at c.requests q ≡ is_placed_at (at_progress c.requests p progress.Closed) q = sym (test_other is_placed c.requests p q progress.Closed (λ e. o (sym e))) in
+    let b : is_placed_at c.requests q ≡ is_placed_at (with_permits c.requests p progress.Closed 0) q = sym (test_other is_placed c.requests p q progress.Closed 0 (λ e. o (sym e))) in
     let f = first_same p c.life in
     λ i. if a i then Some wait.Place else if b i && is_from (f i) q then Some wait.Room else None
 
@@ -491,7 +605,7 @@ fresh_wait_same : (n p : ℕ) (c : MultiplexedConnection) (q : ℕ) → IsGone n
 fresh_wait_same n p c q h =
     let a = same_test is_waiting c.requests p q refl h.past in
     let d = dialing_same p c.life in
-    λ i. if a i && d i then Some wait.Connect else None
+    λ i. if a i then Some (if d i then wait.Connect else wait.Permit) else None
 
 -- all waits of those that were moved
 bare_moved_each_shown : (n p : ℕ) (w : Work) (qs : List ℕ) → NoneIs p qs → At (There (IsGone n p)) w → bare n p (moved_each_shown w qs) ≡ moved_each_shown (bare n p w) qs

@@ -1,6 +1,7 @@
 -- Over whole histories, the cancel of a started request changes nothing but its own outcome.
 use Rattle.std.proofs.Common.{◌≡◌, ◌≢◌, ℕ, ◌+◌, ◌<◌, nat_le, ◌||◌, Bool, true, false, List, [], ◌∷◌, ◌++◌, length, Option, Some, slice_get, refl, sym, ap, ◌∙◌, subst, append_assoc, arith, ◌==◌, ◌&&◌}
 use Rattle.std.proofs.Math.Bool.{or-false}
+use Rattle.std.proofs.lemmas.List.{append-nil}
 use Rattle.containers.proofs.Choices.{chosen, not_le_test, not_both}
 use Rattle.containers.proofs.Places.{get_within}
 use Rattle.driver_model.specs.declared.action.Action.{Action}
@@ -16,45 +17,52 @@ use Rattle.mux_conn.specs.declared.life.Life.{Life}
 use Rattle.mux_conn.specs.declared.life.Life.TheVariants.{Dialing, Ready, Ended}
 use Rattle.mux_conn.specs.declared.request.Pending.{Pending}
 use Rattle.mux_conn.specs.Requests.{if_there, is_open, is_waiting, is_admitted, is_open_at}
+use Rattle.mux_conn.specs.Connection.{Work}
 use Rattle.mux_conn.specs.Effects.{cancelled_in, left}
+use Rattle.mux_conn.specs.Passes.{passed}
 use Rattle.shared_session.specs.declared.core_state.Core.{Core}
-use Rattle.shared_session.specs.Turn.{Turning, work_of, with_work, heard, left_by, counted, moved_on, exceeds_offer, is_bad, shown_each, actions_of, next_turn}
+use Rattle.shared_session.specs.Turn.{Turning, work_of, with_work, heard, left_by, counted, moved_on, timed, exceeds_offer, is_bad, shown_each, actions_of, next_turn}
 use Rattle.shared_session.specs.Replay.{opening_core, opening_actions, run_on, state_after, turns_on, trace_of, told_each, outcomes_in, outcome_at, is_bad_after}
 use Rattle.shared_session.proofs.Replays.{turns_after}
 use Rattle.cancel_laws.specs.ButFor.{all_unnumbered, but_for, hushed_life}
 use Rattle.cancel_laws.specs.Cancels.{cancel_of, HasStarted, GoesOn}
+use Rattle.cancel_laws.specs.Laws.{HasNoLimit}
 use Rattle.cancel_laws.proofs.Requests.{own_closed}
 use Rattle.cancel_laws.proofs.Names.{own_of}
 use Rattle.cancel_laws.proofs.Links.{none_from}
-use Rattle.cancel_laws.proofs.Kept.{There, AtCore, turn_kept}
-use Rattle.cancel_laws.proofs.Gone.{NoneQueued, NoneInRow, NoneIs, IsAway, IsHushed, hushed_kept, hushed_asks, quiet_life}
+use Rattle.cancel_laws.proofs.Kept.{At, There, AtCore, Unlimited, left_by_kept, passed_kept, flushed_kept, turn_kept}
+use Rattle.cancel_laws.proofs.Gone.{NoneQueued, NoneInRow, NoneIs, IsAway, away_kept, IsHushed, hushed_kept, hushed_asks, quiet_life}
 use Rattle.cancel_laws.proofs.Bare.{own_left}
 use Rattle.cancel_laws.proofs.Once.{IsOnce, silenced_once, row_once}
 use Rattle.cancel_laws.proofs.Rest.{nothing_moves, left_idle}
-use Rattle.cancel_laws.proofs.Silent.{IsSilent}
-use Rattle.cancel_laws.proofs.Turns.{bare_core, above, more_after, AreAlike, turn_gone}
-use Rattle.cancel_laws.proofs.Ready.{IsReady, ready_on, opening_ready}
-use Rattle.cancel_laws.proofs.Shown.{shown_alike, alike_on, silent_shown}
+use Rattle.cancel_laws.proofs.Silent.{IsSilent, silent_kept}
+use Rattle.cancel_laws.proofs.Turns.{bare_core, above, more_after, AreAlike, turn_gone, turn_unlimited}
+use Rattle.cancel_laws.proofs.Ready.{IsReady, ready_on, opening_ready, unlimited_after}
+use Rattle.cancel_laws.proofs.Shown.{but_for-append, unnumbered-append, unshown_acts, shown_alike, alike_on, silent_shown}
 use Rattle.cancel_laws.proofs.Outcomes.{told-append, all_told_unnumbered, erased, other_outcome, erased_told, none_told}
 
 -- the turn of the cancel
 --
--- where submission n is request p, whose message isn't in the queue, the turn of its cancel is the request's cancel
-cancel_turn : (c : Core) (n : ℕ) (p : Pending) → IsReady c → slice_get c.table n ≡ Some (Some p) → NoneQueued p.number c.single.connection.life
+-- where submission n is request p, whose message isn't in the queue, and permits aren't counted, the turn of its cancel is the request's cancel
+cancel_turn : (c : Core) (n : ℕ) (p : Pending) → AtCore Unlimited c → IsReady c → slice_get c.table n ≡ Some (Some p) → NoneQueued p.number c.single.connection.life
     → next_turn c (event.Cancel n) ≡ record { core = record c { turns = c.turns + 1; single = record c.single { connection = left c.single.connection p.number } }; acts = [] }
 unfolding next_turn
-cancel_turn c n p r there none =
+cancel_turn c n p unlimited r there none =
     let t = heard (counted c) (event.Cancel n) in
     let d = left_by t (Some (Some p)) in
-    ap (λ (who : Option (Option Pending)). moved_on (left_by t who)) there
-    ∙ ap (with_work d) (nothing_moves (work_of d) (left_idle c.single.connection p.number none r.idle))
-    ∙ ap
-    (λ (b : Bool). record { core = record c { turns = c.turns + 1; shut = b; single = record c.single { connection = left c.single.connection p.number } }; acts = [] })
-    (or-false c.shut)
+    let shut = or-false c.shut in
+    let timers = append-nil c.timers in
+    ap (λ (who : Option (Option Pending)). timed (moved_on (left_by t who))) there
+    ∙ ap (λ (w : Work). timed (with_work d w)) (nothing_moves (work_of d) (left_idle c.single.connection p.number unlimited none r.idle))
+    ∙ (λ i. record { core = record c { turns = c.turns + 1; shut = shut i; timers = timers i; single = record c.single { connection = left c.single.connection p.number } }; acts = [] })
 
 -- a started request is gone from the queue
 started_none : (n : ℕ) (c : Core) (h : HasStarted n c) → NoneQueued h.pending.number c.single.connection.life
 started_none n c h = let p = h.pending.number in subst (NoneQueued p) (sym h.up) (none_from p h.link.queue h.gone)
+
+-- it is a submission
+started_within : (n : ℕ) (c : Core) → HasStarted n c → n < length c.table
+started_within n c h = get_within c.table n (Some h.pending) h.there
 
 -- and it waits for nothing
 started_away : (n : ℕ) (c : Core) (h : HasStarted n c) → IsReady c → AtCore (IsAway n h.pending.number) c
@@ -72,62 +80,74 @@ started_away n c h r =
     }
 
 -- so its cancel's turn is its cancel
-started_cancel : (n : ℕ) (c : Core) (h : HasStarted n c) → IsReady c
+started_cancel : (n : ℕ) (c : Core) (h : HasStarted n c) → AtCore Unlimited c → IsReady c
     → next_turn c (event.Cancel n) ≡ record { core = record c { turns = c.turns + 1; single = record c.single { connection = left c.single.connection h.pending.number } }; acts = [] }
-started_cancel n c h r = cancel_turn c n h.pending r h.there (started_none n c h)
+started_cancel n c h u r = cancel_turn c n h.pending u r h.there (started_none n c h)
+
+-- it stays gone in the turn of its cancel
+cancel_gone : (n : ℕ) (c : Core) (h : HasStarted n c) → IsReady c → AtCore (IsAway n h.pending.number) (next_turn c (event.Cancel n)).core
+cancel_gone n c h r = turn_gone n h.pending.number c (event.Cancel n) (started_within n c h) (started_away n c h r)
 
 -- and it is open
 started_open : (n : ℕ) (c : Core) (h : HasStarted n c) → is_open_at c.single.connection.requests h.pending.number ≡ true
 started_open n c h = ap (if_there is_open) h.known ∙ ap is_open h.placed
 
 -- its cancel leads to a session that is alike
-cancel_alike : (n : ℕ) (c : Core) (h : HasStarted n c) → IsReady c → AreAlike n h.pending.number c (next_turn c (event.Cancel n)).core
-cancel_alike n c h r =
+cancel_alike : (n : ℕ) (c : Core) (h : HasStarted n c) → AtCore Unlimited c → IsReady c → AreAlike n h.pending.number c (next_turn c (event.Cancel n)).core
+cancel_alike n c h u r =
     let p = h.pending.number in
     let gone = started_away n c h r in
-    let within = get_within c.table n (Some h.pending) h.there in
+    let within = started_within n c h in
     let own = own_left p c.single.connection gone.gone.none in
     record {
       same =
           ap (λ (x : MultiplexedConnection). record (bare_core p c) { single = record c.single { connection = x } }) (sym own)
-          ∙ ap (λ (x : Turning). bare_core p x.core) (sym (started_cancel n c h r));
+          ∙ ap (λ (x : Turning). bare_core p x.core) (sym (started_cancel n c h u r));
+      unlimited = u;
+      unlimited_too = turn_unlimited c (event.Cancel n) u;
       within = within;
       within_too = more_after n c (event.Cancel n) within;
       gone = gone;
-      gone_too = turn_gone n p c (event.Cancel n) within gone;
+      gone_too = cancel_gone n c h r;
     }
 
 -- a request that was left is closed
 left_closed : (c : MultiplexedConnection) (p : ℕ) → is_open_at (left c p).requests p ≡ false
 left_closed c p = chosen (λ (x : MultiplexedConnection). is_open_at x.requests p ≡ false) (is_open_at c.requests p) _ c (λ t. own_closed c.requests p) (λ f. f)
 
--- and it is silent from then on
-cancel_silent : (n : ℕ) (c : Core) (h : HasStarted n c) → IsReady c → AtCore (IsSilent n h.pending.number) (next_turn c (event.Cancel n)).core
-cancel_silent n c h r =
+-- so it is silent in the turn of its cancel, whoever takes its permits
+cancel_silent_turn : (n : ℕ) (c : Core) (h : HasStarted n c) → IsReady c → At (IsSilent n h.pending.number) (work_of (next_turn c (event.Cancel n)))
+unfolding next_turn
+cancel_silent_turn n c h r =
     let p = h.pending.number in
-    let g = (cancel_alike n c h r).gone_too.gone in
-    record {
-      there = g.there;
-      own = g.own;
-      closed = ap (λ (x : Turning). is_open_at x.core.single.connection.requests p) (started_cancel n c h r) ∙ left_closed c.single.connection p;
-      unshown = refl;
-    }
+    let t = heard (counted c) (event.Cancel n) in
+    let who = slice_get c.table n in
+    let g : At (IsAway n p) (work_of (left_by t (Some (Some h.pending)))) = left_by_kept (away_kept n p) t (Some (Some h.pending)) (started_away n c h r) in
+    let s : At (IsSilent n p) (work_of (left_by t (Some (Some h.pending)))) =
+    record { there = g.gone.there; own = g.gone.own; closed = left_closed c.single.connection p; unshown = refl } in
+    let l : At (IsSilent n p) (work_of (left_by t who)) = subst (λ (x : Option (Option Pending)). At (IsSilent n p) (work_of (left_by t x))) (sym h.there) s in
+    let w = work_of (left_by t who) in
+    flushed_kept (silent_kept n p) (passed w) (passed_kept (silent_kept n p) w l)
+
+-- and from then on
+cancel_silent : (n : ℕ) (c : Core) (h : HasStarted n c) → IsReady c → AtCore (IsSilent n h.pending.number) (next_turn c (event.Cancel n)).core
+cancel_silent n c h r = let s = cancel_silent_turn n c h r in record { there = s.there; own = s.own; closed = s.closed; unshown = refl }
 
 -- nobody awaits what the link of a cancelled request has for it
 left_quiet : (c : MultiplexedConnection) (p : ℕ) → is_open_at c.requests p ≡ true → NoneInRow p (cancelled_in c.life p) → NoneInRow p (left c p).life
 left_quiet c p t h = chosen (λ (x : MultiplexedConnection). NoneInRow p x.life) (is_open_at c.requests p) _ c (λ u. h) (λ f. absurd (not_both (is_open_at c.requests p) f t))
 
 -- so from the cancel on its verdict is not wanted
-cancel_hushed : (n : ℕ) (c : Core) (h : HasStarted n c) → IsReady c → AtCore (There (IsHushed n h.pending.number)) (next_turn c (event.Cancel n)).core
-cancel_hushed n c h r =
+cancel_hushed : (n : ℕ) (c : Core) (h : HasStarted n c) → AtCore Unlimited c → IsReady c → AtCore (There (IsHushed n h.pending.number)) (next_turn c (event.Cancel n)).core
+cancel_hushed n c h u r =
     let p = h.pending.number in
     let x = c.single.connection in
     let once : IsOnce p x.requests (Ready h.link) = subst (IsOnce p x.requests) h.up (r.once p) in
     let quiet : NoneInRow p (cancelled_in x.life p) =
     subst (λ (life : Life). NoneInRow p (cancelled_in life p)) (sym h.up) (silenced_once p h.link.row (row_once p x.requests h.link h.request once h.known)) in
     record {
-      gone = (cancel_alike n c h r).gone_too.gone;
-      quiet = subst (λ (y : Turning). NoneInRow p y.core.single.connection.life) (sym (started_cancel n c h r)) (left_quiet x p (started_open n c h) quiet);
+      gone = (cancel_gone n c h r).gone;
+      quiet = subst (λ (y : Turning). NoneInRow p y.core.single.connection.life) (sym (started_cancel n c h u r)) (left_quiet x p (started_open n c h) quiet);
     }
 
 -- and never again
@@ -136,9 +156,9 @@ hushed_on n p c [] l h = h
 hushed_on n p c (e ∷ es) l h =
     hushed_on n p (next_turn c e.kind).core es (more_after n c e.kind l) (turn_kept (hushed_kept n p) c (hushed_asks n p (length c.table) (above n c.table l)) e.kind h)
 
--- the turn of the cancel shows nothing
-cancel_shows : (c : Core) (draw n : ℕ) (h : HasStarted n c) → IsReady c → actions_of c (cancel_of draw n) ≡ action.Turn c.turns (cause.Event (cancel_of draw n)) ∷ []
-cancel_shows c draw n h r = ap (λ (x : Turning). action.Turn c.turns (cause.Event (cancel_of draw n)) ∷ shown_each c.single.link x.acts) (started_cancel n c h r)
+-- the turn of the cancel shows nothing, where permits aren't counted
+cancel_shows : (c : Core) (draw n : ℕ) (h : HasStarted n c) → AtCore Unlimited c → IsReady c → actions_of c (cancel_of draw n) ≡ action.Turn c.turns (cause.Event (cancel_of draw n)) ∷ []
+cancel_shows c draw n h u r = ap (λ (x : Turning). action.Turn c.turns (cause.Event (cancel_of draw n)) ∷ shown_each c.single.link (length c.timers) x.acts) (started_cancel n c h u r)
 
 -- histories
 --
@@ -174,14 +194,15 @@ number_after : (config : Config) (word : ℕ) (before : List Event) → (state_a
 number_after config word before = omega (arith, turns_after config word before)
 
 -- the two sessions are alike after all later events
-alike_after : (config : Config) (word draw n : ℕ) (before after : List Event) (h : HasStarted n (state_after config word before))
+alike_after : (config : Config) (word draw n : ℕ) (before after : List Event) → HasNoLimit config → (h : HasStarted n (state_after config word before))
     → AreAlike n h.pending.number (state_after config word (before ++ after)) (state_after config word (before ++ cancel_of draw n ∷ after))
-alike_after config word draw n before after h =
+alike_after config word draw n before after free h =
     let c = state_after config word before in
     let p = h.pending.number in
     let d = (next_turn c (event.Cancel n)).core in
+    let a = cancel_alike n c h (unlimited_after config word before free) (ready_after config word before) in
     subst (λ (x : Core). AreAlike n p x (state_after config word (before ++ cancel_of draw n ∷ after))) (sym (state_split config word before after))
-    (subst (AreAlike n p (run_on c after)) (sym (state_split config word before (cancel_of draw n ∷ after))) (alike_on n p c d after (cancel_alike n c h (ready_after config word before))))
+    (subst (AreAlike n p (run_on c after)) (sym (state_split config word before (cancel_of draw n ∷ after))) (alike_on n p c d after a))
 
 -- what the turns show, and what outcomes they tell
 --
@@ -191,13 +212,25 @@ silent_after : (config : Config) (word n : ℕ) (before after : List Event) (h :
 silent_after config word n before after h =
     let c = state_after config word before in
     let r = ready_after config word before in
-    silent_shown n h.pending.number (next_turn c (event.Cancel n)).core after (cancel_alike n c h r).within_too (cancel_silent n c h r)
+    silent_shown n h.pending.number (next_turn c (event.Cancel n)).core after (more_after n c (event.Cancel n) (started_within n c h)) (cancel_silent n c h r)
+
+-- nor does the turn of the cancel
+silent_from : (config : Config) (word draw n : ℕ) (before after : List Event) (h : HasStarted n (state_after config word before))
+    → but_for n (turns_on (state_after config word before) (cancel_of draw n ∷ after)) ≡ all_unnumbered (turns_on (state_after config word before) (cancel_of draw n ∷ after))
+silent_from config word draw n before after h =
+    let c = state_after config word before in
+    let e = cancel_of draw n in
+    let more = turns_on (next_turn c (event.Cancel n)).core after in
+    but_for-append n (actions_of c e) more
+    ∙ ap (λ (xs : List Action). xs ++ but_for n more) (unshown_acts n c e (cancel_silent_turn n c h (ready_after config word before)).unshown)
+    ∙ ap (λ (xs : List Action). all_unnumbered (actions_of c e) ++ xs) (silent_after config word n before after h) ∙ sym (unnumbered-append (actions_of c e) more)
 
 -- the trace with the cancel goes on as the one without it
-pub goes_on : (config : Config) (word draw n : ℕ) (before after : List Event) → HasStarted n (state_after config word before) → GoesOn config word n before (cancel_of draw n) after
-goes_on config word draw n before after h =
+pub goes_on : (config : Config) (word draw n : ℕ) (before after : List Event) → HasNoLimit config → HasStarted n (state_after config word before) → GoesOn config word n before (cancel_of draw n) after
+goes_on config word draw n before after free h =
     let c = state_after config word before in
     let d = (next_turn c (event.Cancel n)).core in
+    let u = unlimited_after config word before free in
     let r = ready_after config word before in
     let number = ap (λ (k : ℕ). action.Turn k (cause.Event (cancel_of draw n)) ∷ []) (number_after config word before) in
     record {
@@ -205,8 +238,8 @@ goes_on config word draw n before after h =
       later_with = turns_on d after;
       plain = trace_split config word before after;
       with_more = trace_split config word before (cancel_of draw n ∷ after)
-          ∙ ap (λ (xs : List Action). trace_of config word before ++ (xs ++ turns_on d after)) (cancel_shows c draw n h r ∙ number);
-      alike = shown_alike n h.pending.number c d after (cancel_alike n c h r) ∙ silent_after config word n before after h;
+          ∙ ap (λ (xs : List Action). trace_of config word before ++ (xs ++ turns_on d after)) (cancel_shows c draw n h u r ∙ number);
+      alike = shown_alike n h.pending.number c d after (cancel_alike n c h u r) ∙ silent_after config word n before after h;
     }
 
 -- one submission's outcomes aside, a trace tells the same with the turn of the cancel and without it
@@ -220,11 +253,11 @@ same_told n m k draw trace later later_with o e =
     ∙ sym (ap (λ (ps : List (Option Outcome)). outcome_at ps m) (told-append [] trace (action.Turn k (cause.Event (cancel_of draw n)) ∷ later_with)))
 
 -- all other submissions have the same outcomes
-pub same_outcomes : (config : Config) (word draw n m : ℕ) (before after : List Event) → HasStarted n (state_after config word before) → m ≢ n
+pub same_outcomes : (config : Config) (word draw n m : ℕ) (before after : List Event) → HasNoLimit config → HasStarted n (state_after config word before) → m ≢ n
     → outcome_at (outcomes_in (trace_of config word (before ++ after))) m ≡ outcome_at (outcomes_in (trace_of config word (before ++ cancel_of draw n ∷ after))) m
 unfolding outcomes_in goes_on
-same_outcomes config word draw n m before after h o =
-    let g = goes_on config word draw n before after h in
+same_outcomes config word draw n m before after free h o =
+    let g = goes_on config word draw n before after free h in
     let e = g.alike ∙ sym (silent_after config word n before after h) in
     ap (λ (xs : List Action). outcome_at (told_each [] xs) m) g.plain ∙ same_told n m (length before + 1) draw (trace_of config word before) g.later g.later_with o e
     ∙ sym (ap (λ (xs : List Action). outcome_at (told_each [] xs) m) g.with_more)
@@ -232,29 +265,28 @@ same_outcomes config word draw n m before after h o =
 -- the cancelled one has the outcome that it had before: none
 pub no_outcome : (config : Config) (word draw n : ℕ) (before after : List Event) → HasStarted n (state_after config word before)
     → outcome_at (outcomes_in (trace_of config word (before ++ cancel_of draw n ∷ after))) n ≡ outcome_at (outcomes_in (trace_of config word before)) n
-unfolding outcomes_in goes_on
+unfolding outcomes_in
 no_outcome config word draw n before after h =
-    let g = goes_on config word draw n before after h in
     let trace = trace_of config word before in
+    let later = turns_on (state_after config word before) (cancel_of draw n ∷ after) in
     let os = told_each [] trace in
-    ap (λ (xs : List Action). outcome_at (told_each [] xs) n) g.with_more
+    ap (λ (xs : List Action). outcome_at (told_each [] xs) n) (trace_split config word before (cancel_of draw n ∷ after))
     ∙ ap (λ (ps : List (Option Outcome)). outcome_at ps n)
-    (told-append [] trace (action.Turn (length before + 1) (cause.Event (cancel_of draw n)) ∷ g.later_with)
-    ∙ sym (all_told_unnumbered os g.later_with) ∙ ap (told_each os) (sym (silent_after config word n before after h)))
-    ∙ none_told n os g.later_with
+    (told-append [] trace later ∙ sym (all_told_unnumbered os later) ∙ ap (told_each os) (sym (silent_from config word draw n before after h)))
+    ∙ none_told n os later
 
 -- items, and events
 --
 -- the links are the same, but for the verdict that is not wanted
-pub same_items : (config : Config) (word draw n : ℕ) (before after : List Event) (h : HasStarted n (state_after config word before))
+pub same_items : (config : Config) (word draw n : ℕ) (before after : List Event) → HasNoLimit config → (h : HasStarted n (state_after config word before))
     → hushed_life h.pending.number (state_after config word (before ++ after)).single.connection.life ≡ (state_after config word (before ++ cancel_of draw n ∷ after)).single.connection.life
-same_items config word draw n before after h =
+same_items config word draw n before after free h =
     let c = state_after config word before in
     let p = h.pending.number in
     let r = ready_after config word before in
     let d = (next_turn c (event.Cancel n)).core in
-    let s = hushed_on n p d after (cancel_alike n c h r).within_too (cancel_hushed n c h r) in
-    ap (λ (x : Core). x.single.connection.life) (alike_after config word draw n before after h).same
+    let s = hushed_on n p d after (more_after n c (event.Cancel n) (started_within n c h)) (cancel_hushed n c h (unlimited_after config word before free) r) in
+    ap (λ (x : Core). x.single.connection.life) (alike_after config word draw n before after free h).same
     ∙ subst (λ (x : Core). hushed_life p x.single.connection.life ≡ x.single.connection.life) (sym (state_split config word before (cancel_of draw n ∷ after)))
     (quiet_life p (run_on d after).single.connection.life s.quiet)
 
@@ -272,6 +304,7 @@ bare_bad p c (event.Cancel m) = refl
 bare_bad p c (event.Connected l) = refl
 bare_bad p c (event.Refused l f) = refl
 bare_bad p c (event.Fired n) = refl
+bare_bad p c (event.Timeout ms) = refl
 bare_bad p c (event.Wrote l count) = ap (λ (b : Bool). nat_le c.links l || ((l == c.single.link) && b)) (too_much_same p count c.single.connection.life)
 bare_bad p c (event.Bytes l piece) = refl
 bare_bad p c (event.Ended l) = refl
@@ -280,11 +313,11 @@ bare_bad p c (event.WriteFault l fault) = refl
 bare_bad p c event.Shutdown = refl
 
 -- so the same events are bad
-pub same_bad : (config : Config) (word draw n : ℕ) (before after : List Event) (e : Event) → HasStarted n (state_after config word before)
+pub same_bad : (config : Config) (word draw n : ℕ) (before after : List Event) (e : Event) → HasNoLimit config → HasStarted n (state_after config word before)
     → is_bad_after config word (before ++ after) e ≡ is_bad_after config word (before ++ cancel_of draw n ∷ after) e
-same_bad config word draw n before after e h =
+same_bad config word draw n before after e free h =
     let p = h.pending.number in
-    bare_bad p (state_after config word (before ++ after)) e.kind ∙ ap (λ (x : Core). is_bad x e.kind) (alike_after config word draw n before after h).same
+    bare_bad p (state_after config word (before ++ after)) e.kind ∙ ap (λ (x : Core). is_bad x e.kind) (alike_after config word draw n before after free h).same
     ∙ sym (bare_bad p (state_after config word (before ++ cancel_of draw n ∷ after)) e.kind)
 
 -- and the cancel itself is not

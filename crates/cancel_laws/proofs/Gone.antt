@@ -1,5 +1,5 @@
 -- A request whose message has left the queue never waits again, and where its verdict is not wanted, it never is again.
-use Rattle.std.proofs.Common.{◌≡◌, ◌≢◌, ℕ, ◌<◌, ◌==◌, ◌&&◌, Bool, false, List, [], ◌∷◌, ◌++◌, length, refl, sym, ap, ◌∙◌, subst, arith, length-append}
+use Rattle.std.proofs.Common.{Option, ◌≡◌, ◌≢◌, ℕ, ◌<◌, ◌==◌, ◌&&◌, Bool, false, List, [], ◌∷◌, ◌++◌, length, refl, sym, ap, ◌∙◌, subst, arith, length-append}
 use Rattle.containers.proofs.Choices.{ne_test}
 use Rattle.link_core.specs.declared.message.Entry.{Entry}
 use Rattle.mux_conn.specs.declared.act.LinkAct.{LinkAct}
@@ -8,7 +8,7 @@ use Rattle.mux_conn.specs.declared.life.Life.TheVariants.{Dialing, Ready, Ended}
 use Rattle.mux_conn.specs.declared.request.Progress.{Progress}
 use Rattle.mux_conn.specs.declared.request.Progress.TheVariants as progress
 use Rattle.mux_conn.specs.declared.request.Request.{Request}
-use Rattle.mux_conn.specs.Requests.{is_waiting, is_admitted, is_waiting_at, is_admitted_at, at_progress}
+use Rattle.mux_conn.specs.Requests.{is_waiting, is_admitted, is_waiting_at, is_admitted_at, permits_at, with_permits}
 use Rattle.mux_conn.specs.Effects.{cancelled_in}
 use Rattle.mux_conn.specs.Passes.{message_of}
 use Rattle.cancel_laws.specs.ButFor.{hushed_life}
@@ -40,12 +40,12 @@ pub record IsGone (n p : ℕ) (r : List Request) (life : Life) : Type 0 where
 -- a change of progress
 --
 -- names stay with their requests
-pub own_kept : (n p : ℕ) (r : List Request) (q : ℕ) (now : Progress) → IsOwn n p (names r) → IsOwn n p (names (at_progress r q now))
-own_kept n p r q now h = subst (IsOwn n p) (sym (names_stay r q now)) h
+pub own_kept : (n p : ℕ) (r : List Request) (q : ℕ) (now : Progress) (count : ℕ) → IsOwn n p (names r) → IsOwn n p (names (with_permits r q now count))
+own_kept n p r q now count h = subst (IsOwn n p) (sym (names_stay r q now count)) h
 
 -- and requests stay
-pub within_kept : (r : List Request) (p q : ℕ) (now : Progress) → p < length r → p < length (at_progress r q now)
-within_kept r p q now l = omega (arith, progress_count r q now)
+pub within_kept : (r : List Request) (p q : ℕ) (now : Progress) (count : ℕ) → p < length r → p < length (with_permits r q now count)
+within_kept r p q now count l = omega (arith, progress_count r q now count)
 
 -- a cancel puts nothing into the queue
 none_cancelled : (p q : ℕ) (life : Life) → NoneQueued p life → NoneQueued p (cancelled_in life q)
@@ -61,32 +61,26 @@ not_awaited p q awaited o = ap (λ (b : Bool). b && awaited) (ne_test q p o)
 gone_there : (n p : ℕ) → IsKeptThere (IsGone n p)
 gone_there n p = record {
   answer = λ r life q h. record {
-    there = within_kept r p q progress.Closed h.there;
-    own = own_kept n p r q progress.Closed h.own;
-    past = past_set is_waiting r q p progress.Closed refl h.past;
-    seated = past_set is_admitted r q p progress.Closed refl h.seated;
+    there = within_kept r p q progress.Closed 0 h.there;
+    own = own_kept n p r q progress.Closed 0 h.own;
+    past = past_set is_waiting r q p progress.Closed 0 refl h.past;
+    seated = past_set is_admitted r q p progress.Closed 0 refl h.seated;
     none = h.none;
   };
-  cancel = λ r life q h. record {
-    there = within_kept r p q progress.Closed h.there;
-    own = own_kept n p r q progress.Closed h.own;
-    past = past_set is_waiting r q p progress.Closed refl h.past;
-    seated = past_set is_admitted r q p progress.Closed refl h.seated;
-    none = none_cancelled p q life h.none;
-  };
+  hush = λ r life q h. record { there = h.there; own = h.own; past = h.past; seated = h.seated; none = none_cancelled p q life h.none };
   connect = λ r size bound h. record { there = h.there; own = h.own; past = h.past; seated = h.seated; none = tt };
-  admit = λ r life q t h. record {
-    there = within_kept r p q progress.Admitted h.there;
-    own = own_kept n p r q progress.Admitted h.own;
-    past = past_set is_waiting r q p progress.Admitted refl h.past;
-    seated = test_other is_admitted r q p progress.Admitted (other_test is_waiting r q p t h.past) ∙ h.seated;
+  admit = λ r life q count t h. record {
+    there = within_kept r p q progress.Admitted count h.there;
+    own = own_kept n p r q progress.Admitted count h.own;
+    past = past_set is_waiting r q p progress.Admitted count refl h.past;
+    seated = test_other is_admitted r q p progress.Admitted count (other_test is_waiting r q p t h.past) ∙ h.seated;
     none = h.none;
   };
   place = λ r l q t h. record {
-    there = within_kept r p q.number progress.Placed h.there;
-    own = own_kept n p r q.number progress.Placed h.own;
-    past = past_set is_waiting r q.number p progress.Placed refl h.past;
-    seated = past_set is_admitted r q.number p progress.Placed refl h.seated;
+    there = within_kept r p q.number progress.Placed (permits_at r q.number) h.there;
+    own = own_kept n p r q.number progress.Placed (permits_at r q.number) h.own;
+    past = past_set is_waiting r q.number p progress.Placed (permits_at r q.number) refl h.past;
+    seated = past_set is_admitted r q.number p progress.Placed (permits_at r q.number) refl h.seated;
     none = none_push p l.queue (message_of q) h.none (not_awaited p q.number q.awaited (other_test is_admitted r q.number p t h.seated));
   };
   start = λ r l h. record { there = h.there; own = h.own; past = h.past; seated = h.seated; none = none_started p (record { link = l; out = [] }) l.queue h.none };
@@ -101,9 +95,9 @@ pub gone_kept : (n p : ℕ) → IsKept (There (IsGone n p))
 gone_kept n p = kept_there (gone_there n p)
 
 -- one more request, of another name
-gone_asked : (n p m : ℕ) (r : List Request) (life : Life) → m ≢ n → IsGone n p r life → IsGone n p (r ++ record { name = m; progress = progress.Waiting } ∷ []) life
+gone_asked : (n p m : ℕ) (r : List Request) (life : Life) → m ≢ n → IsGone n p r life → IsGone n p (r ++ record { name = m; progress = progress.Waiting; permits = 0 } ∷ []) life
 gone_asked n p m r life o h =
-    let x : Request = record { name = m; progress = progress.Waiting } in
+    let x : Request = record { name = m; progress = progress.Waiting; permits = 0 } in
     record {
       there = omega (arith, h.there, length-append r (x ∷ []));
       own = subst (IsOwn n p) (sym (names_push r x)) (own_push n p m (names r) o h.own);
@@ -125,33 +119,34 @@ none_is_push p [] q o h = (o, tt)
 none_is_push p (x ∷ qs) q o h = (h.0, none_is_push p qs q o h.1)
 
 -- that request, where it was not moved in this turn
-pub record IsAway (n p : ℕ) (r : List Request) (life : Life) (ms : List ℕ) (xs : List LinkAct) : Type 0 where
+pub record IsAway (n p : ℕ) (lim : Option ℕ) (r : List Request) (life : Life) (ms : List ℕ) (xs : List LinkAct) : Type 0 where
   pub gone : IsGone n p r life
   pub unmoved : NoneIs p ms
 
 -- so each part of a turn does
 pub away_kept : (n p : ℕ) → IsKept (IsAway n p)
 away_kept n p = record {
-  answer = λ r life ms xs q o t h. record { gone = (gone_there n p).answer r life q h.gone; unmoved = h.unmoved };
-  cancel = λ r life ms xs q t h. record { gone = (gone_there n p).cancel r life q h.gone; unmoved = h.unmoved };
-  connect = λ r size bound ms xs h. record { gone = (gone_there n p).connect r size bound h.gone; unmoved = h.unmoved };
-  admit = λ r life ms xs q t h. record { gone = (gone_there n p).admit r life q t h.gone; unmoved = h.unmoved };
-  note = λ r life ms xs q t h. record { gone = h.gone; unmoved = none_is_push p ms q (other_test is_admitted r q p t h.gone.seated) h.unmoved };
-  place = λ r l ms xs q t h. record { gone = (gone_there n p).place r l q t h.gone; unmoved = h.unmoved };
-  start = λ r l ms xs h. record { gone = (gone_there n p).start r l h.gone; unmoved = h.unmoved };
-  offer = λ r l ms xs h. record { gone = (gone_there n p).offer r l h.gone; unmoved = h.unmoved };
-  write = λ r l ms xs k h. record { gone = (gone_there n p).write r l k h.gone; unmoved = h.unmoved };
-  come = λ r l ms xs piece h. record { gone = (gone_there n p).come r l piece h.gone; unmoved = h.unmoved };
-  end = λ r life ms xs e h. record { gone = (gone_there n p).end r life e h.gone; unmoved = h.unmoved };
-  show = λ r life ms xs a plain h. record { gone = h.gone; unmoved = h.unmoved };
-  calm = λ r life ms xs h. record { gone = h.gone; unmoved = tt };
+  answer = λ lim r life ms xs q o t h. record { gone = (gone_there n p).answer r life q h.gone; unmoved = h.unmoved };
+  cancel = λ lim r life ms xs q t h. record { gone = (gone_kept n p).cancel lim r life ms xs q t h.gone; unmoved = h.unmoved };
+  hush = λ lim r life ms xs q h. record { gone = (gone_there n p).hush r life q h.gone; unmoved = h.unmoved };
+  connect = λ lim r size bound ms xs h. record { gone = (gone_there n p).connect r size bound h.gone; unmoved = h.unmoved };
+  admit = λ lim r life ms xs q count t h. record { gone = (gone_there n p).admit r life q count t h.gone; unmoved = h.unmoved };
+  note = λ lim r life ms xs q t h. record { gone = h.gone; unmoved = none_is_push p ms q (other_test is_admitted r q p t h.gone.seated) h.unmoved };
+  place = λ lim r l ms xs q t h. record { gone = (gone_there n p).place r l q t h.gone; unmoved = h.unmoved };
+  start = λ lim r l ms xs h. record { gone = (gone_there n p).start r l h.gone; unmoved = h.unmoved };
+  offer = λ lim r l ms xs h. record { gone = (gone_there n p).offer r l h.gone; unmoved = h.unmoved };
+  write = λ lim r l ms xs k h. record { gone = (gone_there n p).write r l k h.gone; unmoved = h.unmoved };
+  come = λ lim r l ms xs piece h. record { gone = (gone_there n p).come r l piece h.gone; unmoved = h.unmoved };
+  end = λ lim r life ms xs e h. record { gone = (gone_there n p).end r life e h.gone; unmoved = h.unmoved };
+  show = λ lim r life ms xs a plain h. record { gone = h.gone; unmoved = h.unmoved };
+  calm = λ lim r life ms xs h. record { gone = h.gone; unmoved = tt };
 }
 
 -- and one more submission does
 pub away_asks : (n p m : ℕ) → m ≢ n → CanAsk (IsAway n p) m
 away_asks n p m o = record {
-  ask = λ r life ms xs h. record { gone = gone_asked n p m r life o h.gone; unmoved = h.unmoved };
-  refuse = λ r life ms xs x h. record { gone = h.gone; unmoved = h.unmoved };
+  ask = λ lim r life ms xs h. record { gone = gone_asked n p m r life o h.gone; unmoved = h.unmoved };
+  refuse = λ lim r life ms xs x h. record { gone = h.gone; unmoved = h.unmoved };
 }
 
 -- where its verdict is not wanted
@@ -171,9 +166,9 @@ quiet_cancelled p q (Ended e) h = h
 hushed_there : (n p : ℕ) → IsKeptThere (IsHushed n p)
 hushed_there n p = record {
   answer = λ r life q h. record { gone = (gone_there n p).answer r life q h.gone; quiet = h.quiet };
-  cancel = λ r life q h. record { gone = (gone_there n p).cancel r life q h.gone; quiet = quiet_cancelled p q life h.quiet };
+  hush = λ r life q h. record { gone = (gone_there n p).hush r life q h.gone; quiet = quiet_cancelled p q life h.quiet };
   connect = λ r size bound h. record { gone = (gone_there n p).connect r size bound h.gone; quiet = tt };
-  admit = λ r life q t h. record { gone = (gone_there n p).admit r life q t h.gone; quiet = h.quiet };
+  admit = λ r life q count t h. record { gone = (gone_there n p).admit r life q count t h.gone; quiet = h.quiet };
   place = λ r l q t h. record { gone = (gone_there n p).place r l q t h.gone; quiet = h.quiet };
   start = λ r l h. record { gone = (gone_there n p).start r l h.gone; quiet = quiet_starts p (record { link = l; out = [] }) l.queue h.gone.none h.quiet };
   offer = λ r l h. record { gone = (gone_there n p).offer r l h.gone; quiet = h.quiet };
@@ -188,7 +183,7 @@ hushed_kept n p = kept_there (hushed_there n p)
 
 -- and one more submission does
 pub hushed_asks : (n p m : ℕ) → m ≢ n → CanAsk (There (IsHushed n p)) m
-hushed_asks n p m o = record { ask = λ r life ms xs h. record { gone = gone_asked n p m r life o h.gone; quiet = h.quiet }; refuse = λ r life ms xs x h. h }
+hushed_asks n p m o = record { ask = λ lim r life ms xs h. record { gone = gone_asked n p m r life o h.gone; quiet = h.quiet }; refuse = λ lim r life ms xs x h. h }
 
 -- where nobody awaits it, its verdict is not wanted
 pub quiet_life : (p : ℕ) (life : Life) → NoneInRow p life → hushed_life p life ≡ life

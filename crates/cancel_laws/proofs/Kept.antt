@@ -1,11 +1,14 @@
--- What each part of a turn keeps: a fact of the requests, of the link's life, of those that were moved, and of what the turn has shown.
-use Rattle.std.proofs.Common.{◌≡◌, ℕ, ◌==◌, true, List, [], ◌∷◌, ◌++◌, length, Option, Some, None, slice_get, if◌then◌else◌, refl}
+-- What each part of a turn keeps: a fact of the limit of permits, of the requests, of the link's life, of those that were moved, and of what the turn has shown.
+use Rattle.std.proofs.Common.{◌≡◌, ℕ, ◌==◌, true, List, [], ◌∷◌, ◌++◌, length, Option, Some, None, slice_get, if◌then◌else◌, refl, ap, ◌∙◌}
 use Rattle.containers.proofs.Choices.{chosen}
 use Rattle.redis_error.specs.declared.redis_error.RedisError.TheVariants as error
 use Rattle.redis_error.specs.declared.fault_kind.FaultKind.TheVariants as kinds
 use Rattle.redis_error.specs.declared.fault_kind.FaultKind.{FaultKind}
 use Rattle.redis_error.specs.declared.redis_error.RedisError.{RedisError}
 use Rattle.resp_value.specs.declared.value.Value.TheVariants.{Nil}
+use Rattle.driver_model.specs.declared.action.Owner.TheVariants as owner
+use Rattle.driver_model.specs.declared.action.Purpose.{Purpose}
+use Rattle.driver_model.specs.declared.action.Purpose.TheVariants as purpose
 use Rattle.driver_model.specs.declared.action.WaitKind.{WaitKind}
 use Rattle.driver_model.specs.declared.event.EventKind.{EventKind}
 use Rattle.driver_model.specs.declared.event.EventKind.TheVariants as event
@@ -32,17 +35,19 @@ use Rattle.mux_conn.specs.declared.request.Progress.TheVariants as progress
 use Rattle.mux_conn.specs.declared.request.Request.{Request}
 use Rattle.mux_conn.specs.declared.request.Waiting.{Waiting}
 use Rattle.mux_conn.specs.Connection.{Work, acted, at_life, with_link, has_room, admits_none}
-use Rattle.mux_conn.specs.Requests.{is_open_at, is_waiting_at, is_admitted_at, name_at, at_progress, progressed, answered}
-use Rattle.mux_conn.specs.Effects.{new_link, settled_each, failed_each, nobody_waits, waiting_failed, ended, opening_failed, connected_at, refused_at, overdue_at, taken_at, failed_at, read_to, read_at, shut_at, applied, cancelled_in, left}
-use Rattle.mux_conn.specs.Passes.{shown_each, started_at, started, message_of, placed_at, told_at_place, seated, still_admitted, moved_up, moved_up_each, moved_up_all, put_behind, seated_or_behind, admitted_at, admitted, still_waiting, admitted_each, passed}
+use Rattle.mux_conn.specs.Requests.{is_open_at, is_waiting_at, is_admitted_at, name_at, with_permits, at_progress, answered}
+use Rattle.mux_conn.specs.Effects.{new_link, settled_each, failed_each, nobody_waits, waiting_failed, ended, opening_failed, connected_at, refused_at, overdue_at, taken_at, failed_at, read_to, read_at, shut_at, applied, cancelled_in, left, timed_out}
+use Rattle.mux_conn.specs.Passes.{shown_each, started_at, started, message_of, placed_at, told_at_place, seated, still_admitted, moved_up, moved_up_each, moved_up_all, put_behind, seated_or_behind, permits_taken, holding, took_shown, took as holds, timer_asked, let_in, admitted_at, admitted, still_waiting, admitted_each, passed}
 use Rattle.mux_conn.specs.Turn.{written_at, written, moved_wait, fresh_wait, wait_shown, moved_each_shown, moved_shown, fresh_each_shown, flushed}
 use Rattle.shared_session.specs.declared.core_state.Core.{Core}
-use Rattle.shared_session.specs.Turn.{Turning, work_of, heard, counted, submitted, left_by, requested, effect, next_turn}
+use Rattle.shared_session.specs.Turn.{Turning, work_of, heard, counted, submitted, left_by, late_by, fired_by, requested, effect, next_turn}
 use Rattle.cancel_laws.proofs.Requests.{admitted_now}
 
 -- what an act shows, if it is not the outcome of submission n
 abbrev pub other_act : ℕ → LinkAct → List LinkAct
 other_act n (act.Created e) = act.Created e ∷ []
+other_act n (act.Took m count) = act.Took m count ∷ []
+other_act n (act.Timer m ms) = act.Timer m ms ∷ []
 other_act n act.Close = act.Close ∷ []
 other_act n (act.Write bytes) = act.Write bytes ∷ []
 other_act n (act.Wait m kind) = act.Wait m kind ∷ []
@@ -53,28 +58,29 @@ other_act n (act.Outcome m o) = if m == n then [] else act.Outcome m o ∷ []
 abbrev pub IsPlain : LinkAct → Type 0
 IsPlain a = (n : ℕ) → other_act n a ≡ a ∷ []
 
--- a fact of the requests, of the link's life, of those that were moved in a turn, and of its acts, that each single change keeps
-pub record IsKept (P : List Request → Life → List ℕ → List LinkAct → Type 0) : Type 0 where
-  pub answer : (r : List Request) (life : Life) (ms : List ℕ) (xs : List LinkAct) (q : ℕ) (o : Outcome) → is_open_at r q ≡ true → P r life ms xs → P (at_progress r q progress.Closed) life ms (xs ++ act.Outcome (name_at r q) o ∷ [])
-  pub cancel : (r : List Request) (life : Life) (ms : List ℕ) (xs : List LinkAct) (q : ℕ) → is_open_at r q ≡ true → P r life ms xs → P (at_progress r q progress.Closed) (cancelled_in life q) ms xs
-  pub connect : (r : List Request) (size bound : ℕ) (ms : List ℕ) (xs : List LinkAct) → P r Dialing ms xs → P r (Ready (fresh size bound)) ms xs
-  pub admit : (r : List Request) (life : Life) (ms : List ℕ) (xs : List LinkAct) (q : ℕ) → is_waiting_at r q ≡ true → P r life ms xs → P (at_progress r q progress.Admitted) life ms xs
-  pub note : (r : List Request) (life : Life) (ms : List ℕ) (xs : List LinkAct) (q : ℕ) → is_admitted_at r q ≡ true → P r life ms xs → P r life (ms ++ q ∷ []) xs
-  pub place : (r : List Request) (l : LinkState) (ms : List ℕ) (xs : List LinkAct) (q : Waiting) → is_admitted_at r q.number ≡ true → P r (Ready l) ms xs → P (at_progress r q.number progress.Placed) (Ready (enqueued l (message_of q))) ms xs
-  pub start : (r : List Request) (l : LinkState) (ms : List ℕ) (xs : List LinkAct) → P r (Ready l) ms xs → P r (Ready (started_all (record { link = l; out = [] })).link) ms xs
-  pub offer : (r : List Request) (l : LinkState) (ms : List ℕ) (xs : List LinkAct) → P r (Ready l) ms xs → P r (Ready (offered_of l)) ms xs
-  pub write : (r : List Request) (l : LinkState) (ms : List ℕ) (xs : List LinkAct) (k : ℕ) → P r (Ready l) ms xs → P r (Ready (wrote_of l k)) ms xs
-  pub come : (r : List Request) (l : LinkState) (ms : List ℕ) (xs : List LinkAct) (piece : List ℕ) → P r (Ready l) ms xs → P r (Ready (piece_dealt (record { link = l; out = [] }) piece).link) ms xs
-  pub end : (r : List Request) (life : Life) (ms : List ℕ) (xs : List LinkAct) (e : RedisError) → P r life ms xs → P r (Ended e) ms xs
-  pub show : (r : List Request) (life : Life) (ms : List ℕ) (xs : List LinkAct) (a : LinkAct) → IsPlain a → P r life ms xs → P r life ms (xs ++ a ∷ [])
-  pub calm : (r : List Request) (life : Life) (ms : List ℕ) (xs : List LinkAct) → P r life ms xs → P r life [] xs
+-- a fact of the limit of permits, of the requests, of the link's life, of those that were moved in a turn, and of its acts, that each single change keeps
+pub record IsKept (P : Option ℕ → List Request → Life → List ℕ → List LinkAct → Type 0) : Type 0 where
+  pub answer : (lim : Option ℕ) (r : List Request) (life : Life) (ms : List ℕ) (xs : List LinkAct) (q : ℕ) (o : Outcome) → is_open_at r q ≡ true → P lim r life ms xs → P lim (with_permits r q progress.Closed 0) life ms (xs ++ act.Outcome (name_at r q) o ∷ [])
+  pub cancel : (lim : Option ℕ) (r : List Request) (life : Life) (ms : List ℕ) (xs : List LinkAct) (q : ℕ) → is_open_at r q ≡ true → P lim r life ms xs → P lim (with_permits r q progress.Closed 0) (cancelled_in life q) ms xs
+  pub hush : (lim : Option ℕ) (r : List Request) (life : Life) (ms : List ℕ) (xs : List LinkAct) (q : ℕ) → P lim r life ms xs → P lim r (cancelled_in life q) ms xs
+  pub connect : (lim : Option ℕ) (r : List Request) (size bound : ℕ) (ms : List ℕ) (xs : List LinkAct) → P lim r Dialing ms xs → P lim r (Ready (fresh size bound)) ms xs
+  pub admit : (lim : Option ℕ) (r : List Request) (life : Life) (ms : List ℕ) (xs : List LinkAct) (q count : ℕ) → is_waiting_at r q ≡ true → P lim r life ms xs → P lim (with_permits r q progress.Admitted count) life ms xs
+  pub note : (lim : Option ℕ) (r : List Request) (life : Life) (ms : List ℕ) (xs : List LinkAct) (q : ℕ) → is_admitted_at r q ≡ true → P lim r life ms xs → P lim r life (ms ++ q ∷ []) xs
+  pub place : (lim : Option ℕ) (r : List Request) (l : LinkState) (ms : List ℕ) (xs : List LinkAct) (q : Waiting) → is_admitted_at r q.number ≡ true → P lim r (Ready l) ms xs → P lim (at_progress r q.number progress.Placed) (Ready (enqueued l (message_of q))) ms xs
+  pub start : (lim : Option ℕ) (r : List Request) (l : LinkState) (ms : List ℕ) (xs : List LinkAct) → P lim r (Ready l) ms xs → P lim r (Ready (started_all (record { link = l; out = [] })).link) ms xs
+  pub offer : (lim : Option ℕ) (r : List Request) (l : LinkState) (ms : List ℕ) (xs : List LinkAct) → P lim r (Ready l) ms xs → P lim r (Ready (offered_of l)) ms xs
+  pub write : (lim : Option ℕ) (r : List Request) (l : LinkState) (ms : List ℕ) (xs : List LinkAct) (k : ℕ) → P lim r (Ready l) ms xs → P lim r (Ready (wrote_of l k)) ms xs
+  pub come : (lim : Option ℕ) (r : List Request) (l : LinkState) (ms : List ℕ) (xs : List LinkAct) (piece : List ℕ) → P lim r (Ready l) ms xs → P lim r (Ready (piece_dealt (record { link = l; out = [] }) piece).link) ms xs
+  pub end : (lim : Option ℕ) (r : List Request) (life : Life) (ms : List ℕ) (xs : List LinkAct) (e : RedisError) → P lim r life ms xs → P lim r (Ended e) ms xs
+  pub show : (lim : Option ℕ) (r : List Request) (life : Life) (ms : List ℕ) (xs : List LinkAct) (a : LinkAct) → IsPlain a → P lim r life ms xs → P lim r life ms (xs ++ a ∷ [])
+  pub calm : (lim : Option ℕ) (r : List Request) (life : Life) (ms : List ℕ) (xs : List LinkAct) → P lim r life ms xs → P lim r life [] xs
 
 -- the same of the requests and the life alone
 pub record IsKeptThere (P : List Request → Life → Type 0) : Type 0 where
-  pub answer : (r : List Request) (life : Life) (q : ℕ) → P r life → P (at_progress r q progress.Closed) life
-  pub cancel : (r : List Request) (life : Life) (q : ℕ) → P r life → P (at_progress r q progress.Closed) (cancelled_in life q)
+  pub answer : (r : List Request) (life : Life) (q : ℕ) → P r life → P (with_permits r q progress.Closed 0) life
+  pub hush : (r : List Request) (life : Life) (q : ℕ) → P r life → P r (cancelled_in life q)
   pub connect : (r : List Request) (size bound : ℕ) → P r Dialing → P r (Ready (fresh size bound))
-  pub admit : (r : List Request) (life : Life) (q : ℕ) → is_waiting_at r q ≡ true → P r life → P (at_progress r q progress.Admitted) life
+  pub admit : (r : List Request) (life : Life) (q count : ℕ) → is_waiting_at r q ≡ true → P r life → P (with_permits r q progress.Admitted count) life
   pub place : (r : List Request) (l : LinkState) (q : Waiting) → is_admitted_at r q.number ≡ true → P r (Ready l) → P (at_progress r q.number progress.Placed) (Ready (enqueued l (message_of q)))
   pub start : (r : List Request) (l : LinkState) → P r (Ready l) → P r (Ready (started_all (record { link = l; out = [] })).link)
   pub offer : (r : List Request) (l : LinkState) → P r (Ready l) → P r (Ready (offered_of l))
@@ -82,119 +88,143 @@ pub record IsKeptThere (P : List Request → Life → Type 0) : Type 0 where
   pub come : (r : List Request) (l : LinkState) (piece : List ℕ) → P r (Ready l) → P r (Ready (piece_dealt (record { link = l; out = [] }) piece).link)
   pub end : (r : List Request) (life : Life) (e : RedisError) → P r life → P r (Ended e)
 
--- a fact of the requests and the life, whatever a turn has moved and shown
-abbrev pub There : (List Request → Life → Type 0) → List Request → Life → List ℕ → List LinkAct → Type 0
-There P r life ms xs = P r life
+-- a fact of the requests and the life, whatever the limit is, and whatever a turn has moved and shown
+abbrev pub There : (List Request → Life → Type 0) → Option ℕ → List Request → Life → List ℕ → List LinkAct → Type 0
+There P lim r life ms xs = P r life
 
--- it is kept where its parts are
+-- it is kept where its parts are: a cancel looks away from a message, and closes its request
 pub kept_there : {P : List Request → Life → Type 0} → IsKeptThere P → IsKept (There P)
 kept_there k = record {
-  answer = λ r life ms xs q o t h. k.answer r life q h;
-  cancel = λ r life ms xs q t h. k.cancel r life q h;
-  connect = λ r size bound ms xs h. k.connect r size bound h;
-  admit = λ r life ms xs q t h. k.admit r life q t h;
-  note = λ r life ms xs q t h. h;
-  place = λ r l ms xs q t h. k.place r l q t h;
-  start = λ r l ms xs h. k.start r l h;
-  offer = λ r l ms xs h. k.offer r l h;
-  write = λ r l ms xs n h. k.write r l n h;
-  come = λ r l ms xs piece h. k.come r l piece h;
-  end = λ r life ms xs e h. k.end r life e h;
-  show = λ r life ms xs a p h. h;
-  calm = λ r life ms xs h. h;
+  answer = λ lim r life ms xs q o t h. k.answer r life q h;
+  cancel = λ lim r life ms xs q t h. k.answer r (cancelled_in life q) q (k.hush r life q h);
+  hush = λ lim r life ms xs q h. k.hush r life q h;
+  connect = λ lim r size bound ms xs h. k.connect r size bound h;
+  admit = λ lim r life ms xs q count t h. k.admit r life q count t h;
+  note = λ lim r life ms xs q t h. h;
+  place = λ lim r l ms xs q t h. k.place r l q t h;
+  start = λ lim r l ms xs h. k.start r l h;
+  offer = λ lim r l ms xs h. k.offer r l h;
+  write = λ lim r l ms xs n h. k.write r l n h;
+  come = λ lim r l ms xs piece h. k.come r l piece h;
+  end = λ lim r life ms xs e h. k.end r life e h;
+  show = λ lim r life ms xs a p h. h;
+  calm = λ lim r life ms xs h. h;
+}
+
+-- permits aren't counted
+abbrev pub Unlimited : Option ℕ → List Request → Life → List ℕ → List LinkAct → Type 0
+Unlimited lim r life ms xs = lim ≡ None
+
+-- which nothing changes
+pub unlimited_kept : IsKept Unlimited
+unlimited_kept = record {
+  answer = λ lim r life ms xs q o t h. h;
+  cancel = λ lim r life ms xs q t h. h;
+  hush = λ lim r life ms xs q h. h;
+  connect = λ lim r size bound ms xs h. h;
+  admit = λ lim r life ms xs q count t h. h;
+  note = λ lim r life ms xs q t h. h;
+  place = λ lim r l ms xs q t h. h;
+  start = λ lim r l ms xs h. h;
+  offer = λ lim r l ms xs h. h;
+  write = λ lim r l ms xs n h. h;
+  come = λ lim r l ms xs piece h. h;
+  end = λ lim r life ms xs e h. h;
+  show = λ lim r life ms xs a p h. h;
+  calm = λ lim r life ms xs h. h;
 }
 
 -- the fact where a turn stands
-abbrev pub At : (List Request → Life → List ℕ → List LinkAct → Type 0) → Work → Type 0
-At P w = P w.conn.requests w.conn.life w.conn.moved w.acts
+abbrev pub At : (Option ℕ → List Request → Life → List ℕ → List LinkAct → Type 0) → Work → Type 0
+At P w = P w.conn.limit w.conn.requests w.conn.life w.conn.moved w.acts
 
 -- answers
 --
 -- an answer
-pub answered_kept : {P : List Request → Life → List ℕ → List LinkAct → Type 0} → IsKept P → (w : Work) (q : ℕ) (o : Outcome) → At P w → At P (answered w q o)
-answered_kept {P = P} k w q o h = chosen (At P) (is_open_at w.conn.requests q) _ w (λ t. k.answer w.conn.requests w.conn.life w.conn.moved w.acts q o t h) (λ f. h)
+pub answered_kept : {P : Option ℕ → List Request → Life → List ℕ → List LinkAct → Type 0} → IsKept P → (w : Work) (q : ℕ) (o : Outcome) → At P w → At P (answered w q o)
+answered_kept {P = P} k w q o h = chosen (At P) (is_open_at w.conn.requests q) _ w (λ t. k.answer w.conn.limit w.conn.requests w.conn.life w.conn.moved w.acts q o t h) (λ f. h)
 
 -- what the link settled
-pub settled_kept : {P : List Request → Life → List ℕ → List LinkAct → Type 0} → IsKept P → (w : Work) (ss : List Settled) → At P w → At P (settled_each w ss)
+pub settled_kept : {P : Option ℕ → List Request → Life → List ℕ → List LinkAct → Type 0} → IsKept P → (w : Work) (ss : List Settled) → At P w → At P (settled_each w ss)
 settled_kept k w [] h = h
 settled_kept k w (s ∷ ss) h = settled_kept k (answered w s.id (outcome_of s.verdict)) ss (answered_kept k w s.id (outcome_of s.verdict) h)
 
 -- requests that get an error
-pub failed_each_kept : {P : List Request → Life → List ℕ → List LinkAct → Type 0} → IsKept P → (w : Work) (e : RedisError) (qs : List Waiting) → At P w → At P (failed_each w e qs)
+pub failed_each_kept : {P : Option ℕ → List Request → Life → List ℕ → List LinkAct → Type 0} → IsKept P → (w : Work) (e : RedisError) (qs : List Waiting) → At P w → At P (failed_each w e qs)
 failed_each_kept k w e [] h = h
 failed_each_kept k w e (q ∷ qs) h = failed_each_kept k (answered w q.number (outcome.Fault e)) e qs (answered_kept k w q.number (outcome.Fault e) h)
 
 -- those that wait
-waiting_kept : {P : List Request → Life → List ℕ → List LinkAct → Type 0} → IsKept P → (w : Work) (e : RedisError) → At P w → At P (waiting_failed w e)
+waiting_kept : {P : Option ℕ → List Request → Life → List ℕ → List LinkAct → Type 0} → IsKept P → (w : Work) (e : RedisError) → At P w → At P (waiting_failed w e)
 waiting_kept k w e h = failed_each_kept k (failed_each (nobody_waits w) e w.conn.admitted) e w.conn.waiting (failed_each_kept k (nobody_waits w) e w.conn.admitted h)
 
 -- the link is over, which is shown
-pub over_kept : {P : List Request → Life → List ℕ → List LinkAct → Type 0} → IsKept P → (w : Work) (e : RedisError) (a : LinkAct) → IsPlain a → At P w → At P (acted (at_life w (Ended e)) a)
-over_kept k w e a plain h = k.show w.conn.requests (Ended e) w.conn.moved w.acts a plain (k.end w.conn.requests w.conn.life w.conn.moved w.acts e h)
+pub over_kept : {P : Option ℕ → List Request → Life → List ℕ → List LinkAct → Type 0} → IsKept P → (w : Work) (e : RedisError) (a : LinkAct) → IsPlain a → At P w → At P (acted (at_life w (Ended e)) a)
+over_kept k w e a plain h = k.show w.conn.limit w.conn.requests (Ended e) w.conn.moved w.acts a plain (k.end w.conn.limit w.conn.requests w.conn.life w.conn.moved w.acts e h)
 
 -- the end of the link
-ended_kept : {P : List Request → Life → List ℕ → List LinkAct → Type 0} → IsKept P → (w : Work) (out : List Settled) → At P w → At P (ended w out)
+ended_kept : {P : Option ℕ → List Request → Life → List ℕ → List LinkAct → Type 0} → IsKept P → (w : Work) (out : List Settled) → At P w → At P (ended w out)
 ended_kept k w out h =
     let d = acted (at_life w (Ended error.Closed)) act.Close in
     waiting_kept k (settled_each d out) error.Closed (settled_kept k d out (over_kept k w error.Closed act.Close (λ n. refl) h))
 
 -- the end of an opening
-opening_kept : {P : List Request → Life → List ℕ → List LinkAct → Type 0} → IsKept P → (w : Work) (e : RedisError) → At P w → At P (opening_failed w e)
+opening_kept : {P : Option ℕ → List Request → Life → List ℕ → List LinkAct → Type 0} → IsKept P → (w : Work) (e : RedisError) → At P w → At P (opening_failed w e)
 opening_kept k w e h = waiting_kept k (acted (at_life w (Ended e)) (act.Created (Some e))) e (over_kept k w e (act.Created (Some e)) (λ n. refl) h)
 
 -- news
 --
 -- a function of the life that a connection has is looked at with any life of which the fact is true
-connected_kept : {P : List Request → Life → List ℕ → List LinkAct → Type 0} → IsKept P → (w : Work) (life : Life) → P w.conn.requests life w.conn.moved w.acts → At P w → At P (connected_at w life)
-connected_kept k w Dialing g h = k.show w.conn.requests (Ready (new_link w.conn)) w.conn.moved w.acts (act.Created None) (λ n. refl) (k.connect w.conn.requests w.conn.size w.conn.boundary w.conn.moved w.acts g)
+connected_kept : {P : Option ℕ → List Request → Life → List ℕ → List LinkAct → Type 0} → IsKept P → (w : Work) (life : Life) → P w.conn.limit w.conn.requests life w.conn.moved w.acts → At P w → At P (connected_at w life)
+connected_kept k w Dialing g h = k.show w.conn.limit w.conn.requests (Ready (new_link w.conn)) w.conn.moved w.acts (act.Created None) (λ n. refl) (k.connect w.conn.limit w.conn.requests w.conn.size w.conn.boundary w.conn.moved w.acts g)
 connected_kept k w (Ready l) g h = h
 connected_kept k w (Ended e) g h = h
 
 -- the connect is refused
-refused_kept : {P : List Request → Life → List ℕ → List LinkAct → Type 0} → IsKept P → (w : Work) (f : FaultKind) (life : Life) → At P w → At P (refused_at w f life)
+refused_kept : {P : Option ℕ → List Request → Life → List ℕ → List LinkAct → Type 0} → IsKept P → (w : Work) (f : FaultKind) (life : Life) → At P w → At P (refused_at w f life)
 refused_kept k w f Dialing h = opening_kept k w (error.Io f) h
 refused_kept k w f (Ready l) h = h
 refused_kept k w f (Ended e) h = h
 
 -- the time to connect is over
-overdue_kept : {P : List Request → Life → List ℕ → List LinkAct → Type 0} → IsKept P → (w : Work) (life : Life) → At P w → At P (overdue_at w life)
-overdue_kept k w Dialing h = opening_kept k (acted w act.Close) (error.Io kinds.TimedOut) (k.show w.conn.requests w.conn.life w.conn.moved w.acts act.Close (λ n. refl) h)
+overdue_kept : {P : Option ℕ → List Request → Life → List ℕ → List LinkAct → Type 0} → IsKept P → (w : Work) (life : Life) → At P w → At P (overdue_at w life)
+overdue_kept k w Dialing h = opening_kept k (acted w act.Close) (error.Io kinds.TimedOut) (k.show w.conn.limit w.conn.requests w.conn.life w.conn.moved w.acts act.Close (λ n. refl) h)
 overdue_kept k w (Ready l) h = h
 overdue_kept k w (Ended e) h = h
 
 -- bytes were taken
-taken_kept : {P : List Request → Life → List ℕ → List LinkAct → Type 0} → IsKept P → (w : Work) (count : ℕ) (life : Life) → P w.conn.requests life w.conn.moved w.acts → At P w → At P (taken_at w count life)
-taken_kept k w count (Ready l) g h = k.write w.conn.requests l w.conn.moved w.acts count g
+taken_kept : {P : Option ℕ → List Request → Life → List ℕ → List LinkAct → Type 0} → IsKept P → (w : Work) (count : ℕ) (life : Life) → P w.conn.limit w.conn.requests life w.conn.moved w.acts → At P w → At P (taken_at w count life)
+taken_kept k w count (Ready l) g h = k.write w.conn.limit w.conn.requests l w.conn.moved w.acts count g
 taken_kept k w count Dialing g h = h
 taken_kept k w count (Ended e) g h = h
 
 -- a fault
-failed_kept : {P : List Request → Life → List ℕ → List LinkAct → Type 0} → IsKept P → (w : Work) (f : LinkFault) (life : Life) → At P w → At P (failed_at w f life)
+failed_kept : {P : Option ℕ → List Request → Life → List ℕ → List LinkAct → Type 0} → IsKept P → (w : Work) (f : LinkFault) (life : Life) → At P w → At P (failed_at w f life)
 failed_kept k w f (Ready l) h = ended_kept k w (faulted (record { link = l; out = [] }) f).out h
 failed_kept k w f Dialing h = h
 failed_kept k w f (Ended e) h = h
 
 -- what the link settled by bytes
-read_kept : {P : List Request → Life → List ℕ → List LinkAct → Type 0} → IsKept P → (w : Work) (s : Settling) → P w.conn.requests (Ready s.link) w.conn.moved w.acts → At P (read_to w s)
+read_kept : {P : Option ℕ → List Request → Life → List ℕ → List LinkAct → Type 0} → IsKept P → (w : Work) (s : Settling) → P w.conn.limit w.conn.requests (Ready s.link) w.conn.moved w.acts → At P (read_to w s)
 read_kept {P = P} k w s h =
     let e = settled_each (with_link w s.link) s.out in
     let g = settled_kept k (with_link w s.link) s.out h in
     chosen (At P) s.link.broken (failed_at e fault.Parse e.conn.life) e (λ t. failed_kept k e fault.Parse e.conn.life g) (λ f. g)
 
 -- bytes come
-came_kept : {P : List Request → Life → List ℕ → List LinkAct → Type 0} → IsKept P → (w : Work) (piece : List ℕ) (life : Life) → P w.conn.requests life w.conn.moved w.acts → At P w → At P (read_at w piece life)
-came_kept k w piece (Ready l) g h = read_kept k w (piece_dealt (record { link = l; out = [] }) piece) (k.come w.conn.requests l w.conn.moved w.acts piece g)
+came_kept : {P : Option ℕ → List Request → Life → List ℕ → List LinkAct → Type 0} → IsKept P → (w : Work) (piece : List ℕ) (life : Life) → P w.conn.limit w.conn.requests life w.conn.moved w.acts → At P w → At P (read_at w piece life)
+came_kept k w piece (Ready l) g h = read_kept k w (piece_dealt (record { link = l; out = [] }) piece) (k.come w.conn.limit w.conn.requests l w.conn.moved w.acts piece g)
 came_kept k w piece Dialing g h = h
 came_kept k w piece (Ended e) g h = h
 
 -- the shutdown
-shut_kept : {P : List Request → Life → List ℕ → List LinkAct → Type 0} → IsKept P → (w : Work) (life : Life) → At P w → At P (shut_at w life)
+shut_kept : {P : Option ℕ → List Request → Life → List ℕ → List LinkAct → Type 0} → IsKept P → (w : Work) (life : Life) → At P w → At P (shut_at w life)
 shut_kept k w (Ready l) h = ended_kept k w (closed_all (record { link = l; out = [] })).out h
 shut_kept k w Dialing h = ended_kept k w [] h
 shut_kept k w (Ended e) h = h
 
 -- all news
-applied_kept : {P : List Request → Life → List ℕ → List LinkAct → Type 0} → IsKept P → (w : Work) (what : News) → At P w → At P (applied w what)
+applied_kept : {P : Option ℕ → List Request → Life → List ℕ → List LinkAct → Type 0} → IsKept P → (w : Work) (what : News) → At P w → At P (applied w what)
 applied_kept k w silence h = h
 applied_kept k w connected h = connected_kept k w w.conn.life h h
 applied_kept k w (refused f) h = refused_kept k w f w.conn.life h
@@ -207,79 +237,121 @@ applied_kept k w shut h = shut_kept k w w.conn.life h
 -- moves
 --
 -- starts are shown
-shown_kept : {P : List Request → Life → List ℕ → List LinkAct → Type 0} → IsKept P → (w : Work) (ss : List Started) → At P w → At P (shown_each w ss)
+shown_kept : {P : Option ℕ → List Request → Life → List ℕ → List LinkAct → Type 0} → IsKept P → (w : Work) (ss : List Started) → At P w → At P (shown_each w ss)
 shown_kept k w [] h = h
 shown_kept k w (s ∷ ss) h =
     let a = act.Start s.msg (name_at w.conn.requests s.id) s.need s.len in
-    shown_kept k (acted w a) ss (k.show w.conn.requests w.conn.life w.conn.moved w.acts a (λ n. refl) h)
+    shown_kept k (acted w a) ss (k.show w.conn.limit w.conn.requests w.conn.life w.conn.moved w.acts a (λ n. refl) h)
 
 -- messages start
-started_at_kept : {P : List Request → Life → List ℕ → List LinkAct → Type 0} → IsKept P → (w : Work) (life : Life) → P w.conn.requests life w.conn.moved w.acts → At P w → At P (started_at w life)
+started_at_kept : {P : Option ℕ → List Request → Life → List ℕ → List LinkAct → Type 0} → IsKept P → (w : Work) (life : Life) → P w.conn.limit w.conn.requests life w.conn.moved w.acts → At P w → At P (started_at w life)
 started_at_kept k w (Ready l) g h =
     let s = started_all (record { link = l; out = [] }) in
-    shown_kept k (with_link w s.link) s.out (k.start w.conn.requests l w.conn.moved w.acts g)
+    shown_kept k (with_link w s.link) s.out (k.start w.conn.limit w.conn.requests l w.conn.moved w.acts g)
 started_at_kept k w Dialing g h = h
 started_at_kept k w (Ended e) g h = h
 
 -- on the link that the connection has
-pub started_kept : {P : List Request → Life → List ℕ → List LinkAct → Type 0} → IsKept P → (w : Work) → At P w → At P (started w)
+pub started_kept : {P : Option ℕ → List Request → Life → List ℕ → List LinkAct → Type 0} → IsKept P → (w : Work) → At P w → At P (started w)
 started_kept k w h = started_at_kept k w w.conn.life h h
 
 -- an answer at its place
-pub told_kept : {P : List Request → Life → List ℕ → List LinkAct → Type 0} → IsKept P → (w : Work) (q : Waiting) → At P w → At P (told_at_place w q)
+pub told_kept : {P : Option ℕ → List Request → Life → List ℕ → List LinkAct → Type 0} → IsKept P → (w : Work) (q : Waiting) → At P w → At P (told_at_place w q)
 told_kept {P = P} k w q h = chosen (At P) q.awaited w (answered w q.number (outcome.One Nil)) (λ t. h) (λ f. answered_kept k w q.number (outcome.One Nil) h)
 
 -- a request takes its place, and messages start
-seated_at_kept : {P : List Request → Life → List ℕ → List LinkAct → Type 0} → IsKept P → (w : Work) (q : Waiting) (life : Life) → is_admitted_at w.conn.requests q.number ≡ true → P w.conn.requests life w.conn.moved w.acts → At P w → At P (started (told_at_place (placed_at w q life) q))
+seated_at_kept : {P : Option ℕ → List Request → Life → List ℕ → List LinkAct → Type 0} → IsKept P → (w : Work) (q : Waiting) (life : Life) → is_admitted_at w.conn.requests q.number ≡ true → P w.conn.limit w.conn.requests life w.conn.moved w.acts → At P w → At P (started (told_at_place (placed_at w q life) q))
 seated_at_kept k w q (Ready l) t g h =
     let d = placed_at w q (Ready l) in
+    let lim = w.conn.limit in
     let r = w.conn.requests in
     let ms = w.conn.moved in
-    started_kept k (told_at_place d q) (told_kept k d q (k.place r l (ms ++ q.number ∷ []) w.acts q t (k.note r (Ready l) ms w.acts q.number t g)))
+    started_kept k (told_at_place d q) (told_kept k d q (k.place lim r l (ms ++ q.number ∷ []) w.acts q t (k.note lim r (Ready l) ms w.acts q.number t g)))
 seated_at_kept k w q Dialing t g h = started_kept k (told_at_place w q) (told_kept k w q h)
 seated_at_kept k w q (Ended e) t g h = started_kept k (told_at_place w q) (told_kept k w q h)
 
 -- on the link that the connection has
-seated_kept : {P : List Request → Life → List ℕ → List LinkAct → Type 0} → IsKept P → (w : Work) (q : Waiting) → is_admitted_at w.conn.requests q.number ≡ true → At P w → At P (seated w q)
+seated_kept : {P : Option ℕ → List Request → Life → List ℕ → List LinkAct → Type 0} → IsKept P → (w : Work) (q : Waiting) → is_admitted_at w.conn.requests q.number ≡ true → At P w → At P (seated w q)
 seated_kept k w q t h = seated_at_kept k w q w.conn.life t h h
 
 -- one that waits for a place takes it
-pub moved_up_kept : {P : List Request → Life → List ℕ → List LinkAct → Type 0} → IsKept P → (w : Work) (q : Waiting) → At P w → At P (moved_up w q)
+pub moved_up_kept : {P : Option ℕ → List Request → Life → List ℕ → List LinkAct → Type 0} → IsKept P → (w : Work) (q : Waiting) → At P w → At P (moved_up w q)
 moved_up_kept {P = P} k w q h = chosen (At P) (is_admitted_at w.conn.requests q.number) (seated w q) w (λ t. seated_kept k w q t h) (λ f. h)
 
 -- and so do more of them
-pub moved_up_each_kept : {P : List Request → Life → List ℕ → List LinkAct → Type 0} → IsKept P → (w : Work) (qs : List Waiting) → At P w → At P (moved_up_each w qs)
+pub moved_up_each_kept : {P : Option ℕ → List Request → Life → List ℕ → List LinkAct → Type 0} → IsKept P → (w : Work) (qs : List Waiting) → At P w → At P (moved_up_each w qs)
 moved_up_each_kept k w [] h = h
 moved_up_each_kept {P = P} k w (q ∷ qs) h = chosen (At P) (has_room w.conn.life) _ _ (λ t. moved_up_each_kept k (moved_up w q) qs (moved_up_kept k w q h)) (λ f. h)
 
 -- and all
-pub moved_up_all_kept : {P : List Request → Life → List ℕ → List LinkAct → Type 0} → IsKept P → (w : Work) → At P w → At P (moved_up_all w)
+pub moved_up_all_kept : {P : Option ℕ → List Request → Life → List ℕ → List LinkAct → Type 0} → IsKept P → (w : Work) → At P w → At P (moved_up_all w)
 moved_up_all_kept k w h = moved_up_each_kept k (still_admitted w []) w.conn.admitted h
 
 -- a request takes its place, or goes behind those that wait for one
-seated_or_behind_kept : {P : List Request → Life → List ℕ → List LinkAct → Type 0} → IsKept P → (w : Work) (q : Waiting) → is_admitted_at w.conn.requests q.number ≡ true → At P w → At P (seated_or_behind w q)
+seated_or_behind_kept : {P : Option ℕ → List Request → Life → List ℕ → List LinkAct → Type 0} → IsKept P → (w : Work) (q : Waiting) → is_admitted_at w.conn.requests q.number ≡ true → At P w → At P (seated_or_behind w q)
 seated_or_behind_kept {P = P} k w q t h =
-    chosen (At P) (has_room w.conn.life) (seated w q) (put_behind w q) (λ u. seated_kept k w q t h) (λ f. k.note w.conn.requests w.conn.life w.conn.moved w.acts q.number t h)
+    chosen (At P) (has_room w.conn.life) (seated w q) (put_behind w q) (λ u. seated_kept k w q t h) (λ f. k.note w.conn.limit w.conn.requests w.conn.life w.conn.moved w.acts q.number t h)
 
--- a request that waits for the connection is moved
-admitted_at_kept : {P : List Request → Life → List ℕ → List LinkAct → Type 0} → IsKept P → (w : Work) (q : Waiting) (life : Life) → is_waiting_at w.conn.requests q.number ≡ true → At P w → At P (admitted_at w q life)
+-- permits
+--
+-- what is shown of permits changes no connection
+took_conn : (w : Work) (q count : ℕ) (lim : Option ℕ) → (took_shown w q count lim).conn ≡ w.conn
+took_conn w q count None = refl
+took_conn w q count (Some most) = refl
+
+-- nor does it that a timer is asked for
+timer_conn : (w : Work) (q : ℕ) (timeout : Option ℕ) → (timer_asked w q timeout).conn ≡ w.conn
+timer_conn w q None = refl
+timer_conn w q (Some ms) = refl
+
+-- so a request that is let in holds its permits, and nothing else changes
+pub let_in_conn : (w : Work) (q : Waiting) → (let_in w q).conn ≡ holding w.conn q.number (permits_taken w.conn.limit w.conn.free q.shape)
+let_in_conn w q =
+    let count = permits_taken w.conn.limit w.conn.free q.shape in
+    timer_conn (holds w q.number count) q.number q.timeout ∙ took_conn (record w { conn = holding w.conn q.number count }) q.number count w.conn.limit
+
+-- and it may take a place
+pub let_in_admitted : (w : Work) (q : Waiting) → is_waiting_at w.conn.requests q.number ≡ true → is_admitted_at (let_in w q).conn.requests q.number ≡ true
+let_in_admitted w q t =
+    ap (λ (c : MultiplexedConnection). is_admitted_at c.requests q.number) (let_in_conn w q) ∙ admitted_now w.conn.requests q.number (permits_taken w.conn.limit w.conn.free q.shape) t
+
+-- its permits are shown
+took_kept : {P : Option ℕ → List Request → Life → List ℕ → List LinkAct → Type 0} → IsKept P → (w : Work) (q count : ℕ) (lim : Option ℕ) → At P w → At P (took_shown w q count lim)
+took_kept k w q count None h = h
+took_kept k w q count (Some most) h = k.show w.conn.limit w.conn.requests w.conn.life w.conn.moved w.acts (act.Took (name_at w.conn.requests q) count) (λ n. refl) h
+
+-- and its timer is asked for
+timer_kept : {P : Option ℕ → List Request → Life → List ℕ → List LinkAct → Type 0} → IsKept P → (w : Work) (q : ℕ) (timeout : Option ℕ) → At P w → At P (timer_asked w q timeout)
+timer_kept k w q None h = h
+timer_kept k w q (Some ms) h = k.show w.conn.limit w.conn.requests w.conn.life w.conn.moved w.acts (act.Timer (name_at w.conn.requests q) ms) (λ n. refl) h
+
+-- so a request is let in
+pub let_in_kept : {P : Option ℕ → List Request → Life → List ℕ → List LinkAct → Type 0} → IsKept P → (w : Work) (q : Waiting) → is_waiting_at w.conn.requests q.number ≡ true → At P w → At P (let_in w q)
+let_in_kept k w q t h =
+    let count = permits_taken w.conn.limit w.conn.free q.shape in
+    timer_kept k (holds w q.number count) q.number q.timeout
+    (took_kept k (record w { conn = holding w.conn q.number count }) q.number count w.conn.limit
+    (k.admit w.conn.limit w.conn.requests w.conn.life w.conn.moved w.acts q.number count t h))
+
+-- a request that waits for the connection, or for a permit, is moved
+admitted_at_kept : {P : Option ℕ → List Request → Life → List ℕ → List LinkAct → Type 0} → IsKept P → (w : Work) (q : Waiting) (life : Life) → is_waiting_at w.conn.requests q.number ≡ true → At P w → At P (admitted_at w q life)
 admitted_at_kept k w q (Ready l) t h =
-    seated_or_behind_kept k (progressed w q.number progress.Admitted) q (admitted_now w.conn.requests q.number t) (k.admit w.conn.requests w.conn.life w.conn.moved w.acts q.number t h)
+    seated_or_behind_kept k (let_in w q) q (let_in_admitted w q t) (let_in_kept k w q t h)
 admitted_at_kept k w q (Ended e) t h = answered_kept k w q.number (outcome.Fault e) h
 admitted_at_kept k w q Dialing t h = h
 
 -- and any other stays
-pub admitted_kept : {P : List Request → Life → List ℕ → List LinkAct → Type 0} → IsKept P → (w : Work) (q : Waiting) → At P w → At P (admitted w q)
+pub admitted_kept : {P : Option ℕ → List Request → Life → List ℕ → List LinkAct → Type 0} → IsKept P → (w : Work) (q : Waiting) → At P w → At P (admitted w q)
 admitted_kept {P = P} k w q h =
     chosen (At P) (is_waiting_at w.conn.requests q.number) (admitted_at w q w.conn.life) w (λ t. admitted_at_kept k w q w.conn.life t h) (λ f. h)
 
 -- all that wait for the connection
-admitted_each_kept : {P : List Request → Life → List ℕ → List LinkAct → Type 0} → IsKept P → (w : Work) (qs : List Waiting) → At P w → At P (admitted_each w qs)
+admitted_each_kept : {P : Option ℕ → List Request → Life → List ℕ → List LinkAct → Type 0} → IsKept P → (w : Work) (qs : List Waiting) → At P w → At P (admitted_each w qs)
 admitted_each_kept k w [] h = h
-admitted_each_kept {P = P} k w (q ∷ qs) h = chosen (At P) (admits_none w.conn.life) _ _ (λ t. h) (λ f. admitted_each_kept k (admitted w q) qs (admitted_kept k w q h))
+admitted_each_kept {P = P} k w (q ∷ qs) h = chosen (At P) (admits_none w.conn) _ _ (λ t. h) (λ f. admitted_each_kept k (admitted w q) qs (admitted_kept k w q h))
 
 -- what a turn moves
-pub passed_kept : {P : List Request → Life → List ℕ → List LinkAct → Type 0} → IsKept P → (w : Work) → At P w → At P (passed w)
+pub passed_kept : {P : Option ℕ → List Request → Life → List ℕ → List LinkAct → Type 0} → IsKept P → (w : Work) → At P w → At P (passed w)
 passed_kept k w h =
     let d = moved_up_all (started w) in
     admitted_each_kept k (still_waiting d []) d.conn.waiting (moved_up_all_kept k (started w) (started_kept k w h))
@@ -287,39 +359,39 @@ passed_kept k w h =
 -- what a turn ends with
 --
 -- bytes are offered
-written_at_kept : {P : List Request → Life → List ℕ → List LinkAct → Type 0} → IsKept P → (w : Work) (life : Life) → P w.conn.requests life w.conn.moved w.acts → At P w → At P (written_at w life)
+written_at_kept : {P : Option ℕ → List Request → Life → List ℕ → List LinkAct → Type 0} → IsKept P → (w : Work) (life : Life) → P w.conn.limit w.conn.requests life w.conn.moved w.acts → At P w → At P (written_at w life)
 written_at_kept {P = P} k w (Ready l) g h =
     chosen (At P) (can_offer l.outbox) _ w
-    (λ t. k.show w.conn.requests (Ready (offered_of l)) w.conn.moved w.acts (act.Write l.outbox.unwritten) (λ n. refl) (k.offer w.conn.requests l w.conn.moved w.acts g))
+    (λ t. k.show w.conn.limit w.conn.requests (Ready (offered_of l)) w.conn.moved w.acts (act.Write l.outbox.unwritten) (λ n. refl) (k.offer w.conn.limit w.conn.requests l w.conn.moved w.acts g))
     (λ f. h)
 written_at_kept k w Dialing g h = h
 written_at_kept k w (Ended e) g h = h
 
 -- on the link that the connection has
-pub written_kept : {P : List Request → Life → List ℕ → List LinkAct → Type 0} → IsKept P → (w : Work) → At P w → At P (written w)
+pub written_kept : {P : Option ℕ → List Request → Life → List ℕ → List LinkAct → Type 0} → IsKept P → (w : Work) → At P w → At P (written w)
 written_kept k w h = written_at_kept k w w.conn.life h h
 
 -- a wait is shown
-pub wait_kept : {P : List Request → Life → List ℕ → List LinkAct → Type 0} → IsKept P → (w : Work) (q : ℕ) (kind : Option WaitKind) → At P w → At P (wait_shown w q kind)
+pub wait_kept : {P : Option ℕ → List Request → Life → List ℕ → List LinkAct → Type 0} → IsKept P → (w : Work) (q : ℕ) (kind : Option WaitKind) → At P w → At P (wait_shown w q kind)
 wait_kept k w q None h = h
-wait_kept k w q (Some kind) h = k.show w.conn.requests w.conn.life w.conn.moved w.acts (act.Wait (name_at w.conn.requests q) kind) (λ n. refl) h
+wait_kept k w q (Some kind) h = k.show w.conn.limit w.conn.requests w.conn.life w.conn.moved w.acts (act.Wait (name_at w.conn.requests q) kind) (λ n. refl) h
 
 -- all waits of those that were moved
-moved_each_shown_kept : {P : List Request → Life → List ℕ → List LinkAct → Type 0} → IsKept P → (w : Work) (qs : List ℕ) → At P w → At P (moved_each_shown w qs)
+moved_each_shown_kept : {P : Option ℕ → List Request → Life → List ℕ → List LinkAct → Type 0} → IsKept P → (w : Work) (qs : List ℕ) → At P w → At P (moved_each_shown w qs)
 moved_each_shown_kept k w [] h = h
 moved_each_shown_kept k w (q ∷ qs) h = moved_each_shown_kept k (wait_shown w q (moved_wait w.conn q)) qs (wait_kept k w q (moved_wait w.conn q) h)
 
 -- of whom none is left then
-pub moved_shown_kept : {P : List Request → Life → List ℕ → List LinkAct → Type 0} → IsKept P → (w : Work) → At P w → At P (moved_shown w)
-moved_shown_kept k w h = moved_each_shown_kept k (record w { conn = record w.conn { moved = [] } }) w.conn.moved (k.calm w.conn.requests w.conn.life w.conn.moved w.acts h)
+pub moved_shown_kept : {P : Option ℕ → List Request → Life → List ℕ → List LinkAct → Type 0} → IsKept P → (w : Work) → At P w → At P (moved_shown w)
+moved_shown_kept k w h = moved_each_shown_kept k (record w { conn = record w.conn { moved = [] } }) w.conn.moved (k.calm w.conn.limit w.conn.requests w.conn.life w.conn.moved w.acts h)
 
 -- and all waits of those that came
-fresh_each_shown_kept : {P : List Request → Life → List ℕ → List LinkAct → Type 0} → IsKept P → (w : Work) (qs : List ℕ) → At P w → At P (fresh_each_shown w qs)
+fresh_each_shown_kept : {P : Option ℕ → List Request → Life → List ℕ → List LinkAct → Type 0} → IsKept P → (w : Work) (qs : List ℕ) → At P w → At P (fresh_each_shown w qs)
 fresh_each_shown_kept k w [] h = h
 fresh_each_shown_kept k w (q ∷ qs) h = fresh_each_shown_kept k (wait_shown w q (fresh_wait w.conn q)) qs (wait_kept k w q (fresh_wait w.conn q) h)
 
 -- what a turn ends with
-pub flushed_kept : {P : List Request → Life → List ℕ → List LinkAct → Type 0} → IsKept P → (w : Work) → At P w → At P (flushed w)
+pub flushed_kept : {P : Option ℕ → List Request → Life → List ℕ → List LinkAct → Type 0} → IsKept P → (w : Work) → At P w → At P (flushed w)
 flushed_kept k w h =
     let d = moved_shown (written w) in
     fresh_each_shown_kept k (record d { conn = record d.conn { fresh = [] } }) d.conn.fresh (moved_shown_kept k (written w) (written_kept k w h))
@@ -327,38 +399,58 @@ flushed_kept k w h =
 -- whole turns
 --
 -- a fact that the next submission, of that number, keeps too
-pub record CanAsk (P : List Request → Life → List ℕ → List LinkAct → Type 0) (m : ℕ) : Type 0 where
-  pub ask : (r : List Request) (life : Life) (ms : List ℕ) (xs : List LinkAct) → P r life ms xs → P (r ++ record { name = m; progress = progress.Waiting } ∷ []) life ms xs
-  pub refuse : (r : List Request) (life : Life) (ms : List ℕ) (xs : List LinkAct) (o : Outcome) → P r life ms xs → P r life ms (xs ++ act.Outcome m o ∷ [])
+pub record CanAsk (P : Option ℕ → List Request → Life → List ℕ → List LinkAct → Type 0) (m : ℕ) : Type 0 where
+  pub ask : (lim : Option ℕ) (r : List Request) (life : Life) (ms : List ℕ) (xs : List LinkAct) → P lim r life ms xs → P lim (r ++ record { name = m; progress = progress.Waiting; permits = 0 } ∷ []) life ms xs
+  pub refuse : (lim : Option ℕ) (r : List Request) (life : Life) (ms : List ℕ) (xs : List LinkAct) (o : Outcome) → P lim r life ms xs → P lim r life ms (xs ++ act.Outcome m o ∷ [])
 
 -- the connection hears its link's news
-pub heard_kept : {P : List Request → Life → List ℕ → List LinkAct → Type 0} → IsKept P → (t : Turning) (kind : EventKind) → At P (work_of t) → At P (work_of (heard t kind))
+pub heard_kept : {P : Option ℕ → List Request → Life → List ℕ → List LinkAct → Type 0} → IsKept P → (t : Turning) (kind : EventKind) → At P (work_of t) → At P (work_of (heard t kind))
 heard_kept k t kind h = applied_kept k (work_of t) (news_of t.core.timers t.core.single.link kind) h
 
 -- a request is left
-left_kept : {P : List Request → Life → List ℕ → List LinkAct → Type 0} → IsKept P → (c : MultiplexedConnection) (xs : List LinkAct) (q : ℕ) → P c.requests c.life c.moved xs → P (left c q).requests (left c q).life (left c q).moved xs
-left_kept {P = P} k c xs q h = chosen (λ (x : MultiplexedConnection). P x.requests x.life x.moved xs) (is_open_at c.requests q) _ c (λ t. k.cancel c.requests c.life c.moved xs q t h) (λ f. h)
+left_kept : {P : Option ℕ → List Request → Life → List ℕ → List LinkAct → Type 0} → IsKept P → (c : MultiplexedConnection) (xs : List LinkAct) (q : ℕ) → P c.limit c.requests c.life c.moved xs → P (left c q).limit (left c q).requests (left c q).life (left c q).moved xs
+left_kept {P = P} k c xs q h = chosen (λ (x : MultiplexedConnection). P x.limit x.requests x.life x.moved xs) (is_open_at c.requests q) _ c (λ t. k.cancel c.limit c.requests c.life c.moved xs q t h) (λ f. h)
 
 -- a submission is left
-pub left_by_kept : {P : List Request → Life → List ℕ → List LinkAct → Type 0} → IsKept P → (t : Turning) (who : Option (Option Pending)) → At P (work_of t) → At P (work_of (left_by t who))
+pub left_by_kept : {P : Option ℕ → List Request → Life → List ℕ → List LinkAct → Type 0} → IsKept P → (t : Turning) (who : Option (Option Pending)) → At P (work_of t) → At P (work_of (left_by t who))
 left_by_kept k t None h = h
 left_by_kept k t (Some None) h = h
 left_by_kept k t (Some (Some p)) h = left_kept k t.core.single.connection t.acts p.number h
 
+-- the time of a request is over
+timed_out_kept : {P : Option ℕ → List Request → Life → List ℕ → List LinkAct → Type 0} → IsKept P → (w : Work) (q : ℕ) → At P w → At P (timed_out w q)
+timed_out_kept {P = P} k w q h =
+    let d = at_life w (cancelled_in w.conn.life q) in
+    answered_kept k (if is_open_at w.conn.requests q then d else w) q (outcome.Fault (error.Io kinds.TimedOut))
+    (chosen (At P) (is_open_at w.conn.requests q) d w (λ t. k.hush w.conn.limit w.conn.requests w.conn.life w.conn.moved w.acts q h) (λ f. h))
+
+-- and that of a submission
+late_kept : {P : Option ℕ → List Request → Life → List ℕ → List LinkAct → Type 0} → IsKept P → (t : Turning) (who : Option (Option Pending)) → At P (work_of t) → At P (work_of (late_by t who))
+late_kept k t None h = h
+late_kept k t (Some None) h = h
+late_kept k t (Some (Some p)) h = timed_out_kept k (work_of t) p.number h
+
+-- a timer fires
+pub fired_kept : {P : Option ℕ → List Request → Life → List ℕ → List LinkAct → Type 0} → IsKept P → (t : Turning) (what : Option Purpose) → At P (work_of t) → At P (work_of (fired_by t what))
+fired_kept k t None h = h
+fired_kept k t (Some (purpose.Connect l)) h = h
+fired_kept k t (Some (purpose.Response (owner.Try n round))) h = late_kept k t (slice_get t.core.table n) h
+
 -- a submission is handed in
-submitted_kept : {P : List Request → Life → List ℕ → List LinkAct → Type 0} → (t : Turning) → CanAsk P (length t.core.table) → (s : Submission) → At P (work_of t) → At P (work_of (submitted t s))
+submitted_kept : {P : Option ℕ → List Request → Life → List ℕ → List LinkAct → Type 0} → (t : Turning) → CanAsk P (length t.core.table) → (s : Submission) → At P (work_of t) → At P (work_of (submitted t s))
 submitted_kept {P = P} t k s h =
     let c = t.core.single.connection in
-    chosen (λ (x : Turning). At P (work_of x)) t.core.shut _ _ (λ u. k.refuse c.requests c.life c.moved t.acts (outcome.Fault error.Closed) h)
-    (λ f. chosen (λ (x : Turning). At P (work_of x)) (length (packed_bytes s) == 0) _ _ (λ u. k.refuse c.requests c.life c.moved t.acts (outcome.Fault error.EmptyCommand) h) (λ g. k.ask c.requests c.life c.moved t.acts h))
+    chosen (λ (x : Turning). At P (work_of x)) t.core.shut _ _ (λ u. k.refuse c.limit c.requests c.life c.moved t.acts (outcome.Fault error.Closed) h)
+    (λ f. chosen (λ (x : Turning). At P (work_of x)) (length (packed_bytes s) == 0) _ _ (λ u. k.refuse c.limit c.requests c.life c.moved t.acts (outcome.Fault error.EmptyCommand) h) (λ g. k.ask c.limit c.requests c.life c.moved t.acts h))
 
 -- what an event is to the submissions
-requested_kept : {P : List Request → Life → List ℕ → List LinkAct → Type 0} → IsKept P → (t : Turning) → CanAsk P (length t.core.table) → (kind : EventKind) → At P (work_of t) → At P (work_of (requested t kind))
+requested_kept : {P : Option ℕ → List Request → Life → List ℕ → List LinkAct → Type 0} → IsKept P → (t : Turning) → CanAsk P (length t.core.table) → (kind : EventKind) → At P (work_of t) → At P (work_of (requested t kind))
 requested_kept k t a (event.Submit s) h = submitted_kept t a s h
 requested_kept k t a (event.Cancel n) h = left_by_kept k t (slice_get t.core.table n) h
 requested_kept k t a (event.Connected l) h = h
 requested_kept k t a (event.Refused l f) h = h
-requested_kept k t a (event.Fired n) h = h
+requested_kept k t a (event.Fired n) h = fired_kept k t (slice_get t.core.timers n) h
+requested_kept k t a (event.Timeout ms) h = h
 requested_kept k t a (event.Wrote l count) h = h
 requested_kept k t a (event.Bytes l piece) h = h
 requested_kept k t a (event.Ended l) h = h
@@ -367,15 +459,15 @@ requested_kept k t a (event.WriteFault l kind) h = h
 requested_kept k t a event.Shutdown h = h
 
 -- the event's own effect
-pub effect_kept : {P : List Request → Life → List ℕ → List LinkAct → Type 0} → IsKept P → (t : Turning) → CanAsk P (length t.core.table) → (kind : EventKind) → At P (work_of t) → At P (work_of (effect t kind))
+pub effect_kept : {P : Option ℕ → List Request → Life → List ℕ → List LinkAct → Type 0} → IsKept P → (t : Turning) → CanAsk P (length t.core.table) → (kind : EventKind) → At P (work_of t) → At P (work_of (effect t kind))
 effect_kept k t a kind h = requested_kept k (heard t kind) a kind (heard_kept k t kind h)
 
 -- the fact between turns
-abbrev pub AtCore : (List Request → Life → List ℕ → List LinkAct → Type 0) → Core → Type 0
-AtCore P c = P c.single.connection.requests c.single.connection.life c.single.connection.moved []
+abbrev pub AtCore : (Option ℕ → List Request → Life → List ℕ → List LinkAct → Type 0) → Core → Type 0
+AtCore P c = P c.single.connection.limit c.single.connection.requests c.single.connection.life c.single.connection.moved []
 
 -- a whole turn
-pub turn_kept : {P : List Request → Life → List ℕ → List LinkAct → Type 0} → IsKept P → (c : Core) → CanAsk P (length c.table) → (kind : EventKind) → AtCore P c → At P (work_of (next_turn c kind))
+pub turn_kept : {P : Option ℕ → List Request → Life → List ℕ → List LinkAct → Type 0} → IsKept P → (c : Core) → CanAsk P (length c.table) → (kind : EventKind) → AtCore P c → At P (work_of (next_turn c kind))
 unfolding next_turn
 turn_kept k c a kind h =
     let w = work_of (effect (counted c) kind) in

@@ -16,7 +16,7 @@ use Rattle.mux_conn.specs.declared.life.Life.TheVariants.{Dialing, Ready, Ended}
 use Rattle.mux_conn.specs.declared.request.Progress.{Progress}
 use Rattle.mux_conn.specs.declared.request.Progress.TheVariants as progress
 use Rattle.mux_conn.specs.declared.request.Request.{Request}
-use Rattle.mux_conn.specs.Requests.{is_waiting, is_admitted, is_waiting_at, is_admitted_at, at_progress}
+use Rattle.mux_conn.specs.Requests.{is_waiting, is_admitted, is_waiting_at, is_admitted_at, permits_at, with_permits, at_progress}
 use Rattle.mux_conn.specs.Effects.{cancelled_in}
 use Rattle.mux_conn.specs.Passes.{message_of}
 use Rattle.cancel_laws.proofs.Links.{NoneWanted}
@@ -90,20 +90,20 @@ share_first progress.Placed e = cc
 share_first progress.Closed e = cc
 
 -- a request that goes on to where it may have one may have no less
-share_set : (r : List Request) (p q : ℕ) (x : Progress) → share_by x ≡ 1 → share r p ≤ share (at_progress r q x) p
-share_set [] p q x e = omega arith
-share_set (y ∷ r) zero zero x e = omega (arith, share_most y.progress, e)
-share_set (y ∷ r) zero (suc q) x e = omega arith
-share_set (y ∷ r) (suc p) zero x e = omega arith
-share_set (y ∷ r) (suc p) (suc q) x e = share_set r p q x e
+share_set : (r : List Request) (p q : ℕ) (x : Progress) (count : ℕ) → share_by x ≡ 1 → share r p ≤ share (with_permits r q x count) p
+share_set [] p q x count e = omega arith
+share_set (y ∷ r) zero zero x count e = omega (arith, share_most y.progress, e)
+share_set (y ∷ r) zero (suc q) x count e = omega arith
+share_set (y ∷ r) (suc p) zero x count e = omega arith
+share_set (y ∷ r) (suc p) (suc q) x count e = share_set r p q x count e
 
 -- nor where it has waited for the connection
-share_admit : (r : List Request) (p q : ℕ) → is_waiting_at r q ≡ true → share r p ≤ share (at_progress r q progress.Admitted) p
-share_admit [] p q t = omega arith
-share_admit (y ∷ r) zero zero t = omega (arith, share_first y.progress t)
-share_admit (y ∷ r) zero (suc q) t = omega arith
-share_admit (y ∷ r) (suc p) zero t = omega arith
-share_admit (y ∷ r) (suc p) (suc q) t = share_admit r p q t
+share_admit : (r : List Request) (p q count : ℕ) → is_waiting_at r q ≡ true → share r p ≤ share (with_permits r q progress.Admitted count) p
+share_admit [] p q count t = omega arith
+share_admit (y ∷ r) zero zero count t = omega (arith, share_first y.progress t)
+share_admit (y ∷ r) zero (suc q) count t = omega arith
+share_admit (y ∷ r) (suc p) zero count t = omega arith
+share_admit (y ∷ r) (suc p) (suc q) count t = share_admit r p q count t
 
 -- one more request takes nothing away
 share_push : (r : List Request) (p : ℕ) (x : Request) → share r p ≤ share (r ++ x ∷ []) p
@@ -112,10 +112,10 @@ share_push (y ∷ r) zero x = omega arith
 share_push (y ∷ r) (suc p) x = share_push r p x
 
 -- one that has waited for a place may have one more
-share_waits : (r : List Request) (p : ℕ) (x : Progress) → share_by x ≡ 1 → is_admitted_at r p ≡ true → share r p + 1 ≤ share (at_progress r p x) p
-share_waits [] p x e t = cc
-share_waits (y ∷ r) zero x e t = omega (arith, e, share_least y.progress t)
-share_waits (y ∷ r) (suc p) x e t = share_waits r p x e t
+share_waits : (r : List Request) (p : ℕ) (x : Progress) (count : ℕ) → share_by x ≡ 1 → is_admitted_at r p ≡ true → share r p + 1 ≤ share (with_permits r p x count) p
+share_waits [] p x count e t = cc
+share_waits (y ∷ r) zero x count e t = omega (arith, e, share_least y.progress t)
+share_waits (y ∷ r) (suc p) x count e t = share_waits r p x count e t
 
 -- the row and the queue
 --
@@ -169,17 +169,17 @@ placed_once p q r before t l =
     by_test (q == p) _
     (λ e.
     let same = eq_from q p e in
-    let k : share r p + 1 ≤ share (at_progress r q progress.Placed) p = subst (λ (j : ℕ). share r j + 1 ≤ share (at_progress r q progress.Placed) j) same (share_waits r q progress.Placed refl t) in
+    let k : share r p + 1 ≤ share (at_progress r q progress.Placed) p = subst (λ (j : ℕ). share r j + 1 ≤ share (at_progress r q progress.Placed) j) same (share_waits r q progress.Placed (permits_at r q) refl t) in
     omega (arith, one_at_most p q))
-    (λ f. let z : one p q ≡ 0 = left_if (q == p) 1 0 f in omega (arith, share_set r p q progress.Placed refl))
+    (λ f. let z : one p q ≡ 0 = left_if (q == p) 1 0 f in omega (arith, share_set r p q progress.Placed (permits_at r q) refl))
 
 -- each single change keeps that
 once_there : (p : ℕ) → IsKeptThere (IsOnce p)
 once_there p = record {
-  answer = λ r life q h. record { within = omega (arith, h.within, share_set r p q progress.Closed refl) };
-  cancel = λ r life q h. record { within = omega (arith, h.within, share_set r p q progress.Closed refl, cancelled_once p q life) };
+  answer = λ r life q h. record { within = omega (arith, h.within, share_set r p q progress.Closed 0 refl) };
+  hush = λ r life q h. record { within = omega (arith, h.within, cancelled_once p q life) };
   connect = λ r size bound h. record { within = omega arith };
-  admit = λ r life q t h. record { within = omega (arith, h.within, share_admit r p q t) };
+  admit = λ r life q count t h. record { within = omega (arith, h.within, share_admit r p q count t) };
   place = λ r l q t h. record { within = omega (arith, placed_once p q.number r (all_of p (Ready l)) t h.within, places_push p l.queue (message_of q)) };
   start = λ r l h. record { within = omega (arith, h.within, starts_same p (record { link = l; out = [] }) l.queue) };
   offer = λ r l h. record { within = h.within };
@@ -196,8 +196,8 @@ once_kept p = kept_there (once_there p)
 -- and one more submission does
 pub once_asks : (p m : ℕ) → CanAsk (There (IsOnce p)) m
 once_asks p m = record {
-  ask = λ r life ms xs h. record { within = omega (arith, h.within, share_push r p (record { name = m; progress = progress.Waiting })) };
-  refuse = λ r life ms xs o h. h;
+  ask = λ lim r life ms xs h. record { within = omega (arith, h.within, share_push r p (record { name = m; progress = progress.Waiting; permits = 0 })) };
+  refuse = λ lim r life ms xs o h. h;
 }
 
 -- a cancel silences all that there is of the message

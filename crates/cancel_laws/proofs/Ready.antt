@@ -1,6 +1,9 @@
 -- What is true of a session after each history.
 use Rattle.std.proofs.Common.{◌≡◌, ℕ, ◌==◌, List, [], ◌∷◌, ◌++◌, length, Option, Some, None, slice_get, refl, sym, ◌∙◌, subst, arith}
 use Rattle.containers.proofs.Choices.{chosen}
+use Rattle.driver_model.specs.declared.action.Owner.TheVariants as owner
+use Rattle.driver_model.specs.declared.action.Purpose.{Purpose}
+use Rattle.driver_model.specs.declared.action.Purpose.TheVariants as purpose
 use Rattle.driver_model.specs.declared.config.Config.{Config}
 use Rattle.driver_model.specs.declared.event.Event.{Event}
 use Rattle.driver_model.specs.declared.event.EventKind.{EventKind}
@@ -10,15 +13,17 @@ use Rattle.mux_conn.specs.declared.life.Life.{Life}
 use Rattle.mux_conn.specs.declared.request.Pending.{Pending}
 use Rattle.mux_conn.specs.declared.request.Progress.TheVariants as progress
 use Rattle.mux_conn.specs.declared.request.Request.{Request}
+use Rattle.mux_conn.specs.Requests.{permits_at}
 use Rattle.mux_conn.specs.Passes.{passed}
 use Rattle.shared_session.specs.declared.core_state.Core.{Core}
-use Rattle.shared_session.specs.Turn.{Turning, work_of, heard, left_by, requested, effect, counted, moved_on, next_turn}
-use Rattle.shared_session.specs.Replay.{opening_core, run_on}
+use Rattle.shared_session.specs.Turn.{Turning, work_of, heard, left_by, late_by, fired_by, requested, effect, counted, moved_on, next_turn}
+use Rattle.shared_session.specs.Replay.{opening_core, run_on, state_after}
 use Rattle.cancel_laws.proofs.Requests.{names, names_stay, names_push, names_count}
 use Rattle.cancel_laws.proofs.Names.{AreNamed, named_refused, named_asked}
-use Rattle.cancel_laws.proofs.Kept.{IsKept, IsKeptThere, There, kept_there, heard_kept, left_by_kept, passed_kept, flushed_kept, turn_kept}
+use Rattle.cancel_laws.proofs.Kept.{IsKept, IsKeptThere, There, kept_there, AtCore, Unlimited, heard_kept, left_by_kept, fired_kept, passed_kept, flushed_kept, turn_kept}
 use Rattle.cancel_laws.proofs.Once.{IsOnce, once_kept, once_asks}
 use Rattle.cancel_laws.proofs.Rest.{IsIdle, moves_idle}
+use Rattle.cancel_laws.proofs.Turns.{turn_unlimited}
 
 -- names
 --
@@ -29,11 +34,11 @@ HasNames ns r life = names r ≡ ns
 -- each single change keeps names
 names_there : (ns : List ℕ) → IsKeptThere (HasNames ns)
 names_there ns = record {
-  answer = λ r life q h. names_stay r q progress.Closed ∙ h;
-  cancel = λ r life q h. names_stay r q progress.Closed ∙ h;
+  answer = λ r life q h. names_stay r q progress.Closed 0 ∙ h;
+  hush = λ r life q h. h;
   connect = λ r size bound h. h;
-  admit = λ r life q t h. names_stay r q progress.Admitted ∙ h;
-  place = λ r l q t h. names_stay r q.number progress.Placed ∙ h;
+  admit = λ r life q count t h. names_stay r q progress.Admitted count ∙ h;
+  place = λ r l q t h. names_stay r q.number progress.Placed (permits_at r q.number) ∙ h;
   start = λ r l h. h;
   offer = λ r l h. h;
   write = λ r l k h. h;
@@ -63,18 +68,39 @@ named_left_by t None h = h
 named_left_by t (Some None) h = h
 named_left_by t (Some (Some p)) h = named_left t (Some (Some p)) h
 
+-- where a timer fires, names stay
+named_fired : (t : Turning) (what : Option Purpose) → NamedIn t → AreNamed t.core.table (names (fired_by t what).core.single.connection.requests)
+named_fired t what h = subst (AreNamed t.core.table) (sym (fired_kept (names_kept (names t.core.single.connection.requests)) t what refl)) h
+
+-- and so does the table
+table_late : (t : Turning) (who : Option (Option Pending)) → (late_by t who).core.table ≡ t.core.table
+table_late t None = refl
+table_late t (Some None) = refl
+table_late t (Some (Some p)) = refl
+
+-- whatever the timer is for
+table_fired : (t : Turning) (what : Option Purpose) → (fired_by t what).core.table ≡ t.core.table
+table_fired t None = refl
+table_fired t (Some (purpose.Connect l)) = refl
+table_fired t (Some (purpose.Response (owner.Try n round))) = table_late t (slice_get t.core.table n)
+
+-- so both do
+named_fired_by : (t : Turning) (what : Option Purpose) → NamedIn t → NamedIn (fired_by t what)
+named_fired_by t what h = subst (λ (table : List (Option Pending)). AreNamed table (names (fired_by t what).core.single.connection.requests)) (sym (table_fired t what)) (named_fired t what h)
+
 -- what an event is to the submissions
 named_requested : (t : Turning) (kind : EventKind) → NamedIn t → NamedIn (requested t kind)
 named_requested t (event.Submit s) h =
     let r = t.core.single.connection.requests in
-    let x : Request = record { name = length t.core.table; progress = progress.Waiting } in
+    let x : Request = record { name = length t.core.table; progress = progress.Waiting; permits = 0 } in
     chosen NamedIn t.core.shut _ _ (λ u. named_refused t.core.table (names r) h)
     (λ f. chosen NamedIn (length (packed_bytes s) == 0) _ _ (λ u. named_refused t.core.table (names r) h)
     (λ g. subst (AreNamed (t.core.table ++ Some (record { number = length r }) ∷ [])) (sym (names_push r x)) (named_asked t.core.table (names r) (length r) (names_count r) h)))
 named_requested t (event.Cancel n) h = named_left_by t (slice_get t.core.table n) h
 named_requested t (event.Connected l) h = h
 named_requested t (event.Refused l f) h = h
-named_requested t (event.Fired n) h = h
+named_requested t (event.Fired n) h = named_fired_by t (slice_get t.core.timers n) h
+named_requested t (event.Timeout ms) h = h
 named_requested t (event.Wrote l count) h = h
 named_requested t (event.Bytes l piece) h = h
 named_requested t (event.Ended l) h = h
@@ -123,3 +149,15 @@ opening_ready config word = record {
   once = λ p. record { within = omega arith };
   named = record { to = λ n p e. cc; back = λ q n e. cc };
 }
+
+-- where permits aren't counted
+--
+-- they never are
+unlimited_on : (c : Core) (es : List Event) → AtCore Unlimited c → AtCore Unlimited (run_on c es)
+unlimited_on c [] none = none
+unlimited_on c (e ∷ es) none = unlimited_on (next_turn c e.kind).core es (turn_unlimited c e.kind none)
+
+-- after any history of such a configuration
+pub unlimited_after : (config : Config) (word : ℕ) (es : List Event) → config.limit ≡ None → AtCore Unlimited (state_after config word es)
+unfolding state_after
+unlimited_after config word es none = unlimited_on (opening_core config word) es none

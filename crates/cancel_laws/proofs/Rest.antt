@@ -12,14 +12,14 @@ use Rattle.mux_conn.specs.declared.act.LinkAct.TheVariants as act
 use Rattle.mux_conn.specs.declared.connection.MultiplexedConnection.{MultiplexedConnection}
 use Rattle.mux_conn.specs.declared.life.Life.{Life}
 use Rattle.mux_conn.specs.declared.life.Life.TheVariants.{Dialing, Ready, Ended}
-use Rattle.mux_conn.specs.declared.request.Progress.TheVariants as progress
 use Rattle.mux_conn.specs.declared.request.Waiting.{Waiting}
-use Rattle.mux_conn.specs.Connection.{Work, acted, at_life, with_link, admits_none, has_room}
-use Rattle.mux_conn.specs.Requests.{is_open_at, is_waiting_at, is_admitted_at, name_at, progressed, answered}
+use Rattle.mux_conn.specs.Connection.{Work, acted, at_life, with_link, has_no_permit, admits_none_at, admits_none, has_room}
+use Rattle.mux_conn.specs.Requests.{is_open_at, is_waiting_at, is_admitted_at, name_at, closed, answered}
 use Rattle.mux_conn.specs.Effects.{cancelled_in, left}
-use Rattle.mux_conn.specs.Passes.{shown_each, starts_with, started_at, started, placed_at, told_at_place, seated, still_admitted, moved_up, moved_up_each, moved_up_all, put_behind, seated_or_behind, admitted_at, admitted, still_waiting, admitted_each, admitted_all, passed}
+use Rattle.mux_conn.specs.Passes.{shown_each, starts_with, started_at, started, placed_at, told_at_place, seated, still_admitted, moved_up, moved_up_each, moved_up_all, put_behind, seated_or_behind, let_in, admitted_at, admitted, still_waiting, admitted_each, admitted_all, passed}
 use Rattle.mux_conn.specs.Turn.{written_at, written, moved_wait, fresh_wait, wait_shown, moved_each_shown, moved_shown, fresh_each_shown, fresh_shown, waits_shown, flushed}
 use Rattle.cancel_laws.proofs.Links.{none_leaves}
+use Rattle.cancel_laws.proofs.Kept.{let_in_conn}
 use Rattle.cancel_laws.proofs.Gone.{NoneQueued}
 
 -- nothing left to do
@@ -41,10 +41,10 @@ pub record IsSeated (c : MultiplexedConnection) : Type 0 where
   pub queue : HasStartedAll c.life
   pub admitted : has_room c.life ≡ true → c.admitted ≡ []
 
--- nor does anybody wait for the connection, where requests can be moved
+-- nor does anybody wait for the connection or for a permit, where requests can be moved
 pub record IsMoved (c : MultiplexedConnection) : Type 0 where
   pub seated : IsSeated c
-  pub waiting : admits_none c.life ≡ false → c.waiting ≡ []
+  pub waiting : admits_none c ≡ false → c.waiting ≡ []
 
 -- all has been offered that can
 pub record IsWritten (c : MultiplexedConnection) : Type 0 where
@@ -133,7 +133,7 @@ one_or_behind w q h =
 
 -- where it may take one
 one_admitted_at : (w : Work) (q : Waiting) (life : Life) → IsSeated w.conn → IsSeated (admitted_at w q life).conn
-one_admitted_at w q (Ready l) h = one_or_behind (progressed w q.number progress.Admitted) q (record { queue = h.queue; admitted = h.admitted })
+one_admitted_at w q (Ready l) h = one_or_behind (let_in w q) q (subst IsSeated (sym (let_in_conn w q)) (record { queue = h.queue; admitted = h.admitted }))
 one_admitted_at w q (Ended e) h =
     chosen (λ (x : Work). IsSeated x.conn) (is_open_at w.conn.requests q.number) _ w (λ t. record { queue = h.queue; admitted = h.admitted }) (λ f. h)
 one_admitted_at w q Dialing h = h
@@ -146,8 +146,8 @@ one_admitted w q h = chosen (λ (x : Work). IsSeated x.conn) (is_waiting_at w.co
 each_admitted : (w : Work) (qs : List Waiting) → IsSeated w.conn → IsMoved (admitted_each w qs).conn
 each_admitted w [] h = record { seated = record { queue = h.queue; admitted = h.admitted }; waiting = λ f. refl }
 each_admitted w (q ∷ qs) h =
-    chosen (λ (x : Work). IsMoved x.conn) (admits_none w.conn.life) _ _
-    (λ t. record { seated = record { queue = h.queue; admitted = h.admitted }; waiting = λ f. absurd (not_both (admits_none w.conn.life) f t) })
+    chosen (λ (x : Work). IsMoved x.conn) (admits_none w.conn) _ _
+    (λ t. record { seated = record { queue = h.queue; admitted = h.admitted }; waiting = λ f. absurd (not_both (admits_none w.conn) f t) })
     (λ f. each_admitted (admitted w q) qs (one_admitted w q h))
 
 -- what a turn moves
@@ -170,7 +170,7 @@ written_from w (Ready l) e h =
     (λ t. record {
       moved = record {
         seated = record { queue = queue_offered (subst HasStartedAll e h.seated.queue); admitted = λ u. h.seated.admitted (ap has_room e ∙ u) };
-        waiting = λ f. h.waiting (ap admits_none e);
+        waiting = λ f. h.waiting (ap (λ (x : Life). admits_none_at x (has_no_permit w.conn.limit w.conn.free)) e ∙ f);
       };
       offered = offered_none (length l.outbox.unwritten == 0);
     })
@@ -249,9 +249,9 @@ none_moved_up w (q ∷ qs) h = left_if (has_room w.conn.life) _ _ (none_fits (ha
     none_fits false f = refl
 
 -- no request is moved
-none_admitted : (w : Work) (qs : List Waiting) → (admits_none w.conn.life ≡ false → qs ≡ []) → admitted_each w qs ≡ still_waiting w qs
+none_admitted : (w : Work) (qs : List Waiting) → (admits_none w.conn ≡ false → qs ≡ []) → admitted_each w qs ≡ still_waiting w qs
 none_admitted w [] h = refl
-none_admitted w (q ∷ qs) h = taken_if (admits_none w.conn.life) _ _ (none_goes (admits_none w.conn.life) (λ f. cc (h f)))
+none_admitted w (q ∷ qs) h = taken_if (admits_none w.conn) _ _ (none_goes (admits_none w.conn) (λ f. cc (h f)))
   where
     none_goes : (b : Bool) → (b ≡ false → ⊥) → b ≡ true
     none_goes true f = refl
@@ -284,16 +284,16 @@ pub nothing_moves : (w : Work) → IsIdle w.conn → flushed (passed w) ≡ w
 nothing_moves w h =
     ap flushed (passed_stays w h.written.moved) ∙ ap waits_shown (written_stays w w.conn.life h.written.offered) ∙ ap fresh_shown (moved_stays w h.calm) ∙ fresh_stays w h.fresh
 
--- a cancel of a message that isn't in the queue leaves nothing to do
-pub left_idle : (c : MultiplexedConnection) (p : ℕ) → NoneQueued p c.life → IsIdle c → IsIdle (left c p)
-left_idle c p none h =
+-- a cancel of a message that isn't in the queue leaves nothing to do, where permits aren't counted
+pub left_idle : (c : MultiplexedConnection) (p : ℕ) → c.limit ≡ None → NoneQueued p c.life → IsIdle c → IsIdle (left c p)
+left_idle c p unlimited none h =
     let m = h.written.moved in
     chosen IsIdle (is_open_at c.requests p) _ c
     (λ t. record {
       written = record {
         moved = record {
           seated = record { queue = queue_left c.life none m.seated.queue; admitted = λ u. m.seated.admitted (sym (room_left c.life none) ∙ u) };
-          waiting = λ f. m.waiting (sym (stuck_left c.life) ∙ f);
+          waiting = λ f. m.waiting (stuck_left c.life c.limit c.free (closed c p).free unlimited ∙ f);
         };
         offered = offered_left c.life h.written.offered;
       };
@@ -313,10 +313,11 @@ left_idle c p none h =
     room_left (Ready l) n = ap (λ (queue : List Queued). has_room (Ready (record l { queue = queue }))) (none_leaves p l.queue n)
     room_left (Ended x) n = refl
 
-    stuck_left : (life : Life) → admits_none (cancelled_in life p) ≡ admits_none life
-    stuck_left Dialing = refl
-    stuck_left (Ready l) = refl
-    stuck_left (Ended x) = refl
+    stuck_left : (life : Life) (lim : Option ℕ) (j k : ℕ) → lim ≡ None → admits_none_at life (has_no_permit lim j) ≡ admits_none_at (cancelled_in life p) (has_no_permit lim k)
+    stuck_left Dialing lim j k e = refl
+    stuck_left (Ready l) None j k e = refl
+    stuck_left (Ready l) (Some most) j k e = cc
+    stuck_left (Ended x) lim j k e = refl
 
     offered_left : (life : Life) → HasOffered life → HasOffered (cancelled_in life p)
     offered_left Dialing e = e

@@ -1,13 +1,15 @@
 -- A submission that is handed in after the link's connect has started, where the configuration is sound.
 use Rattle.std.proofs.Common.{◌≡◌, ◌≢◌, ℕ, zero, suc, ◌<◌, ◌==◌, nat_le, not, Bool, true, false, List, [], ◌∷◌, length, Option, Some, None, slice_get, if◌then◌else◌, refl, sym, ap, ◌∙◌, subst, arith}
 use Rattle.containers.proofs.Choices.{chosen, not_le_test, ne_test, not_both}
+use Rattle.std.specs.Prelude.{unwrap_or}
 use Rattle.connection_info.specs.declared.address.ConnectionInfo.{ConnectionInfo}
+use Rattle.redis_error.specs.declared.config_name.ConfigName.{ConfigName}
 use Rattle.redis_error.specs.declared.config_name.ConfigName.TheVariants as name
 use Rattle.driver_model.specs.declared.config.Config.{Config}
 use Rattle.driver_model.specs.declared.event.EventKind.TheVariants as event
 use Rattle.driver_model.specs.declared.event.Submission.{Submission}
 use Rattle.driver_model.specs.declared.event.Submission.TheVariants.{Cmd, Pipe, Multi}
-use Rattle.driver_model.specs.Config.{address, buffer_size, has_setup, buffer_fault, fault_in}
+use Rattle.driver_model.specs.Config.{address, buffer_size, has_setup, buffer_fault, room_fault, fault_in}
 use Rattle.driver_model.specs.Request.{packed_bytes, shape_of, is_reply_awaited}
 use Rattle.link_core.specs.Link.{LinkState, offered_of}
 use Rattle.link_core.specs.Outbox.{can_offer}
@@ -18,14 +20,15 @@ use Rattle.mux_conn.specs.declared.life.Life.TheVariants.{Dialing, Ready, Ended}
 use Rattle.mux_conn.specs.declared.request.Pending.{Pending}
 use Rattle.mux_conn.specs.declared.request.Progress.TheVariants as progress
 use Rattle.mux_conn.specs.declared.request.Request.{Request}
-use Rattle.mux_conn.specs.Connection.{Work}
-use Rattle.mux_conn.specs.Requests.{progressed, waiting_of, asked}
-use Rattle.mux_conn.specs.Passes.{started, seated, moved_up_all, put_behind, still_waiting, passed}
+use Rattle.mux_conn.specs.Connection.{Work, has_no_permit}
+use Rattle.mux_conn.specs.Requests.{waiting_of, asked}
+use Rattle.mux_conn.specs.Passes.{started, seated, moved_up_all, put_behind, seated_or_behind, permits_taken, holding, let_in, still_waiting, passed}
 use Rattle.mux_conn.specs.Turn.{written_at, written, flushed}
 use Rattle.shared_session.specs.declared.core_state.Core.{Core}
-use Rattle.shared_session.specs.Turn.{Turning, pending, work_of, heard, counted, moved_on, next_turn}
+use Rattle.shared_session.specs.Turn.{Turning, pending, work_of, heard, counted, moved_on, timed, next_turn}
 use Rattle.shared_session.specs.Replay.{opening_core, IsSound, state_after}
 use Rattle.cancel_laws.specs.Cancels.{connected_at, handed_in_after_connect, HasStarted}
+use Rattle.cancel_laws.proofs.Kept.{let_in_conn}
 use Rattle.cancel_laws.proofs.Rest.{waits_conn}
 
 -- request p has had its place, and its message has left the queue of the link, which is up
@@ -75,16 +78,30 @@ no_bytes : (xs : List ℕ) → xs ≢ [] → (length xs == 0) ≡ false
 no_bytes [] some = absurd (some refl)
 no_bytes (x ∷ xs) some = ne_test (length (x ∷ xs)) 0 (λ e. omega arith)
 
--- a queue that isn't refused holds something
-some_unless : (b : Bool) (size : ℕ) → (if b then Some name.Kind else buffer_fault size) ≡ None → 0 < size
-some_unless true size e = cc
-some_unless false zero e = cc
-some_unless false (suc size) e = omega arith
+-- what is refused where a test holds isn't refused where it doesn't
+unless_refused : (b : Bool) (what : ConfigName) (rest : Option ConfigName) → (if b then Some what else rest) ≡ None → (b ≡ false) × (rest ≡ None)
+unless_refused true what rest e = cc
+unless_refused false what rest e = (refl, e)
 
--- so that of a configuration of which nothing is
-some_places : (info : Option ConnectionInfo) (size : ℕ) → fault_in info size ≡ None → 0 < size
-some_places None size e = cc
-some_places (Some info) size e = some_unless (has_setup info.redis) size e
+-- a queue that isn't refused holds something
+some_place : (size : ℕ) → buffer_fault size ≡ None → 0 < size
+some_place zero e = cc
+some_place (suc size) e = omega arith
+
+-- nor is a queue of a limit that isn't refused
+room_places : (lim : Option ℕ) (size : ℕ) → room_fault lim size ≡ None → 0 < size
+room_places None size e = some_place size e
+room_places (Some most) size e = some_place size (unless_refused (most == 0) name.Limit (buffer_fault size) e).1
+
+-- and where none is held, one of its permits is free
+room_permits : (lim : Option ℕ) (size : ℕ) → room_fault lim size ≡ None → has_no_permit lim (unwrap_or lim 0) ≡ false
+room_permits None size e = refl
+room_permits (Some most) size e = (unless_refused (most == 0) name.Limit (buffer_fault size) e).0
+
+-- so that both are true of a configuration of which nothing is refused
+room_sound : (info : Option ConnectionInfo) (lim : Option ℕ) (size : ℕ) → fault_in info lim size ≡ None → room_fault lim size ≡ None
+room_sound None lim size e = cc
+room_sound (Some info) lim size e = (unless_refused (has_setup info.redis) name.Kind (room_fault lim size) e).1
 
 -- any submission that has bytes, and whose reply is awaited
 pub any_started : (config : Config) (word draw later : ℕ) (s : Submission) → packed_bytes s ≢ [] → is_reply_awaited s ≡ true → IsSound config
@@ -94,20 +111,30 @@ any_started config word draw later s some awaited sound =
     let c = (next_turn (opening_core config word) (connected_at draw).kind).core in
     let t = heard (counted c) (event.Submit s) in
     let asks : Bool → Turning = λ b. record t {
-      core = record t.core { table = Some (pending 0) ∷ []; single = record t.core.single { connection = asked t.core.single.connection 0 (packed_bytes s) (shape_of s) b } };
+      core = record t.core { table = Some (pending 0) ∷ []; single = record t.core.single { connection = asked t.core.single.connection 0 (packed_bytes s) (shape_of s) b t.core.timeout } };
     } in
-    let room : not (nat_le (buffer_size config) 0) ≡ true = ap not (not_le_test (buffer_size config) 0 (some_places (address config) (buffer_size config) sound)) in
-    let q = waiting_of 0 (packed_bytes s) (shape_of s) true in
-    let d = progressed (still_waiting (moved_up_all (started (work_of (asks true)))) []) 0 progress.Admitted in
-    let h : IsStarted 0 (passed (work_of (asks true))).conn =
-    chosen (λ (x : Work). IsStarted 0 (still_waiting x []).conn) (not (nat_le (buffer_size config) 0)) (seated d q) (put_behind d q)
-    (λ r. record { request = record { name = 0; progress = progress.Placed }; known = refl; placed = refl; link = _; up = refl; gone = refl })
+    let fits = room_sound (address config) config.limit (buffer_size config) sound in
+    let room : not (nat_le (buffer_size config) 0) ≡ true = ap not (not_le_test (buffer_size config) 0 (room_places config.limit (buffer_size config) fits)) in
+    let free : has_no_permit config.limit (unwrap_or config.limit 0) ≡ false = room_permits config.limit (buffer_size config) fits in
+    let q = waiting_of 0 (packed_bytes s) (shape_of s) true t.core.timeout in
+    let d = still_waiting (moved_up_all (started (work_of (asks true)))) [] in
+    let count = permits_taken config.limit (unwrap_or config.limit 0) (shape_of s) in
+    let in_at : MultiplexedConnection → Work = λ x. record (let_in d q) { conn = x } in
+    let g : IsStarted 0 (still_waiting (seated_or_behind (in_at (holding d.conn 0 count)) q) []).conn =
+    chosen (λ (x : Work). IsStarted 0 (still_waiting x []).conn) (not (nat_le (buffer_size config) 0)) (seated (in_at (holding d.conn 0 count)) q) (put_behind (in_at (holding d.conn 0 count)) q)
+    (λ r. record { request = record { name = 0; progress = progress.Placed; permits = count }; known = refl; placed = refl; link = _; up = refl; gone = refl })
     (λ f. absurd (not_both (not (nat_le (buffer_size config) 0)) f room)) in
-    let f : HasStarted 0 (moved_on (asks true)).core = has_started 0 (moved_on (asks true)).core (pending 0) refl (all_flushed 0 (passed (work_of (asks true))) h) in
-    let g : HasStarted 0 (moved_on (asks (is_reply_awaited s))).core = subst (λ (b : Bool). HasStarted 0 (moved_on (asks b)).core) (sym awaited) f in
-    chosen (λ (x : Turning). HasStarted 0 (moved_on x).core) (length (packed_bytes s) == 0) _ (asks (is_reply_awaited s))
-    (λ e. absurd (not_both (length (packed_bytes s) == 0) (no_bytes (packed_bytes s) some) e))
-    (λ n. g)
+    let k : IsStarted 0 (still_waiting (seated_or_behind (let_in d q) q) []).conn =
+    subst (λ (x : MultiplexedConnection). IsStarted 0 (still_waiting (seated_or_behind (in_at x) q) []).conn) (sym (let_in_conn d q)) g in
+    let h : IsStarted 0 (passed (work_of (asks true))).conn =
+    chosen (λ (x : Work). IsStarted 0 x.conn) (has_no_permit config.limit (unwrap_or config.limit 0)) (still_waiting d (q ∷ [])) (still_waiting (seated_or_behind (let_in d q) q) [])
+    (λ r. absurd (not_both (has_no_permit config.limit (unwrap_or config.limit 0)) free r))
+    (λ f. k) in
+    let f : HasStarted 0 (timed (moved_on (asks true))).core = has_started 0 (timed (moved_on (asks true))).core (pending 0) refl (all_flushed 0 (passed (work_of (asks true))) h) in
+    let e : HasStarted 0 (timed (moved_on (asks (is_reply_awaited s)))).core = subst (λ (b : Bool). HasStarted 0 (timed (moved_on (asks b))).core) (sym awaited) f in
+    chosen (λ (x : Turning). HasStarted 0 (timed (moved_on x)).core) (length (packed_bytes s) == 0) _ (asks (is_reply_awaited s))
+    (λ z. absurd (not_both (length (packed_bytes s) == 0) (no_bytes (packed_bytes s) some) z))
+    (λ z. e)
 
 -- a command
 pub command_started : (config : Config) (word draw later : ℕ) (name : List ℕ) (args : List (List ℕ)) → IsSound config → HasStarted 0 (handed_in_after_connect config word draw later (Cmd (name ∷ args)))

@@ -3,6 +3,9 @@ use Rattle.std.proofs.Common.{◌≡◌, ◌≢◌, ℕ, ◌<◌, ◌==◌, List
 use Rattle.containers.proofs.Choices.{chosen, either}
 use Rattle.redis_error.specs.declared.redis_error.RedisError.{RedisError}
 use Rattle.redis_error.specs.declared.redis_error.RedisError.TheVariants as error
+use Rattle.driver_model.specs.declared.action.Owner.TheVariants as owner
+use Rattle.driver_model.specs.declared.action.Purpose.{Purpose}
+use Rattle.driver_model.specs.declared.action.Purpose.TheVariants as purpose
 use Rattle.driver_model.specs.declared.event.EventKind.{EventKind}
 use Rattle.driver_model.specs.declared.event.EventKind.TheVariants as event
 use Rattle.driver_model.specs.declared.event.Submission.{Submission}
@@ -10,17 +13,18 @@ use Rattle.driver_model.specs.declared.outcome.Outcome.TheVariants as outcome
 use Rattle.driver_model.specs.News.{news_of}
 use Rattle.driver_model.specs.Request.{packed_bytes, shape_of, is_reply_awaited}
 use Rattle.mux_conn.specs.declared.act.LinkAct.{LinkAct}
+use Rattle.mux_conn.specs.declared.act.LinkAct.TheVariants as act
 use Rattle.mux_conn.specs.declared.connection.MultiplexedConnection.{MultiplexedConnection}
 use Rattle.mux_conn.specs.declared.request.Pending.{Pending}
 use Rattle.mux_conn.specs.Passes.{passed}
 use Rattle.mux_conn.specs.Turn.{flushed}
 use Rattle.shared_session.specs.declared.core_state.Core.{Core}
-use Rattle.shared_session.specs.Turn.{Turning, work_of, with_work, shut_by, heard, refused_with, pending, asked_for, submitted, left_by, requested, effect, counted, moved_on, whole_effect, next_turn}
+use Rattle.shared_session.specs.Turn.{Turning, work_of, with_work, shut_by, heard, refused_with, pending, asked_for, submitted, left_by, late_by, fired_by, requested, effect, counted, moved_on, whole_effect, timer_of, timers_of, timed, next_turn}
 use Rattle.mux_conn.specs.declared.request.Progress.TheVariants as progress
 use Rattle.cancel_laws.proofs.Requests.{progress_count}
-use Rattle.cancel_laws.proofs.Kept.{At, AtCore, heard_kept, effect_kept, passed_kept, turn_kept}
+use Rattle.cancel_laws.proofs.Kept.{other_act, At, AtCore, Unlimited, unlimited_kept, heard_kept, effect_kept, passed_kept, turn_kept}
 use Rattle.cancel_laws.proofs.Gone.{IsAway, away_kept, away_asks}
-use Rattle.cancel_laws.proofs.Bare.{bare_conn, other_acts, acts_other, bare_applied, bare_asked, bare_left, bare_passed, bare_flushed}
+use Rattle.cancel_laws.proofs.Bare.{bare_conn, other_acts, acts_other, bare_applied, bare_asked, bare_left, bare_late, bare_passed, bare_flushed}
 
 -- all of a session, but for the number of its turns, for how far request p has come, and whether its verdict is wanted
 abbrev pub bare_core : ℕ → Core → Core
@@ -50,8 +54,8 @@ bare_refused n p t e l =
 bare_asked_for : (n p : ℕ) (t : Turning) (s : Submission) → p < length t.core.single.connection.requests → bare_turning n p (asked_for t s) ≡ asked_for (bare_turning n p t) s
 bare_asked_for n p t s l =
     let c = t.core.single.connection in
-    let count = sym (progress_count c.requests p progress.Closed) in
-    let conn = bare_asked p c (length t.core.table) (packed_bytes s) (shape_of s) (is_reply_awaited s) l in
+    let count = sym (progress_count c.requests p progress.Closed 0) in
+    let conn = bare_asked p c (length t.core.table) (packed_bytes s) (shape_of s) (is_reply_awaited s) t.core.timeout l in
     λ i. record (bare_turning n p t) {
       core = record (bare_core p t.core) { table = t.core.table ++ Some (pending (count i)) ∷ []; single = record t.core.single { connection = conn i } };
     }
@@ -71,13 +75,26 @@ bare_left_by n p t (Some (Some q)) h =
     ap (λ (c : MultiplexedConnection). record (bare_turning n p t) { core = record (bare_core p t.core) { single = record t.core.single { connection = c } } })
     (bare_left p q.number t.core.single.connection h.gone.none)
 
+-- one whose time is over
+bare_late_by : (n p : ℕ) (t : Turning) (who : Option (Option Pending)) → At (IsAway n p) (work_of t) → bare_turning n p (late_by t who) ≡ late_by (bare_turning n p t) who
+bare_late_by n p t None h = refl
+bare_late_by n p t (Some None) h = refl
+bare_late_by n p t (Some (Some q)) h = ap (with_work (bare_turning n p t)) (bare_late n p q.number (work_of t) h.gone)
+
+-- a timer fires
+bare_fired : (n p : ℕ) (t : Turning) (what : Option Purpose) → At (IsAway n p) (work_of t) → bare_turning n p (fired_by t what) ≡ fired_by (bare_turning n p t) what
+bare_fired n p t None h = refl
+bare_fired n p t (Some (purpose.Connect l)) h = refl
+bare_fired n p t (Some (purpose.Response (owner.Try m round))) h = bare_late_by n p t (slice_get t.core.table m) h
+
 -- what an event is to the submissions
 bare_requested : (n p : ℕ) (t : Turning) (kind : EventKind) → n < length t.core.table → At (IsAway n p) (work_of t) → bare_turning n p (requested t kind) ≡ requested (bare_turning n p t) kind
 bare_requested n p t (event.Submit s) l h = bare_submitted n p t s l h.gone.there
 bare_requested n p t (event.Cancel m) l h = bare_left_by n p t (slice_get t.core.table m) h
 bare_requested n p t (event.Connected m) l h = refl
 bare_requested n p t (event.Refused m f) l h = refl
-bare_requested n p t (event.Fired m) l h = refl
+bare_requested n p t (event.Fired m) l h = bare_fired n p t (slice_get t.core.timers m) h
+bare_requested n p t (event.Timeout ms) l h = refl
 bare_requested n p t (event.Wrote m count) l h = refl
 bare_requested n p t (event.Bytes m piece) l h = refl
 bare_requested n p t (event.Ended m) l h = refl
@@ -90,18 +107,46 @@ bare_effect : (n p : ℕ) (t : Turning) (kind : EventKind) → n < length t.core
 bare_effect n p t kind l h =
     bare_requested n p (heard t kind) kind l (heard_kept (away_kept n p) t kind h) ∙ ap (λ (x : Turning). requested x kind) (bare_heard n p t kind h)
 
--- the rest of the turn
-bare_moved_on : (n p : ℕ) (t : Turning) → At (IsAway n p) (work_of t) → bare_turning n p (moved_on t) ≡ moved_on (bare_turning n p t)
-bare_moved_on n p t h =
+-- the rest of the turn, where permits aren't counted
+bare_moved_on : (n p : ℕ) (t : Turning) → At Unlimited (work_of t) → At (IsAway n p) (work_of t) → bare_turning n p (moved_on t) ≡ moved_on (bare_turning n p t)
+bare_moved_on n p t none h =
     let w = work_of t in
-    ap (with_work (bare_turning n p t)) (bare_flushed n p (passed w) (passed_kept (away_kept n p) w h) ∙ ap flushed (bare_passed n p w h.gone))
+    ap (with_work (bare_turning n p t)) (bare_flushed n p (passed w) (passed_kept (away_kept n p) w h) ∙ ap flushed (bare_passed n p w none h.gone))
+
+-- an outcome asks for no timer
+no_timer : (n : ℕ) (a : LinkAct) (more : List LinkAct) → timers_of (other_act n a ++ more) ≡ timer_of a ++ timers_of more
+no_timer n (act.Created e) more = refl
+no_timer n (act.Took m count) more = refl
+no_timer n (act.Timer m ms) more = refl
+no_timer n act.Close more = refl
+no_timer n (act.Write bytes) more = refl
+no_timer n (act.Wait m kind) more = refl
+no_timer n (act.Start message m need len) more = refl
+no_timer n (act.Outcome m o) more = chosen (λ (xs : List LinkAct). timers_of (xs ++ more) ≡ timers_of more) (m == n) [] (act.Outcome m o ∷ []) (λ t. refl) (λ f. refl)
+
+-- so the timers of a turn are those of all other acts
+timers_same : (n : ℕ) (xs : List LinkAct) → timers_of xs ≡ timers_of (other_acts n xs)
+timers_same n [] = refl
+timers_same n (a ∷ xs) = ap (λ (ps : List Purpose). timer_of a ++ ps) (timers_same n xs) ∙ sym (no_timer n a (other_acts n xs))
+
+-- the timers get their numbers
+bare_timed : (n p : ℕ) (t : Turning) → bare_turning n p (timed t) ≡ timed (bare_turning n p t)
+bare_timed n p t = ap (λ (ps : List Purpose). record (bare_turning n p t) { core = record (bare_core p t.core) { timers = t.core.timers ++ ps } }) (timers_same n t.acts)
+
+-- that permits aren't counted stays so where the event has had its effect
+unlimited_effect : (t : Turning) (kind : EventKind) → At Unlimited (work_of t) → At Unlimited (work_of (effect t kind))
+unlimited_effect t kind none =
+    effect_kept unlimited_kept t (record { ask = λ lim r life ms xs h. h; refuse = λ lim r life ms xs o h. h }) kind none
 
 -- a whole turn
-bare_turn : (n p : ℕ) (c : Core) (kind : EventKind) → n < length c.table → AtCore (IsAway n p) c → bare_turning n p (next_turn c kind) ≡ whole_effect (record { core = bare_core p c; acts = [] }) kind
+bare_turn : (n p : ℕ) (c : Core) (kind : EventKind) → n < length c.table → AtCore Unlimited c → AtCore (IsAway n p) c → bare_turning n p (next_turn c kind) ≡ timed (whole_effect (record { core = bare_core p c; acts = [] }) kind)
 unfolding next_turn
-bare_turn n p c kind l h =
+bare_turn n p c kind l none h =
     let t = counted c in
-    bare_moved_on n p (effect t kind) (effect_kept (away_kept n p) t (away_asks n p (length c.table) (above n c.table l)) kind h) ∙ ap moved_on (bare_effect n p t kind l h)
+    bare_timed n p (whole_effect t kind)
+    ∙ ap timed
+    (bare_moved_on n p (effect t kind) (unlimited_effect t kind none) (effect_kept (away_kept n p) t (away_asks n p (length c.table) (above n c.table l)) kind h)
+    ∙ ap moved_on (bare_effect n p t kind l h))
 
 -- tables
 --
@@ -119,7 +164,18 @@ more_requested n t (event.Cancel m) l = more_left (slice_get t.core.table m)
     more_left (Some (Some p)) = l
 more_requested n t (event.Connected m) l = l
 more_requested n t (event.Refused m f) l = l
-more_requested n t (event.Fired m) l = l
+more_requested n t (event.Fired m) l = more_fired (slice_get t.core.timers m)
+  where
+    more_late : (who : Option (Option Pending)) → n < length (late_by t who).core.table
+    more_late None = l
+    more_late (Some None) = l
+    more_late (Some (Some p)) = l
+
+    more_fired : (what : Option Purpose) → n < length (fired_by t what).core.table
+    more_fired None = l
+    more_fired (Some (purpose.Connect k)) = l
+    more_fired (Some (purpose.Response (owner.Try k round))) = more_late (slice_get t.core.table k)
+more_requested n t (event.Timeout ms) l = l
 more_requested n t (event.Wrote m count) l = l
 more_requested n t (event.Bytes m piece) l = l
 more_requested n t (event.Ended m) l = l
@@ -132,9 +188,11 @@ pub more_after : (n : ℕ) (c : Core) (kind : EventKind) → n < length c.table 
 unfolding next_turn
 more_after n c kind l = more_requested n (heard (counted c) kind) kind l
 
--- two sessions that are alike but for submission n, whose message has left the queue of both
+-- two sessions that count no permits, and that are alike but for submission n, whose message has left the queue of both
 pub record AreAlike (n p : ℕ) (c d : Core) : Type 0 where
   pub same : bare_core p c ≡ bare_core p d
+  pub unlimited : AtCore Unlimited c
+  pub unlimited_too : AtCore Unlimited d
   pub within : n < length c.table
   pub within_too : n < length d.table
   pub gone : AtCore (IsAway n p) c
@@ -143,7 +201,8 @@ pub record AreAlike (n p : ℕ) (c d : Core) : Type 0 where
 -- a turn of each does the same
 pub turns_same : (n p : ℕ) (c d : Core) (kind : EventKind) → AreAlike n p c d → bare_turning n p (next_turn c kind) ≡ bare_turning n p (next_turn d kind)
 turns_same n p c d kind h =
-    bare_turn n p c kind h.within h.gone ∙ ap (λ (x : Core). whole_effect (record { core = x; acts = [] }) kind) h.same ∙ sym (bare_turn n p d kind h.within_too h.gone_too)
+    bare_turn n p c kind h.within h.unlimited h.gone ∙ ap (λ (x : Core). timed (whole_effect (record { core = x; acts = [] }) kind)) h.same
+    ∙ sym (bare_turn n p d kind h.within_too h.unlimited_too h.gone_too)
 
 -- the message stays gone
 pub turn_gone : (n p : ℕ) (c : Core) (kind : EventKind) → n < length c.table → AtCore (IsAway n p) c → AtCore (IsAway n p) (next_turn c kind).core
@@ -151,10 +210,16 @@ turn_gone n p c kind l h =
     let k = turn_kept (away_kept n p) c (away_asks n p (length c.table) (above n c.table l)) kind h in
     record { gone = k.gone; unmoved = k.unmoved }
 
+-- and permits aren't counted
+pub turn_unlimited : (c : Core) (kind : EventKind) → AtCore Unlimited c → AtCore Unlimited (next_turn c kind).core
+turn_unlimited c kind none = turn_kept unlimited_kept c (record { ask = λ lim r life ms xs h. h; refuse = λ lim r life ms xs o h. h }) kind none
+
 -- so they stay alike
 pub alike_turn : (n p : ℕ) (c d : Core) (kind : EventKind) → AreAlike n p c d → AreAlike n p (next_turn c kind).core (next_turn d kind).core
 alike_turn n p c d kind h = record {
   same = ap (λ (t : Turning). t.core) (turns_same n p c d kind h);
+  unlimited = turn_unlimited c kind h.unlimited;
+  unlimited_too = turn_unlimited d kind h.unlimited_too;
   within = more_after n c kind h.within;
   within_too = more_after n d kind h.within_too;
   gone = turn_gone n p c kind h.within h.gone;

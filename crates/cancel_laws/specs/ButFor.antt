@@ -12,6 +12,7 @@ abbrev pub unnumbered : Action → Action
 unnumbered (action.Turn k c) = action.Turn 0 c
 unnumbered (action.Connect l host port) = action.Connect l host port
 unnumbered (action.Timer t ms what) = action.Timer t ms what
+unnumbered (action.Took who l count) = action.Took who l count
 unnumbered (action.Close l) = action.Close l
 unnumbered (action.Write l bytes) = action.Write l bytes
 unnumbered (action.Wait who kind) = action.Wait who kind
@@ -29,6 +30,7 @@ abbrev pub shown_of : ℕ → Action → List Action
 shown_of n (action.Turn k c) = action.Turn 0 c ∷ []
 shown_of n (action.Connect l host port) = action.Connect l host port ∷ []
 shown_of n (action.Timer t ms what) = action.Timer t ms what ∷ []
+shown_of n (action.Took who l count) = action.Took who l count ∷ []
 shown_of n (action.Close l) = action.Close l ∷ []
 shown_of n (action.Write l bytes) = action.Write l bytes ∷ []
 shown_of n (action.Wait who kind) = action.Wait who kind ∷ []

@@ -1,5 +1,5 @@
 -- The laws of cancels, each as one statement. They speak of a history behind which submission n has started and is open.
-use Rattle.std.specs.Prelude.{◌≡◌, ◌≢◌, ℕ, false, List, ◌∷◌, ◌++◌, Option}
+use Rattle.std.specs.Prelude.{◌≡◌, ◌≢◌, ℕ, false, List, ◌∷◌, ◌++◌, Option, None}
 use Rattle.driver_model.specs.declared.config.Config.{Config}
 use Rattle.driver_model.specs.declared.event.Event.{Event}
 use Rattle.driver_model.specs.declared.event.Submission.{Submission}
@@ -17,43 +17,49 @@ outcome_after config word events m = outcome_at (outcomes_in (trace_of config wo
 abbrev pub life_after : Config → ℕ → List Event → Life
 life_after config word events = (state_after config word events).single.connection.life
 
+-- permits aren't counted. Where they are, the cancel of a started request gives its permits back at once, and not at its
+-- reply, so that others take them earlier, and start earlier
+abbrev pub HasNoLimit : Config → Type 0
+HasNoLimit config = config.limit ≡ None
+
 -- the cancel of n is not bad there
 abbrev pub CancelIsGood : Type 0
 CancelIsGood =
     (config : Config) (word draw n : ℕ) (before : List Event) → HasStarted n (state_after config word before)
     → is_bad_after config word before (cancel_of draw n) ≡ false
 
--- it changes no other submission's outcome, whatever comes after
+-- without a limit it changes no other submission's outcome, whatever comes after
 abbrev pub OthersKeepOutcomes : Type 0
 OthersKeepOutcomes =
-    (config : Config) (word draw n m : ℕ) (before after : List Event) → HasStarted n (state_after config word before)
-    → m ≢ n
+    (config : Config) (word draw n m : ℕ) (before after : List Event) → HasNoLimit config
+    → HasStarted n (state_after config word before) → m ≢ n
     → outcome_after config word (before ++ after) m ≡ outcome_after config word (before ++ cancel_of draw n ∷ after) m
 
--- n itself gets no outcome any more
+-- n itself gets no outcome any more, with a limit or without
 abbrev pub CancelledGetsNone : Type 0
 CancelledGetsNone =
     (config : Config) (word draw n : ℕ) (before after : List Event) → HasStarted n (state_after config word before)
     → outcome_after config word (before ++ cancel_of draw n ∷ after) n ≡ outcome_after config word before n
 
--- the turns show the same but for n's outcome, in the same order
+-- without a limit the turns show the same but for n's outcome, in the same order
 abbrev pub TurnsGoOn : Type 0
 TurnsGoOn =
-    (config : Config) (word draw n : ℕ) (before after : List Event) → HasStarted n (state_after config word before)
+    (config : Config) (word draw n : ℕ) (before after : List Event) → HasNoLimit config
+    → HasStarted n (state_after config word before)
     → GoesOn config word n before (cancel_of draw n) after
 
--- each item goes to the same message, where n's own is not wanted
+-- without a limit each item goes to the same message, where n's own is not wanted
 abbrev pub ItemsGoTheSameWay : Type 0
 ItemsGoTheSameWay =
-    (config : Config) (word draw n : ℕ) (before after : List Event)
-    (h : HasStarted n (state_after config word before))
+    (config : Config) (word draw n : ℕ) (before after : List Event) → HasNoLimit config
+    → (h : HasStarted n (state_after config word before))
     → hushed_life h.pending.number (life_after config word (before ++ after))
     ≡ life_after config word (before ++ cancel_of draw n ∷ after)
 
--- the same events are bad
+-- without a limit the same events are bad
 abbrev pub SameAreBad : Type 0
 SameAreBad =
-    (config : Config) (word draw n : ℕ) (before after : List Event) (e : Event)
+    (config : Config) (word draw n : ℕ) (before after : List Event) (e : Event) → HasNoLimit config
     → HasStarted n (state_after config word before)
     → is_bad_after config word (before ++ after) e ≡ is_bad_after config word (before ++ cancel_of draw n ∷ after) e
 

@@ -5,9 +5,15 @@ use redis_error::ConfigName;
 use std::alloc::Global;
 use std::test::Fail;
 
-/// What of a configuration with this address and this size of the queue is refused first, if anything is.
-fn refused(alloc: Global, url: &[u8], buffer: Option<u32>) -> Result<Option<ConfigName>, Fail> {
+/// What of a configuration with this address, so many permits and this size of the queue is refused first, if anything is.
+fn refused(
+    alloc: Global,
+    url: &[u8],
+    limit: Option<u32>,
+    buffer: Option<u32>,
+) -> Result<Option<ConfigName>, Fail> {
     let mut config = Config::new(Bytes::from_slice(alloc, url)?);
+    config.limit = limit;
     config.buffer = buffer;
     match config.info(alloc) {
         Ok(_) => Ok(None),
@@ -17,22 +23,27 @@ fn refused(alloc: Global, url: &[u8], buffer: Option<u32>) -> Result<Option<Conf
     }
 }
 
-/// Addresses, each with the size of its queue and with what is refused first.
-const REFUSED: [(&[u8], Option<u32>, Option<ConfigName>); 8] = [
-    (b"redis://h", None, None),
-    (b"redis://h", Some(1), None),
-    (b"redis://h", Some(u32::MAX), None),
-    (b"redis://h", Some(0), Some(ConfigName::Buffer)),
-    (b"http://h", Some(0), Some(ConfigName::Url)),
-    (b"http://h", None, Some(ConfigName::Url)),
-    (b"redis://h/1", Some(0), Some(ConfigName::Kind)),
-    (b"redis://h/1", Some(1), Some(ConfigName::Kind)),
+/// Addresses, each with its number of permits and the size of its queue, and with what is refused first.
+const REFUSED: [(&[u8], Option<u32>, Option<u32>, Option<ConfigName>); 13] = [
+    (b"redis://h", None, None, None),
+    (b"redis://h", None, Some(1), None),
+    (b"redis://h", None, Some(u32::MAX), None),
+    (b"redis://h", Some(1), None, None),
+    (b"redis://h", Some(u32::MAX), Some(1), None),
+    (b"redis://h", None, Some(0), Some(ConfigName::Buffer)),
+    (b"redis://h", Some(1), Some(0), Some(ConfigName::Buffer)),
+    (b"redis://h", Some(0), None, Some(ConfigName::Limit)),
+    (b"redis://h", Some(0), Some(0), Some(ConfigName::Limit)),
+    (b"http://h", Some(0), Some(0), Some(ConfigName::Url)),
+    (b"http://h", None, None, Some(ConfigName::Url)),
+    (b"redis://h/1", Some(0), Some(0), Some(ConfigName::Kind)),
+    (b"redis://h/1", None, Some(1), Some(ConfigName::Kind)),
 ];
 
 #[test]
 fn one_name_is_refused_first(rt: HostRuntime) -> Result<(), Fail> {
-    for (url, buffer, wanted) in REFUSED {
-        let found = refused(rt.alloc(), url, buffer)?;
+    for (url, limit, buffer, wanted) in REFUSED {
+        let found = refused(rt.alloc(), url, limit, buffer)?;
         assert!(rt; found == wanted);
     }
     Ok(())
@@ -44,6 +55,8 @@ fn what_is_not_given_has_a_value(rt: HostRuntime) -> Result<(), Fail> {
     let config = Config::new(Bytes::from_slice(alloc, b"redis://h")?);
     assert_eq!(rt; config.url.as_slice(), b"redis://h".as_slice());
     assert!(rt; config.connect_timeout() == Some(1000));
+    assert!(rt; config.response_timeout() == Some(500));
+    assert!(rt; config.limit == None);
     assert_eq!(rt; config.buffer_size(), 50);
     assert_eq!(rt; config.boundary(), 8192);
     Ok(())
@@ -53,9 +66,13 @@ fn what_is_not_given_has_a_value(rt: HostRuntime) -> Result<(), Fail> {
 fn what_is_given_stands_also_in_a_copy(rt: HostRuntime) -> Result<(), Fail> {
     let alloc = rt.alloc();
     let mut config = Config::new(Bytes::from_slice(alloc, b"redis://h")?);
+    config.response = Some(None);
+    config.limit = Some(3);
     config.buffer = Some(7);
     config.boundary = Some(0);
     let copy = config.clone(alloc)?;
+    assert!(rt; copy.response_timeout() == None);
+    assert!(rt; copy.limit == Some(3));
     assert_eq!(rt; copy.buffer_size(), 7);
     assert_eq!(rt; copy.boundary(), 0);
     Ok(())

@@ -43,6 +43,8 @@ fn seen(event: &Event) -> (&'static str, u32) {
         EventKind::ReadFault { link, fault: _ } => ("read-fault", *link),
         EventKind::WriteFault { link, fault: _ } => ("write-fault", *link),
         EventKind::Fired { timer } => ("fired", *timer),
+        EventKind::Timeout { ms: Some(_) } => ("timeout", 1),
+        EventKind::Timeout { ms: None } => ("timeout none", 0),
         EventKind::Shutdown => ("shutdown", 0),
     }
 }
@@ -68,6 +70,8 @@ fn events_are_made(rt: HostRuntime) -> Result<(), Fail> {
         ("write-fault", 7)
     );
     assert_eq!(rt; seen(&Event::fired(8)), ("fired", 8));
+    assert_eq!(rt; seen(&Event::timeout(Some(9))), ("timeout", 1));
+    assert_eq!(rt; seen(&Event::timeout(None)), ("timeout none", 0));
     assert_eq!(rt; seen(&Event::shutdown()), ("shutdown", 0));
     assert_eq!(rt; Event::shutdown().with_word(9).word, 9);
     Ok(())

@@ -12,7 +12,7 @@ use Rattle.legal_trace.specs.Legal.{IsOpen, IsSettled, WaitHolds, link_of, Legal
 use Rattle.legal_laws.specs.Answers.{AnswersOnce, AnswersAll}
 use Rattle.legal_trace.proofs.Ledgers.{dials_from}
 use Rattle.legal_trace.proofs.Plain.{none_from}
-use Rattle.legal_laws.proofs.Moves.{waits_on_a_link}
+use Rattle.legal_trace.proofs.Moves.{waits_on_a_link}
 use Rattle.legal_laws.proofs.Numbers.{up_is_asked}
 use Rattle.legal_laws.proofs.Shutdown.{none_left}
 use Rattle.legal_laws.proofs.Sound.{Sound, sound_behind}

@@ -11,14 +11,14 @@ use Rattle.driver_model.specs.Config.{buffer_size, boundary}
 use Rattle.legal_trace.specs.Ledger.{unwritten}
 use Rattle.legal_trace.specs.Story.{is_no_error}
 use Rattle.legal_trace.specs.Book.{Book, blank_book, book}
-use Rattle.legal_trace.specs.Steps.{configured, queue_size, line_before, is_outside}
+use Rattle.legal_trace.specs.Steps.{configured, queue_size, permits_in, line_before, is_outside}
 use Rattle.legal_trace.specs.Legal.{MayStand, MayAnswer, MayTell, MayStart, AllStand, IsApplied, event_causes, Legal}
 use Rattle.legal_trace.proofs.Books.{stand_front, stand_behind}
 use Rattle.legal_laws.specs.Starts.{IsStart, HasPlace, StaysWithin}
 use Rattle.legal_laws.proofs.Configured.{configured_behind}
-use Rattle.legal_laws.proofs.Moves.{starts_mean, tells_mean, starter_moves}
+use Rattle.legal_trace.proofs.Moves.{starts_mean, tells_mean, starter_moves}
 use Rattle.legal_laws.proofs.Numbers.{mover_is_numbered}
-use Rattle.legal_laws.proofs.Seated.{ToldHavePlaces, seated_behind}
+use Rattle.legal_laws.proofs.Seated.{IsSeated, seated_behind}
 use Rattle.legal_laws.proofs.Sound.{Sound, sound_behind}
 use Rattle.legal_laws.proofs.Tales.{unstarted_gets_a_fault}
 
@@ -48,18 +48,19 @@ start_bounds config b l k n count len c may =
     (subst (λ bound. (length (unwritten (b.link (b.story n).link)) ≡ 0) ⊎ (length (unwritten (b.link (b.story n).link)) < bound)) (ap (configured boundary) c) free)
 
 -- whoever starts isn't outside
-pub starter_inside : (b : Book) (l k n count len : ℕ) → Sound b → ToldHavePlaces b → MayStart b l k n count len → is_outside b n ≡ false
+pub starter_inside : (b : Book) (l k n count len : ℕ) → Sound b → IsSeated b → MayStart b l k n count len → is_outside b n ≡ false
 starter_inside b l k n count len sound seated may = elim ((starts_mean b n may.starts).3) [
-  | inl told ↦ seated n (mover_is_numbered b n sound.stories (starter_moves b l k n count len may)) may.unstarted told
-  | inr inside ↦ inside
+  | inl told ↦ (seated.told n (mover_is_numbered b n sound.stories (starter_moves b l k n count len may)) may.unstarted told).inside
+  | inr placed ↦ placed.1
 ]
 
 -- whoever isn't outside has a place
 has_place : (config : Config) (b : Book) (n : ℕ) → b.config ≡ Some config → is_outside b n ≡ false → HasPlace config b n
-has_place config b n c e = subst (λ size. line_before b.story (b.story n).link n < size) (ap (configured buffer_size) c) (not_le_from (queue_size b) (line_before b.story (b.story n).link n) e)
+has_place config b n c e =
+    subst (λ o. line_before (permits_in o) b.story (b.story n).link n < configured buffer_size o) c (not_le_from (queue_size b) (line_before (permits_in b.config) b.story (b.story n).link n) e)
 
 -- where the event was applied, a turn began
-applied_began : (b : Book) → Sound b → IsApplied b → b.turns ≢ 0
+pub applied_began : (b : Book) → Sound b → IsApplied b → b.turns ≢ 0
 applied_began b sound done none = done.created.asked (sound.opens.no_links none)
 
 -- whoever is told without a message is told at its place
@@ -70,18 +71,18 @@ tell_of b n o (inr told) none good = told
 -- what is known of the book of a front: it is sound, who was told has a place, and once a turn began its configuration is that
 pub record IsReady (config : Config) (b : Book) : Type 0 where
   pub sound : Sound b
-  pub seated : ToldHavePlaces b
+  pub seated : IsSeated b
   pub configured : b.turns ≢ 0 → b.config ≡ Some config
 
 -- so it is of each front of a legal trace
-ready_behind : (config : Config) (word : ℕ) (events : List Event) (front more : List Action) → Legal config word events (front ++ more) → IsReady config (book front)
+pub ready_behind : (config : Config) (word : ℕ) (events : List Event) (front more : List Action) → Legal config word events (front ++ more) → IsReady config (book front)
 unfolding book
 ready_behind config word events front more h =
     let all : AllStand blank_book front = stand_front blank_book front more h.each in
     record { sound = sound_behind front all; seated = seated_behind front all; configured = configured_behind blank_book front more config word (event_causes events) all h.turns refl }
 
 -- and what comes next may stand there
-next_may : (config : Config) (word : ℕ) (events : List Event) (front more : List Action) (a : Action) → Legal config word events (front ++ a ∷ more) → MayStand (book front) a
+pub next_may : (config : Config) (word : ℕ) (events : List Event) (front more : List Action) (a : Action) → Legal config word events (front ++ a ∷ more) → MayStand (book front) a
 unfolding book
 next_may config word events front more a h = (stand_behind blank_book front (a ∷ more) h.each).0
 
@@ -102,5 +103,5 @@ stays_within config word events trace h = record {
       let legal : Legal config word events (front ++ action.Outcome n o ∷ more) = subst (Legal config word events) is h in
       let ready = ready_behind config word events front (action.Outcome n o ∷ more) legal in
       let m = tell_of (book front) n o (next_may config word events front more (action.Outcome n o) legal) none good in
-      has_place config (book front) n (ready.configured (applied_began (book front) ready.sound m.applied)) (tells_mean (book front) n m.tells);
+      has_place config (book front) n (ready.configured (applied_began (book front) ready.sound m.applied)) (tells_mean (book front) n m.tells).3;
 }

@@ -15,6 +15,7 @@ config_stays b (action.Turn k (cause.Opening config word)) may some = absurd (so
 config_stays b (action.Turn k (cause.Event e)) may some = refl
 config_stays b (action.Connect l host port) may some = refl
 config_stays b (action.Timer t ms what) may some = refl
+config_stays b (action.Took who l count) may some = refl
 config_stays b (action.Close l) may some = refl
 config_stays b (action.Write l bytes) may some = refl
 config_stays b (action.Wait who kind) may some = refl
@@ -32,6 +33,7 @@ turns_stay : (b : Book) (a : Action) → b.turns ≢ 0 → (entered b a).turns �
 turns_stay b (action.Turn k c) some = turn_began b k c
 turns_stay b (action.Connect l host port) some = some
 turns_stay b (action.Timer t ms what) some = some
+turns_stay b (action.Took who l count) some = some
 turns_stay b (action.Close l) some = some
 turns_stay b (action.Write l bytes) some = some
 turns_stay b (action.Wait who kind) some = some
@@ -53,6 +55,7 @@ configured_behind b (action.Turn k c ∷ front) more config word cs all e none s
     config_kept (entered b (action.Turn k c)) front all.1 (turn_began b k c) ∙ ap (λ x. (entered b (action.Turn k x)).config) same
 configured_behind b (action.Connect l host port ∷ front) more config word cs all e none some = configured_behind (entered b (action.Connect l host port)) front more config word cs all.1 e none some
 configured_behind b (action.Timer t ms what ∷ front) more config word cs all e none some = configured_behind (entered b (action.Timer t ms what)) front more config word cs all.1 e none some
+configured_behind b (action.Took who l count ∷ front) more config word cs all e none some = configured_behind (entered b (action.Took who l count)) front more config word cs all.1 e none some
 configured_behind b (action.Close l ∷ front) more config word cs all e none some = configured_behind (entered b (action.Close l)) front more config word cs all.1 e none some
 configured_behind b (action.Write l bytes ∷ front) more config word cs all e none some = configured_behind (entered b (action.Write l bytes)) front more config word cs all.1 e none some
 configured_behind b (action.Wait who kind ∷ front) more config word cs all e none some = configured_behind (entered b (action.Wait who kind)) front more config word cs all.1 e none some

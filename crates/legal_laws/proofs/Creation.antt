@@ -22,8 +22,9 @@ use Rattle.legal_trace.proofs.Ledgers.{mine_keeps}
 use Rattle.legal_trace.proofs.Plain.{not_none, same_some}
 use Rattle.legal_laws.specs.Creation.{shown_by, creations, HasFailed, IsUnopened, AnswersTell, TellsOfOpening}
 use Rattle.legal_laws.proofs.Links.{lines_may}
-use Rattle.legal_laws.proofs.Moves.{mover_is_up, teller_moves}
+use Rattle.legal_trace.proofs.Moves.{mover_is_up, teller_moves}
 use Rattle.legal_laws.proofs.Numbers.{up_is_numbered, over_is_numbered}
+use Rattle.legal_laws.proofs.Overdue.{TimesRun, times_run, failed_in_time}
 use Rattle.legal_laws.proofs.Quiet.{IsQuiet, hears_quiet, ends_quiet, failed_is_over, failed_stays}
 use Rattle.legal_laws.proofs.Ranks.{none_failed}
 use Rattle.legal_laws.proofs.Sound.{Sound, stays_sound, blank_is_sound, sound_behind}
@@ -161,6 +162,7 @@ step_told b shown (action.Turn k (cause.Opening config word)) may h told = still
 step_told b shown (action.Turn k (cause.Event e)) may h told = still_told b shown (action.Turn k (cause.Event e)) (turn_shows_none b k e) may h told
 step_told b shown (action.Connect m host port) may h told = still_told b shown (action.Connect m host port) (connect_shows_none b m host port) may h told
 step_told b shown (action.Timer t ms what) may h told = still_told b shown (action.Timer t ms what) (unchanged b (action.Timer t ms what) refl refl (λ s l m q. q)) may h told
+step_told b shown (action.Took (owner.Try n round) l count) may h told = still_told b shown (action.Took (owner.Try n round) l count) (unchanged b (action.Took (owner.Try n round) l count) refl refl (λ s j m q. q)) may h told
 step_told b shown (action.Close m) may h told = still_told b shown (action.Close m) (close_shows_none b m) may h told
 step_told b shown (action.Write m bytes) may h told = still_told b shown (action.Write m bytes) (write_shows_none b m bytes) may h told
 step_told b shown (action.Wait (owner.Try n round) kind) may h told = still_told b shown (action.Wait (owner.Try n round) kind) (unchanged b (action.Wait (owner.Try n round) kind) refl refl (λ s l m q. q)) may h told
@@ -195,11 +197,13 @@ has_length : (bs : List ℕ) → bs ≢ [] → (length bs == 0) ≡ false
 has_length bs some = ne_test (length bs) 0 (λ none. some (nil_from_length bs none))
 
 -- such a submission is owed the error of its opening
-unopened_owed : (b : Book) (n : ℕ) (e : RedisError) → IsUnopened b n e → owed b n ≡ Some (outcome.Fault e)
-unopened_owed b n e u =
+unopened_owed : (b : Book) (n : ℕ) (e : RedisError) → TimesRun b → IsUnopened b n e → owed b n ≡ Some (outcome.Fault e)
+unopened_owed b n e run u =
+    let runs : (b.story n).overdue ≡ false = by_test (b.story n).overdue ((b.story n).overdue ≡ false) (λ t. absurd (failed_in_time b n e run u.failed t)) (λ f. f) in
     left_if (b.story n).late _ _ u.in_time
     ∙ (left_if (length (bytes_of (b.story n)) == 0) _ _ (has_length (bytes_of (b.story n)) u.some)
-    ∙ (ap (λ (ts : List Try). owed_to_try b (b.story n) (last_of ts)) u.unstarted ∙ owed_by_failure (link_of b n).end e u.failed))
+    ∙ (left_if (b.story n).overdue _ _ runs
+    ∙ (ap (λ (ts : List Try). owed_to_try b (b.story n) (last_of ts)) u.unstarted ∙ owed_by_failure (link_of b n).end e u.failed)))
 
 -- so it is answered with that, behind the creation
 unopened_answered : (front : List Action) (n : ℕ) (o : Outcome) (e : RedisError) → AllStand blank_book front → MayAnswer (book front) n o → IsUnopened (book front) n e → (o ≡ outcome.Fault e) × (creations front ≡ Some e ∷ [])
@@ -207,7 +211,7 @@ unopened_answered front n o e all may u =
     let b = book front in
     let over = failed_is_over (link_of b n).end e u.failed in
     let done = may.after_closes (ap is_some over.1) in (
-      same_some o (outcome.Fault e) (sym may.owes ∙ unopened_owed b n e u),
+      same_some o (outcome.Fault e) (sym may.owes ∙ unopened_owed b n e (times_run front all) u),
       ((told_behind front all).quiet (done.2 (b.story n).link e u.failed) (b.story n).link).tells e u.failed,
     )
 
@@ -236,5 +240,5 @@ opening_is_told config word events trace h =
       told = λ l e fails. (t.quiet (done.created.failed l e fails) l).tells e fails;
       caused = t.caused;
       answered = answers_tell trace h.each;
-      none_left = λ n e u o. not_none (owed (book trace) n) (outcome.Fault e) (done.answered n o) (unopened_owed (book trace) n e u);
+      none_left = λ n e u o. not_none (owed (book trace) n) (outcome.Fault e) (done.answered n o) (unopened_owed (book trace) n e (times_run trace h.each) u);
     }

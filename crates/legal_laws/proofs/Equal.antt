@@ -3,15 +3,16 @@ use Rattle.std.proofs.Common.{◌≡◌, ◌⊎◌, inl, inr, ℕ, ◌<◌, List
 use Rattle.driver_model.specs.declared.action.Action.{Action}
 use Rattle.driver_model.specs.declared.action.Action.TheVariants as action
 use Rattle.driver_model.specs.declared.action.Cause.{Cause}
+use Rattle.driver_model.specs.declared.action.Purpose.{Purpose}
 use Rattle.driver_model.specs.declared.config.Config.{Config}
 use Rattle.driver_model.specs.declared.event.Event.{Event}
 use Rattle.driver_model.specs.declared.outcome.Outcome.{Outcome}
 use Rattle.legal_trace.specs.Ledger.{is_over}
 use Rattle.legal_trace.specs.Book.{Book, blank_book, book, entered, entered_each}
-use Rattle.legal_trace.specs.Legal.{link_of, MayStand, MayAnswer, MayTell, AllStand, IsSettled, causes, Legal}
+use Rattle.legal_trace.specs.Legal.{link_of, MayStand, MayTimer, MayAnswer, MayTell, AllStand, IsSettled, causes, Legal}
 use Rattle.legal_laws.specs.Next.{BothAnnounce}
 use Rattle.legal_laws.proofs.Next.{AreOne, one_is_next}
-use Rattle.legal_laws.proofs.Ranks.{rank, not_done, step_of, settled, outcome_rank, answer_first, creation_first}
+use Rattle.legal_laws.proofs.Ranks.{rank, not_done, step_of, settled, outcome_rank, timer_rank, answer_first, creation_first}
 use Rattle.legal_laws.proofs.Sound.{Sound, stays_sound, blank_is_sound}
 
 -- lists that are equal begin alike
@@ -47,10 +48,16 @@ outcome_below : (b : Book) (n : ℕ) (o : Outcome) (may : MayAnswer b n o ⊎ Ma
 outcome_below b n o (inl owes) = let i = answer_first (is_over (link_of b n)) in omega arith
 outcome_below b n o (inr told) = omega arith
 
+-- so does a timer
+timer_below : (b : Book) (t ms : ℕ) (what : Purpose) (may : MayTimer b t ms what) → timer_rank b t ms what may < 11
+timer_below b t ms what (inl may) = omega arith
+timer_below b t ms what (inr may) = omega arith
+
 -- all but the next event comes before a turn is settled
 below_the_next : (b : Book) (y : Action) (t : List Action) (may : MayStand b y) → [] ≡ causes (y ∷ t) → rank b y may < 11
 below_the_next b (action.Turn k c) t may e = absurd (is_some_cause c (causes t) e)
 below_the_next b (action.Outcome n o) t may e = outcome_below b n o may
+below_the_next b (action.Timer u ms what) t may e = timer_below b u ms what may
 below_the_next b (action.Created x) t may e = let i = creation_first x in omega arith
 below_the_next b _ t may e = omega arith
 

@@ -4,16 +4,17 @@ use Rattle.containers.proofs.Choices.{chosen, eq_from, eq_test, if_true}
 use Rattle.driver_model.specs.declared.action.Action.{Action}
 use Rattle.driver_model.specs.declared.action.Action.TheVariants as action
 use Rattle.driver_model.specs.declared.action.Owner.TheVariants as owner
+use Rattle.driver_model.specs.declared.action.Purpose.{Purpose}
 use Rattle.driver_model.specs.declared.action.WaitKind.{WaitKind}
 use Rattle.driver_model.specs.declared.outcome.Outcome.{Outcome}
 use Rattle.legal_trace.specs.Ledger.{Ledger, Line, Start, begins, offers, noted_each, ending, failure_in}
-use Rattle.legal_trace.specs.Story.{Story, Try, is_open, is_unstarted, shape, tried, waits, answered}
-use Rattle.legal_trace.specs.Steps.{is_due, is_in_line, line_before, next_step}
+use Rattle.legal_trace.specs.Story.{Story, Try, is_open, is_unstarted, shape, holds, clocked, tried, waits, answered}
+use Rattle.legal_trace.specs.Steps.{is_due, permits_in, permits_on, permits_held, is_in_line, line_before, next_step}
 use Rattle.legal_trace.specs.Owed.{owed_to_message, owed_to_try}
-use Rattle.legal_trace.specs.Book.{Book, entered, if_mine, message_of}
+use Rattle.legal_trace.specs.Book.{Book, entered, if_mine, message_of, is_clock_of}
 use Rattle.legal_trace.specs.Legal.{MayTell, MayStart, link_of, NoneIsOwed, IsApplied, IsMoved, IsWritten}
 use Rattle.legal_trace.proofs.Ledgers.{mine_keeps}
-use Rattle.legal_laws.proofs.Moves.{mover_is_up, starter_moves, step_of, line_alike}
+use Rattle.legal_trace.proofs.Moves.{mover_is_up, starter_moves, step_of, line_alike, permits_alike}
 use Rattle.legal_laws.proofs.Tales.{open_has_none, last_behind}
 use Rattle.legal_laws.proofs.Owes.{owed_story, owed_again, owed_by_last, begins_keeps, new_is_owed_nothing}
 use Rattle.legal_trace.proofs.Plain.{not_empty}
@@ -37,7 +38,7 @@ new_message b l k n round count len may h =
 -- so is the submission whose message starts
 starter_owed : (b : Book) (l k n round count len : ℕ) → MayStart b l k n count len → Sound b → is_open (b.story n) ≡ true → owed_story (entered b (starting l k n round count len)) (tried (b.story n) l k) ≡ None
 starter_owed b l k n round count len may h o =
-    owed_by_last b (entered b (starting l k n round count len)) (b.story n) (tried (b.story n) l k) refl refl
+    owed_by_last b (entered b (starting l k n round count len)) (b.story n) (tried (b.story n) l k) refl refl refl
     (subst (λ (x : Option Try). owed_to_try (entered b (starting l k n round count len)) (tried (b.story n) l k) x ≡ None) (sym (last_behind (b.story n).tries (record { link = l; message = k }))) (new_message b l k n round count len may h))
     (may.applied.answered n o)
 
@@ -104,13 +105,35 @@ write_applied b l bytes done = record {
 
 -- a write leaves each submission its next step
 written_step : (b : Book) (l n : ℕ) (bytes : List ℕ) → next_step (entered b (action.Write l bytes)) n ≡ next_step b n
-written_step b l n bytes = mine_keeps (λ x. step_of b.config (b.story n) (line_before b.story (b.story n).link n) x ≡ next_step b n) (l == (b.story n).link) (link_of b n) (offers bytes) (λ t. refl) refl
+written_step b l n bytes = mine_keeps (λ x. step_of b.config (b.story n) (line_before (permits_in b.config) b.story (b.story n).link n) (permits_held b.story (b.story n).link b.submissions) x ≡ next_step b n) (l == (b.story n).link) (link_of b n) (offers bytes) (λ t. refl) refl
 
 -- so nothing moves behind a write that couldn't before
 pub write_moved : (b : Book) (l : ℕ) (bytes : List ℕ) → IsMoved b → IsMoved (entered b (action.Write l bytes))
 write_moved b l bytes done = record {
   applied = write_applied b l bytes done.applied;
   moved = λ n m. done.moved n (record { unstarted = m.unstarted; due = sym (ap is_due (written_step b l n bytes)) ∙ m.due });
+}
+
+-- so do permits that are taken
+pub take_applied : (b : Book) (m round l count : ℕ) → IsApplied b → IsApplied (entered b (action.Took (owner.Try m round) l count))
+take_applied b m round l count done = record {
+  answered = λ n. chosen (λ (s : Story). is_open s ≡ true → owed_story (entered b (action.Took (owner.Try m round) l count)) s ≡ None) (m == n) (holds (b.story n) count) (b.story n)
+      (λ t o. owed_again b (entered b (action.Took (owner.Try m round) l count)) (b.story n) (λ e. e, λ u last e. e) (done.answered n o))
+      (λ f o. owed_again b (entered b (action.Took (owner.Try m round) l count)) (b.story n) (λ e. e, λ u last e. e) (done.answered n o));
+  ended = done.ended;
+  created = record { asked = done.created.asked; shown = done.created.shown; failed = done.created.failed };
+  timed = done.timed;
+}
+
+-- and a timer
+pub ask_applied : (b : Book) (t ms : ℕ) (what : Purpose) → IsApplied b → IsApplied (entered b (action.Timer t ms what))
+ask_applied b t ms what done = record {
+  answered = λ n. chosen (λ (s : Story). is_open s ≡ true → owed_story (entered b (action.Timer t ms what)) s ≡ None) (is_clock_of n (Some what)) (clocked (b.story n) t) (b.story n)
+      (λ e o. owed_again b (entered b (action.Timer t ms what)) (b.story n) (λ x. x, λ u last x. x) (done.answered n o))
+      (λ f o. owed_again b (entered b (action.Timer t ms what)) (b.story n) (λ x. x, λ u last x. x) (done.answered n o));
+  ended = done.ended;
+  created = record { asked = done.created.asked; shown = done.created.shown; failed = done.created.failed };
+  timed = λ config word opens bounded none. not_empty b.timers what none;
 }
 
 -- and a wait leaves all as it was
@@ -125,16 +148,23 @@ wait_applied b m round kind done = record {
 }
 
 -- a wait leaves each submission in its line
-wait_lines : (b : Book) (m round : ℕ) (kind : WaitKind) (l k : ℕ) → is_in_line l ((entered b (action.Wait (owner.Try m round) kind)).story k) ≡ is_in_line l (b.story k)
-wait_lines b m round kind l k = chosen (λ s. is_in_line l s ≡ is_in_line l (b.story k)) (m == k) (waits (b.story k) kind) (b.story k) (λ t. refl) (λ f. refl)
+wait_lines : (b : Book) (m round : ℕ) (kind : WaitKind) (l k : ℕ) → is_in_line (permits_in b.config) l ((entered b (action.Wait (owner.Try m round) kind)).story k) ≡ is_in_line (permits_in b.config) l (b.story k)
+wait_lines b m round kind l k = chosen (λ s. is_in_line (permits_in b.config) l s ≡ is_in_line (permits_in b.config) l (b.story k)) (m == k) (waits (b.story k) kind) (b.story k) (λ t. refl) (λ f. refl)
+
+-- and its permits
+wait_permits : (b : Book) (m round : ℕ) (kind : WaitKind) (l k : ℕ) → permits_on l ((entered b (action.Wait (owner.Try m round) kind)).story k) ≡ permits_on l (b.story k)
+wait_permits b m round kind l k = chosen (λ s. permits_on l s ≡ permits_on l (b.story k)) (m == k) (waits (b.story k) kind) (b.story k) (λ t. refl) (λ f. refl)
 
 -- and its next step
 wait_step : (b : Book) (m round : ℕ) (kind : WaitKind) (n : ℕ) → next_step (entered b (action.Wait (owner.Try m round) kind)) n ≡ next_step b n
 wait_step b m round kind n =
     let c : Book = entered b (action.Wait (owner.Try m round) kind) in
-    let e : step_of b.config (b.story n) (line_before c.story (b.story n).link n) (link_of b n) ≡ next_step b n =
-    ap (λ line. step_of b.config (b.story n) line (link_of b n)) (line_alike c.story b.story (wait_lines b m round kind) (b.story n).link n) in
-    chosen (λ s. step_of b.config s (line_before c.story s.link n) (b.link s.link) ≡ next_step b n) (m == n) (waits (b.story n) kind) (b.story n) (λ t. e) (λ f. e)
+    let line : line_before (permits_in b.config) c.story (b.story n).link n ≡ line_before (permits_in b.config) b.story (b.story n).link n = line_alike (permits_in b.config) c.story b.story (wait_lines b m round kind) (b.story n).link n in
+    let held : permits_held c.story (b.story n).link b.submissions ≡ permits_held b.story (b.story n).link b.submissions = permits_alike c.story b.story (wait_permits b m round kind) (b.story n).link b.submissions in
+    let e : step_of b.config (b.story n) (line_before (permits_in b.config) c.story (b.story n).link n) (permits_held c.story (b.story n).link b.submissions) (link_of b n) ≡ next_step b n =
+    ap (λ x. step_of b.config (b.story n) x (permits_held c.story (b.story n).link b.submissions) (link_of b n)) line
+    ∙ ap (λ x. step_of b.config (b.story n) (line_before (permits_in b.config) b.story (b.story n).link n) x (link_of b n)) held in
+    chosen (λ s. step_of b.config s (line_before (permits_in b.config) c.story s.link n) (permits_held c.story s.link b.submissions) (b.link s.link) ≡ next_step b n) (m == n) (waits (b.story n) kind) (b.story n) (λ t. e) (λ f. e)
 
 -- and leaves unstarted what is
 wait_unstarted : (b : Book) (m round : ℕ) (kind : WaitKind) (n : ℕ) → is_unstarted ((entered b (action.Wait (owner.Try m round) kind)).story n) ≡ is_unstarted (b.story n)

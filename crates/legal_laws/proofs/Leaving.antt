@@ -1,7 +1,9 @@
 -- Whoever left starts no message.
-use Rattle.std.proofs.Common.{◌≡◌, ◌⊎◌, inl, inr, ℕ, ◌<◌, ◌≤◌, ◌==◌, Bool, true, false, ◌&&◌, not, List, [], ◌∷◌, ◌++◌, length, is_some, None, refl, sym, ◌∙◌, ap, subst, arith}
-use Rattle.containers.proofs.Choices.{chosen, ne_from, not_both, both_right}
+use Rattle.std.proofs.Common.{◌≡◌, ◌⊎◌, inl, inr, ℕ, ◌<◌, ◌≤◌, ◌==◌, true, false, not, List, [], ◌∷◌, ◌++◌, refl, sym, ◌∙◌, ap, subst, arith}
+use Rattle.containers.proofs.Choices.{chosen, ne_from, both_right}
+use Rattle.redis_error.specs.declared.fault_kind.FaultKind.TheVariants as kind
 use Rattle.redis_error.specs.declared.redis_error.RedisError.{RedisError}
+use Rattle.redis_error.specs.declared.redis_error.RedisError.TheVariants as error
 use Rattle.driver_model.specs.declared.action.Action.{Action}
 use Rattle.driver_model.specs.declared.action.Action.TheVariants as action
 use Rattle.driver_model.specs.declared.action.Cause.TheVariants as cause
@@ -14,10 +16,11 @@ use Rattle.legal_trace.specs.Book.{Book, blank_book, book, entered, entered_each
 use Rattle.legal_trace.specs.Legal.{MayStand, MayAnswer, MayTell, AllStand, IsOpen, Legal}
 use Rattle.legal_trace.proofs.Books.{stand_front, stand_behind}
 use Rattle.legal_laws.specs.Starts.{IsStart, Leaves, LeftStartNoMore}
+use Rattle.legal_laws.specs.Permits.{TimedOutStartNoMore}
 use Rattle.legal_laws.proofs.Bounds.{start_of}
 use Rattle.legal_laws.proofs.Held.{not_open}
-use Rattle.legal_laws.proofs.InLine.{submissions_grow, stays_out, starter_in_line}
-use Rattle.legal_laws.proofs.Moves.{open_or_told}
+use Rattle.legal_laws.proofs.InLine.{submissions_grow, leaver_is_done, stays_out, starter_to_start}
+use Rattle.legal_trace.proofs.Moves.{open_or_told}
 use Rattle.legal_laws.proofs.Numbers.{HasStories, open_is_numbered}
 use Rattle.legal_laws.proofs.Sound.{Sound, sound_behind}
 use Rattle.legal_laws.proofs.Tales.{open_has_none}
@@ -36,22 +39,7 @@ error_is_done s e o u = elim (open_or_told (answered s (outcome.Fault e)) u) [
       let x : false ≡ true = sym (ap (λ (os : List Outcome). is_no_error (os ++ outcome.Fault e ∷ [])) (open_has_none s o)) ∙ good in cc x
 ]
 
--- what is cancelled is not open
-gone : (p q : Bool) → (p && q && not true) ≡ true → ⊥
-gone true true e = cc e
-gone true false e = cc e
-gone false q e = cc e
-
--- an open submission whose caller goes is done
-leaver_is_done : (s : Story) → is_open s ≡ true → is_unstarted (left s) ≡ true → ⊥
-leaver_is_done s o = chosen (λ t. is_unstarted t ≡ true → ⊥) (is_open s) (record s { cancelled = true; waiting = None }) s
-    (λ t u. elim (open_or_told (record s { cancelled = true; waiting = None }) u) [
-      | inl still ↦ gone (is_some s.submission) (length s.outcomes == 0) still
-      | inr told ↦ let x : false ≡ true = sym (ap is_no_error (open_has_none s o)) ∙ both_right (not (is_awaited s)) (is_no_error s.outcomes) told in cc x
-    ])
-    (λ f u. not_both (is_open s) f o)
-
--- so whoever leaves stands in no line
+-- so whoever leaves is to start no more
 done_behind : (b : Book) (a : Action) (n : ℕ) → MayStand b a → Leaves b n a → is_unstarted ((entered b a).story n) ≡ true → ⊥
 done_behind b (action.Outcome m (outcome.Fault e)) n may is =
     let o : is_open (b.story n) ≡ true = subst (IsOpen b) is (outcome_is_open b m (outcome.Fault e) may) in
@@ -76,7 +64,7 @@ none_behind b middle more a c l n sound all leaves start =
     let s = start_of (entered_each after middle) c l n (stand_behind after middle (c ∷ more) all.1).0 start in
     stays_out after middle (stand_front after middle (c ∷ more) all.1) l n (omega (arith, grows, numbered))
     (λ e. done_behind b a n all.0 leaves (both_right ((after.story n).link == l) (is_unstarted (after.story n)) e))
-    (starter_in_line (entered_each after middle) l s.0 n s.1 s.2 s.3)
+    (starter_to_start (entered_each after middle) l s.0 n s.1 s.2 s.3)
 
 -- nor in a legal trace
 pub left_start_no_more : (config : Config) (word : ℕ) (events : List Event) (trace : List Action) → Legal config word events trace → LeftStartNoMore trace
@@ -84,3 +72,8 @@ unfolding book
 left_start_no_more config word events trace h front middle more a c l n is leaves start =
     let all : AllStand blank_book (front ++ a ∷ (middle ++ c ∷ more)) = subst (AllStand blank_book) is h.each in
     none_behind (book front) middle more a c l n (sound_behind front (stand_front blank_book front (a ∷ (middle ++ c ∷ more)) all)) (stand_behind blank_book front (a ∷ (middle ++ c ∷ more)) all) leaves start
+
+-- so whoever was told that its time is over starts no message
+pub timed_out_start_no_more : (config : Config) (word : ℕ) (events : List Event) (trace : List Action) → Legal config word events trace → TimedOutStartNoMore trace
+timed_out_start_no_more config word events trace h front middle more c l n is start =
+    left_start_no_more config word events trace h front middle more (action.Outcome n (outcome.Fault (error.Io kind.TimedOut))) c l n is refl start

@@ -1,7 +1,6 @@
 pub mod Streams
 pub mod Lines
 pub mod Opens
-pub mod Moves
 pub mod Numbers
 pub mod Owes
 pub mod Tales
@@ -15,10 +14,14 @@ pub mod Next
 pub mod Equal
 pub mod Held
 pub mod InLine
+pub mod Overdue
 pub mod Segments
 pub mod Creation
 pub mod Seated
 pub mod Configured
 pub mod Bounds
+pub mod Permits
+pub mod Timers
 pub mod Rising
 pub mod Leaving
+pub mod Fired

@@ -21,7 +21,7 @@ use Rattle.legal_trace.specs.Events.{is_bad_event, is_no_link}
 use Rattle.legal_trace.specs.Legal.{MayStand, MayStart, AllStand, Legal}
 use Rattle.legal_laws.specs.Links.{LinksAreLegal, TakesInOrder, lines_for}
 use Rattle.legal_trace.proofs.Ledgers.{may_append}
-use Rattle.legal_laws.proofs.Moves.{has_no_tries, open_or_told, mover_is_up, starter_moves}
+use Rattle.legal_trace.proofs.Moves.{has_no_tries, open_or_told, mover_is_up, starter_moves}
 use Rattle.legal_laws.proofs.Streams.{takes_in_order}
 use Rattle.legal_laws.proofs.Sound.{Sound, stays_sound, blank_is_sound}
 use Rattle.legal_laws.proofs.Owes.{has_bytes}
@@ -46,6 +46,7 @@ wrote_within b l count good h up =
 of_timer_within : (l : Ledger) (n : ℕ) (what : Option Purpose) → IsWithin l (of_timer n what)
 of_timer_within l n None = tt
 of_timer_within l n (Some (purpose.Connect m)) = chosen (IsWithin l) (m == n) overdue silence (λ t. tt) (λ f. tt)
+of_timer_within l n (Some (purpose.Response who)) = tt
 
 -- an event that isn't bad is within what was offered
 within : (b : Book) (l : ℕ) (kind : EventKind) → is_bad_event b kind ≡ false → Sound b → IsWithin (b.link l) (news_of b.timers l kind)
@@ -62,6 +63,7 @@ within b l (event.Ended m) good h = chosen (IsWithin (b.link l)) (m == l) (faile
 within b l (event.ReadFault m kind) good h = chosen (IsWithin (b.link l)) (m == l) (failed (fault.Io kind)) silence (λ t. tt) (λ f. tt)
 within b l (event.WriteFault m kind) good h = chosen (IsWithin (b.link l)) (m == l) (failed (fault.Io kind)) silence (λ t. tt) (λ f. tt)
 within b l event.Shutdown good h = tt
+within b l (event.Timeout ms) good h = tt
 within b l (event.Submit what) good h = tt
 within b l (event.Cancel n) good h = tt
 
@@ -82,6 +84,7 @@ lines_may b l (action.Turn k (cause.Opening config word)) may h = tt
 lines_may b l (action.Turn k (cause.Event e)) may h = (within b l e.kind may.is_for.2 h, tt)
 lines_may b l (action.Connect m host port) may h = may_mine (m == l) (b.link l) asks (connects_new b l m may.next h)
 lines_may b l (action.Timer t ms what) may h = tt
+lines_may b l (action.Took (owner.Try n round) m count) may h = tt
 lines_may b l (action.Close m) may h = may_mine (m == l) (b.link l) (ends (b.turns - 1)) (λ t. subst (λ j. MayNote (b.link j) (ends (b.turns - 1))) (eq_from m l t) (may.why, may.ends))
 lines_may b l (action.Write m bytes) may h = may_mine (m == l) (b.link l) (offers bytes) (λ t. subst (λ j. MayNote (b.link j) (offers bytes)) (eq_from m l t) (may.up, may.answered, may.all, may.some))
 lines_may b l (action.Wait (owner.Try n round) kind) may h = tt

@@ -7,6 +7,7 @@ use Rattle.driver_model.specs.declared.action.Cause.TheVariants as cause
 use Rattle.driver_model.specs.declared.action.Owner.TheVariants as owner
 use Rattle.driver_model.specs.declared.action.WaitKind.{WaitKind}
 use Rattle.driver_model.specs.declared.action.Purpose.{Purpose}
+use Rattle.driver_model.specs.declared.action.Purpose.TheVariants as purpose
 use Rattle.driver_model.specs.Config.{address, connect_timeout}
 use Rattle.driver_model.specs.Shape.{need_of}
 use Rattle.connection_info.specs.declared.address.ConnectionInfo.{ConnectionInfo}
@@ -14,15 +15,17 @@ use Rattle.redis_error.specs.declared.redis_error.RedisError.{RedisError}
 use Rattle.driver_model.specs.declared.config.Config.{Config}
 use Rattle.driver_model.specs.declared.event.Event.{Event}
 use Rattle.driver_model.specs.declared.outcome.Outcome.{Outcome}
+use Rattle.driver_model.specs.declared.outcome.Outcome.TheVariants as outcome
+use Rattle.resp_value.specs.declared.value.Value.TheVariants.{Nil}
 use Rattle.legal_trace.specs.Ledger.{IsOffered, is_over, unwritten, ending, failure_in}
 use Rattle.legal_trace.specs.Story.{shape, bytes_of}
 use Rattle.legal_trace.specs.Owed.{owed}
 use Rattle.legal_trace.specs.Book.{Book, book}
-use Rattle.legal_trace.specs.Steps.{Step, tells, starts, next_step}
-use Rattle.legal_trace.specs.Legal.{MayStand, MayConnect, MayTimer, MayClose, MayFail, MayShowCreation, MayAnswer, MayTell, MayStart, MayWrite, MayWait, IsOpen, IsWaiting, link_of, CanMove}
+use Rattle.legal_trace.specs.Steps.{Step, waits, takes, asks, tells, starts, nothing, next_step}
+use Rattle.legal_trace.specs.Legal.{MayStand, MayConnect, MayTimeConnect, MayTime, MayTake, MayTimer, MayClose, MayFail, MayShowCreation, MayAnswer, MayTell, MayStart, MayWrite, MayWait, IsOpen, IsWaiting, link_of, CanMove}
 use Rattle.legal_laws.specs.Next.{BothAnnounce, OneIsNext, OneIsNextBehind}
-use Rattle.legal_laws.proofs.Moves.{teller_moves, starter_moves, same_kind}
-use Rattle.legal_laws.proofs.Ranks.{answer_rank, creation_rank, rank, same_rank, outcome_rank, not_offered, not_shown}
+use Rattle.legal_trace.proofs.Moves.{teller_moves, starter_moves, taker_moves, asker_moves, same_kind}
+use Rattle.legal_laws.proofs.Ranks.{answer_rank, creation_rank, rank, same_rank, outcome_rank, timer_rank, not_offered, not_shown}
 use Rattle.legal_trace.proofs.Plain.{not_none, same_some}
 use Rattle.legal_laws.proofs.Sound.{Sound, sound_behind}
 
@@ -58,21 +61,50 @@ one_answer b m n o p over of_m of_n h k =
 one_move : (b : Book) (m n : ℕ) → CanMove b m → CanMove b n → ((k : ℕ) → k < m → CanMove b k → ⊥) → ((k : ℕ) → k < n → CanMove b k → ⊥) → m ≡ n
 one_move b = least_is_one (CanMove b)
 
--- two that are told at their places are one
-one_told : (b : Book) (m n : ℕ) (o p : Outcome) → MayTell b m o → MayTell b n p → action.Outcome m o ≡ action.Outcome n p
-one_told b m n o p h k =
-    let e : m ≡ n = one_move b m n (teller_moves b m o h) (teller_moves b n p k) h.in_order k.in_order in
-    let f : o ≡ p = h.nil ∙ sym k.nil in cc (e, f)
+-- the action that a step of submission n is
+abbrev pub move_of : Book → ℕ → Step → Action
+move_of b n (waits kind) = action.Wait (owner.Try n 0) kind
+move_of b n (takes count) = action.Took (owner.Try n 0) (b.story n).link count
+move_of b n (asks ms) = action.Timer (length b.timers) ms (purpose.Response (owner.Try n 0))
+move_of b n tells = action.Outcome n (outcome.One Nil)
+move_of b n starts = action.Start (b.story n).link (length (link_of b n).starts) (owner.Try n 0) (need_of (shape (b.story n))) (length (bytes_of (b.story n)))
+move_of b n nothing = action.Close 0
 
--- no step tells and starts
-not_both_steps : (s : Step) → s ≡ tells → s ≡ starts → ⊥
-not_both_steps s e f = let x : tells ≡ starts = sym e ∙ f in cc x
+-- it is the step of the first submission that makes one
+abbrev pub IsMoving : Book → Action → Type 0
+IsMoving b y = (n : ℕ) × CanMove b n × ((k : ℕ) → k < n → CanMove b k → ⊥) × (y ≡ move_of b n (next_step b n))
 
--- so one that is told doesn't start
-told_or_starts : (b : Book) (m n : ℕ) (o : Outcome) (l k count len : ℕ) → MayTell b m o → MayStart b l k n count len → ⊥
-told_or_starts b m n o l k count len h s =
-    let e : m ≡ n = one_move b m n (teller_moves b m o h) (starter_moves b l k n count len s) h.in_order s.in_order in
-    not_both_steps (next_step b n) (subst (λ j. next_step b j ≡ tells) e h.tells) s.starts
+-- two of these are one
+one_moving : (b : Book) (x y : Action) → IsMoving b x → IsMoving b y → x ≡ y
+one_moving b x y p q = let e : p.0 ≡ q.0 = one_move b p.0 q.0 p.1 q.1 p.2 q.2 in p.3 ∙ (ap (λ n. move_of b n (next_step b n)) e ∙ sym q.3)
+
+-- so is Nil that is told at its place
+tell_moving : (b : Book) (n : ℕ) (o : Outcome) → MayTell b n o → IsMoving b (action.Outcome n o)
+tell_moving b n o may = (n, teller_moves b n o may, may.in_order, ap (action.Outcome n) may.nil ∙ sym (ap (move_of b n) may.tells))
+
+-- a start
+start_moving : (b : Book) (l k n count len : ℕ) → MayStart b l k n count len → IsMoving b (action.Start l k (owner.Try n 0) count len)
+start_moving b l k n count len may =
+    let on : l ≡ (b.story n).link = may.on_its_link in
+    let next : k ≡ length (link_of b n).starts = may.next ∙ ap (λ x. length (b.link x).starts) on in
+    let same : action.Start l k (owner.Try n 0) count len ≡ move_of b n starts =
+    ap (λ x. action.Start x k (owner.Try n 0) count len) on ∙ (ap (λ x. action.Start (b.story n).link x (owner.Try n 0) count len) next
+    ∙ (ap (λ x. action.Start (b.story n).link (length (link_of b n).starts) (owner.Try n 0) x len) may.needs_its_items
+    ∙ ap (λ x. action.Start (b.story n).link (length (link_of b n).starts) (owner.Try n 0) (need_of (shape (b.story n))) x) may.long_as_its_bytes)) in
+    (n, starter_moves b l k n count len may, may.in_order, same ∙ sym (ap (move_of b n) may.starts))
+
+-- permits that are taken
+take_moving : (b : Book) (n l count : ℕ) → MayTake b n l count → IsMoving b (action.Took (owner.Try n 0) l count)
+take_moving b n l count may = (n, taker_moves b n l count may, may.in_order, ap (λ x. action.Took (owner.Try n 0) x count) may.on_its_link ∙ sym (ap (move_of b n) may.takes))
+
+-- and a timer of a submission
+ask_moving : (b : Book) (t ms : ℕ) (what : Purpose) → MayTime b t ms what → IsMoving b (action.Timer t ms what)
+ask_moving b t ms what may = (
+  may.n,
+  asker_moves b t ms what may,
+  may.in_order,
+  ap (λ x. action.Timer x ms what) may.next ∙ (ap (action.Timer (length b.timers) ms) may.is_for ∙ sym (ap (move_of b may.n) may.asks)),
+)
 
 -- two connects are one
 one_connect : (b : Book) (l m : ℕ) (host other : List ℕ) (port number : ℕ) → MayConnect b l host port → MayConnect b m other number → action.Connect l host port ≡ action.Connect m other number
@@ -85,8 +117,8 @@ one_connect b l m host other port number h k =
     let p : port ≡ number = h.address.1 ∙ (ap (λ (x : ConnectionInfo). x.port) info ∙ sym k.address.1) in
     cc (i, a, p)
 
--- two timers are one
-one_timer : (b : Book) (t u ms time : ℕ) (what other : Purpose) → MayTimer b t ms what → MayTimer b u time other → action.Timer t ms what ≡ action.Timer u time other
+-- two timers of the opening are one
+one_timer : (b : Book) (t u ms time : ℕ) (what other : Purpose) → MayTimeConnect b t ms what → MayTimeConnect b u time other → action.Timer t ms what ≡ action.Timer u time other
 one_timer b t u ms time what other h k =
     let e : cause.Opening h.config h.word ≡ cause.Opening k.config k.word = same_some (cause.Opening h.config h.word) (cause.Opening k.config k.word) (sym h.opens ∙ k.opens) in
     let c : h.config ≡ k.config = same_config h.config k.config h.word k.word e in
@@ -110,16 +142,6 @@ one_close b l m h k =
     (λ none. not_none (ending (b.link l)) h.why none h.ends) (λ none. not_none (ending (b.link m)) k.why none k.ends)
     (λ j i w. w (h.in_order j i)) (λ j i w. w (k.in_order j i)))
 
--- two starts are one
-one_start : (b : Book) (l m k j n i count len items long : ℕ) → MayStart b l k n count len → MayStart b m j i items long → action.Start l k (owner.Try n 0) count len ≡ action.Start m j (owner.Try i 0) items long
-one_start b l m k j n i count len items long h s =
-    let e : n ≡ i = one_move b n i (starter_moves b l k n count len h) (starter_moves b m j i items long s) h.in_order s.in_order in
-    let on : l ≡ m = h.on_its_link ∙ (ap (λ x. (b.story x).link) e ∙ sym s.on_its_link) in
-    let next : k ≡ j = h.next ∙ (ap (λ x. length (b.link x).starts) on ∙ sym s.next) in
-    let counts : count ≡ items = h.needs_its_items ∙ (ap (λ x. need_of (shape (b.story x))) e ∙ sym s.needs_its_items) in
-    let bytes : len ≡ long = h.long_as_its_bytes ∙ (ap (λ x. length (bytes_of (b.story x))) e ∙ sym s.long_as_its_bytes) in
-    cc (e, on, next, counts, bytes)
-
 -- two writes are one
 one_write : (b : Book) (l m : ℕ) (bytes other : List ℕ) → MayWrite b l bytes → MayWrite b m other → action.Write l bytes ≡ action.Write m other
 one_write b l m bytes other h k =
@@ -142,25 +164,17 @@ one_wait b m n kind other h k =
 abbrev pub IsAnswering : Book → Bool → Action → Type 0
 IsAnswering b over y = (n : ℕ) × (o : Outcome) × (y ≡ action.Outcome n o) × (is_over (link_of b n) ≡ over) × MayAnswer b n o
 
--- it tells Nil at its place
-abbrev pub IsTelling : Book → Action → Type 0
-IsTelling b y = (n : ℕ) × (o : Outcome) × (y ≡ action.Outcome n o) × MayTell b n o
-
--- it starts a message
-abbrev pub IsStarting : Book → Action → Type 0
-IsStarting b y = (l : ℕ) × (k : ℕ) × (n : ℕ) × (count : ℕ) × (len : ℕ) × (y ≡ action.Start l k (owner.Try n 0) count len) × MayStart b l k n count len
-
 -- what an action of this rank is, and that it may stand
 abbrev pub OfRank : ℕ → Book → Action → Type 0
 OfRank zero b y = (k : ℕ) × (config : Config) × (word : ℕ) × (y ≡ action.Turn k (cause.Opening config word)) × (k ≡ b.turns)
 OfRank (suc zero) b y = (l : ℕ) × (host : List ℕ) × (port : ℕ) × (y ≡ action.Connect l host port) × MayConnect b l host port
-OfRank (suc (suc zero)) b y = (t : ℕ) × (ms : ℕ) × (what : Purpose) × (y ≡ action.Timer t ms what) × MayTimer b t ms what
+OfRank (suc (suc zero)) b y = (t : ℕ) × (ms : ℕ) × (what : Purpose) × (y ≡ action.Timer t ms what) × MayTimeConnect b t ms what
 OfRank (suc (suc (suc zero))) b y = IsAnswering b false y
 OfRank (suc (suc (suc (suc zero)))) b y = (l : ℕ) × (y ≡ action.Close l) × MayClose b l
 OfRank (suc (suc (suc (suc (suc zero))))) b y = (e : RedisError) × (y ≡ action.Created (Some e)) × MayFail b e
 OfRank (suc (suc (suc (suc (suc (suc zero)))))) b y = IsAnswering b true y
 OfRank (suc (suc (suc (suc (suc (suc (suc zero))))))) b y = y ≡ action.Created None
-OfRank (suc (suc (suc (suc (suc (suc (suc (suc zero)))))))) b y = IsTelling b y ⊎ IsStarting b y
+OfRank (suc (suc (suc (suc (suc (suc (suc (suc zero)))))))) b y = IsMoving b y
 OfRank (suc (suc (suc (suc (suc (suc (suc (suc (suc zero))))))))) b y = (l : ℕ) × (bytes : List ℕ) × (y ≡ action.Write l bytes) × MayWrite b l bytes
 OfRank (suc (suc (suc (suc (suc (suc (suc (suc (suc (suc zero)))))))))) b y = (n : ℕ) × (kind : WaitKind) × (y ≡ action.Wait (owner.Try n 0) kind) × MayWait b n kind
 OfRank (suc (suc (suc (suc (suc (suc (suc (suc (suc (suc (suc more))))))))))) b y = (k : ℕ) × (e : Event) × (y ≡ action.Turn k (cause.Event e)) × (k ≡ b.turns)
@@ -173,22 +187,28 @@ answer_of_rank b n o true e may = (n, o, refl, e, may)
 -- so is any outcome
 outcome_of_rank : (b : Book) (n : ℕ) (o : Outcome) (may : MayAnswer b n o ⊎ MayTell b n o) → OfRank (outcome_rank b n o may) b (action.Outcome n o)
 outcome_of_rank b n o (inl owes) = answer_of_rank b n o (is_over (link_of b n)) refl owes
-outcome_of_rank b n o (inr told) = inl (n, o, refl, told)
+outcome_of_rank b n o (inr told) = tell_moving b n o told
 
 -- so is the creation
 creation_of_rank : (b : Book) (e : Option RedisError) → MayShowCreation b e → OfRank (creation_rank e) b (action.Created e)
 creation_of_rank b None may = refl
 creation_of_rank b (Some e) may = (e, refl, may)
 
+-- and a timer
+timer_of_rank : (b : Book) (t ms : ℕ) (what : Purpose) (may : MayTimer b t ms what) → OfRank (timer_rank b t ms what may) b (action.Timer t ms what)
+timer_of_rank b t ms what (inl may) = (t, ms, what, refl, may)
+timer_of_rank b t ms what (inr may) = ask_moving b t ms what may
+
 -- each action that may stand is of its rank
 pub of_rank : (b : Book) (y : Action) (may : MayStand b y) → OfRank (rank b y may) b y
 of_rank b (action.Turn k (cause.Opening config word)) may = (k, config, word, refl, may.next)
 of_rank b (action.Connect l host port) may = (l, host, port, refl, may)
-of_rank b (action.Timer t ms what) may = (t, ms, what, refl, may)
+of_rank b (action.Timer t ms what) may = timer_of_rank b t ms what may
+of_rank b (action.Took (owner.Try n round) l count) may = subst (λ r. IsMoving b (action.Took (owner.Try n r) l count)) (sym may.0) (take_moving b n l count may.1)
 of_rank b (action.Outcome n o) may = outcome_of_rank b n o may
 of_rank b (action.Close l) may = (l, refl, may)
 of_rank b (action.Created e) may = creation_of_rank b e may
-of_rank b (action.Start l k (owner.Try n round) count len) may = inr (l, k, n, count, len, ap (λ r. action.Start l k (owner.Try n r) count len) may.0, may.1)
+of_rank b (action.Start l k (owner.Try n round) count len) may = subst (λ r. IsMoving b (action.Start l k (owner.Try n r) count len)) (sym may.0) (start_moving b l k n count len may.1)
 of_rank b (action.Write l bytes) may = (l, bytes, refl, may)
 of_rank b (action.Wait (owner.Try n round) kind) may = (n, kind, ap (λ r. action.Wait (owner.Try n r) kind) may.0, may.1)
 of_rank b (action.Turn k (cause.Event e)) may = (k, e, refl, may.next)
@@ -201,28 +221,28 @@ beside_answer b n o y true e p q = inl (one_answer b n q.0 o q.1 true e q.3 p q.
 -- beside any outcome
 beside_outcome : (b : Book) (n : ℕ) (o : Outcome) (y : Action) (p : MayAnswer b n o ⊎ MayTell b n o) → OfRank (outcome_rank b n o p) b y → AreOne (action.Outcome n o) y
 beside_outcome b n o y (inl p) q = beside_answer b n o y (is_over (link_of b n)) refl p q
-beside_outcome b n o y (inr p) (inl q) = inl (one_told b n q.0 o q.1 p q.3 ∙ sym q.2)
-beside_outcome b n o y (inr p) (inr q) = absurd (told_or_starts b n q.2 o q.0 q.1 q.3 q.4 p q.6)
+beside_outcome b n o y (inr p) q = inl (one_moving b (action.Outcome n o) y (tell_moving b n o p) q)
 
 -- beside the creation
 beside_creation : (b : Book) (e : Option RedisError) (y : Action) → MayShowCreation b e → OfRank (creation_rank e) b y → AreOne (action.Created e) y
 beside_creation b None y p q = inl (sym q)
 beside_creation b (Some e) y p q = inl (ap (λ x. action.Created (Some x)) (one_failure b e q.0 p q.2) ∙ sym q.1)
 
--- beside a start
-beside_start : (b : Book) (l k n count len : ℕ) (y : Action) → MayStart b l k n count len → IsTelling b y ⊎ IsStarting b y → AreOne (action.Start l k (owner.Try n 0) count len) y
-beside_start b l k n count len y p (inl q) = absurd (told_or_starts b q.0 n q.1 l k count len q.3 p)
-beside_start b l k n count len y p (inr q) = inl (one_start b l q.0 k q.1 n q.2 count len q.3 q.4 p q.6 ∙ sym q.5)
+-- beside a timer
+beside_timer : (b : Book) (t ms : ℕ) (what : Purpose) (y : Action) (p : MayTimer b t ms what) → OfRank (timer_rank b t ms what p) b y → AreOne (action.Timer t ms what) y
+beside_timer b t ms what y (inl p) q = inl (one_timer b t q.0 ms q.1 what q.2 p q.4 ∙ sym q.3)
+beside_timer b t ms what y (inr p) q = inl (one_moving b (action.Timer t ms what) y (ask_moving b t ms what p) q)
 
 -- beside each
 pub beside : (b : Book) (x y : Action) (p : MayStand b x) → OfRank (rank b x p) b y → AreOne x y
 beside b (action.Turn j (cause.Opening config word)) y p q = subst (AreOne (action.Turn j (cause.Opening config word))) (sym q.3) (inr (p.next ∙ sym q.4, tt))
 beside b (action.Connect l host port) y p q = inl (one_connect b l q.0 host q.1 port q.2 p q.4 ∙ sym q.3)
-beside b (action.Timer t ms what) y p q = inl (one_timer b t q.0 ms q.1 what q.2 p q.4 ∙ sym q.3)
+beside b (action.Timer t ms what) y p q = beside_timer b t ms what y p q
+beside b (action.Took (owner.Try n round) l count) y p q = subst (λ r. AreOne (action.Took (owner.Try n r) l count) y) (sym p.0) (inl (one_moving b (action.Took (owner.Try n 0) l count) y (take_moving b n l count p.1) q))
 beside b (action.Outcome n o) y p q = beside_outcome b n o y p q
 beside b (action.Close l) y p q = inl (one_close b l q.0 p q.2 ∙ sym q.1)
 beside b (action.Created e) y p q = beside_creation b e y p q
-beside b (action.Start l k (owner.Try n round) count len) y p q = subst (λ r. AreOne (action.Start l k (owner.Try n r) count len) y) (sym p.0) (beside_start b l k n count len y p.1 q)
+beside b (action.Start l k (owner.Try n round) count len) y p q = subst (λ r. AreOne (action.Start l k (owner.Try n r) count len) y) (sym p.0) (inl (one_moving b (action.Start l k (owner.Try n 0) count len) y (start_moving b l k n count len p.1) q))
 beside b (action.Write l bytes) y p q = inl (one_write b l q.0 bytes q.1 p q.3 ∙ sym q.2)
 beside b (action.Wait (owner.Try n round) kind) y p q = subst (λ r. AreOne (action.Wait (owner.Try n r) kind) y) (sym p.0) (inl (one_wait b n q.0 kind q.1 p.1 q.3 ∙ sym q.2))
 beside b (action.Turn j (cause.Event e)) y p q = subst (AreOne (action.Turn j (cause.Event e))) (sym q.2) (inr (p.next ∙ sym q.3, tt))

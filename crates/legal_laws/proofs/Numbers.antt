@@ -1,7 +1,7 @@
 -- Links and submissions are numbered in order.
 use Rattle.std.proofs.Common.{◌≡◌, ◌≢◌, ◌⊎◌, inl, inr, ℕ, ◌+◌, ◌-◌, ◌<◌, ◌≤◌, ◌==◌, nat_le, Bool, true, false, ◌&&◌, not, Option, Some, None, if◌then◌else◌, refl, sym, ap, ◌∙◌, subst, arith}
 use Rattle.std.specs.Prelude.{slice_get}
-use Rattle.containers.proofs.Choices.{by_test, eq_from, left_if, le_from, not_le_from, ne_test, ne_from, not_both}
+use Rattle.containers.proofs.Choices.{by_test, chosen, eq_from, left_if, le_from, not_le_from, ne_test, ne_from, not_both}
 use Rattle.driver_model.specs.declared.action.Action.{Action}
 use Rattle.driver_model.specs.declared.action.Action.TheVariants as action
 use Rattle.driver_model.specs.declared.action.Cause.TheVariants as cause
@@ -14,13 +14,13 @@ use Rattle.driver_model.specs.declared.action.Purpose.TheVariants as purpose
 use Rattle.driver_model.specs.News.{News, silence, connected, refused, overdue, took, came, failed, news_of, for_link, of_timer}
 use Rattle.driver_model.specs.declared.outcome.Outcome.{Outcome}
 use Rattle.legal_trace.specs.Ledger.{Ledger, End, asks, begins, offers, ends, is_over, ending, ending_up, ending_asked, noted_each}
-use Rattle.legal_trace.specs.Story.{Story, blank_story, is_open, is_told, handed_in, left, tried, waits, answered}
-use Rattle.legal_trace.specs.Book.{Book, entered, lines_of, if_mine, message_of, current, after_event, submitted_by}
+use Rattle.legal_trace.specs.Story.{Story, blank_story, is_open, is_told, handed_in, left, holds, clocked, fires, tried, waits, answered}
+use Rattle.legal_trace.specs.Book.{Book, entered, lines_of, if_mine, message_of, current, is_clock_of, after_event, submitted_by}
 use Rattle.legal_trace.specs.Events.{is_bad_event}
-use Rattle.legal_trace.specs.Legal.{MayAnswer, MayTell, MayStand, IsOpen, CanMove}
+use Rattle.legal_trace.specs.Legal.{MayAnswer, MayTell, MayTimer, MayStand, IsOpen, CanMove}
 use Rattle.legal_trace.proofs.Ledgers.{each_keeps, mine_keeps, IsAsked, asked_keeps, IsUnasked, unasked_hears}
 use Rattle.legal_trace.proofs.Plain.{not_none}
-use Rattle.legal_laws.proofs.Moves.{open_or_told, starter_moves}
+use Rattle.legal_trace.proofs.Moves.{open_or_told, starter_moves, taker_moves, asker_moves}
 
 -- the links below that number were asked for, and no others
 pub record LinksAreNumbered (links : ℕ) (link : ℕ → Ledger) : Type 0 where
@@ -40,6 +40,7 @@ not_for_link false x other e = cc e
 not_of_timer : (l : ℕ) (what : Option Purpose) → of_timer l what ≡ connected → ⊥
 not_of_timer l None e = cc e
 not_of_timer l (Some (purpose.Connect m)) e = not_for_link (m == l) overdue (λ x. cc x) e
+not_of_timer l (Some (purpose.Response who)) e = cc e
 
 -- the connect of a link that was not asked for can't succeed
 not_connected : (b : Book) (l : ℕ) (kind : EventKind) → b.links ≤ l → is_bad_event b kind ≡ false → news_of b.timers l kind ≡ connected → ⊥
@@ -56,6 +57,7 @@ not_connected b l (event.Ended m) i good e = not_for_link (m == l) (failed fault
 not_connected b l (event.ReadFault m kind) i good e = not_for_link (m == l) (failed (fault.Io kind)) (λ x. cc x) e
 not_connected b l (event.WriteFault m kind) i good e = not_for_link (m == l) (failed (fault.Io kind)) (λ x. cc x) e
 not_connected b l event.Shutdown i good e = cc e
+not_connected b l (event.Timeout ms) i good e = cc e
 not_connected b l (event.Submit s) i good e = cc e
 not_connected b l (event.Cancel s) i good e = cc e
 
@@ -72,6 +74,7 @@ unasked_kept b l (action.Connect m host port) may i h =
     let other : (m == l) ≡ false = ne_test m l (omega arith) in
     mine_keeps IsUnasked (m == l) (b.link l) asks (λ t. absurd (not_both (m == l) other t)) h
 unasked_kept b l (action.Timer t ms what) may i h = h
+unasked_kept b l (action.Took who m count) may i h = h
 unasked_kept b l (action.Close m) may i h =
     mine_keeps IsUnasked (m == l) (b.link l) (ends (b.turns - 1))
     (λ t. absurd (not_none (ending (b.link m)) may.why (unasked_stays (b.link m) (subst (λ j. IsUnasked (b.link j)) (sym (eq_from m l t)) h)) may.ends)) h
@@ -87,6 +90,7 @@ links_grow b (action.Turn k (cause.Opening config word)) = omega arith
 links_grow b (action.Turn k (cause.Event e)) = omega arith
 links_grow b (action.Connect m host port) = omega arith
 links_grow b (action.Timer t ms what) = omega arith
+links_grow b (action.Took who m count) = omega arith
 links_grow b (action.Close m) = omega arith
 links_grow b (action.Write m bytes) = omega arith
 links_grow b (action.Wait who kind) = omega arith
@@ -108,6 +112,7 @@ asked_kept b l (action.Connect m host port) may h i =
     (λ t. subst (λ (x : Bool). IsAsked (noted_each (b.link l) (if_mine x asks))) (sym t) refl)
     (λ f. let other : m ≢ l = ne_from m l f in mine_keeps IsAsked (m == l) (b.link l) asks (λ t. refl) (h.asked l (omega arith)))
 asked_kept b l (action.Timer t ms what) may h i = asked_stays b l (action.Timer t ms what) (h.asked l i)
+asked_kept b l (action.Took (owner.Try n round) m count) may h i = asked_stays b l (action.Took (owner.Try n round) m count) (h.asked l i)
 asked_kept b l (action.Close m) may h i = asked_stays b l (action.Close m) (h.asked l i)
 asked_kept b l (action.Write m bytes) may h i = asked_stays b l (action.Write m bytes) (h.asked l i)
 asked_kept b l (action.Wait (owner.Try n round) kind) may h i = asked_stays b l (action.Wait (owner.Try n round) kind) (h.asked l i)
@@ -166,14 +171,24 @@ mover_is_numbered b n h moves = elim (open_or_told (b.story n) moves.unstarted) 
 others_blank : (b : Book) (m n : ℕ) (changed : Story) → HasStories b → b.submissions ≤ n → m < b.submissions → (if m == n then changed else b.story n) ≡ blank_story
 others_blank b m n changed h i k = left_if (m == n) changed (b.story n) (ne_test m n (omega arith)) ∙ h n i
 
+-- a timer that fires is nothing to it
+fires_blank : (s : Story) → s ≡ blank_story → fires s ≡ blank_story
+fires_blank s e = ap fires e
+
+-- nor is one that is asked for
+timer_leaves_blank : (b : Book) (t ms : ℕ) (what : Purpose) (n : ℕ) → MayTimer b t ms what → HasStories b → b.submissions ≤ n → (if is_clock_of n (Some what) then clocked (b.story n) t else b.story n) ≡ blank_story
+timer_leaves_blank b t ms what n (inl may) h i = ap (λ x. if is_clock_of n (Some x) then clocked (b.story n) t else b.story n) may.is_for ∙ h n i
+timer_leaves_blank b t ms what n (inr may) h i = ap (λ x. if is_clock_of n (Some x) then clocked (b.story n) t else b.story n) may.is_for ∙ others_blank b may.n n (clocked (b.story n) t) h i (mover_is_numbered b may.n h (asker_moves b t ms what may))
+
 -- an event that isn't bad is nothing to a submission that was not handed in
 event_leaves_blank : (b : Book) (n : ℕ) (kind : EventKind) → is_bad_event b kind ≡ false → HasStories b → b.submissions + submitted_by kind ≤ n → after_event b n kind ≡ blank_story
 unfolding is_bad_event
-event_leaves_blank b n (event.Submit what) good h i = left_if (b.submissions == n) (handed_in (b.story n) what b.shut (current b)) (b.story n) (ne_test b.submissions n (omega arith)) ∙ h n (omega arith)
+event_leaves_blank b n (event.Submit what) good h i = left_if (b.submissions == n) (handed_in (b.story n) what b.shut (current b) b.timeout) (b.story n) (ne_test b.submissions n (omega arith)) ∙ h n (omega arith)
 event_leaves_blank b n (event.Cancel m) good h i = others_blank b m n (left (b.story n)) h (omega arith) (not_le_from b.submissions m good)
 event_leaves_blank b n (event.Connected l) good h i = h n (omega arith)
 event_leaves_blank b n (event.Refused l f) good h i = h n (omega arith)
-event_leaves_blank b n (event.Fired t) good h i = h n (omega arith)
+event_leaves_blank b n (event.Fired t) good h i = chosen (λ s. s ≡ blank_story) (is_clock_of n (slice_get b.timers t)) (fires (b.story n)) (b.story n) (λ e. fires_blank (b.story n) (h n (omega arith))) (λ f. h n (omega arith))
+event_leaves_blank b n (event.Timeout ms) good h i = h n (omega arith)
 event_leaves_blank b n (event.Wrote l count) good h i = h n (omega arith)
 event_leaves_blank b n (event.Bytes l piece) good h i = h n (omega arith)
 event_leaves_blank b n (event.Ended l) good h i = h n (omega arith)
@@ -191,7 +206,8 @@ pub stories_kept : (b : Book) (a : Action) → MayStand b a → HasStories b →
 stories_kept b (action.Turn k (cause.Opening config word)) may h n i = h n i
 stories_kept b (action.Turn k (cause.Event e)) may h n i = event_leaves_blank b n e.kind may.is_for.2 h i
 stories_kept b (action.Connect l host port) may h n i = h n i
-stories_kept b (action.Timer t ms what) may h n i = h n i
+stories_kept b (action.Timer t ms what) may h n i = timer_leaves_blank b t ms what n may h i
+stories_kept b (action.Took (owner.Try m round) l count) may h n i = others_blank b m n (holds (b.story n) count) h i (mover_is_numbered b m h (taker_moves b m l count may.1))
 stories_kept b (action.Close l) may h n i = h n i
 stories_kept b (action.Write l bytes) may h n i = h n i
 stories_kept b (action.Wait (owner.Try m round) kind) may h n i = others_blank b m n (waits (b.story n) kind) h i (open_is_numbered b m h may.1.asked)

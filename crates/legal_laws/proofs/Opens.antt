@@ -59,6 +59,7 @@ opening_kept b (action.Connect l host port) may h = record {
   one_link = let none : b.links ≡ 0 = may.first in omega arith;
 }
 opening_kept b (action.Timer t ms what) may h = h
+opening_kept b (action.Took (owner.Try n round) l count) may h = h
 opening_kept b (action.Close l) may h = h
 opening_kept b (action.Write l bytes) may h = h
 opening_kept b (action.Wait (owner.Try n round) kind) may h = h
@@ -89,6 +90,7 @@ still_kept b (action.Turn k (cause.Opening config word)) may h = λ i. h (omega 
 still_kept b (action.Turn k (cause.Event e)) may h = λ i. let later : b.turns ≢ 0 = may.is_for.0 in absurd (omega arith)
 still_kept b (action.Connect m host port) may h = λ i l. mine_keeps IsStill (m == l) (b.link l) asks (λ t. record { down = (h i l).down; lives = (h i l).lives; untold = (h i l).untold }) (h i l)
 still_kept b (action.Timer t ms what) may h = h
+still_kept b (action.Took (owner.Try n round) l count) may h = h
 still_kept b (action.Close m) may h = λ i. absurd (not_none (ending (b.link m)) may.why (still_stays (b.link m) (h i m)) may.ends)
 still_kept b (action.Write m bytes) may h = λ i l. mine_keeps IsStill (m == l) (b.link l) (offers bytes) (λ t. record { down = (h i l).down; lives = (h i l).lives; untold = (h i l).untold }) (h i l)
 still_kept b (action.Wait (owner.Try n round) kind) may h = h

@@ -7,14 +7,15 @@ use Rattle.driver_model.specs.declared.action.Action.TheVariants as action
 use Rattle.driver_model.specs.declared.action.Cause.TheVariants as cause
 use Rattle.driver_model.specs.declared.action.Owner.TheVariants as owner
 use Rattle.driver_model.specs.declared.outcome.Outcome.{Outcome}
+use Rattle.driver_model.specs.declared.action.Purpose.{Purpose}
 use Rattle.driver_model.specs.declared.action.WaitKind.{WaitKind}
 use Rattle.driver_model.specs.Config.{connect_timeout}
 use Rattle.legal_trace.specs.Ledger.{End, Ending, is_over, IsOffered, ending}
 use Rattle.legal_trace.specs.Story.{Try, last_of}
 use Rattle.legal_trace.specs.Book.{Book}
 use Rattle.legal_trace.specs.Steps.{next_step}
-use Rattle.legal_trace.specs.Legal.{MayStand, MayAnswer, MayTell, MayWrite, MayWait, MayShowCreation, IsOpen, link_of, NoneIsOwed, VerdictsAreShown, NoneEnds, FailuresAreShown, IsTimed, IsCreated, IsApplied, IsMoved, IsWritten, IsSettled, IsStarted, IsWaiting, CanMove}
-use Rattle.legal_laws.proofs.Moves.{teller_moves, starter_moves, same_kind}
+use Rattle.legal_trace.specs.Legal.{MayStand, MayTimer, MayAnswer, MayTell, MayWrite, MayWait, MayShowCreation, IsOpen, link_of, NoneIsOwed, VerdictsAreShown, NoneEnds, FailuresAreShown, IsTimed, IsCreated, IsApplied, IsMoved, IsWritten, IsSettled, IsStarted, IsWaiting, CanMove}
+use Rattle.legal_trace.proofs.Moves.{teller_moves, starter_moves, taker_moves, asker_moves, same_kind}
 use Rattle.legal_laws.proofs.Numbers.{up_is_numbered, over_is_numbered, open_is_numbered, unasked_stays}
 use Rattle.legal_laws.proofs.Opens.{still_stays}
 use Rattle.legal_laws.proofs.Quiet.{failed_is_over}
@@ -37,12 +38,18 @@ abbrev pub outcome_rank : (b : Book) (n : ℕ) (o : Outcome) → MayAnswer b n o
 outcome_rank b n o (inl owed) = answer_rank (is_over (link_of b n))
 outcome_rank b n o (inr told) = 8
 
+-- the timer of the opening is of its second, and one of a submission of the passes
+abbrev pub timer_rank : (b : Book) (t ms : ℕ) (what : Purpose) → MayTimer b t ms what → ℕ
+timer_rank b t ms what (inl opening) = 2
+timer_rank b t ms what (inr response) = 8
+
 -- the opening, its connect and its timer, the outcomes of links that have not ended, the closes, the creation that failed,
 -- the other outcomes that are owed, the creation, the passes, the writes, the waits, and the next event
 abbrev pub rank : (b : Book) (a : Action) → MayStand b a → ℕ
 rank b (action.Turn k (cause.Opening config word)) may = 0
 rank b (action.Connect l host port) may = 1
-rank b (action.Timer t ms what) may = 2
+rank b (action.Timer t ms what) may = timer_rank b t ms what may
+rank b (action.Took who l count) may = 8
 rank b (action.Outcome n o) may = outcome_rank b n o may
 rank b (action.Close l) may = 4
 rank b (action.Created e) may = creation_rank e
@@ -119,11 +126,17 @@ creation_not_done : (b : Book) (e : Option RedisError) → MayShowCreation b e �
 creation_not_done b None may h = h.shown may.l may.up may.once
 creation_not_done b (Some e) may h = h may.l e may.fails may.once
 
+-- a timer that may be asked for is due
+timer_not_done : (b : Book) (t ms : ℕ) (what : Purpose) (may : MayTimer b t ms what) → Step (timer_rank b t ms what may) b → ⊥
+timer_not_done b t ms what (inl may) h = h may.config may.word may.opens (λ none. not_none (connect_timeout may.config) ms none may.bounded) may.first
+timer_not_done b t ms what (inr may) h = h may.n (asker_moves b t ms what may)
+
 -- where an action may stand, its rank isn't done
 pub not_done : (b : Book) (a : Action) (may : MayStand b a) → Step (rank b a may) b → ⊥
 not_done b (action.Turn k (cause.Opening config word)) may h = h may.is_for
 not_done b (action.Connect l host port) may h = h may.first
-not_done b (action.Timer t ms what) may h = h may.config may.word may.opens (λ none. not_none (connect_timeout may.config) ms none may.bounded) may.first
+not_done b (action.Timer t ms what) may h = timer_not_done b t ms what may h
+not_done b (action.Took (owner.Try n round) l count) may h = h n (taker_moves b n l count may.1)
 not_done b (action.Outcome n o) may h = outcome_not_done b n o may h
 not_done b (action.Close l) may h = not_none (ending (b.link l)) may.why (h l) may.ends
 not_done b (action.Created e) may h = creation_not_done b e may h
@@ -212,12 +225,18 @@ outcome_reached : (b : Book) (n : ℕ) (o : Outcome) (may : MayAnswer b n o ⊎ 
 outcome_reached b n o (inl owes) h = answer_reached b n o (is_over (link_of b n)) refl owes h
 outcome_reached b n o (inr told) h = applied b h told.applied
 
+-- before any timer
+timer_reached : (b : Book) (t ms : ℕ) (what : Purpose) (may : MayTimer b t ms what) → Sound b → Reached (timer_rank b t ms what may) b
+timer_reached b t ms what (inl may) h = linked b h may.asked
+timer_reached b t ms what (inr may) h = applied b h may.applied
+
 -- where an action may stand, all below its rank is done
 pub reached : (b : Book) (a : Action) (may : MayStand b a) → Sound b → Reached (rank b a may) b
 reached b (action.Turn k (cause.Opening config word)) may h = tt
 reached b (action.Connect l host port) may h = (λ e. not_none b.running (cause.Opening may.config may.word) (h.opens.not_running e) may.opens, tt)
 reached b (action.Outcome n o) may h = outcome_reached b n o may h
-reached b (action.Timer t ms what) may h = linked b h may.asked
+reached b (action.Timer t ms what) may h = timer_reached b t ms what may h
+reached b (action.Took (owner.Try n round) l count) may h = applied b h may.1.applied
 reached b (action.Close l) may h = (may.answered, end_is_begun b l may.why h may.ends)
 reached b (action.Created e) may h = creation_reached b e may h
 reached b (action.Start l k (owner.Try n round) count len) may h = applied b h may.1.applied

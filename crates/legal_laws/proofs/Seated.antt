@@ -1,6 +1,7 @@
 -- Whoever was told has a place until its message starts.
-use Rattle.std.proofs.Common.{◌≡◌, ◌⊎◌, inl, inr, ℕ, ◌<◌, ◌≤◌, ◌==◌, nat_lt, nat_le, true, false, not, List, [], ◌∷◌, None, refl, sym, ◌∙◌, ap, subst, arith}
-use Rattle.containers.proofs.Choices.{by_test, chosen, left_if, eq_from, ne_test, lt_from, not_lt_from, not_le_from, not_le_test, both_right}
+use Rattle.std.proofs.Common.{◌≡◌, ◌⊎◌, inl, inr, ℕ, ◌<◌, ◌≤◌, ◌==◌, nat_lt, true, false, ◌&&◌, not, List, [], ◌∷◌, Option, None, Some, refl, sym, ◌∙◌, ap, subst, arith}
+use Rattle.std.specs.Prelude.{slice_get}
+use Rattle.containers.proofs.Choices.{by_test, chosen, left_if, eq_from, ne_test, lt_from, not_lt_from, not_le_from, not_le_test, not_both, both_left, both_right}
 use Rattle.driver_model.specs.declared.action.Action.{Action}
 use Rattle.driver_model.specs.declared.action.Action.TheVariants as action
 use Rattle.driver_model.specs.declared.action.Cause.TheVariants as cause
@@ -9,47 +10,87 @@ use Rattle.driver_model.specs.declared.event.EventKind.{EventKind}
 use Rattle.driver_model.specs.declared.event.EventKind.TheVariants as event
 use Rattle.driver_model.specs.declared.outcome.Outcome.{Outcome}
 use Rattle.driver_model.specs.Config.{buffer_size}
-use Rattle.legal_trace.specs.Story.{Story, is_open, is_told, is_awaited, is_no_error, is_unstarted, handed_in, left, tried, waits, answered}
-use Rattle.legal_trace.specs.Book.{Book, blank_book, book, entered, entered_each, current, after_event}
-use Rattle.legal_trace.specs.Steps.{configured, queue_size, line_before, is_outside}
-use Rattle.legal_trace.specs.Legal.{MayStand, MayAnswer, MayTell, AllStand}
-use Rattle.legal_laws.proofs.Moves.{tells_mean}
-use Rattle.legal_laws.proofs.InLine.{follows, owed_is_done, in_line_before, shorter}
-use Rattle.legal_laws.proofs.Numbers.{HasStories}
+use Rattle.legal_trace.specs.Ledger.{dials}
+use Rattle.legal_trace.specs.Story.{Story, is_open, is_told, is_awaited, is_no_error, is_unstarted, handed_in, left, holds, clocked, fires, tried, waits, answered}
+use Rattle.legal_trace.specs.Book.{Book, blank_book, book, entered, entered_each, current, is_clock_of, after_event}
+use Rattle.legal_trace.specs.Steps.{configured, queue_size, permits_in, free_permits, is_let_in, is_in_line, line_before, is_outside}
+use Rattle.legal_trace.specs.Legal.{MayStand, MayAnswer, MayTell, MayTake, AllStand, CanMove, link_of}
+use Rattle.legal_trace.proofs.Moves.{lt_test, both_hold, holds_some, is_timed, tells_mean, takes_mean, holder_is_timed, rester_holds, teller_moves, taker_moves}
+use Rattle.legal_laws.proofs.InLine.{is_to_start, is_admitted, Follows, first_holds, second_holds, follows, owed_is_done, to_start_before, shorter}
+use Rattle.legal_laws.proofs.Numbers.{HasStories, mover_is_numbered}
 use Rattle.legal_laws.proofs.Sound.{Sound, stays_sound, blank_is_sound}
 
--- each submission that was told and has no message has a place
-abbrev pub ToldHavePlaces : Book → Type 0
-ToldHavePlaces b = (n : ℕ) → n < b.submissions → is_unstarted (b.story n) ≡ true → is_told (b.story n) ≡ true → is_outside b n ≡ false
+-- a submission has its place: fewer stand in line before it than the queue holds, and all before it that are to start on its
+-- link stand there
+pub record HasItsPlace (b : Book) (n : ℕ) : Type 0 where
+  pub inside : is_outside b n ≡ false
+  pub ahead : (m : ℕ) → m < n → is_to_start (b.story n).link (b.story m) ≡ true → is_admitted (permits_in b.config) (b.story m) ≡ true
 
--- whoever has a place has it behind an action, too
-place_stays : (b : Book) (a : Action) → MayStand b a → (n : ℕ) → n < b.submissions → (entered b a).config ≡ b.config → is_outside b n ≡ false → is_outside (entered b a) n ≡ false
-place_stays b a may n i same e =
+-- each submission that was told and has no message has its place
+abbrev pub ToldHavePlaces : Book → Type 0
+ToldHavePlaces b = (n : ℕ) → n < b.submissions → is_unstarted (b.story n) ≡ true → is_told (b.story n) ≡ true → HasItsPlace b n
+
+-- before one that holds permits all hold some that are to start on its link and weren't told
+abbrev pub HoldersInOrder : Book → Type 0
+HoldersInOrder b =
+    (m n : ℕ) → m < n → n < b.submissions → is_to_start (b.story n).link (b.story m) ≡ true → is_told (b.story m) ≡ false → 0 < (b.story n).permits → 0 < (b.story m).permits
+
+-- who is admitted and is to start on a link stands in line for it
+in_line_from : (limit : Option ℕ) (l : ℕ) (s : Story) → is_to_start l s ≡ true → is_admitted limit s ≡ true → is_in_line limit l s ≡ true
+in_line_from limit l s t a = both_hold (s.link == l) (is_unstarted s && is_admitted limit s) (both_left (s.link == l) (is_unstarted s) t) (both_hold (is_unstarted s) (is_admitted limit s) (both_right (s.link == l) (is_unstarted s) t) a)
+
+-- who stands in line is to start
+to_start_from : (limit : Option ℕ) (l : ℕ) (s : Story) → is_in_line limit l s ≡ true → is_to_start l s ≡ true
+to_start_from limit l s e = both_hold (s.link == l) (is_unstarted s) (both_left (s.link == l) (is_unstarted s && is_admitted limit s) e) (both_left (is_unstarted s) (is_admitted limit s) (both_right (s.link == l) (is_unstarted s && is_admitted limit s) e))
+
+-- behind an action all before it stand there still
+ahead_stays : (b : Book) (a : Action) → MayStand b a → (n : ℕ) → n < b.submissions → HasItsPlace b n
+    → (m : ℕ) → m < n → is_to_start (b.story n).link ((entered b a).story m) ≡ true → is_admitted (permits_in b.config) ((entered b a).story m) ≡ true
+ahead_stays b a may n i h m j t =
+    let f : Follows (permits_in b.config) (b.story m) ((entered b a).story m) = follows b a may m (omega (arith, i, j)) in
+    f.stays (both_right (((entered b a).story m).link == (b.story n).link) (is_unstarted ((entered b a).story m)) t) (h.ahead m j (to_start_before b a may (b.story n).link m (omega (arith, i, j)) t))
+
+-- and no more than before
+line_stays : (b : Book) (a : Action) → MayStand b a → (n : ℕ) → n < b.submissions → HasItsPlace b n → line_before (permits_in b.config) (entered b a).story (b.story n).link n < queue_size b
+line_stays b a may n i h =
     let l : ℕ = (b.story n).link in
-    let on : ((entered b a).story n).link ≡ (b.story n).link = (follows b a may n i).link in
-    let less : line_before (entered b a).story l n ≤ line_before b.story l n = shorter (entered b a).story b.story l n (λ k j. in_line_before b a may l k (omega (arith, i, j))) in
-    let room : line_before b.story l n < queue_size b = not_le_from (queue_size b) (line_before b.story l n) e in
-    let still : nat_le (queue_size b) (line_before (entered b a).story l n) ≡ false = not_le_test (queue_size b) (line_before (entered b a).story l n) (omega (arith, less, room)) in
-    let sized : nat_le (queue_size (entered b a)) (line_before (entered b a).story l n) ≡ false = ap (λ c. nat_le (configured buffer_size c) (line_before (entered b a).story l n)) same ∙ still in
-    ap (λ x. nat_le (queue_size (entered b a)) (line_before (entered b a).story x n)) on ∙ sized
+    let less : line_before (permits_in b.config) (entered b a).story l n ≤ line_before (permits_in b.config) b.story l n = shorter (permits_in b.config) (entered b a).story b.story l n
+    (λ k j e. let t : is_to_start l (b.story k) ≡ true = to_start_before b a may l k (omega (arith, i, j)) (to_start_from (permits_in b.config) l ((entered b a).story k) e) in in_line_from (permits_in b.config) l (b.story k) t (h.ahead k j t)) in
+    let room : line_before (permits_in b.config) b.story l n < queue_size b = not_le_from (queue_size b) (line_before (permits_in b.config) b.story l n) h.inside in
+    omega (arith, less, room)
+
+-- so whoever has its place has it behind an action, too
+place_stays : (b : Book) (a : Action) → MayStand b a → (n : ℕ) → n < b.submissions → (entered b a).config ≡ b.config → HasItsPlace b n → HasItsPlace (entered b a) n
+place_stays b a may n i same h =
+    let on : (b.story n).link ≡ ((entered b a).story n).link = sym (follows b a may n i).link in
+    let sized : line_before (permits_in (entered b a).config) (entered b a).story (b.story n).link n < queue_size (entered b a) =
+    subst (λ c. line_before (permits_in c) (entered b a).story (b.story n).link n < configured buffer_size c) (sym same) (line_stays b a may n i h) in
+    record {
+      inside = not_le_test (queue_size (entered b a)) (line_before (permits_in (entered b a).config) (entered b a).story ((entered b a).story n).link n)
+          (subst (λ x. line_before (permits_in (entered b a).config) (entered b a).story x n < queue_size (entered b a)) on sized);
+      ahead = λ m j t. subst (λ c. is_admitted (permits_in c) ((entered b a).story m) ≡ true) (sym same)
+          (ahead_stays b a may n i h m j (subst (λ x. is_to_start x ((entered b a).story m) ≡ true) (sym on) t));
+    }
 
 -- what an action tells is told in place: who is told behind it was told before, or has a place
 abbrev TellsNone : Book → Action → Type 0
-TellsNone b a = (n : ℕ) → n < b.submissions → is_unstarted ((entered b a).story n) ≡ true → is_told ((entered b a).story n) ≡ true → (is_told (b.story n) ≡ true) ⊎ (is_outside b n ≡ false)
+TellsNone b a = (n : ℕ) → n < b.submissions → is_unstarted ((entered b a).story n) ≡ true → is_told ((entered b a).story n) ≡ true → (is_told (b.story n) ≡ true) ⊎ HasItsPlace b n
 
 -- so it is behind it
 kept_by : (b : Book) (a : Action) → MayStand b a → (entered b a).config ≡ b.config → TellsNone b a → ToldHavePlaces b
-    → (n : ℕ) → n < b.submissions → is_unstarted ((entered b a).story n) ≡ true → is_told ((entered b a).story n) ≡ true → is_outside (entered b a) n ≡ false
+    → (n : ℕ) → n < b.submissions → is_unstarted ((entered b a).story n) ≡ true → is_told ((entered b a).story n) ≡ true → HasItsPlace (entered b a) n
 kept_by b a may same tells h n i u t = place_stays b a may n i same (elim (tells n i u t) [ inl before ↦ h n i ((follows b a may n i).unstarted u) before | inr place ↦ place ])
 
 -- an event answers none
 event_outcomes : (b : Book) (n : ℕ) (kind : EventKind) → (after_event b n kind).outcomes ≡ (b.story n).outcomes
-event_outcomes b n (event.Submit what) = chosen (λ (s : Story). s.outcomes ≡ (b.story n).outcomes) (b.submissions == n) (handed_in (b.story n) what b.shut (current b)) (b.story n) (λ t. refl) (λ f. refl)
+event_outcomes b n (event.Submit what) = chosen (λ (s : Story). s.outcomes ≡ (b.story n).outcomes) (b.submissions == n) (handed_in (b.story n) what b.shut (current b) b.timeout) (b.story n) (λ t. refl) (λ f. refl)
 event_outcomes b n (event.Cancel m) = chosen (λ (s : Story). s.outcomes ≡ (b.story n).outcomes) (m == n) (left (b.story n)) (b.story n)
-    (λ t. chosen (λ (s : Story). s.outcomes ≡ (b.story n).outcomes) (is_open (b.story n)) (record (b.story n) { cancelled = true; waiting = None }) (b.story n) (λ o. refl) (λ o. refl)) (λ f. refl)
+    (λ t. chosen (λ (s : Story). s.outcomes ≡ (b.story n).outcomes) (is_open (b.story n)) (record (b.story n) { cancelled = true; permits = 0; waiting = None }) (b.story n) (λ o. refl) (λ o. refl)) (λ f. refl)
 event_outcomes b n (event.Connected l) = refl
 event_outcomes b n (event.Refused l f) = refl
-event_outcomes b n (event.Fired t) = refl
+event_outcomes b n (event.Fired t) = chosen (λ (s : Story). s.outcomes ≡ (b.story n).outcomes) (is_clock_of n (slice_get b.timers t)) (fires (b.story n)) (b.story n)
+    (λ e. chosen (λ (s : Story). s.outcomes ≡ (b.story n).outcomes) (is_open (b.story n)) (record (b.story n) { overdue = true }) (b.story n) (λ o. refl) (λ o. refl)) (λ f. refl)
+event_outcomes b n (event.Timeout ms) = refl
 event_outcomes b n (event.Wrote l count) = refl
 event_outcomes b n (event.Bytes l piece) = refl
 event_outcomes b n (event.Ended l) = refl
@@ -59,12 +100,14 @@ event_outcomes b n event.Shutdown = refl
 
 -- nor does it tell one
 event_told : (b : Book) (n : ℕ) (kind : EventKind) → n < b.submissions → is_told (after_event b n kind) ≡ true → is_told (b.story n) ≡ true
-event_told b n (event.Submit what) i t = subst (λ s. is_told s ≡ true) (left_if (b.submissions == n) (handed_in (b.story n) what b.shut (current b)) (b.story n) (ne_test b.submissions n (omega arith))) t
+event_told b n (event.Submit what) i t = subst (λ s. is_told s ≡ true) (left_if (b.submissions == n) (handed_in (b.story n) what b.shut (current b) b.timeout) (b.story n) (ne_test b.submissions n (omega arith))) t
 event_told b n (event.Cancel m) i t = chosen (λ s. is_told s ≡ true → is_told (b.story n) ≡ true) (m == n) (left (b.story n)) (b.story n)
-    (λ e. chosen (λ s. is_told s ≡ true → is_told (b.story n) ≡ true) (is_open (b.story n)) (record (b.story n) { cancelled = true; waiting = None }) (b.story n) (λ o u. u) (λ o u. u)) (λ f u. u) t
+    (λ e. chosen (λ s. is_told s ≡ true → is_told (b.story n) ≡ true) (is_open (b.story n)) (record (b.story n) { cancelled = true; permits = 0; waiting = None }) (b.story n) (λ o u. u) (λ o u. u)) (λ f u. u) t
 event_told b n (event.Connected l) i t = t
 event_told b n (event.Refused l f) i t = t
-event_told b n (event.Fired w) i t = t
+event_told b n (event.Fired w) i t = chosen (λ s. is_told s ≡ true → is_told (b.story n) ≡ true) (is_clock_of n (slice_get b.timers w)) (fires (b.story n)) (b.story n)
+    (λ e. chosen (λ s. is_told s ≡ true → is_told (b.story n) ≡ true) (is_open (b.story n)) (record (b.story n) { overdue = true }) (b.story n) (λ o u. u) (λ o u. u)) (λ f u. u) t
+event_told b n (event.Timeout ms) i t = t
 event_told b n (event.Wrote l count) i t = t
 event_told b n (event.Bytes l piece) i t = t
 event_told b n (event.Ended l) i t = t
@@ -78,42 +121,156 @@ new_is_untold b n kind stories i t =
     let none : (after_event b n kind).outcomes ≡ [] = event_outcomes b n kind ∙ ap (λ (s : Story). s.outcomes) (stories n i) in
     let e : false ≡ true = sym (ap is_no_error none) ∙ both_right (not (is_awaited (after_event b n kind))) (is_no_error (after_event b n kind).outcomes) t in cc e
 
+-- where one that holds permits comes behind one that holds some
+pub holds_like : (limit : Option ℕ) (p q : ℕ) → holds_some limit p ≡ true → (0 < p → 0 < q) → holds_some limit q ≡ true
+holds_like None p q h more = refl
+holds_like (Some k) p q h more = lt_test 0 q (more (lt_from 0 p h))
+
+-- before one that makes a step and holds its permits, all that are to start on its link are admitted
+admitted_before : (b : Book) (n : ℕ) → HoldersInOrder b → n < b.submissions → dials (link_of b n) ≡ false → (link_of b n).up ≡ true → holds_some (permits_in b.config) (b.story n).permits ≡ true
+    → ((m : ℕ) → m < n → CanMove b m → ⊥) → (m : ℕ) → m < n → is_to_start (b.story n).link (b.story m) ≡ true → is_admitted (permits_in b.config) (b.story m) ≡ true
+admitted_before b n holders i d u p first m j t =
+    let same : (b.story m).link ≡ (b.story n).link = eq_from (b.story m).link (b.story n).link (both_left ((b.story m).link == (b.story n).link) (is_unstarted (b.story m)) t) in
+    let unstarted : is_unstarted (b.story m) ≡ true = both_right ((b.story m).link == (b.story n).link) (is_unstarted (b.story m)) t in
+    let dialing : dials (link_of b m) ≡ false = ap (λ x. dials (b.link x)) same ∙ d in
+    let up : (link_of b m).up ≡ true = ap (λ x. (b.link x).up) same ∙ u in
+    by_test (is_told (b.story m)) (is_admitted (permits_in b.config) (b.story m) ≡ true)
+    (λ told. first_holds (is_told (b.story m)) (is_let_in (permits_in b.config) (b.story m)) told)
+    (λ untold.
+    let holds : holds_some (permits_in b.config) (b.story m).permits ≡ true = holds_like (permits_in b.config) (b.story n).permits (b.story m).permits p (holders m n j i t untold) in
+    second_holds (is_told (b.story m)) (is_let_in (permits_in b.config) (b.story m))
+    (both_hold (holds_some (permits_in b.config) (b.story m).permits) (is_timed (b.story m).timeout (b.story m).clock) holds
+    (holder_is_timed b m dialing up untold holds (λ due. first m j (record { unstarted = unstarted; due = due })))))
+
+-- so one that is told at its place has it
+tell_seated : (b : Book) (m : ℕ) (o : Outcome) → Sound b → HoldersInOrder b → MayTell b m o → HasItsPlace b m
+tell_seated b m o sound holders may =
+    let t = tells_mean b m may.tells in
+    record {
+      inside = t.3;
+      ahead = admitted_before b m holders (mover_is_numbered b m sound.stories (teller_moves b m o may)) t.0 t.1 (both_left (holds_some (permits_in b.config) (b.story m).permits) (is_timed (b.story m).timeout (b.story m).clock) t.2) may.in_order;
+    }
+
 -- an outcome tells in place
-outcome_tells : (b : Book) (m : ℕ) (o : Outcome) → MayAnswer b m o ⊎ MayTell b m o → is_unstarted (answered (b.story m) o) ≡ true → is_outside b m ≡ false
-outcome_tells b m o (inl owes) u = absurd (owed_is_done b m o owes u)
-outcome_tells b m o (inr told) u = tells_mean b m told.tells
+outcome_tells : (b : Book) (m : ℕ) (o : Outcome) → Sound b → HoldersInOrder b → MayAnswer b m o ⊎ MayTell b m o → is_unstarted (answered (b.story m) o) ≡ true → HasItsPlace b m
+outcome_tells b m o sound holders (inl owes) u = absurd (owed_is_done b m o owes u)
+outcome_tells b m o sound holders (inr told) u = tell_seated b m o sound holders told
 
 -- where nobody is told
 unchanged : (b : Book) (a : Action) → ((n : ℕ) → is_told ((entered b a).story n) ≡ true → is_told (b.story n) ≡ true) → TellsNone b a
 unchanged b a same n i u t = inl (same n t)
 
 -- each action that may stand keeps it
-seated_kept : (b : Book) (a : Action) → MayStand b a → Sound b → ToldHavePlaces b → ToldHavePlaces (entered b a)
-seated_kept b (action.Turn k (cause.Opening config word)) may sound h = λ n i u t. let none : b.submissions ≡ 0 = sound.opens.no_submissions (sound.opens.no_links may.is_for) in absurd (omega (arith, none, i))
-seated_kept b (action.Turn k (cause.Event e)) may sound h = λ n i u t. by_test (nat_lt n b.submissions) (is_outside (entered b (action.Turn k (cause.Event e))) n ≡ false)
+seated_kept : (b : Book) (a : Action) → MayStand b a → Sound b → HoldersInOrder b → ToldHavePlaces b → ToldHavePlaces (entered b a)
+seated_kept b (action.Turn k (cause.Opening config word)) may sound holders h = λ n i u t. let none : b.submissions ≡ 0 = sound.opens.no_submissions (sound.opens.no_links may.is_for) in absurd (omega (arith, none, i))
+seated_kept b (action.Turn k (cause.Event e)) may sound holders h = λ n i u t. by_test (nat_lt n b.submissions) (HasItsPlace (entered b (action.Turn k (cause.Event e))) n)
     (λ old. kept_by b (action.Turn k (cause.Event e)) may refl (λ m j v w. inl (event_told b m e.kind j w)) h n (lt_from n b.submissions old) u t)
     (λ new. absurd (new_is_untold b n e.kind sound.stories (not_lt_from n b.submissions new) t))
-seated_kept b (action.Connect l host port) may sound h = kept_by b (action.Connect l host port) may refl (unchanged b (action.Connect l host port) (λ n t. t)) h
-seated_kept b (action.Timer w ms what) may sound h = kept_by b (action.Timer w ms what) may refl (unchanged b (action.Timer w ms what) (λ n t. t)) h
-seated_kept b (action.Close l) may sound h = kept_by b (action.Close l) may refl (unchanged b (action.Close l) (λ n t. t)) h
-seated_kept b (action.Write l bytes) may sound h = kept_by b (action.Write l bytes) may refl (unchanged b (action.Write l bytes) (λ n t. t)) h
-seated_kept b (action.Wait (owner.Try m round) kind) may sound h =
+seated_kept b (action.Connect l host port) may sound holders h = kept_by b (action.Connect l host port) may refl (unchanged b (action.Connect l host port) (λ n t. t)) h
+seated_kept b (action.Timer w ms what) may sound holders h =
+    kept_by b (action.Timer w ms what) may refl (unchanged b (action.Timer w ms what) (λ n. chosen (λ s. is_told s ≡ true → is_told (b.story n) ≡ true) (is_clock_of n (Some what)) (clocked (b.story n) w) (b.story n) (λ e t. t) (λ f t. t))) h
+seated_kept b (action.Took (owner.Try m round) l count) may sound holders h =
+    kept_by b (action.Took (owner.Try m round) l count) may refl (unchanged b (action.Took (owner.Try m round) l count) (λ n. chosen (λ s. is_told s ≡ true → is_told (b.story n) ≡ true) (m == n) (holds (b.story n) count) (b.story n) (λ e t. t) (λ f t. t))) h
+seated_kept b (action.Close l) may sound holders h = kept_by b (action.Close l) may refl (unchanged b (action.Close l) (λ n t. t)) h
+seated_kept b (action.Write l bytes) may sound holders h = kept_by b (action.Write l bytes) may refl (unchanged b (action.Write l bytes) (λ n t. t)) h
+seated_kept b (action.Wait (owner.Try m round) kind) may sound holders h =
     kept_by b (action.Wait (owner.Try m round) kind) may refl (unchanged b (action.Wait (owner.Try m round) kind) (λ n. chosen (λ s. is_told s ≡ true → is_told (b.story n) ≡ true) (m == n) (waits (b.story n) kind) (b.story n) (λ e t. t) (λ f t. t))) h
-seated_kept b (action.Start l k (owner.Try m round) count len) may sound h =
+seated_kept b (action.Start l k (owner.Try m round) count len) may sound holders h =
     kept_by b (action.Start l k (owner.Try m round) count len) may refl (unchanged b (action.Start l k (owner.Try m round) count len) (λ n. chosen (λ s. is_told s ≡ true → is_told (b.story n) ≡ true) (m == n) (tried (b.story n) l k) (b.story n) (λ e t. t) (λ f t. t))) h
-seated_kept b (action.Created e) may sound h = kept_by b (action.Created e) may refl (unchanged b (action.Created e) (λ n t. t)) h
-seated_kept b (action.Outcome m o) may sound h =
+seated_kept b (action.Created e) may sound holders h = kept_by b (action.Created e) may refl (unchanged b (action.Created e) (λ n t. t)) h
+seated_kept b (action.Outcome m o) may sound holders h =
     kept_by b (action.Outcome m o) may refl
-    (λ n i. chosen (λ s. is_unstarted s ≡ true → is_told s ≡ true → (is_told (b.story n) ≡ true) ⊎ (is_outside b n ≡ false)) (m == n) (answered (b.story n) o) (b.story n)
-    (λ e u t. inr (subst (λ j. is_unstarted (answered (b.story j) o) ≡ true → is_outside b j ≡ false) (eq_from m n e) (outcome_tells b m o may) u))
+    (λ n i. chosen (λ s. is_unstarted s ≡ true → is_told s ≡ true → (is_told (b.story n) ≡ true) ⊎ HasItsPlace b n) (m == n) (answered (b.story n) o) (b.story n)
+    (λ e u t. inr (subst (λ j. is_unstarted (answered (b.story j) o) ≡ true → HasItsPlace b j) (eq_from m n e) (outcome_tells b m o sound holders may) u))
     (λ f u t. inl t)) h
 
+-- submission n takes permits now
+abbrev pub TakesNow : Book → ℕ → Type 0
+TakesNow b n = (l : ℕ) × (count : ℕ) × MayTake b n l count
+
+-- where it takes some, all before it on its link hold some
+taker_behind : (b : Book) (m n : ℕ) → m < n → is_to_start (b.story n).link (b.story m) ≡ true → is_told (b.story m) ≡ false → TakesNow b n → 0 < (b.story m).permits
+taker_behind b m n i t untold now =
+    let may : MayTake b n now.0 now.1 = now.2 in
+    let x = takes_mean b n now.1 may.takes in
+    let same : (b.story m).link ≡ (b.story n).link = eq_from (b.story m).link (b.story n).link (both_left ((b.story m).link == (b.story n).link) (is_unstarted (b.story m)) t) in
+    let unstarted : is_unstarted (b.story m) ≡ true = both_right ((b.story m).link == (b.story n).link) (is_unstarted (b.story m)) t in
+    rester_holds b m x.2.0 (ap (λ y. dials (b.link y)) same ∙ x.0) (ap (λ y. (b.link y).up) same ∙ x.1) untold x.2.1 (subst (λ y. 0 < free_permits b y x.2.0) (sym same) x.2.4)
+    (λ due. may.in_order m i (record { unstarted = unstarted; due = due }))
+
+-- whoever holds permits behind an action held some, or takes them now
+abbrev pub Gains : Book → ℕ → Story → Type 0
+Gains b n s = 0 < s.permits → (0 < (b.story n).permits) ⊎ TakesNow b n
+
+-- an event gives none
+event_gains : (b : Book) (n : ℕ) (kind : EventKind) → Gains b n (after_event b n kind)
+event_gains b n (event.Submit what) = chosen (Gains b n) (b.submissions == n) (handed_in (b.story n) what b.shut (current b) b.timeout) (b.story n) (λ t i. inl i) (λ f i. inl i)
+event_gains b n (event.Cancel m) = chosen (Gains b n) (m == n) (left (b.story n)) (b.story n)
+    (λ t. chosen (Gains b n) (is_open (b.story n)) (record (b.story n) { cancelled = true; permits = 0; waiting = None }) (b.story n) (λ o i. absurd (omega (arith, i))) (λ o i. inl i)) (λ f i. inl i)
+event_gains b n (event.Fired t) = chosen (Gains b n) (is_clock_of n (slice_get b.timers t)) (fires (b.story n)) (b.story n)
+    (λ e. chosen (Gains b n) (is_open (b.story n)) (record (b.story n) { overdue = true }) (b.story n) (λ o i. inl i) (λ o i. inl i)) (λ f i. inl i)
+event_gains b n (event.Connected l) = λ i. inl i
+event_gains b n (event.Refused l f) = λ i. inl i
+event_gains b n (event.Wrote l count) = λ i. inl i
+event_gains b n (event.Bytes l piece) = λ i. inl i
+event_gains b n (event.Ended l) = λ i. inl i
+event_gains b n (event.ReadFault l kind) = λ i. inl i
+event_gains b n (event.WriteFault l kind) = λ i. inl i
+event_gains b n (event.Timeout ms) = λ i. inl i
+event_gains b n event.Shutdown = λ i. inl i
+
+-- nor does another action than the taking
+pub gains : (b : Book) (a : Action) → MayStand b a → (n : ℕ) → Gains b n ((entered b a).story n)
+gains b (action.Turn k (cause.Opening config word)) may n = λ i. inl i
+gains b (action.Turn k (cause.Event e)) may n = event_gains b n e.kind
+gains b (action.Connect l host port) may n = λ i. inl i
+gains b (action.Timer t ms what) may n = chosen (Gains b n) (is_clock_of n (Some what)) (clocked (b.story n) t) (b.story n) (λ e i. inl i) (λ f i. inl i)
+gains b (action.Took (owner.Try m round) l count) may n = chosen (Gains b n) (m == n) (holds (b.story n) count) (b.story n)
+    (λ t i. inr (subst (TakesNow b) (eq_from m n t) (l, count, may.1))) (λ f i. inl i)
+gains b (action.Close l) may n = λ i. inl i
+gains b (action.Write l bytes) may n = λ i. inl i
+gains b (action.Wait (owner.Try m round) kind) may n = chosen (Gains b n) (m == n) (waits (b.story n) kind) (b.story n) (λ t i. inl i) (λ f i. inl i)
+gains b (action.Start l k (owner.Try m round) count len) may n = chosen (Gains b n) (m == n) (tried (b.story n) l k) (b.story n) (λ t i. inl i) (λ f i. inl i)
+gains b (action.Created e) may n = λ i. inl i
+gains b (action.Outcome m o) may n = chosen (Gains b n) (m == n) (answered (b.story n) o) (b.story n) (λ t i. absurd (omega (arith, i))) (λ f i. inl i)
+
+-- what isn't told behind an action wasn't before
+untold_before : (limit : Option ℕ) (before after : Story) → Follows limit before after → is_unstarted after ≡ true → is_told after ≡ false → is_told before ≡ false
+untold_before limit before after f u n = by_test (is_told before) (is_told before ≡ false) (λ t. absurd (not_both (is_told after) n (f.told u t))) (λ e. e)
+
+-- who holds no permits gains none but by taking them, which a numbered one does
+pub holder_is_numbered : (b : Book) (n : ℕ) → HasStories b → (0 < (b.story n).permits) ⊎ TakesNow b n → n < b.submissions
+holder_is_numbered b n stories (inl i) = by_test (nat_lt n b.submissions) (n < b.submissions) (lt_from n b.submissions)
+    (λ f. absurd (let none : (b.story n).permits ≡ 0 = ap (λ (s : Story). s.permits) (stories n (not_lt_from n b.submissions f)) in omega (arith, none, i)))
+holder_is_numbered b n stories (inr now) = mover_is_numbered b n stories (taker_moves b n now.0 now.1 now.2)
+
+-- each action that may stand keeps the holders in order
+holders_kept : (b : Book) (a : Action) → MayStand b a → HasStories b → HoldersInOrder b → HoldersInOrder (entered b a)
+holders_kept b a may stories h m n i numbered t untold some =
+    let gained : (0 < (b.story n).permits) ⊎ TakesNow b n = gains b a may n some in
+    let j : n < b.submissions = holder_is_numbered b n stories gained in
+    let fm : Follows (permits_in b.config) (b.story m) ((entered b a).story m) = follows b a may m (omega (arith, i, j)) in
+    let u : is_unstarted ((entered b a).story m) ≡ true = both_right (((entered b a).story m).link == ((entered b a).story n).link) (is_unstarted ((entered b a).story m)) t in
+    let before : is_to_start (b.story n).link (b.story m) ≡ true = to_start_before b a may (b.story n).link m (omega (arith, i, j))
+    (subst (λ x. is_to_start x ((entered b a).story m) ≡ true) (follows b a may n j).link t) in
+    let was_untold : is_told (b.story m) ≡ false = untold_before (permits_in b.config) (b.story m) ((entered b a).story m) fm u untold in
+    fm.holds u untold (elim gained [ inl had ↦ h m n i j before was_untold had | inr now ↦ taker_behind b m n i before was_untold now ])
+
+-- what was told has its place, and who holds permits does so in order
+pub record IsSeated (b : Book) : Type 0 where
+  pub told : ToldHavePlaces b
+  pub holders : HoldersInOrder b
+
+-- each action that may stand keeps it
+pub stays_seated : (b : Book) (a : Action) → MayStand b a → Sound b → IsSeated b → IsSeated (entered b a)
+stays_seated b a may sound h = record { told = seated_kept b a may sound h.holders h.told; holders = holders_kept b a may sound.stories h.holders }
+
 -- and so do many
-stay_seated : (b : Book) (front : List Action) → AllStand b front → Sound b → ToldHavePlaces b → ToldHavePlaces (entered_each b front)
+stay_seated : (b : Book) (front : List Action) → AllStand b front → Sound b → IsSeated b → IsSeated (entered_each b front)
 stay_seated b [] all sound h = h
-stay_seated b (a ∷ more) all sound h = stay_seated (entered b a) more all.1 (stays_sound b a all.0 sound) (seated_kept b a all.0 sound h)
+stay_seated b (a ∷ more) all sound h = stay_seated (entered b a) more all.1 (stays_sound b a all.0 sound) (stays_seated b a all.0 sound h)
 
 -- so it is behind actions that may stand
-pub seated_behind : (front : List Action) → AllStand blank_book front → ToldHavePlaces (book front)
+pub seated_behind : (front : List Action) → AllStand blank_book front → IsSeated (book front)
 unfolding book
-seated_behind front all = stay_seated blank_book front all blank_is_sound (λ n i u t. absurd (omega (arith, i)))
+seated_behind front all = stay_seated blank_book front all blank_is_sound (record { told = λ n i u t. absurd (omega (arith, i)); holders = λ m n i j t untold some. absurd (omega (arith, j)) })

@@ -5,14 +5,15 @@ use Rattle.driver_model.specs.declared.action.Action.{Action}
 use Rattle.driver_model.specs.declared.action.Action.TheVariants as action
 use Rattle.driver_model.specs.declared.action.Cause.TheVariants as cause
 use Rattle.driver_model.specs.declared.action.Owner.TheVariants as owner
+use Rattle.driver_model.specs.declared.action.Purpose.{Purpose}
 use Rattle.driver_model.specs.declared.config.Config.{Config}
 use Rattle.driver_model.specs.declared.event.Event.{Event}
 use Rattle.driver_model.specs.declared.outcome.Outcome.{Outcome}
 use Rattle.legal_trace.specs.Ledger.{is_over}
 use Rattle.legal_trace.specs.Book.{Book, blank_book, entered}
-use Rattle.legal_trace.specs.Legal.{MayStand, MayAnswer, MayTell, AllStand, link_of, IsApplied, IsMoved, IsWritten, Legal}
-use Rattle.legal_laws.specs.Segments.{answers_in, segment, MayCome, AreInOrder}
-use Rattle.legal_laws.proofs.Held.{start_applied, tell_applied, write_moved, wait_written}
+use Rattle.legal_trace.specs.Legal.{MayStand, MayTimer, MayAnswer, MayTell, AllStand, link_of, IsApplied, IsMoved, IsWritten, Legal}
+use Rattle.legal_laws.specs.Segments.{answers_in, timer_in, segment, MayCome, AreInOrder}
+use Rattle.legal_laws.proofs.Held.{start_applied, tell_applied, take_applied, ask_applied, write_moved, wait_written}
 use Rattle.legal_laws.proofs.Ranks.{rank, not_done, step_of, applied, moved, written, answer_first, creation_first}
 use Rattle.legal_laws.proofs.Sound.{Sound, stays_sound, blank_is_sound}
 
@@ -30,12 +31,18 @@ outcome_done : (b : Book) (n : ℕ) (o : Outcome) (may : MayAnswer b n o ⊎ May
 outcome_done b n o (inl owes) = tt
 outcome_done b n o (inr told) = tell_applied b n o told
 
+-- behind a timer
+timer_done : (b : Book) (t ms : ℕ) (what : Purpose) (may : MayTimer b t ms what) → DoneIn (timer_in b t ms what may) (entered b (action.Timer t ms what))
+timer_done b t ms what (inl may) = tt
+timer_done b t ms what (inr may) = ask_applied b t ms what may.applied
+
 -- behind each action
 done_behind : (b : Book) (a : Action) (may : MayStand b a) → Sound b → DoneIn (segment b a may) (entered b a)
 done_behind b (action.Turn k (cause.Opening config word)) may h = tt
 done_behind b (action.Turn k (cause.Event e)) may h = tt
 done_behind b (action.Connect l host port) may h = tt
-done_behind b (action.Timer t ms what) may h = tt
+done_behind b (action.Timer t ms what) may h = timer_done b t ms what may
+done_behind b (action.Took (owner.Try n round) l count) may h = take_applied b n round l count may.1.applied
 done_behind b (action.Close l) may h = tt
 done_behind b (action.Created e) may h = tt
 done_behind b (action.Outcome n o) may h = outcome_done b n o may
@@ -96,11 +103,17 @@ outcome_early : (b : Book) (n : ℕ) (o : Outcome) (may : MayAnswer b n o ⊎ Ma
 outcome_early b n o (inl owes) k h done = effect_early b (action.Outcome n o) (inl owes) k h done (answer_first (is_over (link_of b n)))
 outcome_early b n o (inr told) k h done = pass_early b (action.Outcome n o) (inr told) k h done (omega arith)
 
+-- and a timer
+timer_early : (b : Book) (t ms : ℕ) (what : Purpose) (may : MayTimer b t ms what) (k : ℕ) → Sound b → DoneIn k b → k ≤ timer_in b t ms what may
+timer_early b t ms what (inl may) k h done = effect_early b (action.Timer t ms what) (inl may) k h done (omega arith)
+timer_early b t ms what (inr may) k h done = pass_early b (action.Timer t ms what) (inr may) k h done (omega arith)
+
 -- so does each action that may stand
 comes : (b : Book) (a : Action) (may : MayStand b a) (k : ℕ) → Sound b → DoneIn k b → MayCome k b a may
 comes b (action.Turn j c) may k h done = tt
 comes b (action.Connect l host port) may k h done = effect_early b (action.Connect l host port) may k h done (omega arith)
-comes b (action.Timer t ms what) may k h done = effect_early b (action.Timer t ms what) may k h done (omega arith)
+comes b (action.Timer t ms what) may k h done = timer_early b t ms what may k h done
+comes b (action.Took (owner.Try n round) l count) may k h done = pass_early b (action.Took (owner.Try n round) l count) may k h done (omega arith)
 comes b (action.Close l) may k h done = effect_early b (action.Close l) may k h done (omega arith)
 comes b (action.Created e) may k h done = effect_early b (action.Created e) may k h done (creation_first e)
 comes b (action.Outcome n o) may k h done = outcome_early b n o may k h done

@@ -55,6 +55,7 @@ turn_heard b turn (event.Cancel n) none h = λ s l. still_none b turn (news_of b
 turn_heard b turn (event.Connected m) none h = λ s l. still_none b turn (news_of b.timers l (event.Connected m)) l none h s
 turn_heard b turn (event.Refused m f) none h = λ s l. still_none b turn (news_of b.timers l (event.Refused m f)) l none h s
 turn_heard b turn (event.Fired t) none h = λ s l. still_none b turn (news_of b.timers l (event.Fired t)) l none h s
+turn_heard b turn (event.Timeout ms) none h = λ s l. still_none b turn (news_of b.timers l (event.Timeout ms)) l none h s
 turn_heard b turn (event.Wrote m count) none h = λ s l. still_none b turn (news_of b.timers l (event.Wrote m count)) l none h s
 turn_heard b turn (event.Bytes m piece) none h = λ s l. still_none b turn (news_of b.timers l (event.Bytes m piece)) l none h s
 turn_heard b turn (event.Ended m) none h = λ s l. still_none b turn (news_of b.timers l (event.Ended m)) l none h s
@@ -67,6 +68,7 @@ shut_kept b (action.Turn k (cause.Opening config word)) may opening h = h
 shut_kept b (action.Turn k (cause.Event e)) may opening h = turn_heard b k e.kind may.is_for.1.written.moved.applied.ended h
 shut_kept b (action.Connect m host port) may opening h = λ s. absurd (not_both b.shut (opening.not_shut may.first) s)
 shut_kept b (action.Timer t ms what) may opening h = h
+shut_kept b (action.Took (owner.Try n round) l count) may opening h = h
 shut_kept b (action.Close m) may opening h = λ s l. mine_keeps HearsShut (m == l) (b.link l) (ends (b.turns - 1)) (λ t a e. cc) (h s l)
 shut_kept b (action.Write m bytes) may opening h = λ s l. mine_keeps HearsShut (m == l) (b.link l) (offers bytes) (λ t. h s l) (h s l)
 shut_kept b (action.Wait (owner.Try n round) kind) may opening h = h

@@ -1,8 +1,10 @@
 -- What each submission of a legal trace was answered, and which messages it started.
 use Rattle.std.proofs.Common.{◌≡◌, ◌≢◌, ◌⊎◌, inl, inr, ℕ, ◌+◌, ◌≤◌, ◌==◌, Bool, true, false, List, [], ◌∷◌, ◌++◌, length, Option, Some, None, if◌then◌else◌, refl, sym, ◌∙◌, subst, ap, arith, length-append}
+use Rattle.std.specs.Prelude.{slice_get}
 use Rattle.std.proofs.lemmas.List.{nil_from_length}
 use Rattle.std.proofs.lemmas.Bool.Decides.{nat_tests}
 use Rattle.containers.proofs.Choices.{chosen, eq_from, eq_test, if_true}
+use Rattle.redis_error.specs.declared.fault_kind.FaultKind.TheVariants as kind
 use Rattle.redis_error.specs.declared.redis_error.RedisError.{RedisError}
 use Rattle.driver_model.specs.Request.{packed_bytes}
 use Rattle.redis_error.specs.declared.redis_error.RedisError.TheVariants as error
@@ -15,9 +17,9 @@ use Rattle.driver_model.specs.declared.event.EventKind.TheVariants as event
 use Rattle.driver_model.specs.declared.outcome.Outcome.{Outcome}
 use Rattle.driver_model.specs.declared.outcome.Outcome.TheVariants as outcome
 use Rattle.legal_trace.specs.Ledger.{Ledger, Line, End, begins, noted_each}
-use Rattle.legal_trace.specs.Story.{Story, Try, is_open, is_no_error, handed_in, left, tried, waits, answered, last_of, bytes_of}
+use Rattle.legal_trace.specs.Story.{Story, Try, is_open, is_no_error, handed_in, left, holds, clocked, fires, tried, waits, answered, last_of, bytes_of}
 use Rattle.legal_trace.specs.Owed.{owed, owed_to_try, owed_unstarted}
-use Rattle.legal_trace.specs.Book.{Book, entered, lines_of, message_of, current, after_event}
+use Rattle.legal_trace.specs.Book.{Book, entered, lines_of, message_of, current, is_clock_of, after_event}
 use Rattle.legal_trace.specs.Legal.{MayAnswer, MayTell, MayStand, IsOpen}
 use Rattle.legal_trace.proofs.Ledgers.{each_keeps, HasStarted, started_keeps}
 use Rattle.legal_laws.proofs.Owes.{has_bytes}
@@ -25,22 +27,26 @@ use Rattle.legal_trace.proofs.Plain.{not_empty, same_some}
 use Rattle.legal_laws.proofs.Numbers.{HasStories}
 
 -- one that started no message is owed a fault, if anything
-a_fault_only : (late empty : Bool) (x y : RedisError) (end : Option End) (o : Outcome) → (if late then Some (outcome.Fault x) else if empty then Some (outcome.Fault y) else owed_unstarted end) ≡ Some o → is_no_error (o ∷ []) ≡ true → ⊥
-a_fault_only late empty x y end (outcome.Fault e) owes n = cc n
-a_fault_only true empty x y end (outcome.One v) owes n = cc owes
-a_fault_only true empty x y end (outcome.Many vs) owes n = cc owes
-a_fault_only false true x y end (outcome.One v) owes n = cc owes
-a_fault_only false true x y end (outcome.Many vs) owes n = cc owes
-a_fault_only false false x y None (outcome.One v) owes n = cc owes
-a_fault_only false false x y None (outcome.Many vs) owes n = cc owes
-a_fault_only false false x y (Some end) (outcome.One v) owes n = cc owes
-a_fault_only false false x y (Some end) (outcome.Many vs) owes n = cc owes
+a_fault_only : (late empty overdue : Bool) (x y z : RedisError) (end : Option End) (o : Outcome)
+    → (if late then Some (outcome.Fault x) else if empty then Some (outcome.Fault y) else if overdue then Some (outcome.Fault z) else owed_unstarted end) ≡ Some o → is_no_error (o ∷ []) ≡ true → ⊥
+a_fault_only late empty overdue x y z end (outcome.Fault e) owes n = cc n
+a_fault_only true empty overdue x y z end (outcome.One v) owes n = cc owes
+a_fault_only true empty overdue x y z end (outcome.Many vs) owes n = cc owes
+a_fault_only false true overdue x y z end (outcome.One v) owes n = cc owes
+a_fault_only false true overdue x y z end (outcome.Many vs) owes n = cc owes
+a_fault_only false false true x y z end (outcome.One v) owes n = cc owes
+a_fault_only false false true x y z end (outcome.Many vs) owes n = cc owes
+a_fault_only false false false x y z None (outcome.One v) owes n = cc owes
+a_fault_only false false false x y z None (outcome.Many vs) owes n = cc owes
+a_fault_only false false false x y z (Some end) (outcome.One v) owes n = cc owes
+a_fault_only false false false x y z (Some end) (outcome.Many vs) owes n = cc owes
 
 -- so what it is owed is an error
 pub unstarted_gets_a_fault : (b : Book) (n : ℕ) (o : Outcome) → (b.story n).tries ≡ [] → owed b n ≡ Some o → is_no_error (o ∷ []) ≡ true → ⊥
 unstarted_gets_a_fault b n o none owes =
-    a_fault_only (b.story n).late (length (bytes_of (b.story n)) == 0) error.Closed error.EmptyCommand (b.link (b.story n).link).end o
-    (subst (λ (ts : List Try). (if (b.story n).late then Some (outcome.Fault error.Closed) else if length (bytes_of (b.story n)) == 0 then Some (outcome.Fault error.EmptyCommand) else owed_to_try b (b.story n) (last_of ts)) ≡ Some o) none owes)
+    a_fault_only (b.story n).late (length (bytes_of (b.story n)) == 0) (b.story n).overdue error.Closed error.EmptyCommand (error.Io kind.TimedOut) (b.link (b.story n).link).end o
+    (subst (λ (ts : List Try). (if (b.story n).late then Some (outcome.Fault error.Closed) else if length (bytes_of (b.story n)) == 0 then Some (outcome.Fault error.EmptyCommand)
+    else if (b.story n).overdue then Some (outcome.Fault (error.Io kind.TimedOut)) else owed_to_try b (b.story n) (last_of ts)) ≡ Some o) none owes)
 
 -- it has one outcome at most, and bytes where that is no error and it has not started
 pub record IsAnsweredOnce (outcomes : List Outcome) (tries : List Try) (bytes : List ℕ) : Type 0 where
@@ -74,13 +80,14 @@ outcome_once b n o (inr told) = first_outcome b n o told.asked (λ t e. has_byte
 -- events answer none
 event_once : (b : Book) (n : ℕ) (kind : EventKind) → HasStories b → AnsweredOnce (b.story n) → AnsweredOnce (after_event b n kind)
 event_once b n (event.Submit what) blank h =
-    chosen AnsweredOnce (b.submissions == n) (handed_in (b.story n) what b.shut (current b)) (b.story n)
+    chosen AnsweredOnce (b.submissions == n) (handed_in (b.story n) what b.shut (current b) b.timeout) (b.story n)
     (λ t. let e : b.submissions ≡ n = eq_from b.submissions n t in unanswered (b.story n).outcomes (b.story n).tries (packed_bytes what) (ap (λ (s : Story). s.outcomes) (blank n (omega arith))))
     (λ f. h)
-event_once b n (event.Cancel m) blank h = chosen AnsweredOnce (m == n) (left (b.story n)) (b.story n) (λ t. chosen AnsweredOnce (is_open (b.story n)) (record (b.story n) { cancelled = true; waiting = None }) (b.story n) (λ o. h) (λ o. h)) (λ f. h)
+event_once b n (event.Cancel m) blank h = chosen AnsweredOnce (m == n) (left (b.story n)) (b.story n) (λ t. chosen AnsweredOnce (is_open (b.story n)) (record (b.story n) { cancelled = true; permits = 0; waiting = None }) (b.story n) (λ o. h) (λ o. h)) (λ f. h)
 event_once b n (event.Connected l) blank h = h
 event_once b n (event.Refused l f) blank h = h
-event_once b n (event.Fired t) blank h = h
+event_once b n (event.Fired t) blank h = chosen AnsweredOnce (is_clock_of n (slice_get b.timers t)) (fires (b.story n)) (b.story n) (λ e. chosen AnsweredOnce (is_open (b.story n)) (record (b.story n) { overdue = true }) (b.story n) (λ o. h) (λ o. h)) (λ f. h)
+event_once b n (event.Timeout ms) blank h = h
 event_once b n (event.Wrote l count) blank h = h
 event_once b n (event.Bytes l piece) blank h = h
 event_once b n (event.Ended l) blank h = h
@@ -97,7 +104,8 @@ pub once_kept : (b : Book) (a : Action) → MayStand b a → HasStories b → (n
 once_kept b (action.Turn k (cause.Opening config word)) may blank n h = h
 once_kept b (action.Turn k (cause.Event e)) may blank n h = event_once b n e.kind blank h
 once_kept b (action.Connect l host port) may blank n h = h
-once_kept b (action.Timer t ms what) may blank n h = h
+once_kept b (action.Timer t ms what) may blank n h = chosen AnsweredOnce (is_clock_of n (Some what)) (clocked (b.story n) t) (b.story n) (λ e. h) (λ f. h)
+once_kept b (action.Took (owner.Try m round) l count) may blank n h = chosen AnsweredOnce (m == n) (holds (b.story n) count) (b.story n) (λ t. h) (λ f. h)
 once_kept b (action.Close l) may blank n h = h
 once_kept b (action.Write l bytes) may blank n h = h
 once_kept b (action.Wait (owner.Try m round) kind) may blank n h = chosen AnsweredOnce (m == n) (waits (b.story n) kind) (b.story n) (λ t. h) (λ f. h)
@@ -132,11 +140,12 @@ starts_next b l k n count len round next t e =
 
 -- events start none
 event_tries : (b : Book) (n : ℕ) (kind : EventKind) (link : ℕ → Ledger) → TriesAreStarted link (b.story n) → TriesAreStarted link (after_event b n kind)
-event_tries b n (event.Submit what) link h = chosen (TriesAreStarted link) (b.submissions == n) (handed_in (b.story n) what b.shut (current b)) (b.story n) (λ t. h) (λ f. h)
-event_tries b n (event.Cancel m) link h = chosen (TriesAreStarted link) (m == n) (left (b.story n)) (b.story n) (λ t. chosen (TriesAreStarted link) (is_open (b.story n)) (record (b.story n) { cancelled = true; waiting = None }) (b.story n) (λ o. h) (λ o. h)) (λ f. h)
+event_tries b n (event.Submit what) link h = chosen (TriesAreStarted link) (b.submissions == n) (handed_in (b.story n) what b.shut (current b) b.timeout) (b.story n) (λ t. h) (λ f. h)
+event_tries b n (event.Cancel m) link h = chosen (TriesAreStarted link) (m == n) (left (b.story n)) (b.story n) (λ t. chosen (TriesAreStarted link) (is_open (b.story n)) (record (b.story n) { cancelled = true; permits = 0; waiting = None }) (b.story n) (λ o. h) (λ o. h)) (λ f. h)
 event_tries b n (event.Connected l) link h = h
 event_tries b n (event.Refused l f) link h = h
-event_tries b n (event.Fired t) link h = h
+event_tries b n (event.Fired t) link h = chosen (TriesAreStarted link) (is_clock_of n (slice_get b.timers t)) (fires (b.story n)) (b.story n) (λ e. chosen (TriesAreStarted link) (is_open (b.story n)) (record (b.story n) { overdue = true }) (b.story n) (λ o. h) (λ o. h)) (λ f. h)
+event_tries b n (event.Timeout ms) link h = h
 event_tries b n (event.Wrote l count) link h = h
 event_tries b n (event.Bytes l piece) link h = h
 event_tries b n (event.Ended l) link h = h
@@ -149,7 +158,8 @@ tries_kept : (b : Book) (a : Action) → MayStand b a → (n : ℕ) → TriesAre
 tries_kept b (action.Turn k (cause.Opening config word)) may n h = h
 tries_kept b (action.Turn k (cause.Event e)) may n h = event_tries b n e.kind (entered b (action.Turn k (cause.Event e))).link h
 tries_kept b (action.Connect l host port) may n h = h
-tries_kept b (action.Timer t ms what) may n h = h
+tries_kept b (action.Timer t ms what) may n h = chosen (TriesAreStarted (entered b (action.Timer t ms what)).link) (is_clock_of n (Some what)) (clocked (b.story n) t) (b.story n) (λ e. h) (λ f. h)
+tries_kept b (action.Took (owner.Try m round) l count) may n h = chosen (TriesAreStarted (entered b (action.Took (owner.Try m round) l count)).link) (m == n) (holds (b.story n) count) (b.story n) (λ t. h) (λ f. h)
 tries_kept b (action.Close l) may n h = h
 tries_kept b (action.Write l bytes) may n h = h
 tries_kept b (action.Wait (owner.Try m round) kind) may n h = chosen (TriesAreStarted (entered b (action.Wait (owner.Try m round) kind)).link) (m == n) (waits (b.story n) kind) (b.story n) (λ t. h) (λ f. h)

@@ -8,6 +8,7 @@ use Rattle.legal_trace.specs.Legal.{Legal}
 use Rattle.legal_laws.specs.Links.{lines_for, TakesInOrder}
 use Rattle.legal_laws.specs.Segments.{AreInOrder}
 use Rattle.legal_laws.specs.Starts.{StaysWithin}
+use Rattle.legal_laws.specs.Permits.{KeepsPermits, AsksTimers}
 
 -- it is so of each legal trace
 abbrev pub OfEachLegal : (List Action → Type 0) → Type 0
@@ -35,3 +36,15 @@ abbrev pub EachStaysWithin : Type 0
 EachStaysWithin =
     (config : Config) (word : ℕ) (events : List Event) (trace : List Action) → Legal config word events trace
     → StaysWithin config trace
+
+-- each legal trace keeps to the permits of its configuration
+abbrev pub EachKeepsPermits : Type 0
+EachKeepsPermits =
+    (config : Config) (word : ℕ) (events : List Event) (trace : List Action) → Legal config word events trace
+    → KeepsPermits config trace
+
+-- and asks for the timers of its submissions as it may
+abbrev pub EachAsksTimers : Type 0
+EachAsksTimers =
+    (config : Config) (word : ℕ) (events : List Event) (trace : List Action) → Legal config word events trace
+    → AsksTimers config trace

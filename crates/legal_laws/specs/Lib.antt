@@ -4,4 +4,5 @@ pub mod Next
 pub mod Segments
 pub mod Creation
 pub mod Starts
+pub mod Permits
 pub mod Laws

@@ -22,7 +22,7 @@ IsStart l n _ = ⊥
 
 -- submission n has a place: fewer stand in line before it than the queue of its link holds
 abbrev pub HasPlace : Config → Book → ℕ → Type 0
-HasPlace config b n = line_before b.story (b.story n).link n < buffer_size config
+HasPlace config b n = line_before config.limit b.story (b.story n).link n < buffer_size config
 
 -- where a message starts, no bytes of its link were unwritten, or fewer than the boundary
 abbrev pub StartsWithin : Config → List Action → Type 0

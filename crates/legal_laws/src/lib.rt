@@ -10,7 +10,8 @@ ghost use Rattle.legal_laws.specs.Next.{OneIsNextBehind};
 ghost use Rattle.legal_laws.specs.Creation.{TellsOfOpening};
 ghost use Rattle.legal_laws.specs.Starts.{StartsRise, LeftStartNoMore};
 ghost use Rattle.legal_laws.specs.Laws.{OfEachLegal, LinksTakeInOrder, OneIsLegal, TurnsAreInOrder};
-ghost use Rattle.legal_laws.specs.Laws.{EachStaysWithin};
+ghost use Rattle.legal_laws.specs.Permits.{TimedOutStartNoMore, FiredStartNoMore};
+ghost use Rattle.legal_laws.specs.Laws.{EachStaysWithin, EachKeepsPermits, EachAsksTimers};
 
 /// Does nothing. Its contract: what a legal trace tells of each link is legal by itself. What the
 /// book of any trace has of a link is what these lines come to.
@@ -77,7 +78,24 @@ pub fn starts_follow_the_submissions()
 {}
 
 /// Does nothing. Its contract: in a legal trace no message of a submission starts behind an outcome
-/// of it that is an error, nor once its caller went while it was open.
+/// of it that is an error, among them the one that its time is over, nor once its caller went, or
+/// its timer fired, while it was open.
 pub fn whoever_left_never_starts()
-    ensures { OfEachLegal LeftStartNoMore }
+    ensures left { OfEachLegal LeftStartNoMore }
+    ensures timed_out { OfEachLegal TimedOutStartNoMore }
+    ensures fired { OfEachLegal FiredStartNoMore }
+{}
+
+/// Does nothing. Its contract: behind each front of a legal trace all submissions together hold no
+/// more permits of a link than the configuration has; and where it doesn't count them, none is
+/// taken.
+pub fn permits_never_exceed_the_limit()
+    ensures { EachKeepsPermits }
+{}
+
+/// Does nothing. Its contract: in a legal trace the timer of a submission is asked for once at
+/// most, with the milliseconds that were in force where it was handed in, and once it holds its
+/// permits, where they are counted.
+pub fn a_timer_is_asked_once()
+    ensures { EachAsksTimers }
 {}

@@ -1,3 +1,4 @@
 pub mod Plain
 pub mod Ledgers
 pub mod Books
+pub mod Moves

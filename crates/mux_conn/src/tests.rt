@@ -749,7 +749,8 @@ fn a_time_is_over_before_a_message_starts(rt: HostRuntime) -> Result<(), AllocEr
         Call::TimeOut(3),
         Call::Took(2),
     ];
-    let wanted = "created; 7 takes 1; 7 within 5; start 0 of 7, 2; 8 takes 1; 8 within 5; 9 takes 1; \
+    let wanted =
+        "created; 7 takes 1; 7 within 5; start 0 of 7, 2; 8 takes 1; 8 within 5; 9 takes 1; \
 9 within 5; write aa; 8 waits for room; 9 waits for a place; 6 waits for a permit; 9 timed-out; \
 6 takes 1; 6 within 5; 6 waits for a place; 8 timed-out; 6 waits for room; 6 timed-out; ";
     let conn = MultiplexedConnection::new(alloc, 1, 0, Some(3));

@@ -4,7 +4,7 @@ use Rattle.std.specs.Option.{option_to_list}
 use Rattle.std.specs.List.{list_all, list_any}
 use Rattle.driver_model.specs.declared.config.Config.{Config}
 use Rattle.script_text.specs.Words.{LineWords, cut_at}
-use Rattle.script_text.specs.Numbers.{number, max_u64}
+use Rattle.script_text.specs.Numbers.{number, max_u32, max_u64, time_limit}
 use Rattle.script_text.specs.EventLine.{Forms, by_first, whole}
 
 -- the key is one of these
@@ -41,25 +41,54 @@ gives words key value = is_value (only (values key words)) value
 
 -- the keys of one connection
 abbrev pub keys : List (List ℕ)
-keys = codes "url" ∷ codes "connect" ∷ codes "response" ∷ codes "lib" ∷ []
+keys = codes "url" ∷ codes "connect" ∷ codes "response" ∷ codes "buffer" ∷ codes "limit" ∷ codes "boundary" ∷ codes "lib" ∷ []
 
--- how long the connect may take: so many milliseconds, or `none` for any number
-abbrev pub time_limit : List ℕ → Option (Option ℕ)
-time_limit value = if bytes_eq value (codes "none") then Some None else option_map Some (number max_u64 value)
+-- these values of a key are none, or one alone that can be read
+abbrev pub allows : {A : Type 0} → (List ℕ → Option A) → List (List ℕ) → Bool
+allows read [] = true
+allows read (value ∷ []) = is_some (read value)
+allows read _ = false
 
--- these values of a key are none, or one alone that is such a time
-abbrev pub allows_connect : List (List ℕ) → Bool
-allows_connect [] = true
-allows_connect (value ∷ []) = is_some (time_limit value)
-allows_connect _ = false
+-- what the one of them is read as, if there is one
+abbrev pub given : {A : Type 0} → (List ℕ → Option A) → List (List ℕ) → Option A
+given read values = option_and_then read (only values)
 
--- one connection: each key once at most, in any order, and all but `connect` there. What `url` says is any text, and
--- `response` and `lib` have the only value that there is
+-- what is given of the times can be read
+abbrev pub allows_times : List (List ℕ) → Bool
+allows_times words = allows time_limit (values (codes "connect") words) && allows time_limit (values (codes "response") words)
+
+-- what is given of the queue can be read
+abbrev pub allows_queue : List (List ℕ) → Bool
+allows_queue words = allows (number max_u32) (values (codes "buffer") words) && allows (number max_u64) (values (codes "boundary") words)
+
+-- what is given of the number of permits and of the queue can be read
+abbrev pub allows_numbers : List (List ℕ) → Bool
+allows_numbers words = allows (number max_u32) (values (codes "limit") words) && allows_queue words
+
+-- the settings that may be left out are, or can be read
+abbrev pub allows_optional : List (List ℕ) → Bool
+allows_optional words = allows_times words && allows_numbers words
+
+-- all settings but the URL are allowed: `lib` has the only value that there is
+abbrev pub are_allowed : List (List ℕ) → Bool
+are_allowed words = allows_optional words && gives words (codes "lib") (codes "off")
+
+-- the configuration with this URL, and with what words give it beside that
+abbrev pub config_with : List (List ℕ) → List ℕ → Config
+config_with words url = record {
+  url = url;
+  connect = given time_limit (values (codes "connect") words);
+  response = given time_limit (values (codes "response") words);
+  limit = given (number max_u32) (values (codes "limit") words);
+  buffer = given (number max_u32) (values (codes "buffer") words);
+  boundary = given (number max_u64) (values (codes "boundary") words);
+}
+
+-- one connection: each key once at most, in any order, and `url` and `lib` there. What `url` says is any text
 abbrev pub single : List (List ℕ) → Option Config
 single words =
-    let connect = values (codes "connect") words in
-    if list_all (is_setting keys) words && allows_connect connect && gives words (codes "response") (codes "none") && gives words (codes "lib") (codes "off")
-    then option_map (λ url. record { url = url; connect = option_and_then time_limit (only connect) }) (only (values (codes "url") words)) else None
+    if list_all (is_setting keys) words && are_allowed words
+    then option_map (config_with words) (only (values (codes "url") words)) else None
 
 -- the kinds of sessions
 abbrev pub kinds : Forms Config

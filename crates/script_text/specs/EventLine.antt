@@ -2,13 +2,13 @@
 use Rattle.std.specs.Prelude.{ℕ, List, [], ◌∷◌, Option, Some, None, option_map, option_and_then, bytes_eq, codes, if◌then◌else◌}
 use Rattle.driver_model.specs.declared.event.Event.{Event}
 use Rattle.driver_model.specs.declared.event.EventKind.{EventKind}
-use Rattle.driver_model.specs.declared.event.EventKind.TheVariants.{Submit, Cancel, Connected, Refused, Wrote, Bytes, Ended, ReadFault, WriteFault, Fired, Shutdown}
+use Rattle.driver_model.specs.declared.event.EventKind.TheVariants.{Submit, Cancel, Connected, Refused, Wrote, Bytes, Ended, ReadFault, WriteFault, Fired, Timeout, Shutdown}
 use Rattle.driver_model.specs.declared.event.Submission.{Submission}
 use Rattle.driver_model.specs.declared.event.Submission.TheVariants.{Cmd, NoReply, Pipe, Multi, Packed}
 use Rattle.redis_error.specs.declared.fault_kind.FaultKind.{FaultKind}
 use Rattle.redis_error.specs.declared.fault_kind.FaultKind.TheVariants as fault
 use Rattle.redis_error.specs.Names.{fault_name}
-use Rattle.script_text.specs.Numbers.{number, max_u32, max_u64}
+use Rattle.script_text.specs.Numbers.{number, max_u32, max_u64, time_limit}
 use Rattle.script_text.specs.Words.{LineWords}
 
 -- first words, each with how the words behind it are read, and those behind separators
@@ -40,6 +40,11 @@ wrote _ = None
 abbrev pub came : List (List ℕ) → Option EventKind
 came (link ∷ piece ∷ []) = option_map (λ l. Bytes l piece) (number max_u32 link)
 came _ = None
+
+-- a time
+abbrev pub timed : List (List ℕ) → Option EventKind
+timed (value ∷ []) = option_map Timeout (time_limit value)
+timed _ = None
 
 -- no more words
 abbrev pub alone : {A : Type 0} → A → List (List ℕ) → Option A
@@ -92,6 +97,7 @@ others =
     ∷ (codes "read-fault", whole (failed ReadFault))
     ∷ (codes "write-fault", whole (failed WriteFault))
     ∷ (codes "fired", whole (numbered Fired))
+    ∷ (codes "timeout", whole timed)
     ∷ (codes "shutdown", whole (alone Shutdown))
     ∷ []
 

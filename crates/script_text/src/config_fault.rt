@@ -1,11 +1,15 @@
 ghost use Rattle.std.specs.Prelude.{◌≡◌, not, is_some, is_none, codes};
 ghost use Rattle.std.specs.List.{list_all};
 ghost use Rattle.script_text.specs.ConfigLine.{keys, is_setting, values, only, gives};
-ghost use Rattle.script_text.specs.ConfigLine.{allows_connect, single, config_of};
+ghost use Rattle.script_text.specs.ConfigLine.{allows, allows_times, allows_queue};
+ghost use Rattle.script_text.specs.ConfigLine.{allows_numbers, allows_optional, are_allowed};
+ghost use Rattle.script_text.specs.ConfigLine.{single, config_of};
 ghost use Rattle.script_text.specs.Faults.{FindsFault, values_reason};
+ghost use Rattle.script_text.specs.Numbers.{number, max_u32, max_u64, time_limit};
 
 use crate::config_line::{
-    allows_connect, gives_only, has_value, is_known_setting, only_value, value,
+    allows_large_number, allows_number, allows_time, gives_only, has_value, is_known_setting,
+    only_value, value,
 };
 use crate::fault::Fault;
 use crate::line::Line;
@@ -80,15 +84,87 @@ fn only_fault(words: &[Bytes], key: &[u8], value: &[u8], reason: ConfigReason) -
     Some(values_fault(words, key, Reason::Config(reason)))
 }
 
-/// What is wrong with how long the connect may take.
-fn connect_fault(words: &[Bytes]) -> Option<Fault>
-    ensures { is_some result ≡ not (allows_connect (values (codes "connect") words.now)) }
+/// What is wrong with the time of a key.
+fn time_fault(words: &[Bytes], key: &[u8], reason: ConfigReason) -> Option<Fault>
+    ensures { is_some result ≡ not (allows time_limit (values key.now words.now)) }
 {
-    if allows_connect(words) {
+    if allows_time(words, key) {
         return None;
     }
-    let wrong = Reason::Config(ConfigReason::Connect);
-    Some(values_fault(words, b"connect", wrong))
+    Some(values_fault(words, key, Reason::Config(reason)))
+}
+
+/// What is wrong with the number of 32 bits of a key.
+fn number_fault(words: &[Bytes], key: &[u8], reason: ConfigReason) -> Option<Fault>
+    ensures { is_some result ≡ not (allows (number max_u32) (values key.now words.now)) }
+{
+    if allows_number(words, key) {
+        return None;
+    }
+    Some(values_fault(words, key, Reason::Config(reason)))
+}
+
+/// What is wrong with the boundary.
+fn boundary_fault(words: &[Bytes]) -> Option<Fault>
+    ensures { is_some result ≡ not (allows (number max_u64) (values (codes "boundary") words.now)) }
+{
+    if allows_large_number(words, b"boundary") {
+        return None;
+    }
+    let wrong = Reason::Config(ConfigReason::Boundary);
+    Some(values_fault(words, b"boundary", wrong))
+}
+
+/// What is wrong with what is given of the times.
+fn times_fault(words: &[Bytes]) -> Option<Fault>
+    ensures { is_some result ≡ not (allows_times words.now) }
+{
+    if let Some(fault) = time_fault(words, b"connect", ConfigReason::Connect) {
+        return Some(fault);
+    }
+    time_fault(words, b"response", ConfigReason::Response)
+}
+
+/// What is wrong with what is given of the queue.
+fn queue_fault(words: &[Bytes]) -> Option<Fault>
+    ensures { is_some result ≡ not (allows_queue words.now) }
+{
+    if let Some(fault) = number_fault(words, b"buffer", ConfigReason::Buffer) {
+        return Some(fault);
+    }
+    boundary_fault(words)
+}
+
+/// What is wrong with how many permits there are, or with what is given of the queue.
+fn numbers_fault(words: &[Bytes]) -> Option<Fault>
+    ensures { is_some result ≡ not (allows_numbers words.now) }
+{
+    if let Some(fault) = number_fault(words, b"limit", ConfigReason::Limit) {
+        return Some(fault);
+    }
+    queue_fault(words)
+}
+
+/// What is wrong with a setting that may be left out.
+#[tactic(auto, using(crate::proofs::Values::first_fails, crate::proofs::Values::second_tells))]
+fn optional_fault(words: &[Bytes]) -> Option<Fault>
+    ensures { is_some result ≡ not (allows_optional words.now) }
+{
+    if let Some(fault) = times_fault(words) {
+        return Some(fault);
+    }
+    numbers_fault(words)
+}
+
+/// What is wrong with a setting other than the URL.
+#[tactic(auto, using(crate::proofs::Values::first_fails, crate::proofs::Values::second_tells))]
+fn allowed_fault(words: &[Bytes]) -> Option<Fault>
+    ensures { is_some result ≡ not (are_allowed words.now) }
+{
+    if let Some(fault) = optional_fault(words) {
+        return Some(fault);
+    }
+    only_fault(words, b"lib", b"off", ConfigReason::OnlyOff)
 }
 
 /// What is wrong with the URL: that it doesn't stand just once. Whether it is an address is no matter of the script.
@@ -103,20 +179,14 @@ fn url_fault(words: &[Bytes]) -> Option<Fault>
 }
 
 /// What is wrong with the settings of one connection.
-#[tactic(auto, using(crate::proofs::Values::none_mapped))]
+#[tactic(auto, using(crate::proofs::Values::none_mapped, crate::proofs::Values::none_allowed))]
 fn single_fault(words: &[Bytes]) -> Option<Fault>
     ensures { FindsFault result (single words.now) }
 {
     if let Some(fault) = setting_fault(words) {
         return Some(fault);
     }
-    if let Some(fault) = connect_fault(words) {
-        return Some(fault);
-    }
-    if let Some(fault) = only_fault(words, b"response", b"none", ConfigReason::OnlyNone) {
-        return Some(fault);
-    }
-    if let Some(fault) = only_fault(words, b"lib", b"off", ConfigReason::OnlyOff) {
+    if let Some(fault) = allowed_fault(words) {
         return Some(fault);
     }
     url_fault(words)

@@ -1,11 +1,14 @@
 ghost use Rattle.std.specs.Prelude.{◌≡◌, ◌==◌, not, length, MatchOption, Some, None, IfOk};
-ghost use Rattle.std.specs.Prelude.{option_and_then, codes};
+ghost use Rattle.std.specs.Prelude.{codes};
 ghost use Rattle.std.specs.List.{list_all};
 ghost use Rattle.script_text.specs.ConfigLine.{keys, is_setting, value_of, values, only, gives};
-ghost use Rattle.script_text.specs.ConfigLine.{time_limit, allows_connect, single, config_of};
+ghost use Rattle.script_text.specs.ConfigLine.{allows, given, allows_times, allows_queue};
+ghost use Rattle.script_text.specs.ConfigLine.{allows_numbers, allows_optional, are_allowed};
+ghost use Rattle.script_text.specs.ConfigLine.{config_with, single, config_of};
+ghost use Rattle.script_text.specs.Numbers.{number, max_u32, max_u64, time_limit};
 
 use crate::line::Line;
-use crate::number::number_u64;
+use crate::number::{number_u32, number_u64, time_limit};
 use crate::words::cut;
 use containers::Bytes;
 use driver_model::Config;
@@ -20,6 +23,9 @@ pub fn is_known_setting(word: &[u8]) -> bool
         Some((key, _)) => key == b"url".as_slice()
             || key == b"connect".as_slice()
             || key == b"response".as_slice()
+            || key == b"buffer".as_slice()
+            || key == b"limit".as_slice()
+            || key == b"boundary".as_slice()
             || key == b"lib".as_slice(),
     }
 }
@@ -85,33 +91,106 @@ pub fn has_value(words: &[Bytes], key: &[u8]) -> bool
     false
 }
 
-/// How long a connect may take: so many milliseconds, or `Some(None)`, any number.
-fn time_limit(value: &[u8]) -> Option<Option<u64>>
-    ensures { result ≡ time_limit value.now }
+/// The time that words give the key, where they give it just one value.
+fn time_of(words: &[Bytes], key: &[u8]) -> Option<Option<u64>>
+    ensures { result ≡ given time_limit (values key.now words.now) }
 {
-    if value == b"none".as_slice() {
-        return Some(None);
-    }
-    let ms = number_u64(value)?;
-    Some(Some(ms))
+    time_limit(only_value(words, key)?)
 }
 
-/// How long the connect may take, where words give just one value for it.
-fn connect_limit(words: &[Bytes]) -> Option<Option<u64>>
-    ensures { result
-        ≡ option_and_then time_limit (only (values (codes "connect") words.now)) }
+/// The number of 32 bits that words give the key, where they give it just one value.
+fn number_of(words: &[Bytes], key: &[u8]) -> Option<u32>
+    ensures { result ≡ given (number max_u32) (values key.now words.now) }
 {
-    time_limit(only_value(words, b"connect")?)
+    number_u32(only_value(words, key)?)
 }
 
-/// Whether words leave the time of the connect open, or give it once.
+/// The number of 64 bits that words give the key, where they give it just one value.
+fn large_number_of(words: &[Bytes], key: &[u8]) -> Option<u64>
+    ensures { result ≡ given (number max_u64) (values key.now words.now) }
+{
+    number_u64(only_value(words, key)?)
+}
+
+/// Whether words leave the time of the key open, or give it once.
 #[tactic(auto, using(crate::proofs::Values::allowed_once, crate::proofs::Values::allowed_never))]
-pub fn allows_connect(words: &[Bytes]) -> bool
-    ensures { result ≡ allows_connect (values (codes "connect") words.now) }
+pub fn allows_time(words: &[Bytes], key: &[u8]) -> bool
+    ensures { result ≡ allows time_limit (values key.now words.now) }
 {
-    match only_value(words, b"connect") {
+    match only_value(words, key) {
         Some(value) => time_limit(value).is_some(),
-        None => !has_value(words, b"connect"),
+        None => !has_value(words, key),
+    }
+}
+
+/// Whether words leave the number of 32 bits of the key open, or give it once.
+#[tactic(auto, using(crate::proofs::Values::allowed_once, crate::proofs::Values::allowed_never))]
+pub fn allows_number(words: &[Bytes], key: &[u8]) -> bool
+    ensures { result ≡ allows (number max_u32) (values key.now words.now) }
+{
+    match only_value(words, key) {
+        Some(value) => number_u32(value).is_some(),
+        None => !has_value(words, key),
+    }
+}
+
+/// Whether words leave the number of 64 bits of the key open, or give it once.
+#[tactic(auto, using(crate::proofs::Values::allowed_once, crate::proofs::Values::allowed_never))]
+pub fn allows_large_number(words: &[Bytes], key: &[u8]) -> bool
+    ensures { result ≡ allows (number max_u64) (values key.now words.now) }
+{
+    match only_value(words, key) {
+        Some(value) => number_u64(value).is_some(),
+        None => !has_value(words, key),
+    }
+}
+
+/// Whether words leave the times open, or give each once.
+fn allows_times(words: &[Bytes]) -> bool
+    ensures { result ≡ allows_times words.now }
+{
+    allows_time(words, b"connect") && allows_time(words, b"response")
+}
+
+/// Whether words leave open what there is of the queue, or give it once.
+fn allows_queue(words: &[Bytes]) -> bool
+    ensures { result ≡ allows_queue words.now }
+{
+    allows_number(words, b"buffer") && allows_large_number(words, b"boundary")
+}
+
+/// Whether words leave open how many permits there are and what there is of the queue, or give it once.
+fn allows_numbers(words: &[Bytes]) -> bool
+    ensures { result ≡ allows_numbers words.now }
+{
+    allows_number(words, b"limit") && allows_queue(words)
+}
+
+/// Whether words leave open the settings that may be left out, or give each once.
+fn allows_optional(words: &[Bytes]) -> bool
+    ensures { result ≡ allows_optional words.now }
+{
+    allows_times(words) && allows_numbers(words)
+}
+
+/// Whether all settings but the URL are allowed.
+fn are_allowed(words: &[Bytes]) -> bool
+    ensures { result ≡ are_allowed words.now }
+{
+    allows_optional(words) && gives_only(words, b"lib", b"off")
+}
+
+/// The configuration with this URL, and with what words give it beside that.
+fn config_with(words: &[Bytes], url: Bytes) -> Config
+    ensures { result ≡ config_with words.now url }
+{
+    Config {
+        url,
+        connect: time_of(words, b"connect"),
+        response: time_of(words, b"response"),
+        limit: number_of(words, b"limit"),
+        buffer: number_of(words, b"buffer"),
+        boundary: large_number_of(words, b"boundary"),
     }
 }
 
@@ -119,19 +198,14 @@ pub fn allows_connect(words: &[Bytes]) -> bool
 fn read_single(alloc: Global, words: &[Bytes]) -> Result<Option<Config>, AllocError>
     ensures { IfOk result (λ c. c ≡ single words.now) }
 {
-    if !are_settings(words)
-        || !allows_connect(words)
-        || !gives_only(words, b"response", b"none")
-        || !gives_only(words, b"lib", b"off")
-    {
+    if !are_settings(words) || !are_allowed(words) {
         return Ok(None);
     }
     let Some(url) = only_value(words, b"url") else {
         return Ok(None);
     };
     let url = Bytes::from_slice(alloc, url)?;
-    let connect = connect_limit(words);
-    Ok(Some(Config { url, connect }))
+    Ok(Some(config_with(words, url)))
 }
 
 /// The configuration that the words of a line are.

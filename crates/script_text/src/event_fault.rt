@@ -2,7 +2,7 @@ ghost use Rattle.std.specs.Prelude.{◌≡◌, ◌≤◌, ◌∷◌, [], ℕ, Li
 ghost use Rattle.std.specs.Prelude.{MatchOption, MatchResult, Some, None};
 ghost use Rattle.driver_model.specs.declared.event.EventKind.{EventKind};
 ghost use Rattle.redis_error.specs.declared.fault_kind.FaultKind.{FaultKind};
-ghost use Rattle.script_text.specs.EventLine.{by_first, numbered, wrote, came, failed, alone};
+ghost use Rattle.script_text.specs.EventLine.{by_first, numbered, wrote, came, failed, timed, alone};
 ghost use Rattle.script_text.specs.EventLine.{faults, fault_among, packed, submissions, others};
 ghost use Rattle.script_text.specs.EventLine.{events, event_of};
 ghost use Rattle.script_text.specs.Faults.{FindsFault, at};
@@ -10,6 +10,7 @@ ghost use Rattle.script_text.specs.Faults.{FindsFault, at};
 use crate::event_line::fault;
 use crate::fault::{Fault, large_number_at, number_at};
 use crate::line::Line;
+use crate::number::time_limit;
 use crate::reason::{EventReason, Form, LineReason, Reason};
 use containers::{Bytes, Names};
 use redis_error::FaultKind;
@@ -81,6 +82,22 @@ fn failed_fault(words: &[Bytes], form: Form) -> Option<Fault>
         Ok(_) => kind_at(kind.as_slice(), 2).err(),
         Err(fault) => Some(fault),
     }
+}
+
+/// What is wrong with the one time of an event.
+fn timeout_fault(words: &[Bytes]) -> Option<Fault>
+    ensures { FindsFault result (timed words.now) }
+{
+    let [value] = words else {
+        return form_fault(Form::Timeout, 2);
+    };
+    if time_limit(value.as_slice()).is_some() {
+        return None;
+    }
+    Some(Fault {
+        reason: Reason::Event(EventReason::Time),
+        part: 1,
+    })
 }
 
 fn shutdown_fault(words: &[Bytes]) -> Option<Fault>
@@ -173,6 +190,9 @@ fn other_fault(name: &[u8], words: &[Bytes]) -> Option<Fault>
     }
     if name == b"fired".as_slice() {
         return numbered_fault(words, Form::Fired);
+    }
+    if name == b"timeout".as_slice() {
+        return timeout_fault(words);
     }
     if name == b"shutdown".as_slice() {
         return shutdown_fault(words);

@@ -6,11 +6,12 @@ ghost use Rattle.driver_model.specs.declared.event.EventKind.{EventKind};
 ghost use Rattle.redis_error.specs.declared.fault_kind.FaultKind.{FaultKind};
 ghost use Rattle.driver_model.specs.declared.event.Submission.TheVariants.{Cmd, NoReply, Packed};
 ghost use Rattle.script_text.specs.EventLine.{by_first, whole, numbered, wrote, came, alone, faults};
+ghost use Rattle.script_text.specs.EventLine.{timed};
 ghost use Rattle.script_text.specs.EventLine.{fault_among, failed, commands, packed, submissions};
 ghost use Rattle.script_text.specs.EventLine.{others, events, event_of};
 
 use crate::line::Line;
-use crate::number::{number_u32, number_u64};
+use crate::number::{number_u32, number_u64, time_limit};
 use containers::{Bytes, Names};
 use driver_model::{Commands, Event, EventKind, Submission};
 use redis_error::FaultKind;
@@ -279,6 +280,16 @@ fn fired(words: &[Bytes]) -> Option<EventKind>
     })
 }
 
+fn timeout(words: &[Bytes]) -> Option<EventKind>
+    ensures { result ≡ timed words.now }
+{
+    let [value] = words else {
+        return None;
+    };
+    let ms = time_limit(value.as_slice())?;
+    Some(EventKind::Timeout { ms })
+}
+
 fn shutdown(words: &[Bytes]) -> Option<EventKind>
     ensures { result ≡ alone Shutdown words.now }
 {
@@ -319,6 +330,9 @@ fn other(name: &[u8], words: Vec<Bytes>) -> Option<EventKind>
     }
     if name == b"fired".as_slice() {
         return fired(words.as_slice());
+    }
+    if name == b"timeout".as_slice() {
+        return timeout(words.as_slice());
     }
     if name == b"shutdown".as_slice() {
         return shutdown(words.as_slice());

@@ -1,6 +1,6 @@
 ghost use Rattle.std.specs.Prelude.{◌≡◌, ◌≤◌, ◌<◌, ◌+◌, ◌*◌, IfSome};
 ghost use Rattle.std.specs.Option.{SomeIff};
-ghost use Rattle.script_text.specs.Numbers.{number, max_u32, max_u64};
+ghost use Rattle.script_text.specs.Numbers.{number, max_u32, max_u64, time_limit};
 
 /// A number with one more digit, if it is one of at most that.
 fn with_digit(n: u64, digit: u64, most: u64) -> Option<u64>
@@ -48,4 +48,15 @@ pub fn number_u64(word: &[u8]) -> Option<u64>
     ensures { result ≡ number max_u64 word.now }
 {
     number_within(word, u64::MAX)
+}
+
+/// How long something may take: so many milliseconds, or `Some(None)`, any number.
+pub fn time_limit(value: &[u8]) -> Option<Option<u64>>
+    ensures { result ≡ time_limit value.now }
+{
+    if value == b"none".as_slice() {
+        return Some(None);
+    }
+    let ms = number_u64(value)?;
+    Some(Some(ms))
 }

@@ -52,8 +52,14 @@ pub enum ConfigReason {
     NoKey,
     /// How long the connect may take: neither a number nor `none`.
     Connect,
-    /// A value other than `none`.
-    OnlyNone,
+    /// Within how long a request is to be answered: neither a number nor `none`.
+    Response,
+    /// The size of the queue: no number of 32 bits.
+    Buffer,
+    /// The number of permits: no number of 32 bits.
+    Limit,
+    /// The boundary: no number of 64 bits.
+    Boundary,
     /// A value other than `off`.
     OnlyOff,
 }
@@ -69,6 +75,8 @@ pub enum EventReason {
     Number,
     /// No number of 64 bits.
     LargeNumber,
+    /// Neither a number of 64 bits nor `none`.
+    Time,
     /// No kind of a fault.
     FaultKind,
 }
@@ -85,6 +93,7 @@ pub enum Form {
     ReadFault,
     WriteFault,
     Fired,
+    Timeout,
     Shutdown,
     Packed,
 }
@@ -136,17 +145,32 @@ impl ConfigReason {
     fn sentence(self) -> &'static [u8] {
         match self {
             ConfigReason::Name => {
-                b"the first line is config single url=URL response=none lib=off, with connect=MS or connect=none where wanted"
+                b"the first line is config single url=URL lib=off, with connect=MS, response=MS (MS or none), buffer=COUNT, limit=COUNT and boundary=BYTES where wanted"
             }
             ConfigReason::Kind => b"only single is supported yet",
-            ConfigReason::Setting => b"a setting is KEY=VALUE, with url, connect, response or lib",
-            ConfigReason::UnknownKey => b"the keys are url, connect, response and lib",
+            ConfigReason::Setting => {
+                b"a setting is KEY=VALUE, with url, connect, response, buffer, limit, boundary or lib"
+            }
+            ConfigReason::UnknownKey => {
+                b"the keys are url, connect, response, buffer, limit, boundary and lib"
+            }
             ConfigReason::KeyTwice => b"each key stands once",
-            ConfigReason::NoKey => b"each of url, response and lib stands once",
+            ConfigReason::NoKey => b"each of url and lib stands once",
             ConfigReason::Connect => {
                 b"connect is a number of milliseconds, at most 18446744073709551615, or none"
             }
-            ConfigReason::OnlyNone => b"only none is supported yet",
+            ConfigReason::Response => {
+                b"response is a number of milliseconds, at most 18446744073709551615, or none"
+            }
+            ConfigReason::Limit => {
+                b"limit is a number of permits, digits alone without a leading zero, at most 4294967295"
+            }
+            ConfigReason::Buffer => {
+                b"buffer is a number of messages, digits alone without a leading zero, at most 4294967295"
+            }
+            ConfigReason::Boundary => {
+                b"boundary is a number of bytes, digits alone without a leading zero, at most 18446744073709551615"
+            }
             ConfigReason::OnlyOff => b"only off is supported yet",
         }
     }
@@ -156,7 +180,7 @@ impl EventReason {
     fn sentence(self) -> &'static [u8] {
         match self {
             EventReason::Name => {
-                b"an event is submit, cancel, connected, refused, wrote, bytes, ended, read-fault, write-fault, fired or shutdown, and the last line is end"
+                b"an event is submit, cancel, connected, refused, wrote, bytes, ended, read-fault, write-fault, fired, timeout or shutdown, and the last line is end"
             }
             EventReason::Submission => b"submit takes cmd, noreply, pipe, multi or packed",
             EventReason::Number => {
@@ -164,6 +188,9 @@ impl EventReason {
             }
             EventReason::LargeNumber => {
                 b"a number has digits alone, no leading zero, and is at most 18446744073709551615"
+            }
+            EventReason::Time => {
+                b"a time is a number of milliseconds, digits alone without a leading zero, at most 18446744073709551615, or none"
             }
             EventReason::FaultKind => {
                 b"a fault is refused, reset, aborted, not-connected, broken-pipe, eof, timed-out, interrupted, denied or other"
@@ -184,6 +211,7 @@ impl Form {
             Form::ReadFault => b"this event is read-fault LINK KIND",
             Form::WriteFault => b"this event is write-fault LINK KIND",
             Form::Fired => b"this event is fired TIMER",
+            Form::Timeout => b"this event is timeout MS or timeout none",
             Form::Shutdown => b"this event is shutdown alone",
             Form::Packed => b"this event is submit packed OFFSET COUNT ARG..",
         }

@@ -105,7 +105,7 @@ const FIRST_LINES: [(&[u8], u32); 28] = [
         b"config single url=redis://h url=redis://h response=none lib=off\nend\n",
         1,
     ),
-    (b"config single url=redis://h response=5 lib=off\nend\n", 1),
+    (b"config single url=redis://h response=5 lib=off\nend\n", 0),
     (
         b"config single url=redis://h response=none lib=on\nend\n",
         1,
@@ -118,6 +118,55 @@ const FIRST_LINES: [(&[u8], u32); 28] = [
     (b"config single url= response=none lib=off\nend\n", 0),
 ];
 
+/// Settings, each line with the line at fault, or 0.
+const QUEUE_LINES: [(&[u8], u32); 27] = [
+    (b"url=a response=none lib=off buffer=1 boundary=0", 0),
+    (
+        b"buffer=0 boundary=18446744073709551615 url=a response=none lib=off",
+        0,
+    ),
+    (b"url=a response=none lib=off buffer=4294967295", 0),
+    (b"url=a response=none lib=off buffer=4294967296", 1),
+    (b"url=a response=none lib=off buffer=01", 1),
+    (b"url=a response=none lib=off buffer=+1", 1),
+    (b"url=a response=none lib=off buffer=none", 1),
+    (b"url=a response=none lib=off buffer=", 1),
+    (b"url=a response=none lib=off buffer=1 buffer=1", 1),
+    (
+        b"url=a response=none lib=off boundary=18446744073709551616",
+        1,
+    ),
+    (b"url=a response=none lib=off boundary=00", 1),
+    (b"url=a response=none lib=off boundary=-1", 1),
+    (b"url=a response=none lib=off boundary=1 boundary=1", 1),
+    (b"url=a response=none lib=off boundary", 1),
+    (b"url=a lib=off buffer=1 boundary=1", 0),
+    (b"url=a buffer=1 boundary=1", 1),
+    (b"url=a lib=off", 0),
+    (b"lib=off url=a limit=4294967295 response=0", 0),
+    (b"limit=0 url=a lib=off", 0),
+    (b"url=a lib=off limit=4294967296", 1),
+    (b"url=a lib=off limit=01", 1),
+    (b"url=a lib=off limit=none", 1),
+    (b"url=a lib=off limit=1 limit=1", 1),
+    (b"url=a lib=off response=18446744073709551615", 0),
+    (b"url=a lib=off response=18446744073709551616", 1),
+    (b"url=a lib=off response=5s", 1),
+    (b"url=a lib=off response=none response=none", 1),
+];
+
+#[test]
+fn queue_settings(rt: HostRuntime) -> Result<(), Fail> {
+    for (settings, line) in QUEUE_LINES {
+        let mut text = Bytes::from_slice(rt.alloc(), b"config single ")?;
+        text.extend_from_slice(settings)?;
+        text.extend_from_slice(b"\nend\n")?;
+        let found = fault(rt.alloc(), text.as_slice())?;
+        assert_eq!(rt; found, line);
+    }
+    Ok(())
+}
+
 #[test]
 fn first_lines(rt: HostRuntime) -> Result<(), Fail> {
     for (text, line) in FIRST_LINES {
@@ -128,7 +177,7 @@ fn first_lines(rt: HostRuntime) -> Result<(), Fail> {
 }
 
 /// Texts behind a configuration, each with its line at fault, or 0.
-const LATER_LINES: [(&[u8], u32); 55] = [
+const LATER_LINES: [(&[u8], u32); 63] = [
     (
         b"connected 0\nsubmit cmd GET a\nwrote 0 20\nbytes 0 +x%0D%0A\nend\n",
         0,
@@ -190,6 +239,14 @@ const LATER_LINES: [(&[u8], u32); 55] = [
     (b"submit cmd a%-\nend\n", 2),
     (b"submit\nend\n", 2),
     (b"submit other GET a\nend\n", 2),
+    (b"timeout 18446744073709551615\ntimeout none\nend\n", 0),
+    (b"timeout 0\nend\n", 0),
+    (b"timeout 18446744073709551616\nend\n", 2),
+    (b"timeout 01\nend\n", 2),
+    (b"timeout\nend\n", 2),
+    (b"timeout 5 5\nend\n", 2),
+    (b"timeout None\nend\n", 2),
+    (b"timeout 5 ; 5\nend\n", 2),
     (b"@0 shutdown\nend\n", 2),
     (b"shutdown 0\nend\n", 2),
     (b"config single\nend\n", 2),
@@ -275,6 +332,66 @@ fn settings_as_given(rt: HostRuntime) -> Result<(), Fail> {
         let config = read_script(rt.alloc(), text.as_slice())?.config;
         assert!(rt; config.url.as_slice() == url);
         assert!(rt; config.connect == connect);
+    }
+    Ok(())
+}
+
+/// Settings, each line with within how long a request is to be answered, and with the number of permits.
+const PERMITS: [(&[u8], Option<Option<u64>>, Option<u32>); 5] = [
+    (b"url=a lib=off connect=7 buffer=3", None, None),
+    (b"lib=off limit=0 url=a", None, Some(0)),
+    (b"response=none url=a lib=off", Some(None), None),
+    (
+        b"url=a limit=4294967295 connect=1 response=0 buffer=5 lib=off",
+        Some(Some(0)),
+        Some(u32::MAX),
+    ),
+    (
+        b"response=18446744073709551615 lib=off limit=2 url=a",
+        Some(Some(u64::MAX)),
+        Some(2),
+    ),
+];
+
+#[test]
+fn permits_as_given(rt: HostRuntime) -> Result<(), Fail> {
+    for (settings, response, limit) in PERMITS {
+        let mut text = Bytes::from_slice(rt.alloc(), b"config single ")?;
+        text.extend_from_slice(settings)?;
+        text.extend_from_slice(b"\nend\n")?;
+        let config = read_script(rt.alloc(), text.as_slice())?.config;
+        assert!(rt; config.response == response);
+        assert!(rt; config.limit == limit);
+    }
+    Ok(())
+}
+
+/// Settings, each line with the size of the queue and with the boundary.
+const QUEUES: [(&[u8], Option<u32>, Option<u64>); 5] = [
+    (b"url=a response=none lib=off", None, None),
+    (b"url=a response=none lib=off buffer=0", Some(0), None),
+    (b"boundary=0 url=a response=none lib=off", None, Some(0)),
+    (
+        b"buffer=4294967295 url=a response=none boundary=18446744073709551615 lib=off",
+        Some(u32::MAX),
+        Some(u64::MAX),
+    ),
+    (
+        b"boundary=30 response=none url=a buffer=7 connect=5 lib=off",
+        Some(7),
+        Some(30),
+    ),
+];
+
+#[test]
+fn queues_as_given(rt: HostRuntime) -> Result<(), Fail> {
+    for (settings, buffer, boundary) in QUEUES {
+        let mut text = Bytes::from_slice(rt.alloc(), b"config single ")?;
+        text.extend_from_slice(settings)?;
+        text.extend_from_slice(b"\nend\n")?;
+        let config = read_script(rt.alloc(), text.as_slice())?.config;
+        assert!(rt; config.buffer == buffer);
+        assert!(rt; config.boundary == boundary);
     }
     Ok(())
 }

@@ -1,14 +1,15 @@
 -- How many stand in line before a submission, and so what its next step is.
 use Rattle.std.proofs.Common.{List, [], ap, arith, false, inl, inr, length, refl, subst, sym, true, zero, suc, ℕ, ◌+◌, ◌++◌, ◌<◌, ◌≤◌, ◌∙◌, ◌∷◌, ◌≡◌, ◌≢◌, ◌⊎◌}
 use Rattle.std.specs.List.{AllByRecursion}
-use Rattle.std.specs.Prelude.{Bool, Option, None, Some, is_some, slice_get, if◌then◌else◌, not, nat_le, nat_lt, ◌==◌, ◌&&◌}
-use Rattle.containers.proofs.Choices.{by_test, both_right, eq_from, eq_test, le_from, le_test, left_if, ne_from, not_le_from, not_le_test, taken_if}
+use Rattle.std.specs.Prelude.{Bool, Option, None, Some, is_none, is_some, slice_get, if◌then◌else◌, min, not, nat_le, nat_lt, ◌==◌, ◌&&◌, ◌||◌}
+use Rattle.containers.proofs.Choices.{by_test, both_left, both_right, lt_from, eq_from, eq_test, le_from, le_test, left_if, ne_from, not_le_from, not_le_test, taken_if}
+use Rattle.driver_model.specs.Shape.{permits_for}
 use Rattle.driver_model.specs.declared.action.WaitKind.TheVariants as wait
 use Rattle.link_core.specs.Link.{LinkState, holds_back, is_full}
 use Rattle.link_core.specs.declared.message.Queued.{Queued}
 use Rattle.link_laws.proofs.TiedLink.{unwritten_is}
-use Rattle.mux_conn.specs.Connection.{is_ready}
-use Rattle.mux_conn.specs.Requests.{if_there, is_open as is_open_progress, is_open_at, is_placed, is_placed_at, name_at}
+use Rattle.mux_conn.specs.Connection.{has_no_permit, is_ready}
+use Rattle.mux_conn.specs.Requests.{if_there, is_admitted, is_admitted_at, is_open as is_open_progress, is_open_at, is_placed, is_placed_at, is_waiting, is_waiting_at, name_at}
 use Rattle.mux_conn.specs.declared.life.Life.{Life}
 use Rattle.mux_conn.specs.declared.life.Life.TheVariants.{Dialing, Ended, Ready}
 use Rattle.mux_conn.specs.declared.request.Pending.{Pending}
@@ -17,16 +18,16 @@ use Rattle.mux_conn.specs.declared.request.Progress.TheVariants as progress
 use Rattle.mux_conn.specs.declared.request.Request.{Request}
 use Rattle.legal_trace.specs.Book.{Book}
 use Rattle.legal_trace.specs.Ledger.{Ledger, dials, is_over}
-use Rattle.legal_trace.specs.Steps.{is_held, is_held_back, is_in_line, is_outside, line_before, next_step, nothing, starts_or_waits, step_up, tells, waits}
-use Rattle.legal_trace.specs.Story.{Story, is_awaited, is_told, is_unstarted}
+use Rattle.legal_trace.specs.Steps.{Step, asks, free_permits, is_held, is_held_back, is_in_line, is_let_in, is_outside, line_before, next_step, nothing, starts_or_waits, step_holding, step_open, step_placed, step_ready, step_taking, step_timed, takes, tells, waits}
+use Rattle.legal_trace.specs.Story.{Story, is_awaited, is_told, is_unstarted, shape}
 use Rattle.session_laws.proofs.Behind.{nil_told, open_untold}
-use Rattle.session_laws.proofs.InLine.{first_is_least, kept_ids}
-use Rattle.session_laws.proofs.Moves.{IsLater, later_of, open_unstarted, told_unstarted}
+use Rattle.session_laws.proofs.InLine.{first_is_least, kept_ids, kept_in}
+use Rattle.session_laws.proofs.Moves.{IsLater, later_of, open_unstarted, told_unstarted, or_true}
 use Rattle.session_laws.proofs.Names.{earlier_name, get_some, name_of_some, names_rise, open_within}
 use Rattle.session_laws.proofs.Numbers.{IsIn, Rising, in_left, in_right, rising_apart, rising_in, rising_right, rising_within}
 use Rattle.session_laws.proofs.Owes.{later_unstarted, request_story}
 use Rattle.session_laws.proofs.States.{IsFit}
-use Rattle.session_laws.proofs.Tied.{Inner, IsQueued, Tied, TiedLife, TiedNames, has_ended, link_in, owner_of, queue_ids}
+use Rattle.session_laws.proofs.Tied.{Inner, IsQueued, Tied, TiedLife, TiedNames, has_ended, link_in, owner_of, queue_ids, waiting_ids}
 
 -- counts
 --
@@ -64,46 +65,46 @@ others_in n m (x ∷ xs) other i =
     (λ f. subst (IsIn m) (sym (left_if (x == n) (others n xs) (x ∷ others n xs) f)) (elim i [ inl same ↦ inl same | inr j ↦ inr (others_in n m xs other j) ]))
 
 -- one more in line
-line_next : (story : ℕ → Story) (l n : ℕ) → is_in_line l (story n) ≡ true → line_before story l (suc n) ≡ line_before story l n + 1
-line_next story l n e = ap (λ k. line_before story l n + k) (taken_if (is_in_line l (story n)) 1 0 e)
+line_next : (limit : Option ℕ) (story : ℕ → Story) (l n : ℕ) → is_in_line limit l (story n) ≡ true → line_before limit story l (suc n) ≡ line_before limit story l n + 1
+line_next limit story l n e = ap (λ k. line_before limit story l n + k) (taken_if (is_in_line limit l (story n)) 1 0 e)
 
 -- and one that isn't
-line_same : (story : ℕ → Story) (l n : ℕ) → is_in_line l (story n) ≡ false → line_before story l (suc n) ≡ line_before story l n + 0
-line_same story l n e = ap (λ k. line_before story l n + k) (left_if (is_in_line l (story n)) 1 0 e)
+line_same : (limit : Option ℕ) (story : ℕ → Story) (l n : ℕ) → is_in_line limit l (story n) ≡ false → line_before limit story l (suc n) ≡ line_before limit story l n + 0
+line_same limit story l n e = ap (λ k. line_before limit story l n + k) (left_if (is_in_line limit l (story n)) 1 0 e)
 
 -- where each that stands in line before n is one of these, they are no fewer than the line
-pub line_most : (story : ℕ → Story) (l n : ℕ) (ns : List ℕ) → ((m : ℕ) → m < n → is_in_line l (story m) ≡ true → IsIn m ns) → line_before story l n ≤ length ns
-line_most story l zero ns all = omega arith
-line_most story l (suc n) ns all =
-    by_test (is_in_line l (story n)) _
+pub line_most : (limit : Option ℕ) (story : ℕ → Story) (l n : ℕ) (ns : List ℕ) → ((m : ℕ) → m < n → is_in_line limit l (story m) ≡ true → IsIn m ns) → line_before limit story l n ≤ length ns
+line_most limit story l zero ns all = omega arith
+line_most limit story l (suc n) ns all =
+    by_test (is_in_line limit l (story n)) _
     (λ t.
-    let next = line_next story l n t in
-    let rest = line_most story l n (others n ns) (λ m less e. others_in n m ns (λ same. absurd (omega arith)) (all m (omega arith) e)) in
+    let next = line_next limit story l n t in
+    let rest = line_most limit story l n (others n ns) (λ m less e. others_in n m ns (λ same. absurd (omega arith)) (all m (omega arith) e)) in
     let less = others_less n ns (all n (omega arith) t) in
     omega arith)
     (λ f.
-    let same = line_same story l n f in
-    let rest = line_most story l n ns (λ m less e. all m (omega arith) e) in
+    let same = line_same limit story l n f in
+    let rest = line_most limit story l n ns (λ m less e. all m (omega arith) e) in
     omega arith)
 
 -- the line grows
-line_grows : (story : ℕ → Story) (l lo n : ℕ) → lo ≤ n → line_before story l lo ≤ line_before story l n
-line_grows story l lo zero le = let e : lo ≡ 0 = omega arith in let k = ap (line_before story l) e in omega arith
-line_grows story l lo (suc n) le =
+line_grows : (limit : Option ℕ) (story : ℕ → Story) (l lo n : ℕ) → lo ≤ n → line_before limit story l lo ≤ line_before limit story l n
+line_grows limit story l lo zero le = let e : lo ≡ 0 = omega arith in let k = ap (line_before limit story l) e in omega arith
+line_grows limit story l lo (suc n) le =
     by_test (lo == suc n) _
-    (λ t. let k = ap (line_before story l) (eq_from lo (suc n) t) in omega arith)
+    (λ t. let k = ap (line_before limit story l) (eq_from lo (suc n) t) in omega arith)
     (λ f.
     let other = ne_from lo (suc n) f in
-    let rest = line_grows story l lo n (omega arith) in
-    by_test (is_in_line l (story n)) _ (λ t. let next = line_next story l n t in omega arith) (λ g. let same = line_same story l n g in omega arith))
+    let rest = line_grows limit story l lo n (omega arith) in
+    by_test (is_in_line limit l (story n)) _ (λ t. let next = line_next limit story l n t in omega arith) (λ g. let same = line_same limit story l n g in omega arith))
 
 -- where each of these stands in line, the line is no shorter
-pub line_least : (story : ℕ → Story) (l lo : ℕ) (ns : List ℕ) (n : ℕ) → Rising lo ns n → ((m : ℕ) → IsIn m ns → is_in_line l (story m) ≡ true) → length ns + line_before story l lo ≤ line_before story l n
-line_least story l lo [] n h all = let k = line_grows story l lo n h in omega arith
-line_least story l lo (x ∷ xs) n h all =
-    let rest = line_least story l (suc x) xs n h.1 (λ m i. all m (inr i)) in
-    let next = line_next story l x (all x (inl refl)) in
-    let grown = line_grows story l lo x h.0 in
+pub line_least : (limit : Option ℕ) (story : ℕ → Story) (l lo : ℕ) (ns : List ℕ) (n : ℕ) → Rising lo ns n → ((m : ℕ) → IsIn m ns → is_in_line limit l (story m) ≡ true) → length ns + line_before limit story l lo ≤ line_before limit story l n
+line_least limit story l lo [] n h all = let k = line_grows limit story l lo n h in omega arith
+line_least limit story l lo (x ∷ xs) n h all =
+    let rest = line_least limit story l (suc x) xs n h.1 (λ m i. all m (inr i)) in
+    let next = line_next limit story l x (all x (inl refl)) in
+    let grown = line_grows limit story l lo x h.0 in
     omega arith
 
 -- names of requests
@@ -178,11 +179,11 @@ up_dials l up = (λ i. l.asked && not (up i) && not (is_over l)) ∙ none_of l.a
     none_of false c = refl
 
 -- so the step is that of a link that is up
-pub up_step : (b : Book) (n : ℕ) → (b.link (b.story n).link).up ≡ true → next_step b n ≡ step_up (is_told (b.story n)) (is_outside b n) (is_awaited (b.story n)) (is_held_back b (b.link (b.story n).link))
+pub up_step : (b : Book) (n : ℕ) → (b.link (b.story n).link).up ≡ true → next_step b n ≡ step_ready b n (b.story n)
 up_step b n up =
     let s = b.story n in
     let l = b.link s.link in
-    let step = step_up (is_told s) (is_outside b n) (is_awaited s) (is_held_back b l) in
+    let step = step_ready b n s in
     left_if (dials l) (waits wait.Connect) (if l.up then step else nothing) (up_dials l up) ∙ taken_if l.up step nothing up
 
 -- the book has a link held back where the link is
@@ -195,32 +196,71 @@ held_is b t h r =
     ∙ (λ i. nat_lt 0 (length (bytes i)) && nat_le t.bound (length (bytes i)))
     ∙ (λ i. nat_lt 0 (length link.outbox.unwritten) && nat_le (sym r.fit.bound_is i) (length link.outbox.unwritten))
 
+-- the step of submission n on the link of a session, where permits are counted so, and the link is held back or not
+abbrev pub step_on : Book → ℕ → Story → ℕ → Option ℕ → Bool → Step
+step_on b n s link limit held =
+    step_open (is_told s) held
+    (step_holding limit s.permits (λ k. step_taking (free_permits b link k) (permits_for (shape s) k)) (step_timed s.timeout s.clock (step_placed (is_outside b n) (is_awaited s) held)))
+
 -- the next step of a request
 pub request_step : (b : Book) (t : Inner) (p : ℕ) → Tied b t → IsRunning t → p < length t.requests
-    → (let n = name_at t.requests p in next_step b n ≡ step_up (is_told (b.story n)) (is_outside b n) (is_awaited (b.story n)) (holds_back (link_in t.life)))
+    → (let n = name_at t.requests p in next_step b n ≡ step_on b n (b.story n) t.link t.limit (holds_back (link_in t.life)))
 request_step b t p h r within =
     let n = name_at t.requests p in
     let q = request_story b t p h within in
     let s = b.story n in
+    let held : is_held_back b (b.link s.link) ≡ holds_back (link_in t.life) = ap (λ l. is_held_back b (b.link l)) q.on ∙ held_is b t h r in
     up_step b n (ap (λ l. (b.link l).up) q.on ∙ ready_up (b.link t.link) b.created t.life r.up h.life)
-    ∙ (λ i. step_up (is_told s) (is_outside b n) (is_awaited s) (is_held_back b (b.link (q.on i))))
-    ∙ ap (step_up (is_told s) (is_outside b n) (is_awaited s)) (held_is b t h r)
+    ∙ (λ i. step_on b n s (q.on i) (h.numbers.settings.limit_is i) (held i))
+
+-- who holds its permits takes none
+holding_next : (limit : Option ℕ) (held : ℕ) (taking : ℕ → Step) (next : Step) → (is_none limit || nat_lt 0 held) ≡ true → step_holding limit held taking next ≡ next
+holding_next None held taking next e = refl
+holding_next (Some k) zero taking next e = absurd (let no = lt_from 0 0 e in omega arith)
+holding_next (Some k) (suc held) taking next e = refl
+
+-- whose timer was asked for, or who has no time, asks for none
+timed_next : (timeout clock : Option ℕ) (next : Step) → (is_none timeout || is_some clock) ≡ true → step_timed timeout clock next ≡ next
+timed_next None clock next e = refl
+timed_next (Some ms) None next e = cc
+timed_next (Some ms) (Some t) next e = refl
+
+-- so who was let in comes to its place
+pub let_in_step : (b : Book) (t : Inner) (p : ℕ) → Tied b t → IsRunning t → p < length t.requests → is_told (b.story (name_at t.requests p)) ≡ false → is_let_in t.limit (b.story (name_at t.requests p)) ≡ true
+    → (let n = name_at t.requests p in next_step b n ≡ step_placed (is_outside b n) (is_awaited (b.story n)) (holds_back (link_in t.life)))
+let_in_step b t p h r within untold is =
+    let n = name_at t.requests p in
+    let s = b.story n in
+    let held = holds_back (link_in t.life) in
+    let seat = step_placed (is_outside b n) (is_awaited s) held in
+    let timed = step_timed s.timeout s.clock seat in
+    let taking : ℕ → Step = λ k. step_taking (free_permits b t.link k) (permits_for (shape s) k) in
+    let has = is_none t.limit || nat_lt 0 s.permits in
+    let asked = is_none s.timeout || is_some s.clock in
+    request_step b t p h r within
+    ∙ ap (λ x. step_open x held (step_holding t.limit s.permits taking timed)) untold
+    ∙ holding_next t.limit s.permits taking timed (both_left has asked is)
+    ∙ timed_next s.timeout s.clock seat (both_right has asked is)
 
 -- whether it stands outside, by the line before it
-outside_is : (b : Book) (t : Inner) (p : ℕ) → Tied b t → p < length t.requests → is_outside b (name_at t.requests p) ≡ nat_le t.size (line_before b.story t.link (name_at t.requests p))
+outside_is : (b : Book) (t : Inner) (p : ℕ) → Tied b t → p < length t.requests → is_outside b (name_at t.requests p) ≡ nat_le t.size (line_before t.limit b.story t.link (name_at t.requests p))
 outside_is b t p h within =
     let q = request_story b t p h within in
-    λ i. nat_le (h.numbers.settings.size_is i) (line_before b.story (q.on i) (name_at t.requests p))
+    λ i. nat_le (h.numbers.settings.size_is i) (line_before (h.numbers.settings.limit_is i) b.story (q.on i) (name_at t.requests p))
 
 -- who stands in line for the link is still to start
-line_later : (b : Book) (t : Inner) (m : ℕ) → Tied b t → IsRunning t → is_in_line t.link (b.story m) ≡ true → IsLater t m
-line_later b t m h r e = later_of b t m h r.settled (ready_alive t.life r.up) (both_right ((b.story m).link == t.link) (is_unstarted (b.story m)) e)
+line_later : (b : Book) (t : Inner) (m : ℕ) → Tied b t → IsRunning t → is_in_line t.limit t.link (b.story m) ≡ true → IsLater t m
+line_later b t m h r e =
+    let s = b.story m in
+    let may = is_told s || is_let_in t.limit s in
+    later_of b t m h r.settled (ready_alive t.life r.up) (both_left (is_unstarted s) may (both_right (s.link == t.link) (is_unstarted s && may) e))
 
--- and the other way round
-later_line : (b : Book) (t : Inner) (p : ℕ) → Tied b t → p < length t.requests → is_unstarted (b.story (name_at t.requests p)) ≡ true → is_in_line t.link (b.story (name_at t.requests p)) ≡ true
-later_line b t p h within e =
+-- and the other way round, where it was told, or let in
+later_line : (b : Book) (t : Inner) (p : ℕ) → Tied b t → p < length t.requests → is_unstarted (b.story (name_at t.requests p)) ≡ true → (is_told (b.story (name_at t.requests p)) || is_let_in t.limit (b.story (name_at t.requests p))) ≡ true
+    → is_in_line t.limit t.link (b.story (name_at t.requests p)) ≡ true
+later_line b t p h within e may =
     let q = request_story b t p h within in
-    λ i. (eq_test (b.story (name_at t.requests p)).link t.link q.on i) && e i
+    λ i. (eq_test (b.story (name_at t.requests p)).link t.link q.on i) && (e i && may i)
 
 -- a message of the queue has its place while its reply is awaited, and else it was told
 pub queue_alive : (story : ℕ → Story) (requests : List Request) (qs : List Queued) (p : ℕ) → AllByRecursion (IsQueued story requests) qs → IsIn p (queue_ids qs)
@@ -246,6 +286,38 @@ placed_open requests p e = by_request (slice_get requests p) e
     by_request : (r : Option Request) → if_there is_placed r ≡ true → if_there is_open_progress r ≡ true
     by_request None e = cc
     by_request (Some r) e = by_progress r.progress e
+
+-- one that waits for a place is open, and has none
+pub admitted_open : (requests : List Request) (p : ℕ) → is_admitted_at requests p ≡ true → (is_open_at requests p ≡ true) × (is_placed_at requests p ≡ false)
+admitted_open requests p e = by_request (slice_get requests p) e
+  where
+    by_progress : (r : Progress) → is_admitted r ≡ true → (is_open_progress r ≡ true) × (is_placed r ≡ false)
+    by_progress progress.Waiting e = cc
+    by_progress progress.Admitted e = (refl, refl)
+    by_progress progress.Placed e = cc
+    by_progress progress.Closed e = cc
+
+    by_request : (r : Option Request) → if_there is_admitted r ≡ true → (if_there is_open_progress r ≡ true) × (if_there is_placed r ≡ false)
+    by_request None e = cc
+    by_request (Some r) e = by_progress r.progress e
+
+-- and so is one that waits for the connection
+pub early_open : (requests : List Request) (p : ℕ) → is_waiting_at requests p ≡ true → (is_open_at requests p ≡ true) × (is_placed_at requests p ≡ false)
+early_open requests p e = by_request (slice_get requests p) e
+  where
+    by_progress : (r : Progress) → is_waiting r ≡ true → (is_open_progress r ≡ true) × (is_placed r ≡ false)
+    by_progress progress.Waiting e = (refl, refl)
+    by_progress progress.Admitted e = cc
+    by_progress progress.Placed e = cc
+    by_progress progress.Closed e = cc
+
+    by_request : (r : Option Request) → if_there is_waiting r ≡ true → (if_there is_open_progress r ≡ true) × (if_there is_placed r ≡ false)
+    by_request None e = cc
+    by_request (Some r) e = by_progress r.progress e
+
+-- so it is open
+pub waiting_open : (requests : List Request) (p : ℕ) → is_waiting_at requests p ≡ true → is_open_at requests p ≡ true
+waiting_open requests p w = (early_open requests p w).0
 
 -- who is in the queue is a request
 pub queue_within : (b : Book) (t : Inner) (p : ℕ) → Tied b t → IsIn p (queue_ids (link_in t.life).queue) → p < length t.requests
@@ -276,6 +348,15 @@ kept_unstarted b t p h o i =
     let within = open_within t.requests p o in
     open_unstarted (b.story (name_at t.requests p)) (later_untried b t p h within (in_right p (queue_ids (link_in t.life).queue) (kept_ids t.admitted t.waiting) i)) ((request_story b t p h within).open_is ∙ o)
 
+-- who is in the queue was told, or let in
+queue_may : (b : Book) (t : Inner) (p : ℕ) → Tied b t → IsIn p (queue_ids (link_in t.life).queue) → (is_told (b.story (name_at t.requests p)) || is_let_in t.limit (b.story (name_at t.requests p))) ≡ true
+queue_may b t p h i =
+    let s = b.story (name_at t.requests p) in
+    elim (queue_alive b.story t.requests (link_in t.life).queue p h.lines.queued i) [
+      | inl a ↦ ap (λ x. is_told s || x) (h.permits.let_in p (inr a.1)) ∙ or_true (is_told s)
+      | inr e ↦ ap (λ x. x || is_let_in t.limit s) e
+    ]
+
 -- an open request was told nothing
 open_told : (b : Book) (t : Inner) (p : ℕ) → Tied b t → is_open_at t.requests p ≡ true → is_told (b.story (name_at t.requests p)) ≡ false
 open_told b t p h o = open_untold (b.story (name_at t.requests p)) ((request_story b t p h (open_within t.requests p o)).open_is ∙ o)
@@ -289,17 +370,17 @@ queue_inside b t p h r i =
     let kept = kept_ids t.admitted t.waiting in
     let within = queue_within b t p h i in
     let later = rising_right 0 t.started (ids ++ kept) (length t.requests) h.lines.line in
-    let before : (m : ℕ) → m < suc n → is_in_line t.link (b.story m) ≡ true → IsIn m (names_of t.requests ids) = λ m less e.
+    let before : (m : ℕ) → m < suc n → is_in_line t.limit t.link (b.story m) ≡ true → IsIn m (names_of t.requests ids) = λ m less e.
     let k = line_later b t m h r e in
     subst (λ x. IsIn x (names_of t.requests ids)) k.name (names_in t.requests ids k.p (elim k.later [
       | inl j ↦ j
-      | inr w ↦ absurd (let apart = rising_apart 0 ids kept (length t.requests) p k.p later i w.1 in let rises = names_rise t.table t.requests p k.p h.names k.within apart in omega (arith, k.name))
+      | inr w ↦ absurd (let apart = rising_apart 0 ids kept (length t.requests) p k.p later i (kept_in t.requests t.waiting t.admitted k.p w) in let rises = names_rise t.table t.requests p k.p h.names k.within apart in omega (arith, k.name))
     ])) in
-    let most = line_most b.story t.link (suc n) (names_of t.requests ids) before in
-    let next = line_next b.story t.link n (later_line b t p h within (queue_unstarted b t p h i)) in
+    let most = line_most t.limit b.story t.link (suc n) (names_of t.requests ids) before in
+    let next = line_next t.limit b.story t.link n (later_line b t p h within (queue_unstarted b t p h i) (queue_may b t p h i)) in
     let long = names_length t.requests queue in
     let fit = r.fit.within in
-    outside_is b t p h within ∙ not_le_test t.size (line_before b.story t.link n) (omega arith)
+    outside_is b t p h within ∙ not_le_test t.size (line_before t.limit b.story t.link n) (omega arith)
 
 -- a message of the queue starts next, or waits while its link is held back
 pub queue_step : (b : Book) (t : Inner) (p : ℕ) → Tied b t → IsRunning t → IsIn p (queue_ids (link_in t.life).queue) → next_step b (name_at t.requests p) ≡ starts_or_waits (holds_back (link_in t.life))
@@ -307,9 +388,10 @@ queue_step b t p h r i =
     let n = name_at t.requests p in
     let s = b.story n in
     let held = holds_back (link_in t.life) in
-    request_step b t p h r (queue_within b t p h i) ∙ elim (queue_alive b.story t.requests (link_in t.life).queue p h.lines.queued i) [
-      | inl a ↦ (λ k. step_up (open_told b t p h (placed_open t.requests p a.1) k) (queue_inside b t p h r i k) (a.0 k) held)
-      | inr e ↦ ap (λ x. step_up x (is_outside b n) (is_awaited s) held) e
+    let within = queue_within b t p h i in
+    elim (queue_alive b.story t.requests (link_in t.life).queue p h.lines.queued i) [
+      | inl a ↦ let_in_step b t p h r within (open_told b t p h (placed_open t.requests p a.1)) (h.permits.let_in p (inr a.1)) ∙ (λ k. step_placed (queue_inside b t p h r i k) (a.0 k) held)
+      | inr e ↦ request_step b t p h r within ∙ ap (λ x. step_open x held (step_holding t.limit s.permits (λ k. step_taking (free_permits b t.link k) (permits_for (shape s) k)) (step_timed s.timeout s.clock (step_placed (is_outside b n) (is_awaited s) held)))) e
     ]
 
 -- who waits while the queue holds its size stands outside
@@ -322,21 +404,22 @@ kept_outside b t p h r full o i =
     let within = open_within t.requests p o in
     let later = rising_right 0 t.started (ids ++ kept) (length t.requests) h.lines.line in
     let rises = names_rising t.table t.requests 0 0 ids p h.names within (λ m above below. omega arith) (rising_before 0 ids kept (length t.requests) p later i) in
-    let all : (m : ℕ) → IsIn m (names_of t.requests ids) → is_in_line t.link (b.story m) ≡ true = λ m j.
+    let all : (m : ℕ) → IsIn m (names_of t.requests ids) → is_in_line t.limit t.link (b.story m) ≡ true = λ m j.
     let k = names_from t.requests ids m j in
-    subst (λ x. is_in_line t.link (b.story x) ≡ true) k.2 (later_line b t k.0 h (queue_within b t k.0 h k.1) (queue_unstarted b t k.0 h k.1)) in
-    let least = line_least b.story t.link 0 (names_of t.requests ids) n rises all in
+    subst (λ x. is_in_line t.limit t.link (b.story x) ≡ true) k.2 (later_line b t k.0 h (queue_within b t k.0 h k.1) (queue_unstarted b t k.0 h k.1) (queue_may b t k.0 h k.1)) in
+    let least = line_least t.limit b.story t.link 0 (names_of t.requests ids) n rises all in
     let long = names_length t.requests queue in
     let fills = le_from (link_in t.life).size (length queue) full in
     let size = r.fit.size_is in
-    outside_is b t p h within ∙ le_test t.size (line_before b.story t.link n) (omega arith)
+    outside_is b t p h within ∙ le_test t.size (line_before t.limit b.story t.link n) (omega arith)
 
--- so it waits for a place
-pub full_step : (b : Book) (t : Inner) (p : ℕ) → Tied b t → IsRunning t → is_full (link_in t.life) ≡ true → is_open_at t.requests p ≡ true → IsIn p (kept_ids t.admitted t.waiting) → next_step b (name_at t.requests p) ≡ waits wait.Place
-full_step b t p h r full o i =
+-- so it waits for a place, where it was let in
+pub full_step : (b : Book) (t : Inner) (p : ℕ) → Tied b t → IsRunning t → is_full (link_in t.life) ≡ true → is_admitted_at t.requests p ≡ true → IsIn p (waiting_ids t.admitted) → next_step b (name_at t.requests p) ≡ waits wait.Place
+full_step b t p h r full a i =
     let s = b.story (name_at t.requests p) in
-    request_step b t p h r (open_within t.requests p o)
-    ∙ (λ k. step_up (open_told b t p h o k) (kept_outside b t p h r full o i k) (is_awaited s) (holds_back (link_in t.life)))
+    let o = (admitted_open t.requests p a).0 in
+    let_in_step b t p h r (open_within t.requests p o) (open_told b t p h o) (h.permits.let_in p (inl a))
+    ∙ (λ k. step_placed (kept_outside b t p h r full o (in_left p (waiting_ids t.admitted) (waiting_ids t.waiting) i) k) (is_awaited s) (holds_back (link_in t.life)))
 
 -- the first of those that wait has its place next, while the queue has room
 first_inside : (b : Book) (t : Inner) (p : ℕ) (rest : List ℕ) → Tied b t → IsRunning t → is_full (link_in t.life) ≡ false → is_open_at t.requests p ≡ true → kept_ids t.admitted t.waiting ≡ p ∷ rest → is_outside b (name_at t.requests p) ≡ false
@@ -348,25 +431,78 @@ first_inside b t p rest h r room o first =
     let within = open_within t.requests p o in
     let later = rising_right 0 t.started (ids ++ kept) (length t.requests) h.lines.line in
     let line = subst (λ ns. Rising 0 ns (length t.requests)) first (rising_right 0 ids kept (length t.requests) later) in
-    let before : (m : ℕ) → m < n → is_in_line t.link (b.story m) ≡ true → IsIn m (names_of t.requests ids) = λ m less e.
+    let before : (m : ℕ) → m < n → is_in_line t.limit t.link (b.story m) ≡ true → IsIn m (names_of t.requests ids) = λ m less e.
     let k = line_later b t m h r e in
     let earlier = earlier_name t.table t.requests k.p p h.names k.within within (subst (λ x. x < n) (sym k.name) less) in
     subst (λ x. IsIn x (names_of t.requests ids)) k.name (names_in t.requests ids k.p (elim k.later [
       | inl j ↦ j
-      | inr w ↦ absurd (let least = first_is_least 0 p rest (length t.requests) k.p line (subst (IsIn k.p) first w.1) in omega arith)
+      | inr w ↦ absurd (let least = first_is_least 0 p rest (length t.requests) k.p line (subst (IsIn k.p) first (kept_in t.requests t.waiting t.admitted k.p w)) in omega arith)
     ])) in
-    let most = line_most b.story t.link n (names_of t.requests ids) before in
+    let most = line_most t.limit b.story t.link n (names_of t.requests ids) before in
     let long = names_length t.requests queue in
     let free = not_le_from (link_in t.life).size (length queue) room in
     let size = r.fit.size_is in
-    outside_is b t p h within ∙ not_le_test t.size (line_before b.story t.link n) (omega arith)
+    outside_is b t p h within ∙ not_le_test t.size (line_before t.limit b.story t.link n) (omega arith)
 
--- so it is told there where nobody awaits its reply
-pub first_step : (b : Book) (t : Inner) (p : ℕ) (rest : List ℕ) → Tied b t → IsRunning t → is_full (link_in t.life) ≡ false → is_open_at t.requests p ≡ true → kept_ids t.admitted t.waiting ≡ p ∷ rest → is_awaited (b.story (name_at t.requests p)) ≡ false
-    → next_step b (name_at t.requests p) ≡ tells
-first_step b t p rest h r room o first unawaited =
+-- so it is told there where nobody awaits its reply, and it was let in
+pub first_step : (b : Book) (t : Inner) (p : ℕ) (rest : List ℕ) → Tied b t → IsRunning t → is_full (link_in t.life) ≡ false → is_open_at t.requests p ≡ true → kept_ids t.admitted t.waiting ≡ p ∷ rest → is_let_in t.limit (b.story (name_at t.requests p)) ≡ true
+    → is_awaited (b.story (name_at t.requests p)) ≡ false → next_step b (name_at t.requests p) ≡ tells
+first_step b t p rest h r room o first is unawaited =
+    let_in_step b t p h r (open_within t.requests p o) (open_told b t p h o) is
+    ∙ (λ k. step_placed (first_inside b t p rest h r room o first k) (unawaited k) (holds_back (link_in t.life)))
+
+-- the step of one that holds no permits
+--
+-- as many are free by the book
+free_is : (b : Book) (t : Inner) (k : ℕ) → Tied b t → t.limit ≡ Some k → free_permits b t.link k ≡ t.free
+free_is b t k h e = let sum = h.permits.counted k e in omega arith
+
+-- where permits are counted, it takes some, or waits for one
+early_step : (b : Book) (t : Inner) (p k : ℕ) → Tied b t → IsRunning t → is_waiting_at t.requests p ≡ true → (IsIn p t.letting → ⊥) → t.limit ≡ Some k
+    → next_step b (name_at t.requests p) ≡ step_taking t.free (permits_for (shape (b.story (name_at t.requests p))) k)
+early_step b t p k h r w out e =
+    let n = name_at t.requests p in
+    let s = b.story n in
+    let o = waiting_open t.requests p w in
+    let within = open_within t.requests p o in
+    let held = holds_back (link_in t.life) in
+    let none = (request_story b t p h within).permits_is ∙ (h.permits.none p w out).0 in
+    let taking : ℕ → Step = λ l. step_taking (free_permits b t.link l) (permits_for (shape s) l) in
+    let timed = step_timed s.timeout s.clock (step_placed (is_outside b n) (is_awaited s) held) in
+    request_step b t p h r within
+    ∙ (λ i. step_open (open_told b t p h o i) held (step_holding (e i) (none i) taking timed))
+    ∙ ap (λ f. step_taking f (permits_for (shape s) k)) (free_is b t k h e)
+
+-- it waits for one where none is free
+pub permit_step : (b : Book) (t : Inner) (p : ℕ) → Tied b t → IsRunning t → is_waiting_at t.requests p ≡ true → (IsIn p t.letting → ⊥) → has_no_permit t.limit t.free ≡ true → next_step b (name_at t.requests p) ≡ waits wait.Permit
+permit_step b t p h r w out none = by_limit t.limit refl none
+  where
+    by_limit : (x : Option ℕ) → t.limit ≡ x → has_no_permit x t.free ≡ true → next_step b (name_at t.requests p) ≡ waits wait.Permit
+    by_limit None e n = cc
+    by_limit (Some k) e n = early_step b t p k h r w out e ∙ ap (λ f. step_taking f (permits_for (shape (b.story (name_at t.requests p))) k)) (eq_from t.free 0 n)
+
+-- and takes some where some are
+pub take_step : (b : Book) (t : Inner) (p k : ℕ) → Tied b t → IsRunning t → is_waiting_at t.requests p ≡ true → (IsIn p t.letting → ⊥) → t.limit ≡ Some k → t.free ≢ 0
+    → next_step b (name_at t.requests p) ≡ takes (min t.free (permits_for (shape (b.story (name_at t.requests p))) k))
+take_step b t p k h r w out e some = early_step b t p k h r w out e ∙ taking_is t.free (permits_for (shape (b.story (name_at t.requests p))) k) some
+  where
+    taking_is : (free most : ℕ) → free ≢ 0 → step_taking free most ≡ takes (min free most)
+    taking_is zero most some = absurd (some refl)
+    taking_is (suc free) most some = refl
+
+-- one that holds its permits, if they are counted, asks for its timer
+pub ask_step : (b : Book) (t : Inner) (p ms : ℕ) → Tied b t → IsRunning t → is_open_at t.requests p ≡ true → (is_none t.limit || nat_lt 0 (b.story (name_at t.requests p)).permits) ≡ true → (b.story (name_at t.requests p)).timeout ≡ Some ms
+    → (b.story (name_at t.requests p)).clock ≡ None → next_step b (name_at t.requests p) ≡ asks ms
+ask_step b t p ms h r o has time none =
+    let n = name_at t.requests p in
+    let s = b.story n in
+    let held = holds_back (link_in t.life) in
+    let seat = step_placed (is_outside b n) (is_awaited s) held in
+    let taking : ℕ → Step = λ k. step_taking (free_permits b t.link k) (permits_for (shape s) k) in
     request_step b t p h r (open_within t.requests p o)
-    ∙ (λ k. step_up (open_told b t p h o k) (first_inside b t p rest h r room o first k) (unawaited k) (holds_back (link_in t.life)))
+    ∙ ap (λ x. step_open x held (step_holding t.limit s.permits taking (step_timed s.timeout s.clock seat))) (open_told b t p h o)
+    ∙ holding_next t.limit s.permits taking (step_timed s.timeout s.clock seat) has
+    ∙ (λ i. step_timed (time i) (none i) seat)
 
 -- the step of a submission while the connect isn't answered
 --

@@ -1,10 +1,12 @@
 -- A turn of an event: where it may stand, and what its link and the others hear.
-use Rattle.std.proofs.Common.{◌≡◌, ◌≢◌, ◌⊎◌, inl, inr, ℕ, ◌+◌, ◌<◌, ◌==◌, nat_lt, nat_le, false, ◌&&◌, ◌||◌, not, is_some, List, [], ◌∷◌, ◌++◌, length, slice_get, Some, refl, sym, ap, ◌∙◌, subst, arith, length-take, None, Option}
+use Rattle.std.proofs.Common.{◌≡◌, ◌≢◌, ◌⊎◌, inl, inr, ℕ, ◌+◌, ◌<◌, ◌≤◌, ◌==◌, nat_lt, nat_le, false, ◌&&◌, ◌||◌, not, is_some, List, [], ◌∷◌, ◌++◌, length, slice_get, Some, refl, sym, ap, ◌∙◌, subst, arith, length-take, None, Option}
 use Rattle.std.proofs.lemmas.List.{append-nil}
 use Rattle.containers.proofs.Choices.{by_test, chosen, taken_if, left_if, eq_test, ne_test, not_le_from, or_left}
 use Rattle.redis_error.specs.declared.redis_error.RedisError.TheVariants as error
 use Rattle.driver_model.specs.declared.action.Action.{Action}
+use Rattle.driver_model.specs.declared.action.Owner.TheVariants as owner
 use Rattle.driver_model.specs.declared.action.Purpose.{Purpose}
+use Rattle.driver_model.specs.declared.action.Purpose.TheVariants as purpose
 use Rattle.driver_model.specs.declared.action.Action.TheVariants as action
 use Rattle.driver_model.specs.declared.action.Cause.TheVariants as cause
 use Rattle.driver_model.specs.declared.event.EventKind.{EventKind}
@@ -21,17 +23,16 @@ use Rattle.mux_conn.specs.declared.request.Request.{Request}
 use Rattle.shared_session.specs.declared.core_state.Core.{Core}
 use Rattle.shared_session.specs.Turn.{is_shutdown, shut_by, exceeds_offer, is_no_link, is_bad}
 use Rattle.legal_trace.specs.Ledger.{Ledger, hears, noted, is_over, bytes_came, dials, refused_in}
-use Rattle.legal_trace.specs.Story.{Story}
-use Rattle.legal_trace.specs.Book.{Book, book, entered}
+use Rattle.legal_trace.specs.Story.{Story, fires}
+use Rattle.legal_trace.specs.Book.{Book, book, entered, is_clock_of}
 use Rattle.legal_trace.specs.Events.{is_bad_event}
 use Rattle.legal_trace.specs.Legal.{MayTurn}
-use Rattle.session_laws.proofs.Tied.{AreAimed, owners_of, Inner, inner, link_in, owner_of, IsUnknown, TiedLife, TiedTries, TiedLines, AreQueued, TiedWaits, Tied, Sound, no_opening, has_ended}
+use Rattle.session_laws.proofs.Tied.{AreAimed, IsAim, owners_of, Inner, inner, link_in, owner_of, IsUnknown, TiedLife, TiedTries, TiedLines, AreQueued, TiedWaits, Tied, Sound, no_opening, has_ended}
 use Rattle.session_laws.proofs.States.{Between}
 use Rattle.session_laws.proofs.Entered.{book_more, sound_more}
 use Rattle.session_laws.proofs.Answer.{some_end}
 use Rattle.session_laws.proofs.Kept.{tied_by}
 use Rattle.session_laws.proofs.Settle.{seen, trace_of_acts, Holds}
-use Rattle.session_laws.proofs.Names.{get_some}
 
 -- bad events
 --
@@ -57,6 +58,7 @@ same_badness b c started (event.Bytes l piece) h = ap (λ k. nat_le k l) h.numbe
 same_badness b c started (event.Ended l) h = ap (λ k. nat_le k l) h.numbers.links
 same_badness b c started (event.ReadFault l kind) h = ap (λ k. nat_le k l) h.numbers.links
 same_badness b c started (event.WriteFault l kind) h = ap (λ k. nat_le k l) h.numbers.links
+same_badness b c started (event.Timeout ms) h = refl
 same_badness b c started event.Shutdown h = refl
 same_badness b c started (event.Wrote l count) h =
     ap (λ k. nat_le k l || (not (is_over (b.link l)) && nat_lt (length (b.link l).offer) count)) h.numbers.links
@@ -90,26 +92,28 @@ elsewhere_of : (c : Core) (l m : ℕ) (n : News) → ((k : ℕ) → k < c.links 
 elsewhere_of c l m n only here other = left_if (l == m) n silence (ne_test l m (λ e. other (sym e ∙ only l (not_le_from c.links l here))))
 
 -- what another link sees of a timer
-elsewhere_fired : (link m n : ℕ) (timers : List Purpose) → AreAimed timers link → m ≢ link → of_timer m (slice_get timers n) ≡ silence
-elsewhere_fired link m n timers aims other = by_timer (slice_get timers n) refl
+elsewhere_fired : (link count m n : ℕ) (timers : List Purpose) → AreAimed timers link count → m ≢ link → of_timer m (slice_get timers n) ≡ silence
+elsewhere_fired link count m n timers aims other = by_timer (slice_get timers n) refl
   where
     by_timer : (x : Option Purpose) → slice_get timers n ≡ x → of_timer m x ≡ silence
     by_timer None e = refl
-    by_timer (Some what) e = ap (λ (x : Purpose). of_timer m (Some x)) (aims n what e) ∙ left_if (link == m) overdue silence (ne_test link m (λ same. other (sym same)))
+    by_timer (Some (purpose.Connect l)) e = left_if (l == m) overdue silence (ne_test l m (λ same. other (sym same ∙ aims n (purpose.Connect l) e)))
+    by_timer (Some (purpose.Response who)) e = refl
 
 -- whatever the event is
-elsewhere : (c : Core) (m : ℕ) (kind : EventKind) → ((k : ℕ) → k < c.links → k ≡ c.single.link) → AreAimed c.timers c.single.link → is_bad c kind ≡ false → m ≢ c.single.link → (news_of c.timers m kind ≡ silence) ⊎ (news_of c.timers m kind ≡ shut)
+elsewhere : (c : Core) (m : ℕ) (kind : EventKind) → ((k : ℕ) → k < c.links → k ≡ c.single.link) → AreAimed c.timers c.single.link (length c.table) → is_bad c kind ≡ false → m ≢ c.single.link → (news_of c.timers m kind ≡ silence) ⊎ (news_of c.timers m kind ≡ shut)
 unfolding is_bad
 elsewhere c m (event.Submit what) only aims good other = inl refl
 elsewhere c m (event.Cancel n) only aims good other = inl refl
 elsewhere c m (event.Connected l) only aims good other = inl (elsewhere_of c l m connected only good other)
 elsewhere c m (event.Refused l f) only aims good other = inl (elsewhere_of c l m (refused f) only good other)
-elsewhere c m (event.Fired n) only aims good other = inl (elsewhere_fired c.single.link m n c.timers aims other)
+elsewhere c m (event.Fired n) only aims good other = inl (elsewhere_fired c.single.link (length c.table) m n c.timers aims other)
 elsewhere c m (event.Wrote l count) only aims good other = inl (elsewhere_of c l m (took count) only (or_left (is_no_link c l) _ good) other)
 elsewhere c m (event.Bytes l piece) only aims good other = inl (elsewhere_of c l m (came piece) only good other)
 elsewhere c m (event.Ended l) only aims good other = inl (elsewhere_of c l m (failed fault.Ended) only good other)
 elsewhere c m (event.ReadFault l kind) only aims good other = inl (elsewhere_of c l m (failed (fault.Io kind)) only good other)
 elsewhere c m (event.WriteFault l kind) only aims good other = inl (elsewhere_of c l m (failed (fault.Io kind)) only good other)
+elsewhere c m (event.Timeout ms) only aims good other = inl refl
 elsewhere c m event.Shutdown only aims good other = inr refl
 
 -- and stay unknown
@@ -127,11 +131,9 @@ others_heard b c started kind h good m other =
 pub own_news : (c : Core) (l : ℕ) (n : News) → ((k : ℕ) → k < c.links → k ≡ c.single.link) → is_no_link c l ≡ false → for_link (l == c.single.link) n ≡ n
 own_news c l n only here = taken_if (l == c.single.link) n silence (eq_test l c.single.link (only l (not_le_from c.links l here)))
 
--- a timer that was asked for is one for it
-pub own_timer : (c : Core) (n : ℕ) → AreAimed c.timers c.single.link → nat_le (length c.timers) n ≡ false → of_timer c.single.link (slice_get c.timers n) ≡ overdue
-own_timer c n aims good =
-    let g = get_some c.timers n (not_le_from (length c.timers) n good) in
-    ap (of_timer c.single.link) (g.1 ∙ ap Some (aims n g.0 g.1)) ∙ taken_if (c.single.link == c.single.link) overdue silence (eq_test c.single.link c.single.link refl)
+-- a timer of a connect that was asked for is one for it
+pub own_timer : (c : Core) (n l : ℕ) → AreAimed c.timers c.single.link (length c.table) → slice_get c.timers n ≡ Some (purpose.Connect l) → of_timer c.single.link (slice_get c.timers n) ≡ overdue
+own_timer c n l aims is = ap (of_timer c.single.link) is ∙ taken_if (l == c.single.link) overdue silence (eq_test l c.single.link (aims n (purpose.Connect l) is))
 
 -- news start nothing
 pub heard_starts : (l : Ledger) (turn : ℕ) (n : News) → (noted l (hears turn n)).starts ≡ l.starts
@@ -144,21 +146,22 @@ heard_starts l turn (came piece) = chosen (λ (x : Ledger). x.starts ≡ l.start
 heard_starts l turn (failed f) = refl
 heard_starts l turn shut = refl
 
--- the turn of an event that neither hands in nor cancels
+-- the turn of an event that is of no account for submissions
 --
--- the event neither hands in nor cancels
-abbrev pub IsNewsKind : EventKind → Type 0
-IsNewsKind (event.Submit what) = ⊥
-IsNewsKind (event.Cancel n) = ⊥
-IsNewsKind (event.Connected l) = Unit {0}
-IsNewsKind (event.Refused l f) = Unit {0}
-IsNewsKind (event.Fired n) = Unit {0}
-IsNewsKind (event.Wrote l count) = Unit {0}
-IsNewsKind (event.Bytes l piece) = Unit {0}
-IsNewsKind (event.Ended l) = Unit {0}
-IsNewsKind (event.ReadFault l kind) = Unit {0}
-IsNewsKind (event.WriteFault l kind) = Unit {0}
-IsNewsKind event.Shutdown = Unit {0}
+-- the event neither hands in nor cancels, sets no time, and no response timer fires, of these timers
+abbrev pub IsNewsKind : List Purpose → EventKind → Type 0
+IsNewsKind timers (event.Submit what) = ⊥
+IsNewsKind timers (event.Cancel n) = ⊥
+IsNewsKind timers (event.Connected l) = Unit {0}
+IsNewsKind timers (event.Refused l f) = Unit {0}
+IsNewsKind timers (event.Fired n) = (m : ℕ) → is_clock_of m (slice_get timers n) ≡ false
+IsNewsKind timers (event.Wrote l count) = Unit {0}
+IsNewsKind timers (event.Bytes l piece) = Unit {0}
+IsNewsKind timers (event.Ended l) = Unit {0}
+IsNewsKind timers (event.ReadFault l kind) = Unit {0}
+IsNewsKind timers (event.WriteFault l kind) = Unit {0}
+IsNewsKind timers (event.Timeout ms) = ⊥
+IsNewsKind timers event.Shutdown = Unit {0}
 
 -- leaves the stories
 abbrev pub heard_book : Book → ℕ → ℕ → EventKind → Book
@@ -174,17 +177,20 @@ still_as_many : (b : Book) (number word : ℕ) (kind : EventKind) → record (he
 still_as_many b number word kind = let e : b.submissions + 0 ≡ b.submissions = omega arith in λ i. record (heard_book b number word kind) { submissions = e i }
 
 -- the book with its turn is that book
-pub heard_is : (b : Book) (number word : ℕ) (kind : EventKind) → IsNewsKind kind → entered b (action.Turn number (cause.Event (record { word = word; kind = kind }))) ≡ heard_book b number word kind
+pub heard_is : (b : Book) (number word : ℕ) (kind : EventKind) → IsNewsKind b.timers kind → entered b (action.Turn number (cause.Event (record { word = word; kind = kind }))) ≡ heard_book b number word kind
 heard_is b number word (event.Submit what) k = absurd k
 heard_is b number word (event.Cancel n) k = absurd k
 heard_is b number word (event.Connected l) k = still_as_many b number word (event.Connected l)
 heard_is b number word (event.Refused l f) k = still_as_many b number word (event.Refused l f)
-heard_is b number word (event.Fired n) k = still_as_many b number word (event.Fired n)
+heard_is b number word (event.Fired n) k =
+    let e : b.submissions + 0 ≡ b.submissions = omega arith in
+    λ i. record (heard_book b number word (event.Fired n)) { submissions = e i; story = λ m. left_if (is_clock_of m (slice_get b.timers n)) (fires (b.story m)) (b.story m) (k m) i }
 heard_is b number word (event.Wrote l count) k = still_as_many b number word (event.Wrote l count)
 heard_is b number word (event.Bytes l piece) k = still_as_many b number word (event.Bytes l piece)
 heard_is b number word (event.Ended l) k = still_as_many b number word (event.Ended l)
 heard_is b number word (event.ReadFault l kind) k = still_as_many b number word (event.ReadFault l kind)
 heard_is b number word (event.WriteFault l kind) k = still_as_many b number word (event.WriteFault l kind)
+heard_is b number word (event.Timeout ms) k = absurd k
 heard_is b number word event.Shutdown k = still_as_many b number word event.Shutdown
 
 -- tries are of the starts
@@ -200,17 +206,41 @@ tries_by l after story requests link started e h = record {
 abbrev pub turned : Core → EventKind → Core
 turned c kind = shut_by (record c { turns = c.turns + 1 }) kind
 
+-- what timers are for, with none more
+pub aims_on : (timers : List Purpose) (link count : ℕ) → AreAimed timers link count → AreAimed (timers ++ []) link count
+aims_on timers link count h = subst (λ (ts : List Purpose). AreAimed ts link count) (sym (append-nil timers)) h
+
+-- with more submissions
+pub aims_longer : (timers : List Purpose) (link count more : ℕ) → count ≤ more → AreAimed timers link count → AreAimed timers link more
+aims_longer timers link count more l h k what e = by_purpose what (h k what e)
+  where
+    by_purpose : (x : Purpose) → IsAim x link count → IsAim x link more
+    by_purpose (purpose.Connect m) is = is
+    by_purpose (purpose.Response (owner.Try n round)) is = (let less = is.0 in omega arith, is.1)
+
 -- the session tied to that book, by what its link hears and has come to; the creation may be shown with it
-pub heard_tied : (b : Book) (c : Core) (started : List ℕ) (word created : ℕ) (kind : EventKind) (life : Life) (pending : List ℕ) (l : Ledger) → Tied b (inner c started) → is_bad c kind ≡ false → noted (b.link c.single.link) (hears c.turns (news_of b.timers c.single.link kind)) ≡ l
+pub heard_tied : (b : Book) (c : Core) (started : List ℕ) (word created : ℕ) (kind : EventKind) (life : Life) (fresh pending : List ℕ) (l : Ledger) → Tied b (inner c started) → is_bad c kind ≡ false → noted (b.link c.single.link) (hears c.turns (news_of b.timers c.single.link kind)) ≡ l
     → l.starts ≡ (b.link c.single.link).starts → TiedLife l created life → (has_ended life ≡ false → TiedLink (owner_of c.single.connection.requests) l (link_in life))
     → TiedLines b.story c.single.connection.requests (link_in life) c.single.connection.waiting c.single.connection.admitted pending started → (has_ended life ≡ false → AreQueued b.story c.single.connection.requests (link_in life))
-    → TiedWaits b.story c.single.connection.requests life c.single.connection.fresh c.single.connection.moved
-    → Tied (record (heard_book b c.turns word kind) { created = created }) (seen (turned c kind) (record c.single.connection { life = life }) pending started)
-heard_tied b c started word created kind life pending l h good is same lived linked lines told waits =
+    → TiedWaits b.story c.single.connection.requests life fresh c.single.connection.moved
+    → Tied (record (heard_book b c.turns word kind) { created = created }) (seen (turned c kind) [] (record c.single.connection { life = life; fresh = fresh }) pending started)
+heard_tied b c started word created kind life fresh pending l h good is same lived linked lines told waits =
     let after = record (heard_book b c.turns word kind) { created = created } in
-    let t = seen (turned c kind) (record c.single.connection { life = life }) pending started in
+    let t = seen (turned c kind) [] (record c.single.connection { life = life; fresh = fresh }) pending started in
     tied_by after t l is (record {
-      numbers = record { turns = ap (λ n. n + 1) h.numbers.turns; links = h.numbers.links; timers = h.numbers.timers; aims = h.numbers.aims; timed = λ config other opens bounded none. no_opening _ config other opens; submissions = h.numbers.submissions; shut = ap (λ s. s || is_shutdown kind) h.numbers.shut; settings = record { size_is = h.numbers.settings.size_is; bound_is = h.numbers.settings.bound_is; some = h.numbers.settings.some }; one = h.numbers.one; only = h.numbers.only };
+      numbers = record {
+        turns = ap (λ n. n + 1) h.numbers.turns;
+        links = h.numbers.links;
+        timers = h.numbers.timers ∙ sym (append-nil c.timers);
+        aims = aims_on c.timers c.single.link (length c.table) h.numbers.aims;
+        timed = λ config other opens bounded none. no_opening _ config other opens;
+        submissions = h.numbers.submissions;
+        timeout = h.numbers.timeout;
+        shut = ap (λ s. s || is_shutdown kind) h.numbers.shut;
+        settings = record { size_is = h.numbers.settings.size_is; bound_is = h.numbers.settings.bound_is; limit_is = h.numbers.settings.limit_is; some = h.numbers.settings.some; limited = h.numbers.settings.limited };
+        one = h.numbers.one;
+        only = h.numbers.only;
+      };
       others = others_heard b c started kind h good;
       life = lived;
       link = linked;
@@ -220,6 +250,8 @@ heard_tied b c started word created kind life pending l h good is same lived lin
       lines = lines;
       told = told;
       waits = waits;
+      permits = h.permits;
+      late = λ p o late. absurd (h.late p o late);
     })
 
 -- the trace begins
@@ -229,8 +261,8 @@ pub announced_sound : (before : List Action) (c : Core) (started : List ℕ) (wo
 announced_sound before c started word kind t h good tied = sound_more before (turn_of c word kind) t h.sound.stands (may_turn before c started word kind h good) tied
 
 -- no act is shown yet
-pub holds_first : (before : List Action) (f : Core) (conn : MultiplexedConnection) (pending started : List ℕ) → Sound before (seen f conn pending started) → Holds before f (record { conn = conn; acts = [] }) pending started
-holds_first before f conn pending started h = subst (λ (x : List Action). Sound x (seen f conn pending started)) (sym (append-nil before)) h
+pub holds_first : (before : List Action) (f : Core) (conn : MultiplexedConnection) (pending started : List ℕ) → Sound before (seen f [] conn pending started) → Holds before f (record { conn = conn; acts = [] }) pending started
+holds_first before f conn pending started h = subst (λ (x : List Action). Sound x (seen f [] conn pending started)) (sym (append-nil before)) h
 
 -- the book of a turn without acts
 pub first_book : (before : List Action) (a : Action) (f : Core) → book (trace_of_acts (before ++ a ∷ []) f []) ≡ entered (book before) a

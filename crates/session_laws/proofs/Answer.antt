@@ -1,10 +1,11 @@
 -- One outcome: where it may stand, and what it leaves.
-use Rattle.std.proofs.Common.{◌≡◌, ◌≢◌, inl, inr, ℕ, ◌<◌, ◌==◌, Bool, true, false, ◌&&◌, not, is_some, List, [], ◌∷◌, ◌++◌, length, Option, Some, None, if◌then◌else◌, refl, sym, ap, ◌∙◌, subst}
+use Rattle.std.proofs.Common.{◌≡◌, ◌≢◌, inl, inr, ℕ, ◌<◌, ◌==◌, Bool, true, false, ◌&&◌, not, is_some, List, [], ◌∷◌, ◌++◌, length, Option, Some, None, if◌then◌else◌, refl, sym, ap, ◌∙◌, subst, arith}
 use Rattle.std.specs.List.{AllByRecursion}
-use Rattle.containers.proofs.Choices.{by_test, chosen, if_true, left_if, eq_from, ne_from, not_both}
+use Rattle.containers.proofs.Choices.{by_test, chosen, if_true, left_if, taken_if, eq_from, eq_test, ne_from, not_both}
 use Rattle.driver_model.specs.declared.action.Action.TheVariants as action
 use Rattle.driver_model.specs.declared.outcome.Outcome.{Outcome}
 use Rattle.driver_model.specs.declared.outcome.Outcome.TheVariants as outcome
+use Rattle.redis_error.specs.declared.fault_kind.FaultKind.TheVariants as kinds
 use Rattle.redis_error.specs.declared.redis_error.RedisError.{RedisError}
 use Rattle.redis_error.specs.declared.redis_error.RedisError.TheVariants as error
 use Rattle.link_core.specs.declared.message.Entry.{Entry}
@@ -17,18 +18,19 @@ use Rattle.mux_conn.specs.declared.request.Pending.{Pending}
 use Rattle.mux_conn.specs.declared.request.Progress.TheVariants as progress
 use Rattle.mux_conn.specs.declared.request.Request.{Request}
 use Rattle.mux_conn.specs.declared.request.Waiting.{Waiting}
-use Rattle.mux_conn.specs.Requests.{is_open as is_open_progress, is_placed, is_open_at, name_at, at_progress}
+use Rattle.mux_conn.specs.Requests.{is_open as is_open_progress, is_placed, is_open_at, name_at, permits_at, with_permits, given_back}
 use Rattle.legal_trace.specs.Ledger.{End, ending_up, ending_asked, Ledger, is_over, ending}
 use Rattle.legal_trace.specs.Story.{Story, Try, last_of, is_no_error, is_open, packed_in, shape_in, bytes_of, answered}
 use Rattle.legal_trace.specs.Book.{Book, entered}
 use Rattle.legal_trace.specs.Owed.{owed, owed_to_try, owed_to_message, owed_unstarted, unstarted_error}
 use Rattle.legal_trace.specs.Legal.{NoneEnds, VerdictsAreShown, MayAnswer, FailuresAreShown}
-use Rattle.session_laws.proofs.Numbers.{IsIn, in_right, in_left, Rising, rising_in}
-use Rattle.session_laws.proofs.Tied.{Inner, link_in, queue_ids, IsUnknown, TiedLife, TiedNames, IsEntry, AreQueued, TiedLines, Tied, relined, has_ended}
-use Rattle.session_laws.proofs.Names.{open_within, earlier_name, owners_still, length_still, names_progressed, there_other, there_then}
+use Rattle.session_laws.proofs.Numbers.{IsIn, in_either, in_right, in_left, Rising, rising_in}
+use Rattle.session_laws.proofs.Tied.{Inner, link_in, queue_ids, IsUnknown, TiedLife, TiedNames, IsEntry, AreQueued, TiedLines, Tied, relined, has_ended, numbers_kept}
+use Rattle.session_laws.proofs.Names.{name_within, open_within, earlier_name, owners_with, length_with, names_with, with_other, with_then}
 use Rattle.session_laws.proofs.InLine.{kept_ids, line_of, IsInLine, awaited_in, first_is_apart}
 use Rattle.session_laws.proofs.Behind.{open_unanswered, told_answered}
-use Rattle.session_laws.proofs.Closing.{Closes, with_closed, story_closed, tries_closed, packs_closed, queue_closed, waits_closed, kept_other, IsUntried, told_closed}
+use Rattle.session_laws.proofs.Closing.{Closes, closed_other, late_closed, with_closed, story_closed, tries_closed, packs_closed, queue_closed, waits_closed, kept_other, IsUntried, told_closed}
+use Rattle.session_laws.proofs.Permits.{permits_closed}
 use Rattle.session_laws.proofs.Owes.{request_story, open_request, answered_closed, failures_shown}
 
 -- where it may stand
@@ -104,23 +106,25 @@ abbrev pub owed_in : Book → Story → Option Outcome
 owed_in b s =
     if s.late then Some (outcome.Fault error.Closed)
     else if length (bytes_of s) == 0 then Some (outcome.Fault error.EmptyCommand)
+    else if s.overdue then Some (outcome.Fault (error.Io kinds.TimedOut))
     else owed_to_try b s (last_of s.tries)
 
 -- what is owed stays
 pub owed_still : (b : Book) (n : ℕ) (o : Outcome) (m : ℕ) → owed (entered b (action.Outcome n o)) m ≡ owed b m
 owed_still b n o m =
     chosen (λ (s : Story). owed_in (entered b (action.Outcome n o)) s ≡ owed_in b (b.story m)) (n == m) (answered (b.story m) o) (b.story m)
-    (λ t. alike (answered (b.story m) o) refl refl refl refl)
-    (λ f. alike (b.story m) refl refl refl refl)
+    (λ t. alike (answered (b.story m) o) refl refl refl refl refl)
+    (λ f. alike (b.story m) refl refl refl refl refl)
   where
     by_try : (s : Story) (x : Option Try) → s.link ≡ (b.story m).link → s.submission ≡ (b.story m).submission → owed_to_try (entered b (action.Outcome n o)) s x ≡ owed_to_try b (b.story m) x
     by_try s None link what = ap (λ l. owed_unstarted (b.link l).end) link
     by_try s (Some t) link what = ap (λ w. owed_to_message (b.link t.link) t.message (shape_in w)) what
 
-    alike : (s : Story) → s.late ≡ (b.story m).late → s.link ≡ (b.story m).link → s.submission ≡ (b.story m).submission → s.tries ≡ (b.story m).tries → owed_in (entered b (action.Outcome n o)) s ≡ owed_in b (b.story m)
-    alike s late link what tries = (λ i.
+    alike : (s : Story) → s.late ≡ (b.story m).late → s.overdue ≡ (b.story m).overdue → s.link ≡ (b.story m).link → s.submission ≡ (b.story m).submission → s.tries ≡ (b.story m).tries → owed_in (entered b (action.Outcome n o)) s ≡ owed_in b (b.story m)
+    alike s late overdue link what tries = (λ i.
         if late i then Some (outcome.Fault error.Closed)
         else if length (packed_in (what i)) == 0 then Some (outcome.Fault error.EmptyCommand)
+        else if overdue i then Some (outcome.Fault (error.Io kinds.TimedOut))
         else (by_try s (last_of s.tries) link what ∙ ap (λ ts. owed_to_try b (b.story m) (last_of ts)) tries) i)
 
 -- an answered story closes
@@ -129,53 +133,57 @@ answer_closes s o = record {
   submission = refl;
   late = refl;
   link = refl;
+  time = refl;
   tries = refl;
   closed = answered_closed (answered s o) s.outcomes o refl;
-  quiet = λ e. refl;
 }
 
 -- entries that are wanted are others
-pub entries_answered : (requests : List Request) (p : ℕ) (row : List Entry) → (IsIn p (wanted row) → ⊥) → AllByRecursion (IsEntry requests) row → AllByRecursion (IsEntry (at_progress requests p progress.Closed)) row
+pub entries_answered : (requests : List Request) (p : ℕ) (row : List Entry) → (IsIn p (wanted row) → ⊥) → AllByRecursion (IsEntry requests) row → AllByRecursion (IsEntry (with_permits requests p progress.Closed 0)) row
 entries_answered requests p [] apart all = tt
 entries_answered requests p (e ∷ es) apart all = (
   record {
-    below = subst (λ n. e.id < n) (sym (length_still requests p progress.Closed)) all.0.below;
+    below = subst (λ n. e.id < n) (sym (length_with requests p progress.Closed 0)) all.0.below;
     placed_at = λ t.
         let other : p ≢ e.id = λ same. apart (in_left p (if e.awaited then e.id ∷ [] else []) (wanted es) (if_true (IsIn p) e.awaited (e.id ∷ []) [] t (inl (sym same)))) in
-        there_other is_placed requests p e.id progress.Closed other ∙ all.0.placed_at t;
+        with_other is_placed requests p e.id progress.Closed 0 other ∙ all.0.placed_at t;
   },
   entries_answered requests p es (λ i. apart (in_right p (if e.awaited then e.id ∷ [] else []) (wanted es) i)) all.1,
 )
 
--- the lines where the first of those that are to be answered is, and is none of the others
+-- the lines where one that is to be answered is, and is neither in the row nor in the queue
 pub lines_answered : (table : List (Option Pending)) (story : ℕ → Story) (requests : List Request) (link : LinkState) (waiting admitted : List Waiting) (p : ℕ) (pending started : List ℕ) (closed : ℕ → Story) → TiedNames table requests → p < length requests
-    → ((n : ℕ) → Closes (story n) (closed n)) → (IsIn p (pending ++ line_of link admitted waiting) → ⊥) → TiedLines story requests link waiting admitted (p ∷ pending) started
-    → TiedLines (with_closed story requests p closed) (at_progress requests p progress.Closed) link waiting admitted pending started
+    → ((n : ℕ) → Closes (story n) (closed n)) → (IsIn p (wanted link.row ++ queue_ids link.queue) → ⊥) → TiedLines story requests link waiting admitted (p ∷ pending) started
+    → TiedLines (with_closed story requests p closed) (with_permits requests p progress.Closed 0) link waiting admitted pending started
 lines_answered table story requests link waiting admitted p pending started closed names l c apart h =
     let rows = wanted link.row in
     let queue = queue_ids link.queue in
     let kept = kept_ids admitted waiting in
     let later = queue ++ kept in
     record {
-      line = subst (Rising 0 (started ++ later)) (sym (length_still requests p progress.Closed)) h.line;
+      line = subst (Rising 0 (started ++ later)) (sym (length_with requests p progress.Closed 0)) h.line;
       queued = queue_closed table story requests p closed link.queue names l
           (λ n i. let k = rising_in 0 (started ++ later) (length requests) n h.line (in_right n started later (in_left n queue kept i)) in k.1)
-          (λ i. apart (in_right p pending (rows ++ later) (in_right p rows later (in_left p queue kept i)))) c h.queued;
-      entries = entries_answered requests p link.row (λ i. apart (in_right p pending (rows ++ later) (in_left p rows later i))) h.entries;
+          (λ i. apart (in_right p rows queue i)) c h.queued;
+      entries = entries_answered requests p link.row (λ i. apart (in_left p rows queue i)) h.entries;
       packs = packs_closed story requests p closed waiting c h.packs;
       packed_in = packs_closed story requests p closed admitted c h.packed_in;
       there = λ q e.
-          let k = there_then is_open_progress requests p q progress.Closed refl l e in
+          let k = with_then is_open_progress requests p q progress.Closed 0 refl l e in
           elim (h.there q k.1) [
             | inl i ↦ elim i [ inl same ↦ absurd (k.0 same) | inr j ↦ inl j ]
-            | inr w ↦ inr (kept_other requests p q progress.Closed waiting admitted k.0 w)
+            | inr w ↦ inr (kept_other requests p q progress.Closed 0 waiting admitted k.0 w)
           ];
     }
 
--- the first of those that are to be answered is, and is none of the others; who is told and has not started is in the queue
-pub answer_apart : (b : Book) (t : Inner) (p : ℕ) (pending : List ℕ) (o : Outcome) → p < length t.requests → (IsIn p (pending ++ line_of (link_in t.life) t.admitted t.waiting) → ⊥)
-    → (has_ended t.life ≡ false → AreQueued (entered b (action.Outcome (name_at t.requests p) o)).story (at_progress t.requests p progress.Closed) (link_in t.life)) → Tied b (record t { pending = p ∷ pending })
-    → Tied (entered b (action.Outcome (name_at t.requests p) o)) (record t { requests = at_progress t.requests p progress.Closed; pending = pending })
+-- the session with this request closed, and these to be answered
+abbrev pub closed_in : Inner → ℕ → List ℕ → Inner
+closed_in t p pending = record t { requests = with_permits t.requests p progress.Closed 0; free = given_back t.limit t.free (permits_at t.requests p); pending = pending }
+
+-- one that is to be answered is, and is neither in the row nor in the queue; who is told and has not started is there
+pub answer_apart : (b : Book) (t : Inner) (p : ℕ) (pending : List ℕ) (o : Outcome) → p < length t.requests → (IsIn p (wanted (link_in t.life).row ++ queue_ids (link_in t.life).queue) → ⊥)
+    → (has_ended t.life ≡ false → AreQueued (entered b (action.Outcome (name_at t.requests p) o)).story (with_permits t.requests p progress.Closed 0) (link_in t.life)) → Tied b (record t { pending = p ∷ pending })
+    → Tied (entered b (action.Outcome (name_at t.requests p) o)) (closed_in t p pending)
 answer_apart b t p pending o l apart told h =
     let closed : ℕ → Story = λ n. answered (b.story n) o in
     let c : (n : ℕ) → Closes (b.story n) (closed n) = λ n. answer_closes (b.story n) o in
@@ -183,21 +191,29 @@ answer_apart b t p pending o l apart told h =
     let rows = wanted link.row in
     let queue = queue_ids link.queue in
     let kept = kept_ids t.admitted t.waiting in
+    let now = record t { pending = p ∷ pending } in
+    let n = name_at t.requests p in
+    let r = request_story b now p h l in
+    let known : n < b.submissions = (let within = name_within t.table t.requests p h.names l in let e = h.numbers.submissions in omega arith) in
+    let own : (entered b (action.Outcome n o)).story n ≡ closed n = taken_if (n == n) (closed n) (b.story n) (eq_test n n refl) in
     record {
-      numbers = record { turns = h.numbers.turns; links = h.numbers.links; timers = h.numbers.timers; aims = h.numbers.aims; timed = h.numbers.timed; submissions = h.numbers.submissions; shut = h.numbers.shut; settings = record { size_is = h.numbers.settings.size_is; bound_is = h.numbers.settings.bound_is; some = h.numbers.settings.some }; one = h.numbers.one; only = h.numbers.only };
+      numbers = numbers_kept b b.link (entered b (action.Outcome n o)).story now t.life (given_back t.limit t.free (permits_at t.requests p)) (with_permits t.requests p progress.Closed 0) t.waiting t.admitted t.fresh t.moved t.letting pending t.started h.numbers;
       others = h.others;
       life = h.life;
-      link = λ n. subst (λ name. TiedLink name (b.link t.link) (link_in t.life)) (sym (owners_still t.requests p progress.Closed)) (h.link n);
-      names = names_progressed t.table t.requests p progress.Closed h.names;
-      story = λ n. story_closed b.story t.table t.requests t.link p closed n h.names l (c n) (h.story n);
+      link = λ up. subst (λ name. TiedLink name (b.link t.link) (link_in t.life)) (sym (owners_with t.requests p progress.Closed 0)) (h.link up);
+      names = names_with t.table t.requests p progress.Closed 0 h.names;
+      story = λ m. story_closed b.story t.table t.requests t.link p closed m h.names l refl (c m) (h.story m);
       tries = tries_closed (b.link t.link) b.story t.requests t.link p closed t.started c h.tries;
       lines = lines_answered t.table b.story t.requests (link_in t.life) t.waiting t.admitted p pending t.started closed h.names l c apart h.lines;
       told = told;
-      waits = waits_closed t.table b.story t.requests p closed t.life t.life t.fresh t.moved h.names l c (λ e. e)
+      waits = waits_closed t.table b.story t.requests p closed t.life t.life t.fresh t.moved h.names l (λ e. e) (λ x e. (x, e))
           (λ q i.
           let j = awaited_in q link.queue i in
           let k = rising_in 0 (t.started ++ (queue ++ kept)) (length t.requests) q h.lines.line (in_right q t.started (queue ++ kept) (in_left q queue kept j)) in
-          ((λ same. apart (in_right p pending (rows ++ (queue ++ kept)) (in_right p rows (queue ++ kept) (in_left p queue kept (subst (λ n. IsIn n queue) (sym same) j))))), k.1, i)) h.waits;
+          ((λ same. apart (in_right p rows queue (subst (λ m. IsIn m queue) (sym same) j))), k.1, i)) h.waits;
+      permits = permits_closed b.story (entered b (action.Outcome n o)).story t.table b.submissions t.requests t.link t.limit t.free t.letting p h.names l known r.on r.permits_is (λ m other. closed_other b.story t.requests p closed m other)
+          (ap (λ (s : Story). s.permits) own) (ap (λ (s : Story). s.link) own ∙ r.on) h.permits;
+      late = late_closed t.table b.story t.requests p closed (p ∷ pending) pending h.names l (λ q other i. elim i [ inl same ↦ absurd (other same) | inr j ↦ j ]) h.late;
     }
 
 -- what is owed to a submission without a message is an error
@@ -215,11 +231,14 @@ end_is (Some end) o e = fault_is (unstarted_error end.why) o e
 owed_fault : (b : Book) (n : ℕ) (o : Outcome) → (b.story n).tries ≡ [] → owed b n ≡ Some o → is_no_error (o ∷ []) ≡ false
 owed_fault b n o none e =
     let by_try = owed_to_try b (b.story n) (last_of (b.story n).tries) in
-    chosen (λ (x : Option Outcome). x ≡ Some o → is_no_error (o ∷ []) ≡ false) (b.story n).late (Some (outcome.Fault error.Closed)) (if length (bytes_of (b.story n)) == 0 then Some (outcome.Fault error.EmptyCommand) else by_try)
+    let in_time = if (b.story n).overdue then Some (outcome.Fault (error.Io kinds.TimedOut)) else by_try in
+    chosen (λ (x : Option Outcome). x ≡ Some o → is_no_error (o ∷ []) ≡ false) (b.story n).late (Some (outcome.Fault error.Closed)) (if length (bytes_of (b.story n)) == 0 then Some (outcome.Fault error.EmptyCommand) else in_time)
     (λ t. fault_is error.Closed o)
-    (λ f. chosen (λ (x : Option Outcome). x ≡ Some o → is_no_error (o ∷ []) ≡ false) (length (bytes_of (b.story n)) == 0) (Some (outcome.Fault error.EmptyCommand)) by_try
+    (λ f. chosen (λ (x : Option Outcome). x ≡ Some o → is_no_error (o ∷ []) ≡ false) (length (bytes_of (b.story n)) == 0) (Some (outcome.Fault error.EmptyCommand)) in_time
     (λ t. fault_is error.EmptyCommand o)
-    (λ g is. end_is (b.link (b.story n).link).end o (ap (λ ts. owed_to_try b (b.story n) (last_of ts)) (sym none) ∙ is)))
+    (λ g. chosen (λ (x : Option Outcome). x ≡ Some o → is_no_error (o ∷ []) ≡ false) (b.story n).overdue (Some (outcome.Fault (error.Io kinds.TimedOut))) by_try
+    (λ t. fault_is (error.Io kinds.TimedOut) o)
+    (λ d is. end_is (b.link (b.story n).link).end o (ap (λ ts. owed_to_try b (b.story n) (last_of ts)) (sym none) ∙ is))))
     e
 
 -- so an open submission that is answered with what it is owed was not told at its place, or has started
@@ -228,14 +247,18 @@ owed_untold b n o asked owes u =
     let outcomes_are : (b.story n).outcomes ++ o ∷ [] ≡ o ∷ [] = ap (λ os. os ++ o ∷ []) (open_unanswered (b.story n) asked) in
     not_both (is_no_error ((b.story n).outcomes ++ o ∷ [])) (ap is_no_error outcomes_are ∙ owed_fault b n o u.1 owes) (told_answered (answered (b.story n) o) u.0)
 
+-- a front of three lists
+front_in : (p : ℕ) (xs ys zs : List ℕ) → IsIn p (xs ++ ys) → IsIn p (xs ++ (ys ++ zs))
+front_in p xs ys zs i = elim (in_either p xs ys i) [ inl j ↦ in_left p xs (ys ++ zs) j | inr j ↦ in_right p xs (ys ++ zs) (in_left p ys zs j) ]
+
 -- where the line rises
 pub answer_tied : (b : Book) (t : Inner) (p : ℕ) (pending : List ℕ) (o : Outcome) → is_open_at t.requests p ≡ true → owed b (name_at t.requests p) ≡ Some o → IsInLine t.requests (link_in t.life) t.admitted t.waiting (p ∷ pending)
-    → Tied b (record t { pending = p ∷ pending }) → Tied (entered b (action.Outcome (name_at t.requests p) o)) (record t { requests = at_progress t.requests p progress.Closed; pending = pending })
+    → Tied b (record t { pending = p ∷ pending }) → Tied (entered b (action.Outcome (name_at t.requests p) o)) (closed_in t p pending)
 answer_tied b t p pending o e owes r h =
     let l = open_within t.requests p e in
     let link = link_in t.life in
     let asked = (request_story b (record t { pending = p ∷ pending }) p h l).open_is ∙ e in
-    answer_apart b t p pending o l (first_is_apart 0 p (pending ++ line_of link t.admitted t.waiting) (length t.requests) r)
+    answer_apart b t p pending o l (λ i. first_is_apart 0 p (pending ++ line_of link t.admitted t.waiting) (length t.requests) r (in_right p pending (line_of link t.admitted t.waiting) (front_in p (wanted link.row) (queue_ids link.queue) (kept_ids t.admitted t.waiting) i)))
     (λ up. told_closed b.story t.requests p (λ n. answered (b.story n) o) link link (λ u. absurd (owed_untold b (name_at t.requests p) o asked owes u)) (λ q is i. i) (h.told up)) h
 
 -- one that isn't open is answered with nothing shown
@@ -251,4 +274,4 @@ skip_tied b t p pending closed h =
         | inl i ↦ elim i [ inl same ↦ absurd (not_both (is_open_at t.requests q) (ap (is_open_at t.requests) (sym same) ∙ closed) e) | inr j ↦ inl j ]
         | inr w ↦ inr w
       ];
-    }) h.waits
+    }) h.waits (λ q o late. elim (h.late q o late) [ inl same ↦ absurd (not_both (is_open_at t.requests q) (ap (is_open_at t.requests) (sym same) ∙ closed) o) | inr i ↦ i ])

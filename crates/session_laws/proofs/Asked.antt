@@ -1,5 +1,6 @@
 -- A submission is handed in: it is the next request, or it is answered at once.
-use Rattle.std.proofs.Common.{◌≡◌, ◌≢◌, inl, inr, ℕ, ◌+◌, ◌<◌, ◌≤◌, ◌==◌, Bool, true, false, ◌||◌, ◌&&◌, not, List, [], ◌∷◌, ◌++◌, length, Some, None, slice_get, if◌then◌else◌, refl, sym, ap, ◌∙◌, subst, append_assoc, arith, length-append}
+use Rattle.std.proofs.lemmas.List.{append-nil}
+use Rattle.std.proofs.Common.{◌≡◌, ◌≢◌, inl, inr, ℕ, ◌+◌, ◌<◌, ◌≤◌, ◌==◌, Bool, true, false, ◌||◌, ◌&&◌, not, List, [], ◌∷◌, ◌++◌, length, Some, slice_get, if◌then◌else◌, refl, sym, ap, ◌∙◌, subst, append_assoc, arith, length-append}
 use Rattle.containers.proofs.Places.{get_within}
 use Rattle.containers.proofs.Choices.{chosen, not_both}
 use Rattle.redis_error.specs.declared.redis_error.RedisError.{RedisError}
@@ -13,25 +14,26 @@ use Rattle.driver_model.specs.News.{silence}
 use Rattle.driver_model.specs.Request.{packed_bytes, shape_of, is_reply_awaited}
 use Rattle.link_laws.proofs.Lists.{get_last}
 use Rattle.link_laws.proofs.TiedLink.{told_tied, named_tied, all_push}
+use Rattle.mux_conn.specs.declared.request.Progress.{Progress}
 use Rattle.mux_conn.specs.declared.request.Progress.TheVariants as progress
 use Rattle.mux_conn.specs.declared.request.Request.{Request}
 use Rattle.mux_conn.specs.declared.request.Waiting.{Waiting}
-use Rattle.mux_conn.specs.Requests.{is_open as is_open_progress, is_waiting, is_admitted, if_there, name_or_none, is_open_at, is_waiting_at, is_admitted_at, name_at, waiting_of, asked}
+use Rattle.mux_conn.specs.Requests.{is_open as is_open_progress, is_waiting, is_admitted, is_placed, if_there, name_or_none, permits_or_none, permits_at, is_open_at, is_waiting_at, is_admitted_at, is_placed_at, name_at, waiting_of, asked}
 use Rattle.shared_session.specs.declared.core_state.Core.{Core}
 use Rattle.shared_session.specs.Turn.{Turning, heard, refused_with, asked_for, pending, effect, counted, is_bad}
 use Rattle.legal_trace.specs.Story.{Story, is_no_error, is_told, is_awaited}
 use Rattle.legal_trace.specs.Book.{Book, blank_book, book, entered}
 use Rattle.legal_trace.specs.Legal.{AllStand, NoneEnds, MayAnswer}
 use Rattle.session_laws.proofs.Numbers.{IsIn, in_left, in_right, Rising, rising_next}
-use Rattle.session_laws.proofs.Tied.{inner, link_in, owner_of, queue_ids, waiting_ids, IsOf, IsRequest, IsPacked, IsKept, shown_wait, IsNew, TiedLines, TiedWaits, Tied, no_opening}
+use Rattle.session_laws.proofs.Tied.{inner, link_in, owner_of, queue_ids, waiting_ids, IsOf, IsRequest, IsPacked, IsKept, TiedLines, TiedWaits, Tied, no_opening}
 use Rattle.session_laws.proofs.States.{Between, HasApplied}
 use Rattle.session_laws.proofs.Entered.{all_stand-append, book_more, sound_more}
 use Rattle.session_laws.proofs.Names.{there_within, names_asked}
 use Rattle.session_laws.proofs.Owes.{started_within}
 use Rattle.session_laws.proofs.Settle.{seen}
-use Rattle.session_laws.proofs.Announce.{turn_of, turned, may_turn}
+use Rattle.session_laws.proofs.Announce.{aims_longer, aims_on, turn_of, turned, may_turn}
 use Rattle.session_laws.proofs.Heard.{told_life, silent_no_end, silent_applied}
-use Rattle.session_laws.proofs.Further.{one_longer, there_longer, before_or_new, further_story, tries_longer, queue_longer, packs_longer, entries_longer, owners_of_row, told_longer, IsNext, waits_longer}
+use Rattle.session_laws.proofs.Further.{one_longer, there_longer, before_or_new, further_story, tries_longer, queue_longer, packs_longer, entries_longer, owners_of_row, told_longer, IsNext, waits_longer, permits_longer, late_longer}
 use Rattle.session_laws.proofs.InLine.{kept_ids, awaited_in}
 use Rattle.session_laws.proofs.Submit.{stories_with, new_story, story_is_new, others_before, within_line, IsErrorOf, may_refuse, core_refused, refused_tied}
 
@@ -43,7 +45,7 @@ refused_applied before c started word what e h good why =
     let front = before ++ turn_of c word (event.Submit what) ∷ [] in
     let now = entered b (turn_of c word (event.Submit what)) in
     let a = action.Outcome (length c.table) (outcome.Fault e) in
-    let t = seen (core_refused c what) c.single.connection [] started in
+    let t = seen (core_refused c what) [] c.single.connection [] started in
     let book_is : book front ≡ now = book_more before (turn_of c word (event.Submit what)) in
     let all : AllStand blank_book front = all_stand-append before (turn_of c word (event.Submit what) ∷ []) h.sound.stands (may_turn before c started word (event.Submit what) h good, tt) in
     let applied = h.settled.written.moved.applied in
@@ -61,7 +63,7 @@ refused_applied before c started word what e h good why =
 --
 -- the next request
 abbrev new_request : Core → Request
-new_request c = record { name = length c.table; progress = progress.Waiting }
+new_request c = record { name = length c.table; progress = progress.Waiting; permits = 0 }
 
 -- the requests with it
 abbrev more_requests : Core → List Request
@@ -69,7 +71,7 @@ more_requests c = c.single.connection.requests ++ new_request c ∷ []
 
 -- how it waits
 abbrev new_waiting : Core → Submission → Waiting
-new_waiting c what = waiting_of (length c.single.connection.requests) (packed_bytes what) (shape_of what) (is_reply_awaited what)
+new_waiting c what = waiting_of (length c.single.connection.requests) (packed_bytes what) (shape_of what) (is_reply_awaited what) c.timeout
 
 -- who waits then
 waiting_more : (waiting : List Waiting) (w : Waiting) → waiting_ids (waiting ++ w ∷ []) ≡ waiting_ids waiting ++ w.number ∷ []
@@ -91,6 +93,14 @@ last_waiting c = ap (if_there is_waiting) (get_last c.single.connection.requests
 -- and not for a place
 last_unadmitted : (c : Core) → is_admitted_at (more_requests c) (length c.single.connection.requests) ≡ false
 last_unadmitted c = ap (if_there is_admitted) (get_last c.single.connection.requests (new_request c))
+
+-- and it has none
+last_unplaced : (c : Core) → is_placed_at (more_requests c) (length c.single.connection.requests) ≡ false
+last_unplaced c = ap (if_there is_placed) (get_last c.single.connection.requests (new_request c))
+
+-- nor a permit
+last_free : (c : Core) → permits_at (more_requests c) (length c.single.connection.requests) ≡ 0
+last_free c = ap permits_or_none (get_last c.single.connection.requests (new_request c))
 
 -- what is one of these and not one of those before is the last
 last_is : (c : Core) (p : ℕ) → p < length (more_requests c) → length c.single.connection.requests ≤ p → p ≡ length c.single.connection.requests
@@ -136,7 +146,10 @@ asked_lines b c started what h =
       entries = entries_longer conn.requests (more_requests c) (link_in conn.life).row longer h.lines.entries;
       packs = all_push (IsPacked after (more_requests c)) conn.waiting (new_waiting c what)
           (packs_longer c.table b.story after conn.requests (more_requests c) conn.waiting h.names same longer (λ p i. at p (in_right p started (queue ++ kept) (in_right p queue kept (in_right p admitted last i)))) h.lines.packs)
-          (subst (λ (s : Story). IsOf s (packed_bytes what) (shape_of what) (is_reply_awaited what)) (sym own) (record { packs = refl; shape_is = refl; awaited_is = refl }));
+          (record {
+            is_of = subst (λ (s : Story). IsOf s (packed_bytes what) (shape_of what) (is_reply_awaited what)) (sym own) (record { packs = refl; shape_is = refl; awaited_is = refl });
+            time_is = sym h.numbers.timeout ∙ ap (λ (s : Story). s.timeout) (sym own);
+          });
       packed_in = packs_longer c.table b.story after conn.requests (more_requests c) conn.admitted h.names same longer (λ p i. at p (in_right p started (queue ++ kept) (in_right p queue kept (in_left p admitted last i)))) h.lines.packed_in;
       there = λ p e. before_or_new conn.requests (more_requests c) p _
           (λ old. elim (h.lines.there p (sym (there_longer is_open_progress conn.requests (more_requests c) p longer old) ∙ e)) [
@@ -159,15 +172,20 @@ asked_next b c started what h no_fresh =
     let n = length conn.requests in
     let fresh_is : conn.fresh ++ n ∷ [] ≡ n ∷ [] = ap (λ ns. ns ++ n ∷ []) no_fresh in
     let own : after (name_at (more_requests c) n) ≡ new_story b what = ap after (last_named c) ∙ story_is_new b c started what h in
-    let unshown : shown_wait after (more_requests c) n ≡ None = ap (λ (s : Story). s.waiting) own in
+    let story_is : (p : ℕ) → p ≡ n → after (name_at (more_requests c) p) ≡ new_story b what = λ p is. ap (λ m. after (name_at (more_requests c) m)) is ∙ own in
+    let last : (test : Progress → Bool) (p : ℕ) → if_there test (slice_get (more_requests c) p) ≡ true → n ≤ p → p ≡ n = λ test p w past. last_is c p (there_within test (more_requests c) p w) past in
+    let long = length-append conn.requests (new_request c ∷ []) in
+    let in_fresh : (p : ℕ) → p ≡ n → IsIn p (conn.fresh ++ n ∷ []) = λ p is. subst (IsIn p) (sym fresh_is) (inl (sym is)) in
     record {
-      new = subst (IsNew after (more_requests c)) (sym fresh_is) unshown;
-      shown = λ p w past.
-          let is = last_is c p (there_within is_waiting (more_requests c) p w) past in
-          (ap (shown_wait after (more_requests c)) is ∙ unshown, fresh_is ∙ ap (λ m. m ∷ []) (sym is));
-      none = λ p a past.
-          let is = last_is c p (there_within is_admitted (more_requests c) p a) past in
-          not_both (is_admitted_at (more_requests c) p) (ap (is_admitted_at (more_requests c)) is ∙ last_unadmitted c) a;
+      newer = subst (λ ns. Rising 0 ns (length (more_requests c))) (sym fresh_is) (omega arith, omega (arith, long));
+      only = λ p i. elim (subst (IsIn p) fresh_is i) as (λ _. n ≤ p) [ inl same ↦ omega (arith, same) | inr none ↦ absurd none ];
+      shown = λ p w past. let is = last is_waiting p w past in (ap (λ (s : Story). s.waiting) (story_is p is), in_fresh p is);
+      none = λ p e past. elim e [
+        | inl a ↦ not_both (is_admitted_at (more_requests c) p) (ap (is_admitted_at (more_requests c)) (last is_admitted p a past) ∙ last_unadmitted c) a
+        | inr a ↦ not_both (is_placed_at (more_requests c) p) (ap (is_placed_at (more_requests c)) (last is_placed p a past) ∙ last_unplaced c) a
+      ];
+      free = λ p w past. let is = last is_waiting p w past in (ap (permits_at (more_requests c)) is ∙ last_free c, ap (λ (s : Story). s.clock) (story_is p is));
+      early = λ p o past. ap (λ (s : Story). s.overdue) (story_is p (last is_open_progress p o past));
     }
 
 -- the waits with it
@@ -191,7 +209,7 @@ core_asked c what = record (turned c (event.Submit what)) { table = c.table ++ S
 
 -- the session is tied with it
 asked_tied : (b : Book) (c : Core) (started : List ℕ) (word : ℕ) (what : Submission) → Tied b (inner c started) → c.single.connection.fresh ≡ [] → b.shut ≡ false → packed_bytes what ≢ []
-    → Tied (entered b (turn_of c word (event.Submit what))) (seen (core_asked c what) (asked c.single.connection (length c.table) (packed_bytes what) (shape_of what) (is_reply_awaited what)) [] started)
+    → Tied (entered b (turn_of c word (event.Submit what))) (seen (core_asked c what) [] (asked c.single.connection (length c.table) (packed_bytes what) (shape_of what) (is_reply_awaited what) c.timeout) [] started)
 asked_tied b c started word what h no_fresh up some =
     let conn = c.single.connection in
     let ledger = b.link c.single.link in
@@ -207,7 +225,19 @@ asked_tied b c started word what h no_fresh up some =
     let named : length c.table ≡ r.name = sym (last_named c) ∙ ap (name_at (more_requests c)) (sym is) ∙ ap name_or_none i in
     ap after (sym named) ∙ story_is_new b c started what h) in
     record {
-      numbers = record { turns = ap (λ m. m + 1) h.numbers.turns; links = h.numbers.links; timers = h.numbers.timers; aims = h.numbers.aims; timed = λ config other opens bounded none. no_opening _ config other opens; submissions = (let k = h.numbers.submissions in omega (arith, length-append c.table (next ∷ []))); shut = ap (λ s. s || false) h.numbers.shut; settings = record { size_is = h.numbers.settings.size_is; bound_is = h.numbers.settings.bound_is; some = h.numbers.settings.some }; one = h.numbers.one; only = h.numbers.only };
+      numbers = record {
+        turns = ap (λ m. m + 1) h.numbers.turns;
+        links = h.numbers.links;
+        timers = h.numbers.timers ∙ sym (append-nil c.timers);
+        aims = aims_on c.timers c.single.link (length (c.table ++ next ∷ [])) (aims_longer c.timers c.single.link (length c.table) (length (c.table ++ next ∷ [])) (omega (arith, length-append c.table (next ∷ []))) h.numbers.aims);
+        timed = λ config other opens bounded none. no_opening _ config other opens;
+        submissions = (let k = h.numbers.submissions in omega (arith, length-append c.table (next ∷ [])));
+        timeout = h.numbers.timeout;
+        shut = ap (λ s. s || false) h.numbers.shut;
+        settings = record { size_is = h.numbers.settings.size_is; bound_is = h.numbers.settings.bound_is; limit_is = h.numbers.settings.limit_is; some = h.numbers.settings.some; limited = h.numbers.settings.limited };
+        one = h.numbers.one;
+        only = h.numbers.only;
+      };
       others = λ m other. let u = h.others m other in record { asked = u.asked; up = u.up; end = u.end; starts = u.starts };
       life = told_life ledger b.created conn.life silence h.life;
       link = λ alive. told_tied (owner_of (more_requests c)) ledger (link_in conn.life) ledger.asked ledger.up silence
@@ -221,6 +251,7 @@ asked_tied b c started word what h no_fresh up some =
             on = (let e = h.numbers.links in let one = h.numbers.one in omega arith);
             some = some;
             open_is = sym (last_open c);
+            permits_is = sym (last_free c);
           }));
       tries = tries_longer c.table (record ledger { heard = silence }) b.story after conn.requests (more_requests c) c.single.link started h.names same longer
           (λ p i. within_line conn.requests started queue last p h.lines.line (in_left p started (queue ++ last) i)) (λ k p i. started_within b (inner c started) k p h i)
@@ -229,6 +260,9 @@ asked_tied b c started word what h no_fresh up some =
       lines = asked_lines b c started what h;
       told = λ up. told_longer c.table b.story after conn.requests (more_requests c) (link_in conn.life) same longer (λ u. absurd (new_untold (is_awaited (new_story b what)) (ap is_told (sym (story_is_new b c started what h)) ∙ u.0))) (h.told up);
       waits = asked_waits b c started what h no_fresh;
+      permits = permits_longer c.table b.story after b.submissions conn.requests (more_requests c) c.single.link conn.limit conn.free (conn.fresh ++ n ∷ []) h.names same longer h.numbers.submissions (ap (λ (s : Story). s.permits) (story_is_new b c started what h))
+          (asked_next b c started what h no_fresh) h.permits;
+      late = late_longer c.table b.story after conn.requests (more_requests c) (conn.fresh ++ n ∷ []) h.names same longer (asked_next b c started what h no_fresh) h.late;
     }
 
 -- no act is shown
@@ -236,7 +270,7 @@ pub asked_applied : (before : List Action) (c : Core) (started : List ℕ) (word
     → HasApplied (before ++ turn_of c word (event.Submit what) ∷ []) (asked_for (heard (counted c) (event.Submit what)) what) started
 asked_applied before c started word what h good up some =
     let b = book before in
-    silent_applied before c started word (event.Submit what) (core_asked c what) (asked c.single.connection (length c.table) (packed_bytes what) (shape_of what) (is_reply_awaited what)) h good (λ m. silent_no_end (b.link m) c.turns) (λ z. absurd (omega arith)) h.moved (record { link = h.fit.link; none = h.fit.none })
+    silent_applied before c started word (event.Submit what) (core_asked c what) (asked c.single.connection (length c.table) (packed_bytes what) (shape_of what) (is_reply_awaited what) c.timeout) h good (λ m. silent_no_end (b.link m) c.turns) (λ z. absurd (omega arith)) h.moved (record { link = h.fit.link; none = h.fit.none })
     (asked_tied b c started word what h.sound.tied h.fresh up some)
 
 -- one or the other

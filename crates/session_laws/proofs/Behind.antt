@@ -10,7 +10,7 @@ use Rattle.driver_model.specs.declared.outcome.Outcome.TheVariants as outcome
 use Rattle.mux_conn.specs.Requests.{name_at}
 use Rattle.mux_conn.specs.declared.request.Pending.{Pending}
 use Rattle.legal_trace.specs.Book.{Book}
-use Rattle.legal_trace.specs.Story.{Story, Try, blank_story, is_awaited, is_no_error, is_open, is_told}
+use Rattle.legal_trace.specs.Story.{Story, blank_story, is_awaited, is_no_error, is_open, is_told}
 use Rattle.session_laws.proofs.Names.{name_of_some}
 use Rattle.session_laws.proofs.Tied.{Inner, IsRequest, Tied, TiedStory}
 
@@ -73,6 +73,6 @@ pub alive_behind : (b : Book) (t : Inner) (n : ℕ) → Tied b t → IsAlive (b.
 alive_behind b t n h a = alive_entry b t n (slice_get t.table n) h refl (h.story n) a
 
 -- one try more is one
-pub some_more : (xs : List Try) (x : Try) → xs ++ x ∷ [] ≡ [] → ⊥
+pub some_more : {X : Type 0} (xs : List X) (x : X) → xs ++ x ∷ [] ≡ [] → ⊥
 some_more [] x e = cc
 some_more (y ∷ ys) x e = cc

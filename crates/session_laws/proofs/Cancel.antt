@@ -1,13 +1,15 @@
 -- The caller of a submission has gone.
+use Rattle.std.proofs.lemmas.List.{append-nil}
 use Rattle.std.proofs.Common.{◌≡◌, ◌≢◌, inl, inr, ℕ, suc, ◌+◌, ◌<◌, ◌≤◌, ◌==◌, Bool, true, false, ◌&&◌, ◌||◌, is_some, List, [], ◌∷◌, ◌++◌, length, Option, Some, None, slice_get, if◌then◌else◌, refl, sym, ap, ◌∙◌, subst, arith}
 use Rattle.std.specs.List.{AllByRecursion}
-use Rattle.containers.proofs.Choices.{by_test, both_left, chosen, left_if, eq_from, eq_test, ne_from, not_both}
+use Rattle.containers.proofs.Choices.{by_test, both_left, chosen, left_if, taken_if, eq_from, eq_test, ne_from, not_both}
 use Rattle.driver_model.specs.declared.action.Action.{Action}
 use Rattle.driver_model.specs.declared.action.Owner.{Owner}
 use Rattle.driver_model.specs.declared.event.EventKind.TheVariants as event
 use Rattle.driver_model.specs.declared.outcome.Outcome.TheVariants as outcome
 use Rattle.resp_value.specs.declared.value.Value.TheVariants.{Nil}
-use Rattle.driver_model.specs.News.{silence}
+use Rattle.driver_model.specs.News.{News, news_of, silence}
+use Rattle.driver_model.specs.declared.event.EventKind.{EventKind}
 use Rattle.link_core.specs.declared.message.Entry.{Entry}
 use Rattle.link_core.specs.declared.message.Queued.{Queued}
 use Rattle.link_core.specs.Link.{LinkState, cancelled}
@@ -22,24 +24,26 @@ use Rattle.mux_conn.specs.declared.request.Pending.{Pending}
 use Rattle.mux_conn.specs.declared.request.Progress.TheVariants as progress
 use Rattle.mux_conn.specs.declared.request.Request.{Request}
 use Rattle.mux_conn.specs.declared.request.Waiting.{Waiting}
-use Rattle.mux_conn.specs.Requests.{is_open as is_open_progress, is_placed, is_open_at, name_at, at_progress}
+use Rattle.mux_conn.specs.Requests.{is_open as is_open_progress, is_placed, is_open_at, name_at, permits_at, with_permits, given_back, closed as closed_conn}
 use Rattle.mux_conn.specs.Effects.{cancelled_in}
 use Rattle.shared_session.specs.declared.core_state.Core.{Core}
-use Rattle.shared_session.specs.Turn.{with_work, heard, left_by, effect, counted, is_bad}
-use Rattle.legal_trace.specs.Ledger.{Ledger}
+use Rattle.shared_session.specs.Turn.{with_work, heard, is_shutdown, left_by, effect, counted, is_bad}
+use Rattle.legal_trace.specs.Ledger.{Ledger, ending, hears, noted}
 use Rattle.legal_trace.specs.Story.{Story, is_open, is_told, left}
-use Rattle.legal_trace.specs.Book.{Book, book, entered, if_own}
+use Rattle.legal_trace.specs.Book.{Book, after_event, book, entered, if_own, shuts, submitted_by, timeout_after}
 use Rattle.session_laws.proofs.Numbers.{IsIn, in_left, in_right, in_either, Rising, rising_from, rising_in, rising_right, rising_tail}
-use Rattle.session_laws.proofs.Tied.{inner, no_link, link_in, owner_of, queue_ids, IsQueued, IsEntry, AreQueued, TiedLife, TiedStory, TiedNames, TiedLines, Tied, no_opening, has_ended}
+use Rattle.session_laws.proofs.Tied.{inner, no_link, link_in, owner_of, queue_ids, IsQueued, IsEntry, AreQueued, TiedLife, TiedStory, TiedNames, TiedNumbers, TiedPermits, TiedLines, IsUnknown, Tied, no_opening, has_ended}
 use Rattle.session_laws.proofs.States.{IsFit, IsFitIn, Between, HasApplied}
-use Rattle.session_laws.proofs.Names.{open_within, name_of_some, owners_still, length_still, names_progressed, there_other, there_then}
+use Rattle.session_laws.proofs.Names.{name_within, open_within, name_of_some, owners_with, length_with, names_with, with_other, with_then}
 use Rattle.session_laws.proofs.InLine.{row_ids, kept_ids, chosen_in, awaited_in, wanted_in}
 use Rattle.session_laws.proofs.Behind.{open_untold}
 use Rattle.session_laws.proofs.Owes.{answered_closed, request_story, row_in_line}
-use Rattle.session_laws.proofs.Closing.{Closes, with_closed, story_closed, tries_closed, packs_closed, queued_other, queue_closed, AreOthers, waits_closed, kept_other, IsUntried, told_closed}
+use Rattle.session_laws.proofs.Closing.{Closes, WasReady, closed_other, late_closed, with_closed, story_closed, tries_closed, packs_closed, queued_other, queue_closed, AreOthers, waits_closed, kept_other, IsUntried, told_closed}
 use Rattle.session_laws.proofs.Answer.{entries_answered}
 use Rattle.session_laws.proofs.Settle.{seen}
-use Rattle.session_laws.proofs.Announce.{turn_of, turned}
+use Rattle.session_laws.proofs.Announce.{aims_on, turn_of, turned}
+use Rattle.session_laws.proofs.Kept.{tied_by}
+use Rattle.session_laws.proofs.Permits.{permits_closed}
 use Rattle.session_laws.proofs.Heard.{silent_applied, told_life, silent_no_end}
 
 -- one who leaves closes its story
@@ -52,14 +56,22 @@ gone_closed false b = refl
 
 -- the story of one who leaves closes
 leave_closes : (s : Story) → Closes s (left s)
-leave_closes s = chosen (Closes s) (is_open s) (record s { cancelled = true; waiting = None }) s
-    (λ t. record { submission = refl; late = refl; link = refl; tries = refl; closed = gone_closed (is_some s.submission) (length s.outcomes == 0); quiet = λ e. refl })
-    (λ f. record { submission = refl; late = refl; link = refl; tries = refl; closed = f; quiet = λ e. e })
+leave_closes s = chosen (Closes s) (is_open s) (record s { cancelled = true; permits = 0; waiting = None }) s
+    (λ t. record { submission = refl; late = refl; link = refl; time = refl; tries = refl; closed = gone_closed (is_some s.submission) (length s.outcomes == 0) })
+    (λ f. record { submission = refl; late = refl; link = refl; time = refl; tries = refl; closed = f })
+
+-- its permits are free
+leave_frees : (s : Story) → is_open s ≡ true → (left s).permits ≡ 0
+leave_frees s asked = ap (λ (x : Story). x.permits) (taken_if (is_open s) (record s { cancelled = true; permits = 0; waiting = None }) s asked)
+
+-- and its link is the same
+leave_link : (s : Story) → (left s).link ≡ s.link
+leave_link s = (leave_closes s).link
 
 -- a link without its message's verdict
 --
 -- the others are still wanted
-silenced_wanted : (row : List Entry) (p q : ℕ) → p ≢ q → IsIn q (wanted row) → IsIn q (wanted (silenced row p))
+pub silenced_wanted : (row : List Entry) (p q : ℕ) → p ≢ q → IsIn q (wanted row) → IsIn q (wanted (silenced row p))
 silenced_wanted [] p q other i = i
 silenced_wanted (e ∷ es) p q other i =
     chosen (λ (x : List Entry). IsIn q (wanted x)) (is_entry_of p e) (silent e ∷ es) (e ∷ silenced es p)
@@ -74,24 +86,24 @@ silenced_wanted (e ∷ es) p q other i =
     own false same j = j
 
 -- and have their places
-silenced_entries : (requests : List Request) (p lo hi : ℕ) (row : List Entry) (ys : List ℕ) → Rising lo (row_ids row ++ ys) hi → AllByRecursion (IsEntry requests) row → AllByRecursion (IsEntry (at_progress requests p progress.Closed)) (silenced row p)
+silenced_entries : (requests : List Request) (p lo hi : ℕ) (row : List Entry) (ys : List ℕ) → Rising lo (row_ids row ++ ys) hi → AllByRecursion (IsEntry requests) row → AllByRecursion (IsEntry (with_permits requests p progress.Closed 0)) (silenced row p)
 silenced_entries requests p lo hi [] ys r all = tt
 silenced_entries requests p lo hi (e ∷ es) ys r all =
-    let long = sym (length_still requests p progress.Closed) in
-    chosen (λ (x : List Entry). AllByRecursion (IsEntry (at_progress requests p progress.Closed)) x) (is_entry_of p e) (silent e ∷ es) (e ∷ silenced es p)
+    let long = sym (length_with requests p progress.Closed 0) in
+    chosen (λ (x : List Entry). AllByRecursion (IsEntry (with_permits requests p progress.Closed 0)) x) (is_entry_of p e) (silent e ∷ es) (e ∷ silenced es p)
     (λ t. (
       record { below = subst (λ n. e.id < n) long all.0.below; placed_at = λ z. cc },
       entries_answered requests p es (λ i. let same = eq_from e.id p t in let k = rising_in (suc e.id) (row_ids es ++ ys) hi p r.1 (in_left p (row_ids es) ys (wanted_in p es i)) in omega (arith, k.0)) all.1,
     ))
     (λ f. (
-      record { below = subst (λ n. e.id < n) long all.0.below; placed_at = λ z. there_other is_placed requests p e.id progress.Closed (λ same. ne_from e.id p f (sym same)) ∙ all.0.placed_at z },
+      record { below = subst (λ n. e.id < n) long all.0.below; placed_at = λ z. with_other is_placed requests p e.id progress.Closed 0 (λ same. ne_from e.id p f (sym same)) ∙ all.0.placed_at z },
       silenced_entries requests p (suc e.id) hi es ys r.1 all.1,
     ))
 
 -- a queue without a message
 --
 -- the others stay in it
-without_others : (queue : List Queued) (p q : ℕ) → p ≢ q → IsIn q (queue_ids queue) → IsIn q (queue_ids (without queue p))
+pub without_others : (queue : List Queued) (p q : ℕ) → p ≢ q → IsIn q (queue_ids queue) → IsIn q (queue_ids (without queue p))
 without_others [] p q other i = i
 without_others (x ∷ xs) p q other i =
     chosen (λ (ys : List Queued). IsIn q (queue_ids ys)) (is_wanted p x) xs (x ∷ without xs p)
@@ -99,7 +111,7 @@ without_others (x ∷ xs) p q other i =
     (λ f. elim i [ inl same ↦ inl same | inr j ↦ inr (without_others xs p q other j) ])
 
 -- and so do those that are awaited
-without_awaited : (queue : List Queued) (p q : ℕ) → p ≢ q → IsIn q (awaited_ids queue) → IsIn q (awaited_ids (without queue p))
+pub without_awaited : (queue : List Queued) (p q : ℕ) → p ≢ q → IsIn q (awaited_ids queue) → IsIn q (awaited_ids (without queue p))
 without_awaited [] p q other i = i
 without_awaited (x ∷ xs) p q other i =
     let own = if x.awaited then x.id ∷ [] else [] in
@@ -108,7 +120,7 @@ without_awaited (x ∷ xs) p q other i =
     (λ f. elim (in_either q own (awaited_ids xs) i) [ inl j ↦ in_left q own (awaited_ids (without xs p)) j | inr j ↦ in_right q own (awaited_ids (without xs p)) (without_awaited xs p q other j) ])
 
 -- what it holds then it held before
-without_was : (queue : List Queued) (p q : ℕ) → IsIn q (awaited_ids (without queue p)) → IsIn q (awaited_ids queue)
+pub without_was : (queue : List Queued) (p q : ℕ) → IsIn q (awaited_ids (without queue p)) → IsIn q (awaited_ids queue)
 without_was [] p q i = i
 without_was (x ∷ xs) p q i =
     let own = if x.awaited then x.id ∷ [] else [] in
@@ -117,7 +129,7 @@ without_was (x ∷ xs) p q i =
     (λ f j. elim (in_either q own (awaited_ids (without xs p)) j) [ inl k ↦ in_left q own (awaited_ids xs) k | inr k ↦ in_right q own (awaited_ids xs) (without_was xs p q k) ]) i
 
 -- and it holds that message no more
-without_apart : (queue : List Queued) (ys : List ℕ) (p lo hi : ℕ) → Rising lo (queue_ids queue ++ ys) hi → IsIn p (awaited_ids (without queue p)) → ⊥
+pub without_apart : (queue : List Queued) (ys : List ℕ) (p lo hi : ℕ) → Rising lo (queue_ids queue ++ ys) hi → IsIn p (awaited_ids (without queue p)) → ⊥
 without_apart [] ys p lo hi r i = i
 without_apart (x ∷ xs) ys p lo hi r i =
     chosen (λ (qs : List Queued). IsIn p (awaited_ids qs) → ⊥) (is_wanted p x) xs (x ∷ without xs p)
@@ -135,7 +147,7 @@ without_apart (x ∷ xs) ys p lo hi r i =
     own false f k = k
 
 -- its numbers rise
-without_rises : (queue : List Queued) (ys : List ℕ) (p lo hi : ℕ) → Rising lo (queue_ids queue ++ ys) hi → Rising lo (queue_ids (without queue p) ++ ys) hi
+pub without_rises : (queue : List Queued) (ys : List ℕ) (p lo hi : ℕ) → Rising lo (queue_ids queue ++ ys) hi → Rising lo (queue_ids (without queue p) ++ ys) hi
 without_rises [] ys p lo hi r = r
 without_rises (x ∷ xs) ys p lo hi r =
     chosen (λ (qs : List Queued). Rising lo (queue_ids qs ++ ys) hi) (is_wanted p x) xs (x ∷ without xs p)
@@ -143,14 +155,14 @@ without_rises (x ∷ xs) ys p lo hi r =
     (λ f. (r.0, without_rises xs ys p (suc x.id) hi r.1))
 
 -- and it is no longer
-without_length : (queue : List Queued) (p : ℕ) → length (without queue p) ≤ length queue
+pub without_length : (queue : List Queued) (p : ℕ) → length (without queue p) ≤ length queue
 without_length [] p = omega arith
 without_length (x ∷ xs) p =
     let l = without_length xs p in
     chosen (λ (qs : List Queued). length qs ≤ length (x ∷ xs)) (is_wanted p x) xs (x ∷ without xs p) (λ t. omega arith) (λ f. omega arith)
 
 -- a message of the queue is not that of an open request unless it is awaited
-queued_apart : (story : ℕ → Story) (requests : List Request) (p : ℕ) (q : Queued) → is_open (story (name_at requests p)) ≡ true → is_wanted p q ≡ false → IsQueued story requests q → p ≢ q.id
+pub queued_apart : (story : ℕ → Story) (requests : List Request) (p : ℕ) (q : Queued) → is_open (story (name_at requests p)) ≡ true → is_wanted p q ≡ false → IsQueued story requests q → p ≢ q.id
 queued_apart story requests p q asked f h same =
     let unawaited : q.awaited ≡ false = by_test q.awaited _ (λ t. absurd (not_both (is_wanted p q) f (λ i. eq_test q.id p (sym same) i && t i))) (λ n. n) in
     let told : (story (name_at requests p)).outcomes ≡ outcome.One Nil ∷ [] = ap (λ m. (story (name_at requests m)).outcomes) same ∙ h.told unawaited in
@@ -159,11 +171,11 @@ queued_apart story requests p q asked f h same =
 -- the messages of the others are as they were
 queue_left : (table : List (Option Pending)) (story : ℕ → Story) (requests : List Request) (p : ℕ) (closed : ℕ → Story) (queue : List Queued) (ys : List ℕ) (lo : ℕ) → TiedNames table requests → p < length requests
     → is_open (story (name_at requests p)) ≡ true → Rising lo (queue_ids queue ++ ys) (length requests) → ((n : ℕ) → Closes (story n) (closed n)) → AllByRecursion (IsQueued story requests) queue
-    → AllByRecursion (IsQueued (with_closed story requests p closed) (at_progress requests p progress.Closed)) (without queue p)
+    → AllByRecursion (IsQueued (with_closed story requests p closed) (with_permits requests p progress.Closed 0)) (without queue p)
 queue_left table story requests p closed [] ys lo names l asked r c all = tt
 queue_left table story requests p closed (x ∷ xs) ys lo names l asked r c all =
     let within : (n : ℕ) → IsIn n (queue_ids (x ∷ xs)) → n < length requests = λ n i. (let k = rising_in lo (queue_ids (x ∷ xs) ++ ys) (length requests) n r (in_left n (queue_ids (x ∷ xs)) ys i) in k.1) in
-    chosen (AllByRecursion (IsQueued (with_closed story requests p closed) (at_progress requests p progress.Closed))) (is_wanted p x) xs (x ∷ without xs p)
+    chosen (AllByRecursion (IsQueued (with_closed story requests p closed) (with_permits requests p progress.Closed 0))) (is_wanted p x) xs (x ∷ without xs p)
     (λ t.
     let same = eq_from x.id p (both_left (x.id == p) x.awaited t) in
     queue_closed table story requests p closed xs names l (λ n i. within n (inr i))
@@ -176,87 +188,93 @@ queue_left table story requests p closed (x ∷ xs) ys lo names l asked r c all 
 -- the lines of the others
 left_lines : (table : List (Option Pending)) (story : ℕ → Story) (requests : List Request) (link : LinkState) (waiting admitted : List Waiting) (p : ℕ) (started : List ℕ) (closed : ℕ → Story) → TiedNames table requests → p < length requests
     → is_open (story (name_at requests p)) ≡ true → ((n : ℕ) → Closes (story n) (closed n)) → Rising 0 (row_ids link.row ++ (queue_ids link.queue ++ kept_ids admitted waiting)) (length requests) → TiedLines story requests link waiting admitted [] started
-    → TiedLines (with_closed story requests p closed) (at_progress requests p progress.Closed) (cancelled link p) waiting admitted [] started
+    → TiedLines (with_closed story requests p closed) (with_permits requests p progress.Closed 0) (cancelled link p) waiting admitted [] started
 left_lines table story requests link waiting admitted p started closed names l asked c r h =
     let rows = wanted link.row in
     let silent_rows = wanted (silenced link.row p) in
     let queue = queue_ids link.queue in
     let kept = kept_ids admitted waiting in
     record {
-      line = subst (Rising 0 (started ++ (queue_ids (without link.queue p) ++ kept))) (sym (length_still requests p progress.Closed))
+      line = subst (Rising 0 (started ++ (queue_ids (without link.queue p) ++ kept))) (sym (length_with requests p progress.Closed 0))
           (rising_tail 0 started (queue ++ kept) (queue_ids (without link.queue p) ++ kept) (length requests) (λ low s. without_rises link.queue kept p low (length requests) s) h.line);
       queued = queue_left table story requests p closed link.queue kept 0 names l asked (rising_right 0 started (queue ++ kept) (length requests) h.line) c h.queued;
       entries = silenced_entries requests p 0 (length requests) link.row (queue ++ kept) r h.entries;
       packs = packs_closed story requests p closed waiting c h.packs;
       packed_in = packs_closed story requests p closed admitted c h.packed_in;
       there = λ q e.
-          let k = there_then is_open_progress requests p q progress.Closed refl l e in
+          let k = with_then is_open_progress requests p q progress.Closed 0 refl l e in
           elim (h.there q k.1) [
             | inl i ↦ elim (in_either q rows (awaited_ids link.queue) i) [
               | inl j ↦ inl (in_left q silent_rows (awaited_ids (without link.queue p)) (silenced_wanted link.row p q k.0 j))
               | inr j ↦ inl (in_right q silent_rows (awaited_ids (without link.queue p)) (without_awaited link.queue p q k.0 j))
             ]
-            | inr w ↦ inr (kept_other requests p q progress.Closed waiting admitted k.0 w)
+            | inr w ↦ inr (kept_other requests p q progress.Closed 0 waiting admitted k.0 w)
           ];
     }
 
 -- by the life of the link
 --
 -- the link is as far as it was
-left_life : (l : Ledger) (created : ℕ) (life : Life) (p : ℕ) → TiedLife l created life → TiedLife (record l { heard = silence }) created (cancelled_in life p)
+pub left_life : (l : Ledger) (created : ℕ) (life : Life) (p : ℕ) → TiedLife l created life → TiedLife (record l { heard = silence }) created (cancelled_in life p)
 left_life l created Dialing p h = h
 left_life l created (Ready link) p h = h
 left_life l created (Ended e) p h = h
 
 -- and tied to its ledger
-left_link : (name : ℕ → Owner) (l : Ledger) (life : Life) (p : ℕ) → (has_ended life ≡ false → TiedLink name l (link_in life)) → has_ended (cancelled_in life p) ≡ false → TiedLink name (record l { heard = silence }) (link_in (cancelled_in life p))
+pub left_link : (name : ℕ → Owner) (l : Ledger) (life : Life) (p : ℕ) → (has_ended life ≡ false → TiedLink name l (link_in life)) → has_ended (cancelled_in life p) ≡ false → TiedLink name (record l { heard = silence }) (link_in (cancelled_in life p))
 left_link name l Dialing p h n = told_tied name l (link_in Dialing) l.asked l.up silence (h refl)
 left_link name l (Ready link) p h n = told_tied name l (cancelled link p) l.asked l.up silence (cancelled_tied name l link p (h refl))
 left_link name l (Ended e) p h n = cc
 
 -- what dials has dialled before
-still_dials : (life : Life) (p : ℕ) → cancelled_in life p ≡ Dialing → life ≡ Dialing
+pub still_dials : (life : Life) (p : ℕ) → cancelled_in life p ≡ Dialing → life ≡ Dialing
 still_dials Dialing p e = refl
 still_dials (Ready link) p e = cc
 still_dials (Ended x) p e = cc
+
+-- a link that is up was so
+pub was_ready : (life : Life) (p : ℕ) → WasReady life (cancelled_in life p)
+was_ready Dialing p x e = cc
+was_ready (Ready link) p x e = (link, refl)
+was_ready (Ended y) p x e = cc
 
 -- the lines of the others, by the life of the link
 left_lines_in : (table : List (Option Pending)) (story : ℕ → Story) (requests : List Request) (life : Life) (waiting admitted : List Waiting) (p : ℕ) (started : List ℕ) (closed : ℕ → Story) → TiedNames table requests → p < length requests
     → is_open (story (name_at requests p)) ≡ true → ((n : ℕ) → Closes (story n) (closed n))
     → (has_ended life ≡ false → Rising 0 (row_ids (link_in life).row ++ (queue_ids (link_in life).queue ++ kept_ids admitted waiting)) (length requests)) → TiedLines story requests (link_in life) waiting admitted [] started
-    → TiedLines (with_closed story requests p closed) (at_progress requests p progress.Closed) (link_in (cancelled_in life p)) waiting admitted [] started
+    → TiedLines (with_closed story requests p closed) (with_permits requests p progress.Closed 0) (link_in (cancelled_in life p)) waiting admitted [] started
 left_lines_in table story requests life waiting admitted p started closed names l asked c r h = by_life life r h
   where
     -- a link without messages stays as it is
-    bare : TiedLines story requests no_link waiting admitted [] started → TiedLines (with_closed story requests p closed) (at_progress requests p progress.Closed) no_link waiting admitted [] started
+    bare : TiedLines story requests no_link waiting admitted [] started → TiedLines (with_closed story requests p closed) (with_permits requests p progress.Closed 0) no_link waiting admitted [] started
     bare h =
         let k = left_lines table story requests no_link waiting admitted p started closed names l asked c (rising_right 0 started (kept_ids admitted waiting) (length requests) h.line) h in
         record { line = k.line; queued = k.queued; entries = k.entries; packs = k.packs; packed_in = k.packed_in; there = k.there }
 
     by_life : (x : Life) → (has_ended x ≡ false → Rising 0 (row_ids (link_in x).row ++ (queue_ids (link_in x).queue ++ kept_ids admitted waiting)) (length requests)) → TiedLines story requests (link_in x) waiting admitted [] started
-        → TiedLines (with_closed story requests p closed) (at_progress requests p progress.Closed) (link_in (cancelled_in x p)) waiting admitted [] started
+        → TiedLines (with_closed story requests p closed) (with_permits requests p progress.Closed 0) (link_in (cancelled_in x p)) waiting admitted [] started
     by_life (Ready link) r h = left_lines table story requests link waiting admitted p started closed names l asked c (r refl) h
     by_life Dialing r h = bare h
     by_life (Ended e) r h = bare h
 
 -- who was told is none that leaves, and is in the queue still
 left_told : (story : ℕ → Story) (requests : List Request) (life : Life) (p : ℕ) → is_open (story (name_at requests p)) ≡ true → (has_ended life ≡ false → AreQueued story requests (link_in life))
-    → has_ended (cancelled_in life p) ≡ false → AreQueued (with_closed story requests p (λ n. left (story n))) (at_progress requests p progress.Closed) (link_in (cancelled_in life p))
+    → has_ended (cancelled_in life p) ≡ false → AreQueued (with_closed story requests p (λ n. left (story n))) (with_permits requests p progress.Closed 0) (link_in (cancelled_in life p))
 left_told story requests life p asked h = by_life life h
   where
     own : (let n = name_at requests p in IsUntried (left (story n)) → IsUntried (story n))
-    own = let s = story (name_at requests p) in chosen (λ (x : Story). IsUntried x → IsUntried s) (is_open s) (record s { cancelled = true; waiting = None }) s (λ t u. (u.0, u.1)) (λ f u. u)
+    own = let s = story (name_at requests p) in chosen (λ (x : Story). IsUntried x → IsUntried s) (is_open s) (record s { cancelled = true; permits = 0; waiting = None }) s (λ t u. (u.0, u.1)) (λ f u. u)
 
     other : (q : ℕ) → is_told (story (name_at requests q)) ≡ true → p ≢ q
     other q is same = not_both (is_told (story (name_at requests q))) (subst (λ n. is_told (story (name_at requests n)) ≡ false) same (open_untold (story (name_at requests p)) asked)) is
 
-    by_life : (x : Life) → (has_ended x ≡ false → AreQueued story requests (link_in x)) → has_ended (cancelled_in x p) ≡ false → AreQueued (with_closed story requests p (λ n. left (story n))) (at_progress requests p progress.Closed) (link_in (cancelled_in x p))
+    by_life : (x : Life) → (has_ended x ≡ false → AreQueued story requests (link_in x)) → has_ended (cancelled_in x p) ≡ false → AreQueued (with_closed story requests p (λ n. left (story n))) (with_permits requests p progress.Closed 0) (link_in (cancelled_in x p))
     by_life (Ready link) g n = told_closed story requests p (λ m. left (story m)) link (cancelled link p) own (λ q is i. without_others link.queue p q (other q is) i) (g refl)
     by_life Dialing g n = told_closed story requests p (λ m. left (story m)) no_link no_link own (λ q is i. i) (g refl)
     by_life (Ended e) g n = cc
 
 -- those that are awaited in the queue then are others
-left_others : (requests : List Request) (life : Life) (ys : List ℕ) (p lo : ℕ) → Rising lo (queue_ids (link_in life).queue ++ ys) (length requests) → AreOthers requests p life (cancelled_in life p)
+pub left_others : (requests : List Request) (life : Life) (ys : List ℕ) (p lo : ℕ) → Rising lo (queue_ids (link_in life).queue ++ ys) (length requests) → AreOthers requests p life (cancelled_in life p)
 left_others requests (Ready link) ys p lo r q i =
     let was = without_was link.queue p q i in
     let k = rising_in lo (queue_ids link.queue ++ ys) (length requests) q r (in_left q (queue_ids link.queue) ys (awaited_in q link.queue was)) in
@@ -265,10 +283,10 @@ left_others requests Dialing ys p lo r q i = absurd i
 left_others requests (Ended e) ys p lo r q i = absurd i
 
 -- the link is fit
-left_fit : (c : MultiplexedConnection) (requests : List Request) (life : Life) (p : ℕ) → c.life ≡ life → IsFitIn c → IsFitIn (record c { requests = requests; life = cancelled_in life p })
-left_fit c requests Dialing p is h = record { link = λ x e. cc; none = λ n. h.none (λ x e. (let no : Dialing ≡ Ready x = sym is ∙ e in cc)) }
-left_fit c requests (Ended y) p is h = record { link = λ x e. cc; none = λ n. h.none (λ x e. (let no : Ended y ≡ Ready x = sym is ∙ e in cc)) }
-left_fit c requests (Ready link) p is h = record {
+pub left_fit : (c : MultiplexedConnection) (free : ℕ) (requests : List Request) (life : Life) (p : ℕ) → c.life ≡ life → IsFitIn c → IsFitIn (record c { free = free; requests = requests; life = cancelled_in life p })
+left_fit c free requests Dialing p is h = record { link = λ x e. cc; none = λ n. h.none (λ x e. (let no : Dialing ≡ Ready x = sym is ∙ e in cc)) }
+left_fit c free requests (Ended y) p is h = record { link = λ x e. cc; none = λ n. h.none (λ x e. (let no : Ended y ≡ Ready x = sym is ∙ e in cc)) }
+left_fit c free requests (Ready link) p is h = record {
   link = λ x e.
       let same : cancelled link p ≡ x = cc in
       let k = h.link link is in
@@ -279,48 +297,62 @@ left_fit c requests (Ready link) p is h = record {
 
 -- the turn
 --
--- an open one has gone
-gone_tied : (b : Book) (c : Core) (started : List ℕ) (word p n : ℕ) → Tied b (inner c started) → is_bad c (event.Cancel n) ≡ false → is_open_at c.single.connection.requests p ≡ true → name_at c.single.connection.requests p ≡ n
-    → Tied (entered b (turn_of c word (event.Cancel n))) (seen (turned c (event.Cancel n)) (record c.single.connection { requests = at_progress c.single.connection.requests p progress.Closed; life = cancelled_in c.single.connection.life p }) [] started)
-gone_tied b c started word p n h good o named =
-    let conn = c.single.connection in
-    let l = open_within conn.requests p o in
-    let asked = (request_story b (inner c started) p h l).open_is ∙ o in
-    let line = rising_right 0 started (queue_ids (link_in conn.life).queue ++ kept_ids conn.admitted conn.waiting) (length conn.requests) h.lines.line in
-    let closed : ℕ → Story = λ m. left (b.story m) in
-    let k : (m : ℕ) → Closes (b.story m) (closed m) = λ m. leave_closes (b.story m) in
-    let ledger = b.link c.single.link in
-    subst (λ m. Tied (entered b (turn_of c word (event.Cancel m))) (seen (turned c (event.Cancel m)) (record conn { requests = at_progress conn.requests p progress.Closed; life = cancelled_in conn.life p }) [] started)) named
-    (record {
-      numbers = record { turns = ap (λ m. m + 1) h.numbers.turns; links = h.numbers.links; timers = h.numbers.timers; aims = h.numbers.aims; timed = λ config other opens bounded none. no_opening _ config other opens; submissions = (let e = h.numbers.submissions in omega arith); shut = ap (λ s. s || false) h.numbers.shut; settings = record { size_is = h.numbers.settings.size_is; bound_is = h.numbers.settings.bound_is; some = h.numbers.settings.some }; one = h.numbers.one; only = h.numbers.only };
-      others = λ m other. let u = h.others m other in record { asked = u.asked; up = u.up; end = u.end; starts = u.starts };
-      life = left_life ledger b.created conn.life p h.life;
-      link = λ alive. left_link (owner_of (at_progress conn.requests p progress.Closed)) ledger conn.life p (λ up. subst (λ name. TiedLink name ledger (link_in conn.life)) (sym (owners_still conn.requests p progress.Closed)) (h.link up)) alive;
-      names = names_progressed c.table conn.requests p progress.Closed h.names;
-      story = λ m. story_closed b.story c.table conn.requests c.single.link p closed m h.names l (k m) (h.story m);
-      tries = tries_closed (record ledger { heard = silence }) b.story conn.requests c.single.link p closed started k (record { owners = h.tries.owners; shapes = h.tries.shapes; tried = h.tries.tried; untried = h.tries.untried });
-      lines = left_lines_in c.table b.story conn.requests conn.life conn.waiting conn.admitted p started closed h.names l asked k (λ up. row_in_line b (inner c started) h up) h.lines;
-      told = left_told b.story conn.requests conn.life p asked h.told;
-      waits = waits_closed c.table b.story conn.requests p closed conn.life (cancelled_in conn.life p) conn.fresh conn.moved h.names l k (still_dials conn.life p) (left_others conn.requests conn.life (kept_ids conn.admitted conn.waiting) p 0 line) h.waits;
-    })
+-- the numbers of a silent turn
+--
+-- with as many submissions as before
+pub none_more : (n : ℕ) → n ≡ n + 0
+none_more n = omega arith
 
--- one that isn't open leaves nothing
-stays_left : (b : Book) (n : ℕ) → is_open (b.story n) ≡ false → (m : ℕ) → if_own (n == m) (left (b.story m)) (b.story m) ≡ b.story m
-stays_left b n f m = chosen (λ (s : Story). s ≡ b.story m) (n == m) (left (b.story m)) (b.story m)
-    (λ t. left_if (is_open (b.story m)) _ (b.story m) (ap (λ k. is_open (b.story k)) (sym (eq_from n m t)) ∙ f))
-    (λ o. refl)
+-- an event that nobody hears, which hands nothing in
+pub record IsSilent (b : Book) (c : Core) (kind : EventKind) (timeout : Option ℕ) : Type 0 where
+  pub silent : (m : ℕ) → news_of b.timers m kind ≡ silence
+  pub none : submitted_by kind ≡ 0
+  pub time : timeout_after b.timeout kind ≡ timeout
+  pub shut : (b.shut || shuts kind) ≡ (c.shut || is_shutdown kind)
 
--- and the session is tied as it was
-unmoved_tied : (b : Book) (c : Core) (started : List ℕ) (word n : ℕ) → Tied b (inner c started) → is_open (b.story n) ≡ false → Tied (entered b (turn_of c word (event.Cancel n))) (seen (turned c (event.Cancel n)) c.single.connection [] started)
-unmoved_tied b c started word n h f =
+-- the core of its turn
+abbrev pub silent_core : Core → EventKind → Option ℕ → Core
+silent_core c kind timeout = record (turned c kind) { timeout = timeout }
+
+-- its numbers are those of the book, whatever becomes of the connection
+pub silent_numbers : (b : Book) (c : Core) (started : List ℕ) (word : ℕ) (kind : EventKind) (timeout : Option ℕ) (story : ℕ → Story) (free : ℕ) (life : Life) (requests : List Request) (pending : List ℕ) → IsSilent b c kind timeout → Tied b (inner c started)
+    → TiedNumbers (record (entered b (turn_of c word kind)) { story = story }) (seen (silent_core c kind timeout) [] (record c.single.connection { free = free; life = life; requests = requests }) pending started)
+silent_numbers b c started word kind timeout story free life requests pending q h = record {
+  turns = ap (λ m. m + 1) h.numbers.turns;
+  links = h.numbers.links;
+  timers = h.numbers.timers ∙ sym (append-nil c.timers);
+  aims = aims_on c.timers c.single.link (length c.table) h.numbers.aims;
+  timed = λ config other opens bounded none. no_opening _ config other opens;
+  submissions = (let e = h.numbers.submissions in let none = q.none in omega arith);
+  timeout = q.time;
+  shut = q.shut;
+  settings = record { size_is = h.numbers.settings.size_is; bound_is = h.numbers.settings.bound_is; limit_is = h.numbers.settings.limit_is; some = h.numbers.settings.some; limited = h.numbers.settings.limited };
+  one = h.numbers.one;
+  only = h.numbers.only;
+}
+
+-- all other links stay unknown
+pub silent_others : (b : Book) (c : Core) (kind : EventKind) (timeout : Option ℕ) (m : ℕ) → IsSilent b c kind timeout → IsUnknown (b.link m) → IsUnknown (noted (b.link m) (hears c.turns (news_of b.timers m kind)))
+silent_others b c kind timeout m q u = subst (λ (x : News). IsUnknown (noted (b.link m) (hears c.turns x))) (sym (q.silent m)) (record { asked = u.asked; up = u.up; end = u.end; starts = u.starts })
+
+-- no link must end
+pub silent_ends : (b : Book) (c : Core) (kind : EventKind) (timeout : Option ℕ) → IsSilent b c kind timeout → (m : ℕ) → ending (noted (b.link m) (hears c.turns (news_of b.timers m kind))) ≡ None
+silent_ends b c kind timeout q m = ap (λ (x : News). ending (noted (b.link m) (hears c.turns x))) (q.silent m) ∙ silent_no_end (b.link m) c.turns
+
+-- where nothing else changes, the session is tied as it was
+pub still_tied : (b : Book) (c : Core) (started : List ℕ) (word : ℕ) (kind : EventKind) (timeout : Option ℕ) → IsSilent b c kind timeout → ((m : ℕ) → after_event b m kind ≡ b.story m) → Tied b (inner c started)
+    → Tied (entered b (turn_of c word kind)) (seen (silent_core c kind timeout) [] c.single.connection [] started)
+still_tied b c started word kind timeout q same h =
     let conn = c.single.connection in
     let ledger = b.link c.single.link in
-    let t = seen (turned c (event.Cancel n)) conn [] started in
-    let stories : b.story ≡ (λ m. if_own (n == m) (left (b.story m)) (b.story m)) = λ i m. sym (stays_left b n f m) i in
-    subst (λ (story : ℕ → Story). Tied (record (entered b (turn_of c word (event.Cancel n))) { story = story }) t) stories
-    (record {
-      numbers = record { turns = ap (λ m. m + 1) h.numbers.turns; links = h.numbers.links; timers = h.numbers.timers; aims = h.numbers.aims; timed = λ config other opens bounded none. no_opening _ config other opens; submissions = (let e = h.numbers.submissions in omega arith); shut = ap (λ s. s || false) h.numbers.shut; settings = record { size_is = h.numbers.settings.size_is; bound_is = h.numbers.settings.bound_is; some = h.numbers.settings.some }; one = h.numbers.one; only = h.numbers.only };
-      others = λ m other. let u = h.others m other in record { asked = u.asked; up = u.up; end = u.end; starts = u.starts };
+    let now = entered b (turn_of c word kind) in
+    let t = seen (silent_core c kind timeout) [] conn [] started in
+    let stories : b.story ≡ now.story = λ i m. sym (same m) i in
+    let heard : now.link c.single.link ≡ record ledger { heard = silence } = ap (λ (x : News). noted ledger (hears c.turns x)) (q.silent c.single.link) in
+    subst (λ (story : ℕ → Story). Tied (record now { story = story }) t) stories
+    (tied_by (record now { story = b.story }) t (record ledger { heard = silence }) heard (record {
+      numbers = silent_numbers b c started word kind timeout b.story conn.free conn.life conn.requests [] q h;
+      others = λ m other. silent_others b c kind timeout m q (h.others m other);
       life = told_life ledger b.created conn.life silence h.life;
       link = λ alive. told_tied (owner_of conn.requests) ledger (link_in conn.life) ledger.asked ledger.up silence (h.link alive);
       names = h.names;
@@ -329,7 +361,55 @@ unmoved_tied b c started word n h f =
       lines = h.lines;
       told = h.told;
       waits = h.waits;
+      permits = subst (λ k. TiedPermits b.story k conn.requests c.single.link conn.limit conn.free []) (let none = q.none in omega arith) h.permits;
+      late = h.late;
+    }))
+
+-- a leave is silent
+leave_silent : (b : Book) (c : Core) (started n : ℕ) (line : List ℕ) → Tied b (inner c line) → IsSilent b c (event.Cancel n) c.timeout
+leave_silent b c started n line h = record { silent = λ m. refl; none = refl; time = h.numbers.timeout; shut = ap (λ s. s || false) h.numbers.shut }
+
+-- an open one has gone
+gone_tied : (b : Book) (c : Core) (started : List ℕ) (word p n : ℕ) → Tied b (inner c started) → is_open_at c.single.connection.requests p ≡ true → name_at c.single.connection.requests p ≡ n
+    → Tied (entered b (turn_of c word (event.Cancel n))) (seen (turned c (event.Cancel n)) [] (record (closed_conn c.single.connection p) { life = cancelled_in c.single.connection.life p }) [] started)
+gone_tied b c started word p n h o named =
+    let conn = c.single.connection in
+    let requests = with_permits conn.requests p progress.Closed 0 in
+    let free = given_back conn.limit conn.free (permits_at conn.requests p) in
+    let l = open_within conn.requests p o in
+    let r = request_story b (inner c started) p h l in
+    let asked = r.open_is ∙ o in
+    let line = rising_right 0 started (queue_ids (link_in conn.life).queue ++ kept_ids conn.admitted conn.waiting) (length conn.requests) h.lines.line in
+    let closed : ℕ → Story = λ m. left (b.story m) in
+    let k : (m : ℕ) → Closes (b.story m) (closed m) = λ m. leave_closes (b.story m) in
+    let own = name_at conn.requests p in
+    let known : own < b.submissions = (let within = name_within c.table conn.requests p h.names l in let e = h.numbers.submissions in omega arith) in
+    let after = with_closed b.story conn.requests p closed in
+    let is : after own ≡ closed own = taken_if (own == own) (closed own) (b.story own) (eq_test own own refl) in
+    let ledger = b.link c.single.link in
+    subst (λ m. Tied (entered b (turn_of c word (event.Cancel m))) (seen (turned c (event.Cancel m)) [] (record (closed_conn conn p) { life = cancelled_in conn.life p }) [] started)) named
+    (record {
+      numbers = silent_numbers b c started word (event.Cancel own) c.timeout after free (cancelled_in conn.life p) requests [] (leave_silent b c word own started h) h;
+      others = λ m other. let u = h.others m other in record { asked = u.asked; up = u.up; end = u.end; starts = u.starts };
+      life = left_life ledger b.created conn.life p h.life;
+      link = λ alive. left_link (owner_of requests) ledger conn.life p (λ up. subst (λ name. TiedLink name ledger (link_in conn.life)) (sym (owners_with conn.requests p progress.Closed 0)) (h.link up)) alive;
+      names = names_with c.table conn.requests p progress.Closed 0 h.names;
+      story = λ m. story_closed b.story c.table conn.requests c.single.link p closed m h.names l (leave_frees (b.story own) asked) (k m) (h.story m);
+      tries = tries_closed (record ledger { heard = silence }) b.story conn.requests c.single.link p closed started k (record { owners = h.tries.owners; shapes = h.tries.shapes; tried = h.tries.tried; untried = h.tries.untried });
+      lines = left_lines_in c.table b.story conn.requests conn.life conn.waiting conn.admitted p started closed h.names l asked k (λ up. row_in_line b (inner c started) h up) h.lines;
+      told = left_told b.story conn.requests conn.life p asked h.told;
+      waits = waits_closed c.table b.story conn.requests p closed conn.life (cancelled_in conn.life p) conn.fresh conn.moved h.names l (still_dials conn.life p) (was_ready conn.life p) (left_others conn.requests conn.life (kept_ids conn.admitted conn.waiting) p 0 line) h.waits;
+      permits = subst (λ m. TiedPermits after m requests c.single.link conn.limit free []) (none_more b.submissions)
+          (permits_closed b.story after c.table b.submissions conn.requests c.single.link conn.limit conn.free [] p h.names l known r.on r.permits_is (λ m other. closed_other b.story conn.requests p closed m other)
+          (ap (λ (s : Story). s.permits) is ∙ leave_frees (b.story own) asked) (ap (λ (s : Story). s.link) is ∙ leave_link (b.story own) ∙ r.on) h.permits);
+      late = late_closed c.table b.story conn.requests p closed [] [] h.names l (λ q other i. i) h.late;
     })
+
+-- one that isn't open leaves nothing
+stays_left : (b : Book) (n : ℕ) → is_open (b.story n) ≡ false → (m : ℕ) → if_own (n == m) (left (b.story m)) (b.story m) ≡ b.story m
+stays_left b n f m = chosen (λ (s : Story). s ≡ b.story m) (n == m) (left (b.story m)) (b.story m)
+    (λ t. left_if (is_open (b.story m)) _ (b.story m) (ap (λ k. is_open (b.story k)) (sym (eq_from n m t)) ∙ f))
+    (λ o. refl)
 
 -- the caller goes
 pub cancel_applied : (before : List Action) (c : Core) (started : List ℕ) (word n : ℕ) → Between before c started → is_bad c (event.Cancel n) ≡ false → HasApplied (before ++ turn_of c word (event.Cancel n) ∷ []) (effect (counted c) (event.Cancel n)) started
@@ -339,7 +419,8 @@ cancel_applied before c started word n h good = by_entry (slice_get c.table n) r
     b = book before
 
     still : is_open (b.story n) ≡ false → HasApplied (before ++ turn_of c word (event.Cancel n) ∷ []) (with_work (record { core = turned c (event.Cancel n); acts = [] }) (record { conn = c.single.connection; acts = [] })) started
-    still f = silent_applied before c started word (event.Cancel n) (turned c (event.Cancel n)) c.single.connection h good (λ m. silent_no_end (b.link m) c.turns) (λ z. absurd (omega arith)) h.moved h.fit (unmoved_tied b c started word n h.sound.tied f)
+    still f = silent_applied before c started word (event.Cancel n) (turned c (event.Cancel n)) c.single.connection h good (λ m. silent_no_end (b.link m) c.turns) (λ z. absurd (omega arith)) h.moved h.fit
+        (still_tied b c started word (event.Cancel n) c.timeout (leave_silent b c word n started h.sound.tied) (stays_left b n f) h.sound.tied)
 
     by_entry : (x : Option (Option Pending)) → slice_get c.table n ≡ x → TiedStory (b.story n) c.single.connection.requests c.single.link x → HasApplied (before ++ turn_of c word (event.Cancel n) ∷ []) (left_by (heard (counted c) (event.Cancel n)) x) started
     by_entry None e s = still (ap is_open s)
@@ -349,8 +430,8 @@ cancel_applied before c started word n h good = by_entry (slice_get c.table n) r
         let k = h.sound.tied.names.kept n p e in
         let named = name_of_some conn.requests p.number k.0 k.1 ∙ k.2 in
         chosen (λ (x : MultiplexedConnection). HasApplied (before ++ turn_of c word (event.Cancel n) ∷ []) (with_work (record { core = turned c (event.Cancel n); acts = [] }) (record { conn = x; acts = [] })) started)
-        (is_open_at conn.requests p.number) (record conn { requests = at_progress conn.requests p.number progress.Closed; life = cancelled_in conn.life p.number }) conn
-        (λ t. silent_applied before c started word (event.Cancel n) (turned c (event.Cancel n)) (record conn { requests = at_progress conn.requests p.number progress.Closed; life = cancelled_in conn.life p.number }) h good
-        (λ m. silent_no_end (b.link m) c.turns) (λ z. absurd (omega arith)) h.moved (left_fit conn (at_progress conn.requests p.number progress.Closed) conn.life p.number refl h.fit)
-        (gone_tied b c started word p.number n h.sound.tied good t named))
+        (is_open_at conn.requests p.number) (record (closed_conn conn p.number) { life = cancelled_in conn.life p.number }) conn
+        (λ t. silent_applied before c started word (event.Cancel n) (turned c (event.Cancel n)) (record (closed_conn conn p.number) { life = cancelled_in conn.life p.number }) h good
+        (λ m. silent_no_end (b.link m) c.turns) (λ z. absurd (omega arith)) h.moved (left_fit conn (given_back conn.limit conn.free (permits_at conn.requests p.number)) (with_permits conn.requests p.number progress.Closed 0) conn.life p.number refl h.fit)
+        (gone_tied b c started word p.number n h.sound.tied t named))
         (λ f. still (s.open_is ∙ f))

@@ -1,5 +1,5 @@
 -- The connection's link ends: it is closed, and all its requests are answered.
-use Rattle.std.proofs.Common.{◌≡◌, ◌≢◌, inl, inr, ℕ, ◌-◌, ◌<◌, List, [], ◌∷◌, ◌++◌, length, Option, Some, None, refl, sym, ap, ◌∙◌, subst, append_assoc, arith, false}
+use Rattle.std.proofs.Common.{Bool, true, ◌≡◌, ◌≢◌, inl, inr, ℕ, ◌-◌, ◌<◌, List, [], ◌∷◌, ◌++◌, length, Option, Some, None, refl, sym, ap, ◌∙◌, subst, append_assoc, arith, false}
 use Rattle.std.specs.List.{AllByRecursion}
 use Rattle.std.proofs.lemmas.List.{append-nil}
 use Rattle.redis_error.specs.declared.redis_error.RedisError.TheVariants as error
@@ -21,7 +21,7 @@ use Rattle.mux_conn.specs.declared.life.Life.TheVariants.{Ready, Ended}
 use Rattle.mux_conn.specs.declared.request.Request.{Request}
 use Rattle.mux_conn.specs.declared.request.Waiting.{Waiting}
 use Rattle.mux_conn.specs.Connection.{Work, acted, at_life}
-use Rattle.mux_conn.specs.Requests.{name_at}
+use Rattle.mux_conn.specs.Requests.{is_open_at, name_at}
 use Rattle.mux_conn.specs.Effects.{waiting_failed, nobody_waits, failed_each, settled_each, ended}
 use Rattle.shared_session.specs.declared.core_state.Core.{Core}
 use Rattle.shared_session.specs.Turn.{with_work}
@@ -34,7 +34,7 @@ use Rattle.session_laws.proofs.Numbers.{IsIn, in_left, in_right, Rising, rising_
 use Rattle.session_laws.proofs.Tied.{Inner, no_link, link_in, owner_of, queue_ids, waiting_ids, IsKept, TiedLines, TiedWaits, Tied, relined, FailureIsShown, TiedLife, has_ended}
 use Rattle.session_laws.proofs.States.{HasApplied}
 use Rattle.session_laws.proofs.InLine.{kept_ids, kept_in, line_of, IsInLine, awaited_rises}
-use Rattle.session_laws.proofs.Owes.{none_owed, in_line, later_unstarted, owed_none_started, settled_owed}
+use Rattle.session_laws.proofs.Owes.{in_time, none_owed, in_line, later_unstarted, owed_none_started, settled_owed}
 use Rattle.session_laws.proofs.Kept.{mine_noted, others_kept, tied_by}
 use Rattle.session_laws.proofs.Answer.{unknown_ends, after_end}
 use Rattle.session_laws.proofs.Settle.{book_of_more, seen, trace_of_acts, Holds, holds_more, IsAnswering, answering, IsDue, IsDueError, settled_holds, failed_holds, Leaves, leaves_on, settled_leaves, failed_leaves}
@@ -70,12 +70,15 @@ close_lines story requests link waiting admitted pending started ids h =
 -- the waits, on a link without messages that is not dialing
 pub ended_waits : (story : ℕ → Story) (requests : List Request) (life : Life) (e : RedisError) (fresh moved : List ℕ) → TiedWaits story requests life fresh moved → TiedWaits story requests (Ended e) fresh moved
 ended_waits story requests life e fresh moved h = record {
-  new = h.new;
   early = h.early;
   connect = λ p w d. cc;
+  permit = λ p link w r. cc;
   place = h.place;
   room = λ p i. absurd i;
+  newer = h.newer;
   rising = h.rising;
+  no_connect = λ p i w d. cc;
+  no_permit = λ p link i w r. cc;
   no_place = h.no_place;
   no_room = λ p i r. absurd r;
 }
@@ -96,7 +99,7 @@ close_tied b t created why e pending ids must is shown h =
     let turn = b.turns - 1 in
     let after = record (entered b (action.Close t.link)) { created = created } in
     tied_by after (record t { life = Ended e; pending = pending }) (noted (b.link t.link) (ends turn)) (mine_noted (b.link t.link) t.link (ends turn)) (record {
-      numbers = record { turns = h.numbers.turns; links = h.numbers.links; timers = h.numbers.timers; aims = h.numbers.aims; timed = h.numbers.timed; submissions = h.numbers.submissions; shut = h.numbers.shut; settings = record { size_is = h.numbers.settings.size_is; bound_is = h.numbers.settings.bound_is; some = h.numbers.settings.some }; one = h.numbers.one; only = h.numbers.only };
+      numbers = record { turns = h.numbers.turns; links = h.numbers.links; timers = h.numbers.timers; aims = h.numbers.aims; timed = h.numbers.timed; submissions = h.numbers.submissions; timeout = h.numbers.timeout; shut = h.numbers.shut; settings = record { size_is = h.numbers.settings.size_is; bound_is = h.numbers.settings.bound_is; limit_is = h.numbers.settings.limit_is; some = h.numbers.settings.some; limited = h.numbers.settings.limited }; one = h.numbers.one; only = h.numbers.only };
       others = others_kept b t.link (ends turn) h.others;
       life = (refl, ends_owed (b.link t.link) turn why e must is, ends_failed (b.link t.link) turn created why must shown);
       link = λ n. cc;
@@ -106,6 +109,8 @@ close_tied b t created why e pending ids must is shown h =
       lines = close_lines b.story t.requests (link_in t.life) t.waiting t.admitted pending t.started ids h.lines;
       told = λ n. cc;
       waits = ended_waits b.story t.requests t.life e t.fresh t.moved h.waits;
+      permits = h.permits;
+      late = λ p o late. absurd (h.late p o late);
     })
 
 -- they are in line
@@ -120,26 +125,35 @@ close_in_line requests link admitted waiting pending ids r =
 
 -- what is due then
 --
+-- who is open is in time
+abbrev pub AreInTime : (ℕ → Story) → List Request → Type 0
+AreInTime story requests = (p : ℕ) → is_open_at requests p ≡ true → (story (name_at requests p)).overdue ≡ false
+
+-- so it is where nothing is to be answered
+pub are_in_time : (b : Book) (t : Inner) → Tied b t → t.pending ≡ [] → AreInTime b.story t.requests
+are_in_time b t h none p o = in_time b t p h o (λ i. subst (IsIn p) none i)
+
 -- each message that was settled is due what it came to
-due_each : (b : Book) (t : Inner) (ss : List Settled) → Tied b t → ((n : ℕ) → IsIn n (settled_ids ss) → n < length t.requests) → AllByRecursion (IsOwed (owner_of t.requests) (b.link t.link)) ss → AllByRecursion (IsDue (owed b) (name_at t.requests)) ss
-due_each b t [] h within all = tt
-due_each b t (s ∷ ss) h within all = (settled_owed b t s h (within s.id (inl refl)) all.0, due_each b t ss h (λ n i. within n (inr i)) all.1)
+due_each : (b : Book) (t : Inner) (ss : List Settled) → Tied b t → AreInTime b.story t.requests → ((n : ℕ) → IsIn n (settled_ids ss) → n < length t.requests) → AllByRecursion (IsOwed (owner_of t.requests) (b.link t.link)) ss
+    → AllByRecursion (IsDue (owed b) (name_at t.requests) (is_open_at t.requests)) ss
+due_each b t [] h early within all = tt
+due_each b t (s ∷ ss) h early within all = ((λ o. settled_owed b t s h (within s.id (inl refl)) (early s.id o) all.0), due_each b t ss h early (λ n i. within n (inr i)) all.1)
 
 -- who is to be answered, and in line, is within
 pub pending_within : (requests : List Request) (link : LinkState) (admitted waiting : List Waiting) (ns : List ℕ) (n : ℕ) → IsInLine requests link admitted waiting ns → IsIn n ns → n < length requests
 pending_within requests link admitted waiting ns n r i = let k = rising_in 0 (ns ++ line_of link admitted waiting) (length requests) n r (in_left n ns (line_of link admitted waiting) i) in k.1
 
 -- so each of them is due what it came to
-pub pending_due : (b : Book) (t : Inner) (ss : List Settled) → Tied b t → IsInLine t.requests (link_in t.life) t.admitted t.waiting (settled_ids ss) → AllByRecursion (IsOwed (owner_of t.requests) (b.link t.link)) ss
-    → AllByRecursion (IsDue (owed b) (name_at t.requests)) ss
-pending_due b t ss h r all = due_each b t ss h (λ n i. pending_within t.requests (link_in t.life) t.admitted t.waiting (settled_ids ss) n r i) all
+pub pending_due : (b : Book) (t : Inner) (ss : List Settled) → Tied b t → AreInTime b.story t.requests → IsInLine t.requests (link_in t.life) t.admitted t.waiting (settled_ids ss) → AllByRecursion (IsOwed (owner_of t.requests) (b.link t.link)) ss
+    → AllByRecursion (IsDue (owed b) (name_at t.requests) (is_open_at t.requests)) ss
+pending_due b t ss h early r all = due_each b t ss h early (λ n i. pending_within t.requests (link_in t.life) t.admitted t.waiting (settled_ids ss) n r i) all
 
 -- those that wait are due the error of the end
-waiting_due : (b : Book) (t : Inner) (e : RedisError) (qs : List Waiting) → Tied b t → owed_unstarted (b.link t.link).end ≡ Some (outcome.Fault e) → ((n : ℕ) → IsIn n (waiting_ids qs) → (n < length t.requests) × (IsIn n t.started → ⊥)) → AllByRecursion (IsDueError (owed b) (name_at t.requests) e) qs
-waiting_due b t e [] h over all = tt
-waiting_due b t e (q ∷ qs) h over all = (
-  (let k = all q.number (inl refl) in owed_none_started b t q.number h k.0 k.1 ∙ over),
-  waiting_due b t e qs h over (λ n i. all n (inr i)),
+waiting_due : (b : Book) (t : Inner) (e : RedisError) (qs : List Waiting) → Tied b t → AreInTime b.story t.requests → owed_unstarted (b.link t.link).end ≡ Some (outcome.Fault e) → ((n : ℕ) → IsIn n (waiting_ids qs) → (n < length t.requests) × (IsIn n t.started → ⊥)) → AllByRecursion (IsDueError (owed b) (name_at t.requests) (is_open_at t.requests) e) qs
+waiting_due b t e [] h early over all = tt
+waiting_due b t e (q ∷ qs) h early over all = (
+  (λ o. let k = all q.number (inl refl) in owed_none_started b t q.number h k.0 (early q.number o) k.1 ∙ over),
+  waiting_due b t e qs h early over (λ n i. all n (inr i)),
 )
 
 -- who has no place is within, and has not started
@@ -151,15 +165,16 @@ kept_unstarted b t n h i =
     ((let k = rising_in 0 (t.started ++ later) (length t.requests) n h.lines.line (in_right n t.started later j) in k.1), later_unstarted b t n h j)
 
 -- all that wait for a place are due it, and all that wait for the connection
-pub record AreDue (owes : ℕ → Option Outcome) (name : ℕ → ℕ) (e : RedisError) (admitted waiting : List Waiting) : Type 0 where
-  pub place : AllByRecursion (IsDueError owes name e) admitted
-  pub connection : AllByRecursion (IsDueError owes name e) waiting
+pub record AreDue (owes : ℕ → Option Outcome) (name : ℕ → ℕ) (was : ℕ → Bool) (e : RedisError) (admitted waiting : List Waiting) : Type 0 where
+  pub place : AllByRecursion (IsDueError owes name was e) admitted
+  pub connection : AllByRecursion (IsDueError owes name was e) waiting
 
 -- so they are
-pub all_waiting_due : (b : Book) (t : Inner) (e : RedisError) → Tied b t → owed_unstarted (b.link t.link).end ≡ Some (outcome.Fault e) → AreDue (owed b) (name_at t.requests) e t.admitted t.waiting
-all_waiting_due b t e h over = record {
-  place = waiting_due b t e t.admitted h over (λ n i. kept_unstarted b t n h (in_left n (waiting_ids t.admitted) (waiting_ids t.waiting) i));
-  connection = waiting_due b t e t.waiting h over (λ n i. kept_unstarted b t n h (in_right n (waiting_ids t.admitted) (waiting_ids t.waiting) i));
+pub all_waiting_due : (b : Book) (t : Inner) (e : RedisError) → Tied b t → AreInTime b.story t.requests → owed_unstarted (b.link t.link).end ≡ Some (outcome.Fault e)
+    → AreDue (owed b) (name_at t.requests) (is_open_at t.requests) e t.admitted t.waiting
+all_waiting_due b t e h early over = record {
+  place = waiting_due b t e t.admitted h early over (λ n i. kept_unstarted b t n h (in_left n (waiting_ids t.admitted) (waiting_ids t.waiting) i));
+  connection = waiting_due b t e t.waiting h early over (λ n i. kept_unstarted b t n h (in_right n (waiting_ids t.admitted) (waiting_ids t.waiting) i));
 }
 
 -- those that wait are to be answered
@@ -196,7 +211,7 @@ waiting_lines story requests link waiting admitted started h =
 -- the session is tied with them to be answered
 waiting_tied : (b : Book) (t : Inner) → Tied b (record t { pending = [] }) → Tied b (record t { waiting = []; admitted = []; pending = all_kept t.admitted t.waiting })
 waiting_tied b t h =
-    relined b (record t { pending = [] }) [] [] t.fresh t.moved (all_kept t.admitted t.waiting) h (waiting_lines b.story t.requests (link_in t.life) t.waiting t.admitted t.started h.lines) h.waits
+    relined b (record t { pending = [] }) [] [] t.fresh t.moved (all_kept t.admitted t.waiting) h (waiting_lines b.story t.requests (link_in t.life) t.waiting t.admitted t.started h.lines) h.waits (λ p o late. absurd (h.late p o late))
 
 -- and they are in line
 waiting_in_line : (requests : List Request) (life : Life) (admitted waiting : List Waiting) (e : RedisError) → life ≡ Ended e → IsInLine requests (link_in life) admitted waiting [] → IsInLine requests (link_in life) [] [] (all_kept admitted waiting)
@@ -206,18 +221,19 @@ waiting_in_line requests life admitted waiting e over r =
     (subst (λ ns. Rising 0 ns (length requests)) (sym (append-nil last ∙ all_kept_is admitted waiting)) (subst (λ (x : Life). IsInLine requests (link_in x) admitted waiting []) over r))
 
 -- all that wait are answered
-waiting_failed_holds : (before : List Action) (f : Core) (ledger : Ledger) (owes : ℕ → Option Outcome) (name : ℕ → ℕ) (w : Work) (e : RedisError) (started : List ℕ) → w.conn.life ≡ Ended e → AreDue owes name e w.conn.admitted w.conn.waiting
-    → IsAnswering before f ledger owes name w [] started → IsAnswering before f ledger owes name (waiting_failed w e) [] started
-waiting_failed_holds before f ledger owes name w e started over due h =
+waiting_failed_holds : (before : List Action) (f : Core) (ledger : Ledger) (owes : ℕ → Option Outcome) (name : ℕ → ℕ) (was : ℕ → Bool) (w : Work) (e : RedisError) (started : List ℕ) → w.conn.life ≡ Ended e → AreDue owes name was e w.conn.admitted w.conn.waiting
+    → IsAnswering before f ledger owes name was w [] started → IsAnswering before f ledger owes name was (waiting_failed w e) [] started
+waiting_failed_holds before f ledger owes name was w e started over due h =
     let rest = nobody_waits w in
-    failed_holds before f ledger owes name (failed_each rest e w.conn.admitted) e w.conn.waiting [] started due.connection
-    (failed_holds before f ledger owes name rest e w.conn.admitted (waiting_ids w.conn.waiting ++ []) started due.place
+    failed_holds before f ledger owes name was (failed_each rest e w.conn.admitted) e w.conn.waiting [] started due.connection
+    (failed_holds before f ledger owes name was rest e w.conn.admitted (waiting_ids w.conn.waiting ++ []) started due.place
     (record {
-      holds = record { stands = h.holds.stands; tied = waiting_tied (book (trace_of_acts before f w.acts)) (seen f w.conn [] started) h.holds.tied };
+      holds = record { stands = h.holds.stands; tied = waiting_tied (book (trace_of_acts before f w.acts)) (seen f w.acts w.conn [] started) h.holds.tied };
       line = waiting_in_line w.conn.requests w.conn.life w.conn.admitted w.conn.waiting e over h.line;
       ledger_is = h.ledger_is;
       owed_is = h.owed_is;
       named = h.named;
+      opens = h.opens;
     }))
 
 -- what that leaves
@@ -237,22 +253,22 @@ pub record HasEnded (before : List Action) (f : Core) (w : Work) (e : RedisError
   pub none_admitted : w.conn.admitted ≡ []
 
 -- those that wait are answered, where the others were
-rest_ends : (before : List Action) (f : Core) (ledger : Ledger) (owes : ℕ → Option Outcome) (name : ℕ → ℕ) (w : Work) (e : RedisError) (started : List ℕ) → w.conn.life ≡ Ended e → AreDue owes name e w.conn.admitted w.conn.waiting
-    → IsAnswering before f ledger owes name w [] started → HasEnded before f (waiting_failed w e) e started
-rest_ends before f ledger owes name w e started over due h =
+rest_ends : (before : List Action) (f : Core) (ledger : Ledger) (owes : ℕ → Option Outcome) (name : ℕ → ℕ) (was : ℕ → Bool) (w : Work) (e : RedisError) (started : List ℕ) → w.conn.life ≡ Ended e → AreDue owes name was e w.conn.admitted w.conn.waiting
+    → IsAnswering before f ledger owes name was w [] started → HasEnded before f (waiting_failed w e) e started
+rest_ends before f ledger owes name was w e started over due h =
     let m = waiting_leaves w e in
-    record { holds = (waiting_failed_holds before f ledger owes name w e started over due h).holds; over = m.life ∙ over; none_waits = m.waiting; none_admitted = m.admitted }
+    record { holds = (waiting_failed_holds before f ledger owes name was w e started over due h).holds; over = m.life ∙ over; none_waits = m.waiting; none_admitted = m.admitted }
 
 -- of a link that is over, where only those that wait are open
 pub waiting_ends : (before : List Action) (f : Core) (w : Work) (e : RedisError) (started : List ℕ) → Holds before f w [] started → w.conn.life ≡ Ended e → HasEnded before f (waiting_failed w e) e started
 waiting_ends before f w e started h over =
     let b = book (trace_of_acts before f w.acts) in
-    let t = seen f w.conn [] started in
+    let t = seen f w.acts w.conn [] started in
     let kept = kept_ids w.conn.admitted w.conn.waiting in
     let down = subst (λ (x : Life). TiedLife (b.link f.single.link) b.created x) over h.tied.life in
     let line = subst (λ (x : Life). IsInLine w.conn.requests (link_in x) w.conn.admitted w.conn.waiting []) (sym over)
     (rising_right 0 started kept (length w.conn.requests) (subst (λ (x : Life). Rising 0 (started ++ (queue_ids (link_in x).queue ++ kept)) (length w.conn.requests)) over h.tied.lines.line)) in
-    rest_ends before f (b.link f.single.link) (owed b) (name_at w.conn.requests) w e started over (all_waiting_due b t e h.tied down.1) (answering before f w [] started h line)
+    rest_ends before f (b.link f.single.link) (owed b) (name_at w.conn.requests) (is_open_at w.conn.requests) w e started over (all_waiting_due b t e h.tied (are_in_time b t h.tied refl) down.1) (answering before f w [] started h line)
 
 -- a settled message is one of these that wait, and gets the closed connection
 abbrev pub IsClosedOf : List ℕ → Settled → Type 0
@@ -266,12 +282,12 @@ pub record SettlesAll (name : ℕ → Owner) (l : Ledger) (link : LinkState) (ro
   pub ids : settled_ids (row ++ queue) ≡ wanted link.row ++ awaited_ids link.queue
 
 -- the messages of the queue are due the error of the end
-queue_due : (b : Book) (t : Inner) (ids : List ℕ) (ss : List Settled) → Tied b t → owed_unstarted (b.link t.link).end ≡ Some (outcome.Fault error.Closed) → ((n : ℕ) → IsIn n (settled_ids ss) → n < length t.requests)
-    → ((n : ℕ) → IsIn n ids → IsIn n t.started → ⊥) → AllByRecursion (IsClosedOf ids) ss → AllByRecursion (IsDue (owed b) (name_at t.requests)) ss
-queue_due b t ids [] h over within unstarted all = tt
-queue_due b t ids (s ∷ ss) h over within unstarted all = (
-  owed_none_started b t s.id h (within s.id (inl refl)) (unstarted s.id all.0.1) ∙ over ∙ ap Some (sym all.0.0),
-  queue_due b t ids ss h over (λ n i. within n (inr i)) unstarted all.1,
+queue_due : (b : Book) (t : Inner) (ids : List ℕ) (ss : List Settled) → Tied b t → AreInTime b.story t.requests → owed_unstarted (b.link t.link).end ≡ Some (outcome.Fault error.Closed) → ((n : ℕ) → IsIn n (settled_ids ss) → n < length t.requests)
+    → ((n : ℕ) → IsIn n ids → IsIn n t.started → ⊥) → AllByRecursion (IsClosedOf ids) ss → AllByRecursion (IsDue (owed b) (name_at t.requests) (is_open_at t.requests)) ss
+queue_due b t ids [] h early over within unstarted all = tt
+queue_due b t ids (s ∷ ss) h early over within unstarted all = (
+  (λ o. owed_none_started b t s.id h (within s.id (inl refl)) (early s.id o) (unstarted s.id all.0.1) ∙ over ∙ ap Some (sym all.0.0)),
+  queue_due b t ids ss h early over (λ n i. within n (inr i)) unstarted all.1,
 )
 
 -- a link that must end is closed, and all that it has settled is answered, and then all that wait
@@ -281,7 +297,7 @@ pub ended_holds : (before : List Action) (f : Core) (w : Work) (row queue : List
     → HasEnded before f (ended w (row ++ queue)) error.Closed started
 ended_holds before f w row queue why started h alive closes opened must =
     let b = book (trace_of_acts before f w.acts) in
-    let t = seen f w.conn [] started in
+    let t = seen f w.acts w.conn [] started in
     let link = link_in w.conn.life in
     let v = acted (at_life w (Ended error.Closed)) act.Close in
     let out = row ++ queue in
@@ -293,23 +309,24 @@ ended_holds before f w row queue why started h alive closes opened must =
     (close_tied b t b.created why error.Closed ns ids must.0 closes (λ e fails. absurd (no_failure e (sym opened ∙ fails))) h.tied) in
     let line : IsInLine w.conn.requests no_link w.conn.admitted w.conn.waiting ns = close_in_line w.conn.requests link w.conn.admitted w.conn.waiting ns ids (in_line b t h.tied alive) in
     let c = book (trace_of_acts before f v.acts) in
-    let s = seen f v.conn ns started in
+    let s = seen f v.acts v.conn ns started in
     let link_is : c.link f.single.link ≡ noted (b.link f.single.link) (ends (b.turns - 1)) = ap (λ (x : Book). x.link f.single.link) (book_of_more before f w.acts act.Close) ∙ mine_noted (b.link f.single.link) f.single.link (ends (b.turns - 1)) in
+    let early : AreInTime c.story w.conn.requests = λ p o. ap (λ (x : Book). (x.story (name_at w.conn.requests p)).overdue) (book_of_more before f w.acts act.Close) ∙ are_in_time b t h.tied refl p o in
     let within : (n : ℕ) → IsIn n ns → n < length w.conn.requests = λ n i. pending_within w.conn.requests no_link w.conn.admitted w.conn.waiting ns n line i in
     let owed_row = subst (λ (x : Ledger). AllByRecursion (IsOwed (owner_of w.conn.requests) x) row) (sym link_is) must.1.started in
-    let due_row = due_each c s row held.tied (λ n i. within n (subst (IsIn n) (sym split) (in_left n (settled_ids row) (settled_ids queue) i))) owed_row in
-    let due_queue = queue_due c s (queue_ids link.queue) queue held.tied held.tied.life.1 (λ n i. within n (subst (IsIn n) (sym split) (in_right n (settled_ids row) (settled_ids queue) i)))
+    let due_row = due_each c s row held.tied early (λ n i. within n (subst (IsIn n) (sym split) (in_left n (settled_ids row) (settled_ids queue) i))) owed_row in
+    let due_queue = queue_due c s (queue_ids link.queue) queue held.tied early held.tied.life.1 (λ n i. within n (subst (IsIn n) (sym split) (in_right n (settled_ids row) (settled_ids queue) i)))
     (λ n i. later_unstarted b t n h.tied (in_left n (queue_ids link.queue) (kept_ids w.conn.admitted w.conn.waiting) i)) must.1.waits in
-    let due = all_append (IsDue (owed c) (name_at w.conn.requests)) row queue due_row due_queue in
-    let later = all_waiting_due c s error.Closed held.tied held.tied.life.1 in
+    let due = all_append (IsDue (owed c) (name_at w.conn.requests) (is_open_at w.conn.requests)) row queue due_row due_queue in
+    let later = all_waiting_due c s error.Closed held.tied early held.tied.life.1 in
     let a = answering before f v (ns ++ []) started (subst (λ ms. Holds before f v ms started) (sym (append-nil ns)) held) (subst (IsInLine w.conn.requests no_link w.conn.admitted w.conn.waiting) (sym (append-nil ns)) line) in
     let u = settled_each v out in
     let k = settled_leaves v out in
-    let settled = settled_holds before f (c.link f.single.link) (owed c) (name_at w.conn.requests) v out [] started due a in
-    rest_ends before f (c.link f.single.link) (owed c) (name_at w.conn.requests) u error.Closed started k.life
+    let settled = settled_holds before f (c.link f.single.link) (owed c) (name_at w.conn.requests) (is_open_at w.conn.requests) v out [] started due a in
+    rest_ends before f (c.link f.single.link) (owed c) (name_at w.conn.requests) (is_open_at w.conn.requests) u error.Closed started k.life
     (record {
-      place = subst (AllByRecursion (IsDueError (owed c) (name_at w.conn.requests) error.Closed)) (sym k.admitted) later.place;
-      connection = subst (AllByRecursion (IsDueError (owed c) (name_at w.conn.requests) error.Closed)) (sym k.waiting) later.connection;
+      place = subst (AllByRecursion (IsDueError (owed c) (name_at w.conn.requests) (is_open_at w.conn.requests) error.Closed)) (sym k.admitted) later.place;
+      connection = subst (AllByRecursion (IsDueError (owed c) (name_at w.conn.requests) (is_open_at w.conn.requests) error.Closed)) (sym k.waiting) later.connection;
     }) settled
   where
     no_failure : (e : RedisError) → ◌≡◌ {A = Option RedisError} None (Some e) → ⊥
@@ -325,7 +342,7 @@ ended_moved w out =
 pub ended_applied : (before : List Action) (f : Core) (w : Work) (e : RedisError) (started : List ℕ) → f.turns ≢ 0 → w.conn.moved ≡ [] → HasEnded before f w e started → HasApplied before (with_work (record { core = f; acts = [] }) w) started
 ended_applied before f w e started began none_moved h = record {
   sound = h.holds;
-  ended = (after_end (book (trace_of_acts before f w.acts)) (seen f w.conn [] started) h.holds.tied (ap has_ended h.over)).0;
+  ended = (after_end (book (trace_of_acts before f w.acts)) (seen f w.acts w.conn [] started) h.holds.tied (ap has_ended h.over)).0;
   began = began;
   moved = none_moved;
   fit = record { link = λ link is. (let no : Ended e ≡ Ready link = sym h.over ∙ is in cc); none = λ n. h.none_admitted };

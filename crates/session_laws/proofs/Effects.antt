@@ -1,16 +1,16 @@
 -- The event's own effect: each kind of event leaves the session tied to its book, and nothing due but what moves.
-use Rattle.std.proofs.Common.{◌≡◌, ℕ, ◌==◌, ◌&&◌, false, List, [], ◌∷◌, ◌++◌, refl, sym, ◌∙◌, subst}
+use Rattle.std.proofs.Common.{ap, length, slice_get, Option, Some, ◌<◌, ◌≡◌, ℕ, ◌==◌, ◌&&◌, false, List, [], ◌∷◌, ◌++◌, refl, sym, ◌∙◌, subst}
 use Rattle.containers.proofs.Choices.{or_left, or_right, eq_test, not_le_from, not_lt_from}
 use Rattle.driver_model.specs.declared.action.Action.{Action}
 use Rattle.driver_model.specs.declared.event.EventKind.{EventKind}
 use Rattle.driver_model.specs.declared.event.EventKind.TheVariants as event
 use Rattle.driver_model.specs.declared.news.LinkFault.TheVariants as fault
-use Rattle.driver_model.specs.News.{News, connected, took, came, failed, news_of, refused, overdue}
+use Rattle.driver_model.specs.News.{News, connected, took, came, failed, news_of, of_timer, refused, overdue, silence}
 use Rattle.mux_conn.specs.declared.life.Life.{Life}
 use Rattle.mux_conn.specs.declared.life.Life.TheVariants.{Dialing, Ready, Ended}
 use Rattle.mux_conn.specs.Effects.{CanTake, applied}
 use Rattle.shared_session.specs.declared.core_state.Core.{Core}
-use Rattle.shared_session.specs.Turn.{with_work, heard, effect, counted, is_no_link, exceeds_offer, is_bad}
+use Rattle.shared_session.specs.Turn.{with_work, heard, fired_by, late_by, effect, counted, is_no_link, exceeds_offer, is_bad}
 use Rattle.session_laws.proofs.States.{Between, HasApplied}
 use Rattle.session_laws.proofs.Announce.{turn_of, turned, own_news, own_timer}
 use Rattle.session_laws.proofs.Connect.{connected_applied, refused_applied, overdue_applied}
@@ -18,6 +18,12 @@ use Rattle.session_laws.proofs.Took.{took_applied}
 use Rattle.session_laws.proofs.Read.{read_applied}
 use Rattle.session_laws.proofs.End.{failed_applied, shut_applied}
 use Rattle.session_laws.proofs.Cancel.{cancel_applied}
+use Rattle.session_laws.proofs.Late.{late_applied, time_applied}
+use Rattle.session_laws.proofs.Names.{get_some}
+use Rattle.legal_trace.specs.Book.{is_clock_of}
+use Rattle.driver_model.specs.declared.action.Owner.TheVariants as owner
+use Rattle.driver_model.specs.declared.action.Purpose.{Purpose}
+use Rattle.driver_model.specs.declared.action.Purpose.TheVariants as purpose
 use Rattle.session_laws.proofs.Asked.{submit_applied}
 
 -- the news of an event that names the connection's link
@@ -36,6 +42,19 @@ can_take (Ended e) count f = tt
 can_take_from : (c : Core) (l count : ℕ) → l ≡ c.single.link → ((l == c.single.link) && exceeds_offer c.single.connection.life count) ≡ false → CanTake c.single.connection.life count
 can_take_from c l count own f = can_take c.single.connection.life count (sym (λ i. eq_test l c.single.link own i && exceeds_offer c.single.connection.life count) ∙ f)
 
+-- a timer fires, of a connect or of a request
+fired : (before : List Action) (c : Core) (started : List ℕ) (word n : ℕ) (what : Purpose) → Between before c started → is_bad c (event.Fired n) ≡ false → slice_get c.timers n ≡ Some what
+    → HasApplied (before ++ turn_of c word (event.Fired n) ∷ []) (fired_by (heard (counted c) (event.Fired n)) (Some what)) started
+fired before c started word n (purpose.Connect l) h good is =
+    let own = own_timer c n l h.sound.tied.numbers.aims is in
+    by_news before c started word (event.Fired n) (news_of c.timers c.single.link (event.Fired n)) overdue own (overdue_applied before c started word (event.Fired n) h good (λ m. ap (is_clock_of m) is) own)
+fired before c started word n (purpose.Response (owner.Try m round)) h good is =
+    let aim : (m < length c.table) × (round ≡ 0) = h.sound.tied.numbers.aims n (purpose.Response (owner.Try m round)) is in
+    let first = is ∙ ap (λ k. Some (purpose.Response (owner.Try m k))) aim.1 in
+    let silent_is : news_of c.timers c.single.link (event.Fired n) ≡ silence = ap (of_timer c.single.link) is in
+    subst (λ (x : News). HasApplied (before ++ turn_of c word (event.Fired n) ∷ []) (late_by (with_work (record { core = turned c (event.Fired n); acts = [] }) (applied (record { conn = c.single.connection; acts = [] }) x)) (slice_get c.table m)) started)
+    (sym silent_is) (late_applied before c started word n m h good first)
+
 -- the effect of a good event between two turns
 pub effect_holds : (before : List Action) (c : Core) (started : List ℕ) (word : ℕ) (kind : EventKind) → Between before c started → is_bad c kind ≡ false → HasApplied (before ++ turn_of c word kind ∷ []) (effect (counted c) kind) started
 unfolding is_bad
@@ -48,8 +67,9 @@ effect_holds before c started word (event.Refused l f) h good =
     let own = own_news c l (refused f) h.sound.tied.numbers.only good in
     by_news before c started word (event.Refused l f) (news_of c.timers c.single.link (event.Refused l f)) (refused f) own (refused_applied before c started word (event.Refused l f) f h good tt own)
 effect_holds before c started word (event.Fired n) h good =
-    let own = own_timer c n h.sound.tied.numbers.aims good in
-    by_news before c started word (event.Fired n) (news_of c.timers c.single.link (event.Fired n)) overdue own (overdue_applied before c started word (event.Fired n) h good tt own)
+    let g = get_some c.timers n (not_le_from (length c.timers) n good) in
+    subst (λ (x : Option Purpose). HasApplied (before ++ turn_of c word (event.Fired n) ∷ []) (fired_by (heard (counted c) (event.Fired n)) x) started) (sym g.1) (fired before c started word n g.0 h good g.1)
+effect_holds before c started word (event.Timeout ms) h good = time_applied before c started word ms h good
 effect_holds before c started word (event.Wrote l count) h good =
     let here = or_left (is_no_link c l) _ good in
     let few = or_right (is_no_link c l) _ good in

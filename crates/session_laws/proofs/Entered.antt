@@ -1,8 +1,9 @@
 -- One more action of a trace, and one more act of a connection.
-use Rattle.std.proofs.Common.{◌≡◌, ℕ, List, [], ◌∷◌, ◌++◌, refl, sym, ap, ◌∙◌, subst, append_assoc}
+use Rattle.std.proofs.Common.{◌≡◌, ℕ, ◌+◌, List, [], ◌∷◌, ◌++◌, length, refl, sym, ap, ◌∙◌, subst, append_assoc, length-append, arith}
+use Rattle.std.proofs.lemmas.List.{append-nil}
 use Rattle.driver_model.specs.declared.action.Action.{Action}
 use Rattle.mux_conn.specs.declared.act.LinkAct.{LinkAct}
-use Rattle.shared_session.specs.Turn.{shown, shown_each}
+use Rattle.shared_session.specs.Turn.{shown, shown_each, timer_of, timers_of}
 use Rattle.legal_trace.specs.Book.{Book, blank_book, book, entered, entered_each}
 use Rattle.legal_trace.specs.Legal.{MayStand, AllStand}
 use Rattle.session_laws.proofs.Tied.{Inner, Tied, Sound}
@@ -48,11 +49,23 @@ sound_more t a p h may tied = record {
   tied = subst (λ (b : Book). Tied b p) (sym (book_more t a)) tied;
 }
 
+-- the timers that acts ask for, and then others
+pub timers_of-append : (xs ys : List LinkAct) → timers_of (xs ++ ys) ≡ timers_of xs ++ timers_of ys
+timers_of-append [] ys = refl
+timers_of-append (x ∷ xs) ys = ap (λ ts. timer_of x ++ ts) (timers_of-append xs ys) ∙ sym (append_assoc (timer_of x) (timers_of xs) (timers_of ys))
+
+-- one more act asks for one timer more, or for none
+pub timers_more : (acts : List LinkAct) (a : LinkAct) → timers_of (acts ++ a ∷ []) ≡ timers_of acts ++ timer_of a
+timers_more acts a = timers_of-append acts (a ∷ []) ∙ ap (λ ts. timers_of acts ++ ts) (append-nil (timer_of a))
+
 -- the actions that acts show, and then others
-pub shown_each-append : (l : ℕ) (xs ys : List LinkAct) → shown_each l (xs ++ ys) ≡ shown_each l xs ++ shown_each l ys
-shown_each-append l [] ys = refl
-shown_each-append l (x ∷ xs) ys = ap (λ more. shown l x ∷ more) (shown_each-append l xs ys)
+pub shown_each-append : (l t : ℕ) (xs ys : List LinkAct) → shown_each l t (xs ++ ys) ≡ shown_each l t xs ++ shown_each l (t + length (timers_of xs)) ys
+shown_each-append l t [] ys = ap (λ k. shown_each l k ys) (omega arith)
+shown_each-append l t (x ∷ xs) ys =
+    let next = t + length (timer_of x) in
+    let far : next + length (timers_of xs) ≡ t + length (timers_of (x ∷ xs)) = omega (arith, length-append (timer_of x) (timers_of xs)) in
+    ap (λ more. shown l t x ∷ more) (shown_each-append l next xs ys ∙ ap (λ k. shown_each l next xs ++ shown_each l k ys) far)
 
 -- one more act shows one more action
-pub shown_more : (before : List Action) (l : ℕ) (acts : List LinkAct) (a : LinkAct) → before ++ shown_each l (acts ++ a ∷ []) ≡ (before ++ shown_each l acts) ++ shown l a ∷ []
-shown_more before l acts a = ap (λ more. before ++ more) (shown_each-append l acts (a ∷ [])) ∙ sym (append_assoc before (shown_each l acts) (shown l a ∷ []))
+pub shown_more : (before : List Action) (l t : ℕ) (acts : List LinkAct) (a : LinkAct) → before ++ shown_each l t (acts ++ a ∷ []) ≡ (before ++ shown_each l t acts) ++ shown l (t + length (timers_of acts)) a ∷ []
+shown_more before l t acts a = ap (λ more. before ++ more) (shown_each-append l t acts (a ∷ [])) ∙ sym (append_assoc before (shown_each l t acts) (shown l (t + length (timers_of acts)) a ∷ []))

@@ -1,8 +1,8 @@
 -- One more submission, and perhaps one more request.
-use Rattle.std.proofs.Common.{◌≡◌, ◌≢◌, inl, inr, ℕ, zero, suc, ◌<◌, ◌≤◌, ◌==◌, nat_lt, Bool, true, List, [], ◌∷◌, ◌++◌, length, Option, Some, None, slice_get, refl, sym, ap, ◌∙◌, subst, arith, length-append}
+use Rattle.std.proofs.Common.{◌≡◌, ◌≢◌, ◌⊎◌, ◌+◌, false, inl, inr, ℕ, zero, suc, ◌<◌, ◌≤◌, ◌==◌, nat_lt, Bool, true, List, [], ◌∷◌, ◌++◌, length, Option, Some, None, slice_get, refl, sym, ap, ◌∙◌, subst, arith, length-append}
 use Rattle.std.specs.List.{AllByRecursion}
 use Rattle.containers.proofs.Places.{get_within}
-use Rattle.containers.proofs.Choices.{by_test, eq_from, ne_from, lt_from, not_lt_from}
+use Rattle.containers.proofs.Choices.{by_test, chosen, not_both, eq_from, ne_from, lt_from, not_lt_from}
 use Rattle.driver_model.specs.declared.action.Owner.TheVariants as owner
 use Rattle.driver_model.specs.declared.outcome.Shape.{Shape}
 use Rattle.link_core.specs.declared.message.Entry.{Entry}
@@ -13,14 +13,18 @@ use Rattle.mux_conn.specs.declared.request.Pending.{Pending}
 use Rattle.mux_conn.specs.declared.request.Progress.{Progress}
 use Rattle.mux_conn.specs.declared.request.Request.{Request}
 use Rattle.mux_conn.specs.declared.request.Waiting.{Waiting}
-use Rattle.mux_conn.specs.Requests.{is_open as is_open_progress, is_waiting, is_admitted, is_placed, is_waiting_at, is_admitted_at, if_there, name_or_none, name_at}
+use Rattle.mux_conn.specs.Requests.{is_open as is_open_progress, is_waiting, is_admitted, is_placed, is_open_at, is_waiting_at, is_admitted_at, is_placed_at, if_there, name_or_none, name_at, permits_or_none, permits_at}
 use Rattle.mux_conn.specs.declared.life.Life.{Life}
 use Rattle.link_core.specs.Link.{LinkState}
 use Rattle.link_laws.specs.Settles.{awaited_ids}
 use Rattle.legal_trace.specs.Ledger.{Ledger}
 use Rattle.legal_trace.specs.Story.{Story, is_told, shape}
 use Rattle.session_laws.proofs.Numbers.{IsIn, Rising}
-use Rattle.session_laws.proofs.Tied.{link_in, owner_of, owners_each, queue_ids, waiting_ids, IsRequest, TiedStory, TiedTries, TiedNames, IsOf, IsQueued, IsEntry, IsPacked, AreQueued, shown_wait, IsNew, TiedWaits}
+use Rattle.session_laws.proofs.Tied.{link_in, owner_of, owners_each, queue_ids, waiting_ids, IsRequest, TiedStory, TiedTries, TiedNames, IsOf, IsQueued, IsEntry, IsPacked, AreQueued, AreLate, shown_wait, TiedWaits, TiedPermits}
+use Rattle.session_laws.proofs.Permits.{held_same}
+use Rattle.legal_trace.specs.Steps.{is_let_in, permits_held, permits_on}
+use Rattle.driver_model.specs.declared.action.WaitKind.{WaitKind}
+use Rattle.driver_model.specs.declared.action.WaitKind.TheVariants as wait
 use Rattle.session_laws.proofs.Closing.{IsUntried}
 use Rattle.session_laws.proofs.Names.{name_within}
 
@@ -51,6 +55,10 @@ name_longer requests more p h l = ap name_or_none (h.same p l)
 pub there_longer : (test : Progress → Bool) (requests more : List Request) (p : ℕ) → IsLonger requests more → p < length requests → if_there test (slice_get more p) ≡ if_there test (slice_get requests p)
 there_longer test requests more p h l = ap (if_there test) (h.same p l)
 
+-- and the permits that it holds
+pub permits_at_longer : (requests more : List Request) (p : ℕ) → IsLonger requests more → p < length requests → permits_at more p ≡ permits_at requests p
+permits_at_longer requests more p h l = ap permits_or_none (h.same p l)
+
 -- what stands at a place is one of those before, or is new
 pub before_or_new : (requests more : List Request) (p : ℕ) (P : Type 0) → (p < length requests → P) → (length requests ≤ p → P) → P
 before_or_new requests more p P old new = by_test (nat_lt p (length requests)) P (λ t. old (lt_from p (length requests) t)) (λ f. new (not_lt_from p (length requests) f))
@@ -75,6 +83,7 @@ request_longer s requests more link p longer l h = record {
   on = h.on;
   some = h.some;
   open_is = h.open_is ∙ sym (there_longer is_open_progress requests more p longer l);
+  permits_is = h.permits_is ∙ sym (permits_at_longer requests more p longer l);
 }
 
 -- whatever the table has
@@ -153,10 +162,14 @@ queue_longer table story after requests more (q ∷ qs) names same longer within
 pub packs_longer : (table : List (Option Pending)) (story after : ℕ → Story) (requests more : List Request) (waiting : List Waiting) → TiedNames table requests → SameBefore story after (length table) → IsLonger requests more
     → ((p : ℕ) → IsIn p (waiting_ids waiting) → p < length requests) → AllByRecursion (IsPacked story requests) waiting → AllByRecursion (IsPacked after more) waiting
 packs_longer table story after requests more [] names same longer within all = tt
-packs_longer table story after requests more (w ∷ ws) names same longer within all = (
-  of_longer (story (name_at requests w.number)) (after (name_at more w.number)) w.packed w.shape w.awaited (story_at table story after requests more w.number names same longer (within w.number (inl refl))) all.0,
-  packs_longer table story after requests more ws names same longer (λ p i. within p (inr i)) all.1,
-)
+packs_longer table story after requests more (w ∷ ws) names same longer within all =
+    let e = story_at table story after requests more w.number names same longer (within w.number (inl refl)) in (
+      record {
+        is_of = of_longer (story (name_at requests w.number)) (after (name_at more w.number)) w.packed w.shape w.awaited e all.0.is_of;
+        time_is = all.0.time_is ∙ ap (λ (s : Story). s.timeout) (sym e);
+      },
+      packs_longer table story after requests more ws names same longer (λ p i. within p (inr i)) all.1,
+    )
 
 -- and the entries of a row
 pub entries_longer : (requests more : List Request) (row : List Entry) → IsLonger requests more → AllByRecursion (IsEntry requests) row → AllByRecursion (IsEntry more) row
@@ -194,35 +207,82 @@ pub shown_longer : (table : List (Option Pending)) (story after : ℕ → Story)
     → shown_wait after more p ≡ shown_wait story requests p
 shown_longer table story after requests more p names same longer l = ap (λ (s : Story). s.waiting) (story_at table story after requests more p names same longer l)
 
--- a request more waits for the connection, and is the one of this turn; nothing is shown of its wait
+-- a request more waits for the connection, and is the one of this turn; nothing is shown of its wait, it holds no permits and
+-- has no timer, and its time isn't over
 pub record IsNext (after : ℕ → Story) (requests more : List Request) (later : List ℕ) : Type 0 where
-  pub new : IsNew after more later
-  pub shown : (p : ℕ) → is_waiting_at more p ≡ true → length requests ≤ p → (shown_wait after more p ≡ None) × (later ≡ p ∷ [])
-  pub none : (p : ℕ) → is_admitted_at more p ≡ true → length requests ≤ p → ⊥
+  pub newer : Rising 0 later (length more)
+  pub only : (p : ℕ) → IsIn p later → length requests ≤ p
+  pub shown : (p : ℕ) → is_waiting_at more p ≡ true → length requests ≤ p → (shown_wait after more p ≡ None) × IsIn p later
+  pub none : (p : ℕ) → (is_admitted_at more p ≡ true) ⊎ (is_placed_at more p ≡ true) → length requests ≤ p → ⊥
+  pub free : (p : ℕ) → is_waiting_at more p ≡ true → length requests ≤ p → (permits_at more p ≡ 0) × ((after (name_at more p)).clock ≡ None)
+  pub early : (p : ℕ) → is_open_at more p ≡ true → length requests ≤ p → (after (name_at more p)).overdue ≡ false
+
+-- nothing is no wait
+no_wait : (x : Option WaitKind) (kind : WaitKind) → x ≡ None → x ≢ Some kind
+no_wait x kind none e = let no : ◌≡◌ {A = Option WaitKind} None (Some kind) = sym none ∙ e in cc
 
 -- so the waits stay
 pub waits_longer : (table : List (Option Pending)) (story after : ℕ → Story) (requests more : List Request) (life : Life) (fresh later moved : List ℕ) → TiedNames table requests → SameBefore story after (length table) → IsLonger requests more
     → ((p : ℕ) → IsIn p (awaited_ids (link_in life).queue) → p < length requests) → fresh ≡ [] → IsNext after requests more later → TiedWaits story requests life fresh moved → TiedWaits after more life later moved
 waits_longer table story after requests more life fresh later moved names same longer within no_fresh next h =
     let still : (p : ℕ) → p < length requests → shown_wait after more p ≡ shown_wait story requests p = λ p l. shown_longer table story after requests more p names same longer l in
+    let was : (p : ℕ) → p < length requests → is_waiting_at more p ≡ true → is_waiting_at requests p ≡ true = λ p l w. sym (there_longer is_waiting requests more p longer l) ∙ w in
+    let old_one : (p : ℕ) → IsIn p fresh → ⊥ = λ p i. subst (IsIn p) no_fresh i in
     record {
-      new = next.new;
       early = λ p w. before_or_new requests more p _
-          (λ old. elim (h.early p (sym (there_longer is_waiting requests more p longer old) ∙ w)) [ inl e ↦ inl (still p old ∙ e) | inr e ↦ inr (still p old ∙ e) ])
+          (λ old. elim (h.early p (was p old w)) [ inl e ↦ inl (still p old ∙ e) | inr k ↦ elim k [ inl e ↦ inr (inl (still p old ∙ e)) | inr e ↦ inr (inr (still p old ∙ e)) ] ])
           (λ past. inl (next.shown p w past).0);
       connect = λ p w d. before_or_new requests more p _
-          (λ old. elim (h.connect p (sym (there_longer is_waiting requests more p longer old) ∙ w) d) [
-            | inl x ↦ absurd (let no : [] ≡ p ∷ [] = sym no_fresh ∙ x in cc)
-            | inr e ↦ inr (still p old ∙ e)
-          ])
+          (λ old. elim (h.connect p (was p old w) d) [ inl i ↦ absurd (old_one p i) | inr e ↦ inr (still p old ∙ e) ])
+          (λ past. inl (next.shown p w past).1);
+      permit = λ p link w r. before_or_new requests more p _
+          (λ old. elim (h.permit p link (was p old w) r) [ inl i ↦ absurd (old_one p i) | inr e ↦ inr (still p old ∙ e) ])
           (λ past. inl (next.shown p w past).1);
       place = λ p a. before_or_new requests more p _
           (λ old. elim (h.place p (sym (there_longer is_admitted requests more p longer old) ∙ a)) [ inl i ↦ inl i | inr e ↦ inr (still p old ∙ e) ])
-          (λ past. absurd (next.none p a past));
+          (λ past. absurd (next.none p (inl a) past));
       room = λ p i. elim (h.room p i) [ inl j ↦ inl j | inr e ↦ inr (still p (within p i) ∙ e) ];
+      newer = next.newer;
       rising = rising_below 0 (length requests) (length more) moved longer.long h.rising;
+      no_connect = λ p i w d. no_wait (shown_wait after more p) wait.Connect (next.shown p w (next.only p i)).0;
+      no_permit = λ p link i w r. no_wait (shown_wait after more p) wait.Permit (next.shown p w (next.only p i)).0;
       no_place = λ p i a. before_or_new requests more p _
           (λ old e. h.no_place p i (sym (there_longer is_admitted requests more p longer old) ∙ a) (sym (still p old) ∙ e))
-          (λ past. absurd (next.none p a past));
+          (λ past. absurd (next.none p (inl a) past));
       no_room = λ p i r e. h.no_room p i r (sym (still p (within p r)) ∙ e);
     }
+
+-- and the permits, where the next submission holds none
+pub permits_longer : (table : List (Option Pending)) (story after : ℕ → Story) (submissions : ℕ) (requests more : List Request) (link : ℕ) (limit : Option ℕ) (free : ℕ) (later : List ℕ) → TiedNames table requests → SameBefore story after (length table)
+    → IsLonger requests more → submissions ≡ length table → (after (length table)).permits ≡ 0 → IsNext after requests more later → TiedPermits story submissions requests link limit free [] → TiedPermits after (submissions + 1) more link limit free []
+permits_longer table story after submissions requests more link limit free later names same longer size none next h = record {
+  counted = λ k e.
+      let sum = held_same story after link submissions (λ m less. ap (permits_on link) (same m (λ x. absurd (omega arith)))) in
+      let last : permits_on link (after submissions) ≡ 0 = ap (λ m. permits_on link (after m)) size ∙ none_on (after (length table)) none in
+      let one : submissions + 1 ≡ suc submissions = omega arith in
+      let all : permits_held after link (submissions + 1) ≡ permits_held after link (suc submissions) = ap (permits_held after link) one in
+      let was = h.counted k e in
+      omega arith;
+  none = λ p w out. before_or_new requests more p _
+      (λ old.
+      let k = h.none p (sym (there_longer is_waiting requests more p longer old) ∙ w) out in
+      (permits_at_longer requests more p longer old ∙ k.0, ap (λ (s : Story). s.clock) (story_at table story after requests more p names same longer old) ∙ k.1))
+      (λ past. next.free p w past);
+  let_in = λ p e. before_or_new requests more p _
+      (λ old. ap (is_let_in limit) (story_at table story after requests more p names same longer old) ∙ h.let_in p (elim e [
+        | inl a ↦ inl (sym (there_longer is_admitted requests more p longer old) ∙ a)
+        | inr a ↦ inr (sym (there_longer is_placed requests more p longer old) ∙ a)
+      ]))
+      (λ past. absurd (next.none p e past));
+}
+  where
+    none_on : (s : Story) → s.permits ≡ 0 → permits_on link s ≡ 0
+    none_on s e = chosen (λ n. n ≡ 0) (s.link == link) s.permits 0 (λ t. e) (λ f. refl)
+
+-- and nobody is late
+pub late_longer : (table : List (Option Pending)) (story after : ℕ → Story) (requests more : List Request) (later : List ℕ) → TiedNames table requests → SameBefore story after (length table) → IsLonger requests more → IsNext after requests more later
+    → AreLate story requests [] → AreLate after more []
+late_longer table story after requests more later names same longer next h p o e =
+    before_or_new requests more p _
+    (λ old. h p (sym (there_longer is_open_progress requests more p longer old) ∙ o) (ap (λ (s : Story). s.overdue) (sym (story_at table story after requests more p names same longer old)) ∙ e))
+    (λ past. not_both (after (name_at more p)).overdue (next.early p o past) e)

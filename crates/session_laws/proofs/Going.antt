@@ -1,29 +1,29 @@
 -- A session whose event has had its own effect, while requests are moved.
-use Rattle.std.proofs.Common.{List, None, [], ap, arith, false, inl, inr, length, refl, subst, sym, true, ℕ, ◌++◌, ◌<◌, ◌∙◌, ◌∷◌, ◌≡◌, ◌≢◌, ◌⊎◌}
+use Rattle.std.proofs.Common.{List, None, [], ap, arith, false, inl, inr, length, refl, subst, sym, true, ℕ, ◌++◌, ◌<◌, ◌∙◌, ◌∷◌, ◌≡◌, ◌⊎◌}
 use Rattle.std.specs.Prelude.{if◌then◌else◌, ◌==◌}
 use Rattle.containers.proofs.Choices.{chosen, left_if, not_both}
 use Rattle.redis_error.specs.declared.redis_error.RedisError.{RedisError}
 use Rattle.driver_model.specs.declared.action.Action.{Action}
 use Rattle.driver_model.specs.declared.action.WaitKind.TheVariants as wait
 use Rattle.link_core.specs.Link.{LinkState, holds_back, is_full}
+use Rattle.mux_conn.specs.Connection.{has_no_permit}
 use Rattle.mux_conn.specs.Requests.{name_at}
 use Rattle.mux_conn.specs.declared.life.Life.{Life}
 use Rattle.mux_conn.specs.declared.life.Life.TheVariants.{Dialing, Ended, Ready}
 use Rattle.legal_trace.specs.Book.{Book, blank_book, book, entered, if_mine}
 use Rattle.legal_trace.specs.Ledger.{Ledger, Line, dials, ending, noted, noted_each}
 use Rattle.legal_trace.specs.Legal.{AllStand, CanMove, IsApplied, IsFirstToMove, IsMoved, MayStand, NoneEnds}
-use Rattle.legal_trace.specs.Steps.{Step, is_due, is_held_back, is_outside, next_step, nothing, starts_or_waits, step_up, waits}
-use Rattle.legal_trace.specs.Story.{is_awaited, is_told}
-use Rattle.session_laws.proofs.Ahead.{IsRunning, full_step, queue_step, ready_alive, running_of}
+use Rattle.legal_trace.specs.Steps.{Step, is_due, next_step, nothing, starts_or_waits, step_ready, waits}
+use Rattle.session_laws.proofs.Ahead.{IsRunning, full_step, permit_step, queue_step, ready_alive, running_of}
 use Rattle.session_laws.proofs.Behind.{alive_behind}
 use Rattle.session_laws.proofs.Entered.{book_more, sound_more}
-use Rattle.session_laws.proofs.InLine.{first_is_least, kept_ids}
+use Rattle.session_laws.proofs.InLine.{first_is_least, kept_ids, kept_in}
 use Rattle.session_laws.proofs.Moves.{IsLater, later_of, unstarted_alive}
 use Rattle.session_laws.proofs.Names.{earlier_name}
 use Rattle.session_laws.proofs.Numbers.{IsIn, Rising, in_left, in_right, rising_in, rising_right}
 use Rattle.session_laws.proofs.Owes.{created_is, none_open, none_owed}
 use Rattle.session_laws.proofs.States.{IsFit}
-use Rattle.session_laws.proofs.Tied.{Inner, Sound, Tied, TiedLife, link_in, queue_ids, has_ended}
+use Rattle.session_laws.proofs.Tied.{Inner, Sound, Tied, TiedLife, link_in, queue_ids, waiting_ids, has_ended}
 
 -- nothing must end
 pub record IsGoing (trace : List Action) (t : Inner) : Type 0 where
@@ -61,10 +61,10 @@ later_in : (t : Inner) (n : ℕ) (l : IsLater t n) → IsIn l.p (queue_ids (link
 later_in t n l =
     let queue = queue_ids (link_in t.life).queue in
     let kept = kept_ids t.admitted t.waiting in
-    elim l.later [ inl i ↦ in_left l.p queue kept i | inr w ↦ in_right l.p queue kept w.1 ]
+    elim l.later [ inl i ↦ in_left l.p queue kept i | inr w ↦ in_right l.p queue kept (kept_in t.requests t.waiting t.admitted l.p w) ]
 
 -- one that makes a step is still to start
-moves_later : (b : Book) (t : Inner) (n : ℕ) → Tied b t → IsRunning t → CanMove b n → IsLater t n
+pub moves_later : (b : Book) (t : Inner) (n : ℕ) → Tied b t → IsRunning t → CanMove b n → IsLater t n
 moves_later b t n h r m = later_of b t n h r.settled (ready_alive t.life r.up) m.unstarted
 
 -- the first of the queue is the first that makes a step
@@ -100,7 +100,7 @@ first_behind b t q rest h r still first n before m =
     let earlier = earlier_name t.table t.requests l.p q h.names l.within within.1 (subst (λ x. x < name_at t.requests q) (sym l.name) before) in
     elim l.later [
       | inl i ↦ not_both (is_due (next_step b n)) (ap (λ x. is_due (next_step b x)) (sym l.name) ∙ queue_stays b t l.p h r still i) m.due
-      | inr w ↦ let least = first_is_least 0 q rest (length t.requests) l.p line (subst (IsIn l.p) first w.1) in omega arith
+      | inr w ↦ let least = first_is_least 0 q rest (length t.requests) l.p line (subst (IsIn l.p) first (kept_in t.requests t.waiting t.admitted l.p w)) in omega arith
     ]
 
 -- every step that may be made was made
@@ -110,7 +110,7 @@ down_stays : (b : Book) (n : ℕ) → (b.link (b.story n).link).up ≡ false →
 down_stays b n down =
     let s = b.story n in
     let l = b.link s.link in
-    let step = step_up (is_told s) (is_outside b n) (is_awaited s) (is_held_back b l) in
+    let step = step_ready b n s in
     chosen (λ (x : Step). is_due x ≡ false) (dials l) (waits wait.Connect) (if l.up then step else nothing) (λ t. refl) (λ f. ap is_due (left_if l.up step nothing down))
 
 -- as each submission that is still to start is for it
@@ -125,22 +125,31 @@ dialing_down l created Dialing e h = h.1
 dialing_down l created (Ready link) e h = cc
 dialing_down l created (Ended x) e h = cc
 
--- on a link that is up what is in the queue is held back, and those that wait find it full
-up_moves_none : (b : Book) (t : Inner) → Tied b t → IsRunning t → ((link_in t.life).queue ≡ []) ⊎ (holds_back (link_in t.life) ≡ true) → (t.admitted ≡ []) ⊎ (is_full (link_in t.life) ≡ true) → t.waiting ≡ [] → (n : ℕ) → CanMove b n → ⊥
-up_moves_none b t h r still full none n m =
+-- on a link that is up what is in the queue is held back, those that wait for a place find it full, and the others no permit
+up_moves_none : (b : Book) (t : Inner) → Tied b t → IsRunning t → t.letting ≡ [] → ((link_in t.life).queue ≡ []) ⊎ (holds_back (link_in t.life) ≡ true) → (t.admitted ≡ []) ⊎ (is_full (link_in t.life) ≡ true)
+    → (t.waiting ≡ []) ⊎ (has_no_permit t.limit t.free ≡ true) → (n : ℕ) → CanMove b n → ⊥
+up_moves_none b t h r nobody still full none n m =
     let l = moves_later b t n h r m in
+    let stays : is_due (next_step b (name_at t.requests l.p)) ≡ false → ⊥ = λ e. not_both (is_due (next_step b n)) (ap (λ x. is_due (next_step b x)) (sym l.name) ∙ e) m.due in
     elim l.later [
-      | inl i ↦ not_both (is_due (next_step b n)) (ap (λ x. is_due (next_step b x)) (sym l.name) ∙ queue_stays b t l.p h r still i) m.due
-      | inr w ↦ elim full [
-        | inl empty ↦ absurd (subst (IsIn l.p) (λ i. kept_ids (empty i) (none i)) w.1)
-        | inr filled ↦ not_both (is_due (next_step b n)) (ap (λ x. is_due (next_step b x)) (sym l.name) ∙ ap is_due (full_step b t l.p h r filled w.0 w.1)) m.due
+      | inl i ↦ stays (queue_stays b t l.p h r still i)
+      | inr k ↦ elim k [
+        | inl a ↦ elim full [
+          | inl empty ↦ absurd (subst (λ ws. IsIn l.p (waiting_ids ws)) empty a.1)
+          | inr filled ↦ stays (ap is_due (full_step b t l.p h r filled a.0 a.1))
+        ]
+        | inr w ↦ elim none [
+          | inl empty ↦ absurd (subst (λ ws. IsIn l.p (waiting_ids ws)) empty w.1)
+          | inr held ↦ stays (ap is_due (permit_step b t l.p h r w.0 (λ i. subst (IsIn l.p) nobody i) held))
+        ]
       ]
     ]
 
 -- where nothing is to be answered, nothing must end, and nothing moves
-pub is_moved : (b : Book) (t : Inner) → Tied b t → t.pending ≡ [] → NoneEnds b → ((link : LinkState) → t.life ≡ Ready link → IsFit t.size t.bound link) → (((link : LinkState) → t.life ≡ Ready link → ⊥) → t.admitted ≡ [])
-    → ((link : LinkState) → t.life ≡ Ready link → (link.queue ≡ []) ⊎ (holds_back link ≡ true)) → ((link : LinkState) → t.life ≡ Ready link → (t.admitted ≡ []) ⊎ (is_full link ≡ true)) → (t.life ≢ Dialing → t.waiting ≡ []) → IsMoved b
-is_moved b t h none ends fit nobody held full gone = by_life t.life refl
+pub is_moved : (b : Book) (t : Inner) → Tied b t → t.pending ≡ [] → t.letting ≡ [] → NoneEnds b → ((link : LinkState) → t.life ≡ Ready link → IsFit t.size t.bound link) → (((link : LinkState) → t.life ≡ Ready link → ⊥) → t.admitted ≡ [])
+    → ((link : LinkState) → t.life ≡ Ready link → (link.queue ≡ []) ⊎ (holds_back link ≡ true)) → ((link : LinkState) → t.life ≡ Ready link → (t.admitted ≡ []) ⊎ (is_full link ≡ true))
+    → ((link : LinkState) → t.life ≡ Ready link → (t.waiting ≡ []) ⊎ (has_no_permit t.limit t.free ≡ true)) → (has_ended t.life ≡ true → t.waiting ≡ []) → IsMoved b
+is_moved b t h none alone ends fit nobody held full stuck gone = by_life t.life refl
   where
     by_life : (life : Life) → t.life ≡ life → IsMoved b
     by_life Dialing e = record {
@@ -151,12 +160,12 @@ is_moved b t h none ends fit nobody held full gone = by_life t.life refl
         let here : link_in t.life ≡ link = ap link_in e in
         record {
           applied = applied_up b t h none (ap has_ended e) ends;
-          moved = up_moves_none b t h (running_of t link none e (fit link e))
+          moved = up_moves_none b t h (running_of t link none e (fit link e)) alone
               (subst (λ (x : LinkState). (x.queue ≡ []) ⊎ (holds_back x ≡ true)) (sym here) (held link e))
               (subst (λ (x : LinkState). (t.admitted ≡ []) ⊎ (is_full x ≡ true)) (sym here) (full link e))
-              (gone (λ d. (let no : Ready link ≡ Dialing = sym e ∙ d in cc)));
+              (stuck link e);
         }
     by_life (Ended x) e = record {
-      applied = applied_over b t x h none e (λ i. kept_ids (nobody (λ link r. (let no : Ended x ≡ Ready link = sym e ∙ r in cc)) i) (gone (λ d. (let no : Ended x ≡ Dialing = sym e ∙ d in cc)) i)) ends;
+      applied = applied_over b t x h none e (λ i. kept_ids (nobody (λ link r. (let no : Ended x ≡ Ready link = sym e ∙ r in cc)) i) (gone (ap has_ended e) i)) ends;
       moved = down_moves_none b t h (subst (λ (x : Life). TiedLife (b.link t.link) b.created x) e h.life).0;
     }

@@ -16,6 +16,7 @@ use Rattle.shared_session.specs.declared.core_state.Core.{Core}
 use Rattle.shared_session.specs.Turn.{with_work, is_bad}
 use Rattle.legal_trace.specs.Ledger.{Ledger, Ending, hears, noted, ending, ending_up, ending_asked, is_over, bytes_came, dials, refused_in}
 use Rattle.legal_trace.specs.Book.{Book, book, entered}
+use Rattle.legal_trace.specs.Story.{Story}
 use Rattle.legal_trace.specs.Legal.{NoneEnds}
 use Rattle.session_laws.proofs.Tied.{Inner, link_in, owner_of, TiedLife, TiedLines, AreQueued, TiedWaits, Tied, has_ended}
 use Rattle.session_laws.proofs.States.{IsFitIn, Between, HasApplied}
@@ -37,10 +38,11 @@ none_ends b t h e m = by_test (m == t.link) _
     (λ same. subst (λ n. ending (b.link n) ≡ None) (sym (eq_from m t.link same)) e)
     (λ other. unknown_ends (b.link m) (h.others m (ne_from m t.link other)))
 
--- the turn is announced, the link lives so, and these are to be answered
-pub record Begins (before : List Action) (f : Core) (conn : MultiplexedConnection) (l : Ledger) (pending started : List ℕ) : Type 0 where
+-- the turn is announced, the link lives so, the stories are these, and these are to be answered
+pub record Begins (before : List Action) (f : Core) (conn : MultiplexedConnection) (l : Ledger) (story : ℕ → Story) (pending started : List ℕ) : Type 0 where
   pub holds : Holds before f (record { conn = conn; acts = [] }) pending started
   pub ledger : (book (trace_of_acts before f [])).link f.single.link ≡ l
+  pub stories : (n : ℕ) → (book (trace_of_acts before f [])).story n ≡ story n
 
 -- what the turn of news needs of the life that it leads to
 pub record Leads (b : Book) (c : Core) (n : News) (life : Life) (pending started : List ℕ) : Type 0 where
@@ -54,30 +56,35 @@ pub record Leads (b : Book) (c : Core) (n : News) (life : Life) (pending started
 pub book_news : (b : Book) (c : Core) (kind : EventKind) (n : News) → b.timers ≡ c.timers → news_of c.timers c.single.link kind ≡ n → news_of b.timers c.single.link kind ≡ n
 book_news b c kind n same is = ap (λ (ts : List Purpose). news_of ts c.single.link kind) same ∙ is
 
+-- so it is of no account for submissions
+pub book_kind : (b : Book) (c : Core) (kind : EventKind) → b.timers ≡ c.timers → IsNewsKind c.timers kind → IsNewsKind b.timers kind
+book_kind b c kind same k = subst (λ (ts : List Purpose). IsNewsKind ts kind) (sym same) k
+
 -- the turn begins so
-pub heard_begins : (before : List Action) (c : Core) (started : List ℕ) (word : ℕ) (kind : EventKind) (n : News) (life : Life) (pending : List ℕ) → Between before c started → is_bad c kind ≡ false → IsNewsKind kind → news_of c.timers c.single.link kind ≡ n
-    → Leads (book before) c n life pending started → Begins (before ++ turn_of c word kind ∷ []) (turned c kind) (lives_as c life) (heard_by (book before) c n) pending started
+pub heard_begins : (before : List Action) (c : Core) (started : List ℕ) (word : ℕ) (kind : EventKind) (n : News) (life : Life) (pending : List ℕ) → Between before c started → is_bad c kind ≡ false → IsNewsKind c.timers kind → news_of c.timers c.single.link kind ≡ n
+    → Leads (book before) c n life pending started → Begins (before ++ turn_of c word kind ∷ []) (turned c kind) (lives_as c life) (heard_by (book before) c n) (book before).story pending started
 heard_begins before c started word kind n life pending h good k is g =
     let b = book before in
     let l = heard_by b c n in
-    let t = seen (turned c kind) (lives_as c life) pending started in
+    let t = seen (turned c kind) [] (lives_as c life) pending started in
     let same : noted (b.link c.single.link) (hears c.turns (news_of b.timers c.single.link kind)) ≡ l = ap (λ (x : News). heard_by b c x) (book_news b c kind n h.sound.tied.numbers.timers is) in
-    let tied : Tied (heard_book b c.turns word kind) t = heard_tied b c started word b.created kind life pending l h.sound.tied good same (heard_starts (b.link c.single.link) c.turns n) g.lived g.linked g.lines g.told g.waits in
-    let book_is : entered b (turn_of c word kind) ≡ heard_book b c.turns word kind = heard_is b c.turns word kind k in
+    let tied : Tied (heard_book b c.turns word kind) t = heard_tied b c started word b.created kind life c.single.connection.fresh pending l h.sound.tied good same (heard_starts (b.link c.single.link) c.turns n) g.lived g.linked g.lines g.told g.waits in
+    let book_is : entered b (turn_of c word kind) ≡ heard_book b c.turns word kind = heard_is b c.turns word kind (book_kind b c kind h.sound.tied.numbers.timers k) in
     record {
       holds = holds_first (before ++ turn_of c word kind ∷ []) (turned c kind) (lives_as c life) pending started (announced_sound before c started word kind t h good (subst (λ (x : Book). Tied x t) (sym book_is) tied));
       ledger = ap (λ (x : Book). x.link c.single.link) (first_book before (turn_of c word kind) (turned c kind) ∙ book_is) ∙ same;
+      stories = λ m. ap (λ (x : Book). x.story m) (first_book before (turn_of c word kind) (turned c kind) ∙ book_is);
     }
 
 -- where the link need not end then, and no act follows, the event has had its effect
-pub quiet_applied : (before : List Action) (c : Core) (started : List ℕ) (word : ℕ) (kind : EventKind) (n : News) (life : Life) → Between before c started → is_bad c kind ≡ false → IsNewsKind kind → news_of c.timers c.single.link kind ≡ n
+pub quiet_applied : (before : List Action) (c : Core) (started : List ℕ) (word : ℕ) (kind : EventKind) (n : News) (life : Life) → Between before c started → is_bad c kind ≡ false → IsNewsKind c.timers kind → news_of c.timers c.single.link kind ≡ n
     → Leads (book before) c n life [] started → ending (heard_by (book before) c n) ≡ None → IsFitIn (lives_as c life)
     → HasApplied (before ++ turn_of c word kind ∷ []) (with_work (record { core = turned c kind; acts = [] }) (record { conn = lives_as c life; acts = [] })) started
 quiet_applied before c started word kind n life h good k is g no_end fit =
     let s = heard_begins before c started word kind n life [] h good k is g in
     record {
       sound = s.holds;
-      ended = none_ends (book (trace_of_acts (before ++ turn_of c word kind ∷ []) (turned c kind) [])) (seen (turned c kind) (lives_as c life) [] started) s.holds.tied (ap ending s.ledger ∙ no_end);
+      ended = none_ends (book (trace_of_acts (before ++ turn_of c word kind ∷ []) (turned c kind) [])) (seen (turned c kind) [] (lives_as c life) [] started) s.holds.tied (ap ending s.ledger ∙ no_end);
       began = λ e. omega arith;
       moved = h.moved;
       fit = fit;
@@ -116,7 +123,7 @@ over_no_end : (l : Ledger) (created : ℕ) (e : RedisError) → TiedLife l creat
 over_no_end l created e h = not_up_ends l h.0 (over_not_asked l (some_end l.end (outcome.Fault e) h.1))
 
 -- an event that names a link that has ended has no effect
-pub ended_quiet : (before : List Action) (c : Core) (started : List ℕ) (word : ℕ) (kind : EventKind) (n : News) (error : RedisError) → Between before c started → is_bad c kind ≡ false → IsNewsKind kind → news_of c.timers c.single.link kind ≡ n → c.single.connection.life ≡ Ended error
+pub ended_quiet : (before : List Action) (c : Core) (started : List ℕ) (word : ℕ) (kind : EventKind) (n : News) (error : RedisError) → Between before c started → is_bad c kind ≡ false → IsNewsKind c.timers kind → news_of c.timers c.single.link kind ≡ n → c.single.connection.life ≡ Ended error
     → HasApplied (before ++ turn_of c word kind ∷ []) (with_work (record { core = turned c kind; acts = [] }) (record { conn = c.single.connection; acts = [] })) started
 ended_quiet before c started word kind n error h good k is over =
     let b = book before in
@@ -173,7 +180,7 @@ dialing_no_end l created turn n k h =
     ∙ chosen (λ (x : Option Ending). x ≡ None) (after.asked && not (is_over after)) (ending_asked n) None (λ t. asked_on n k) (λ f. refl)
 
 -- and the event has no effect
-pub dialing_quiet : (before : List Action) (c : Core) (started : List ℕ) (word : ℕ) (kind : EventKind) (n : News) → IsOfAnother n → Between before c started → is_bad c kind ≡ false → IsNewsKind kind → news_of c.timers c.single.link kind ≡ n → c.single.connection.life ≡ Dialing
+pub dialing_quiet : (before : List Action) (c : Core) (started : List ℕ) (word : ℕ) (kind : EventKind) (n : News) → IsOfAnother n → Between before c started → is_bad c kind ≡ false → IsNewsKind c.timers kind → news_of c.timers c.single.link kind ≡ n → c.single.connection.life ≡ Dialing
     → HasApplied (before ++ turn_of c word kind ∷ []) (with_work (record { core = turned c kind; acts = [] }) (record { conn = c.single.connection; acts = [] })) started
 dialing_quiet before c started word kind n o h good k is dialing =
     let b = book before in
@@ -201,12 +208,12 @@ silent_no_end l turn =
 
 -- a turn in which nothing is heard, and no act follows
 pub silent_applied : (before : List Action) (c : Core) (started : List ℕ) (word : ℕ) (kind : EventKind) (f : Core) (conn : MultiplexedConnection) → Between before c started → is_bad c kind ≡ false → ((m : ℕ) → ending ((entered (book before) (turn_of c word kind)).link m) ≡ None)
-    → f.turns ≢ 0 → conn.moved ≡ [] → IsFitIn conn → Tied (entered (book before) (turn_of c word kind)) (seen f conn [] started)
+    → f.turns ≢ 0 → conn.moved ≡ [] → IsFitIn conn → Tied (entered (book before) (turn_of c word kind)) (seen f [] conn [] started)
     → HasApplied (before ++ turn_of c word kind ∷ []) (with_work (record { core = f; acts = [] }) (record { conn = conn; acts = [] })) started
 silent_applied before c started word kind f conn h good no_end began none_moved fit tied =
     let front = before ++ turn_of c word kind ∷ [] in
     record {
-      sound = holds_first front f conn [] started (announced_sound before c started word kind (seen f conn [] started) h good tied);
+      sound = holds_first front f conn [] started (announced_sound before c started word kind (seen f [] conn [] started) h good tied);
       ended = subst NoneEnds (sym (first_book before (turn_of c word kind) f)) no_end;
       began = began;
       moved = none_moved;

@@ -7,7 +7,6 @@ use Rattle.driver_model.specs.declared.outcome.Shape.{Shape}
 use Rattle.link_core.specs.declared.message.Queued.{Queued}
 use Rattle.link_laws.proofs.TiedLink.{TiedLink}
 use Rattle.mux_conn.specs.Requests.{name_at}
-use Rattle.mux_conn.specs.declared.life.Life.{Life}
 use Rattle.mux_conn.specs.declared.request.Request.{Request}
 use Rattle.mux_conn.specs.declared.request.Waiting.{Waiting}
 use Rattle.legal_trace.specs.Book.{Book, if_mine, if_own}
@@ -15,7 +14,7 @@ use Rattle.legal_trace.specs.Ledger.{Ledger, Line, noted, noted_each}
 use Rattle.legal_trace.specs.Story.{Story, awaited_in, packed_in, shape_in, tried}
 use Rattle.session_laws.proofs.Names.{name_placed}
 use Rattle.session_laws.proofs.Owes.{request_story}
-use Rattle.session_laws.proofs.Tied.{AreQueued, Inner, IsOf, IsPacked, IsQueued, IsRequest, IsUnknown, Tied, TiedLife, TiedLines, TiedNames, TiedNumbers, TiedStory, TiedTries, TiedWaits, link_in, owner_of, has_ended}
+use Rattle.session_laws.proofs.Tied.{AreLate, AreQueued, Inner, IsOf, IsPacked, IsQueued, IsRequest, IsUnknown, Tied, TiedLife, TiedLines, TiedNames, TiedNumbers, TiedPermits, TiedStory, TiedTries, TiedWaits, link_in, owner_of, has_ended}
 
 -- a session and the ledger of its link, which is that of the book
 pub record TiedBy (b : Book) (t : Inner) (l : Ledger) : Type 0 where
@@ -29,6 +28,8 @@ pub record TiedBy (b : Book) (t : Inner) (l : Ledger) : Type 0 where
   pub lines : TiedLines b.story t.requests (link_in t.life) t.waiting t.admitted t.pending t.started
   pub told : has_ended t.life ≡ false → AreQueued b.story t.requests (link_in t.life)
   pub waits : TiedWaits b.story t.requests t.life t.fresh t.moved
+  pub permits : TiedPermits b.story b.submissions t.requests t.link t.limit t.free t.letting
+  pub late : AreLate b.story t.requests t.pending
 
 -- so the session is tied to the book
 pub tied_by : (b : Book) (t : Inner) (l : Ledger) → b.link t.link ≡ l → TiedBy b t l → Tied b t
@@ -43,6 +44,8 @@ tied_by b t l e h = record {
   lines = h.lines;
   told = h.told;
   waits = h.waits;
+  permits = h.permits;
+  late = h.late;
 }
 
 -- a line of a link is noted of it alone
@@ -52,22 +55,6 @@ mine_noted l n line = ap (noted_each l) (taken_if (n == n) (line ∷ []) [] (eq_
 -- all other links stay as they are
 pub others_kept : (b : Book) (n : ℕ) (line : Line) → ((m : ℕ) → m ≢ n → IsUnknown (b.link m)) → (m : ℕ) → m ≢ n → IsUnknown (noted_each (b.link m) (if_mine (n == m) line))
 others_kept b n line h m other = if_false (λ (ls : List Line). IsUnknown (noted_each (b.link m) ls)) (n == m) (line ∷ []) [] (ne_test n m (λ e. other (sym e))) (h m other)
-
--- the numbers, where only links, stories and the connection change
-pub numbers_kept : (b : Book) (link : ℕ → Ledger) (story : ℕ → Story) (t : Inner) (life : Life) (requests : List Request) (waiting admitted : List Waiting) (fresh moved pending started : List ℕ) → TiedNumbers b t
-    → TiedNumbers (record b { link = link; story = story }) (record t { life = life; requests = requests; waiting = waiting; admitted = admitted; fresh = fresh; moved = moved; pending = pending; started = started })
-numbers_kept b link story t life requests waiting admitted fresh moved pending started h = record {
-  turns = h.turns;
-  links = h.links;
-  timers = h.timers;
-  aims = h.aims;
-  timed = h.timed;
-  submissions = h.submissions;
-  shut = h.shut;
-  settings = record { size_is = h.settings.size_is; bound_is = h.settings.bound_is; some = h.settings.some };
-  one = h.one;
-  only = h.only;
-}
 
 -- one request's story changes
 pub one_changed : (b : Book) (t : Inner) (p : ℕ) (g : Story → Story) → Tied b t → p < length t.requests
@@ -97,10 +84,20 @@ SameSubmissions f g = (n : ℕ) → (f n).submission ≡ (g n).submission
 abbrev pub SameOutcomes : (ℕ → Story) → (ℕ → Story) → Type 0
 SameOutcomes f g = (n : ℕ) → (f n).outcomes ≡ (g n).outcomes
 
+-- of the same times
+abbrev pub SameTimes : (ℕ → Story) → (ℕ → Story) → Type 0
+SameTimes f g = (n : ℕ) → (f n).timeout ≡ (g n).timeout
+
 -- those that wait are as their submissions say
-pub packed_same : (f g : ℕ → Story) (requests : List Request) (ws : List Waiting) → SameSubmissions f g → AllByRecursion (IsPacked f requests) ws → AllByRecursion (IsPacked g requests) ws
-packed_same f g requests [] same all = tt
-packed_same f g requests (w ∷ ws) same all = (of_same (f (name_at requests w.number)) (g (name_at requests w.number)) w.packed w.shape w.awaited (same (name_at requests w.number)) all.0, packed_same f g requests ws same all.1)
+pub packed_same : (f g : ℕ → Story) (requests : List Request) (ws : List Waiting) → SameSubmissions f g → SameTimes f g → AllByRecursion (IsPacked f requests) ws → AllByRecursion (IsPacked g requests) ws
+packed_same f g requests [] same times all = tt
+packed_same f g requests (w ∷ ws) same times all = (
+  record {
+    is_of = of_same (f (name_at requests w.number)) (g (name_at requests w.number)) w.packed w.shape w.awaited (same (name_at requests w.number)) all.0.is_of;
+    time_is = all.0.time_is ∙ times (name_at requests w.number);
+  },
+  packed_same f g requests ws same times all.1,
+)
 
 -- and so are those in the queue
 pub queued_same : (f g : ℕ → Story) (requests : List Request) (qs : List Queued) → SameSubmissions f g → SameOutcomes f g → AllByRecursion (IsQueued f requests) qs → AllByRecursion (IsQueued g requests) qs

@@ -1,5 +1,5 @@
 -- Every replay is legal.
-use Rattle.std.proofs.Common.{List, None, Option, Some, [], ap, append_assoc, false, length, refl, slice_get, subst, sym, ℕ, ◌++◌, ◌∙◌, ◌∷◌, ◌≡◌}
+use Rattle.std.proofs.Common.{List, None, Option, Some, [], ap, append_assoc, false, length, refl, slice_get, subst, sym, ℕ, ◌+◌, ◌++◌, ◌∙◌, ◌∷◌, ◌≡◌}
 use Rattle.std.proofs.lemmas.List.{append-nil}
 use Rattle.std.specs.Prelude.{if◌then◌else◌, ◌==◌}
 use Rattle.containers.proofs.Choices.{chosen}
@@ -10,6 +10,9 @@ use Rattle.driver_model.specs.Config.{address, connect_timeout}
 use Rattle.driver_model.specs.declared.action.Action.{Action}
 use Rattle.driver_model.specs.declared.action.Action.TheVariants as action
 use Rattle.driver_model.specs.declared.action.Cause.TheVariants as cause
+use Rattle.driver_model.specs.declared.action.Owner.TheVariants as owner
+use Rattle.driver_model.specs.declared.action.Purpose.{Purpose}
+use Rattle.driver_model.specs.declared.action.Purpose.TheVariants as purpose
 use Rattle.driver_model.specs.declared.config.Config.{Config}
 use Rattle.driver_model.specs.declared.event.Event.{Event}
 use Rattle.driver_model.specs.declared.event.EventKind.{EventKind}
@@ -19,7 +22,7 @@ use Rattle.mux_conn.specs.declared.act.LinkAct.{LinkAct}
 use Rattle.mux_conn.specs.declared.act.LinkAct.TheVariants as act
 use Rattle.mux_conn.specs.declared.request.Pending.{Pending}
 use Rattle.shared_session.specs.Replay.{AreGood, AreGoodOn, is_bad_after, opening_core, opening_actions, outcome_at, outcomes_in, run_on, state_after, trace_of, turns_on, IsSound, connect_asked}
-use Rattle.shared_session.specs.Turn.{Turning, actions_of, asked_for, counted, effect, heard, is_bad, left_by, moved_on, refused_with, shown_each, submitted, next_turn}
+use Rattle.shared_session.specs.Turn.{Turning, actions_of, asked_for, counted, effect, fired_by, heard, is_bad, late_by, left_by, moved_on, refused_with, shown_each, submitted, next_turn, timed, timer_of}
 use Rattle.shared_session.specs.declared.core_state.Core.{Core}
 use Rattle.legal_trace.specs.Book.{book}
 use Rattle.legal_trace.specs.Events.{is_bad_event}
@@ -34,32 +37,50 @@ use Rattle.session_laws.specs.Outcomes.{last_outcome}
 
 -- a turn
 --
--- an event leaves the connection's link the same
-refused_link : (t : Turning) (what : Submission) → (submitted t what).core.single.link ≡ t.core.single.link
-refused_link t what =
-    chosen (λ (x : Turning). x.core.single.link ≡ t.core.single.link) t.core.shut (refused_with t error.Closed) (if length (packed_bytes what) == 0 then refused_with t error.EmptyCommand else asked_for t what)
-    (λ s. refl)
-    (λ f. chosen (λ (x : Turning). x.core.single.link ≡ t.core.single.link) (length (packed_bytes what) == 0) (refused_with t error.EmptyCommand) (asked_for t what) (λ s. refl) (λ g. refl))
+-- the connection's link is this, and the timers are these
+abbrev IsStillOf : Turning → ℕ → List Purpose → Type 0
+IsStillOf t link timers = (t.core.single.link ≡ link) × (t.core.timers ≡ timers)
+
+-- a submission leaves both the same
+refused_still : (t : Turning) (what : Submission) → IsStillOf (submitted t what) t.core.single.link t.core.timers
+refused_still t what =
+    let still = λ (x : Turning). IsStillOf x t.core.single.link t.core.timers in
+    chosen still t.core.shut (refused_with t error.Closed) (if length (packed_bytes what) == 0 then refused_with t error.EmptyCommand else asked_for t what)
+    (λ s. (refl, refl))
+    (λ f. chosen still (length (packed_bytes what) == 0) (refused_with t error.EmptyCommand) (asked_for t what) (λ s. (refl, refl)) (λ g. (refl, refl)))
 
 -- so does a leave
-left_link : (t : Turning) (x : Option (Option Pending)) → (left_by t x).core.single.link ≡ t.core.single.link
-left_link t None = refl
-left_link t (Some None) = refl
-left_link t (Some (Some p)) = refl
+left_still : (t : Turning) (x : Option (Option Pending)) → IsStillOf (left_by t x) t.core.single.link t.core.timers
+left_still t None = (refl, refl)
+left_still t (Some None) = (refl, refl)
+left_still t (Some (Some p)) = (refl, refl)
+
+-- and a time that is over
+late_still : (t : Turning) (x : Option (Option Pending)) → IsStillOf (late_by t x) t.core.single.link t.core.timers
+late_still t None = (refl, refl)
+late_still t (Some None) = (refl, refl)
+late_still t (Some (Some p)) = (refl, refl)
+
+-- as a timer fires
+fired_still : (t : Turning) (x : Option Purpose) → IsStillOf (fired_by t x) t.core.single.link t.core.timers
+fired_still t None = (refl, refl)
+fired_still t (Some (purpose.Connect l)) = (refl, refl)
+fired_still t (Some (purpose.Response (owner.Try n round))) = late_still t (slice_get t.core.table n)
 
 -- and so does any event
-effect_link : (c : Core) (kind : EventKind) → (effect (counted c) kind).core.single.link ≡ c.single.link
-effect_link c (event.Submit what) = refused_link (heard (counted c) (event.Submit what)) what
-effect_link c (event.Cancel n) = left_link (heard (counted c) (event.Cancel n)) (slice_get c.table n)
-effect_link c (event.Connected l) = refl
-effect_link c (event.Refused l f) = refl
-effect_link c (event.Fired n) = refl
-effect_link c (event.Wrote l count) = refl
-effect_link c (event.Bytes l piece) = refl
-effect_link c (event.Ended l) = refl
-effect_link c (event.ReadFault l kind) = refl
-effect_link c (event.WriteFault l kind) = refl
-effect_link c event.Shutdown = refl
+effect_still : (c : Core) (kind : EventKind) → IsStillOf (effect (counted c) kind) c.single.link c.timers
+effect_still c (event.Submit what) = refused_still (heard (counted c) (event.Submit what)) what
+effect_still c (event.Cancel n) = left_still (heard (counted c) (event.Cancel n)) (slice_get c.table n)
+effect_still c (event.Connected l) = (refl, refl)
+effect_still c (event.Refused l f) = (refl, refl)
+effect_still c (event.Fired n) = fired_still (heard (counted c) (event.Fired n)) (slice_get c.timers n)
+effect_still c (event.Timeout ms) = (refl, refl)
+effect_still c (event.Wrote l count) = (refl, refl)
+effect_still c (event.Bytes l piece) = (refl, refl)
+effect_still c (event.Ended l) = (refl, refl)
+effect_still c (event.ReadFault l kind) = (refl, refl)
+effect_still c (event.WriteFault l kind) = (refl, refl)
+effect_still c event.Shutdown = (refl, refl)
 
 -- one turn leads from between two turns to between the next two
 turn_between : (before : List Action) (c : Core) (e : Event) → IsBetween before c → is_bad c e.kind ≡ false → IsBetween (before ++ actions_of c e) (next_turn c e.kind).core
@@ -68,9 +89,12 @@ turn_between before c e h good =
     let a = action.Turn c.turns (cause.Event e) in
     let applied = effect_holds before c h.started e.word e.kind h.between good in
     let t = effect (counted c) e.kind in
+    let still = effect_still c e.kind in
+    let acts = (moved_on t).acts in
     let done = moved_on_between (before ++ a ∷ []) t h.started applied in
-    let same : trace_with (before ++ a ∷ []) (moved_on t) ≡ before ++ actions_of c e = append_assoc before (a ∷ []) (shown_each t.core.single.link (moved_on t).acts) ∙ ap (λ l. before ++ a ∷ shown_each l (moved_on t).acts) (effect_link c e.kind) in
-    subst (λ (x : List Action). IsBetween x (moved_on t).core) same done
+    let same : trace_with (before ++ a ∷ []) (moved_on t) ≡ before ++ actions_of c e =
+    append_assoc before (a ∷ []) (shown_each t.core.single.link (length t.core.timers) acts) ∙ (λ i. before ++ a ∷ shown_each (still.0 i) (length (still.1 i)) acts) in
+    subst (λ (x : List Action). IsBetween x (timed (moved_on t)).core) same done
 
 -- a history
 --
@@ -93,22 +117,24 @@ causes-append (action.Turn k c ∷ xs) ys = ap (λ cs. c ∷ cs) (causes-append 
 causes-append (_ ∷ xs) ys = causes-append xs ys
 
 -- acts are no causes
-no_causes : (l : ℕ) (acts : List LinkAct) → causes (shown_each l acts) ≡ []
-no_causes l [] = refl
-no_causes l (act.Created e ∷ acts) = no_causes l acts
-no_causes l (act.Close ∷ acts) = no_causes l acts
-no_causes l (act.Write bytes ∷ acts) = no_causes l acts
-no_causes l (act.Wait n kind ∷ acts) = no_causes l acts
-no_causes l (act.Start k n count len ∷ acts) = no_causes l acts
-no_causes l (act.Outcome n o ∷ acts) = no_causes l acts
+no_causes : (l n : ℕ) (acts : List LinkAct) → causes (shown_each l n acts) ≡ []
+no_causes l n [] = refl
+no_causes l n (act.Created e ∷ acts) = no_causes l (n + length (timer_of (act.Created e))) acts
+no_causes l n (act.Took k count ∷ acts) = no_causes l (n + length (timer_of (act.Took k count))) acts
+no_causes l n (act.Timer k ms ∷ acts) = no_causes l (n + length (timer_of (act.Timer k ms))) acts
+no_causes l n (act.Close ∷ acts) = no_causes l (n + length (timer_of act.Close)) acts
+no_causes l n (act.Write bytes ∷ acts) = no_causes l (n + length (timer_of (act.Write bytes))) acts
+no_causes l n (act.Wait k kind ∷ acts) = no_causes l (n + length (timer_of (act.Wait k kind))) acts
+no_causes l n (act.Start m k count len ∷ acts) = no_causes l (n + length (timer_of (act.Start m k count len))) acts
+no_causes l n (act.Outcome k o ∷ acts) = no_causes l (n + length (timer_of (act.Outcome k o))) acts
 
 -- a turn for each event
 turns_causes : (c : Core) (es : List Event) → causes (turns_on c es) ≡ event_causes es
 turns_causes c [] = refl
 turns_causes c (e ∷ es) =
     ap (λ cs. cause.Event e ∷ cs)
-    (causes-append (shown_each c.single.link (next_turn c e.kind).acts) (turns_on (next_turn c e.kind).core es)
-    ∙ (λ i. no_causes c.single.link (next_turn c e.kind).acts i ++ turns_causes (next_turn c e.kind).core es i))
+    (causes-append (shown_each c.single.link (length c.timers) (next_turn c e.kind).acts) (turns_on (next_turn c e.kind).core es)
+    ∙ (λ i. no_causes c.single.link (length c.timers) (next_turn c e.kind).acts i ++ turns_causes (next_turn c e.kind).core es i))
 
 -- the opening asks for what it asks, and is the cause of all of it
 opening_causes : (x : Option ConnectionInfo) (timeout : Option ℕ) (rest : List Action) → causes (connect_asked x timeout ++ rest) ≡ causes rest

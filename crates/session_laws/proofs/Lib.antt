@@ -3,6 +3,7 @@ pub mod Tied
 pub mod States
 pub mod Entered
 pub mod Names
+pub mod Permits
 pub mod InLine
 pub mod Behind
 pub mod Owes
@@ -16,6 +17,7 @@ pub mod Going
 pub mod Starts
 pub mod Place
 pub mod Settle
+pub mod LetIn
 pub mod Close
 pub mod Announce
 pub mod Heard
@@ -24,6 +26,7 @@ pub mod Connect
 pub mod Took
 pub mod Read
 pub mod Cancel
+pub mod Late
 pub mod Further
 pub mod Submit
 pub mod Asked

@@ -1,17 +1,16 @@
 -- All requests of a connection are moved.
 use Rattle.std.proofs.Common.{Bool, List, [], ap, false, inl, inr, length, refl, subst, sym, true, ℕ, ◌++◌, ◌∙◌, ◌∷◌, ◌≡◌, ◌⊎◌}
-use Rattle.std.specs.Prelude.{not}
 use Rattle.containers.proofs.Choices.{chosen, left_if, not_both, taken_if}
 use Rattle.redis_error.specs.declared.redis_error.RedisError.{RedisError}
 use Rattle.driver_model.specs.declared.action.Action.{Action}
 use Rattle.driver_model.specs.declared.outcome.Outcome.{Outcome}
 use Rattle.driver_model.specs.declared.outcome.Outcome.TheVariants as outcome
-use Rattle.link_core.specs.Link.{LinkState, holds_back, is_full}
+use Rattle.link_core.specs.Link.{LinkState, holds_back}
 use Rattle.link_laws.specs.Settles.{awaited_ids, wanted}
-use Rattle.mux_conn.specs.Connection.{Work, admits_none, has_room, with_link}
+use Rattle.mux_conn.specs.Connection.{Work, admits_none, admits_none_at, has_no_permit, with_link}
 use Rattle.mux_conn.specs.Effects.{failed_each, nobody_waits, waiting_failed}
 use Rattle.mux_conn.specs.Passes.{admitted, admitted_all, admitted_at, admitted_each, moved_up_all, moved_up_each, passed, started_at, still_admitted, still_waiting}
-use Rattle.mux_conn.specs.Requests.{answered, at_progress, is_open as is_open_progress, is_open_at, is_waiting, is_waiting_at}
+use Rattle.mux_conn.specs.Requests.{answered, with_permits, is_open as is_open_progress, is_open_at, is_waiting, is_waiting_at}
 use Rattle.mux_conn.specs.declared.life.Life.{Life}
 use Rattle.mux_conn.specs.declared.life.Life.TheVariants.{Dialing, Ended, Ready}
 use Rattle.mux_conn.specs.declared.request.Progress.TheVariants as progress
@@ -24,9 +23,9 @@ use Rattle.session_laws.proofs.Answer.{after_end}
 use Rattle.session_laws.proofs.Close.{waiting_ends}
 use Rattle.session_laws.proofs.Going.{IsGoing}
 use Rattle.session_laws.proofs.InLine.{kept_ids}
-use Rattle.session_laws.proofs.Names.{open_within, there_other, there_then}
+use Rattle.session_laws.proofs.Names.{open_within, with_other, with_then}
 use Rattle.session_laws.proofs.Numbers.{IsIn, Rising, rising_right}
-use Rattle.session_laws.proofs.Passes.{IsDone, IsSeated, IsUp, admitted_done, moved_up_seated, moved_up_waits, moving, started_keeps, started_up}
+use Rattle.session_laws.proofs.Passes.{IsDone, IsSeated, IsUp, admitted_done, moved_up_seated, moved_up_waits, moving, started_keeps, started_up, no_room}
 use Rattle.session_laws.proofs.Settle.{Holds, answered_leaves, failed_leaves, seen, trace_of_acts}
 use Rattle.session_laws.proofs.States.{IsFit, IsFitIn, IsStill}
 use Rattle.session_laws.proofs.Tied.{Inner, Sound, Tied, has_ended, link_in, queue_ids, waiting_ids}
@@ -48,14 +47,6 @@ pub record IsReady (before : List Action) (f : Core) (w : Work) (started : List 
 
 -- on a link that is up
 --
--- where a connection that is up has no room, its queue is full
-no_room : (life : Life) (link : LinkState) → life ≡ Ready link → has_room life ≡ false → is_full link ≡ true
-no_room life link e none = full (is_full link) (ap has_room (sym e) ∙ none)
-  where
-    full : (x : Bool) → not x ≡ false → x ≡ true
-    full true e = refl
-    full false e = cc
-
 -- there is one link
 one_link : (life : Life) (link link' : LinkState) → life ≡ Ready link → life ≡ Ready link' → link ≡ link'
 one_link life link link' e k = let both : Ready link ≡ Ready link' = sym e ∙ k in cc
@@ -67,13 +58,14 @@ up_moved before f w done =
     let c = w.conn in
     record {
       started = h.started;
-      holds = subst (λ ws. Sound (trace_of_acts before f w.acts) (moving f c c.admitted ws h.started)) (sym done.none) h.going.sound;
+      holds = h.going.sound;
       ended = h.going.ended;
       fit = record { link = λ link e. subst (IsFit c.size c.boundary) (one_link c.life h.link link h.life e) h.fit; none = λ no. absurd (no h.link h.life) };
       still = record {
         held = λ link e. subst (λ (x : LinkState). (x.queue ≡ []) ⊎ (holds_back x ≡ true)) (one_link c.life h.link link h.life e) h.held;
         full = λ link e. elim done.seated.full [ inl empty ↦ inl empty | inr none ↦ inr (no_room c.life link e none) ];
-        waiting = λ e. done.none;
+        waiting = λ link e. done.none;
+        none_waits = λ over. absurd (not_both (has_ended c.life) (ap has_ended h.life) over);
       };
     }
 
@@ -89,12 +81,12 @@ ready_moved before f w started link life h =
     let v = started_at w (Ready link) in
     let keeps = started_keeps w (Ready link) in
     let line = rising_right 0 queue kept hi (rising_right 0 started (queue ++ kept) hi h.holds.tied.lines.line) in
-    let going : IsGoing (trace_of_acts before f w.acts) (moving f (with_link w link).conn places waits started) = record {
-      sound = subst (λ (x : Life). Sound (trace_of_acts before f w.acts) (record (seen f w.conn [] started) { life = x })) life h.holds;
+    let going : IsGoing (trace_of_acts before f w.acts) (moving f w.acts (with_link w link).conn places waits started) = record {
+      sound = subst (λ (x : Life). Sound (trace_of_acts before f w.acts) (record (seen f w.acts w.conn [] started) { life = x })) life h.holds;
       ended = h.ended;
     } in
-    let up : IsUp before f v places waits kept = started_up before f w link places waits kept started fit going (subst (λ ns. Rising 0 (ns ++ kept) hi) (sym h.moved) line) in
-    let first : IsUp before f (still_admitted v []) places waits kept = record { link = up.link; life = up.life; fit = up.fit; held = up.held; started = up.started; going = up.going; order = up.order } in
+    let up : IsUp before f v places waits [] kept = started_up before f w link places waits kept started fit going (subst (λ ns. Rising 0 (ns ++ kept) hi) (sym h.moved) line) in
+    let first : IsUp before f (still_admitted v []) places waits [] kept = record { link = up.link; life = up.life; fit = up.fit; held = up.held; started = up.started; going = up.going; order = up.order } in
     let u = moved_up_each (still_admitted v []) places in
     let seated : IsSeated before f u waits = moved_up_seated before f (still_admitted v []) places waits first in
     let s = seated.up in
@@ -110,9 +102,9 @@ ready_moved before f w started link life h =
 
 -- while the connect isn't answered
 --
-stuck_stays : (w : Work) (qs : List Waiting) → admits_none w.conn.life ≡ true → admitted_each w qs ≡ still_waiting w qs
+stuck_stays : (w : Work) (qs : List Waiting) → admits_none w.conn ≡ true → admitted_each w qs ≡ still_waiting w qs
 stuck_stays w [] e = refl
-stuck_stays w (q ∷ qs) e = taken_if (admits_none w.conn.life) (still_waiting w (q ∷ qs)) (admitted_each (admitted w q) qs) e
+stuck_stays w (q ∷ qs) e = taken_if (admits_none w.conn) (still_waiting w (q ∷ qs)) (admitted_each (admitted w q) qs) e
 
 -- where none waits for a place, none is moved
 none_moved_up : (w : Work) → w.conn.admitted ≡ [] → moved_up_all w ≡ w
@@ -123,13 +115,13 @@ dialing_moved : (before : List Action) (f : Core) (w : Work) (started : List ℕ
 dialing_moved before f w started life h =
     let down : (link : LinkState) → w.conn.life ≡ Ready link → ⊥ = λ link e. (let no : Dialing ≡ Ready link = sym life ∙ e in cc) in
     let same : passed w ≡ w =
-    ap (λ (x : Life). admitted_all (moved_up_all (started_at w x))) life ∙ ap admitted_all (none_moved_up w (h.fit.none down)) ∙ stuck_stays (still_waiting w []) w.conn.waiting (ap admits_none life) in
+    ap (λ (x : Life). admitted_all (moved_up_all (started_at w x))) life ∙ ap admitted_all (none_moved_up w (h.fit.none down)) ∙ stuck_stays (still_waiting w []) w.conn.waiting (ap (λ (x : Life). admits_none_at x (has_no_permit w.conn.limit w.conn.free)) life) in
     subst (HasMoved before f) (sym same) (record {
       started = started;
       holds = h.holds;
       ended = h.ended;
       fit = h.fit;
-      still = record { held = λ link e. absurd (down link e); full = λ link e. absurd (down link e); waiting = λ e. absurd (e life) };
+      still = record { held = λ link e. absurd (down link e); full = λ link e. absurd (down link e); waiting = λ link e. absurd (down link e); none_waits = λ over. absurd (not_both (has_ended w.conn.life) (ap has_ended life) over) };
     })
 
 -- on a link that has ended
@@ -146,10 +138,10 @@ open_waits b t error h none over empty p e = elim (h.lines.there p e) [
 ]
 
 -- and stays where one is closed
-closed_waits : (requests : List Request) (p : ℕ) → is_open_at requests p ≡ true → OpenWaits requests → OpenWaits (at_progress requests p progress.Closed)
+closed_waits : (requests : List Request) (p : ℕ) → is_open_at requests p ≡ true → OpenWaits requests → OpenWaits (with_permits requests p progress.Closed 0)
 closed_waits requests p o h q e =
-    let k = there_then is_open_progress requests p q progress.Closed refl (open_within requests p o) e in
-    there_other is_waiting requests p q progress.Closed k.0 ∙ h q k.1
+    let k = with_then is_open_progress requests p q progress.Closed 0 refl (open_within requests p o) e in
+    with_other is_waiting requests p q progress.Closed 0 k.0 ∙ h q k.1
 
 -- or answered
 answered_waits : (w : Work) (p : ℕ) (o : Outcome) → OpenWaits w.conn.requests → OpenWaits (answered w p o).conn.requests
@@ -171,7 +163,7 @@ admitted_over w e q over h =
 each_over : (w : Work) (e : RedisError) (qs : List Waiting) → w.conn.life ≡ Ended e → OpenWaits w.conn.requests → admitted_each w qs ≡ still_waiting (failed_each w e qs) []
 each_over w e [] over h = refl
 each_over w e (q ∷ qs) over h =
-    left_if (admits_none w.conn.life) _ (admitted_each (admitted w q) qs) (ap admits_none over)
+    left_if (admits_none w.conn) _ (admitted_each (admitted w q) qs) (ap (λ (x : Life). admits_none_at x (has_no_permit w.conn.limit w.conn.free)) over)
     ∙ ap (λ (x : Work). admitted_each x qs) (admitted_over w e q over h)
     ∙ each_over (answered w q.number (outcome.Fault e)) e qs ((answered_leaves w q.number (outcome.Fault e)).life ∙ over) (answered_waits w q.number (outcome.Fault e) h)
 
@@ -189,10 +181,10 @@ passed_over_is w e over empty h =
 -- all are moved there
 over_moved : (before : List Action) (f : Core) (w : Work) (e : RedisError) (started : List ℕ) → w.conn.life ≡ Ended e → IsReady before f w started → HasMoved before f (passed w)
 over_moved before f w e started over h =
-    let t = seen f w.conn [] started in
+    let t = seen f w.acts w.conn [] started in
     let u = waiting_failed w e in
     let done = waiting_ends before f w e started h.holds over in
-    let ends = after_end (book (trace_of_acts before f u.acts)) (seen f u.conn [] started) done.holds.tied (ap has_ended done.over) in
+    let ends = after_end (book (trace_of_acts before f u.acts)) (seen f u.acts u.conn [] started) done.holds.tied (ap has_ended done.over) in
     let empty = h.fit.none (λ link r. (let no : Ended e ≡ Ready link = sym over ∙ r in cc)) in
     let down : (link : LinkState) → u.conn.life ≡ Ready link → ⊥ = λ link r. (let no : Ended e ≡ Ready link = sym done.over ∙ r in cc) in
     subst (HasMoved before f) (sym (passed_over_is w e over empty (open_waits (book (trace_of_acts before f w.acts)) t e h.holds.tied refl over empty))) (record {
@@ -200,7 +192,7 @@ over_moved before f w e started over h =
       holds = done.holds;
       ended = ends.0;
       fit = record { link = λ link r. absurd (down link r); none = λ no. done.none_admitted };
-      still = record { held = λ link r. absurd (down link r); full = λ link r. absurd (down link r); waiting = λ no. done.none_waits };
+      still = record { held = λ link r. absurd (down link r); full = λ link r. absurd (down link r); waiting = λ link r. absurd (down link r); none_waits = λ no. done.none_waits };
     })
 
 -- all requests are moved

@@ -4,22 +4,22 @@ use Rattle.std.proofs.lemmas.List.{nil_from_length}
 use Rattle.std.specs.Prelude.{Bool, ◌==◌, ◌&&◌, ◌||◌}
 use Rattle.containers.proofs.Choices.{both_left, both_right, eq_from}
 use Rattle.link_laws.proofs.Started.{row_open}
-use Rattle.link_laws.specs.Settles.{StandsAs, wanted}
-use Rattle.mux_conn.specs.Requests.{is_open_at, name_at}
+use Rattle.link_laws.specs.Settles.{StandsAs, awaited_ids, wanted}
+use Rattle.mux_conn.specs.Requests.{name_at}
 use Rattle.legal_trace.specs.Book.{Book}
 use Rattle.legal_trace.specs.Story.{Story, Try, is_open, is_told, is_unstarted}
-use Rattle.session_laws.proofs.InLine.{kept_ids, line_of, open_in_line, row_ids, wanted_in}
+use Rattle.session_laws.proofs.InLine.{awaited_in, row_ids, wanted_in}
 use Rattle.session_laws.proofs.Names.{open_within}
 use Rattle.session_laws.proofs.Numbers.{IsIn, in_either}
 use Rattle.session_laws.proofs.Owes.{lives, open_request, stands_started, wanted_entry}
-use Rattle.session_laws.proofs.Tied.{Inner, Tied, link_in, owner_of, queue_ids, has_ended}
+use Rattle.session_laws.proofs.Tied.{Inner, IsKept, Tied, link_in, owner_of, queue_ids, has_ended}
 
--- a submission that is still to start is in the queue, or is open and waits
+-- a submission that is still to start is in the queue, or waits
 pub record IsLater (t : Inner) (n : ℕ) : Type 0 where
   pub p : ℕ
   pub within : p < length t.requests
   pub name : name_at t.requests p ≡ n
-  pub later : IsIn p (queue_ids (link_in t.life).queue) ⊎ ((is_open_at t.requests p ≡ true) × IsIn p (kept_ids t.admitted t.waiting))
+  pub later : IsIn p (queue_ids (link_in t.life).queue) ⊎ IsKept t.requests t.waiting t.admitted p
 
 -- its message has not started
 pub unstarted_tries : (s : Story) → is_unstarted s ≡ true → s.tries ≡ []
@@ -37,13 +37,14 @@ unstarted_alive s e = either_one (is_open s) (is_told s) (both_right (length s.t
 pub open_unstarted : (s : Story) → s.tries ≡ [] → is_open s ≡ true → is_unstarted s ≡ true
 open_unstarted s none o = λ i. (length (none i) == 0) && (o i || is_told s)
 
+-- what is true in any case
+pub or_true : (a : Bool) → (a || true) ≡ true
+or_true true = refl
+or_true false = refl
+
 -- and for one that was told
 pub told_unstarted : (s : Story) → s.tries ≡ [] → is_told s ≡ true → is_unstarted s ≡ true
 told_unstarted s none e = (λ i. (length (none i) == 0) && (is_open s || e i)) ∙ or_true (is_open s)
-  where
-    or_true : (a : Bool) → (a || true) ≡ true
-    or_true true = refl
-    or_true false = refl
 
 -- what is in the row has started
 row_started : (b : Book) (t : Inner) (p : ℕ) → Tied b t → has_ended t.life ≡ false → p < length t.requests → IsIn p (row_ids (link_in t.life).row) → (b.story (name_at t.requests p)).tries ≢ []
@@ -63,17 +64,18 @@ open_later : (b : Book) (t : Inner) (n : ℕ) → Tied b t → t.pending ≡ [] 
 open_later b t n h none up unstarted o =
     let r = open_request b t n h o in
     let within = open_within t.requests r.number r.open_at in
-    let queue = queue_ids (link_in t.life).queue in
-    let kept = kept_ids t.admitted t.waiting in
-    let i = open_in_line b.story t.requests (link_in t.life) t.waiting t.admitted t.pending t.started r.number h.lines r.open_at in
-    let j = subst (λ ns. IsIn r.number (ns ++ line_of (link_in t.life) t.admitted t.waiting)) none i in
+    let rows = wanted (link_in t.life).row in
+    let queue = awaited_ids (link_in t.life).queue in
     record {
       p = r.number;
       within = within;
       name = r.named;
-      later = elim (in_either r.number (wanted (link_in t.life).row) (queue ++ kept) j) [
-        | inl a ↦ absurd (row_started b t r.number h up within (wanted_in r.number (link_in t.life).row a) (ap (λ m. (b.story m).tries) r.named ∙ unstarted))
-        | inr a ↦ elim (in_either r.number queue kept a) [ inl q ↦ inl q | inr k ↦ inr (r.open_at, k) ]
+      later = elim (h.lines.there r.number r.open_at) [
+        | inl i ↦ elim (in_either r.number rows queue (subst (λ ns. IsIn r.number (ns ++ (rows ++ queue))) none i)) [
+          | inl a ↦ absurd (row_started b t r.number h up within (wanted_in r.number (link_in t.life).row a) (ap (λ m. (b.story m).tries) r.named ∙ unstarted))
+          | inr q ↦ inl (awaited_in r.number (link_in t.life).queue q)
+        ]
+        | inr k ↦ inr k
       ];
     }
 

@@ -1,5 +1,5 @@
 -- Requests by their numbers, and their names.
-use Rattle.std.proofs.Common.{◌≡◌, ◌≢◌, ◌⊎◌, inl, inr, ℕ, zero, suc, ◌<◌, ◌==◌, nat_lt, Bool, true, false, List, [], ◌∷◌, ◌++◌, length, Option, Some, None, slice_get, slice_set, refl, sym, ap, ◌∙◌, arith, length-set}
+use Rattle.std.proofs.Common.{◌≡◌, ◌≢◌, ◌⊎◌, inl, inr, ℕ, zero, suc, ◌<◌, ◌==◌, nat_lt, Bool, true, false, List, [], ◌∷◌, ◌++◌, length, Option, Some, None, slice_get, slice_set, refl, sym, ap, ◌∙◌, subst, arith, length-set}
 use Rattle.containers.proofs.Places.{get_set_same, get_set_other, get_within}
 use Rattle.containers.proofs.Choices.{by_test, not_both, eq_from, ne_from, lt_from, not_lt_from}
 use Rattle.driver_model.specs.declared.action.Owner.TheVariants as owner
@@ -7,7 +7,7 @@ use Rattle.link_laws.proofs.Lists.{get_before, get_last}
 use Rattle.mux_conn.specs.declared.request.Pending.{Pending}
 use Rattle.mux_conn.specs.declared.request.Progress.{Progress}
 use Rattle.mux_conn.specs.declared.request.Request.{Request}
-use Rattle.mux_conn.specs.Requests.{is_open, if_there, is_open_at, name_or_none, name_at, at_progress}
+use Rattle.mux_conn.specs.Requests.{is_open, if_there, is_open_at, name_or_none, name_at, permits_or_none, permits_at, with_permits, at_progress}
 use Rattle.session_laws.proofs.Tied.{owner_of, TiedNames}
 
 -- what stands at a place within
@@ -44,31 +44,71 @@ renamed_at (x ∷ xs) (suc p) zero r e = refl
 renamed_at (x ∷ xs) (suc p) (suc m) r e = renamed_at xs p m r e
 
 -- names stay
+pub name_with : (requests : List Request) (p : ℕ) (now : Progress) (count m : ℕ) → name_at (with_permits requests p now count) m ≡ name_at requests m
+name_with requests p now count m = renamed_at requests p m (record { name = name_at requests p; progress = now; permits = count }) refl
+
+-- the same where permits stay
 pub name_still : (requests : List Request) (p : ℕ) (now : Progress) (m : ℕ) → name_at (at_progress requests p now) m ≡ name_at requests m
-name_still requests p now m = renamed_at requests p m (record { name = name_at requests p; progress = now }) refl
+name_still requests p now m = name_with requests p now (permits_at requests p) m
 
 -- and so do owners
+pub owners_with : (requests : List Request) (p : ℕ) (now : Progress) (count : ℕ) → owner_of (with_permits requests p now count) ≡ owner_of requests
+owners_with requests p now count = λ i m. owner.Try (name_with requests p now count m i) 0
+
+-- the same where permits stay
 pub owners_still : (requests : List Request) (p : ℕ) (now : Progress) → owner_of (at_progress requests p now) ≡ owner_of requests
-owners_still requests p now = λ i m. owner.Try (name_still requests p now m i) 0
+owners_still requests p now = owners_with requests p now (permits_at requests p)
 
 -- there are as many requests
+pub length_with : (requests : List Request) (p : ℕ) (now : Progress) (count : ℕ) → length (with_permits requests p now count) ≡ length requests
+length_with requests p now count = length-set requests p (record { name = name_at requests p; progress = now; permits = count })
+
+-- the same where permits stay
 pub length_still : (requests : List Request) (p : ℕ) (now : Progress) → length (at_progress requests p now) ≡ length requests
-length_still requests p now = length-set requests p (record { name = name_at requests p; progress = now })
+length_still requests p now = length_with requests p now (permits_at requests p)
 
 -- its own progress
+pub with_same : (test : Progress → Bool) (requests : List Request) (p : ℕ) (now : Progress) (count : ℕ) → p < length requests → if_there test (slice_get (with_permits requests p now count) p) ≡ test now
+with_same test requests p now count l = ap (if_there test) (get_set_same requests p (record { name = name_at requests p; progress = now; permits = count }) l)
+
+-- the same where permits stay
 pub there_same : (test : Progress → Bool) (requests : List Request) (p : ℕ) (now : Progress) → p < length requests → if_there test (slice_get (at_progress requests p now) p) ≡ test now
-there_same test requests p now l = ap (if_there test) (get_set_same requests p (record { name = name_at requests p; progress = now }) l)
+there_same test requests p now l = with_same test requests p now (permits_at requests p) l
 
 -- and that of any other
+pub with_other : (test : Progress → Bool) (requests : List Request) (p m : ℕ) (now : Progress) (count : ℕ) → p ≢ m → if_there test (slice_get (with_permits requests p now count) m) ≡ if_there test (slice_get requests m)
+with_other test requests p m now count o = ap (if_there test) (get_set_other requests p m (record { name = name_at requests p; progress = now; permits = count }) o)
+
+-- the same where permits stay
 pub there_other : (test : Progress → Bool) (requests : List Request) (p m : ℕ) (now : Progress) → p ≢ m → if_there test (slice_get (at_progress requests p now) m) ≡ if_there test (slice_get requests m)
-there_other test requests p m now o = ap (if_there test) (get_set_other requests p m (record { name = name_at requests p; progress = now }) o)
+there_other test requests p m now o = with_other test requests p m now (permits_at requests p) o
+
+-- its own permits
+pub permits_with : (requests : List Request) (p : ℕ) (now : Progress) (count : ℕ) → p < length requests → permits_at (with_permits requests p now count) p ≡ count
+permits_with requests p now count l = ap permits_or_none (get_set_same requests p (record { name = name_at requests p; progress = now; permits = count }) l)
+
+-- and those of any other
+pub permits_other : (requests : List Request) (p m : ℕ) (now : Progress) (count : ℕ) → p ≢ m → permits_at (with_permits requests p now count) m ≡ permits_at requests m
+permits_other requests p m now count o = ap permits_or_none (get_set_other requests p m (record { name = name_at requests p; progress = now; permits = count }) o)
+
+-- permits stay
+pub permits_still : (requests : List Request) (p m : ℕ) (now : Progress) → p < length requests → permits_at (at_progress requests p now) m ≡ permits_at requests m
+permits_still requests p m now l =
+    by_test (p == m) _
+    (λ t. subst (λ k. permits_at (at_progress requests p now) k ≡ permits_at requests k) (eq_from p m t) (permits_with requests p now (permits_at requests p) l))
+    (λ f. permits_other requests p m now (permits_at requests p) (ne_from p m f))
 
 -- where a request has come to what doesn't pass the test, one that passes it is another one
+pub with_then : (test : Progress → Bool) (requests : List Request) (p m : ℕ) (now : Progress) (count : ℕ) → test now ≡ false → p < length requests → if_there test (slice_get (with_permits requests p now count) m) ≡ true
+    → (p ≢ m) × (if_there test (slice_get requests m) ≡ true)
+with_then test requests p m now count closed l e =
+    let other : p ≢ m = λ same. not_both (if_there test (slice_get (with_permits requests p now count) m)) (ap (λ k. if_there test (slice_get (with_permits requests p now count) k)) (sym same) ∙ with_same test requests p now count l ∙ closed) e in
+    (other, sym (with_other test requests p m now count other) ∙ e)
+
+-- the same where permits stay
 pub there_then : (test : Progress → Bool) (requests : List Request) (p m : ℕ) (now : Progress) → test now ≡ false → p < length requests → if_there test (slice_get (at_progress requests p now) m) ≡ true
     → (p ≢ m) × (if_there test (slice_get requests m) ≡ true)
-there_then test requests p m now closed l e =
-    let other : p ≢ m = λ same. not_both (if_there test (slice_get (at_progress requests p now) m)) (ap (λ k. if_there test (slice_get (at_progress requests p now) k)) (sym same) ∙ there_same test requests p now l ∙ closed) e in
-    (other, sym (there_other test requests p m now other) ∙ e)
+there_then test requests p m now closed l e = with_then test requests p m now (permits_at requests p) closed l e
 
 -- a request, and the one that it was before or is after a change
 abbrev pub IsNamed : List Request → ℕ → ℕ → Type 0
@@ -91,20 +131,28 @@ is_named (x ∷ xs) (suc p) zero r s e i = (s, i, refl)
 is_named (x ∷ xs) (suc p) (suc q) r s e i = is_named xs p q r s e i
 
 -- the request that has come further has the same name
+pub was_with : (requests : List Request) (p : ℕ) (now : Progress) (count q : ℕ) (s : Request) → slice_get (with_permits requests p now count) q ≡ Some s → IsNamed requests q s.name
+was_with requests p now count q s i = was_named requests p q (record { name = name_at requests p; progress = now; permits = count }) s refl i
+
+-- the same where permits stay
 pub name_was : (requests : List Request) (p : ℕ) (now : Progress) (q : ℕ) (s : Request) → slice_get (at_progress requests p now) q ≡ Some s → IsNamed requests q s.name
-name_was requests p now q s i = was_named requests p q (record { name = name_at requests p; progress = now }) s refl i
+name_was requests p now q s i = was_with requests p now (permits_at requests p) q s i
 
 -- and the other way round
-pub name_is_still : (requests : List Request) (p : ℕ) (now : Progress) (q : ℕ) (s : Request) → slice_get requests q ≡ Some s → IsNamed (at_progress requests p now) q s.name
-name_is_still requests p now q s i = is_named requests p q (record { name = name_at requests p; progress = now }) s refl i
+pub is_with : (requests : List Request) (p : ℕ) (now : Progress) (count q : ℕ) (s : Request) → slice_get requests q ≡ Some s → IsNamed (with_permits requests p now count) q s.name
+is_with requests p now count q s i = is_named requests p q (record { name = name_at requests p; progress = now; permits = count }) s refl i
 
 -- the names of a table stand under the change of a progress
-pub names_progressed : (table : List (Option Pending)) (requests : List Request) (p : ℕ) (now : Progress) → TiedNames table requests → TiedNames table (at_progress requests p now)
-names_progressed table requests p now h = record {
-  named = λ q s i. let w = name_was requests p now q s i in ap (slice_get table) (sym w.2) ∙ h.named q w.0 w.1;
-  kept = λ n q i. let k = h.kept n q i in let w = name_is_still requests p now q.number k.0 k.1 in (w.0, w.1, w.2 ∙ k.2);
-  rising = λ q m r s l i j. let a = name_was requests p now q r i in let b = name_was requests p now m s j in let k = h.rising q m a.0 b.0 l a.1 b.1 in omega (arith, a.2, b.2);
+pub names_with : (table : List (Option Pending)) (requests : List Request) (p : ℕ) (now : Progress) (count : ℕ) → TiedNames table requests → TiedNames table (with_permits requests p now count)
+names_with table requests p now count h = record {
+  named = λ q s i. let w = was_with requests p now count q s i in ap (slice_get table) (sym w.2) ∙ h.named q w.0 w.1;
+  kept = λ n q i. let k = h.kept n q i in let w = is_with requests p now count q.number k.0 k.1 in (w.0, w.1, w.2 ∙ k.2);
+  rising = λ q m r s l i j. let a = was_with requests p now count q r i in let b = was_with requests p now count m s j in let k = h.rising q m a.0 b.0 l a.1 b.1 in omega (arith, a.2, b.2);
 }
+
+-- the same where permits stay
+pub names_progressed : (table : List (Option Pending)) (requests : List Request) (p : ℕ) (now : Progress) → TiedNames table requests → TiedNames table (at_progress requests p now)
+names_progressed table requests p now h = names_with table requests p now (permits_at requests p) h
 
 -- names tell requests apart
 --
@@ -163,10 +211,10 @@ names_refused table requests h = record {
 
 -- it is the next request
 pub names_asked : (table : List (Option Pending)) (requests : List Request) (now : Progress) → TiedNames table requests
-    → TiedNames (table ++ Some (record { number = length requests }) ∷ []) (requests ++ record { name = length table; progress = now } ∷ [])
+    → TiedNames (table ++ Some (record { number = length requests }) ∷ []) (requests ++ record { name = length table; progress = now; permits = 0 } ∷ [])
 names_asked table requests now h =
     let next : Option Pending = Some (record { number = length requests }) in
-    let new : Request = record { name = length table; progress = now } in
+    let new : Request = record { name = length table; progress = now; permits = 0 } in
     record {
       named = λ p r i. elim (get_more requests new p r i) [
         | inl j ↦ let g = h.named p r j in get_before table (next ∷ []) r.name (get_within table r.name (Some (record { number = p })) g) ∙ g

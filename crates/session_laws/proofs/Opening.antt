@@ -1,6 +1,6 @@
 -- The opening: the first link is asked for.
-use Rattle.std.proofs.Common.{List, None, Option, Some, [], ap, arith, false, refl, subst, suc, sym, zero, ℕ, ◌+◌, ◌<◌, ◌∙◌, ◌∷◌, ◌≡◌, ◌≢◌}
-use Rattle.std.specs.Prelude.{◌==◌}
+use Rattle.std.proofs.Common.{List, None, Option, Some, [], ap, arith, false, inl, inr, refl, subst, suc, sym, zero, ℕ, ◌+◌, ◌<◌, ◌∙◌, ◌∷◌, ◌≡◌, ◌≢◌}
+use Rattle.std.specs.Prelude.{unwrap_or, ◌==◌}
 use Rattle.containers.proofs.Choices.{chosen, left_if, ne_from, ne_test}
 use Rattle.connection_info.specs.declared.address.ConnectionInfo.{ConnectionInfo}
 use Rattle.redis_error.specs.declared.config_name.ConfigName.{ConfigName}
@@ -8,10 +8,11 @@ use Rattle.redis_error.specs.declared.config_name.ConfigName.TheVariants as name
 use Rattle.driver_model.specs.declared.action.Action.TheVariants as action
 use Rattle.driver_model.specs.declared.action.Cause.TheVariants as cause
 use Rattle.driver_model.specs.declared.config.Config.{Config}
-use Rattle.driver_model.specs.Config.{address, boundary, buffer_fault, buffer_size, connect_timeout, fault_in, has_setup}
+use Rattle.driver_model.specs.Config.{address, boundary, buffer_fault, buffer_size, connect_timeout, fault_in, has_setup, response_timeout, room_fault}
 use Rattle.driver_model.specs.declared.action.Action.{Action}
 use Rattle.driver_model.specs.declared.action.Cause.{Cause}
 use Rattle.driver_model.specs.declared.action.Purpose.{Purpose}
+use Rattle.driver_model.specs.declared.action.Purpose.TheVariants as purpose
 use Rattle.link_laws.proofs.TiedLink.{asked_tied, fresh_tied}
 use Rattle.mux_conn.specs.Turn.{dialing}
 use Rattle.mux_conn.specs.declared.life.Life.TheVariants.{Dialing}
@@ -24,7 +25,7 @@ use Rattle.legal_trace.specs.Story.{blank_story}
 use Rattle.session_laws.proofs.Going.{is_moved}
 use Rattle.session_laws.proofs.Settled.{IsBetween, is_settled}
 use Rattle.session_laws.proofs.States.{IsFitIn, IsStill}
-use Rattle.session_laws.proofs.Tied.{AreAimed, IsUnknown, Tied, TiedLines, TiedNames, TiedNumbers, TiedTries, TiedWaits, inner, no_link, owner_of, owners_of}
+use Rattle.session_laws.proofs.Tied.{AreAimed, IsAim, IsUnknown, Tied, TiedLines, TiedNames, TiedNumbers, TiedPermits, TiedTries, TiedWaits, inner, no_link, owner_of, owners_of}
 use Rattle.session_laws.proofs.Waits.{IsQuiet}
 use Rattle.session_laws.proofs.Write.{is_written}
 
@@ -42,9 +43,10 @@ opened_core config timers = record {
   turns = 1;
   links = first_link + 1;
   shut = false;
+  timeout = response_timeout config;
   timers = timers;
   table = [];
-  single = record { link = first_link; connection = dialing (buffer_size config) (boundary config) };
+  single = record { link = first_link; connection = dialing (buffer_size config) (boundary config) config.limit };
 }
 
 -- no other link is told of
@@ -61,22 +63,41 @@ bounded_timers None some none = some refl
 bounded_timers (Some ms) some none = cc
 
 -- the timers are for the first link
-first_aims : (timeout : Option ℕ) → AreAimed (connect_timers timeout) first_link
+first_aims : (timeout : Option ℕ) → AreAimed (connect_timers timeout) first_link 0
 first_aims None k what e = cc
-first_aims (Some ms) zero what e = cc
+first_aims (Some ms) zero what e = let same : purpose.Connect first_link ≡ what = cc in subst (λ w. IsAim w first_link 0) same refl
 first_aims (Some ms) (suc k) what e = cc
 
--- a queue that holds nothing is refused
-sized : (info : ConnectionInfo) (size : ℕ) → fault_in (Some info) size ≡ None → 0 < size
-sized info size =
-    chosen (λ (x : Option ConfigName). x ≡ None → 0 < size) (has_setup info.redis) (Some name.Kind) (buffer_fault size) (λ t e. absurd (no_fault name.Kind e))
-    (λ f. chosen (λ (x : Option ConfigName). x ≡ None → 0 < size) (size == 0) (Some name.Buffer) None (λ t e. absurd (no_fault name.Buffer e)) (λ n e. let some = ne_from size 0 n in omega arith))
+-- a connection that never has a permit is refused, and a queue that holds nothing
+pub record IsSized (limit : Option ℕ) (size : ℕ) : Type 0 where
+  pub limited : limit ≢ Some 0
+  pub some : 0 < size
+
+-- what is refused is told
+no_fault : (n : ConfigName) → Some n ≡ None → ⊥
+no_fault n e = cc
+
+-- the queue
+buffer_sized : (size : ℕ) → buffer_fault size ≡ None → 0 < size
+buffer_sized size = chosen (λ (x : Option ConfigName). x ≡ None → 0 < size) (size == 0) (Some name.Buffer) None (λ t e. absurd (no_fault name.Buffer e)) (λ n e. let some = ne_from size 0 n in omega arith)
+
+-- the permits, and then the queue
+room_sized : (limit : Option ℕ) (size : ℕ) → room_fault limit size ≡ None → IsSized limit size
+room_sized None size = λ e. record { limited = λ x. cc; some = buffer_sized size e }
+room_sized (Some k) size =
+    chosen (λ (x : Option ConfigName). x ≡ None → IsSized (Some k) size) (k == 0) (Some name.Limit) (buffer_fault size)
+    (λ t e. absurd (no_fault name.Limit e))
+    (λ n e. record { limited = λ x. ne_from k 0 n (same_number k 0 x); some = buffer_sized size e })
   where
-    no_fault : (n : ConfigName) → Some n ≡ None → ⊥
-    no_fault n e = cc
+    same_number : (k l : ℕ) → ◌≡◌ {A = Option ℕ} (Some k) (Some l) → k ≡ l
+    same_number k l e = cc
+
+-- behind the address
+sized : (info : ConnectionInfo) (limit : Option ℕ) (size : ℕ) → fault_in (Some info) limit size ≡ None → IsSized limit size
+sized info limit size = chosen (λ (x : Option ConfigName). x ≡ None → IsSized limit size) (has_setup info.redis) (Some name.Kind) (room_fault limit size) (λ t e. absurd (no_fault name.Kind e)) (λ f e. room_sized limit size e)
 
 -- its numbers
-opening_numbers : (config : Config) (word : ℕ) (info : ConnectionInfo) (timeout : Option ℕ) → 0 < buffer_size config → connect_timeout config ≡ timeout → TiedNumbers (opened config word info (connect_timers timeout)) (inner (opened_core config (connect_timers timeout)) [])
+opening_numbers : (config : Config) (word : ℕ) (info : ConnectionInfo) (timeout : Option ℕ) → IsSized config.limit (buffer_size config) → connect_timeout config ≡ timeout → TiedNumbers (opened config word info (connect_timers timeout)) (inner (opened_core config (connect_timers timeout)) [])
 opening_numbers config word info timeout some is = record {
   turns = refl;
   links = refl;
@@ -84,8 +105,9 @@ opening_numbers config word info timeout some is = record {
   aims = first_aims timeout;
   timed = λ other another opens bounded. bounded_timers timeout (λ none. bounded (ap connect_timeout (sym (own_opening config other word another opens)) ∙ is ∙ none));
   submissions = refl;
+  timeout = refl;
   shut = refl;
-  settings = record { size_is = refl; bound_is = refl; some = some };
+  settings = record { size_is = refl; bound_is = refl; limit_is = refl; some = some.some; limited = some.limited };
   one = refl;
   only = λ m less. omega arith;
 }
@@ -97,14 +119,25 @@ opening_lines = record { line = omega arith; queued = tt; entries = tt; packs = 
 -- its waits
 opening_waits : TiedWaits (λ n. blank_story) [] Dialing [] []
 opening_waits = record {
-  new = tt;
   early = λ p w. cc;
   connect = λ p w e. cc;
+  permit = λ p link w e. cc;
   place = λ p a. cc;
   room = λ p i. absurd i;
+  newer = omega arith;
   rising = omega arith;
+  no_connect = λ p i. absurd i;
+  no_permit = λ p link i. absurd i;
   no_place = λ p i. absurd i;
   no_room = λ p i. absurd i;
+}
+
+-- all its permits are free
+opening_permits : (limit : Option ℕ) → TiedPermits (λ n. blank_story) 0 [] first_link limit (unwrap_or limit 0) []
+opening_permits limit = record {
+  counted = λ k e. (let all : unwrap_or limit 0 ≡ k = ap (λ (x : Option ℕ). unwrap_or x 0) e in omega arith);
+  none = λ p w out. cc;
+  let_in = λ p e. elim e [ inl a ↦ cc | inr a ↦ cc ];
 }
 
 -- its names
@@ -116,7 +149,7 @@ opening_tries : (l : Ledger) → l.starts ≡ [] → TiedTries l (λ n. blank_st
 opening_tries l none = record { owners = ap owners_of none; shapes = λ k p s e i. cc; tried = λ k p e. cc; untried = λ p r e out. cc }
 
 -- the session is tied to it
-opening_tied : (config : Config) (word : ℕ) (info : ConnectionInfo) (timeout : Option ℕ) → 0 < buffer_size config → connect_timeout config ≡ timeout → Tied (opened config word info (connect_timers timeout)) (inner (opened_core config (connect_timers timeout)) [])
+opening_tied : (config : Config) (word : ℕ) (info : ConnectionInfo) (timeout : Option ℕ) → IsSized config.limit (buffer_size config) → connect_timeout config ≡ timeout → Tied (opened config word info (connect_timers timeout)) (inner (opened_core config (connect_timers timeout)) [])
 opening_tied config word info timeout some is = record {
   numbers = opening_numbers config word info timeout some is;
   others = λ m other. subst IsUnknown (sym (opened_link config word info (connect_timers timeout) m other)) (record { asked = refl; up = refl; end = refl; starts = refl });
@@ -128,6 +161,8 @@ opening_tied config word info timeout some is = record {
   lines = opening_lines;
   told = λ e n is none. cc;
   waits = opening_waits;
+  permits = opening_permits config.limit;
+  late = λ p o e. cc;
 }
 
 -- no link must end
@@ -147,7 +182,7 @@ opening_book config word info (Some ms) = refl
 -- its timer may stand
 timer_stands : (config : Config) (word : ℕ) (info : ConnectionInfo) (timeout : Option ℕ) → connect_timeout config ≡ timeout → AllStand (opened config word info []) (timer_asked timeout)
 timer_stands config word info None is = tt
-timer_stands config word info (Some ms) is = (record { config = config; word = word; opens = refl; bounded = is; asked = λ e. cc; first = refl; next = refl; is_for = refl }, tt)
+timer_stands config word info (Some ms) is = (inl (record { config = config; word = word; opens = refl; bounded = is; asked = λ e. cc; first = refl; next = refl; is_for = refl }), tt)
 
 -- and so its actions may
 opening_stands : (config : Config) (word : ℕ) (info : ConnectionInfo) (timeout : Option ℕ) → IsSound config → address config ≡ Some info → connect_timeout config ≡ timeout → AllStand blank_book (opened_actions config word info timeout)
@@ -157,7 +192,7 @@ opening_stands config word info timeout sound at is = (
 )
 
 -- the session after an opening with an address
-opened_between : (config : Config) (word : ℕ) (info : ConnectionInfo) (timeout : Option ℕ) → IsSound config → address config ≡ Some info → 0 < buffer_size config → connect_timeout config ≡ timeout
+opened_between : (config : Config) (word : ℕ) (info : ConnectionInfo) (timeout : Option ℕ) → IsSound config → address config ≡ Some info → IsSized config.limit (buffer_size config) → connect_timeout config ≡ timeout
     → IsBetween (opened_actions config word info timeout) (opened_core config (connect_timers timeout))
 opened_between config word info timeout sound at some is =
     let timers = connect_timers timeout in
@@ -167,10 +202,10 @@ opened_between config word info timeout sound at some is =
     let t = inner c [] in
     let tied = opening_tied config word info timeout some is in
     let fit : IsFitIn conn = record { link = λ link e. cc; none = λ no. refl } in
-    let still : IsStill conn = record { held = λ link e. cc; full = λ link e. cc; waiting = λ e. refl } in
-    let moved = is_moved b t tied refl (opening_ends config word info timers) fit.link fit.none still.held still.full still.waiting in
+    let still : IsStill conn = record { held = λ link e. cc; full = λ link e. cc; waiting = λ link e. cc; none_waits = λ e. refl } in
+    let moved = is_moved b t tied refl refl (opening_ends config word info timers) fit.link fit.none still.held still.full still.waiting still.none_waits in
     let written = is_written b t tied moved (λ link e. cc) in
-    let quiet : IsQuiet t = record { settled = refl; fit = fit.link; none = fit.none; held = still.held; full = still.full; waiting = still.waiting } in
+    let quiet : IsQuiet t = record { settled = refl; alone = refl; fit = fit.link; none = fit.none; held = still.held; full = still.full; waiting = still.waiting; gone = still.none_waits } in
     let book_is = sym (opening_book config word info timeout) in
     record {
       started = [];
@@ -189,7 +224,7 @@ opened_between config word info timeout sound at some is =
 pub opening_between : (config : Config) (word : ℕ) → IsSound config → IsBetween (opening_actions config word) (opening_core config word)
 opening_between config word sound = by_address (address config) refl sound
   where
-    by_address : (x : Option ConnectionInfo) → address config ≡ x → fault_in x (buffer_size config) ≡ None
+    by_address : (x : Option ConnectionInfo) → address config ≡ x → fault_in x config.limit (buffer_size config) ≡ None
         → IsBetween (action.Turn 0 (cause.Opening config word) ∷ connect_asked x (connect_timeout config)) (opening_core config word)
     by_address None at none = cc
-    by_address (Some info) at none = opened_between config word info (connect_timeout config) sound at (sized info (buffer_size config) none) refl
+    by_address (Some info) at none = opened_between config word info (connect_timeout config) sound at (sized info config.limit (buffer_size config) none) refl

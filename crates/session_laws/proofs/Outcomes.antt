@@ -1,6 +1,7 @@
 -- What the outcome actions of a trace say is what its book says.
+use Rattle.driver_model.specs.declared.action.Purpose.{Purpose}
 use Rattle.legal_trace.specs.Book.{entered}
-use Rattle.std.proofs.Common.{List, None, Option, Some, [], ap, arith, inl, inr, is_some, length, length-set, nat_le, not, refl, slice_set, subst, suc, sym, true, zero, ℕ, ◌++◌, ◌+◌, ◌<◌, ◌∙◌, ◌∷◌, ◌≡◌, ◌≤◌}
+use Rattle.std.proofs.Common.{List, None, Option, Some, [], ap, arith, inl, inr, is_some, length, length-set, nat_le, not, refl, slice_get, slice_set, subst, suc, sym, true, zero, ℕ, ◌++◌, ◌+◌, ◌<◌, ◌∙◌, ◌∷◌, ◌≡◌, ◌≤◌}
 use Rattle.std.proofs.lemmas.List.{length_push}
 use Rattle.std.specs.Prelude.{◌&&◌, ◌==◌}
 use Rattle.containers.proofs.Places.{get_set_other, get_set_same}
@@ -15,9 +16,9 @@ use Rattle.driver_model.specs.declared.event.EventKind.TheVariants as event
 use Rattle.driver_model.specs.declared.event.Submission.{Submission}
 use Rattle.driver_model.specs.declared.outcome.Outcome.{Outcome}
 use Rattle.shared_session.specs.Replay.{if_placed, outcome_at, outcomes_in, told, told_each, with_room}
-use Rattle.legal_trace.specs.Book.{Book, blank_book, book, current, entered_each}
+use Rattle.legal_trace.specs.Book.{Book, blank_book, book, current, entered_each, is_clock_of}
 use Rattle.legal_trace.specs.Legal.{AllStand, IsOpen, MayStand}
-use Rattle.legal_trace.specs.Story.{Story, answered, handed_in, is_open, left, tried, waits}
+use Rattle.legal_trace.specs.Story.{Story, answered, clocked, fires, handed_in, holds, is_open, left, tried, waits}
 use Rattle.session_laws.specs.Outcomes.{last_outcome}
 
 -- the last is the last
@@ -80,16 +81,20 @@ submit_outcomes : (os : List (Option Outcome)) (b : Book) (number word : ℕ) (w
 submit_outcomes os b number word what h = record {
   long = length_push os None ∙ ap (λ n. n + 1) h.long;
   last = λ n. room_at os n ∙ h.last n
-      ∙ chosen (λ (s : Story). last_outcome (b.story n).outcomes ≡ last_outcome s.outcomes) (b.submissions == n) (handed_in (b.story n) what b.shut (current b)) (b.story n) (λ t. refl) (λ f. refl);
+      ∙ chosen (λ (s : Story). last_outcome (b.story n).outcomes ≡ last_outcome s.outcomes) (b.submissions == n) (handed_in (b.story n) what b.shut (current b) b.timeout) (b.story n) (λ t. refl) (λ f. refl);
   later = λ n l.
-      chosen (λ (s : Story). (s.submission ≡ None) × (s.outcomes ≡ [])) (b.submissions == n) (handed_in (b.story n) what b.shut (current b)) (b.story n)
+      chosen (λ (s : Story). (s.submission ≡ None) × (s.outcomes ≡ [])) (b.submissions == n) (handed_in (b.story n) what b.shut (current b) b.timeout) (b.story n)
       (λ t. absurd (let same = eq_from b.submissions n t in omega arith))
       (λ f. h.later n (omega arith));
 }
 
 -- a leave tells nothing of outcomes
 left_same : (s : Story) → SameTold s (left s)
-left_same s = chosen (SameTold s) (is_open s) (record s { cancelled = true; waiting = None }) s (λ t. (refl, refl)) (λ f. (refl, refl))
+left_same s = chosen (SameTold s) (is_open s) (record s { cancelled = true; permits = 0; waiting = None }) s (λ t. (refl, refl)) (λ f. (refl, refl))
+
+-- nor does a timer that fires
+fires_same : (s : Story) → SameTold s (fires s)
+fires_same s = chosen (SameTold s) (is_open s) (record s { overdue = true }) s (λ t. (refl, refl)) (λ f. (refl, refl))
 
 -- nor does a cancel
 cancel_outcomes : (os : List (Option Outcome)) (b : Book) (number word k : ℕ) → AreOutcomes os b → AreOutcomes os (entered b (action.Turn number (cause.Event (record { word = word; kind = event.Cancel k }))))
@@ -103,7 +108,10 @@ event_outcomes os b number word (event.Submit what) h = submit_outcomes os b num
 event_outcomes os b number word (event.Cancel k) h = cancel_outcomes os b number word k h
 event_outcomes os b number word (event.Connected l) h = same_outcomes os b (action.Turn number (cause.Event (record { word = word; kind = event.Connected l }))) (omega arith) (λ n. (refl, refl)) h
 event_outcomes os b number word (event.Refused l f) h = same_outcomes os b (action.Turn number (cause.Event (record { word = word; kind = event.Refused l f }))) (omega arith) (λ n. (refl, refl)) h
-event_outcomes os b number word (event.Fired k) h = same_outcomes os b (action.Turn number (cause.Event (record { word = word; kind = event.Fired k }))) (omega arith) (λ n. (refl, refl)) h
+event_outcomes os b number word (event.Fired k) h =
+    same_outcomes os b (action.Turn number (cause.Event (record { word = word; kind = event.Fired k }))) (omega arith)
+    (λ n. chosen (SameTold (b.story n)) (is_clock_of n (slice_get b.timers k)) (fires (b.story n)) (b.story n) (λ t. fires_same (b.story n)) (λ f. (refl, refl))) h
+event_outcomes os b number word (event.Timeout ms) h = same_outcomes os b (action.Turn number (cause.Event (record { word = word; kind = event.Timeout ms }))) (omega arith) (λ n. (refl, refl)) h
 event_outcomes os b number word (event.Wrote l count) h = same_outcomes os b (action.Turn number (cause.Event (record { word = word; kind = event.Wrote l count }))) (omega arith) (λ n. (refl, refl)) h
 event_outcomes os b number word (event.Bytes l piece) h = same_outcomes os b (action.Turn number (cause.Event (record { word = word; kind = event.Bytes l piece }))) (omega arith) (λ n. (refl, refl)) h
 event_outcomes os b number word (event.Ended l) h = same_outcomes os b (action.Turn number (cause.Event (record { word = word; kind = event.Ended l }))) (omega arith) (λ n. (refl, refl)) h
@@ -120,12 +128,21 @@ start_same b l k m round count len n = chosen (SameTold (b.story n)) (m == n) (t
 wait_same : (b : Book) (m round : ℕ) (kind : WaitKind) (n : ℕ) → SameTold (b.story n) ((entered b (action.Wait (owner.Try m round) kind)).story n)
 wait_same b m round kind n = chosen (SameTold (b.story n)) (m == n) (waits (b.story n) kind) (b.story n) (λ t. (refl, refl)) (λ f. (refl, refl))
 
+-- nor do permits
+took_same : (b : Book) (m round l count : ℕ) (n : ℕ) → SameTold (b.story n) ((entered b (action.Took (owner.Try m round) l count)).story n)
+took_same b m round l count n = chosen (SameTold (b.story n)) (m == n) (holds (b.story n) count) (b.story n) (λ t. (refl, refl)) (λ f. (refl, refl))
+
+-- nor does a timer
+timer_same : (b : Book) (t ms : ℕ) (what : Purpose) (n : ℕ) → SameTold (b.story n) ((entered b (action.Timer t ms what)).story n)
+timer_same b t ms what n = chosen (SameTold (b.story n)) (is_clock_of n (Some what)) (clocked (b.story n) t) (b.story n) (λ e. (refl, refl)) (λ f. (refl, refl))
+
 -- by the kind of the action
 action_outcomes : (os : List (Option Outcome)) (b : Book) (a : Action) → MayStand b a → AreOutcomes os b → AreOutcomes (told os a) (entered b a)
 action_outcomes os b (action.Turn number (cause.Opening config word)) may h = same_outcomes os b (action.Turn number (cause.Opening config word)) refl (λ n. (refl, refl)) h
 action_outcomes os b (action.Turn number (cause.Event e)) may h = event_outcomes os b number e.word e.kind h
 action_outcomes os b (action.Connect l host port) may h = same_outcomes os b (action.Connect l host port) refl (λ n. (refl, refl)) h
-action_outcomes os b (action.Timer t ms what) may h = same_outcomes os b (action.Timer t ms what) refl (λ n. (refl, refl)) h
+action_outcomes os b (action.Timer t ms what) may h = same_outcomes os b (action.Timer t ms what) refl (timer_same b t ms what) h
+action_outcomes os b (action.Took (owner.Try m round) l count) may h = same_outcomes os b (action.Took (owner.Try m round) l count) refl (took_same b m round l count) h
 action_outcomes os b (action.Close l) may h = same_outcomes os b (action.Close l) refl (λ n. (refl, refl)) h
 action_outcomes os b (action.Write l bytes) may h = same_outcomes os b (action.Write l bytes) refl (λ n. (refl, refl)) h
 action_outcomes os b (action.Wait (owner.Try m round) kind) may h = same_outcomes os b (action.Wait (owner.Try m round) kind) refl (wait_same b m round kind) h

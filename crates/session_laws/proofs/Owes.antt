@@ -94,36 +94,36 @@ stands_started b t p k of_shape h l place =
 -- what a request is owed
 --
 -- what is not empty has a length
-not_empty : (bytes : List ℕ) → bytes ≢ [] → (length bytes == 0) ≡ false
+pub not_empty : (bytes : List ℕ) → bytes ≢ [] → (length bytes == 0) ≡ false
 not_empty bytes some = ne_test (length bytes) 0 (λ e. some (nil_from_length bytes e))
 
 -- by its last try
-owed_by_try : (b : Book) (n : ℕ) → (b.story n).late ≡ false → bytes_of (b.story n) ≢ [] → owed b n ≡ owed_to_try b (b.story n) (last_of (b.story n).tries)
-owed_by_try b n early some = left_if (b.story n).late _ _ early ∙ left_if (length (bytes_of (b.story n)) == 0) _ _ (not_empty (bytes_of (b.story n)) some)
+owed_by_try : (b : Book) (n : ℕ) → (b.story n).late ≡ false → bytes_of (b.story n) ≢ [] → (b.story n).overdue ≡ false → owed b n ≡ owed_to_try b (b.story n) (last_of (b.story n).tries)
+owed_by_try b n early some in_time = left_if (b.story n).late _ _ early ∙ left_if (length (bytes_of (b.story n)) == 0) _ _ (not_empty (bytes_of (b.story n)) some) ∙ left_if (b.story n).overdue _ _ in_time
 
 -- where its message started as number k
-pub owed_started : (b : Book) (t : Inner) (p k : ℕ) (of_shape : Shape) → Tied b t → p < length t.requests → StandsAs (b.link t.link).starts (owner_of t.requests p) of_shape k
+pub owed_started : (b : Book) (t : Inner) (p k : ℕ) (of_shape : Shape) → Tied b t → p < length t.requests → (b.story (name_at t.requests p)).overdue ≡ false → StandsAs (b.link t.link).starts (owner_of t.requests p) of_shape k
     → owed b (name_at t.requests p) ≡ owed_to_message (b.link t.link) k of_shape
-owed_started b t p k of_shape h l place =
+owed_started b t p k of_shape h l in_time place =
     let n = name_at t.requests p in
     let r = request_story b t p h l in
     let e = stands_started b t p k of_shape h l place in
     let same : shape (b.story n) ≡ of_shape = sym (h.tries.shapes k p place.start e place.stands) ∙ place.shaped in
-    owed_by_try b n r.in_time r.some ∙ ap (λ ts. owed_to_try b (b.story n) (last_of ts)) (h.tries.tried k p e) ∙ ap (owed_to_message (b.link t.link) k) same
+    owed_by_try b n r.in_time r.some in_time ∙ ap (λ ts. owed_to_try b (b.story n) (last_of ts)) (h.tries.tried k p e) ∙ ap (owed_to_message (b.link t.link) k) same
 
 -- where it has none
-pub owed_none_started : (b : Book) (t : Inner) (p : ℕ) → Tied b t → p < length t.requests → (IsIn p t.started → ⊥) → owed b (name_at t.requests p) ≡ owed_unstarted (b.link t.link).end
-owed_none_started b t p h l not_started =
+pub owed_none_started : (b : Book) (t : Inner) (p : ℕ) → Tied b t → p < length t.requests → (b.story (name_at t.requests p)).overdue ≡ false → (IsIn p t.started → ⊥) → owed b (name_at t.requests p) ≡ owed_unstarted (b.link t.link).end
+owed_none_started b t p h l in_time not_started =
     let n = name_at t.requests p in
     let r = request_story b t p h l in
     let g = get_some t.requests p l in
     let named : n ≡ g.0.name = name_of_some t.requests p g.0 g.1 in
     let untried : (b.story n).tries ≡ [] = ap (λ m. (b.story m).tries) named ∙ h.tries.untried p g.0 g.1 not_started in
-    owed_by_try b n r.in_time r.some ∙ ap (λ ts. owed_to_try b (b.story n) (last_of ts)) untried ∙ ap (λ m. owed_unstarted (b.link m).end) r.on
+    owed_by_try b n r.in_time r.some in_time ∙ ap (λ ts. owed_to_try b (b.story n) (last_of ts)) untried ∙ ap (λ m. owed_unstarted (b.link m).end) r.on
 
 -- what a link has settled is what its submissions are owed
-pub settled_owed : (b : Book) (t : Inner) (s : Settled) → Tied b t → s.id < length t.requests → IsOwed (owner_of t.requests) (b.link t.link) s → owed b (name_at t.requests s.id) ≡ Some (outcome_of s.verdict)
-settled_owed b t s h l o = owed_started b t s.id o.number o.of_shape h l o.place ∙ o.owes
+pub settled_owed : (b : Book) (t : Inner) (s : Settled) → Tied b t → s.id < length t.requests → (b.story (name_at t.requests s.id)).overdue ≡ false → IsOwed (owner_of t.requests) (b.link t.link) s → owed b (name_at t.requests s.id) ≡ Some (outcome_of s.verdict)
+settled_owed b t s h l in_time o = owed_started b t s.id o.number o.of_shape h l in_time o.place ∙ o.owes
 
 -- a link that isn't over owes nothing
 --
@@ -153,24 +153,28 @@ lives l created (Ready link) h n = h.2
 lives l created (Ended e) h n = cc
 
 -- nothing is owed to a message that takes items
-row_unowed : (b : Book) (t : Inner) (p : ℕ) → Tied b t → has_ended t.life ≡ false → p < length t.requests → IsIn p (row_ids (link_in t.life).row) → owed b (name_at t.requests p) ≡ None
-row_unowed b t p h n l i =
+row_unowed : (b : Book) (t : Inner) (p : ℕ) → Tied b t → has_ended t.life ≡ false → p < length t.requests → (b.story (name_at t.requests p)).overdue ≡ false → IsIn p (row_ids (link_in t.life).row) → owed b (name_at t.requests p) ≡ None
+row_unowed b t p h n l in_time i =
     let ledger = b.link t.link in
     let alive = lives ledger b.created t.life h.life n in
     let w = wanted_entry (owner_of t.requests) ledger _ (link_in t.life).row p (row_open (owner_of t.requests) ledger (link_in t.life) alive (h.link n)) i in
     let place = subst (λ m. StandsAs ledger.starts (owner_of t.requests m) w.entry.shape w.number) w.is w.open_as.place in
-    owed_started b t p w.number w.entry.shape h l place ∙ open_unowed (owner_of t.requests) ledger w.number w.entry alive w.open_as
+    owed_started b t p w.number w.entry.shape h l in_time place ∙ open_unowed (owner_of t.requests) ledger w.number w.entry alive w.open_as
 
 -- nor to one that waits
-later_unowed : (b : Book) (t : Inner) (p : ℕ) → Tied b t → has_ended t.life ≡ false → p < length t.requests → IsIn p (queue_ids (link_in t.life).queue ++ kept_ids t.admitted t.waiting) → owed b (name_at t.requests p) ≡ None
-later_unowed b t p h n l i = owed_none_started b t p h l (later_unstarted b t p h i) ∙ ap owed_unstarted (lives (b.link t.link) b.created t.life h.life n)
+later_unowed : (b : Book) (t : Inner) (p : ℕ) → Tied b t → has_ended t.life ≡ false → p < length t.requests → (b.story (name_at t.requests p)).overdue ≡ false → IsIn p (queue_ids (link_in t.life).queue ++ kept_ids t.admitted t.waiting) → owed b (name_at t.requests p) ≡ None
+later_unowed b t p h n l in_time i = owed_none_started b t p h l in_time (later_unstarted b t p h i) ∙ ap owed_unstarted (lives (b.link t.link) b.created t.life h.life n)
 
 -- and so to none of the line
-pub line_unowed : (b : Book) (t : Inner) (p : ℕ) → Tied b t → has_ended t.life ≡ false → p < length t.requests → IsIn p (line_of (link_in t.life) t.admitted t.waiting) → owed b (name_at t.requests p) ≡ None
-line_unowed b t p h n l i = elim (in_either p (wanted (link_in t.life).row) (queue_ids (link_in t.life).queue ++ kept_ids t.admitted t.waiting) i) [
-  | inl j ↦ row_unowed b t p h n l (wanted_in p (link_in t.life).row j)
-  | inr j ↦ later_unowed b t p h n l j
+pub line_unowed : (b : Book) (t : Inner) (p : ℕ) → Tied b t → has_ended t.life ≡ false → p < length t.requests → (b.story (name_at t.requests p)).overdue ≡ false → IsIn p (line_of (link_in t.life) t.admitted t.waiting) → owed b (name_at t.requests p) ≡ None
+line_unowed b t p h n l in_time i = elim (in_either p (wanted (link_in t.life).row) (queue_ids (link_in t.life).queue ++ kept_ids t.admitted t.waiting) i) [
+  | inl j ↦ row_unowed b t p h n l in_time (wanted_in p (link_in t.life).row j)
+  | inr j ↦ later_unowed b t p h n l in_time j
 ]
+
+-- an open request that is not to be answered is in time
+pub in_time : (b : Book) (t : Inner) (p : ℕ) → Tied b t → is_open_at t.requests p ≡ true → (IsIn p t.pending → ⊥) → (b.story (name_at t.requests p)).overdue ≡ false
+in_time b t p h o apart = by_test (b.story (name_at t.requests p)).overdue _ (λ late. absurd (apart (h.late p o late))) (λ f. f)
 
 -- where nothing is to be answered, no open submission is owed an outcome
 pub none_owed : (b : Book) (t : Inner) → Tied b t → t.pending ≡ [] → has_ended t.life ≡ false → NoneIsOwed b
@@ -178,7 +182,7 @@ none_owed b t h none n m o =
     let r = open_request b t m h o in
     let i = open_in_line b.story t.requests (link_in t.life) t.waiting t.admitted t.pending t.started r.number h.lines r.open_at in
     let j = subst (λ ns. IsIn r.number (ns ++ line_of (link_in t.life) t.admitted t.waiting)) none i in
-    ap (owed b) (sym r.named) ∙ line_unowed b t r.number h n (open_within t.requests r.number r.open_at) j
+    ap (owed b) (sym r.named) ∙ line_unowed b t r.number h n (open_within t.requests r.number r.open_at) (in_time b t r.number h r.open_at (λ k. subst (IsIn r.number) none k)) j
 
 -- on a link that has ended, where none waits, none is open
 pub none_open : (b : Book) (t : Inner) (e : RedisError) (n : ℕ) → Tied b t → t.pending ≡ [] → t.life ≡ Ended e → kept_ids t.admitted t.waiting ≡ [] → IsOpen b n → ⊥

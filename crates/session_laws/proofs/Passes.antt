@@ -1,8 +1,8 @@
 -- Requests are moved on a link that is up: each takes its place where the queue has room, and messages start.
-use Rattle.std.proofs.Common.{Bool, List, [], ap, append_assoc, arith, false, inl, inr, length, refl, slice_set, subst, suc, sym, true, zero, ℕ, ◌++◌, ◌∙◌, ◌∷◌, ◌≡◌, ◌⊎◌}
+use Rattle.std.proofs.Common.{Bool, List, [], ap, append_assoc, arith, false, inl, inr, length, refl, subst, sym, true, ℕ, ◌-◌, ◌++◌, ◌∙◌, ◌∷◌, ◌≡◌, ◌⊎◌}
 use Rattle.std.proofs.lemmas.List.{append-nil, length_push}
 use Rattle.std.specs.Prelude.{not}
-use Rattle.containers.proofs.Choices.{chosen, if_false, if_true, not_both, not_le_from}
+use Rattle.containers.proofs.Choices.{chosen, if_true, not_both, not_le_from}
 use Rattle.resp_value.specs.declared.value.Value.TheVariants.{Nil}
 use Rattle.driver_model.specs.declared.action.Action.{Action}
 use Rattle.driver_model.specs.declared.action.Action.TheVariants as action
@@ -10,9 +10,9 @@ use Rattle.driver_model.specs.declared.outcome.Outcome.TheVariants as outcome
 use Rattle.link_core.specs.Link.{LinkState, Starting, enqueued, holds_back, is_full, started_all}
 use Rattle.link_core.specs.declared.message.Queued.{Queued}
 use Rattle.link_laws.specs.Starts.{starting}
-use Rattle.mux_conn.specs.Connection.{Work, acted, admits_none, has_room, with_link}
-use Rattle.mux_conn.specs.Passes.{admitted, admitted_at, admitted_each, message_of, moved_up, moved_up_each, noted, placed_at, put_behind, seated, started, started_at, still_admitted, told_at_place}
-use Rattle.mux_conn.specs.Requests.{answered, at_progress, is_admitted_at, is_open as is_open_progress, is_open_at, is_waiting_at, name_at, progressed}
+use Rattle.mux_conn.specs.Connection.{Work, acted, admits_none, admits_none_at, has_no_permit, has_room, with_link}
+use Rattle.mux_conn.specs.Passes.{admitted, admitted_at, admitted_each, holding, let_in, message_of, permits_taken, seated_or_behind, still_waiting, moved_up, moved_up_each, noted, placed_at, put_behind, seated, started, started_at, still_admitted, told_at_place}
+use Rattle.mux_conn.specs.Requests.{answered, at_progress, closed, given_back, is_admitted_at, is_open as is_open_progress, is_open_at, is_waiting, is_waiting_at, name_at, permits_at, progressed, with_permits}
 use Rattle.mux_conn.specs.declared.act.LinkAct.{LinkAct}
 use Rattle.mux_conn.specs.declared.act.LinkAct.TheVariants as act
 use Rattle.mux_conn.specs.declared.connection.MultiplexedConnection.{MultiplexedConnection}
@@ -25,57 +25,67 @@ use Rattle.mux_conn.specs.declared.request.Waiting.{Waiting}
 use Rattle.shared_session.specs.declared.core_state.Core.{Core}
 use Rattle.legal_trace.specs.Book.{Book, book}
 use Rattle.legal_trace.specs.Legal.{MayTell, NoneEnds}
-use Rattle.session_laws.proofs.Ahead.{IsRunning, first_step, kept_unstarted}
+use Rattle.legal_trace.specs.Steps.{is_let_in}
+use Rattle.session_laws.proofs.Ahead.{IsRunning, first_step, kept_unstarted, waiting_open}
 use Rattle.session_laws.proofs.Entered.{shown_more}
 use Rattle.session_laws.proofs.Going.{IsGoing, applied_up, first_behind, going_more}
 use Rattle.session_laws.proofs.InLine.{kept_ids}
-use Rattle.session_laws.proofs.Names.{length_still, name_still, open_within, there_same}
+use Rattle.session_laws.proofs.LetIn.{IsOpening, let_in_conn, let_in_going, permits_twice, quiet_timers}
+use Rattle.session_laws.proofs.Names.{length_still, length_with, name_still, name_with, open_within, permits_still, permits_with, there_same, with_same}
 use Rattle.session_laws.proofs.Numbers.{IsIn, Rising, rising_left, rising_right, rising_tail, rising_without}
 use Rattle.session_laws.proofs.Owes.{request_story}
-use Rattle.session_laws.proofs.Place.{IsNext, admit_tied, next_admitted, next_waiting, passed_admitted, passed_waiting, place_tied, tell_tied, with_place}
+use Rattle.session_laws.proofs.Place.{IsNext, admit_tied, next_admitted, next_waiting, passed_admitted, passed_waiting, place_tied, tell_tied, with_place, with_told}
 use Rattle.session_laws.proofs.Settle.{answered_leaves, seen, trace_of_acts}
 use Rattle.session_laws.proofs.Start.{on_link}
-use Rattle.session_laws.proofs.Starts.{each_fit, each_going, each_held, shown_is}
+use Rattle.session_laws.proofs.Starts.{each_fit, each_going, each_held, shown_is, shows, shows_timers}
 use Rattle.session_laws.proofs.States.{IsFit}
 use Rattle.session_laws.proofs.Tied.{Inner, Tied, queue_ids, waiting_ids}
 
--- the session with this connection, of which these wait for a place, and these for the connection
-abbrev pub moving : Core → MultiplexedConnection → List Waiting → List Waiting → List ℕ → Inner
-moving f conn admitted waiting started = seen f (record conn { admitted = admitted; waiting = waiting }) [] started
+-- the session with this connection, of which these wait for a place, and these for the connection, when these acts are shown
+abbrev pub moving : Core → List LinkAct → MultiplexedConnection → List Waiting → List Waiting → List ℕ → Inner
+moving f acts conn admitted waiting started = seen f acts (record conn { admitted = admitted; waiting = waiting }) [] started
+
+-- the same while this one is being let in
+abbrev pub letting_in : Core → List LinkAct → MultiplexedConnection → List Waiting → List Waiting → List ℕ → List ℕ → Inner
+letting_in f acts conn admitted waiting letting started = record (moving f acts conn admitted waiting started) { letting = letting }
 
 -- a connection that is up, between two moves: what is in its queue is held back, if anything is; these wait still for a place
--- and for the connection; and those that are still to be moved are above all that were in this turn
-pub record IsUp (before : List Action) (f : Core) (w : Work) (admitted waiting : List Waiting) (next : List ℕ) : Type 0 where
+-- and for the connection, and this one is being let in; and those that are still to be moved are above all that were in this
+-- turn
+pub record IsUp (before : List Action) (f : Core) (w : Work) (admitted waiting : List Waiting) (letting next : List ℕ) : Type 0 where
   pub link : LinkState
   pub life : w.conn.life ≡ Ready link
   pub fit : IsFit w.conn.size w.conn.boundary link
   pub held : (link.queue ≡ []) ⊎ (holds_back link ≡ true)
   pub started : List ℕ
-  pub going : IsGoing (trace_of_acts before f w.acts) (moving f w.conn admitted waiting started)
+  pub going : IsGoing (trace_of_acts before f w.acts) (letting_in f w.acts w.conn admitted waiting letting started)
   pub order : Rising 0 (w.conn.moved ++ next) (length w.conn.requests)
 
 -- messages start, and what is in the queue behind them is held back
 pub started_up : (before : List Action) (f : Core) (w : Work) (link : LinkState) (admitted waiting : List Waiting) (next done : List ℕ) → IsFit w.conn.size w.conn.boundary link
-    → IsGoing (trace_of_acts before f w.acts) (moving f (with_link w link).conn admitted waiting done) → Rising 0 (w.conn.moved ++ next) (length w.conn.requests)
-    → IsUp before f (started_at (with_link w link) (Ready link)) admitted waiting next
+    → IsGoing (trace_of_acts before f w.acts) (moving f w.acts (with_link w link).conn admitted waiting done) → Rising 0 (w.conn.moved ++ next) (length w.conn.requests)
+    → IsUp before f (started_at (with_link w link) (Ready link)) admitted waiting [] next
 started_up before f w link admitted waiting next done fit h order =
     let from : Starting = record { link = link; out = [] } in
     let s = started_all from in
-    let t = moving f (with_link w link).conn admitted waiting done in
+    let t = moving f w.acts (with_link w link).conn admitted waiting done in
     let first = subst (λ (x : List LinkAct). IsGoing (trace_of_acts before f x) t) (sym (append-nil w.acts)) h in
-    subst (λ (x : Work). IsUp before f x admitted waiting next) (sym (shown_is (with_link w s.link) s.out)) (record {
+    let acts = w.acts ++ shows w.conn.requests s.out in
+    let ids = queue_ids (starting link link.queue) in
+    subst (λ (x : Work). IsUp before f x admitted waiting [] next) (sym (shown_is (with_link w s.link) s.out)) (record {
       link = s.link;
       life = refl;
       fit = each_fit w.conn.size w.conn.boundary from link.queue fit;
       held = each_held from link.queue;
-      started = done ++ queue_ids (starting link link.queue);
-      going = each_going before w.acts t from link.queue fit first;
+      started = done ++ ids;
+      going = subst (λ ts. IsGoing (trace_of_acts before f acts) (record (on_link t s.link) { started = done ++ ids; timers = f.timers ++ ts })) (sym (shows_timers w.acts w.conn.requests s.out)) (each_going before (length f.timers) w.acts t from link.queue fit first);
       order = order;
     })
 
 -- the session with its link
-up_going : (before : List Action) (f : Core) (w : Work) (admitted waiting : List Waiting) (next : List ℕ) (h : IsUp before f w admitted waiting next) → IsGoing (trace_of_acts before f w.acts) (on_link (moving f w.conn admitted waiting h.started) h.link)
-up_going before f w admitted waiting next h = subst (λ (x : Life). IsGoing (trace_of_acts before f w.acts) (record (moving f w.conn admitted waiting h.started) { life = x })) h.life h.going
+up_going : (before : List Action) (f : Core) (w : Work) (admitted waiting : List Waiting) (letting next : List ℕ) (h : IsUp before f w admitted waiting letting next)
+    → IsGoing (trace_of_acts before f w.acts) (on_link (letting_in f w.acts w.conn admitted waiting letting h.started) h.link)
+up_going before f w admitted waiting letting next h = subst (λ (x : Life). IsGoing (trace_of_acts before f w.acts) (record (letting_in f w.acts w.conn admitted waiting letting h.started) { life = x })) h.life h.going
 
 -- what the moves leave of a connection
 --
@@ -120,7 +130,7 @@ seated_keeps w q =
 --
 -- where nobody awaits its reply it may be told
 tell_may : (b : Book) (t : Inner) (link : LinkState) (q : Waiting) (waiting admitted : List Waiting) → q.awaited ≡ false → IsFit t.size t.bound link → (link.queue ≡ []) ⊎ (holds_back link ≡ true) → is_full link ≡ false
-    → IsNext b.story t.requests t.moved t.waiting t.admitted q waiting admitted → Tied b (on_link t link) → NoneEnds b → MayTell b (name_at t.requests q.number) (outcome.One Nil)
+    → IsNext b.story t.requests t.limit t.letting t.moved t.waiting t.admitted q waiting admitted → Tied b (on_link t link) → NoneEnds b → MayTell b (name_at t.requests q.number) (outcome.One Nil)
 tell_may b t link q waiting admitted not_awaited fit held room next h ends =
     let was = on_link t link in
     let p = q.number in
@@ -131,40 +141,29 @@ tell_may b t link q waiting admitted not_awaited fit held room next h ends =
       applied = applied_up b was h refl refl ends;
       asked = (request_story b was p h (open_within t.requests p o)).open_is ∙ o;
       unstarted = kept_unstarted b was p h o (subst (IsIn p) (sym next.first) (inl refl));
-      tells = first_step b was p kept h running room o next.first (sym next.packed.awaited_is ∙ not_awaited);
+      tells = first_step b was p kept h running room o next.first next.let_in (sym next.packed.is_of.awaited_is ∙ not_awaited);
       in_order = first_behind b was p kept h running held next.first;
       nil = refl;
     }
 
 -- it is, and has its place
 told_going : (trace : List Action) (t : Inner) (link : LinkState) (q : Waiting) (waiting admitted : List Waiting) → q.awaited ≡ false → IsFit t.size t.bound link → (link.queue ≡ []) ⊎ (holds_back link ≡ true) → is_full link ≡ false
-    → IsNext (book trace).story t.requests t.moved t.waiting t.admitted q waiting admitted → IsGoing trace (on_link t link)
-    → IsGoing (trace ++ action.Outcome (name_at t.requests q.number) (outcome.One Nil) ∷ []) (with_place t link q waiting admitted progress.Closed)
+    → IsNext (book trace).story t.requests t.limit t.letting t.moved t.waiting t.admitted q waiting admitted → IsGoing trace (on_link t link)
+    → IsGoing (trace ++ action.Outcome (name_at t.requests q.number) (outcome.One Nil) ∷ []) (with_told t link q waiting admitted)
 told_going trace t link q waiting admitted not_awaited fit held room next h =
     let b = book trace in
-    going_more trace (action.Outcome (name_at t.requests q.number) (outcome.One Nil)) (with_place t link q waiting admitted progress.Closed) h.sound.stands
+    going_more trace (action.Outcome (name_at t.requests q.number) (outcome.One Nil)) (with_told t link q waiting admitted) h.sound.stands
     (inr (tell_may b t link q waiting admitted not_awaited fit held room next h.sound.tied h.ended))
     (tell_tied b t link q waiting admitted not_awaited next h.sound.tied)
     h.ended
 
 -- one whose reply is awaited has its place
-placed_going : (trace : List Action) (t : Inner) (link : LinkState) (q : Waiting) (waiting admitted : List Waiting) → q.awaited ≡ true → IsNext (book trace).story t.requests t.moved t.waiting t.admitted q waiting admitted → IsGoing trace (on_link t link)
-    → IsGoing trace (with_place t link q waiting admitted progress.Placed)
+placed_going : (trace : List Action) (t : Inner) (link : LinkState) (q : Waiting) (waiting admitted : List Waiting) → q.awaited ≡ true → IsNext (book trace).story t.requests t.limit t.letting t.moved t.waiting t.admitted q waiting admitted → IsGoing trace (on_link t link)
+    → IsGoing trace (with_place t link q waiting admitted)
 placed_going trace t link q waiting admitted yes_awaited next h = record {
   sound = record { stands = h.sound.stands; tied = place_tied (book trace) t link q waiting admitted yes_awaited next h.sound.tied };
   ended = h.ended;
 }
-
--- a request that comes further twice
-progressed_twice : (requests : List Request) (p : ℕ) (one two : Progress) → at_progress (at_progress requests p one) p two ≡ at_progress requests p two
-progressed_twice requests p one two =
-    set_twice requests p (record { name = name_at requests p; progress = one }) (record { name = name_at (at_progress requests p one) p; progress = two })
-    ∙ ap (λ n. slice_set requests p (record { name = n; progress = two })) (name_still requests p one p)
-  where
-    set_twice : (xs : List Request) (n : ℕ) (x y : Request) → slice_set (slice_set xs n x) n y ≡ slice_set xs n y
-    set_twice [] n x y = refl
-    set_twice (z ∷ xs) zero x y = refl
-    set_twice (z ∷ xs) (suc n) x y = ap (λ ys. z ∷ ys) (set_twice xs n x y)
 
 -- a link that had room is fit with one more in its queue
 fit_enqueued : (size bound : ℕ) (link : LinkState) (m : Queued) → is_full link ≡ false → IsFit size bound link → IsFit size bound (enqueued link m)
@@ -183,47 +182,51 @@ order_last : (moved : List ℕ) (p : ℕ) (next : List ℕ) (hi : ℕ) → Risin
 order_last moved p next hi h = rising_left 0 (moved ++ p ∷ []) next hi (subst (λ ns. Rising 0 ns hi) (sym (append_assoc moved (p ∷ []) next)) h)
 
 -- one whose reply is awaited has its place, and messages start
-placed_up : (before : List Action) (f : Core) (w : Work) (q : Waiting) (was_admitted was_waiting admitted waiting : List Waiting) (next : List ℕ) (h : IsUp before f w was_admitted was_waiting (q.number ∷ next)) → q.awaited ≡ true → is_full h.link ≡ false
-    → IsNext (book (trace_of_acts before f w.acts)).story w.conn.requests w.conn.moved was_waiting was_admitted q waiting admitted → IsUp before f (started (placed_at w q (Ready h.link))) admitted waiting next
-placed_up before f w q was_admitted was_waiting admitted waiting next h yes_awaited room first =
+placed_up : (before : List Action) (f : Core) (w : Work) (q : Waiting) (was_admitted was_waiting admitted waiting : List Waiting) (letting next : List ℕ) (h : IsUp before f w was_admitted was_waiting letting (q.number ∷ next)) → q.awaited ≡ true → is_full h.link ≡ false
+    → IsNext (book (trace_of_acts before f w.acts)).story w.conn.requests w.conn.limit letting w.conn.moved was_waiting was_admitted q waiting admitted → IsUp before f (started (placed_at w q (Ready h.link))) admitted waiting [] next
+placed_up before f w q was_admitted was_waiting admitted waiting letting next h yes_awaited room first =
     let p = q.number in
     started_up before f (progressed (noted w p) p progress.Placed) (enqueued h.link (message_of q)) admitted waiting next h.started (fit_enqueued w.conn.size w.conn.boundary h.link (message_of q) room h.fit)
-    (placed_going (trace_of_acts before f w.acts) (moving f w.conn was_admitted was_waiting h.started) h.link q waiting admitted yes_awaited first (up_going before f w was_admitted was_waiting (p ∷ next) h))
+    (placed_going (trace_of_acts before f w.acts) (letting_in f w.acts w.conn was_admitted was_waiting letting h.started) h.link q waiting admitted yes_awaited first (up_going before f w was_admitted was_waiting letting (p ∷ next) h))
     (order_next w.conn.moved p next w.conn.requests progress.Placed h.order)
 
 -- and one whose reply nobody awaits is answered before
-told_up : (before : List Action) (f : Core) (w : Work) (q : Waiting) (was_admitted was_waiting admitted waiting : List Waiting) (next : List ℕ) (h : IsUp before f w was_admitted was_waiting (q.number ∷ next)) → q.awaited ≡ false → is_full h.link ≡ false
-    → IsNext (book (trace_of_acts before f w.acts)).story w.conn.requests w.conn.moved was_waiting was_admitted q waiting admitted → IsUp before f (started (answered (placed_at w q (Ready h.link)) q.number (outcome.One Nil))) admitted waiting next
-told_up before f w q was_admitted was_waiting admitted waiting next h not_awaited room first =
+told_up : (before : List Action) (f : Core) (w : Work) (q : Waiting) (was_admitted was_waiting admitted waiting : List Waiting) (letting next : List ℕ) (h : IsUp before f w was_admitted was_waiting letting (q.number ∷ next)) → q.awaited ≡ false → is_full h.link ≡ false
+    → IsNext (book (trace_of_acts before f w.acts)).story w.conn.requests w.conn.limit letting w.conn.moved was_waiting was_admitted q waiting admitted → IsUp before f (started (answered (placed_at w q (Ready h.link)) q.number (outcome.One Nil))) admitted waiting [] next
+told_up before f w q was_admitted was_waiting admitted waiting letting next h not_awaited room first =
     let p = q.number in
     let link = enqueued h.link (message_of q) in
-    let t = moving f w.conn was_admitted was_waiting h.started in
+    let t = letting_in f w.acts w.conn was_admitted was_waiting letting h.started in
     let trace = trace_of_acts before f w.acts in
     let at = progressed (noted w p) p progress.Placed in
     let placed = at.conn.requests in
     let nil = outcome.One Nil in
     let a = act.Outcome (name_at placed p) nil in
-    let is_open : is_open_at placed p ≡ true = there_same is_open_progress w.conn.requests p progress.Placed (open_within w.conn.requests p first.open_at) in
-    let going = told_going trace t h.link q waiting admitted not_awaited h.fit h.held room first (up_going before f w was_admitted was_waiting (p ∷ next) h) in
+    let within = open_within w.conn.requests p first.open_at in
+    let is_open : is_open_at placed p ≡ true = there_same is_open_progress w.conn.requests p progress.Placed within in
+    let going = told_going trace t h.link q waiting admitted not_awaited h.fit h.held room first (up_going before f w was_admitted was_waiting letting (p ∷ next) h) in
     let shown : trace ++ action.Outcome (name_at w.conn.requests p) nil ∷ [] ≡ trace_of_acts before f (w.acts ++ a ∷ []) =
-    ap (λ n. trace ++ action.Outcome n nil ∷ []) (sym (name_still w.conn.requests p progress.Placed p)) ∙ sym (shown_more before f.single.link w.acts a) in
-    let after = with_place t h.link q waiting admitted progress.Closed in
+    ap (λ n. trace ++ action.Outcome n nil ∷ []) (sym (name_still w.conn.requests p progress.Placed p)) ∙ sym (shown_more before f.single.link (length f.timers) w.acts a) in
+    let after = with_told t h.link q waiting admitted in
     let there = subst (λ (x : List Action). IsGoing x after) shown going in
-    let twice = sym (progressed_twice w.conn.requests p progress.Placed progress.Closed) in
-    let here = subst (λ (x : List Request). IsGoing (trace_of_acts before f (w.acts ++ a ∷ [])) (record after { requests = x })) twice there in
-    let order = subst (λ (x : List Request). Rising 0 ((w.conn.moved ++ p ∷ []) ++ next) (length x)) twice (order_next w.conn.moved p next w.conn.requests progress.Closed h.order) in
-    if_true (λ (x : Work). IsUp before f (started x) admitted waiting next) (is_open_at placed p) _ (with_link at link) is_open
-    (started_up before f (acted (progressed at p progress.Closed) a) link admitted waiting next h.started (fit_enqueued w.conn.size w.conn.boundary h.link (message_of q) room h.fit) here order)
+    let twice : with_permits w.conn.requests p progress.Closed 0 ≡ with_permits placed p progress.Closed 0 = sym (permits_twice w.conn.requests p progress.Placed progress.Closed (permits_at w.conn.requests p) 0) in
+    let back : given_back w.conn.limit w.conn.free (permits_at w.conn.requests p) ≡ given_back w.conn.limit w.conn.free (permits_at placed p) = ap (given_back w.conn.limit w.conn.free) (sym (permits_still w.conn.requests p p progress.Placed within)) in
+    let acts = w.acts ++ a ∷ [] in
+    let here = subst (λ ts. IsGoing (trace_of_acts before f acts) (record after { requests = with_permits placed p progress.Closed 0; free = given_back w.conn.limit w.conn.free (permits_at placed p); timers = f.timers ++ ts })) (sym (quiet_timers w.acts a refl))
+    (subst (λ n. IsGoing (trace_of_acts before f acts) (record after { requests = with_permits placed p progress.Closed 0; free = n })) back (subst (λ (x : List Request). IsGoing (trace_of_acts before f acts) (record after { requests = x })) twice there)) in
+    let order = subst (λ (x : List Request). Rising 0 ((w.conn.moved ++ p ∷ []) ++ next) (length x)) twice (subst (λ n. Rising 0 ((w.conn.moved ++ p ∷ []) ++ next) n) (length_still w.conn.requests p progress.Placed ∙ sym (length_with w.conn.requests p progress.Closed 0)) (order_next w.conn.moved p next w.conn.requests progress.Placed h.order)) in
+    if_true (λ (x : Work). IsUp before f (started x) admitted waiting [] next) (is_open_at placed p) _ (with_link at link) is_open
+    (started_up before f (acted (record at { conn = closed at.conn p }) a) link admitted waiting next h.started (fit_enqueued w.conn.size w.conn.boundary h.link (message_of q) room h.fit) here order)
 
 -- the next takes its place, and messages start
-seated_up : (before : List Action) (f : Core) (w : Work) (q : Waiting) (was_admitted was_waiting admitted waiting : List Waiting) (next : List ℕ) (h : IsUp before f w was_admitted was_waiting (q.number ∷ next)) → is_full h.link ≡ false
-    → IsNext (book (trace_of_acts before f w.acts)).story w.conn.requests w.conn.moved was_waiting was_admitted q waiting admitted → IsUp before f (seated w q) admitted waiting next
-seated_up before f w q was_admitted was_waiting admitted waiting next h room first =
+seated_up : (before : List Action) (f : Core) (w : Work) (q : Waiting) (was_admitted was_waiting admitted waiting : List Waiting) (letting next : List ℕ) (h : IsUp before f w was_admitted was_waiting letting (q.number ∷ next)) → is_full h.link ≡ false
+    → IsNext (book (trace_of_acts before f w.acts)).story w.conn.requests w.conn.limit letting w.conn.moved was_waiting was_admitted q waiting admitted → IsUp before f (seated w q) admitted waiting [] next
+seated_up before f w q was_admitted was_waiting admitted waiting letting next h room first =
     let w1 = placed_at w q (Ready h.link) in
-    subst (λ (x : Life). IsUp before f (started (told_at_place (placed_at w q x) q)) admitted waiting next) (sym h.life)
-    (chosen (λ (x : Work). IsUp before f (started x) admitted waiting next) q.awaited w1 (answered w1 q.number (outcome.One Nil))
-    (λ t. placed_up before f w q was_admitted was_waiting admitted waiting next h t room first)
-    (λ e. told_up before f w q was_admitted was_waiting admitted waiting next h e room first))
+    subst (λ (x : Life). IsUp before f (started (told_at_place (placed_at w q x) q)) admitted waiting [] next) (sym h.life)
+    (chosen (λ (x : Work). IsUp before f (started x) admitted waiting [] next) q.awaited w1 (answered w1 q.number (outcome.One Nil))
+    (λ t. placed_up before f w q was_admitted was_waiting admitted waiting letting next h t room first)
+    (λ e. told_up before f w q was_admitted was_waiting admitted waiting letting next h e room first))
 
 -- those that wait for a place
 --
@@ -236,11 +239,19 @@ not_full false e = refl
 free_link : (life : Life) (link : LinkState) → life ≡ Ready link → has_room life ≡ true → is_full link ≡ false
 free_link life link e room = not_full (is_full link) (ap has_room (sym e) ∙ room)
 
+-- where a connection that is up has no room, its queue is full
+pub no_room : (life : Life) (link : LinkState) → life ≡ Ready link → has_room life ≡ false → is_full link ≡ true
+no_room life link e none = full (is_full link) (ap has_room (sym e) ∙ none)
+  where
+    full : (x : Bool) → not x ≡ false → x ≡ true
+    full true e = refl
+    full false e = cc
+
 -- one that waits for a place no longer
-gone_admitted : (before : List Action) (f : Core) (w : Work) (q : Waiting) (qs waiting : List Waiting) → IsUp before f w (q ∷ qs) waiting (kept_ids (q ∷ qs) waiting) → is_admitted_at w.conn.requests q.number ≡ false → IsUp before f w qs waiting (kept_ids qs waiting)
+gone_admitted : (before : List Action) (f : Core) (w : Work) (q : Waiting) (qs waiting : List Waiting) → IsUp before f w (q ∷ qs) waiting [] (kept_ids (q ∷ qs) waiting) → is_admitted_at w.conn.requests q.number ≡ false → IsUp before f w qs waiting [] (kept_ids qs waiting)
 gone_admitted before f w q qs waiting h gone =
-    let t = moving f w.conn qs waiting h.started in
-    let was = up_going before f w (q ∷ qs) waiting (kept_ids (q ∷ qs) waiting) h in
+    let t = moving f w.acts w.conn qs waiting h.started in
+    let was = up_going before f w (q ∷ qs) waiting [] (kept_ids (q ∷ qs) waiting) h in
     let now : IsGoing (trace_of_acts before f w.acts) (on_link t h.link) = record {
       sound = record { stands = was.sound.stands; tied = passed_admitted (book (trace_of_acts before f w.acts)) t h.link q qs gone was.sound.tied };
       ended = was.ended;
@@ -256,24 +267,24 @@ gone_admitted before f w q qs waiting h gone =
     }
 
 -- one is moved
-moved_up_one : (before : List Action) (f : Core) (w : Work) (q : Waiting) (qs waiting : List Waiting) → IsUp before f w (q ∷ qs) waiting (kept_ids (q ∷ qs) waiting) → has_room w.conn.life ≡ true → IsUp before f (moved_up w q) qs waiting (kept_ids qs waiting)
+moved_up_one : (before : List Action) (f : Core) (w : Work) (q : Waiting) (qs waiting : List Waiting) → IsUp before f w (q ∷ qs) waiting [] (kept_ids (q ∷ qs) waiting) → has_room w.conn.life ≡ true → IsUp before f (moved_up w q) qs waiting [] (kept_ids qs waiting)
 moved_up_one before f w q qs waiting h room =
     let kept = kept_ids qs waiting in
-    let t = moving f w.conn (q ∷ qs) waiting h.started in
+    let t = moving f w.acts w.conn (q ∷ qs) waiting h.started in
     let b = book (trace_of_acts before f w.acts) in
-    chosen (λ (x : Work). IsUp before f x qs waiting kept) (is_admitted_at w.conn.requests q.number) (seated w q) w
+    chosen (λ (x : Work). IsUp before f x qs waiting [] kept) (is_admitted_at w.conn.requests q.number) (seated w q) w
     (λ a.
-    seated_up before f w q (q ∷ qs) waiting qs waiting kept h (free_link w.conn.life h.link h.life room)
-    (next_admitted b t h.link q qs a (order_last w.conn.moved q.number kept (length w.conn.requests) h.order) (up_going before f w (q ∷ qs) waiting (kept_ids (q ∷ qs) waiting) h).sound.tied))
+    seated_up before f w q (q ∷ qs) waiting qs waiting [] kept h (free_link w.conn.life h.link h.life room)
+    (next_admitted b t h.link q qs a (order_last w.conn.moved q.number kept (length w.conn.requests) h.order) (up_going before f w (q ∷ qs) waiting [] (kept_ids (q ∷ qs) waiting) h).sound.tied))
     (λ gone. gone_admitted before f w q qs waiting h gone)
 
 -- those that wait for a place still have found the queue full
 pub record IsSeated (before : List Action) (f : Core) (w : Work) (waiting : List Waiting) : Type 0 where
-  pub up : IsUp before f w w.conn.admitted waiting (waiting_ids waiting)
+  pub up : IsUp before f w w.conn.admitted waiting [] (waiting_ids waiting)
   pub full : (w.conn.admitted ≡ []) ⊎ (has_room w.conn.life ≡ false)
 
 -- all are moved that can be
-pub moved_up_seated : (before : List Action) (f : Core) (w : Work) (qs waiting : List Waiting) → IsUp before f w qs waiting (kept_ids qs waiting) → IsSeated before f (moved_up_each w qs) waiting
+pub moved_up_seated : (before : List Action) (f : Core) (w : Work) (qs waiting : List Waiting) → IsUp before f w qs waiting [] (kept_ids qs waiting) → IsSeated before f (moved_up_each w qs) waiting
 moved_up_seated before f w [] waiting h = record {
   up = record { link = h.link; life = h.life; fit = h.fit; held = h.held; started = h.started; going = h.going; order = h.order };
   full = inl refl;
@@ -308,8 +319,8 @@ moved_up_waits w (q ∷ qs) =
 gone_waiting : (before : List Action) (f : Core) (w : Work) (q : Waiting) (qs : List Waiting) → IsSeated before f w (q ∷ qs) → is_waiting_at w.conn.requests q.number ≡ false → IsSeated before f w qs
 gone_waiting before f w q qs s gone =
     let h = s.up in
-    let t = moving f w.conn w.conn.admitted qs h.started in
-    let was = up_going before f w w.conn.admitted (q ∷ qs) (waiting_ids (q ∷ qs)) h in
+    let t = moving f w.acts w.conn w.conn.admitted qs h.started in
+    let was = up_going before f w w.conn.admitted (q ∷ qs) [] (waiting_ids (q ∷ qs)) h in
     let now : IsGoing (trace_of_acts before f w.acts) (on_link t h.link) = record {
       sound = record { stands = was.sound.stands; tied = passed_waiting (book (trace_of_acts before f w.acts)) t h.link q qs gone was.sound.tied };
       ended = was.ended;
@@ -327,48 +338,111 @@ gone_waiting before f w q qs s gone =
       full = s.full;
     }
 
--- a request that has a place at once is as one that waited for it
-seated_once : (w : Work) (q : Waiting) (link : LinkState) → w.conn.life ≡ Ready link → seated (progressed w q.number progress.Admitted) q ≡ seated w q
-seated_once w q link e =
+-- a request that is let in
+--
+-- the connection while it is, as one that waits still
+abbrev letting : Work → Waiting → Work
+letting w q =
+    let count = permits_taken w.conn.limit w.conn.free q.shape in
+    record { conn = record w.conn { requests = with_permits w.conn.requests q.number progress.Waiting count; free = w.conn.free - count }; acts = (let_in w q).acts }
+
+-- and then, where it waits for a place or has one
+abbrev entering : Work → Waiting → Work
+entering w q = record { conn = holding w.conn q.number (permits_taken w.conn.limit w.conn.free q.shape); acts = (let_in w q).acts }
+
+-- that is what it is
+let_in_is : (w : Work) (q : Waiting) → let_in w q ≡ entering w q
+let_in_is w q = ap (λ (c : MultiplexedConnection). record { conn = c; acts = (let_in w q).acts }) (let_in_conn w q)
+
+-- one that has a place at once is as one that waited for it
+seated_once : (w : Work) (q : Waiting) (link : LinkState) → w.conn.life ≡ Ready link → is_waiting_at w.conn.requests q.number ≡ true → seated (entering w q) q ≡ seated (letting w q) q
+seated_once w q link e wt =
     let p = q.number in
-    let v = progressed w p progress.Admitted in
-    let u = with_link (noted w p) (enqueued link (message_of q)) in
+    let count = permits_taken w.conn.limit w.conn.free q.shape in
+    let v = entering w q in
+    let g = letting w q in
+    let u = with_link (noted g p) (enqueued link (message_of q)) in
+    let within = open_within w.conn.requests p (waiting_open w.conn.requests p wt) in
+    let placed : (now : Progress) → at_progress (with_permits w.conn.requests p now count) p progress.Placed ≡ with_permits w.conn.requests p progress.Placed count = λ now.
+    permits_twice w.conn.requests p now progress.Placed count (permits_at (with_permits w.conn.requests p now count) p) ∙ ap (with_permits w.conn.requests p progress.Placed) (permits_with w.conn.requests p now count within) in
     ap (λ (x : Life). started (told_at_place (placed_at v q x) q)) e
-    ∙ ap (λ (x : List Request). started (told_at_place (record u { conn = record u.conn { requests = x } }) q)) (progressed_twice w.conn.requests p progress.Admitted progress.Placed)
-    ∙ sym (ap (λ (x : Life). started (told_at_place (placed_at w q x) q)) e)
+    ∙ ap (λ (x : List Request). started (told_at_place (record u { conn = record u.conn { requests = x } }) q)) (placed progress.Admitted ∙ sym (placed progress.Waiting))
+    ∙ sym (ap (λ (x : Life). started (told_at_place (placed_at g q x) q)) e)
+
+-- it is let in, while those that wait for a place find the queue full
+letting_up : (before : List Action) (f : Core) (w : Work) (q : Waiting) (qs : List Waiting) → IsSeated before f w (q ∷ qs) → is_waiting_at w.conn.requests q.number ≡ true → has_no_permit w.conn.limit w.conn.free ≡ false
+    → IsUp before f (letting w q) w.conn.admitted (q ∷ qs) (q.number ∷ []) (waiting_ids (q ∷ qs)) × (is_let_in w.conn.limit ((book (trace_of_acts before f (let_in w q).acts)).story (name_at (letting w q).conn.requests q.number)) ≡ true)
+letting_up before f w q qs s wt some =
+    let h = s.up in
+    let p = q.number in
+    let count = permits_taken w.conn.limit w.conn.free q.shape in
+    let opening : IsOpening (moving f w.acts w.conn w.conn.admitted (q ∷ qs) h.started) h.link q qs = record {
+      life = h.life;
+      settled = refl;
+      fit = h.fit;
+      held = h.held;
+      full = elim s.full [ inl empty ↦ inl empty | inr none ↦ inr (no_room w.conn.life h.link h.life none) ];
+      waiting = refl;
+      is_waiting = wt;
+    } in
+    let k = let_in_going before f w w.conn.admitted h.started h.link q qs opening some h.going in (
+      record {
+        link = h.link;
+        life = h.life;
+        fit = h.fit;
+        held = h.held;
+        started = h.started;
+        going = k.going;
+        order = subst (Rising 0 (w.conn.moved ++ waiting_ids (q ∷ qs))) (sym (length_with w.conn.requests p progress.Waiting count)) h.order;
+      },
+      ap (λ n. is_let_in w.conn.limit ((book (trace_of_acts before f (let_in w q).acts)).story n)) (name_with w.conn.requests p progress.Waiting count p) ∙ k.is,
+    )
 
 -- where the queue has room it takes its place
-admitted_seated : (before : List Action) (f : Core) (w : Work) (q : Waiting) (qs : List Waiting) → IsSeated before f w (q ∷ qs) → is_waiting_at w.conn.requests q.number ≡ true → w.conn.admitted ≡ [] → has_room w.conn.life ≡ true
-    → IsSeated before f (seated (progressed w q.number progress.Admitted) q) qs
-admitted_seated before f w q qs s wt none room =
-    let b = book (trace_of_acts before f w.acts) in
+admitted_seated : (before : List Action) (f : Core) (w : Work) (q : Waiting) (qs : List Waiting) → IsSeated before f w (q ∷ qs) → is_waiting_at w.conn.requests q.number ≡ true → has_no_permit w.conn.limit w.conn.free ≡ false → w.conn.admitted ≡ [] → has_room w.conn.life ≡ true
+    → IsSeated before f (seated (entering w q) q) qs
+admitted_seated before f w q qs s wt some none room =
+    let g = letting w q in
+    let p = q.number in
+    let count = permits_taken w.conn.limit w.conn.free q.shape in
+    let b = book (trace_of_acts before f g.acts) in
     let ids = waiting_ids (q ∷ qs) in
-    let h = subst (λ ws. IsUp before f w ws (q ∷ qs) ids) none s.up in
-    let t = moving f w.conn [] (q ∷ qs) h.started in
-    let empty : (seated w q).conn.admitted ≡ [] = (seated_keeps w q).admitted ∙ none in
-    let up = seated_up before f w q [] (q ∷ qs) [] qs (waiting_ids qs) h (free_link w.conn.life h.link h.life room)
-    (next_waiting b t h.link q qs wt (order_last w.conn.moved q.number (waiting_ids qs) (length w.conn.requests) h.order) (up_going before f w [] (q ∷ qs) ids h).sound.tied) in
-    subst (λ (x : Work). IsSeated before f x qs) (sym (seated_once w q h.link h.life)) (record {
-      up = subst (λ ws. IsUp before f (seated w q) ws qs (waiting_ids qs)) (sym empty) up;
+    let l = letting_up before f w q qs s wt some in
+    let h = subst (λ ws. IsUp before f g ws (q ∷ qs) (p ∷ []) ids) none l.0 in
+    let t = letting_in f g.acts g.conn [] (q ∷ qs) (p ∷ []) h.started in
+    let waits : is_waiting_at g.conn.requests p ≡ true = with_same is_waiting w.conn.requests p progress.Waiting count (open_within w.conn.requests p (waiting_open w.conn.requests p wt)) in
+    let empty : (seated g q).conn.admitted ≡ [] = (seated_keeps g q).admitted ∙ none in
+    let up = seated_up before f g q [] (q ∷ qs) [] qs (p ∷ []) (waiting_ids qs) h (free_link g.conn.life h.link h.life room)
+    (next_waiting b t h.link q qs waits l.1 (order_last g.conn.moved p (waiting_ids qs) (length g.conn.requests) h.order) (up_going before f g [] (q ∷ qs) (p ∷ []) ids h).sound.tied) in
+    subst (λ (x : Work). IsSeated before f x qs) (sym (seated_once w q s.up.link s.up.life wt)) (record {
+      up = subst (λ ws. IsUp before f (seated g q) ws qs [] (waiting_ids qs)) (sym empty) up;
       full = inl empty;
     })
 
 -- and else it waits for one, behind the others
-admitted_behind : (before : List Action) (f : Core) (w : Work) (q : Waiting) (qs : List Waiting) → IsSeated before f w (q ∷ qs) → is_waiting_at w.conn.requests q.number ≡ true → has_room w.conn.life ≡ false
-    → IsSeated before f (put_behind (progressed w q.number progress.Admitted) q) qs
-admitted_behind before f w q qs s wt none =
-    let h = s.up in
+admitted_behind : (before : List Action) (f : Core) (w : Work) (q : Waiting) (qs : List Waiting) → IsSeated before f w (q ∷ qs) → is_waiting_at w.conn.requests q.number ≡ true → has_no_permit w.conn.limit w.conn.free ≡ false → has_room w.conn.life ≡ false
+    → IsSeated before f (put_behind (entering w q) q) qs
+admitted_behind before f w q qs s wt some none =
     let p = q.number in
-    let b = book (trace_of_acts before f w.acts) in
+    let g = letting w q in
+    let count = permits_taken w.conn.limit w.conn.free q.shape in
+    let b = book (trace_of_acts before f g.acts) in
     let ids = waiting_ids (q ∷ qs) in
-    let v = put_behind (progressed w p progress.Admitted) q in
-    let t = moving f w.conn w.conn.admitted qs h.started in
-    let after = moving f v.conn v.conn.admitted qs h.started in
-    let was = up_going before f w w.conn.admitted (q ∷ qs) ids h in
-    let now : IsGoing (trace_of_acts before f w.acts) (on_link after h.link) = record {
+    let l = letting_up before f w q qs s wt some in
+    let h = l.0 in
+    let v = put_behind (entering w q) q in
+    let within = open_within w.conn.requests p (waiting_open w.conn.requests p wt) in
+    let waits : is_waiting_at g.conn.requests p ≡ true = with_same is_waiting w.conn.requests p progress.Waiting count within in
+    let t = letting_in f g.acts g.conn w.conn.admitted qs (p ∷ []) h.started in
+    let after = moving f v.acts v.conn v.conn.admitted qs h.started in
+    let was = up_going before f g w.conn.admitted (q ∷ qs) (p ∷ []) ids h in
+    let twice : at_progress g.conn.requests p progress.Admitted ≡ with_permits w.conn.requests p progress.Admitted count =
+    permits_twice w.conn.requests p progress.Waiting progress.Admitted count (permits_at g.conn.requests p) ∙ ap (with_permits w.conn.requests p progress.Admitted) (permits_with w.conn.requests p progress.Waiting count within) in
+    let admitted : Tied b (record (on_link after h.link) { requests = at_progress g.conn.requests p progress.Admitted }) = admit_tied b t h.link q qs waits l.1 (order_last g.conn.moved p (waiting_ids qs) (length g.conn.requests) h.order) was.sound.tied in
+    let now : IsGoing (trace_of_acts before f g.acts) (on_link after h.link) = record {
       sound = record {
         stands = was.sound.stands;
-        tied = admit_tied b t h.link q qs wt (order_last w.conn.moved p (waiting_ids qs) (length w.conn.requests) h.order) was.sound.tied;
+        tied = subst (λ (x : List Request). Tied b (record (on_link after h.link) { requests = x })) twice admitted;
       };
       ended = was.ended;
     } in
@@ -379,41 +453,46 @@ admitted_behind before f w q qs s wt none =
         fit = h.fit;
         held = h.held;
         started = h.started;
-        going = subst (λ (x : Life). IsGoing (trace_of_acts before f w.acts) (record after { life = x })) (sym h.life) now;
-        order = order_next w.conn.moved p (waiting_ids qs) w.conn.requests progress.Admitted h.order;
+        going = subst (λ (x : Life). IsGoing (trace_of_acts before f g.acts) (record after { life = x })) (sym h.life) now;
+        order = subst (λ (x : List Request). Rising 0 ((w.conn.moved ++ p ∷ []) ++ waiting_ids qs) (length x)) twice (order_next g.conn.moved p (waiting_ids qs) g.conn.requests progress.Admitted h.order);
       };
       full = inr none;
     }
 
 -- one is moved
-admitted_one : (before : List Action) (f : Core) (w : Work) (q : Waiting) (qs : List Waiting) → IsSeated before f w (q ∷ qs) → IsSeated before f (admitted w q) qs
-admitted_one before f w q qs s =
+admitted_one : (before : List Action) (f : Core) (w : Work) (q : Waiting) (qs : List Waiting) → IsSeated before f w (q ∷ qs) → has_no_permit w.conn.limit w.conn.free ≡ false → IsSeated before f (admitted w q) qs
+admitted_one before f w q qs s some =
     let h = s.up in
-    let v = progressed w q.number progress.Admitted in
+    let v = entering w q in
     chosen (λ (x : Work). IsSeated before f x qs) (is_waiting_at w.conn.requests q.number) (admitted_at w q w.conn.life) w
     (λ wt.
     subst (λ (x : Life). IsSeated before f (admitted_at w q x) qs) (sym h.life)
+    (subst (λ (x : Work). IsSeated before f (seated_or_behind x q) qs) (sym (let_in_is w q))
     (chosen (λ (x : Work). IsSeated before f x qs) (has_room w.conn.life) (seated v q) (put_behind v q)
-    (λ room. elim s.full [ inl none ↦ admitted_seated before f w q qs s wt none room | inr stuck ↦ absurd (not_both (has_room w.conn.life) stuck room) ])
-    (λ stuck. admitted_behind before f w q qs s wt stuck)))
+    (λ room. elim s.full [ inl none ↦ admitted_seated before f w q qs s wt some none room | inr stuck ↦ absurd (not_both (has_room w.conn.life) stuck room) ])
+    (λ stuck. admitted_behind before f w q qs s wt some stuck))))
     (λ gone. gone_waiting before f w q qs s gone)
 
--- none waits for the connection any more
+-- none waits any more, or no permit is free
 pub record IsDone (before : List Action) (f : Core) (w : Work) : Type 0 where
-  pub seated : IsSeated before f w []
-  pub none : w.conn.waiting ≡ []
+  pub seated : IsSeated before f w w.conn.waiting
+  pub none : (w.conn.waiting ≡ []) ⊎ (has_no_permit w.conn.limit w.conn.free ≡ true)
+
+-- where these wait
+still_seated : (before : List Action) (f : Core) (w : Work) (qs : List Waiting) → IsSeated before f w qs → IsSeated before f (still_waiting w qs) qs
+still_seated before f w qs s =
+    let h = s.up in
+    record {
+      up = record { link = h.link; life = h.life; fit = h.fit; held = h.held; started = h.started; going = h.going; order = h.order };
+      full = s.full;
+    }
 
 -- all are moved
 pub admitted_done : (before : List Action) (f : Core) (w : Work) (qs : List Waiting) → IsSeated before f w qs → IsDone before f (admitted_each w qs)
-admitted_done before f w [] s =
-    let h = s.up in
-    record {
-      seated = record {
-        up = record { link = h.link; life = h.life; fit = h.fit; held = h.held; started = h.started; going = h.going; order = h.order };
-        full = s.full;
-      };
-      none = refl;
-    }
+admitted_done before f w [] s = record { seated = still_seated before f w [] s; none = inl refl }
 admitted_done before f w (q ∷ qs) s =
-    if_false (λ (x : Work). IsDone before f x) (admits_none w.conn.life) _ (admitted_each (admitted w q) qs) (ap admits_none s.up.life)
-    (admitted_done before f (admitted w q) qs (admitted_one before f w q qs s))
+    let stuck = has_no_permit w.conn.limit w.conn.free in
+    let up : admits_none w.conn ≡ stuck = ap (λ life. admits_none_at life stuck) s.up.life in
+    chosen (λ (x : Work). IsDone before f x) (admits_none w.conn) (still_waiting w (q ∷ qs)) (admitted_each (admitted w q) qs)
+    (λ t. record { seated = still_seated before f w (q ∷ qs) s; none = inr (sym up ∙ t) })
+    (λ f1. admitted_done before f (admitted w q) qs (admitted_one before f w q qs s (sym up ∙ f1)))

@@ -14,7 +14,7 @@ use Rattle.link_core.specs.declared.message.Queued.{Queued}
 use Rattle.link_laws.proofs.TiedLink.{TiedLink, all_push, enqueued_tied}
 use Rattle.link_laws.specs.Settles.{awaited_ids, wanted}
 use Rattle.mux_conn.specs.Passes.{message_of}
-use Rattle.mux_conn.specs.Requests.{at_progress, if_there, is_admitted, is_admitted_at, is_open as is_open_progress, is_open_at, is_placed, is_placed_at, is_waiting, is_waiting_at, name_at}
+use Rattle.mux_conn.specs.Requests.{at_progress, given_back, is_admitted, is_admitted_at, is_open as is_open_progress, is_open_at, is_placed, is_placed_at, is_waiting, is_waiting_at, name_at, permits_at, with_permits}
 use Rattle.mux_conn.specs.declared.life.Life.{Life}
 use Rattle.mux_conn.specs.declared.life.Life.TheVariants.{Ready}
 use Rattle.mux_conn.specs.declared.request.Pending.{Pending}
@@ -24,45 +24,20 @@ use Rattle.mux_conn.specs.declared.request.Request.{Request}
 use Rattle.mux_conn.specs.declared.request.Waiting.{Waiting}
 use Rattle.legal_trace.specs.Book.{Book, entered}
 use Rattle.legal_trace.specs.Ledger.{Ledger}
+use Rattle.legal_trace.specs.Steps.{is_let_in}
 use Rattle.legal_trace.specs.Story.{Story, answered, is_told, shape}
 use Rattle.session_laws.proofs.Answer.{answer_closes, lines_answered}
 use Rattle.session_laws.proofs.Behind.{open_unanswered}
-use Rattle.session_laws.proofs.Closing.{Closes, kept_other, story_closed, tries_closed, waits_closed, with_closed}
-use Rattle.session_laws.proofs.InLine.{awaited_in, first_is_apart, kept_ids, line_of}
-use Rattle.session_laws.proofs.Kept.{numbers_kept, of_same}
-use Rattle.session_laws.proofs.Names.{length_still, name_still, name_was, names_progressed, open_within, owners_still, there_other, there_same, there_then}
+use Rattle.session_laws.proofs.Closing.{Closes, closed_other, kept_other, late_closed, story_closed, tries_closed, waits_closed, with_closed}
+use Rattle.session_laws.proofs.InLine.{awaited_in, kept_ids}
+use Rattle.session_laws.proofs.Kept.{of_same}
+use Rattle.session_laws.proofs.Names.{length_still, length_with, name_still, name_was, name_with, name_within, names_progressed, names_with, open_within, owners_still, owners_with, permits_still, there_other, there_same, there_then, with_same}
 use Rattle.session_laws.proofs.Numbers.{IsIn, Rising, in_either, in_left, in_right, rising_apart, rising_in, rising_right, rising_tail, rising_without}
 use Rattle.session_laws.proofs.Owes.{in_line, request_story}
-use Rattle.session_laws.proofs.Start.{admitted_open, not_dialing, on_link}
-use Rattle.session_laws.proofs.Tied.{AreQueued, Inner, IsEntry, IsKept, IsNew, IsOf, IsPacked, IsQueued, Tied, TiedLines, TiedStory, TiedTries, TiedWaits, owner_of, owners_each, queue_ids, relined, shown_wait, waiting_ids}
-
--- a request that still waits for the connection has no place
-waiting_unplaced : (requests : List Request) (p : ℕ) → is_waiting_at requests p ≡ true → is_placed_at requests p ≡ false
-waiting_unplaced requests p w = by_request (slice_get requests p) w
-  where
-    by_progress : (r : Progress) → is_waiting r ≡ true → is_placed r ≡ false
-    by_progress progress.Waiting e = refl
-    by_progress progress.Admitted e = cc
-    by_progress progress.Placed e = cc
-    by_progress progress.Closed e = cc
-
-    by_request : (r : Option Request) → if_there is_waiting r ≡ true → if_there is_placed r ≡ false
-    by_request None e = cc
-    by_request (Some r) e = by_progress r.progress e
-
--- and is open
-pub waiting_open : (requests : List Request) (p : ℕ) → is_waiting_at requests p ≡ true → is_open_at requests p ≡ true
-waiting_open requests p w = open_then (slice_get requests p) w
-  where
-    by_progress : (r : Progress) → is_waiting r ≡ true → is_open_progress r ≡ true
-    by_progress progress.Waiting e = refl
-    by_progress progress.Admitted e = cc
-    by_progress progress.Placed e = cc
-    by_progress progress.Closed e = cc
-
-    open_then : (r : Option Request) → if_there is_waiting r ≡ true → if_there is_open_progress r ≡ true
-    open_then None e = cc
-    open_then (Some r) e = by_progress r.progress e
+use Rattle.session_laws.proofs.Permits.{permits_closed, permits_further, permits_let}
+use Rattle.session_laws.proofs.Start.{not_dialing, on_link}
+use Rattle.session_laws.proofs.Tied.{AreLate, AreQueued, Inner, IsEntry, IsKept, IsOf, IsPacked, IsQueued, Tied, TiedLines, TiedStory, TiedTries, TiedWaits, owner_of, owners_each, queue_ids, relined, shown_wait, waiting_ids, numbers_kept}
+use Rattle.session_laws.proofs.Ahead.{admitted_open, early_open, waiting_open}
 
 -- those that wait no longer are passed over
 --
@@ -88,7 +63,7 @@ passed_admitted b t link q qs gone h =
           | inr w ↦ inr (inr w)
         ]
       ];
-    }) h.waits
+    }) h.waits h.late
 
 -- or for the connection
 pub passed_waiting : (b : Book) (t : Inner) (link : LinkState) (q : Waiting) (qs : List Waiting) → is_waiting_at t.requests q.number ≡ false → Tied b (record (on_link t link) { waiting = q ∷ qs }) → Tied b (record (on_link t link) { waiting = qs })
@@ -112,7 +87,7 @@ passed_waiting b t link q qs gone h =
           | inr w ↦ elim w.1 [ inl same ↦ absurd (not_both (is_waiting_at t.requests p) (ap (is_waiting_at t.requests) (sym same) ∙ gone) w.0) | inr i ↦ inr (inr (w.0, i)) ]
         ]
       ];
-    }) h.waits
+    }) h.waits h.late
 
 -- an open request comes further, and stays open
 --
@@ -134,7 +109,12 @@ story_further s requests link p now (Some (Some m)) on e h = record {
   on = h.on;
   some = h.some;
   open_is = h.open_is ∙ sym (open_further requests p m.number now on e);
+  permits_is = h.permits_is ∙ sym (permits_still requests p m.number now (open_within requests p e));
 }
+
+-- who is late is to be answered still
+late_further : (story : ℕ → Story) (requests : List Request) (p : ℕ) (now : Progress) (ps : List ℕ) → is_open_progress now ≡ true → is_open_at requests p ≡ true → AreLate story requests ps → AreLate story (at_progress requests p now) ps
+late_further story requests p now ps on o h m e late = h m (sym (open_further requests p m now on o) ∙ e) (ap (λ n. (story n).overdue) (sym (name_still requests p now m)) ∙ late)
 
 -- the owners are the same
 owners_further : (requests : List Request) (p : ℕ) (now : Progress) (started : List ℕ) → owners_each (at_progress requests p now) started ≡ owners_each requests started
@@ -183,7 +163,13 @@ queued_further story requests p now (q ∷ qs) apart all = (
 -- those that wait
 packs_further : (story : ℕ → Story) (requests : List Request) (p : ℕ) (now : Progress) (ws : List Waiting) → AllByRecursion (IsPacked story requests) ws → AllByRecursion (IsPacked story (at_progress requests p now)) ws
 packs_further story requests p now [] all = tt
-packs_further story requests p now (w ∷ ws) all = (subst (λ n. IsOf (story n) w.packed w.shape w.awaited) (sym (name_still requests p now w.number)) all.0, packs_further story requests p now ws all.1)
+packs_further story requests p now (w ∷ ws) all = (
+  record {
+    is_of = subst (λ n. IsOf (story n) w.packed w.shape w.awaited) (sym (name_still requests p now w.number)) all.0.is_of;
+    time_is = all.0.time_is ∙ ap (λ n. (story n).timeout) (sym (name_still requests p now w.number));
+  },
+  packs_further story requests p now ws all.1,
+)
 
 -- who was told and has not started is in the queue still
 told_further : (story : ℕ → Story) (requests : List Request) (link : LinkState) (p : ℕ) (now : Progress) → AreQueued story requests link → AreQueued story (at_progress requests p now) link
@@ -195,18 +181,14 @@ told_further story requests link p now h n is none =
 shown_further : (story : ℕ → Story) (requests : List Request) (p : ℕ) (now : Progress) (m : ℕ) → shown_wait story (at_progress requests p now) m ≡ shown_wait story requests m
 shown_further story requests p now m = ap (λ n. (story n).waiting) (name_still requests p now m)
 
--- no wait is shown of the same
-new_further : (story : ℕ → Story) (requests : List Request) (p : ℕ) (now : Progress) (fresh : List ℕ) → IsNew story requests fresh → IsNew story (at_progress requests p now) fresh
-new_further story requests p now [] h = tt
-new_further story requests p now (m ∷ []) h = shown_further story requests p now m ∙ h
-new_further story requests p now (m ∷ n ∷ ms) h = h
-
 -- the next that is moved
 --
--- it is the first of those that wait, with these behind it; no room was shown of it; and it is above all that were moved in
--- this turn
-pub record IsNext (story : ℕ → Story) (requests : List Request) (moved : List ℕ) (was_waiting was_admitted : List Waiting) (q : Waiting) (waiting admitted : List Waiting) : Type 0 where
+-- it is the first of those that wait, with these behind it, and was let in, alone; no room was shown of it; and it is above
+-- all that were moved in this turn
+pub record IsNext (story : ℕ → Story) (requests : List Request) (limit : Option ℕ) (letting moved : List ℕ) (was_waiting was_admitted : List Waiting) (q : Waiting) (waiting admitted : List Waiting) : Type 0 where
   pub open_at : is_open_at requests q.number ≡ true
+  pub let_in : is_let_in limit (story (name_at requests q.number)) ≡ true
+  pub alone : (p : ℕ) → IsIn p letting → q.number ≡ p
   pub first : kept_ids was_admitted was_waiting ≡ q.number ∷ kept_ids admitted waiting
   pub packed : IsPacked story requests q
   pub packs : AllByRecursion (IsPacked story requests) waiting
@@ -216,10 +198,12 @@ pub record IsNext (story : ℕ → Story) (requests : List Request) (moved : Lis
   pub last : Rising 0 (moved ++ q.number ∷ []) (length requests)
 
 -- it is the first of those that wait for a place
-pub next_admitted : (b : Book) (t : Inner) (link : LinkState) (q : Waiting) (qs : List Waiting) → is_admitted_at t.requests q.number ≡ true → Rising 0 (t.moved ++ q.number ∷ []) (length t.requests) → Tied b (record (on_link t link) { admitted = q ∷ qs })
-    → IsNext b.story t.requests t.moved t.waiting (q ∷ qs) q t.waiting qs
+pub next_admitted : (b : Book) (t : Inner) (link : LinkState) (q : Waiting) (qs : List Waiting) → is_admitted_at t.requests q.number ≡ true → Rising 0 (t.moved ++ q.number ∷ []) (length t.requests) → Tied b (record (on_link t link) { admitted = q ∷ qs; letting = [] })
+    → IsNext b.story t.requests t.limit [] t.moved t.waiting (q ∷ qs) q t.waiting qs
 next_admitted b t link q qs a last h = record {
   open_at = (admitted_open t.requests q.number a).0;
+  let_in = h.permits.let_in q.number (inl a);
+  alone = λ p i. absurd i;
   first = refl;
   packed = h.lines.packed_in.0;
   packs = h.lines.packs;
@@ -235,16 +219,19 @@ next_admitted b t link q qs a last h = record {
   last = last;
 }
 
--- one that waits for the connection has shown nothing, or that it waits for the connect
-shown_early : (x : Option WaitKind) → (x ≡ None) ⊎ (x ≡ Some wait.Connect) → (x ≢ Some wait.Place) × (x ≢ Some wait.Room)
+-- one that waits for the connection, or for a permit, has shown nothing, or one of these waits
+shown_early : (x : Option WaitKind) → (x ≡ None) ⊎ ((x ≡ Some wait.Connect) ⊎ (x ≡ Some wait.Permit)) → (x ≢ Some wait.Place) × (x ≢ Some wait.Room)
 shown_early x (inl e) = (λ r. (let no : ◌≡◌ {A = Option WaitKind} None (Some wait.Place) = sym e ∙ r in cc), λ r. (let no : ◌≡◌ {A = Option WaitKind} None (Some wait.Room) = sym e ∙ r in cc))
-shown_early x (inr e) = (λ r. (let no : ◌≡◌ {A = Option WaitKind} (Some wait.Connect) (Some wait.Place) = sym e ∙ r in cc), λ r. (let no : ◌≡◌ {A = Option WaitKind} (Some wait.Connect) (Some wait.Room) = sym e ∙ r in cc))
+shown_early x (inr (inl e)) = (λ r. (let no : ◌≡◌ {A = Option WaitKind} (Some wait.Connect) (Some wait.Place) = sym e ∙ r in cc), λ r. (let no : ◌≡◌ {A = Option WaitKind} (Some wait.Connect) (Some wait.Room) = sym e ∙ r in cc))
+shown_early x (inr (inr e)) = (λ r. (let no : ◌≡◌ {A = Option WaitKind} (Some wait.Permit) (Some wait.Place) = sym e ∙ r in cc), λ r. (let no : ◌≡◌ {A = Option WaitKind} (Some wait.Permit) (Some wait.Room) = sym e ∙ r in cc))
 
--- or of those that wait for the connection, where none waits for a place
-pub next_waiting : (b : Book) (t : Inner) (link : LinkState) (q : Waiting) (qs : List Waiting) → is_waiting_at t.requests q.number ≡ true → Rising 0 (t.moved ++ q.number ∷ []) (length t.requests) → Tied b (record (on_link t link) { admitted = []; waiting = q ∷ qs })
-    → IsNext b.story t.requests t.moved (q ∷ qs) [] q qs []
-next_waiting b t link q qs w last h = record {
+-- or of those that wait for the connection, where none waits for a place, and it is being let in
+pub next_waiting : (b : Book) (t : Inner) (link : LinkState) (q : Waiting) (qs : List Waiting) → is_waiting_at t.requests q.number ≡ true → is_let_in t.limit (b.story (name_at t.requests q.number)) ≡ true → Rising 0 (t.moved ++ q.number ∷ []) (length t.requests)
+    → Tied b (record (on_link t link) { admitted = []; waiting = q ∷ qs; letting = q.number ∷ [] }) → IsNext b.story t.requests t.limit (q.number ∷ []) t.moved (q ∷ qs) [] q qs []
+next_waiting b t link q qs w is last h = record {
   open_at = waiting_open t.requests q.number w;
+  let_in = is;
+  alone = λ p i. elim i [ inl e ↦ e | inr k ↦ absurd k ];
   first = refl;
   packed = h.lines.packs.0;
   packs = h.lines.packs.1;
@@ -277,9 +264,9 @@ awaited_last n qs m i = elim (in_either n (awaited_ids qs) (awaited_ids (m ∷ [
 ]
 
 -- it is none of the queue
-next_apart : (story : ℕ → Story) (requests : List Request) (link : LinkState) (moved : List ℕ) (was_waiting was_admitted : List Waiting) (started : List ℕ) (q : Waiting) (waiting admitted : List Waiting)
-    → IsNext story requests moved was_waiting was_admitted q waiting admitted → TiedLines story requests link was_waiting was_admitted [] started → IsIn q.number (queue_ids link.queue) → ⊥
-next_apart story requests link moved was_waiting was_admitted started q waiting admitted next h i =
+next_apart : (story : ℕ → Story) (requests : List Request) (link : LinkState) (limit : Option ℕ) (letting moved : List ℕ) (was_waiting was_admitted : List Waiting) (started : List ℕ) (q : Waiting) (waiting admitted : List Waiting)
+    → IsNext story requests limit letting moved was_waiting was_admitted q waiting admitted → TiedLines story requests link was_waiting was_admitted [] started → IsIn q.number (queue_ids link.queue) → ⊥
+next_apart story requests link limit letting moved was_waiting was_admitted started q waiting admitted next h i =
     let queue = queue_ids link.queue in
     let kept = kept_ids was_admitted was_waiting in
     let line = rising_right 0 started (queue ++ kept) (length requests) h.line in
@@ -287,9 +274,9 @@ next_apart story requests link moved was_waiting was_admitted started q waiting 
     omega arith
 
 -- it waits no longer, and is to be answered or placed
-lines_next : (story : ℕ → Story) (requests : List Request) (link : LinkState) (moved : List ℕ) (was_waiting was_admitted : List Waiting) (started : List ℕ) (q : Waiting) (waiting admitted : List Waiting)
-    → IsNext story requests moved was_waiting was_admitted q waiting admitted → TiedLines story requests link was_waiting was_admitted [] started → TiedLines story requests link waiting admitted (q.number ∷ []) started
-lines_next story requests link moved was_waiting was_admitted started q waiting admitted next h =
+lines_next : (story : ℕ → Story) (requests : List Request) (link : LinkState) (limit : Option ℕ) (letting moved : List ℕ) (was_waiting was_admitted : List Waiting) (started : List ℕ) (q : Waiting) (waiting admitted : List Waiting)
+    → IsNext story requests limit letting moved was_waiting was_admitted q waiting admitted → TiedLines story requests link was_waiting was_admitted [] started → TiedLines story requests link waiting admitted (q.number ∷ []) started
+lines_next story requests link limit letting moved was_waiting was_admitted started q waiting admitted next h =
     let queue = queue_ids link.queue in
     let kept = kept_ids admitted waiting in
     record {
@@ -327,7 +314,7 @@ lines_further story requests link waiting admitted p now started on seat o apart
   packed_in = packs_further story requests p now admitted h.packed_in;
   there = λ m e. elim (h.there m (sym (open_further requests p m now on o) ∙ e)) [
     | inl i ↦ inl i
-    | inr k ↦ by_test (p == m) _ (λ t. inl (inl (eq_from p m t))) (λ f. inr (kept_other requests p m now waiting admitted (ne_from p m f) k))
+    | inr k ↦ by_test (p == m) _ (λ t. inl (inl (eq_from p m t))) (λ f. inr (kept_other requests p m now (permits_at requests p) waiting admitted (ne_from p m f) k))
   ];
 }
 
@@ -360,13 +347,17 @@ lines_enqueued story requests link waiting admitted m pending started is line pl
 waits_placed : (story : ℕ → Story) (requests : List Request) (p : ℕ) (life : Life) (fresh moved : List ℕ) → p < length requests → TiedWaits story requests life fresh moved → TiedWaits story (at_progress requests p progress.Placed) life fresh moved
 waits_placed story requests p life fresh moved l h =
     let same = shown_further story requests p progress.Placed in
+    let long = sym (length_still requests p progress.Placed) in
     record {
-      new = new_further story requests p progress.Placed fresh h.new;
-      early = λ m w. let k = there_then is_waiting requests p m progress.Placed refl l w in elim (h.early m k.1) [ inl e ↦ inl (same m ∙ e) | inr e ↦ inr (same m ∙ e) ];
+      early = λ m w. let k = there_then is_waiting requests p m progress.Placed refl l w in elim (h.early m k.1) [ inl e ↦ inl (same m ∙ e) | inr x ↦ inr (elim x [ inl e ↦ inl (same m ∙ e) | inr e ↦ inr (same m ∙ e) ]) ];
       connect = λ m w d. let k = there_then is_waiting requests p m progress.Placed refl l w in elim (h.connect m k.1 d) [ inl e ↦ inl e | inr e ↦ inr (same m ∙ e) ];
+      permit = λ m link w d. let k = there_then is_waiting requests p m progress.Placed refl l w in elim (h.permit m link k.1 d) [ inl e ↦ inl e | inr e ↦ inr (same m ∙ e) ];
       place = λ m a. let k = there_then is_admitted requests p m progress.Placed refl l a in elim (h.place m k.1) [ inl i ↦ inl i | inr e ↦ inr (same m ∙ e) ];
       room = λ m i. elim (h.room m i) [ inl j ↦ inl j | inr e ↦ inr (same m ∙ e) ];
-      rising = subst (Rising 0 moved) (sym (length_still requests p progress.Placed)) h.rising;
+      newer = subst (Rising 0 fresh) long h.newer;
+      rising = subst (Rising 0 moved) long h.rising;
+      no_connect = λ m i w d e. let k = there_then is_waiting requests p m progress.Placed refl l w in h.no_connect m i k.1 d (sym (same m) ∙ e);
+      no_permit = λ m link i w d e. let k = there_then is_waiting requests p m progress.Placed refl l w in h.no_permit m link i k.1 d (sym (same m) ∙ e);
       no_place = λ m i a e. let k = there_then is_admitted requests p m progress.Placed refl l a in h.no_place m i k.1 (sym (same m) ∙ e);
       no_room = λ m i j e. h.no_room m i j (sym (same m) ∙ e);
     }
@@ -378,15 +369,18 @@ waits_enqueued story requests link m fresh moved last placed shown h =
     let p = m.id in
     let earlier : (n : ℕ) → p ≢ n → IsIn n (moved ++ p ∷ []) → IsIn n moved = λ n other i. elim (in_either n moved (p ∷ []) i) [ inl j ↦ j | inr j ↦ elim j [ inl same ↦ absurd (other same) | inr k ↦ absurd k ] ] in
     record {
-      new = h.new;
       early = h.early;
       connect = λ n w e. absurd (not_dialing (enqueued link m) e);
+      permit = λ n l w e. h.permit n link w refl;
       place = λ n a. elim (h.place n a) [ inl i ↦ inl (in_left n moved (p ∷ []) i) | inr e ↦ inr e ];
       room = λ n i. elim (awaited_last n link.queue m i) [
         | inl j ↦ elim (h.room n j) [ inl k ↦ inl (in_left n moved (p ∷ []) k) | inr e ↦ inr e ]
         | inr same ↦ inl (in_right n moved (p ∷ []) (inl same))
       ];
+      newer = h.newer;
       rising = last;
+      no_connect = λ n i w e. absurd (not_dialing (enqueued link m) e);
+      no_permit = λ n l i w e. h.no_permit n link i w refl;
       no_place = λ n i a. h.no_place n (earlier n (λ same. not_both (is_admitted_at requests n) (ap (is_admitted_at requests) (sym same) ∙ placed) a) i) a;
       no_room = λ n i j. by_test (p == n) _
           (λ t. subst (λ x. shown_wait story requests x ≢ Some wait.Room) (eq_from p n t) shown)
@@ -402,14 +396,17 @@ waits_admitted story requests link p fresh moved w last h =
     let shown = shown_early (shown_wait story requests p) (h.early p w) in
     let earlier : (n : ℕ) → p ≢ n → IsIn n (moved ++ p ∷ []) → IsIn n moved = λ n other i. elim (in_either n moved (p ∷ []) i) [ inl j ↦ j | inr j ↦ elim j [ inl same ↦ absurd (other same) | inr k ↦ absurd k ] ] in
     record {
-      new = new_further story requests p progress.Admitted fresh h.new;
-      early = λ m v. let k = there_then is_waiting requests p m progress.Admitted refl l v in elim (h.early m k.1) [ inl e ↦ inl (same m ∙ e) | inr e ↦ inr (same m ∙ e) ];
+      early = λ m v. let k = there_then is_waiting requests p m progress.Admitted refl l v in elim (h.early m k.1) [ inl e ↦ inl (same m ∙ e) | inr x ↦ inr (elim x [ inl e ↦ inl (same m ∙ e) | inr e ↦ inr (same m ∙ e) ]) ];
       connect = λ m v d. absurd (not_dialing link d);
+      permit = λ m x v d. let k = there_then is_waiting requests p m progress.Admitted refl l v in elim (h.permit m link k.1 refl) [ inl e ↦ inl e | inr e ↦ inr (same m ∙ e) ];
       place = λ m a. by_test (p == m) _
           (λ t. inl (in_right m moved (p ∷ []) (inl (eq_from p m t))))
           (λ f. elim (h.place m (sym (there_other is_admitted requests p m progress.Admitted (ne_from p m f)) ∙ a)) [ inl i ↦ inl (in_left m moved (p ∷ []) i) | inr e ↦ inr (same m ∙ e) ]);
       room = λ m i. elim (h.room m i) [ inl j ↦ inl (in_left m moved (p ∷ []) j) | inr e ↦ inr (same m ∙ e) ];
+      newer = subst (Rising 0 fresh) (sym (length_still requests p progress.Admitted)) h.newer;
       rising = subst (Rising 0 (moved ++ p ∷ [])) (sym (length_still requests p progress.Admitted)) last;
+      no_connect = λ m i v d. absurd (not_dialing link d);
+      no_permit = λ m x i v d e. let k = there_then is_waiting requests p m progress.Admitted refl l v in h.no_permit m link i k.1 refl (sym (same m) ∙ e);
       no_place = λ m i a e. by_test (p == m) _
           (λ t. shown.0 (ap (shown_wait story requests) (eq_from p m t) ∙ sym (same m) ∙ e))
           (λ f. h.no_place m (earlier m (ne_from p m f) i) (sym (there_other is_admitted requests p m progress.Admitted (ne_from p m f)) ∙ a) (sym (same m) ∙ e));
@@ -421,12 +418,24 @@ waits_admitted story requests link p fresh moved w last h =
 -- the session
 --
 -- with the request in its place, where these wait still
-abbrev pub with_place : Inner → LinkState → Waiting → List Waiting → List Waiting → Progress → Inner
-with_place t link q waiting admitted now = record (on_link t (enqueued link (message_of q))) {
-  requests = at_progress t.requests q.number now;
+abbrev pub with_place : Inner → LinkState → Waiting → List Waiting → List Waiting → Inner
+with_place t link q waiting admitted = record (on_link t (enqueued link (message_of q))) {
+  requests = at_progress t.requests q.number progress.Placed;
   waiting = waiting;
   admitted = admitted;
   moved = t.moved ++ q.number ∷ [];
+  letting = [];
+}
+
+-- and with one that is answered at its place, and gives its permits back
+abbrev pub with_told : Inner → LinkState → Waiting → List Waiting → List Waiting → Inner
+with_told t link q waiting admitted = record (on_link t (enqueued link (message_of q))) {
+  free = given_back t.limit t.free (permits_at t.requests q.number);
+  requests = with_permits t.requests q.number progress.Closed 0;
+  waiting = waiting;
+  admitted = admitted;
+  moved = t.moved ++ q.number ∷ [];
+  letting = [];
 }
 
 -- the one that is awaited
@@ -435,22 +444,22 @@ awaited_only true p n e i = i
 awaited_only false p n e i = cc
 
 -- one whose reply is awaited has its place
-pub place_tied : (b : Book) (t : Inner) (link : LinkState) (q : Waiting) (waiting admitted : List Waiting) → q.awaited ≡ true → IsNext b.story t.requests t.moved t.waiting t.admitted q waiting admitted → Tied b (on_link t link)
-    → Tied b (with_place t link q waiting admitted progress.Placed)
+pub place_tied : (b : Book) (t : Inner) (link : LinkState) (q : Waiting) (waiting admitted : List Waiting) → q.awaited ≡ true → IsNext b.story t.requests t.limit t.letting t.moved t.waiting t.admitted q waiting admitted → Tied b (on_link t link)
+    → Tied b (with_place t link q waiting admitted)
 place_tied b t link q waiting admitted yes_awaited next h =
     let p = q.number in
     let o = next.open_at in
     let within = open_within t.requests p o in
-    let apart = next_apart b.story t.requests link t.moved t.waiting t.admitted t.started q waiting admitted next h.lines in
+    let apart = next_apart b.story t.requests link t.limit t.letting t.moved t.waiting t.admitted t.started q waiting admitted next h.lines in
     let placed = at_progress t.requests p progress.Placed in
     let still = length_still t.requests p progress.Placed in
     let queued : IsQueued b.story placed (message_of q) = record {
-      is_of = subst (λ n. IsOf (b.story n) q.packed q.shape q.awaited) (sym (name_still t.requests p progress.Placed p)) next.packed;
+      is_of = subst (λ n. IsOf (b.story n) q.packed q.shape q.awaited) (sym (name_still t.requests p progress.Placed p)) next.packed.is_of;
       placed_at = λ e. there_same is_placed t.requests p progress.Placed within;
       told = λ f. absurd (not_both q.awaited f yes_awaited);
     } in
     record {
-      numbers = numbers_kept b _ _ (on_link t link) _ _ _ _ _ _ _ _ h.numbers;
+      numbers = numbers_kept b _ _ (on_link t link) _ _ _ _ _ _ _ _ _ _ h.numbers;
       others = h.others;
       life = h.life;
       link = λ e. subst (λ x. TiedLink x (b.link t.link) (enqueued link (message_of q))) (sym (owners_still t.requests p progress.Placed)) (enqueued_tied (owner_of t.requests) (b.link t.link) link (message_of q) (h.link refl));
@@ -460,17 +469,20 @@ place_tied b t link q waiting admitted yes_awaited next h =
       lines = lines_enqueued b.story placed link waiting admitted (message_of q) (p ∷ []) t.started queued
           (subst (Rising 0 (t.started ++ (queue_ids (link.queue ++ message_of q ∷ []) ++ kept_ids admitted waiting))) (sym still) (line_next t.requests link t.moved t.waiting t.admitted t.started q waiting admitted next.first h.lines.line))
           (λ n i. awaited_only q.awaited p n yes_awaited i)
-          (lines_further b.story t.requests link waiting admitted p progress.Placed t.started refl refl o apart (lines_next b.story t.requests link t.moved t.waiting t.admitted t.started q waiting admitted next h.lines));
+          (lines_further b.story t.requests link waiting admitted p progress.Placed t.started refl refl o apart (lines_next b.story t.requests link t.limit t.letting t.moved t.waiting t.admitted t.started q waiting admitted next h.lines));
       told = λ e n is none.
           let k = told_further b.story t.requests link p progress.Placed (h.told refl) n is none in
           (k.0, k.1, k.2, subst (IsIn k.0) (sym (queue_ids-push link.queue (message_of q))) (in_left k.0 (queue_ids link.queue) (p ∷ []) k.3));
       waits = waits_enqueued b.story placed link (message_of q) t.fresh t.moved (subst (Rising 0 (t.moved ++ p ∷ [])) (sym still) next.last) (there_same is_admitted t.requests p progress.Placed within)
           (λ e. next.shown (sym (shown_further b.story t.requests p progress.Placed p) ∙ e)) (waits_placed b.story t.requests p (Ready link) t.fresh t.moved within h.waits);
+      permits = permits_further b.story b.submissions t.requests t.link t.limit t.free t.letting p progress.Placed within refl next.let_in next.alone h.permits;
+      late = late_further b.story t.requests p progress.Placed [] refl o h.late;
     }
 
--- it is none of those that still wait, nor of the link
-apart_from_line : (b : Book) (t : Inner) (link : LinkState) (q : Waiting) (waiting admitted : List Waiting) → IsNext b.story t.requests t.moved t.waiting t.admitted q waiting admitted → Tied b (on_link t link) → IsIn q.number (line_of link admitted waiting) → ⊥
-apart_from_line b t link q waiting admitted next h i =
+-- it is none of the link
+apart_from_link : (b : Book) (t : Inner) (link : LinkState) (q : Waiting) (waiting admitted : List Waiting) → IsNext b.story t.requests t.limit t.letting t.moved t.waiting t.admitted q waiting admitted → Tied b (on_link t link)
+    → IsIn q.number (wanted link.row ++ queue_ids link.queue) → ⊥
+apart_from_link b t link q waiting admitted next h i =
     let p = q.number in
     let hi = length t.requests in
     let rows = wanted link.row in
@@ -479,17 +491,14 @@ apart_from_line b t link q waiting admitted next h i =
     let all = in_line b (on_link t link) h refl in
     let line = subst (λ ns. Rising 0 (rows ++ (queue ++ ns)) hi) next.first all in
     let behind = rising_right 0 rows (queue ++ (p ∷ kept)) hi line in
-    elim (in_either p rows (queue ++ kept) i) [
+    elim (in_either p rows queue i) [
       | inl j ↦ let k = rising_apart 0 rows (queue ++ (p ∷ kept)) hi p p line j (in_right p queue (p ∷ kept) (inl refl)) in omega arith
-      | inr j ↦ elim (in_either p queue kept j) [
-        | inl k ↦ let l = rising_apart 0 queue (p ∷ kept) hi p p behind k (inl refl) in omega arith
-        | inr k ↦ first_is_apart 0 p kept hi (rising_right 0 queue (p ∷ kept) hi behind) k
-      ]
+      | inr k ↦ let l = rising_apart 0 queue (p ∷ kept) hi p p behind k (inl refl) in omega arith
     ]
 
 -- one whose reply nobody awaits has its place, and is answered there
-pub tell_tied : (b : Book) (t : Inner) (link : LinkState) (q : Waiting) (waiting admitted : List Waiting) → q.awaited ≡ false → IsNext b.story t.requests t.moved t.waiting t.admitted q waiting admitted → Tied b (on_link t link)
-    → Tied (entered b (action.Outcome (name_at t.requests q.number) (outcome.One Nil))) (with_place t link q waiting admitted progress.Closed)
+pub tell_tied : (b : Book) (t : Inner) (link : LinkState) (q : Waiting) (waiting admitted : List Waiting) → q.awaited ≡ false → IsNext b.story t.requests t.limit t.letting t.moved t.waiting t.admitted q waiting admitted → Tied b (on_link t link)
+    → Tied (entered b (action.Outcome (name_at t.requests q.number) (outcome.One Nil))) (with_told t link q waiting admitted)
 tell_tied b t link q waiting admitted not_awaited next h =
     let p = q.number in
     let n = name_at t.requests p in
@@ -499,49 +508,53 @@ tell_tied b t link q waiting admitted not_awaited next h =
     let done : ℕ → Story = λ m. answered (b.story m) nil in
     let c : (m : ℕ) → Closes (b.story m) (done m) = λ m. answer_closes (b.story m) nil in
     let after = with_closed b.story t.requests p done in
-    let closed = at_progress t.requests p progress.Closed in
-    let still = length_still t.requests p progress.Closed in
-    let named = name_still t.requests p progress.Closed p in
+    let closed = with_permits t.requests p progress.Closed 0 in
+    let still = length_with t.requests p progress.Closed 0 in
+    let named = name_with t.requests p progress.Closed 0 p in
     let r = request_story b (on_link t link) p h within in
-    let apart = apart_from_line b t link q waiting admitted next h in
+    let known : n < b.submissions = (let l = name_within t.table t.requests p h.names within in let e = h.numbers.submissions in omega arith) in
+    let apart = apart_from_link b t link q waiting admitted next h in
     let same : answered (b.story n) nil ≡ after n = sym (taken_if (n == n) (answered (b.story n) nil) (b.story n) (eq_test n n refl)) in
     let queued : IsQueued after closed (message_of q) = record {
-      is_of = subst (λ x. IsOf (after x) q.packed q.shape q.awaited) (sym named) (subst (λ (s : Story). IsOf s q.packed q.shape q.awaited) same (of_same (b.story n) (answered (b.story n) nil) q.packed q.shape q.awaited refl next.packed));
+      is_of = subst (λ x. IsOf (after x) q.packed q.shape q.awaited) (sym named) (subst (λ (s : Story). IsOf s q.packed q.shape q.awaited) same (of_same (b.story n) (answered (b.story n) nil) q.packed q.shape q.awaited refl next.packed.is_of));
       placed_at = λ e. absurd (not_both q.awaited not_awaited e);
       told = λ f. ap (λ x. (after x).outcomes) named ∙ ap (λ (s : Story). s.outcomes) (sym same) ∙ ap (λ os. os ++ nil ∷ []) (open_unanswered (b.story n) (r.open_is ∙ o));
     } in
     record {
-      numbers = numbers_kept b _ _ (on_link t link) _ _ _ _ _ _ _ _ h.numbers;
+      numbers = numbers_kept b _ _ (on_link t link) _ _ _ _ _ _ _ _ _ _ h.numbers;
       others = h.others;
       life = h.life;
-      link = λ e. subst (λ x. TiedLink x (b.link t.link) (enqueued link (message_of q))) (sym (owners_still t.requests p progress.Closed)) (enqueued_tied (owner_of t.requests) (b.link t.link) link (message_of q) (h.link refl));
-      names = names_progressed t.table t.requests p progress.Closed h.names;
-      story = λ m. story_closed b.story t.table t.requests t.link p done m h.names within (c m) (h.story m);
+      link = λ e. subst (λ x. TiedLink x (b.link t.link) (enqueued link (message_of q))) (sym (owners_with t.requests p progress.Closed 0)) (enqueued_tied (owner_of t.requests) (b.link t.link) link (message_of q) (h.link refl));
+      names = names_with t.table t.requests p progress.Closed 0 h.names;
+      story = λ m. story_closed b.story t.table t.requests t.link p done m h.names within refl (c m) (h.story m);
       tries = tries_closed (b.link t.link) b.story t.requests t.link p done t.started c h.tries;
       lines = lines_enqueued after closed link waiting admitted (message_of q) [] t.started queued
           (subst (Rising 0 (t.started ++ (queue_ids (link.queue ++ message_of q ∷ []) ++ kept_ids admitted waiting))) (sym still) (line_next t.requests link t.moved t.waiting t.admitted t.started q waiting admitted next.first h.lines.line))
           (λ m i. absurd i)
-          (lines_answered t.table b.story t.requests link waiting admitted p [] t.started done h.names within c apart (lines_next b.story t.requests link t.moved t.waiting t.admitted t.started q waiting admitted next h.lines));
+          (lines_answered t.table b.story t.requests link waiting admitted p [] t.started done h.names within c apart (lines_next b.story t.requests link t.limit t.letting t.moved t.waiting t.admitted t.started q waiting admitted next h.lines));
       told = λ e m. chosen (λ (x : Story). is_told x ≡ true → x.tries ≡ [] → (k : ℕ) × (k < length closed) × (name_at closed k ≡ m) × IsIn k (queue_ids (link.queue ++ message_of q ∷ []))) (n == m) (done m) (b.story m)
           (λ t is none. (p, subst (λ x. p < x) (sym still) within, named ∙ eq_from n m t, subst (IsIn p) (sym (queue_ids-push link.queue (message_of q))) (in_right p (queue_ids link.queue) (p ∷ []) (inl refl))))
           (λ f is none.
-          let k = told_further b.story t.requests link p progress.Closed (h.told refl) m is none in
-          (k.0, k.1, k.2, subst (IsIn k.0) (sym (queue_ids-push link.queue (message_of q))) (in_left k.0 (queue_ids link.queue) (p ∷ []) k.3)));
-      waits = waits_enqueued after closed link (message_of q) t.fresh t.moved (subst (Rising 0 (t.moved ++ p ∷ [])) (sym still) next.last) (there_same is_admitted t.requests p progress.Closed within)
+          let k = h.told refl m is none in
+          (k.0, subst (λ x. k.0 < x) (sym still) k.1, name_with t.requests p progress.Closed 0 k.0 ∙ k.2, subst (IsIn k.0) (sym (queue_ids-push link.queue (message_of q))) (in_left k.0 (queue_ids link.queue) (p ∷ []) k.3)));
+      waits = waits_enqueued after closed link (message_of q) t.fresh t.moved (subst (Rising 0 (t.moved ++ p ∷ [])) (sym still) next.last) (with_same is_admitted t.requests p progress.Closed 0 within)
           (λ e. (let gone : ◌≡◌ {A = Option WaitKind} None (Some wait.Room) = ap (λ (s : Story). s.waiting) same ∙ ap (λ x. (after x).waiting) (sym named) ∙ e in cc))
-          (waits_closed t.table b.story t.requests p done (Ready link) (Ready link) t.fresh t.moved h.names within c (λ e. e)
+          (waits_closed t.table b.story t.requests p done (Ready link) (Ready link) t.fresh t.moved h.names within (λ e. e) (λ l e. (link, refl))
           (λ m i.
           let queue = queue_ids link.queue in
           let kept = kept_ids t.admitted t.waiting in
           let j = awaited_in m link.queue i in
           let k = rising_in 0 (t.started ++ (queue ++ kept)) (length t.requests) m h.lines.line (in_right m t.started (queue ++ kept) (in_left m queue kept j)) in
-          ((λ s. next_apart b.story t.requests link t.moved t.waiting t.admitted t.started q waiting admitted next h.lines (subst (λ x. IsIn x queue) (sym s) j)), k.1, i)) h.waits);
+          ((λ s. next_apart b.story t.requests link t.limit t.letting t.moved t.waiting t.admitted t.started q waiting admitted next h.lines (subst (λ x. IsIn x queue) (sym s) j)), k.1, i)) h.waits);
+      permits = permits_let after b.submissions closed t.link t.limit (given_back t.limit t.free (permits_at t.requests p)) t.letting p (with_same is_waiting t.requests p progress.Closed 0 within) next.alone
+          (permits_closed b.story after t.table b.submissions t.requests t.link t.limit t.free t.letting p h.names within known r.on r.permits_is (closed_other b.story t.requests p done) (ap (λ (s : Story). s.permits) (sym same)) (ap (λ (s : Story). s.link) (sym same) ∙ r.on) h.permits);
+      late = late_closed t.table b.story t.requests p done [] [] h.names within (λ m x i. i) h.late;
     }
 
 -- one that waits for the connection waits for a place behind the others
-pub admit_tied : (b : Book) (t : Inner) (link : LinkState) (q : Waiting) (qs : List Waiting) → is_waiting_at t.requests q.number ≡ true → Rising 0 (t.moved ++ q.number ∷ []) (length t.requests) → Tied b (record (on_link t link) { waiting = q ∷ qs })
-    → Tied b (record (on_link t link) { requests = at_progress t.requests q.number progress.Admitted; waiting = qs; admitted = t.admitted ++ q ∷ []; moved = t.moved ++ q.number ∷ [] })
-admit_tied b t link q qs w last h =
+pub admit_tied : (b : Book) (t : Inner) (link : LinkState) (q : Waiting) (qs : List Waiting) → is_waiting_at t.requests q.number ≡ true → is_let_in t.limit (b.story (name_at t.requests q.number)) ≡ true → Rising 0 (t.moved ++ q.number ∷ []) (length t.requests)
+    → Tied b (record (on_link t link) { waiting = q ∷ qs; letting = q.number ∷ [] }) → Tied b (record (on_link t link) { requests = at_progress t.requests q.number progress.Admitted; waiting = qs; admitted = t.admitted ++ q ∷ []; moved = t.moved ++ q.number ∷ []; letting = [] })
+admit_tied b t link q qs w is last h =
     let p = q.number in
     let o = waiting_open t.requests p w in
     let within = open_within t.requests p o in
@@ -555,7 +568,7 @@ admit_tied b t link q qs w last h =
     let apart : IsIn p queue → ⊥ = λ i. (let k = rising_apart 0 queue (front ++ (p ∷ rest)) hi p p line i (in_right p front (p ∷ rest) (inl refl)) in omega arith) in
     let same : kept_ids t.admitted (q ∷ qs) ≡ kept_ids (t.admitted ++ q ∷ []) qs = sym (append_assoc front (p ∷ []) rest) ∙ ap (λ ns. ns ++ rest) (sym (waiting_ids-push t.admitted q)) in
     record {
-      numbers = numbers_kept b _ _ (record (on_link t link) { waiting = q ∷ qs }) _ _ _ _ _ _ _ _ h.numbers;
+      numbers = numbers_kept b _ _ (record (on_link t link) { waiting = q ∷ qs; letting = q.number ∷ [] }) _ _ _ _ _ _ _ _ _ _ h.numbers;
       others = h.others;
       life = h.life;
       link = λ e. subst (λ x. TiedLink x (b.link t.link) link) (sym (owners_still t.requests p now)) (h.link refl);
@@ -565,7 +578,7 @@ admit_tied b t link q qs w last h =
       lines = record {
         line = subst (λ ns. Rising 0 (t.started ++ (queue ++ ns)) (length further)) same (subst (Rising 0 (t.started ++ (queue ++ kept_ids t.admitted (q ∷ qs)))) (sym (length_still t.requests p now)) h.lines.line);
         queued = queued_further b.story t.requests p now link.queue apart h.lines.queued;
-        entries = entries_further t.requests p now link.row within (inr (waiting_unplaced t.requests p w)) h.lines.entries;
+        entries = entries_further t.requests p now link.row within (inr (early_open t.requests p w).1) h.lines.entries;
         packs = packs_further b.story t.requests p now qs h.lines.packs.1;
         packed_in = packs_further b.story t.requests p now (t.admitted ++ q ∷ []) (all_push (IsPacked b.story t.requests) t.admitted q h.lines.packed_in h.lines.packs.0);
         there = λ m e. by_test (p == m) _
@@ -574,7 +587,7 @@ admit_tied b t link q qs w last h =
             let other = ne_from p m f in
             elim (h.lines.there m (sym (open_further t.requests p m now refl o) ∙ e)) [
               | inl i ↦ inl i
-              | inr k ↦ inr (elim (kept_other t.requests p m now (q ∷ qs) t.admitted other k) [
+              | inr k ↦ inr (elim (kept_other t.requests p m now (permits_at t.requests p) (q ∷ qs) t.admitted other k) [
                 | inl a ↦ inl (a.0, subst (IsIn m) (sym (waiting_ids-push t.admitted q)) (in_left m front (p ∷ []) a.1))
                 | inr v ↦ inr (v.0, elim v.1 [ inl s ↦ absurd (other s) | inr i ↦ i ])
               ])
@@ -582,6 +595,8 @@ admit_tied b t link q qs w last h =
       };
       told = λ e. told_further b.story t.requests link p now (h.told refl);
       waits = waits_admitted b.story t.requests link p t.fresh t.moved w last h.waits;
+      permits = permits_further b.story b.submissions t.requests t.link t.limit t.free (p ∷ []) p now within refl is (λ m i. elim i [ inl e ↦ e | inr k ↦ absurd k ]) h.permits;
+      late = late_further b.story t.requests p now [] refl o h.late;
     }
   where
     waiting_ids-push : (ws : List Waiting) (w : Waiting) → waiting_ids (ws ++ w ∷ []) ≡ waiting_ids ws ++ w.number ∷ []

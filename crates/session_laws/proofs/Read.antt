@@ -27,13 +27,13 @@ use Rattle.mux_conn.specs.declared.life.Life.TheVariants.{Dialing, Ready, Ended}
 use Rattle.mux_conn.specs.declared.request.Request.{Request}
 use Rattle.mux_conn.specs.declared.request.Waiting.{Waiting}
 use Rattle.mux_conn.specs.Connection.{Work}
-use Rattle.mux_conn.specs.Requests.{name_at}
+use Rattle.mux_conn.specs.Requests.{is_open_at, name_at}
 use Rattle.mux_conn.specs.Effects.{settled_each, failed_at, read_to, read_at}
 use Rattle.shared_session.specs.declared.core_state.Core.{Core}
 use Rattle.shared_session.specs.Turn.{with_work, is_bad}
 use Rattle.legal_trace.specs.Ledger.{Ledger, by_fault, ending}
 use Rattle.legal_trace.specs.Story.{Story}
-use Rattle.legal_trace.specs.Book.{book}
+use Rattle.legal_trace.specs.Book.{Book, book}
 use Rattle.legal_trace.specs.Owed.{owed}
 use Rattle.session_laws.proofs.Numbers.{IsIn, Rising}
 use Rattle.session_laws.proofs.Tied.{inner, link_in, owner_of, queue_ids, IsEntry, TiedLife, TiedLines, AreQueued, TiedWaits, has_ended}
@@ -41,7 +41,7 @@ use Rattle.session_laws.proofs.States.{IsFit, IsFitIn, Between, HasApplied}
 use Rattle.session_laws.proofs.InLine.{kept_ids, IsInLine}
 use Rattle.session_laws.proofs.Owes.{in_line}
 use Rattle.session_laws.proofs.Settle.{seen, trace_of_acts, Holds, IsAnswering, answering, settled_holds, settled_leaves}
-use Rattle.session_laws.proofs.Close.{HasEnded, pending_due, ended_moved, ended_applied}
+use Rattle.session_laws.proofs.Close.{AreInTime, are_in_time, HasEnded, pending_due, ended_moved, ended_applied}
 use Rattle.session_laws.proofs.Announce.{turn_of, turned, IsNewsKind}
 use Rattle.session_laws.proofs.Heard.{heard_by, lives_as, none_ends, Begins, heard_begins, ended_quiet, dialing_quiet}
 use Rattle.session_laws.proofs.End.{up_tied, fault_ends}
@@ -106,9 +106,9 @@ read_fit size bound link piece h sound x e = let same : has_read link piece ≡ 
 -- the link that is up
 --
 -- the turn begins, with those to be answered that the bytes settle
-read_begins : (before : List Action) (c : Core) (started : List ℕ) (word : ℕ) (kind : EventKind) (piece : List ℕ) (link : LinkState) → Between before c started → is_bad c kind ≡ false → IsNewsKind kind → news_of c.timers c.single.link kind ≡ came piece
+read_begins : (before : List Action) (c : Core) (started : List ℕ) (word : ℕ) (kind : EventKind) (piece : List ℕ) (link : LinkState) → Between before c started → is_bad c kind ≡ false → IsNewsKind c.timers kind → news_of c.timers c.single.link kind ≡ came piece
     → c.single.connection.life ≡ Ready link
-    → Begins (before ++ turn_of c word kind ∷ []) (turned c kind) (lives_as c (Ready (has_read link piece))) (has_heard ((book before).link c.single.link) piece) (settled_ids (deals link piece).out) started
+    → Begins (before ++ turn_of c word kind ∷ []) (turned c kind) (lives_as c (Ready (has_read link piece))) (has_heard ((book before).link c.single.link) piece) (book before).story (settled_ids (deals link piece).out) started
 read_begins before c started word kind piece link h good k is e =
     let b = book before in
     let l = b.link c.single.link in
@@ -123,17 +123,21 @@ read_begins before c started word kind piece link h good k is e =
       told = λ n. subst (λ (x : Life). AreQueued b.story conn.requests (link_in x)) e (h.sound.tied.told (ap has_ended e));
       waits = queue_waits b.story conn.requests link (has_read link piece) conn.fresh conn.moved (λ p i. i) (subst (λ (x : Life). TiedWaits b.story conn.requests x conn.fresh conn.moved) e h.sound.tied.waits);
     }) in
-    record { holds = begins.holds; ledger = begins.ledger ∙ same }
+    record { holds = begins.holds; ledger = begins.ledger ∙ same; stories = begins.stories }
 
 -- a link that reads on, and what it has settled
 abbrev reads : Core → LinkState → List ℕ → Work
 reads c link piece = record { conn = lives_as c (Ready (has_read link piece)); acts = [] }
 
+-- who was in time is so, where the stories are the same
+read_in_time : (now b : Book) (requests : List Request) → ((n : ℕ) → now.story n ≡ b.story n) → AreInTime b.story requests → AreInTime now.story requests
+read_in_time now b requests same early p o = ap (λ (s : Story). s.overdue) (same (name_at requests p)) ∙ early p o
+
 -- what the bytes settle is answered
-read_answered : (before : List Action) (c : Core) (started : List ℕ) (word : ℕ) (kind : EventKind) (piece : List ℕ) (link : LinkState) → Between before c started → is_bad c kind ≡ false → IsNewsKind kind → news_of c.timers c.single.link kind ≡ came piece
+read_answered : (before : List Action) (c : Core) (started : List ℕ) (word : ℕ) (kind : EventKind) (piece : List ℕ) (link : LinkState) → Between before c started → is_bad c kind ≡ false → IsNewsKind c.timers kind → news_of c.timers c.single.link kind ≡ came piece
     → c.single.connection.life ≡ Ready link
     → (let front = before ++ turn_of c word kind ∷ [] in let f = turned c kind in
-    IsAnswering front f ((book (trace_of_acts front f [])).link c.single.link) (owed (book (trace_of_acts front f []))) (name_at c.single.connection.requests) (settled_each (reads c link piece) (deals link piece).out) [] started)
+    IsAnswering front f ((book (trace_of_acts front f [])).link c.single.link) (owed (book (trace_of_acts front f []))) (name_at c.single.connection.requests) (is_open_at c.single.connection.requests) (settled_each (reads c link piece) (deals link piece).out) [] started)
 read_answered before c started word kind piece link h good k is e =
     let b = book before in
     let l = b.link c.single.link in
@@ -150,8 +154,9 @@ read_answered before c started word kind piece link h good k is e =
     let before_line = subst (λ (x : Life). IsInLine conn.requests (link_in x) conn.admitted conn.waiting []) e (in_line b (inner c started) h.sound.tied (ap has_ended e)) in
     let line : IsInLine conn.requests (has_read link piece) conn.admitted conn.waiting ids = read_in_line conn.requests link piece conn.admitted conn.waiting before_line in
     let all = subst (λ (x : Ledger). AllByRecursion (IsOwed name x) out) (sym begins.ledger) (read_owed name l link piece u.alive u.tied) in
-    let due = pending_due now (seen f w.conn ids started) out begins.holds.tied line all in
-    settled_holds front f (now.link c.single.link) (owed now) (name_at conn.requests) w out [] started due
+    let early = read_in_time now b conn.requests begins.stories (are_in_time b (inner c started) h.sound.tied refl) in
+    let due = pending_due now (seen f [] w.conn ids started) out begins.holds.tied early line all in
+    settled_holds front f (now.link c.single.link) (owed now) (name_at conn.requests) (is_open_at conn.requests) w out [] started due
     (answering front f w (ids ++ []) started (subst (λ ns. Holds front f w ns started) (sym (append-nil ids)) begins.holds) (subst (IsInLine conn.requests (has_read link piece) conn.admitted conn.waiting) (sym (append-nil ids)) line))
 
 -- a connection whose link is up is fit where the link is
@@ -162,7 +167,7 @@ fit_by c size bound link size_is bound_is life h = record {
 }
 
 -- a link that is up reads on, or is broken and ends
-read_on : (before : List Action) (c : Core) (started : List ℕ) (word : ℕ) (kind : EventKind) (piece : List ℕ) (link : LinkState) → Between before c started → is_bad c kind ≡ false → IsNewsKind kind → news_of c.timers c.single.link kind ≡ came piece
+read_on : (before : List Action) (c : Core) (started : List ℕ) (word : ℕ) (kind : EventKind) (piece : List ℕ) (link : LinkState) → Between before c started → is_bad c kind ≡ false → IsNewsKind c.timers kind → news_of c.timers c.single.link kind ≡ came piece
     → c.single.connection.life ≡ Ready link
     → HasApplied (before ++ turn_of c word kind ∷ []) (with_work (record { core = turned c kind; acts = [] }) (read_to (record { conn = c.single.connection; acts = [] }) (record { link = has_read link piece; out = (deals link piece).out }))) started
 read_on before c started word kind piece link h good k is e =
@@ -185,14 +190,14 @@ read_on before c started word kind piece link h good k is e =
     (fault_ends front f v after fault.Parse started a.holds still.life (ends_so ∙ taken_if after.broken (Some (by_fault fault.Parse)) None t))))
     (λ n. record {
       sound = a.holds;
-      ended = none_ends (book (trace_of_acts front f v.acts)) (seen f v.conn [] started) a.holds.tied (ends_so ∙ left_if after.broken (Some (by_fault fault.Parse)) None n);
+      ended = none_ends (book (trace_of_acts front f v.acts)) (seen f v.acts v.conn [] started) a.holds.tied (ends_so ∙ left_if after.broken (Some (by_fault fault.Parse)) None n);
       began = λ z. absurd (omega arith);
       moved = still.moved ∙ h.moved;
       fit = fit_by v.conn c.single.connection.size c.single.connection.boundary after still.size still.boundary still.life (read_fit c.single.connection.size c.single.connection.boundary link piece (h.fit.link link e) n);
     })
 
 -- bytes come
-pub read_applied : (before : List Action) (c : Core) (started : List ℕ) (word : ℕ) (kind : EventKind) (piece : List ℕ) → Between before c started → is_bad c kind ≡ false → IsNewsKind kind → news_of c.timers c.single.link kind ≡ came piece
+pub read_applied : (before : List Action) (c : Core) (started : List ℕ) (word : ℕ) (kind : EventKind) (piece : List ℕ) → Between before c started → is_bad c kind ≡ false → IsNewsKind c.timers kind → news_of c.timers c.single.link kind ≡ came piece
     → HasApplied (before ++ turn_of c word kind ∷ []) (with_work (record { core = turned c kind; acts = [] }) (read_at (record { conn = c.single.connection; acts = [] }) piece c.single.connection.life)) started
 read_applied before c started word kind piece h good k is = by_life c.single.connection.life refl
   where

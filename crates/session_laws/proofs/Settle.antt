@@ -1,9 +1,11 @@
 -- Those that are to be answered are, one after another.
-use Rattle.std.proofs.Common.{is_some, ◌≡◌, inl, ℕ, suc, true, false, List, [], ◌∷◌, ◌++◌, length, Option, Some, refl, sym, ap, ◌∙◌, subst, arith}
+use Rattle.std.proofs.lemmas.List.{append-nil}
+use Rattle.std.proofs.Common.{Bool, ◌+◌, append_assoc, is_some, ◌≡◌, inl, ℕ, suc, true, false, List, [], ◌∷◌, ◌++◌, length, Option, Some, refl, sym, ap, ◌∙◌, subst, arith}
 use Rattle.std.specs.List.{AllByRecursion}
 use Rattle.containers.proofs.Choices.{chosen, not_both}
 use Rattle.redis_error.specs.declared.redis_error.RedisError.{RedisError}
 use Rattle.driver_model.specs.declared.action.Action.{Action}
+use Rattle.driver_model.specs.declared.action.Purpose.{Purpose}
 use Rattle.driver_model.specs.declared.outcome.Outcome.{Outcome}
 use Rattle.driver_model.specs.Shape.{outcome_of}
 use Rattle.driver_model.specs.declared.outcome.Outcome.TheVariants as outcome
@@ -19,74 +21,109 @@ use Rattle.mux_conn.specs.declared.request.Progress.TheVariants as progress
 use Rattle.mux_conn.specs.declared.request.Request.{Request}
 use Rattle.mux_conn.specs.declared.request.Waiting.{Waiting}
 use Rattle.mux_conn.specs.Connection.{Work}
-use Rattle.mux_conn.specs.Requests.{is_open_at, name_at, at_progress, answered}
+use Rattle.mux_conn.specs.Requests.{is_open, is_open_at, name_at, closed, answered}
 use Rattle.mux_conn.specs.Effects.{settled_each, failed_each}
 use Rattle.shared_session.specs.declared.core_state.Core.{Core}
-use Rattle.shared_session.specs.Turn.{shown, shown_each}
+use Rattle.shared_session.specs.Turn.{shown, shown_each, timer_of, timers_of}
 use Rattle.legal_trace.specs.Ledger.{Ledger, is_over}
-use Rattle.legal_trace.specs.Book.{Book, book, entered}
+use Rattle.legal_trace.specs.Book.{Book, blank_book, book, entered}
 use Rattle.legal_trace.specs.Owed.{owed}
-use Rattle.legal_trace.specs.Legal.{MayStand, MayAnswer}
+use Rattle.legal_trace.specs.Legal.{AllStand, MayStand, MayAnswer}
 use Rattle.session_laws.proofs.Numbers.{Rising, rising_from}
 use Rattle.session_laws.proofs.Tied.{Inner, link_in, TiedLife, Tied, Sound, waiting_ids, has_ended}
-use Rattle.session_laws.proofs.Entered.{book_more, sound_more, shown_more}
-use Rattle.session_laws.proofs.Names.{name_still, length_still}
+use Rattle.session_laws.proofs.Entered.{book_more, sound_more, shown_more, timers_more}
+use Rattle.session_laws.proofs.Names.{open_within, name_with, length_with, with_then}
 use Rattle.session_laws.proofs.InLine.{line_of, IsInLine, open_in_line, first_is_least}
 use Rattle.session_laws.proofs.Answer.{may_answer, after_end, owed_still, answer_tied, skip_tied}
 
--- a session in the middle of a turn, by its connection
-abbrev pub seen : Core → MultiplexedConnection → List ℕ → List ℕ → Inner
-seen f conn pending started = record {
+-- a session in the middle of a turn, by its connection, and by the acts so far, which may ask for timers
+abbrev pub seen : Core → List LinkAct → MultiplexedConnection → List ℕ → List ℕ → Inner
+seen f acts conn pending started = record {
   turns = f.turns;
   links = f.links;
   link = f.single.link;
-  timers = f.timers;
+  timers = f.timers ++ timers_of acts;
   shut = f.shut;
   table = f.table;
+  timeout = f.timeout;
   size = conn.size;
   bound = conn.boundary;
+  limit = conn.limit;
+  free = conn.free;
   life = conn.life;
   requests = conn.requests;
   waiting = conn.waiting;
   admitted = conn.admitted;
   fresh = conn.fresh;
   moved = conn.moved;
+  letting = [];
   pending = pending;
   started = started;
 }
 
 -- the trace up to the last act
 abbrev pub trace_of_acts : List Action → Core → List LinkAct → List Action
-trace_of_acts before f acts = before ++ shown_each f.single.link acts
+trace_of_acts before f acts = before ++ shown_each f.single.link (length f.timers) acts
 
 -- the session is tied to the book of that trace
 abbrev pub Holds : List Action → Core → Work → List ℕ → List ℕ → Type 0
-Holds before f w pending started = Sound (trace_of_acts before f w.acts) (seen f w.conn pending started)
+Holds before f w pending started = Sound (trace_of_acts before f w.acts) (seen f w.acts w.conn pending started)
+
+-- what one more act shows
+abbrev pub shown_now : Core → List LinkAct → LinkAct → Action
+shown_now f acts a = shown f.single.link (length f.timers + length (timers_of acts)) a
+
+-- these timers, and then those
+abbrev pub add_timers : List Purpose → List Purpose → List Purpose
+add_timers xs [] = xs
+add_timers xs (y ∷ ys) = xs ++ y ∷ ys
+
+-- they are both
+add_is : (xs ys : List Purpose) → add_timers xs ys ≡ xs ++ ys
+add_is xs [] = sym (append-nil xs)
+add_is xs (y ∷ ys) = refl
+
+-- the session once one more act is shown
+abbrev pub seen_more : Core → List LinkAct → LinkAct → MultiplexedConnection → List ℕ → List ℕ → Inner
+seen_more f acts a conn pending started = record (seen f acts conn pending started) { timers = add_timers (f.timers ++ timers_of acts) (timer_of a) }
+
+-- it is the session with that act
+seen_is : (f : Core) (acts : List LinkAct) (a : LinkAct) (conn : MultiplexedConnection) (pending started : List ℕ) → seen_more f acts a conn pending started ≡ seen f (acts ++ a ∷ []) conn pending started
+seen_is f acts a conn pending started =
+    ap (λ (ts : List Purpose). record (seen f acts conn pending started) { timers = ts })
+    (add_is (f.timers ++ timers_of acts) (timer_of a) ∙ append_assoc f.timers (timers_of acts) (timer_of a) ∙ ap (λ ts. f.timers ++ ts) (sym (timers_more acts a)))
+
+-- one more act that may stand behind those that do
+pub sound_act : (before : List Action) (f : Core) (acts : List LinkAct) (a : LinkAct) (conn : MultiplexedConnection) (pending started : List ℕ) → AllStand blank_book (trace_of_acts before f acts) → MayStand (book (trace_of_acts before f acts)) (shown_now f acts a)
+    → Tied (entered (book (trace_of_acts before f acts)) (shown_now f acts a)) (seen_more f acts a conn pending started) → Sound (trace_of_acts before f (acts ++ a ∷ [])) (seen f (acts ++ a ∷ []) conn pending started)
+sound_act before f acts a conn pending started stands may tied =
+    subst (λ (t : Inner). Sound (trace_of_acts before f (acts ++ a ∷ [])) t) (seen_is f acts a conn pending started)
+    (subst (λ (x : List Action). Sound x (seen_more f acts a conn pending started)) (sym (shown_more before f.single.link (length f.timers) acts a))
+    (sound_more (trace_of_acts before f acts) (shown_now f acts a) (seen_more f acts a conn pending started) stands may tied))
 
 -- one more act
-pub holds_more : (before : List Action) (f : Core) (w : Work) (a : LinkAct) (conn : MultiplexedConnection) (was pending started : List ℕ) → Holds before f w was started → MayStand (book (trace_of_acts before f w.acts)) (shown f.single.link a)
-    → Tied (entered (book (trace_of_acts before f w.acts)) (shown f.single.link a)) (seen f conn pending started) → Holds before f (record { conn = conn; acts = w.acts ++ a ∷ [] }) pending started
-holds_more before f w a conn was pending started h may tied =
-    subst (λ (x : List Action). Sound x (seen f conn pending started)) (sym (shown_more before f.single.link w.acts a))
-    (sound_more (trace_of_acts before f w.acts) (shown f.single.link a) (seen f conn pending started) h.stands may tied)
+pub holds_more : (before : List Action) (f : Core) (w : Work) (a : LinkAct) (conn : MultiplexedConnection) (was pending started : List ℕ) → Holds before f w was started → MayStand (book (trace_of_acts before f w.acts)) (shown_now f w.acts a)
+    → Tied (entered (book (trace_of_acts before f w.acts)) (shown_now f w.acts a)) (seen_more f w.acts a conn pending started) → Holds before f (record { conn = conn; acts = w.acts ++ a ∷ [] }) pending started
+holds_more before f w a conn was pending started h may tied = sound_act before f w.acts a conn pending started h.stands may tied
 
 -- and the book behind it
-pub book_of_more : (before : List Action) (f : Core) (acts : List LinkAct) (a : LinkAct) → book (trace_of_acts before f (acts ++ a ∷ [])) ≡ entered (book (trace_of_acts before f acts)) (shown f.single.link a)
-book_of_more before f acts a = ap book (shown_more before f.single.link acts a) ∙ book_more (trace_of_acts before f acts) (shown f.single.link a)
+pub book_of_more : (before : List Action) (f : Core) (acts : List LinkAct) (a : LinkAct) → book (trace_of_acts before f (acts ++ a ∷ [])) ≡ entered (book (trace_of_acts before f acts)) (shown_now f acts a)
+book_of_more before f acts a = ap book (shown_more before f.single.link (length f.timers) acts a) ∙ book_more (trace_of_acts before f acts) (shown_now f acts a)
 
 -- some requests are to be answered, in line, before all others that are open; and their link's ledger, what is owed, and all
--- names are as they were
-pub record IsAnswering (before : List Action) (f : Core) (ledger : Ledger) (owes : ℕ → Option Outcome) (name : ℕ → ℕ) (w : Work) (pending started : List ℕ) : Type 0 where
+-- names are as they were, and who is open was so
+pub record IsAnswering (before : List Action) (f : Core) (ledger : Ledger) (owes : ℕ → Option Outcome) (name : ℕ → ℕ) (was : ℕ → Bool) (w : Work) (pending started : List ℕ) : Type 0 where
   pub holds : Holds before f w pending started
   pub line : IsInLine w.conn.requests (link_in w.conn.life) w.conn.admitted w.conn.waiting pending
   pub ledger_is : (book (trace_of_acts before f w.acts)).link f.single.link ≡ ledger
   pub owed_is : (n : ℕ) → owed (book (trace_of_acts before f w.acts)) n ≡ owes n
   pub named : (p : ℕ) → name_at w.conn.requests p ≡ name p
+  pub opens : (p : ℕ) → is_open_at w.conn.requests p ≡ true → was p ≡ true
 
 -- it begins
 pub answering : (before : List Action) (f : Core) (w : Work) (pending started : List ℕ) → Holds before f w pending started → IsInLine w.conn.requests (link_in w.conn.life) w.conn.admitted w.conn.waiting pending
-    → IsAnswering before f ((book (trace_of_acts before f w.acts)).link f.single.link) (owed (book (trace_of_acts before f w.acts))) (name_at w.conn.requests) w pending started
-answering before f w pending started h line = record { holds = h; line = line; ledger_is = refl; owed_is = λ n. refl; named = λ p. refl }
+    → IsAnswering before f ((book (trace_of_acts before f w.acts)).link f.single.link) (owed (book (trace_of_acts before f w.acts))) (name_at w.conn.requests) (is_open_at w.conn.requests) w pending started
+answering before f w pending started h line = record { holds = h; line = line; ledger_is = refl; owed_is = λ n. refl; named = λ p. refl; opens = λ p o. o }
 
 -- a link that is over has ended
 over_life : (l : Ledger) (created : ℕ) (life : Life) → TiedLife l created life → is_over l ≡ true → has_ended life ≡ true
@@ -110,64 +147,66 @@ rest_in_line : (requests : List Request) (link : LinkState) (admitted waiting : 
 rest_in_line requests link admitted waiting p pending line = rising_from (suc p) 0 (pending ++ line_of link admitted waiting) (length requests) (omega arith) line.1
 
 -- the first is answered
-one_answered : (before : List Action) (f : Core) (ledger : Ledger) (owes : ℕ → Option Outcome) (name : ℕ → ℕ) (w : Work) (p : ℕ) (o : Outcome) (pending started : List ℕ) → owes (name p) ≡ Some o → is_open_at w.conn.requests p ≡ true
-    → IsAnswering before f ledger owes name w (p ∷ pending) started → IsAnswering before f ledger owes name (record { conn = record w.conn { requests = at_progress w.conn.requests p progress.Closed }; acts = w.acts ++ act.Outcome (name_at w.conn.requests p) o ∷ [] }) pending started
-one_answered before f ledger owes name w p o pending started due e h =
+one_answered : (before : List Action) (f : Core) (ledger : Ledger) (owes : ℕ → Option Outcome) (name : ℕ → ℕ) (was : ℕ → Bool) (w : Work) (p : ℕ) (o : Outcome) (pending started : List ℕ) → (was p ≡ true → owes (name p) ≡ Some o) → is_open_at w.conn.requests p ≡ true
+    → IsAnswering before f ledger owes name was w (p ∷ pending) started → IsAnswering before f ledger owes name was (record { conn = closed w.conn p; acts = w.acts ++ act.Outcome (name_at w.conn.requests p) o ∷ [] }) pending started
+one_answered before f ledger owes name was w p o pending started due e h =
     let b = book (trace_of_acts before f w.acts) in
-    let t = seen f w.conn pending started in
+    let t = seen f w.acts w.conn pending started in
     let a = act.Outcome (name_at w.conn.requests p) o in
-    let owes_now = h.owed_is (name_at w.conn.requests p) ∙ ap owes (h.named p) ∙ due in
+    let owes_now = h.owed_is (name_at w.conn.requests p) ∙ ap owes (h.named p) ∙ due (h.opens p e) in
     record {
-      holds = holds_more before f w a (record w.conn { requests = at_progress w.conn.requests p progress.Closed }) (p ∷ pending) pending started h.holds
+      holds = holds_more before f w a (closed w.conn p) (p ∷ pending) pending started h.holds
           (inl (first_may b t p pending o h.holds.tied h.line e owes_now))
           (answer_tied b t p pending o e owes_now h.line h.holds.tied);
-      line = subst (λ n. Rising 0 (pending ++ line_of (link_in w.conn.life) w.conn.admitted w.conn.waiting) n) (sym (length_still w.conn.requests p progress.Closed)) (rest_in_line w.conn.requests (link_in w.conn.life) w.conn.admitted w.conn.waiting p pending h.line);
+      line = subst (λ n. Rising 0 (pending ++ line_of (link_in w.conn.life) w.conn.admitted w.conn.waiting) n) (sym (length_with w.conn.requests p progress.Closed 0)) (rest_in_line w.conn.requests (link_in w.conn.life) w.conn.admitted w.conn.waiting p pending h.line);
       ledger_is = ap (λ (x : Book). x.link f.single.link) (book_of_more before f w.acts a) ∙ h.ledger_is;
       owed_is = λ n. ap (λ (x : Book). owed x n) (book_of_more before f w.acts a) ∙ owed_still b (name_at w.conn.requests p) o n ∙ h.owed_is n;
-      named = λ q. name_still w.conn.requests p progress.Closed q ∙ h.named q;
+      named = λ q. name_with w.conn.requests p progress.Closed 0 q ∙ h.named q;
+      opens = λ q o. h.opens q (with_then is_open w.conn.requests p q progress.Closed 0 refl (open_within w.conn.requests p e) o).1;
     }
 
 -- or is not open any more
-one_skipped : (before : List Action) (f : Core) (ledger : Ledger) (owes : ℕ → Option Outcome) (name : ℕ → ℕ) (w : Work) (p : ℕ) (pending started : List ℕ) → is_open_at w.conn.requests p ≡ false
-    → IsAnswering before f ledger owes name w (p ∷ pending) started → IsAnswering before f ledger owes name w pending started
-one_skipped before f ledger owes name w p pending started e h = record {
-  holds = record { stands = h.holds.stands; tied = skip_tied (book (trace_of_acts before f w.acts)) (seen f w.conn pending started) p pending e h.holds.tied };
+one_skipped : (before : List Action) (f : Core) (ledger : Ledger) (owes : ℕ → Option Outcome) (name : ℕ → ℕ) (was : ℕ → Bool) (w : Work) (p : ℕ) (pending started : List ℕ) → is_open_at w.conn.requests p ≡ false
+    → IsAnswering before f ledger owes name was w (p ∷ pending) started → IsAnswering before f ledger owes name was w pending started
+one_skipped before f ledger owes name was w p pending started e h = record {
+  holds = record { stands = h.holds.stands; tied = skip_tied (book (trace_of_acts before f w.acts)) (seen f w.acts w.conn pending started) p pending e h.holds.tied };
   line = rest_in_line w.conn.requests (link_in w.conn.life) w.conn.admitted w.conn.waiting p pending h.line;
   ledger_is = h.ledger_is;
   owed_is = h.owed_is;
   named = h.named;
+  opens = h.opens;
 }
 
 -- the first is answered, where it is open
-pub answered_holds : (before : List Action) (f : Core) (ledger : Ledger) (owes : ℕ → Option Outcome) (name : ℕ → ℕ) (w : Work) (p : ℕ) (o : Outcome) (pending started : List ℕ) → owes (name p) ≡ Some o
-    → IsAnswering before f ledger owes name w (p ∷ pending) started → IsAnswering before f ledger owes name (answered w p o) pending started
-answered_holds before f ledger owes name w p o pending started due h =
-    chosen (λ (x : Work). IsAnswering before f ledger owes name x pending started) (is_open_at w.conn.requests p) _ w
-    (λ t. one_answered before f ledger owes name w p o pending started due t h)
-    (λ e. one_skipped before f ledger owes name w p pending started e h)
+pub answered_holds : (before : List Action) (f : Core) (ledger : Ledger) (owes : ℕ → Option Outcome) (name : ℕ → ℕ) (was : ℕ → Bool) (w : Work) (p : ℕ) (o : Outcome) (pending started : List ℕ) → (was p ≡ true → owes (name p) ≡ Some o)
+    → IsAnswering before f ledger owes name was w (p ∷ pending) started → IsAnswering before f ledger owes name was (answered w p o) pending started
+answered_holds before f ledger owes name was w p o pending started due h =
+    chosen (λ (x : Work). IsAnswering before f ledger owes name was x pending started) (is_open_at w.conn.requests p) _ w
+    (λ t. one_answered before f ledger owes name was w p o pending started due t h)
+    (λ e. one_skipped before f ledger owes name was w p pending started e h)
 
--- a message that was settled is due what it came to
-abbrev pub IsDue : (ℕ → Option Outcome) → (ℕ → ℕ) → Settled → Type 0
-IsDue owes name s = owes (name s.id) ≡ Some (outcome_of s.verdict)
+-- a message that was settled is due what it came to, where it was open
+abbrev pub IsDue : (ℕ → Option Outcome) → (ℕ → ℕ) → (ℕ → Bool) → Settled → Type 0
+IsDue owes name was s = was s.id ≡ true → owes (name s.id) ≡ Some (outcome_of s.verdict)
 
--- a request that waits is due this error
-abbrev pub IsDueError : (ℕ → Option Outcome) → (ℕ → ℕ) → RedisError → Waiting → Type 0
-IsDueError owes name e q = owes (name q.number) ≡ Some (outcome.Fault e)
+-- a request that waits is due this error, where it was open
+abbrev pub IsDueError : (ℕ → Option Outcome) → (ℕ → ℕ) → (ℕ → Bool) → RedisError → Waiting → Type 0
+IsDueError owes name was e q = was q.number ≡ true → owes (name q.number) ≡ Some (outcome.Fault e)
 
 -- each that was settled is answered
-pub settled_holds : (before : List Action) (f : Core) (ledger : Ledger) (owes : ℕ → Option Outcome) (name : ℕ → ℕ) (w : Work) (ss : List Settled) (pending started : List ℕ) → AllByRecursion (IsDue owes name) ss
-    → IsAnswering before f ledger owes name w (settled_ids ss ++ pending) started → IsAnswering before f ledger owes name (settled_each w ss) pending started
-settled_holds before f ledger owes name w [] pending started due h = h
-settled_holds before f ledger owes name w (s ∷ ss) pending started due h =
-    settled_holds before f ledger owes name (answered w s.id (outcome_of s.verdict)) ss pending started due.1 (answered_holds before f ledger owes name w s.id (outcome_of s.verdict) (settled_ids ss ++ pending) started due.0 h)
+pub settled_holds : (before : List Action) (f : Core) (ledger : Ledger) (owes : ℕ → Option Outcome) (name : ℕ → ℕ) (was : ℕ → Bool) (w : Work) (ss : List Settled) (pending started : List ℕ) → AllByRecursion (IsDue owes name was) ss
+    → IsAnswering before f ledger owes name was w (settled_ids ss ++ pending) started → IsAnswering before f ledger owes name was (settled_each w ss) pending started
+settled_holds before f ledger owes name was w [] pending started due h = h
+settled_holds before f ledger owes name was w (s ∷ ss) pending started due h =
+    settled_holds before f ledger owes name was (answered w s.id (outcome_of s.verdict)) ss pending started due.1 (answered_holds before f ledger owes name was w s.id (outcome_of s.verdict) (settled_ids ss ++ pending) started due.0 h)
 
 -- each of these requests is answered with this error
-pub failed_holds : (before : List Action) (f : Core) (ledger : Ledger) (owes : ℕ → Option Outcome) (name : ℕ → ℕ) (w : Work) (e : RedisError) (qs : List Waiting) (pending started : List ℕ) → AllByRecursion (IsDueError owes name e) qs
-    → IsAnswering before f ledger owes name w (waiting_ids qs ++ pending) started → IsAnswering before f ledger owes name (failed_each w e qs) pending started
-failed_holds before f ledger owes name w e [] pending started due h = h
-failed_holds before f ledger owes name w e (q ∷ qs) pending started due h =
-    failed_holds before f ledger owes name (answered w q.number (outcome.Fault e)) e qs pending started due.1
-    (answered_holds before f ledger owes name w q.number (outcome.Fault e) (waiting_ids qs ++ pending) started due.0 h)
+pub failed_holds : (before : List Action) (f : Core) (ledger : Ledger) (owes : ℕ → Option Outcome) (name : ℕ → ℕ) (was : ℕ → Bool) (w : Work) (e : RedisError) (qs : List Waiting) (pending started : List ℕ) → AllByRecursion (IsDueError owes name was e) qs
+    → IsAnswering before f ledger owes name was w (waiting_ids qs ++ pending) started → IsAnswering before f ledger owes name was (failed_each w e qs) pending started
+failed_holds before f ledger owes name was w e [] pending started due h = h
+failed_holds before f ledger owes name was w e (q ∷ qs) pending started due h =
+    failed_holds before f ledger owes name was (answered w q.number (outcome.Fault e)) e qs pending started due.1
+    (answered_holds before f ledger owes name was w q.number (outcome.Fault e) (waiting_ids qs ++ pending) started due.0 h)
 
 -- what answers leave as it was
 pub record Leaves (w v : Work) : Type 0 where

@@ -12,39 +12,35 @@ use Rattle.link_laws.proofs.Started.{row_open}
 use Rattle.link_laws.specs.Settles.{StandsAs, awaited_ids, wanted}
 use Rattle.mux_conn.specs.Connection.{Work, awaits_connect, first_queued, is_ready}
 use Rattle.mux_conn.specs.Passes.{passed}
-use Rattle.mux_conn.specs.Requests.{is_admitted_at, is_open_at, is_placed_at, is_waiting_at, name_at}
+use Rattle.mux_conn.specs.Requests.{is_admitted_at, is_open_at, is_placed_at, is_waiting, is_waiting_at, name_at}
 use Rattle.mux_conn.specs.Turn.{flushed, fresh_each_shown, fresh_wait, is_from, moved_each_shown, moved_wait, wait_shown, waits_shown}
 use Rattle.mux_conn.specs.declared.act.LinkAct.TheVariants as act
 use Rattle.mux_conn.specs.declared.connection.MultiplexedConnection.{MultiplexedConnection}
-use Rattle.mux_conn.specs.declared.request.Request.{Request}
 use Rattle.redis_error.specs.declared.redis_error.RedisError.{RedisError}
 use Rattle.mux_conn.specs.declared.life.Life.{Life}
 use Rattle.mux_conn.specs.declared.life.Life.TheVariants.{Dialing, Ended, Ready}
-use Rattle.shared_session.specs.Turn.{Turning, moved_on, with_work, work_of}
+use Rattle.shared_session.specs.Turn.{Turning, moved_on, timed, with_work, work_of}
 use Rattle.shared_session.specs.declared.core_state.Core.{Core}
 use Rattle.legal_trace.specs.Book.{Book, book}
 use Rattle.legal_trace.specs.Legal.{IsMoved, IsSettled, IsStarted, IsWaiting, IsWritten, NoneEnds, WaitHolds}
-use Rattle.legal_trace.specs.Story.{Story, last_of}
-use Rattle.session_laws.proofs.Ahead.{dialing_step, placed_open}
-use Rattle.session_laws.proofs.Entered.{shown_more, sound_more}
+use Rattle.legal_trace.specs.Story.{last_of}
+use Rattle.session_laws.proofs.Ahead.{dialing_step, placed_open, waiting_open, admitted_open}
 use Rattle.session_laws.proofs.Going.{is_moved}
 use Rattle.session_laws.proofs.InLine.{awaited_in, first_is_least, kept_ids, wanted_in}
 use Rattle.session_laws.proofs.Moved.{IsReady, passed_moved}
-use Rattle.session_laws.proofs.Names.{open_within}
-use Rattle.session_laws.proofs.Numbers.{IsIn, Rising, rising_in, rising_left, rising_right}
+use Rattle.session_laws.proofs.Names.{open_within, there_within}
+use Rattle.session_laws.proofs.Numbers.{IsIn, Rising, in_left, in_right, rising_in, rising_left, rising_right}
 use Rattle.session_laws.proofs.Owes.{IsOpenRequest, lives, none_open, open_request, request_story, stands_started, wanted_entry}
-use Rattle.session_laws.proofs.Place.{waiting_open}
-use Rattle.session_laws.proofs.Settle.{book_of_more, seen, trace_of_acts}
-use Rattle.session_laws.proofs.Start.{admitted_open}
+use Rattle.session_laws.proofs.Settle.{book_of_more, seen, sound_act, trace_of_acts}
 use Rattle.session_laws.proofs.States.{Between, HasApplied, IsFitIn, IsStill, trace_with}
-use Rattle.session_laws.proofs.Tied.{Inner, Sound, Tied, TiedLife, TiedWaits, has_ended, link_in, owner_of, queue_ids, relined, shown_wait}
-use Rattle.session_laws.proofs.Waits.{IsPlacedOrKept, IsQuiet, WaitsSo, admitted_there, admitted_unplaced, awaited_placed, dialing_admits, fresh_waits, located, moved_waits, passed_waits, place_holds, placed_there, room_holds, same_one, stale_waits, wait_action, wait_may, wait_tied, waiting_apart, waiting_is, waits_at, with_unshown}
+use Rattle.session_laws.proofs.Tied.{Inner, Sound, Tied, TiedLife, TiedWaits, has_ended, link_in, owner_of, queue_ids, relined, shown_wait, waiting_ids}
+use Rattle.session_laws.proofs.Waits.{IsEarly, IsPlacedOrKept, IsQuiet, WaitsSo, admitted_there, admitted_unplaced, awaited_placed, behind_places, dialing_admits, fresh_waits, located, moved_waits, passed_waits, permit_holds, place_holds, placed_there, room_holds, stale_waits, wait_may, wait_tied, waiting_apart, waiting_is, waiting_there, waits_at, with_unshown}
 use Rattle.session_laws.proofs.Write.{HasWritten, IsOfferedIn, is_written, written_holds}
 
 -- the bytes of a turn are offered, and its waits are shown but for these: of those that were moved, and of those that came
 -- in it
 pub record IsShowing (before : List Action) (f : Core) (w : Work) (moved fresh started : List ℕ) : Type 0 where
-  pub sound : Sound (trace_of_acts before f w.acts) (with_unshown (seen f w.conn [] started) moved fresh)
+  pub sound : Sound (trace_of_acts before f w.acts) (with_unshown (seen f w.acts w.conn [] started) moved fresh)
   pub ended : NoneEnds (book (trace_of_acts before f w.acts))
   pub fit : IsFitIn w.conn
   pub still : IsStill w.conn
@@ -52,18 +48,18 @@ pub record IsShowing (before : List Action) (f : Core) (w : Work) (moved fresh s
 
 -- the session then
 abbrev unshown : Core → Work → List ℕ → List ℕ → List ℕ → Inner
-unshown f w moved fresh started = with_unshown (seen f w.conn [] started) moved fresh
+unshown f w moved fresh started = with_unshown (seen f w.acts w.conn [] started) moved fresh
 
 -- nothing moves in it
 showing_quiet : (before : List Action) (f : Core) (w : Work) (moved fresh started : List ℕ) → IsShowing before f w moved fresh started → IsQuiet (unshown f w moved fresh started)
-showing_quiet before f w moved fresh started h = record { settled = refl; fit = h.fit.link; none = h.fit.none; held = h.still.held; full = h.still.full; waiting = h.still.waiting }
+showing_quiet before f w moved fresh started h = record { settled = refl; alone = refl; fit = h.fit.link; none = h.fit.none; held = h.still.held; full = h.still.full; waiting = h.still.waiting; gone = h.still.none_waits }
 
 -- and its book has all its writes
 showing_written : (before : List Action) (f : Core) (w : Work) (moved fresh started : List ℕ) → IsShowing before f w moved fresh started → IsWritten (book (trace_of_acts before f w.acts))
 showing_written before f w moved fresh started h =
     let b = book (trace_of_acts before f w.acts) in
     let t = unshown f w moved fresh started in
-    let all : IsMoved b = is_moved b t h.sound.tied refl h.ended h.fit.link h.fit.none h.still.held h.still.full h.still.waiting in
+    let all : IsMoved b = is_moved b t h.sound.tied refl refl h.ended h.fit.link h.fit.none h.still.held h.still.full h.still.waiting h.still.none_waits in
     is_written b t h.sound.tied all h.offered
 
 -- other waits are still to be shown
@@ -72,7 +68,7 @@ retied before f w moved fresh started later newer h waits =
     let b = book (trace_of_acts before f w.acts) in
     let t = unshown f w moved fresh started in
     record {
-      sound = record { stands = h.sound.stands; tied = relined b t t.waiting t.admitted newer later [] h.sound.tied h.sound.tied.lines waits };
+      sound = record { stands = h.sound.stands; tied = relined b t t.waiting t.admitted newer later [] h.sound.tied h.sound.tied.lines waits h.sound.tied.late };
       ended = h.ended;
       fit = h.fit;
       still = h.still;
@@ -82,7 +78,7 @@ retied before f w moved fresh started later newer h waits =
 -- one wait is shown
 one_shown : (before : List Action) (f : Core) (w : Work) (p : ℕ) (kind : WaitKind) (moved fresh started later newer : List ℕ) (h : IsShowing before f w moved fresh started) → has_ended w.conn.life ≡ false → is_open_at w.conn.requests p ≡ true
     → (let t = unshown f w moved fresh started in let b = book (trace_of_acts before f w.acts) in
-    IsPlacedOrKept t p × ((b.story (name_at w.conn.requests p)).waiting ≢ Some kind) × WaitHolds b (name_at w.conn.requests p) kind × ((m : ℕ) → m < p → IsIn m moved → ⊥) × ((m : ℕ) → m < p → fresh ≡ m ∷ [] → ⊥))
+    IsPlacedOrKept t p × ((b.story (name_at w.conn.requests p)).waiting ≢ Some kind) × WaitHolds b (name_at w.conn.requests p) kind × ((m : ℕ) → m < p → IsIn m moved → ⊥) × ((m : ℕ) → m < p → is_waiting_at w.conn.requests m ≡ true → IsIn m fresh → ⊥))
     → TiedWaits (waits_at (name_at w.conn.requests p) kind (book (trace_of_acts before f w.acts)).story) w.conn.requests w.conn.life newer later
     → IsShowing before f (wait_shown w p (Some kind)) later newer started
 one_shown before f w p kind moved fresh started later newer h up o may waits =
@@ -91,11 +87,10 @@ one_shown before f w p kind moved fresh started later newer h up o may waits =
     let t = unshown f w moved fresh started in
     let n = name_at w.conn.requests p in
     let a = act.Wait n kind in
-    let now = unshown f w later newer started in
     let stands = wait_may b t p kind h.sound.tied (showing_quiet before f w moved fresh started h) up (showing_written before f w moved fresh started h) o may.0 may.1 may.2 may.3 may.4 in
     let tied = wait_tied b t p kind later newer (open_within w.conn.requests p o) h.sound.tied waits in
     record {
-      sound = subst (λ (x : List Action). Sound x now) (sym (shown_more before f.single.link w.acts a)) (sound_more trace (wait_action n kind) now h.sound.stands (refl, stands) tied);
+      sound = sound_act before f w.acts a (record w.conn { moved = later; fresh = newer }) [] started h.sound.stands (refl, stands) tied;
       ended = subst NoneEnds (sym (book_of_more before f w.acts a)) h.ended;
       fit = h.fit;
       still = h.still;
@@ -108,10 +103,6 @@ one_shown before f w p kind moved fresh started later newer h up o may waits =
 behind_first : (p : ℕ) (ps : List ℕ) (hi m : ℕ) → Rising 0 (p ∷ ps) hi → m < p → IsIn m (p ∷ ps) → ⊥
 behind_first p ps hi m h l (inl e) = omega (arith, e)
 behind_first p ps hi m h l (inr i) = let k = rising_in (suc p) ps hi m h.1 i in omega (arith, k.0)
-
--- none came in this turn whose wait is still to be shown
-no_fresh : (m : ℕ) → [] ≡ m ∷ [] → ⊥
-no_fresh m e = cc
 
 -- who waits for a place waits so
 admitted_so : (b : Book) (t : Inner) (p : ℕ) → Tied b t → is_admitted_at t.requests p ≡ true → WaitsSo t p wait.Place
@@ -142,46 +133,58 @@ queue_rises b t h =
     rising_left 0 queue kept (length t.requests) (rising_right 0 t.started (queue ++ kept) (length t.requests) h.lines.line)
 
 -- who waits for a place shows that
-place_shown : (before : List Action) (f : Core) (w : Work) (p : ℕ) (ps started : List ℕ) (link : LinkState) → w.conn.life ≡ Ready link → is_admitted_at w.conn.requests p ≡ true → IsShowing before f w (p ∷ ps) [] started → IsShowing before f (wait_shown w p (Some wait.Place)) ps [] started
-place_shown before f w p ps started link e a h =
+place_shown : (before : List Action) (f : Core) (w : Work) (p : ℕ) (ps fresh started : List ℕ) (link : LinkState) → w.conn.life ≡ Ready link → is_admitted_at w.conn.requests p ≡ true → IsShowing before f w (p ∷ ps) fresh started → IsShowing before f (wait_shown w p (Some wait.Place)) ps fresh started
+place_shown before f w p ps fresh started link e a h =
     let b = book (trace_of_acts before f w.acts) in
-    let t = unshown f w (p ∷ ps) [] started in
-    let q = showing_quiet before f w (p ∷ ps) [] started h in
+    let t = unshown f w (p ∷ ps) fresh started in
+    let q = showing_quiet before f w (p ∷ ps) fresh started h in
     let o = (admitted_open w.conn.requests p a).0 in
     let i = admitted_there b t p h.sound.tied refl a in
-    one_shown before f w p wait.Place (p ∷ ps) [] started ps [] h (ap has_ended e) o
-    (inr (inl (a, i)), h.sound.tied.waits.no_place p (inl refl) a, place_holds b t p link h.sound.tied q e o i, (λ m l j. behind_first p ps (length w.conn.requests) m h.sound.tied.waits.rising l j), (λ m l x. no_fresh m x))
-    (moved_waits b t p wait.Place ps h.sound.tied refl refl (λ d. (let no : Ready link ≡ Dialing = sym e ∙ d in cc)) (open_within w.conn.requests p o) (admitted_so b t p h.sound.tied a))
+    let queue = queue_ids (link_in w.conn.life).queue in
+    one_shown before f w p wait.Place (p ∷ ps) fresh started ps fresh h (ap has_ended e) o (
+      inr (inl (a, i)),
+      h.sound.tied.waits.no_place p (inl refl) a,
+      place_holds b t p link h.sound.tied q e a i,
+      (λ m l j. behind_first p ps (length w.conn.requests) m h.sound.tied.waits.rising l j),
+      (λ m l v x. behind_places b t p m h.sound.tied refl (ap has_ended e) (in_right p queue (waiting_ids w.conn.admitted) i) v l),
+    )
+    (moved_waits b t p wait.Place ps h.sound.tied refl (open_within w.conn.requests p o) (admitted_so b t p h.sound.tied a))
 
 -- who is in the queue shows that it waits for room
-room_shown : (before : List Action) (f : Core) (w : Work) (p : ℕ) (ps started : List ℕ) (link : LinkState) → w.conn.life ≡ Ready link → is_placed_at w.conn.requests p ≡ true → IsIn p (awaited_ids (link_in w.conn.life).queue) → IsShowing before f w (p ∷ ps) [] started
-    → IsShowing before f (wait_shown w p (Some wait.Room)) ps [] started
-room_shown before f w p ps started link e placed i h =
+room_shown : (before : List Action) (f : Core) (w : Work) (p : ℕ) (ps fresh started : List ℕ) (link : LinkState) → w.conn.life ≡ Ready link → is_placed_at w.conn.requests p ≡ true → IsIn p (awaited_ids (link_in w.conn.life).queue)
+    → IsShowing before f w (p ∷ ps) fresh started → IsShowing before f (wait_shown w p (Some wait.Room)) ps fresh started
+room_shown before f w p ps fresh started link e placed i h =
     let b = book (trace_of_acts before f w.acts) in
-    let t = unshown f w (p ∷ ps) [] started in
-    let q = showing_quiet before f w (p ∷ ps) [] started h in
+    let t = unshown f w (p ∷ ps) fresh started in
+    let q = showing_quiet before f w (p ∷ ps) fresh started h in
     let o = placed_open w.conn.requests p placed in
-    one_shown before f w p wait.Room (p ∷ ps) [] started ps [] h (ap has_ended e) o
-    (inl i, h.sound.tied.waits.no_room p (inl refl) i, room_holds b t p link h.sound.tied q e (awaited_in p (link_in w.conn.life).queue i), (λ m l j. behind_first p ps (length w.conn.requests) m h.sound.tied.waits.rising l j), (λ m l x. no_fresh m x))
-    (moved_waits b t p wait.Room ps h.sound.tied refl refl (λ d. (let no : Ready link ≡ Dialing = sym e ∙ d in cc)) (open_within w.conn.requests p o) (placed_so t p placed))
+    let queue = (link_in w.conn.life).queue in
+    one_shown before f w p wait.Room (p ∷ ps) fresh started ps fresh h (ap has_ended e) o (
+      inl i,
+      h.sound.tied.waits.no_room p (inl refl) i,
+      room_holds b t p link h.sound.tied q e (awaited_in p queue i),
+      (λ m l j. behind_first p ps (length w.conn.requests) m h.sound.tied.waits.rising l j),
+      (λ m l v x. behind_places b t p m h.sound.tied refl (ap has_ended e) (in_left p (queue_ids queue) (waiting_ids w.conn.admitted) (awaited_in p queue i)) v l),
+    )
+    (moved_waits b t p wait.Room ps h.sound.tied refl (open_within w.conn.requests p o) (placed_so t p placed))
 
 -- on a link that is up, one of those that were moved shows its wait, if it has one
-moved_shown_up : (before : List Action) (f : Core) (w : Work) (p : ℕ) (ps started : List ℕ) (link : LinkState) → w.conn.life ≡ Ready link → IsShowing before f w (p ∷ ps) [] started → IsShowing before f (wait_shown w p (moved_wait w.conn p)) ps [] started
-moved_shown_up before f w p ps started link e h =
+moved_shown_up : (before : List Action) (f : Core) (w : Work) (p : ℕ) (ps fresh started : List ℕ) (link : LinkState) → w.conn.life ≡ Ready link → IsShowing before f w (p ∷ ps) fresh started → IsShowing before f (wait_shown w p (moved_wait w.conn p)) ps fresh started
+moved_shown_up before f w p ps fresh started link e h =
     let b = book (trace_of_acts before f w.acts) in
-    let t = unshown f w (p ∷ ps) [] started in
+    let t = unshown f w (p ∷ ps) fresh started in
     let placed = is_placed_at w.conn.requests p in
     let from = is_from (first_queued w.conn.life) p in
     let first_is : from ≡ is_from (first_in (link_in w.conn.life).queue) p = (λ i. is_from (first_queued (e i)) p) ∙ sym (λ i. is_from (first_in (link_in (e i)).queue) p) in
-    let so = λ (x : Option WaitKind). IsShowing before f (wait_shown w p x) ps [] started in
+    let so = λ (x : Option WaitKind). IsShowing before f (wait_shown w p x) ps fresh started in
     chosen so (is_admitted_at w.conn.requests p) (Some wait.Place) (if placed && from then Some wait.Room else None)
-    (λ a. place_shown before f w p ps started link e a h)
+    (λ a. place_shown before f w p ps fresh started link e a h)
     (λ no_place. chosen so (placed && from) (Some wait.Room) None
     (λ r.
     let has = both_left placed from r in
     let i = placed_there b t p h.sound.tied refl (ap has_ended e) (placed_open w.conn.requests p has) has (sym first_is ∙ both_right placed from r) in
-    room_shown before f w p ps started link e has i h)
-    (λ n. retied before f w (p ∷ ps) [] started ps [] h (passed_waits b t p ps h.sound.tied refl no_place (λ i.
+    room_shown before f w p ps fresh started link e has i h)
+    (λ n. retied before f w (p ∷ ps) fresh started ps fresh h (passed_waits b t p ps h.sound.tied refl no_place (λ i.
     let queue = (link_in w.conn.life).queue in
     let has = awaited_placed b.story w.conn.requests queue p h.sound.tied.lines.queued i in
     let behind = first_is ∙ from_first queue 0 (length w.conn.requests) p (queue_rises b t h.sound.tied) (awaited_in p queue i) in
@@ -198,11 +201,11 @@ moved_conn w [] = refl
 moved_conn w (p ∷ ps) = moved_conn (wait_shown w p (moved_wait w.conn p)) ps ∙ wait_conn w p (moved_wait w.conn p)
 
 -- all of them do
-moved_each_up : (before : List Action) (f : Core) (w : Work) (ps started : List ℕ) (link : LinkState) → w.conn.life ≡ Ready link → IsShowing before f w ps [] started → IsShowing before f (moved_each_shown w ps) [] [] started
-moved_each_up before f w [] started link e h = h
-moved_each_up before f w (p ∷ ps) started link e h =
+moved_each_up : (before : List Action) (f : Core) (w : Work) (ps fresh started : List ℕ) (link : LinkState) → w.conn.life ≡ Ready link → IsShowing before f w ps fresh started → IsShowing before f (moved_each_shown w ps) [] fresh started
+moved_each_up before f w [] fresh started link e h = h
+moved_each_up before f w (p ∷ ps) fresh started link e h =
     let kind = moved_wait w.conn p in
-    moved_each_up before f (wait_shown w p kind) ps started link (ap (λ (c : MultiplexedConnection). c.life) (wait_conn w p kind) ∙ e) (moved_shown_up before f w p ps started link e h)
+    moved_each_up before f (wait_shown w p kind) ps fresh started link (ap (λ (c : MultiplexedConnection). c.life) (wait_conn w p kind) ∙ e) (moved_shown_up before f w p ps fresh started link e h)
 
 -- on a link that isn't up there is none in the queue
 none_from : (life : Life) (p : ℕ) (placed : Bool) → is_ready life ≡ false → (placed && is_from (first_queued life) p) ≡ false
@@ -223,12 +226,15 @@ unmoved w (p ∷ ps) down none =
 -- and none waits for a place or is in the queue
 down_waits : (b : Book) (t : Inner) → Tied b t → is_ready t.life ≡ false → ((p : ℕ) → is_admitted_at t.requests p ≡ false) → TiedWaits b.story t.requests t.life t.fresh []
 down_waits b t h down none = record {
-  new = h.waits.new;
   early = h.waits.early;
   connect = h.waits.connect;
+  permit = h.waits.permit;
   place = λ p a. absurd (not_both (is_admitted_at t.requests p) (none p) a);
   room = λ p r. absurd (no_queue t.life p down r);
+  newer = h.waits.newer;
   rising = omega arith;
+  no_connect = h.waits.no_connect;
+  no_permit = h.waits.no_permit;
   no_place = λ p i. absurd i;
   no_room = λ p i. absurd i;
 }
@@ -238,76 +244,80 @@ down_waits b t h down none = record {
     no_queue (Ready link) p f i = cc
     no_queue (Ended e) p f i = i
 
--- on a link that has ended nobody waits for a place
+-- on a link that has ended none is open
+ended_none : (b : Book) (t : Inner) (p : ℕ) (x : RedisError) → Tied b t → IsQuiet t → t.life ≡ Ended x → is_open_at t.requests p ≡ true → ⊥
+ended_none b t p x h q e o =
+    let empty : kept_ids t.admitted t.waiting ≡ [] = (λ i. kept_ids (q.none (λ link r. (let no : Ended x ≡ Ready link = sym e ∙ r in cc)) i) (q.gone (ap has_ended e) i)) in
+    none_open b t x (name_at t.requests p) h q.settled e empty ((request_story b t p h (open_within t.requests p o)).open_is ∙ o)
+
+-- so nobody waits for a place
 ended_admits : (b : Book) (t : Inner) (p : ℕ) (x : RedisError) → Tied b t → IsQuiet t → t.life ≡ Ended x → is_admitted_at t.requests p ≡ false
-ended_admits b t p x h q e = by_test (is_admitted_at t.requests p) _
-    (λ a.
-    let o = (admitted_open t.requests p a).0 in
-    let empty : kept_ids t.admitted t.waiting ≡ [] = (λ i. kept_ids (q.none (λ link r. (let no : Ended x ≡ Ready link = sym e ∙ r in cc)) i) (q.waiting (λ d. (let no : Ended x ≡ Dialing = sym e ∙ d in cc)) i)) in
-    absurd (none_open b t x (name_at t.requests p) h q.settled e empty ((request_story b t p h (open_within t.requests p o)).open_is ∙ o)))
-    (λ f. f)
+ended_admits b t p x h q e = by_test (is_admitted_at t.requests p) _ (λ a. absurd (ended_none b t p x h q e (admitted_open t.requests p a).0)) (λ f. f)
 
--- those that came in this turn
+-- those that came in this turn, or whose connect was answered in it
 --
--- where the connect is answered nothing is to be shown of them
-late_waits : (story : ℕ → Story) (requests : List Request) (life : Life) (fresh moved : List ℕ) → life ≢ Dialing → TiedWaits story requests life fresh moved → TiedWaits story requests life [] moved
-late_waits story requests life fresh moved up h = record {
-  new = tt;
-  early = h.early;
-  connect = λ p w d. absurd (up d);
-  place = h.place;
-  room = h.room;
-  rising = h.rising;
-  no_place = h.no_place;
-  no_room = h.no_room;
+-- which wait they show
+early_kind : (t : Inner) → has_ended t.life ≡ false → IsEarly t (if awaits_connect t.life then wait.Connect else wait.Permit)
+early_kind t up = record {
+  either = by_life t.life up;
+  connect = λ e. ap (λ (x : Life). if awaits_connect x then wait.Connect else wait.Permit) e;
+  permit = λ link e. ap (λ (x : Life). if awaits_connect x then wait.Connect else wait.Permit) e;
 }
-
--- and nothing is
-unfresh : (w : Work) (ps : List ℕ) → awaits_connect w.conn.life ≡ false → fresh_each_shown w ps ≡ w
-unfresh w [] up = refl
-unfresh w (p ∷ ps) up =
-    let waits = is_waiting_at w.conn.requests p && awaits_connect w.conn.life in
-    let kind_is : fresh_wait w.conn p ≡ None = left_if waits (Some wait.Connect) None (ap (λ x. is_waiting_at w.conn.requests p && x) up ∙ none_of (is_waiting_at w.conn.requests p)) in
-    ap (λ x. fresh_each_shown (wait_shown w p x) ps) kind_is ∙ unfresh w ps up
   where
-    none_of : (a : Bool) → (a && false) ≡ false
-    none_of true = refl
-    none_of false = refl
+    by_life : (x : Life) → has_ended x ≡ false → ((if awaits_connect x then wait.Connect else wait.Permit) ≡ wait.Connect) ⊎ ((if awaits_connect x then wait.Connect else wait.Permit) ≡ wait.Permit)
+    by_life Dialing f = inl refl
+    by_life (Ready link) f = inr refl
+    by_life (Ended x) f = cc
 
--- what the test of a life means
-dialing_is : (life : Life) → awaits_connect life ≡ true → life ≡ Dialing
-dialing_is Dialing e = refl
-dialing_is (Ready link) e = cc
-dialing_is (Ended x) e = cc
+-- its wait is true, and was not shown
+record EarlyHolds (b : Book) (t : Inner) (p : ℕ) (kind : WaitKind) : Type 0 where
+  pub new : shown_wait b.story t.requests p ≢ Some kind
+  pub holds : WaitHolds b (name_at t.requests p) kind
 
--- nothing is not a wait
-unshown_yet : (x : Option WaitKind) (kind : WaitKind) → x ≡ None → x ≢ Some kind
-unshown_yet x kind none e = let no : ◌≡◌ {A = Option WaitKind} None (Some kind) = sym none ∙ e in cc
+-- of the first of them
+early_holds : (b : Book) (t : Inner) (p : ℕ) (ps : List ℕ) → Tied b t → IsQuiet t → t.fresh ≡ p ∷ ps → has_ended t.life ≡ false → is_waiting_at t.requests p ≡ true → EarlyHolds b t p (if awaits_connect t.life then wait.Connect else wait.Permit)
+early_holds b t p ps h q is up w = by_life t.life refl
+  where
+    first : IsIn p t.fresh
+    first = subst (IsIn p) (sym is) (inl refl)
 
--- while the connect isn't answered, who came in this turn shows that it waits for it, if it does
-fresh_shown_one : (before : List Action) (f : Core) (w : Work) (p : ℕ) (started : List ℕ) → w.conn.life ≡ Dialing → IsShowing before f w [] (p ∷ []) started → IsShowing before f (wait_shown w p (fresh_wait w.conn p)) [] [] started
-fresh_shown_one before f w p started e h =
+    by_life : (x : Life) → t.life ≡ x → EarlyHolds b t p (if awaits_connect t.life then wait.Connect else wait.Permit)
+    by_life Dialing e = subst (λ (x : Life). EarlyHolds b t p (if awaits_connect x then wait.Connect else wait.Permit)) (sym e)
+        (record { new = h.waits.no_connect p first w e; holds = dialing_step b t p h e (there_within is_waiting t.requests p w) })
+    by_life (Ready link) e = subst (λ (x : Life). EarlyHolds b t p (if awaits_connect x then wait.Connect else wait.Permit)) (sym e)
+        (record { new = h.waits.no_permit p link first w e; holds = permit_holds b t p link h q e w (waiting_there b t p h q.settled w) })
+    by_life (Ended x) e = absurd (ended_none b t p x h q e (waiting_open t.requests p w))
+
+-- where one waits the link has not ended
+waiting_alive : (b : Book) (t : Inner) (p : ℕ) → Tied b t → IsQuiet t → is_waiting_at t.requests p ≡ true → has_ended t.life ≡ false
+waiting_alive b t p h q w = by_life t.life refl
+  where
+    by_life : (x : Life) → t.life ≡ x → has_ended t.life ≡ false
+    by_life Dialing e = ap has_ended e
+    by_life (Ready link) e = ap has_ended e
+    by_life (Ended x) e = absurd (ended_none b t p x h q e (waiting_open t.requests p w))
+
+-- one of them shows its wait, if it has one
+fresh_shown_one : (before : List Action) (f : Core) (w : Work) (p : ℕ) (ps started : List ℕ) → IsShowing before f w [] (p ∷ ps) started → IsShowing before f (wait_shown w p (fresh_wait w.conn p)) [] ps started
+fresh_shown_one before f w p ps started h =
     let b = book (trace_of_acts before f w.acts) in
-    let t = unshown f w [] (p ∷ []) started in
-    let q = showing_quiet before f w [] (p ∷ []) started h in
-    let waits = is_waiting_at w.conn.requests p in
-    let dials = awaits_connect w.conn.life in
-    chosen (λ (x : Option WaitKind). IsShowing before f (wait_shown w p x) [] [] started) (waits && dials) (Some wait.Connect) None
-    (λ both.
-    let w_is = both_left waits dials both in
-    let o = waiting_open w.conn.requests p w_is in
-    let within = open_within w.conn.requests p o in
-    let at : IsPlacedOrKept t p = elim (located b t p h.sound.tied refl o) [ inl i ↦ absurd (subst (λ (x : Life). IsIn p (wanted (link_in x).row)) e i) | inr k ↦ k ] in
-    one_shown before f w p wait.Connect [] (p ∷ []) started [] [] h (ap has_ended e) o
-    (at, unshown_yet (shown_wait b.story w.conn.requests p) wait.Connect h.sound.tied.waits.new, dialing_step b t p h.sound.tied e within, (λ m l i. i), (λ m l x. (let same = same_one p m x in omega arith)))
-    (fresh_waits b t p h.sound.tied q refl e w_is))
-    (λ n. retied before f w [] (p ∷ []) started [] [] h (stale_waits b t p h.sound.tied refl (λ w_is d. not_both (waits && dials) n (λ i. w_is i && awaits_connect (d i)))))
+    let t = unshown f w [] (p ∷ ps) started in
+    let q = showing_quiet before f w [] (p ∷ ps) started h in
+    let kind = if awaits_connect w.conn.life then wait.Connect else wait.Permit in
+    chosen (λ (x : Option WaitKind). IsShowing before f (wait_shown w p x) [] ps started) (is_waiting_at w.conn.requests p) (Some kind) None
+    (λ v.
+    let o = waiting_open w.conn.requests p v in
+    let up = waiting_alive b t p h.sound.tied q v in
+    let may = early_holds b t p ps h.sound.tied q refl up v in
+    one_shown before f w p kind [] (p ∷ ps) started [] ps h up o
+    (inr (inr (v, waiting_there b t p h.sound.tied refl v)), may.new, may.holds, (λ m l i. i), (λ m l u i. behind_first p ps (length w.conn.requests) m h.sound.tied.waits.newer l i))
+    (fresh_waits b t p kind ps h.sound.tied refl v (early_kind t up)))
+    (λ n. retied before f w [] (p ∷ ps) started [] ps h (stale_waits b t p ps h.sound.tied refl n))
 
--- and so all do, which are one at most
-fresh_each_dialing : (before : List Action) (f : Core) (w : Work) (fresh started : List ℕ) → w.conn.life ≡ Dialing → IsShowing before f w [] fresh started → IsShowing before f (fresh_each_shown w fresh) [] [] started
-fresh_each_dialing before f w [] started e h = h
-fresh_each_dialing before f w (p ∷ []) started e h = fresh_shown_one before f w p started e h
-fresh_each_dialing before f w (p ∷ q ∷ ps) started e h = absurd h.sound.tied.waits.new
+-- and so do all
+fresh_each : (before : List Action) (f : Core) (w : Work) (fresh started : List ℕ) → IsShowing before f w [] fresh started → IsShowing before f (fresh_each_shown w fresh) [] [] started
+fresh_each before f w [] started h = h
+fresh_each before f w (p ∷ ps) started h = fresh_each before f (wait_shown w p (fresh_wait w.conn p)) ps started (fresh_shown_one before f w p ps started h)
 
 -- and so do all of them leave the connection
 fresh_conn : (w : Work) (ps : List ℕ) → (fresh_each_shown w ps).conn ≡ w.conn
@@ -337,7 +347,7 @@ showing_unmoved before f w moved fresh started h = record {
   sound = h.sound;
   ended = h.ended;
   fit = record { link = h.fit.link; none = h.fit.none };
-  still = record { held = h.still.held; full = h.still.full; waiting = h.still.waiting };
+  still = record { held = h.still.held; full = h.still.full; waiting = h.still.waiting; none_waits = h.still.none_waits };
   offered = h.offered;
 }
 
@@ -347,7 +357,7 @@ showing_unfresh before f w moved fresh started h = record {
   sound = h.sound;
   ended = h.ended;
   fit = record { link = h.fit.link; none = h.fit.none };
-  still = record { held = h.still.held; full = h.still.full; waiting = h.still.waiting };
+  still = record { held = h.still.held; full = h.still.full; waiting = h.still.waiting; none_waits = h.still.none_waits };
   offered = h.offered;
 }
 
@@ -355,10 +365,14 @@ showing_unfresh before f w moved fresh started h = record {
 showing : (before : List Action) (f : Core) (w : Work) (h : HasWritten before f w) → IsShowing before f (none_moved w) w.conn.moved w.conn.fresh h.moved.started
 showing before f w h = showing_unmoved before f w w.conn.moved w.conn.fresh h.moved.started (record { sound = h.moved.holds; ended = h.moved.ended; fit = h.moved.fit; still = h.moved.still; offered = h.offered })
 
--- where the connect is answered, those that were moved are shown, and none that came
-shown_late : (before : List Action) (f : Core) (w v : Work) (started : List ℕ) → awaits_connect v.conn.life ≡ false → v.conn.moved ≡ [] → IsShowing before f v [] [] started → HasShown before f (fresh_each_shown (none_fresh v) v.conn.fresh)
-shown_late before f w v started up none h =
-    subst (HasShown before f) (sym (unfresh (none_fresh v) v.conn.fresh up)) (record { started = started; showing = showing_unfresh before f v [] [] started h; fresh = refl; moved = none })
+-- where those that were moved are shown, the others are too
+shown_early : (before : List Action) (f : Core) (v : Work) (started : List ℕ) → v.conn.moved ≡ [] → IsShowing before f v [] v.conn.fresh started → HasShown before f (fresh_each_shown (none_fresh v) v.conn.fresh)
+shown_early before f v started none h = record {
+  started = started;
+  showing = fresh_each before f (none_fresh v) v.conn.fresh started (showing_unfresh before f v [] v.conn.fresh started h);
+  fresh = ap (λ (c : MultiplexedConnection). c.fresh) (fresh_conn (none_fresh v) v.conn.fresh);
+  moved = ap (λ (c : MultiplexedConnection). c.moved) (fresh_conn (none_fresh v) v.conn.fresh) ∙ none;
+}
 
 -- all that are due are
 pub waits_hold : (before : List Action) (f : Core) (w : Work) → HasWritten before f w → HasShown before f (waits_shown w)
@@ -370,38 +384,31 @@ waits_hold before f w h = by_life w.conn.life refl
     first : IsShowing before f (none_moved w) w.conn.moved w.conn.fresh started
     first = showing before f w h
 
+    b : Book
+    b = book (trace_of_acts before f w.acts)
+
+    t : Inner
+    t = unshown f (none_moved w) w.conn.moved w.conn.fresh started
+
+    quiet : IsQuiet t
+    quiet = showing_quiet before f (none_moved w) w.conn.moved w.conn.fresh started first
+
     last : Work → Type 0
     last v = HasShown before f (fresh_each_shown (none_fresh v) v.conn.fresh)
 
+    down : is_ready w.conn.life ≡ false → ((p : ℕ) → is_admitted_at w.conn.requests p ≡ false) → HasShown before f (waits_shown w)
+    down off none =
+        let settled = retied before f (none_moved w) w.conn.moved w.conn.fresh started [] w.conn.fresh first (down_waits b t first.sound.tied off none) in
+        subst last (sym (unmoved (none_moved w) w.conn.moved off none)) (shown_early before f (none_moved w) started refl settled)
+
     by_life : (life : Life) → w.conn.life ≡ life → HasShown before f (waits_shown w)
-    by_life Dialing e =
-        let b = book (trace_of_acts before f w.acts) in
-        let t = unshown f (none_moved w) w.conn.moved w.conn.fresh started in
-        let q = showing_quiet before f (none_moved w) w.conn.moved w.conn.fresh started first in
-        let none = λ (p : ℕ). dialing_admits b t p first.sound.tied q e in
-        let settled = retied before f (none_moved w) w.conn.moved w.conn.fresh started [] w.conn.fresh first (down_waits b t first.sound.tied (ap is_ready e) none) in
-        subst last (sym (unmoved (none_moved w) w.conn.moved (ap is_ready e) none))
-        (record {
-          started = started;
-          showing = fresh_each_dialing before f (none_fresh (none_moved w)) w.conn.fresh started e (showing_unfresh before f (none_moved w) [] w.conn.fresh started settled);
-          fresh = ap (λ (c : MultiplexedConnection). c.fresh) (fresh_conn (none_fresh (none_moved w)) w.conn.fresh);
-          moved = ap (λ (c : MultiplexedConnection). c.moved) (fresh_conn (none_fresh (none_moved w)) w.conn.fresh);
-        })
+    by_life Dialing e = down (ap is_ready e) (λ p. dialing_admits b t p first.sound.tied quiet e)
+    by_life (Ended x) e = down (ap is_ready e) (λ p. ended_admits b t p x first.sound.tied quiet e)
     by_life (Ready link) e =
-        let b = book (trace_of_acts before f w.acts) in
-        let up : w.conn.life ≢ Dialing = λ d. (let no : Ready link ≡ Dialing = sym e ∙ d in cc) in
-        let begun = retied before f (none_moved w) w.conn.moved w.conn.fresh started w.conn.moved [] first (late_waits b.story w.conn.requests w.conn.life w.conn.fresh w.conn.moved up first.sound.tied.waits) in
         let v = moved_each_shown (none_moved w) w.conn.moved in
         let same = moved_conn (none_moved w) w.conn.moved in
-        shown_late before f w v started (ap (λ (c : MultiplexedConnection). awaits_connect c.life) same ∙ ap awaits_connect e) (ap (λ (c : MultiplexedConnection). c.moved) same) (moved_each_up before f (none_moved w) w.conn.moved started link e begun)
-    by_life (Ended x) e =
-        let b = book (trace_of_acts before f w.acts) in
-        let t = unshown f (none_moved w) w.conn.moved w.conn.fresh started in
-        let q = showing_quiet before f (none_moved w) w.conn.moved w.conn.fresh started first in
-        let none = λ (p : ℕ). ended_admits b t p x first.sound.tied q e in
-        let up : w.conn.life ≢ Dialing = λ d. (let no : Ended x ≡ Dialing = sym e ∙ d in cc) in
-        let settled = retied before f (none_moved w) w.conn.moved w.conn.fresh started [] [] first (late_waits b.story w.conn.requests w.conn.life w.conn.fresh [] up (down_waits b t first.sound.tied (ap is_ready e) none)) in
-        subst last (sym (unmoved (none_moved w) w.conn.moved (ap is_ready e) none)) (shown_late before f w (none_moved w) started (ap awaits_connect e) refl settled)
+        shown_early before f v started (ap (λ (c : MultiplexedConnection). c.moved) same)
+        (subst (λ ns. IsShowing before f v [] ns started) (sym (ap (λ (c : MultiplexedConnection). c.fresh) same)) (moved_each_up before f (none_moved w) w.conn.moved w.conn.fresh started link e first))
 
 -- what is open then
 --
@@ -432,7 +439,7 @@ is_settled b t h q fresh moved written = record {
       let r = open_request b t n h asked in
       elim (located b t r.number h q.settled r.open_at) [
         | inl i ↦ by_life n r i t.life refl
-        | inr at ↦ inr (subst (IsWaiting b) r.named (waiting_is b t r.number h q r.open_at at (λ i. subst (IsIn r.number) moved i) (λ e. no_fresh r.number (sym fresh ∙ e))))
+        | inr at ↦ inr (subst (IsWaiting b) r.named (waiting_is b t r.number h q r.open_at at (λ i. subst (IsIn r.number) moved i) (λ v i. subst (IsIn r.number) fresh i)))
       ];
 }
   where
@@ -449,13 +456,13 @@ pub record IsBetween (before : List Action) (c : Core) : Type 0 where
   pub between : Between before c started
 
 -- what is shown at a turn's end is settled
-pub shown_between : (before : List Action) (f : Core) (w : Work) → f.turns ≢ 0 → HasShown before f w → IsBetween (trace_of_acts before f w.acts) (with_work (record { core = f; acts = [] }) w).core
+pub shown_between : (before : List Action) (f : Core) (w : Work) → f.turns ≢ 0 → HasShown before f w → IsBetween (trace_of_acts before f w.acts) (timed (with_work (record { core = f; acts = [] }) w)).core
 shown_between before f w began h =
     let trace = trace_of_acts before f w.acts in
-    let t = seen f w.conn [] h.started in
+    let t = seen f w.acts w.conn [] h.started in
     let s = h.showing in
     let sound : Sound trace t = subst (λ ns. Sound trace (with_unshown t ns w.conn.fresh)) (sym h.moved) (subst (λ ns. Sound trace (with_unshown t [] ns)) (sym h.fresh) s.sound) in
-    let quiet : IsQuiet t = record { settled = refl; fit = s.fit.link; none = s.fit.none; held = s.still.held; full = s.still.full; waiting = s.still.waiting } in
+    let quiet : IsQuiet t = record { settled = refl; alone = refl; fit = s.fit.link; none = s.fit.none; held = s.still.held; full = s.still.full; waiting = s.still.waiting; gone = s.still.none_waits } in
     record {
       started = h.started;
       between = record {
@@ -470,7 +477,7 @@ shown_between before f w began h =
     }
 
 -- all is moved, and all is shown
-pub moved_on_between : (before : List Action) (t : Turning) (started : List ℕ) → HasApplied before t started → IsBetween (trace_with before (moved_on t)) (moved_on t).core
+pub moved_on_between : (before : List Action) (t : Turning) (started : List ℕ) → HasApplied before t started → IsBetween (trace_with before (moved_on t)) (timed (moved_on t)).core
 moved_on_between before t started h =
     let w = work_of t in
     let ready : IsReady before t.core w started = record { holds = h.sound; ended = h.ended; fit = h.fit; moved = h.moved } in

@@ -1,5 +1,5 @@
 -- The first message of the queue starts.
-use Rattle.std.proofs.Common.{List, None, Option, Some, [], ap, append_assoc, arith, false, inl, inr, length, refl, slice_get, subst, suc, sym, true, ℕ, ◌++◌, ◌<◌, ◌∙◌, ◌∷◌, ◌≡◌, ◌≢◌, ◌⊎◌}
+use Rattle.std.proofs.Common.{List, None, Some, [], ap, append_assoc, arith, false, inl, inr, length, refl, slice_get, subst, suc, sym, true, ℕ, ◌++◌, ◌<◌, ◌∙◌, ◌∷◌, ◌≡◌, ◌≢◌, ◌⊎◌}
 use Rattle.std.proofs.lemmas.List.{append-nil}
 use Rattle.std.specs.Prelude.{if◌then◌else◌, ◌==◌}
 use Rattle.containers.proofs.Places.{get_within}
@@ -15,23 +15,22 @@ use Rattle.link_laws.proofs.Once.{wanted-append}
 use Rattle.link_laws.proofs.TiedLink.{all_push, begun_tied, queue_tied}
 use Rattle.link_laws.specs.Settles.{awaited_ids, wanted}
 use Rattle.link_laws.specs.Starts.{begun, start_from}
-use Rattle.mux_conn.specs.Requests.{if_there, is_admitted, is_admitted_at, is_open as is_open_progress, is_open_at, is_placed, is_placed_at, name_at}
+use Rattle.mux_conn.specs.Requests.{is_admitted_at, is_open_at, is_placed_at, is_waiting_at, name_at}
 use Rattle.mux_conn.specs.declared.life.Life.TheVariants.{Dialing, Ready}
-use Rattle.mux_conn.specs.declared.request.Progress.{Progress}
-use Rattle.mux_conn.specs.declared.request.Progress.TheVariants as progress
 use Rattle.mux_conn.specs.declared.request.Request.{Request}
 use Rattle.mux_conn.specs.declared.request.Waiting.{Waiting}
 use Rattle.legal_trace.specs.Book.{Book, entered, if_own, message_of}
 use Rattle.legal_trace.specs.Ledger.{Ledger, Start, begins, noted}
 use Rattle.legal_trace.specs.Story.{Story, is_told, shape, shape_in, tried}
-use Rattle.session_laws.proofs.Ahead.{queue_within}
+use Rattle.session_laws.proofs.Ahead.{queue_within, admitted_open, early_open}
 use Rattle.session_laws.proofs.Behind.{nil_told, open_untold, some_more}
 use Rattle.session_laws.proofs.InLine.{awaited_in, first_is_apart, kept_ids}
-use Rattle.session_laws.proofs.Kept.{SameOutcomes, SameSubmissions, mine_noted, numbers_kept, one_changed, others_kept, packed_same, queued_same, tied_by}
+use Rattle.session_laws.proofs.Kept.{SameOutcomes, SameSubmissions, SameTimes, mine_noted, one_changed, others_kept, packed_same, queued_same, tied_by}
 use Rattle.session_laws.proofs.Names.{get_more, get_some, name_of_some, open_within, same_name}
 use Rattle.session_laws.proofs.Numbers.{IsIn, Rising, in_left, in_right, rising_apart, rising_in, rising_left, rising_right}
 use Rattle.session_laws.proofs.Owes.{get_in, request_story}
-use Rattle.session_laws.proofs.Tied.{AreQueued, Inner, IsEntry, IsNew, IsQueued, IsRequest, Tied, TiedLines, TiedTries, TiedWaits, link_in, owner_of, owners_each, owners_of, queue_ids, shown_wait}
+use Rattle.session_laws.proofs.Permits.{IsHolding, holding_same, permits_same}
+use Rattle.session_laws.proofs.Tied.{AreQueued, Inner, IsEntry, IsQueued, IsRequest, Tied, TiedLines, TiedTries, TiedWaits, link_in, owner_of, owners_each, owners_of, queue_ids, shown_wait, numbers_kept}
 
 -- the action that its start shows
 abbrev pub start_action : Inner → LinkState → Queued → Action
@@ -56,6 +55,19 @@ tried_at m link k story n = if_own (m == n) (tried (story n) link k) (story n)
 -- one try more leaves each submission
 tried_submissions : (m link k : ℕ) (story : ℕ → Story) → SameSubmissions story (tried_at m link k story)
 tried_submissions m link k story n = chosen (λ (x : Story). (story n).submission ≡ x.submission) (m == n) (tried (story n) link k) (story n) (λ t. refl) (λ f. refl)
+
+-- and each time
+tried_times : (m link k : ℕ) (story : ℕ → Story) → SameTimes story (tried_at m link k story)
+tried_times m link k story n = chosen (λ (x : Story). (story n).timeout ≡ x.timeout) (m == n) (tried (story n) link k) (story n) (λ t. refl) (λ f. refl)
+
+-- and what each holds
+tried_holds : (m link k : ℕ) (story : ℕ → Story) (n : ℕ) → IsHolding (story n) (tried_at m link k story n)
+tried_holds m link k story n =
+    chosen (λ (x : Story). IsHolding (story n) x) (m == n) (tried (story n) link k) (story n) (λ t. record { link = refl; permits = refl; timeout = refl; clock = refl }) (λ f. holding_same (story n))
+
+-- and whether its time is over
+tried_late : (m link k : ℕ) (story : ℕ → Story) (n : ℕ) → (tried_at m link k story n).overdue ≡ (story n).overdue
+tried_late m link k story n = chosen (λ (x : Story). x.overdue ≡ (story n).overdue) (m == n) (tried (story n) link k) (story n) (λ t. refl) (λ f. refl)
 
 -- and each outcome
 tried_outcomes : (m link k : ℕ) (story : ℕ → Story) → SameOutcomes story (tried_at m link k story)
@@ -148,19 +160,13 @@ lines_started story requests link waiting admitted started q qs k l h = record {
     below = first_within story requests link waiting admitted started q qs h;
     placed_at = h.queued.0.placed_at;
   });
-  packs = packed_same story (tried_at (name_at requests q.id) k l story) requests waiting (tried_submissions (name_at requests q.id) k l story) h.packs;
-  packed_in = packed_same story (tried_at (name_at requests q.id) k l story) requests admitted (tried_submissions (name_at requests q.id) k l story) h.packed_in;
+  packs = packed_same story (tried_at (name_at requests q.id) k l story) requests waiting (tried_submissions (name_at requests q.id) k l story) (tried_times (name_at requests q.id) k l story) h.packs;
+  packed_in = packed_same story (tried_at (name_at requests q.id) k l story) requests admitted (tried_submissions (name_at requests q.id) k l story) (tried_times (name_at requests q.id) k l story) h.packed_in;
   there = λ p e. elim (h.there p e) [
     | inl i ↦ inl (subst (IsIn p) (sym (append_assoc (wanted link.row) (if q.awaited then q.id ∷ [] else []) (awaited_ids qs)) ∙ ap (λ ns. ns ++ awaited_ids qs) (ap (λ ns. wanted link.row ++ ns) (sym (append-nil (if q.awaited then q.id ∷ [] else []))) ∙ sym (wanted-append link.row (entry_of q ∷ [])))) i)
     | inr w ↦ inr w
   ];
 }
-
--- no wait is shown of what started
-pub new_kept : (f g : ℕ → Story) (requests : List Request) (fresh : List ℕ) → ((n : ℕ) → (f n).waiting ≡ None → (g n).waiting ≡ None) → IsNew f requests fresh → IsNew g requests fresh
-new_kept f g requests [] kept h = tt
-new_kept f g requests (p ∷ []) kept h = kept (name_at requests p) h
-new_kept f g requests (p ∷ q ∷ ps) kept h = h
 
 -- a link that is up is not dialing
 pub not_dialing : (link : LinkState) → Ready link ≡ Dialing → ⊥
@@ -172,19 +178,20 @@ LosesWaits f g = (n : ℕ) → ((g n).waiting ≡ None) ⊎ ((g n).waiting ≡ (
 
 -- what is shown of waits is true still, where it is the same of those that wait for a place and of those in the queue
 pub waits_up : (f g : ℕ → Story) (requests : List Request) (link link' : LinkState) (fresh moved : List ℕ) → LosesWaits f g
+    → ((p : ℕ) → is_waiting_at requests p ≡ true → shown_wait g requests p ≡ shown_wait f requests p)
     → ((p : ℕ) → is_admitted_at requests p ≡ true → shown_wait g requests p ≡ shown_wait f requests p)
     → ((p : ℕ) → IsIn p (awaited_ids link'.queue) → IsIn p (awaited_ids link.queue) × (shown_wait g requests p ≡ shown_wait f requests p))
     → TiedWaits f requests (Ready link) fresh moved → TiedWaits g requests (Ready link') fresh moved
-waits_up f g requests link link' fresh moved lost admitted queued h = record {
-  new = new_kept f g requests fresh (λ n none. elim (lost n) [ inl e ↦ e | inr e ↦ e ∙ none ]) h.new;
-  early = λ p w. elim (lost (name_at requests p)) [
-    | inl e ↦ inl e
-    | inr e ↦ elim (h.early p w) [ inl k ↦ inl (e ∙ k) | inr k ↦ inr (e ∙ k) ]
-  ];
+waits_up f g requests link link' fresh moved lost waiting admitted queued h = record {
+  early = λ p w. elim (h.early p w) [ inl k ↦ inl (waiting p w ∙ k) | inr k ↦ inr (elim k [ inl x ↦ inl (waiting p w ∙ x) | inr x ↦ inr (waiting p w ∙ x) ]) ];
   connect = λ p w e. absurd (not_dialing link' e);
+  permit = λ p l w e. elim (h.permit p link w refl) [ inl i ↦ inl i | inr k ↦ inr (waiting p w ∙ k) ];
   place = λ p a. elim (h.place p a) [ inl i ↦ inl i | inr k ↦ inr (admitted p a ∙ k) ];
   room = λ p i. let q = queued p i in elim (h.room p q.0) [ inl j ↦ inl j | inr k ↦ inr (q.1 ∙ k) ];
+  newer = h.newer;
   rising = h.rising;
+  no_connect = λ p i w e. absurd (not_dialing link' e);
+  no_permit = λ p l i w e k. h.no_permit p link i w refl (sym (waiting p w) ∙ k);
   no_place = λ p i a e. h.no_place p i a (sym (admitted p a) ∙ e);
   no_room = λ p i j e. let q = queued p j in h.no_room p i q.0 (sym q.1 ∙ e);
 }
@@ -197,24 +204,9 @@ tried_loses m link k story n = chosen (λ (x : Story). (x.waiting ≡ None) ⊎ 
 tried_others : (m link k : ℕ) (story : ℕ → Story) (n : ℕ) → m ≢ n → (tried_at m link k story n).waiting ≡ (story n).waiting
 tried_others m link k story n other = ap (λ (x : Story). x.waiting) (left_if (m == n) (tried (story n) link k) (story n) (ne_test m n other))
 
--- one that waits for a place is open, and has none
-pub admitted_open : (requests : List Request) (p : ℕ) → is_admitted_at requests p ≡ true → (is_open_at requests p ≡ true) × (is_placed_at requests p ≡ false)
-admitted_open requests p e = by_request (slice_get requests p) e
-  where
-    by_progress : (r : Progress) → is_admitted r ≡ true → (is_open_progress r ≡ true) × (is_placed r ≡ false)
-    by_progress progress.Waiting e = cc
-    by_progress progress.Admitted e = (refl, refl)
-    by_progress progress.Placed e = cc
-    by_progress progress.Closed e = cc
-
-    by_request : (r : Option Request) → if_there is_admitted r ≡ true → (if_there is_open_progress r ≡ true) × (if_there is_placed r ≡ false)
-    by_request None e = cc
-    by_request (Some r) e = by_progress r.progress e
-
--- so it is none of the queue
-queued_apart : (b : Book) (t : Inner) (q : Queued) → Tied b t → q.id < length t.requests → IsQueued b.story t.requests q → is_admitted_at t.requests q.id ≡ true → ⊥
-queued_apart b t q h within is admitted =
-    let a = admitted_open t.requests q.id admitted in
+-- who is open and has no place is none of the queue
+queued_apart : (b : Book) (t : Inner) (q : Queued) → Tied b t → q.id < length t.requests → IsQueued b.story t.requests q → (is_open_at t.requests q.id ≡ true) × (is_placed_at t.requests q.id ≡ false) → ⊥
+queued_apart b t q h within is a =
     let s = b.story (name_at t.requests q.id) in
     by_test q.awaited _
     (λ y. not_both (is_placed_at t.requests q.id) a.1 (is.placed_at y))
@@ -230,7 +222,8 @@ waits_started b t link q qs k l h =
     let other : (p : ℕ) → p < length t.requests → (q.id ≡ p → ⊥) → shown_wait (tried_at n k l b.story) t.requests p ≡ shown_wait b.story t.requests p = λ p inside apart.
     tried_others n k l b.story (name_at t.requests p) (λ e. apart (same_name t.table t.requests q.id p h.names within inside e)) in
     waits_up b.story (tried_at n k l b.story) t.requests (with_queue link (q ∷ qs)) (with_queue (begun link q) qs) t.fresh t.moved (tried_loses n k l b.story)
-    (λ p a. other p (open_within t.requests p (admitted_open t.requests p a).0) (λ same. queued_apart b was q h within h.lines.queued.0 (subst (λ m. is_admitted_at t.requests m ≡ true) (sym same) a)))
+    (λ p w. other p (open_within t.requests p (early_open t.requests p w).0) (λ same. queued_apart b was q h within h.lines.queued.0 (early_open t.requests q.id (subst (λ m. is_waiting_at t.requests m ≡ true) (sym same) w))))
+    (λ p a. other p (open_within t.requests p (admitted_open t.requests p a).0) (λ same. queued_apart b was q h within h.lines.queued.0 (admitted_open t.requests q.id (subst (λ m. is_admitted_at t.requests m ≡ true) (sym same) a))))
     (λ p i.
     let j = awaited_in p qs i in (
       in_right p (if q.awaited then q.id ∷ [] else []) (awaited_ids qs) i,
@@ -251,7 +244,7 @@ told_started b t link q qs k l h n =
 
 -- a request is one still
 tried_request : (s : Story) (requests : List Request) (link p k l : ℕ) → IsRequest s requests link p → IsRequest (tried s k l) requests link p
-tried_request s requests link p k l h = record { what = h.what; handed_in = h.handed_in; in_time = h.in_time; on = h.on; some = h.some; open_is = h.open_is }
+tried_request s requests link p k l h = record { what = h.what; handed_in = h.handed_in; in_time = h.in_time; on = h.on; some = h.some; open_is = h.open_is; permits_is = h.permits_is }
 
 -- the session and its book
 --
@@ -279,7 +272,7 @@ start_tied b t link q qs h =
     tied_by (entered b (start_action t link q)) (after_start t link q qs) (noted l (begins s))
     (mine_noted l t.link (begins (message_of b (name q.id))) ∙ ap (λ x. noted l (begins x)) (same_start b t.requests q is))
     (record {
-      numbers = numbers_kept b _ _ was _ _ _ _ _ _ _ _ h.numbers;
+      numbers = numbers_kept b _ _ was _ _ _ _ _ _ _ _ _ _ h.numbers;
       others = others_kept b t.link (begins (message_of b (name q.id))) h.others;
       life = h.life;
       link = λ e. queue_tied name (noted l (begins s)) (begun (with_queue link (q ∷ qs)) q) qs (begun_tied name l (with_queue link (q ∷ qs)) q (queued_some b was q h within is) up);
@@ -293,4 +286,6 @@ start_tied b t link q qs h =
       lines = lines_started b.story t.requests link t.waiting t.admitted t.started q qs t.link link.started h.lines;
       told = λ e. told_started b t link q qs t.link link.started (h.told refl);
       waits = waits_started b t link q qs t.link link.started h;
+      permits = permits_same b.story (tried_at n t.link link.started b.story) b.submissions t.requests t.link t.limit t.free t.letting (tried_holds n t.link link.started b.story) h.permits;
+      late = λ p o e. h.late p o (sym (tried_late n t.link link.started b.story (name_at t.requests p)) ∙ e);
     })

@@ -15,13 +15,13 @@ use Rattle.mux_conn.specs.Requests.{name_at}
 use Rattle.mux_conn.specs.declared.act.LinkAct.{LinkAct}
 use Rattle.mux_conn.specs.declared.act.LinkAct.TheVariants as act
 use Rattle.mux_conn.specs.declared.request.Request.{Request}
-use Rattle.shared_session.specs.Turn.{shown_each}
+use Rattle.shared_session.specs.Turn.{shown_each, timers_of}
 use Rattle.legal_trace.specs.Book.{Book, book, message_of}
 use Rattle.legal_trace.specs.Ledger.{begins}
 use Rattle.legal_trace.specs.Legal.{MayStart, NoneEnds}
 use Rattle.legal_trace.specs.Steps.{starts_or_waits}
 use Rattle.session_laws.proofs.Ahead.{IsRunning, queue_step, queue_unstarted, queue_within}
-use Rattle.session_laws.proofs.Entered.{shown_more}
+use Rattle.session_laws.proofs.Entered.{shown_more, timers_of-append}
 use Rattle.session_laws.proofs.Going.{IsGoing, applied_up, first_in_queue, going_more, none_ends_kept}
 use Rattle.session_laws.proofs.Owes.{request_story}
 use Rattle.session_laws.proofs.Start.{after_start, on_link, start_action, start_tied, with_queue}
@@ -67,7 +67,7 @@ abbrev show_start : List Request → Started → LinkAct
 show_start requests s = act.Start s.msg (name_at requests s.id) s.need s.len
 
 -- and of all
-abbrev shows : List Request → List Started → List LinkAct
+abbrev pub shows : List Request → List Started → List LinkAct
 shows requests [] = []
 shows requests (s ∷ ss) = show_start requests s ∷ shows requests ss
 
@@ -85,26 +85,34 @@ shown_is w (s ∷ ss) = shown_is (acted w (show_start w.conn.requests s)) ss ∙
 fit_next : (size bound : ℕ) (s : Starting) (q : Queued) (qs : List Queued) → IsFit size bound (with_queue s.link (q ∷ qs)) → IsFit size bound (with_queue (started_one s q).link qs)
 fit_next size bound s q qs h = let w = h.within in record { sound = h.sound; size_is = h.size_is; bound_is = h.bound_is; within = omega arith }
 
+-- starts ask for no timer
+pub shows_timers : (acts : List LinkAct) (requests : List Request) (ss : List Started) → timers_of (acts ++ shows requests ss) ≡ timers_of acts
+shows_timers acts requests ss = timers_of-append acts (shows requests ss) ∙ ap (λ ts. timers_of acts ++ ts) (none ss) ∙ append-nil (timers_of acts)
+  where
+    none : (ss : List Started) → timers_of (shows requests ss) ≡ []
+    none [] = refl
+    none (s ∷ ss) = none ss
+
 -- what is in a queue starts as long as nothing holds it back
-pub each_going : (before : List Action) (acts : List LinkAct) (t : Inner) (s : Starting) (qs : List Queued) → IsFit t.size t.bound (with_queue s.link qs)
-    → IsGoing (before ++ shown_each t.link (acts ++ shows t.requests s.out)) (on_link t (with_queue s.link qs))
-    → IsGoing (before ++ shown_each t.link (acts ++ shows t.requests (started_each s qs).out)) (record (on_link t (started_each s qs).link) { started = t.started ++ queue_ids (starting s.link qs) })
-each_going before acts t s [] fit h = subst (λ ns. IsGoing (before ++ shown_each t.link (acts ++ shows t.requests s.out)) (record (on_link t (with_queue s.link [])) { started = ns })) (sym (append-nil t.started)) h
-each_going before acts t s (q ∷ qs) fit h =
+pub each_going : (before : List Action) (n : ℕ) (acts : List LinkAct) (t : Inner) (s : Starting) (qs : List Queued) → IsFit t.size t.bound (with_queue s.link qs)
+    → IsGoing (before ++ shown_each t.link n (acts ++ shows t.requests s.out)) (on_link t (with_queue s.link qs))
+    → IsGoing (before ++ shown_each t.link n (acts ++ shows t.requests (started_each s qs).out)) (record (on_link t (started_each s qs).link) { started = t.started ++ queue_ids (starting s.link qs) })
+each_going before n acts t s [] fit h = subst (λ ns. IsGoing (before ++ shown_each t.link n (acts ++ shows t.requests s.out)) (record (on_link t (with_queue s.link [])) { started = ns })) (sym (append-nil t.started)) h
+each_going before n acts t s (q ∷ qs) fit h =
     let next = started_one s q in
     let more = shows t.requests s.out in
     let stopped : Starting = record { link = with_queue s.link (q ∷ qs); out = s.out } in
-    chosen_both (λ (x : List Queued) (y : Starting). IsGoing (before ++ shown_each t.link (acts ++ shows t.requests y.out)) (record (on_link t y.link) { started = t.started ++ queue_ids x })) (holds_back s.link) [] (q ∷ starting (begun s.link q) qs) stopped
+    chosen_both (λ (x : List Queued) (y : Starting). IsGoing (before ++ shown_each t.link n (acts ++ shows t.requests y.out)) (record (on_link t y.link) { started = t.started ++ queue_ids x })) (holds_back s.link) [] (q ∷ starting (begun s.link q) qs) stopped
     (started_each next qs)
-    (λ held. subst (λ ns. IsGoing (before ++ shown_each t.link (acts ++ more)) (record (on_link t (with_queue s.link (q ∷ qs))) { started = ns })) (sym (append-nil t.started)) h)
+    (λ held. subst (λ ns. IsGoing (before ++ shown_each t.link n (acts ++ more)) (record (on_link t (with_queue s.link (q ∷ qs))) { started = ns })) (sym (append-nil t.started)) h)
     (λ free.
-    let first = start_going (before ++ shown_each t.link (acts ++ more)) t s.link q qs fit free h in
-    let same : (before ++ shown_each t.link (acts ++ more)) ++ start_action t s.link q ∷ [] ≡ before ++ shown_each t.link (acts ++ shows t.requests next.out) =
-    sym (shown_more before t.link (acts ++ more) (show_start t.requests (start_of s.link.started q)))
-    ∙ ap (λ (x : List LinkAct). before ++ shown_each t.link x) (append_assoc acts more (show_start t.requests (start_of s.link.started q) ∷ []) ∙ ap (λ (x : List LinkAct). acts ++ x) (sym (shows-append t.requests s.out (start_of s.link.started q)))) in
+    let first = start_going (before ++ shown_each t.link n (acts ++ more)) t s.link q qs fit free h in
+    let same : (before ++ shown_each t.link n (acts ++ more)) ++ start_action t s.link q ∷ [] ≡ before ++ shown_each t.link n (acts ++ shows t.requests next.out) =
+    sym (shown_more before t.link n (acts ++ more) (show_start t.requests (start_of s.link.started q)))
+    ∙ ap (λ (x : List LinkAct). before ++ shown_each t.link n x) (append_assoc acts more (show_start t.requests (start_of s.link.started q) ∷ []) ∙ ap (λ (x : List LinkAct). acts ++ x) (sym (shows-append t.requests s.out (start_of s.link.started q)))) in
     let after = record t { started = t.started ++ q.id ∷ [] } in
-    let rest = each_going before acts after next qs (fit_next t.size t.bound s q qs fit) (subst (λ (x : List Action). IsGoing x (after_start t s.link q qs)) same first) in
-    subst (λ ns. IsGoing (before ++ shown_each t.link (acts ++ shows t.requests (started_each next qs).out)) (record (on_link t (started_each next qs).link) { started = ns })) (append_assoc t.started (q.id ∷ []) (queue_ids (starting (begun s.link q) qs))) rest)
+    let rest = each_going before n acts after next qs (fit_next t.size t.bound s q qs fit) (subst (λ (x : List Action). IsGoing x (after_start t s.link q qs)) same first) in
+    subst (λ ns. IsGoing (before ++ shown_each t.link n (acts ++ shows t.requests (started_each next qs).out)) (record (on_link t (started_each next qs).link) { started = ns })) (append_assoc t.started (q.id ∷ []) (queue_ids (starting (begun s.link q) qs))) rest)
 
 -- the link is fit behind them
 pub each_fit : (size bound : ℕ) (s : Starting) (qs : List Queued) → IsFit size bound (with_queue s.link qs) → IsFit size bound (started_each s qs).link

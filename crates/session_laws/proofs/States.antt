@@ -3,12 +3,13 @@ use Rattle.std.proofs.Common.{◌≡◌, ◌≢◌, ◌⊎◌, ℕ, ◌≤◌, t
 use Rattle.driver_model.specs.declared.action.Action.{Action}
 use Rattle.link_core.specs.Link.{LinkState, is_full, holds_back}
 use Rattle.mux_conn.specs.declared.connection.MultiplexedConnection.{MultiplexedConnection}
-use Rattle.mux_conn.specs.declared.life.Life.TheVariants.{Dialing, Ready}
+use Rattle.mux_conn.specs.declared.life.Life.TheVariants.{Ready}
 use Rattle.shared_session.specs.declared.core_state.Core.{Core}
-use Rattle.shared_session.specs.Turn.{Turning, shown_each}
+use Rattle.shared_session.specs.Turn.{Turning, shown_each, timed}
+use Rattle.mux_conn.specs.Connection.{has_no_permit}
 use Rattle.legal_trace.specs.Book.{book}
 use Rattle.legal_trace.specs.Legal.{NoneEnds, IsSettled}
-use Rattle.session_laws.proofs.Tied.{Sound, inner}
+use Rattle.session_laws.proofs.Tied.{Sound, has_ended, inner}
 
 -- a link that reads on, with a queue of this size and this boundary, and no more messages in the queue than that holds
 pub record IsFit (size bound : ℕ) (link : LinkState) : Type 0 where
@@ -22,12 +23,13 @@ pub record IsFitIn (c : MultiplexedConnection) : Type 0 where
   pub link : (link : LinkState) → c.life ≡ Ready link → IsFit c.size c.boundary link
   pub none : ((link : LinkState) → c.life ≡ Ready link → ⊥) → c.admitted ≡ []
 
--- nothing moves: what is in the queue is held back, those that wait for a place find the queue full, and those that wait for
--- the connection are there only while the connect isn't answered
+-- nothing moves: what is in the queue is held back, those that wait for a place find the queue full; once the connect is
+-- answered, those that wait find no permit free, and on a link that has ended none waits
 pub record IsStill (c : MultiplexedConnection) : Type 0 where
   pub held : (link : LinkState) → c.life ≡ Ready link → (link.queue ≡ []) ⊎ (holds_back link ≡ true)
   pub full : (link : LinkState) → c.life ≡ Ready link → (c.admitted ≡ []) ⊎ (is_full link ≡ true)
-  pub waiting : c.life ≢ Dialing → c.waiting ≡ []
+  pub waiting : (link : LinkState) → c.life ≡ Ready link → (c.waiting ≡ []) ⊎ (has_no_permit c.limit c.free ≡ true)
+  pub none_waits : has_ended c.life ≡ true → c.waiting ≡ []
 
 -- between two turns: all is settled, no wait is to be shown, and nothing moves
 pub record Between (before : List Action) (c : Core) (started : List ℕ) : Type 0 where
@@ -41,11 +43,11 @@ pub record Between (before : List Action) (c : Core) (started : List ℕ) : Type
 
 -- the trace of a turn up to its last act so far, behind what was shown before its acts
 abbrev pub trace_with : List Action → Turning → List Action
-trace_with before t = before ++ shown_each t.core.single.link t.acts
+trace_with before t = before ++ shown_each t.core.single.link (length t.core.timers) t.acts
 
 -- the event of the turn has had its own effect: nothing more must end, and the messages that started are those
 pub record HasApplied (before : List Action) (t : Turning) (started : List ℕ) : Type 0 where
-  pub sound : Sound (trace_with before t) (inner t.core started)
+  pub sound : Sound (trace_with before t) (inner (timed t).core started)
   pub ended : NoneEnds (book (trace_with before t))
   pub began : t.core.turns ≢ 0
   pub moved : t.core.single.connection.moved ≡ []

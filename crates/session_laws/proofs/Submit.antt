@@ -1,7 +1,9 @@
 -- A submission is handed in: it is answered at once, or it is the next request.
-use Rattle.std.proofs.Common.{◌≡◌, ◌≢◌, ◌⊎◌, inl, inr, ℕ, ◌+◌, ◌<◌, ◌==◌, Bool, true, false, ◌||◌, ◌&&◌, not, List, [], ◌∷◌, ◌++◌, length, Option, Some, None, if◌then◌else◌, refl, sym, ap, ◌∙◌, subst, arith, length-append}
+use Rattle.std.proofs.lemmas.List.{append-nil}
+use Rattle.std.proofs.Common.{slice_get, ◌≤◌, ◌≡◌, ◌≢◌, ◌⊎◌, inl, inr, ℕ, ◌+◌, ◌<◌, ◌==◌, Bool, true, false, ◌||◌, ◌&&◌, not, List, [], ◌∷◌, ◌++◌, length, Option, Some, None, if◌then◌else◌, refl, sym, ap, ◌∙◌, subst, arith, length-append}
 use Rattle.containers.proofs.Places.{get_within}
 use Rattle.containers.proofs.Choices.{by_test, taken_if, left_if, eq_from, eq_test, ne_from, ne_test, not_both}
+use Rattle.redis_error.specs.declared.fault_kind.FaultKind.TheVariants as kinds
 use Rattle.redis_error.specs.declared.redis_error.RedisError.{RedisError}
 use Rattle.redis_error.specs.declared.redis_error.RedisError.TheVariants as error
 use Rattle.driver_model.specs.declared.action.Action.TheVariants as action
@@ -12,7 +14,8 @@ use Rattle.driver_model.specs.News.{silence}
 use Rattle.driver_model.specs.Request.{packed_bytes}
 use Rattle.link_laws.proofs.TiedLink.{told_tied}
 use Rattle.mux_conn.specs.declared.request.Request.{Request}
-use Rattle.mux_conn.specs.Requests.{is_waiting, is_admitted}
+use Rattle.mux_conn.specs.Requests.{is_open as is_open_progress, is_waiting, is_admitted, is_placed, if_there}
+use Rattle.mux_conn.specs.declared.request.Progress.{Progress}
 use Rattle.shared_session.specs.declared.core_state.Core.{Core}
 use Rattle.legal_trace.specs.Ledger.{is_over}
 use Rattle.legal_trace.specs.Story.{Story, Try, blank_story, is_open, is_no_error, is_told, is_awaited, bytes_of, handed_in, answered, last_of}
@@ -20,19 +23,19 @@ use Rattle.legal_trace.specs.Book.{Book, entered, if_own, current}
 use Rattle.legal_trace.specs.Owed.{owed, owed_to_try}
 use Rattle.legal_trace.specs.Legal.{IsOpen, link_of, NoneIsOwed, NoneEnds, MayAnswer, FailuresAreShown}
 use Rattle.session_laws.proofs.Numbers.{IsIn, in_left, in_right, Rising, rising_in}
-use Rattle.session_laws.proofs.Tied.{inner, link_in, owner_of, queue_ids, waiting_ids, IsRefused, TiedStory, IsNew, Tied, no_opening}
+use Rattle.session_laws.proofs.Tied.{inner, link_in, owner_of, queue_ids, waiting_ids, IsRefused, TiedStory, Tied, no_opening}
 use Rattle.session_laws.proofs.Names.{there_within, names_refused}
 use Rattle.session_laws.proofs.Owes.{started_within}
 use Rattle.session_laws.proofs.Answer.{owed_in}
 use Rattle.session_laws.proofs.Settle.{seen}
-use Rattle.session_laws.proofs.Announce.{turn_of, turned}
+use Rattle.session_laws.proofs.Announce.{aims_longer, aims_on, turn_of, turned}
 use Rattle.session_laws.proofs.Heard.{told_life, silent_no_end}
-use Rattle.session_laws.proofs.Further.{get_beyond, no_longer, SameBefore, further_story, tries_longer, queue_longer, packs_longer, told_longer, waits_longer}
+use Rattle.session_laws.proofs.Further.{get_beyond, no_longer, SameBefore, further_story, tries_longer, queue_longer, packs_longer, told_longer, IsNext, waits_longer, permits_longer, late_longer}
 use Rattle.session_laws.proofs.InLine.{kept_ids, awaited_in}
 
 -- the stories once it is handed in
 abbrev pub stories_with : Book → Submission → ℕ → Story
-stories_with b what n = if_own (b.submissions == n) (handed_in (b.story n) what b.shut (current b)) (b.story n)
+stories_with b what n = if_own (b.submissions == n) (handed_in (b.story n) what b.shut (current b) b.timeout) (b.story n)
 
 -- any other story stays
 stories_before : (b : Book) (what : Submission) (n : ℕ) → n ≢ b.submissions → stories_with b what n ≡ b.story n
@@ -40,7 +43,7 @@ stories_before b what n other = left_if (b.submissions == n) _ (b.story n) (ne_t
 
 -- its own
 abbrev pub new_story : Book → Submission → Story
-new_story b what = handed_in blank_story what b.shut (current b)
+new_story b what = handed_in blank_story what b.shut (current b) b.timeout
 
 -- the next submission has no story before
 next_is_blank : (b : Book) (c : Core) (started : List ℕ) → Tied b (inner c started) → b.story (length c.table) ≡ blank_story
@@ -50,7 +53,7 @@ next_is_blank b c started h = subst (TiedStory (b.story (length c.table)) c.sing
 pub story_is_new : (b : Book) (c : Core) (started : List ℕ) (what : Submission) → Tied b (inner c started) → stories_with b what (length c.table) ≡ new_story b what
 story_is_new b c started what h =
     taken_if (b.submissions == length c.table) _ (b.story (length c.table)) (eq_test b.submissions (length c.table) h.numbers.submissions)
-    ∙ ap (λ (s : Story). handed_in s what b.shut (current b)) (next_is_blank b c started h)
+    ∙ ap (λ (s : Story). handed_in s what b.shut (current b) b.timeout) (next_is_blank b c started h)
 
 -- the others, by the table
 pub others_before : (b : Book) (c : Core) (started : List ℕ) (what : Submission) → Tied b (inner c started) → SameBefore b.story (stories_with b what) (length c.table)
@@ -74,6 +77,7 @@ others_owed b c word what m other = ap (owed_in (entered b (turn_of c word (even
     same s = (λ i.
         if s.late then Some (outcome.Fault error.Closed)
         else if length (bytes_of s) == 0 then Some (outcome.Fault error.EmptyCommand)
+        else if s.overdue then Some (outcome.Fault (error.Io kinds.TimedOut))
         else by_try s (last_of s.tries) i)
 
 -- the error that it gets
@@ -133,7 +137,7 @@ core_refused c what = record (turned c (event.Submit what)) { table = c.table ++
 
 -- the session is tied with it
 pub refused_tied : (b : Book) (c : Core) (started : List ℕ) (word : ℕ) (what : Submission) (e : RedisError) → Tied b (inner c started) → c.single.connection.fresh ≡ []
-    → Tied (entered (entered b (turn_of c word (event.Submit what))) (action.Outcome (length c.table) (outcome.Fault e))) (seen (core_refused c what) c.single.connection [] started)
+    → Tied (entered (entered b (turn_of c word (event.Submit what))) (action.Outcome (length c.table) (outcome.Fault e))) (seen (core_refused c what) [] c.single.connection [] started)
 refused_tied b c started word what e h no_fresh =
     let conn = c.single.connection in
     let ledger = b.link c.single.link in
@@ -144,8 +148,29 @@ refused_tied b c started word what e h no_fresh =
     let last = kept_ids conn.admitted conn.waiting in
     let at : (p : ℕ) → IsIn p (started ++ (queue ++ last)) → p < length conn.requests = λ p i. within_line conn.requests started queue last p h.lines.line i in
     let is = refused_is b c started what e h in
+    let past_all : (test : Progress → Bool) (p : ℕ) → if_there test (slice_get conn.requests p) ≡ true → length conn.requests ≤ p → ⊥ = λ test p w past. (let l = there_within test conn.requests p w in omega arith) in
+    let next : IsNext after conn.requests conn.requests conn.fresh = record {
+      newer = subst (λ ns. Rising 0 ns (length conn.requests)) (sym no_fresh) (omega arith);
+      only = λ p i. absurd (subst (IsIn p) no_fresh i);
+      shown = λ p w past. absurd (past_all is_waiting p w past);
+      none = λ p e past. elim e [ inl a ↦ past_all is_admitted p a past | inr a ↦ past_all is_placed p a past ];
+      free = λ p w past. absurd (past_all is_waiting p w past);
+      early = λ p o past. absurd (past_all is_open_progress p o past);
+    } in
     record {
-      numbers = record { turns = ap (λ m. m + 1) h.numbers.turns; links = h.numbers.links; timers = h.numbers.timers; aims = h.numbers.aims; timed = λ config other opens bounded none. no_opening _ config other opens; submissions = (let k = h.numbers.submissions in omega (arith, length-append c.table (None ∷ []))); shut = ap (λ s. s || false) h.numbers.shut; settings = record { size_is = h.numbers.settings.size_is; bound_is = h.numbers.settings.bound_is; some = h.numbers.settings.some }; one = h.numbers.one; only = h.numbers.only };
+      numbers = record {
+        turns = ap (λ m. m + 1) h.numbers.turns;
+        links = h.numbers.links;
+        timers = h.numbers.timers ∙ sym (append-nil c.timers);
+        aims = aims_on c.timers c.single.link (length (c.table ++ None ∷ [])) (aims_longer c.timers c.single.link (length c.table) (length (c.table ++ None ∷ [])) (omega (arith, length-append c.table (None ∷ []))) h.numbers.aims);
+        timed = λ config other opens bounded none. no_opening _ config other opens;
+        submissions = (let k = h.numbers.submissions in omega (arith, length-append c.table (None ∷ [])));
+        timeout = h.numbers.timeout;
+        shut = ap (λ s. s || false) h.numbers.shut;
+        settings = record { size_is = h.numbers.settings.size_is; bound_is = h.numbers.settings.bound_is; limit_is = h.numbers.settings.limit_is; some = h.numbers.settings.some; limited = h.numbers.settings.limited };
+        one = h.numbers.one;
+        only = h.numbers.only;
+      };
       others = λ m other. let u = h.others m other in record { asked = u.asked; up = u.up; end = u.end; starts = u.starts };
       life = told_life ledger b.created conn.life silence h.life;
       link = λ alive. told_tied (owner_of conn.requests) ledger (link_in conn.life) ledger.asked ledger.up silence (h.link alive);
@@ -169,9 +194,7 @@ refused_tied b c started word what e h no_fresh =
           (λ u. not_both (is_told (answered (new_story b what) (outcome.Fault e))) (fault_untold (is_awaited (new_story b what)) e) (ap is_told (sym is) ∙ u.0)) (h.told up);
       waits = waits_longer c.table b.story after conn.requests conn.requests conn.life conn.fresh conn.fresh conn.moved h.names same longer
           (λ p i. at p (in_right p started (queue ++ last) (in_left p queue last (awaited_in p (link_in conn.life).queue i)))) no_fresh
-          (record {
-            new = subst (λ ns. IsNew after conn.requests ns) (sym no_fresh) tt;
-            shown = λ p w past. absurd (let l = there_within is_waiting conn.requests p w in omega arith);
-            none = λ p a past. (let l = there_within is_admitted conn.requests p a in omega arith);
-          }) h.waits;
+          next h.waits;
+      permits = permits_longer c.table b.story after b.submissions conn.requests conn.requests c.single.link conn.limit conn.free conn.fresh h.names same longer h.numbers.submissions (ap (λ (s : Story). s.permits) is) next h.permits;
+      late = late_longer c.table b.story after conn.requests conn.requests conn.fresh h.names same longer next h.late;
     }

@@ -28,22 +28,23 @@ use Rattle.mux_conn.specs.declared.life.Life.TheVariants.{Dialing, Ready, Ended}
 use Rattle.mux_conn.specs.declared.request.Pending.{Pending}
 use Rattle.mux_conn.specs.declared.request.Request.{Request}
 use Rattle.mux_conn.specs.declared.request.Waiting.{Waiting}
-use Rattle.mux_conn.specs.Requests.{name_at, is_open_at, is_waiting_at, is_admitted_at, is_placed_at}
+use Rattle.mux_conn.specs.Requests.{name_at, permits_at, is_open_at, is_waiting_at, is_admitted_at, is_placed_at}
 use Rattle.shared_session.specs.declared.core_state.Core.{Core}
 use Rattle.legal_trace.specs.Ledger.{Ledger, Start, End, failure_in}
 use Rattle.legal_trace.specs.Story.{Story, blank_story, is_open, is_told, bytes_of, shape, is_awaited}
 use Rattle.legal_trace.specs.Book.{Book, blank_book, book}
-use Rattle.legal_trace.specs.Steps.{configured, queue_size}
+use Rattle.legal_trace.specs.Steps.{configured, queue_size, permits_in, permits_held, is_let_in}
 use Rattle.legal_trace.specs.Legal.{AllStand, IsTimed}
 use Rattle.legal_trace.specs.Owed.{owed_unstarted}
 use Rattle.session_laws.proofs.Numbers.{IsIn, Rising}
 
 -- what counts of a session in the middle of a turn: how many turns it has begun, how many links it has asked for and which
 -- of them is its connection's, what each timer was asked for, whether everything was shut down, the request of each
--- submission; how many messages the queue of its connection's link holds, and at how many unwritten bytes none starts; its
--- connection's life and requests, those that wait for the connection, those that wait for a place, those that came in this
--- turn and those that were moved in it, whose waits aren't shown yet; the requests that are settled and not answered yet; and
--- the requests whose messages started, in order
+-- submission, and within how many milliseconds one that comes now is to be answered; how many messages the queue of its
+-- connection's link holds, at how many unwritten bytes none starts, how many permits there are, if they are counted, and how
+-- many are free; its connection's life and requests, those that wait for the connection, those that wait for a place, those
+-- that came in this turn and those that were moved in it, whose waits aren't shown yet; the one that is being let in; the
+-- requests that are settled and not answered yet; and the requests whose messages started, in order
 pub record Inner : Type 0 where
   pub turns : ℕ
   pub links : ℕ
@@ -51,14 +52,18 @@ pub record Inner : Type 0 where
   pub timers : List Purpose
   pub shut : Bool
   pub table : List (Option Pending)
+  pub timeout : Option ℕ
   pub size : ℕ
   pub bound : ℕ
+  pub limit : Option ℕ
+  pub free : ℕ
   pub life : Life
   pub requests : List Request
   pub waiting : List Waiting
   pub admitted : List Waiting
   pub fresh : List ℕ
   pub moved : List ℕ
+  pub letting : List ℕ
   pub pending : List ℕ
   pub started : List ℕ
 
@@ -99,27 +104,36 @@ abbrev pub owners_each : List Request → List ℕ → List Owner
 owners_each requests [] = []
 owners_each requests (p ∷ ps) = owner_of requests p ∷ owners_each requests ps
 
--- all timers are for this link
-abbrev pub AreAimed : List Purpose → ℕ → Type 0
-AreAimed timers link = (k : ℕ) (what : Purpose) → slice_get timers k ≡ Some what → what ≡ purpose.Connect link
+-- a timer is for this link, or for one of so many submissions
+abbrev pub IsAim : Purpose → ℕ → ℕ → Type 0
+IsAim (purpose.Connect l) link count = l ≡ link
+IsAim (purpose.Response (owner.Try n round)) link count = (n < count) × (round ≡ 0)
 
--- the configuration that the book tells has a queue of this size, which is not none, and this boundary
-pub record IsConfigured (b : Book) (size bound : ℕ) : Type 0 where
+-- all timers are
+abbrev pub AreAimed : List Purpose → ℕ → ℕ → Type 0
+AreAimed timers link count = (k : ℕ) (what : Purpose) → slice_get timers k ≡ Some what → IsAim what link count
+
+-- the configuration that the book tells has a queue of this size, which is not none, this boundary, and so many permits,
+-- which are not none, if they are counted
+pub record IsConfigured (b : Book) (size bound : ℕ) (limit : Option ℕ) : Type 0 where
   pub size_is : queue_size b ≡ size
   pub bound_is : configured boundary b.config ≡ bound
+  pub limit_is : permits_in b.config ≡ limit
   pub some : 0 < size
+  pub limited : limit ≢ Some 0
 
--- the numbers that the session gives are those of the book; its connection's link is the only one, which all timers are
--- for, and the opening has asked for its timer
+-- the numbers that the session gives are those of the book; its connection's link is the only one; all timers are for it or
+-- for a submission, and the opening has asked for its timer
 pub record TiedNumbers (b : Book) (t : Inner) : Type 0 where
   pub turns : b.turns ≡ t.turns
   pub links : b.links ≡ t.links
   pub submissions : b.submissions ≡ length t.table
   pub timers : b.timers ≡ t.timers
-  pub aims : AreAimed t.timers t.link
+  pub aims : AreAimed t.timers t.link (length t.table)
   pub timed : IsTimed b
+  pub timeout : b.timeout ≡ t.timeout
   pub shut : b.shut ≡ t.shut
-  pub settings : IsConfigured b t.size t.bound
+  pub settings : IsConfigured b t.size t.bound t.limit
   pub one : t.links ≡ t.link + 1
   pub only : (m : ℕ) → m < t.links → m ≡ t.link
 
@@ -162,6 +176,7 @@ pub record IsRequest (s : Story) (requests : List Request) (link p : ℕ) : Type
   pub on : s.link ≡ link
   pub some : bytes_of s ≢ []
   pub open_is : is_open s ≡ is_open_at requests p
+  pub permits_is : s.permits ≡ permits_at requests p
 
 -- what a submission's story says, by what the session keeps of it
 abbrev pub TiedStory : Story → List Request → ℕ → Option (Option Pending) → Type 0
@@ -193,8 +208,10 @@ pub record IsEntry (requests : List Request) (e : Entry) : Type 0 where
   pub below : e.id < length requests
   pub placed_at : e.awaited ≡ true → is_placed_at requests e.id ≡ true
 
-abbrev pub IsPacked : (ℕ → Story) → List Request → Waiting → Type 0
-IsPacked story requests w = IsOf (story (name_at requests w.number)) w.packed w.shape w.awaited
+-- one that waits is as its submission says, and is to be answered within its time
+pub record IsPacked (story : ℕ → Story) (requests : List Request) (w : Waiting) : Type 0 where
+  pub is_of : IsOf (story (name_at requests w.number)) w.packed w.shape w.awaited
+  pub time_is : w.timeout ≡ (story (name_at requests w.number)).timeout
 
 -- it waits for a place, or for the connection
 abbrev pub IsKept : List Request → List Waiting → List Waiting → ℕ → Type 0
@@ -218,24 +235,32 @@ AreQueued story requests link = (n : ℕ) → is_told (story n) ≡ true → (st
 abbrev pub shown_wait : (ℕ → Story) → List Request → ℕ → Option WaitKind
 shown_wait story requests p = (story (name_at requests p)).waiting
 
--- at most one request came in this turn, and its wait isn't shown
-abbrev pub IsNew : (ℕ → Story) → List Request → List ℕ → Type 0
-IsNew story requests [] = Unit {0}
-IsNew story requests (p ∷ []) = shown_wait story requests p ≡ None
-IsNew story requests (p ∷ q ∷ ps) = ⊥
-
--- a request that waits for the connection has shown nothing or that it waits for the connect, and the latter where it did not
--- come in this turn; one that waits for a place, or has one in the queue, was moved in this turn and its wait isn't shown
--- yet, or has shown it
+-- a request that waits for the connection, or for a permit, has shown nothing or one of these; the first while the connect
+-- isn't answered, and the second while the link is up, where its wait isn't to be shown yet; one that waits for a place, or has
+-- one in the queue, was moved in this turn and its wait isn't shown yet, or has shown it
 pub record TiedWaits (story : ℕ → Story) (requests : List Request) (life : Life) (fresh moved : List ℕ) : Type 0 where
-  pub new : IsNew story requests fresh
-  pub early : (p : ℕ) → is_waiting_at requests p ≡ true → (shown_wait story requests p ≡ None) ⊎ (shown_wait story requests p ≡ Some wait.Connect)
-  pub connect : (p : ℕ) → is_waiting_at requests p ≡ true → life ≡ Dialing → (fresh ≡ p ∷ []) ⊎ (shown_wait story requests p ≡ Some wait.Connect)
+  pub early : (p : ℕ) → is_waiting_at requests p ≡ true → (shown_wait story requests p ≡ None) ⊎ ((shown_wait story requests p ≡ Some wait.Connect) ⊎ (shown_wait story requests p ≡ Some wait.Permit))
+  pub connect : (p : ℕ) → is_waiting_at requests p ≡ true → life ≡ Dialing → IsIn p fresh ⊎ (shown_wait story requests p ≡ Some wait.Connect)
+  pub permit : (p : ℕ) (link : LinkState) → is_waiting_at requests p ≡ true → life ≡ Ready link → IsIn p fresh ⊎ (shown_wait story requests p ≡ Some wait.Permit)
   pub place : (p : ℕ) → is_admitted_at requests p ≡ true → IsIn p moved ⊎ (shown_wait story requests p ≡ Some wait.Place)
   pub room : (p : ℕ) → IsIn p (awaited_ids (link_in life).queue) → IsIn p moved ⊎ (shown_wait story requests p ≡ Some wait.Room)
+  pub newer : Rising 0 fresh (length requests)
   pub rising : Rising 0 moved (length requests)
+  pub no_connect : (p : ℕ) → IsIn p fresh → is_waiting_at requests p ≡ true → life ≡ Dialing → shown_wait story requests p ≢ Some wait.Connect
+  pub no_permit : (p : ℕ) (link : LinkState) → IsIn p fresh → is_waiting_at requests p ≡ true → life ≡ Ready link → shown_wait story requests p ≢ Some wait.Permit
   pub no_place : (p : ℕ) → IsIn p moved → is_admitted_at requests p ≡ true → shown_wait story requests p ≢ Some wait.Place
   pub no_room : (p : ℕ) → IsIn p moved → IsIn p (awaited_ids (link_in life).queue) → shown_wait story requests p ≢ Some wait.Room
+
+-- where permits are counted, those that submissions hold and those that are free are all; who waits for the connection, or for
+-- a permit, holds none and has no timer, but for the one that is being let in; and who waits for a place or has one was let in
+pub record TiedPermits (story : ℕ → Story) (submissions : ℕ) (requests : List Request) (link : ℕ) (limit : Option ℕ) (free : ℕ) (letting : List ℕ) : Type 0 where
+  pub counted : (k : ℕ) → limit ≡ Some k → permits_held story link submissions + free ≡ k
+  pub none : (p : ℕ) → is_waiting_at requests p ≡ true → (IsIn p letting → ⊥) → (permits_at requests p ≡ 0) × ((story (name_at requests p)).clock ≡ None)
+  pub let_in : (p : ℕ) → (is_admitted_at requests p ≡ true) ⊎ (is_placed_at requests p ≡ true) → is_let_in limit (story (name_at requests p)) ≡ true
+
+-- an open submission whose time is over is to be answered
+abbrev pub AreLate : (ℕ → Story) → List Request → List ℕ → Type 0
+AreLate story requests pending = (p : ℕ) → is_open_at requests p ≡ true → (story (name_at requests p)).overdue ≡ true → IsIn p pending
 
 pub record Tied (b : Book) (t : Inner) : Type 0 where
   pub numbers : TiedNumbers b t
@@ -248,6 +273,8 @@ pub record Tied (b : Book) (t : Inner) : Type 0 where
   pub lines : TiedLines b.story t.requests (link_in t.life) t.waiting t.admitted t.pending t.started
   pub told : has_ended t.life ≡ false → AreQueued b.story t.requests (link_in t.life)
   pub waits : TiedWaits b.story t.requests t.life t.fresh t.moved
+  pub permits : TiedPermits b.story b.submissions t.requests t.link t.limit t.free t.letting
+  pub late : AreLate b.story t.requests t.pending
 
 -- each action of the trace stands where it may, and the session is tied to its book
 pub record Sound (trace : List Action) (t : Inner) : Type 0 where
@@ -263,14 +290,18 @@ inner c started = record {
   timers = c.timers;
   shut = c.shut;
   table = c.table;
+  timeout = c.timeout;
   size = c.single.connection.size;
   bound = c.single.connection.boundary;
+  limit = c.single.connection.limit;
+  free = c.single.connection.free;
   life = c.single.connection.life;
   requests = c.single.connection.requests;
   waiting = c.single.connection.waiting;
   admitted = c.single.connection.admitted;
   fresh = c.single.connection.fresh;
   moved = c.single.connection.moved;
+  letting = [];
   pending = [];
   started = started;
 }
@@ -279,13 +310,31 @@ inner c started = record {
 pub no_opening : (e : Event) (config : Config) (word : ℕ) → ◌≡◌ {A = Option Cause} (Some (cause.Event e)) (Some (cause.Opening config word)) → ⊥
 no_opening e config word is = cc
 
+-- the numbers, where only links, stories and the connection change
+pub numbers_kept : (b : Book) (link : ℕ → Ledger) (story : ℕ → Story) (t : Inner) (life : Life) (free : ℕ) (requests : List Request) (waiting admitted : List Waiting) (fresh moved letting pending started : List ℕ) → TiedNumbers b t
+    → TiedNumbers (record b { link = link; story = story }) (record t { life = life; free = free; requests = requests; waiting = waiting; admitted = admitted; fresh = fresh; moved = moved; letting = letting; pending = pending; started = started })
+numbers_kept b link story t life free requests waiting admitted fresh moved letting pending started h = record {
+  turns = h.turns;
+  links = h.links;
+  timers = h.timers;
+  aims = h.aims;
+  timed = h.timed;
+  submissions = h.submissions;
+  timeout = h.timeout;
+  shut = h.shut;
+  settings = record { size_is = h.settings.size_is; bound_is = h.settings.bound_is; limit_is = h.settings.limit_is; some = h.settings.some; limited = h.settings.limited };
+  one = h.one;
+  only = h.only;
+}
+
 -- requests move between those that wait for the connection, those that wait for a place, those whose wait isn't shown yet,
--- and those that are to be answered: the session stays tied where its lines and its waits are
+-- and those that are to be answered: the session stays tied where its lines and its waits are, and who is late is to be
+-- answered
 pub relined : (b : Book) (t : Inner) (waiting admitted : List Waiting) (fresh moved pending : List ℕ) → Tied b t
-    → TiedLines b.story t.requests (link_in t.life) waiting admitted pending t.started → TiedWaits b.story t.requests t.life fresh moved
+    → TiedLines b.story t.requests (link_in t.life) waiting admitted pending t.started → TiedWaits b.story t.requests t.life fresh moved → AreLate b.story t.requests pending
     → Tied b (record t { waiting = waiting; admitted = admitted; fresh = fresh; moved = moved; pending = pending })
-relined b t waiting admitted fresh moved pending h lines waits = record {
-  numbers = record { turns = h.numbers.turns; links = h.numbers.links; timers = h.numbers.timers; aims = h.numbers.aims; timed = h.numbers.timed; submissions = h.numbers.submissions; shut = h.numbers.shut; settings = h.numbers.settings; one = h.numbers.one; only = h.numbers.only };
+relined b t waiting admitted fresh moved pending h lines waits late = record {
+  numbers = numbers_kept b b.link b.story t t.life t.free t.requests waiting admitted fresh moved t.letting pending t.started h.numbers;
   others = h.others;
   life = h.life;
   link = h.link;
@@ -295,4 +344,6 @@ relined b t waiting admitted fresh moved pending h lines waits = record {
   lines = lines;
   told = h.told;
   waits = waits;
+  permits = h.permits;
+  late = late;
 }

@@ -45,12 +45,15 @@ wrote_lines story requests link count waiting admitted pending started h = recor
 pub queue_waits : (story : ℕ → Story) (requests : List Request) (link after : LinkState) (fresh moved : List ℕ) → ((p : ℕ) → IsIn p (awaited_ids after.queue) → IsIn p (awaited_ids link.queue)) → TiedWaits story requests (Ready link) fresh moved
     → TiedWaits story requests (Ready after) fresh moved
 queue_waits story requests link after fresh moved same h = record {
-  new = h.new;
   early = h.early;
   connect = λ p w d. cc;
+  permit = λ p x w r. h.permit p link w refl;
   place = h.place;
   room = λ p i. h.room p (same p i);
+  newer = h.newer;
   rising = h.rising;
+  no_connect = λ p i w d. cc;
+  no_permit = λ p x i w r. h.no_permit p link i w refl;
   no_place = h.no_place;
   no_room = λ p i r. h.no_room p i (same p r);
 }
@@ -60,7 +63,7 @@ wrote_fit : (size bound : ℕ) (link : LinkState) (count : ℕ) → IsFit size b
 wrote_fit size bound link count h x e = let same : wrote_of link count ≡ x = cc in subst (IsFit size bound) same (record { sound = h.sound; size_is = h.size_is; bound_is = h.bound_is; within = h.within })
 
 -- so much was taken of what was offered
-pub took_applied : (before : List Action) (c : Core) (started : List ℕ) (word count : ℕ) (kind : EventKind) → Between before c started → is_bad c kind ≡ false → IsNewsKind kind → news_of c.timers c.single.link kind ≡ took count → CanTake c.single.connection.life count
+pub took_applied : (before : List Action) (c : Core) (started : List ℕ) (word count : ℕ) (kind : EventKind) → Between before c started → is_bad c kind ≡ false → IsNewsKind c.timers kind → news_of c.timers c.single.link kind ≡ took count → CanTake c.single.connection.life count
     → HasApplied (before ++ turn_of c word kind ∷ []) (with_work (record { core = turned c kind; acts = [] }) (taken_at (record { conn = c.single.connection; acts = [] }) count c.single.connection.life)) started
 took_applied before c started word count kind h good k is can = by_life c.single.connection.life refl
   where

@@ -1,5 +1,5 @@
 -- The waits that began, and which wait is true of a submission.
-use Rattle.std.proofs.Common.{Bool, List, None, Option, Some, [], ap, arith, false, inl, inr, length, refl, slice_get, subst, suc, sym, true, ℕ, ◌++◌, ◌<◌, ◌≤◌, ◌∙◌, ◌∷◌, ◌≡◌, ◌≢◌, ◌⊎◌}
+use Rattle.std.proofs.Common.{append_assoc, Bool, List, None, Option, Some, [], ap, arith, false, inl, inr, length, refl, slice_get, subst, suc, sym, true, ℕ, ◌++◌, ◌<◌, ◌≤◌, ◌∙◌, ◌∷◌, ◌≡◌, ◌≢◌, ◌⊎◌}
 use Rattle.std.specs.List.{AllByRecursion}
 use Rattle.std.specs.Prelude.{◌==◌, ◌&&◌, not, if◌then◌else◌}
 use Rattle.containers.proofs.Choices.{by_test, chosen, eq_from, eq_test, le_from, left_if, ne_from, ne_test, not_both, taken_if}
@@ -12,7 +12,7 @@ use Rattle.link_core.specs.declared.message.Entry.{Entry}
 use Rattle.link_core.specs.Link.{LinkState, first_in, holds_back, is_full}
 use Rattle.link_core.specs.declared.message.Queued.{Queued}
 use Rattle.link_laws.specs.Settles.{awaited_ids, wanted}
-use Rattle.mux_conn.specs.Connection.{is_ready}
+use Rattle.mux_conn.specs.Connection.{has_no_permit, is_ready}
 use Rattle.mux_conn.specs.Requests.{if_there, is_admitted, is_admitted_at, is_open_at, is_placed, is_placed_at, is_waiting, is_waiting_at, name_at}
 use Rattle.mux_conn.specs.Turn.{is_from}
 use Rattle.mux_conn.specs.declared.life.Life.{Life}
@@ -24,16 +24,16 @@ use Rattle.legal_trace.specs.Book.{Book, entered, if_own}
 use Rattle.legal_trace.specs.Legal.{IsWaiting, IsWritten, MayWait, WaitHolds}
 use Rattle.legal_trace.specs.Steps.{starts_or_waits}
 use Rattle.legal_trace.specs.Story.{Story, awaited_in, is_no_error, is_told, waits as waits_now}
-use Rattle.session_laws.proofs.Ahead.{IsRunning, dialing_step, full_step, queue_step, queue_within, running_of}
+use Rattle.session_laws.proofs.Ahead.{IsRunning, dialing_step, full_step, permit_step, queue_step, queue_within, running_of, waiting_open, admitted_open}
 use Rattle.session_laws.proofs.InLine.{awaited_in as in_queue, chosen_in, kept_ids, kept_in, row_ids, wanted_in}
-use Rattle.session_laws.proofs.Kept.{SameOutcomes, SameSubmissions, one_changed, packed_same, queued_same, tries_same}
+use Rattle.session_laws.proofs.Kept.{SameOutcomes, SameSubmissions, SameTimes, one_changed, packed_same, queued_same, tries_same}
 use Rattle.session_laws.proofs.Moves.{later_of, open_unstarted}
 use Rattle.session_laws.proofs.Names.{earlier_name, get_some, name_of_some, open_within, same_name, there_within}
-use Rattle.session_laws.proofs.Numbers.{IsIn, Rising, in_either, in_left, in_right, rising_apart, rising_from, rising_in}
+use Rattle.session_laws.proofs.Numbers.{IsIn, Rising, in_either, in_left, in_right, rising_apart, rising_from, rising_in, rising_right}
 use Rattle.session_laws.proofs.Owes.{later_unstarted, none_open, open_request, request_story, row_in_line}
-use Rattle.session_laws.proofs.Start.{admitted_open}
+use Rattle.session_laws.proofs.Permits.{IsHolding, permits_same}
 use Rattle.session_laws.proofs.States.{IsFit}
-use Rattle.session_laws.proofs.Tied.{AreQueued, Inner, IsEntry, IsKept, IsQueued, IsRequest, Tied, TiedWaits, has_ended, link_in, queue_ids, shown_wait, waiting_ids}
+use Rattle.session_laws.proofs.Tied.{AreQueued, Inner, IsEntry, IsKept, IsQueued, IsRequest, Tied, TiedWaits, has_ended, link_in, queue_ids, shown_wait, waiting_ids, numbers_kept}
 
 -- how far a request has come
 --
@@ -101,13 +101,25 @@ waits_submissions m kind story n = chosen (λ (x : Story). (story n).submission 
 waits_outcomes : (m : ℕ) (kind : WaitKind) (story : ℕ → Story) → SameOutcomes story (waits_at m kind story)
 waits_outcomes m kind story n = chosen (λ (x : Story). (story n).outcomes ≡ x.outcomes) (m == n) (waits_now (story n) kind) (story n) (λ t. refl) (λ f. refl)
 
+-- each time
+waits_times : (m : ℕ) (kind : WaitKind) (story : ℕ → Story) → SameTimes story (waits_at m kind story)
+waits_times m kind story n = chosen (λ (x : Story). (story n).timeout ≡ x.timeout) (m == n) (waits_now (story n) kind) (story n) (λ t. refl) (λ f. refl)
+
+-- what each holds
+waits_holding : (m : ℕ) (kind : WaitKind) (story : ℕ → Story) (n : ℕ) → IsHolding (story n) (waits_at m kind story n)
+waits_holding m kind story n = chosen (IsHolding (story n)) (m == n) (waits_now (story n) kind) (story n) (λ t. record { link = refl; permits = refl; timeout = refl; clock = refl }) (λ f. record { link = refl; permits = refl; timeout = refl; clock = refl })
+
+-- whether each is late
+waits_late : (m : ℕ) (kind : WaitKind) (story : ℕ → Story) (n : ℕ) → (waits_at m kind story n).overdue ≡ (story n).overdue
+waits_late m kind story n = chosen (λ (x : Story). x.overdue ≡ (story n).overdue) (m == n) (waits_now (story n) kind) (story n) (λ t. refl) (λ f. refl)
+
 -- and each try
 waits_tries : (m : ℕ) (kind : WaitKind) (story : ℕ → Story) (n : ℕ) → (story n).tries ≡ (waits_at m kind story n).tries
 waits_tries m kind story n = chosen (λ (x : Story). (story n).tries ≡ x.tries) (m == n) (waits_now (story n) kind) (story n) (λ t. refl) (λ f. refl)
 
 -- a request is one still
 waits_request : (s : Story) (kind : WaitKind) (requests : List Request) (link p : ℕ) → IsRequest s requests link p → IsRequest (waits_now s kind) requests link p
-waits_request s kind requests link p h = record { what = h.what; handed_in = h.handed_in; in_time = h.in_time; on = h.on; some = h.some; open_is = h.open_is }
+waits_request s kind requests link p h = record { what = h.what; handed_in = h.handed_in; in_time = h.in_time; on = h.on; some = h.some; open_is = h.open_is; permits_is = h.permits_is }
 
 -- who was told is told
 told_same : (f g : ℕ → Story) (n : ℕ) → SameSubmissions f g → SameOutcomes f g → is_told (f n) ≡ is_told (g n)
@@ -136,7 +148,7 @@ wait_tied b t p kind moved fresh within h waits =
     let same = waits_submissions n kind b.story in
     let answers = waits_outcomes n kind b.story in
     record {
-      numbers = record { turns = h.numbers.turns; links = h.numbers.links; timers = h.numbers.timers; aims = h.numbers.aims; timed = h.numbers.timed; submissions = h.numbers.submissions; shut = h.numbers.shut; settings = record { size_is = h.numbers.settings.size_is; bound_is = h.numbers.settings.bound_is; some = h.numbers.settings.some }; one = h.numbers.one; only = h.numbers.only };
+      numbers = numbers_kept b b.link after t t.life t.free t.requests t.waiting t.admitted fresh moved t.letting t.pending t.started h.numbers;
       others = h.others;
       life = h.life;
       link = h.link;
@@ -147,22 +159,26 @@ wait_tied b t p kind moved fresh within h waits =
         line = h.lines.line;
         queued = queued_same b.story after t.requests (link_in t.life).queue same answers h.lines.queued;
         entries = h.lines.entries;
-        packs = packed_same b.story after t.requests t.waiting same h.lines.packs;
-        packed_in = packed_same b.story after t.requests t.admitted same h.lines.packed_in;
+        packs = packed_same b.story after t.requests t.waiting same (waits_times n kind b.story) h.lines.packs;
+        packed_in = packed_same b.story after t.requests t.admitted same (waits_times n kind b.story) h.lines.packed_in;
         there = h.lines.there;
       };
       told = λ up. queued_still b.story after t.requests (link_in t.life) same answers (waits_tries n kind b.story) (h.told up);
       waits = waits;
+      permits = permits_same b.story after b.submissions t.requests t.link t.limit t.free t.letting (waits_holding n kind b.story) h.permits;
+      late = λ q o late. h.late q o (sym (waits_late n kind b.story (name_at t.requests q)) ∙ late);
     }
 
 -- a session whose event has had its effect, and in which nothing moves
 pub record IsQuiet (t : Inner) : Type 0 where
   pub settled : t.pending ≡ []
+  pub alone : t.letting ≡ []
   pub fit : (link : LinkState) → t.life ≡ Ready link → IsFit t.size t.bound link
   pub none : ((link : LinkState) → t.life ≡ Ready link → ⊥) → t.admitted ≡ []
   pub held : (link : LinkState) → t.life ≡ Ready link → (link.queue ≡ []) ⊎ (holds_back link ≡ true)
   pub full : (link : LinkState) → t.life ≡ Ready link → (t.admitted ≡ []) ⊎ (is_full link ≡ true)
-  pub waiting : t.life ≢ Dialing → t.waiting ≡ []
+  pub waiting : (link : LinkState) → t.life ≡ Ready link → (t.waiting ≡ []) ⊎ (has_no_permit t.limit t.free ≡ true)
+  pub gone : has_ended t.life ≡ true → t.waiting ≡ []
 
 -- where an open request is
 --
@@ -201,18 +217,30 @@ untried_there b t p h none up o untried =
     let same = same_name t.table t.requests l.p p h.names l.within within l.name in
     let queue = queue_ids (link_in t.life).queue in
     let kept = kept_ids t.admitted t.waiting in
-    let later : IsIn p (queue ++ kept) = subst (λ n. IsIn n (queue ++ kept)) same (elim l.later [ inl i ↦ in_left l.p queue kept i | inr w ↦ in_right l.p queue kept w.1 ]) in
+    let later : IsIn p (queue ++ kept) = subst (λ n. IsIn n (queue ++ kept)) same (elim l.later [ inl i ↦ in_left l.p queue kept i | inr w ↦ in_right l.p queue kept (kept_in t.requests t.waiting t.admitted l.p w) ]) in
     elim (located b t p h none o) [
       | inl i ↦ absurd (let k = row_before b t p p h up i later in omega arith)
       | inr at ↦ at
     ]
+
+-- a message of the row that is wanted has its place
+wanted_placed : (requests : List Request) (row : List Entry) (p : ℕ) → AllByRecursion (IsEntry requests) row → IsIn p (wanted row) → is_placed_at requests p ≡ true
+wanted_placed requests [] p all i = absurd i
+wanted_placed requests (e ∷ es) p all i = elim (in_either p (if e.awaited then e.id ∷ [] else []) (wanted es) i) [
+  | inl j ↦ subst (λ n. is_placed_at requests n ≡ true) (chosen_in e.awaited p e.id j) (all.0.placed_at (own e.awaited j))
+  | inr j ↦ wanted_placed requests es p all.1 j
+]
+  where
+    own : (b : Bool) → IsIn p (if b then e.id ∷ [] else []) → b ≡ true
+    own true j = refl
+    own false j = absurd j
 
 -- who waits for a place, while the link is up or its connect isn't answered, is among those
 pub admitted_there : (b : Book) (t : Inner) (p : ℕ) → Tied b t → t.pending ≡ [] → is_admitted_at t.requests p ≡ true → IsIn p (waiting_ids t.admitted)
 admitted_there b t p h none a =
     let unplaced = admitted_unplaced t.requests p a in
     elim (located b t p h none (admitted_open t.requests p a).0) [
-      | inl i ↦ absurd (not_both (is_placed_at t.requests p) unplaced (wanted_placed (link_in t.life).row h.lines.entries i))
+      | inl i ↦ absurd (not_both (is_placed_at t.requests p) unplaced (wanted_placed t.requests (link_in t.life).row p h.lines.entries i))
       | inr at ↦ elim at [
         | inl i ↦ absurd (not_both (is_placed_at t.requests p) unplaced (awaited_placed b.story t.requests (link_in t.life).queue p h.lines.queued i))
         | inr k ↦ elim k [
@@ -220,16 +248,6 @@ admitted_there b t p h none a =
           | inr w ↦ absurd (not_both (is_admitted_at t.requests p) (waiting_apart t.requests p w.0).0 a)
         ]
       ]
-    ]
-  where
-    own : (e : Entry) → IsIn p (if e.awaited then e.id ∷ [] else []) → e.awaited ≡ true
-    own e i = by_test e.awaited _ (λ t. t) (λ f. absurd (subst (λ x. IsIn p (if x then e.id ∷ [] else [])) f i))
-
-    wanted_placed : (row : List Entry) → AllByRecursion (IsEntry t.requests) row → IsIn p (wanted row) → is_placed_at t.requests p ≡ true
-    wanted_placed [] all i = absurd i
-    wanted_placed (e ∷ es) all i = elim (in_either p (if e.awaited then e.id ∷ [] else []) (wanted es) i) [
-      | inl j ↦ subst (λ n. is_placed_at t.requests n ≡ true) (chosen_in e.awaited p e.id j) (all.0.placed_at (own e j))
-      | inr j ↦ wanted_placed es all.1 j
     ]
 
 -- the message that starts next stands before one that is from it on
@@ -268,20 +286,29 @@ room_holds b t p link h q e i =
     queue_step b t p h (quiet_running t link q e) i ∙ ap starts_or_waits held
 
 -- who waits for a place waits for it
-pub place_holds : (b : Book) (t : Inner) (p : ℕ) (link : LinkState) → Tied b t → IsQuiet t → t.life ≡ Ready link → is_open_at t.requests p ≡ true → IsIn p (waiting_ids t.admitted) → WaitHolds b (name_at t.requests p) wait.Place
-place_holds b t p link h q e o i =
+pub place_holds : (b : Book) (t : Inner) (p : ℕ) (link : LinkState) → Tied b t → IsQuiet t → t.life ≡ Ready link → is_admitted_at t.requests p ≡ true → IsIn p (waiting_ids t.admitted) → WaitHolds b (name_at t.requests p) wait.Place
+place_holds b t p link h q e a i =
     let filled : is_full (link_in t.life) ≡ true = ap (λ (x : Life). is_full (link_in x)) e ∙ elim (q.full link e) as (λ _. is_full link ≡ true) [
       | inl none ↦ absurd (subst (λ qs. IsIn p (waiting_ids qs)) none i)
       | inr on ↦ on
     ] in
-    full_step b t p h (quiet_running t link q e) filled o (in_left p (waiting_ids t.admitted) (waiting_ids t.waiting) i)
+    full_step b t p h (quiet_running t link q e) filled a i
+
+-- who waits for a permit waits for it
+pub permit_holds : (b : Book) (t : Inner) (p : ℕ) (link : LinkState) → Tied b t → IsQuiet t → t.life ≡ Ready link → is_waiting_at t.requests p ≡ true → IsIn p (waiting_ids t.waiting) → WaitHolds b (name_at t.requests p) wait.Permit
+permit_holds b t p link h q e w i =
+    let stuck = elim (q.waiting link e) as (λ _. has_no_permit t.limit t.free ≡ true) [
+      | inl none ↦ absurd (subst (λ qs. IsIn p (waiting_ids qs)) none i)
+      | inr on ↦ on
+    ] in
+    permit_step b t p h (quiet_running t link q e) w (λ j. subst (IsIn p) q.alone j) stuck
 
 -- a life that is not ready
 not_ready : (life other : Life) (link : LinkState) → is_ready other ≡ false → life ≡ other → life ≡ Ready link → ⊥
 not_ready life other link f e r = not_both (is_ready other) f (ap is_ready (sym e ∙ r))
 
 -- who is in the queue, or has no place, waits as was shown, where this was shown
-pub waiting_is : (b : Book) (t : Inner) (p : ℕ) → Tied b t → IsQuiet t → is_open_at t.requests p ≡ true → IsPlacedOrKept t p → (IsIn p t.moved → ⊥) → (t.fresh ≡ p ∷ [] → ⊥) → IsWaiting b (name_at t.requests p)
+pub waiting_is : (b : Book) (t : Inner) (p : ℕ) → Tied b t → IsQuiet t → is_open_at t.requests p ≡ true → IsPlacedOrKept t p → (IsIn p t.moved → ⊥) → (is_waiting_at t.requests p ≡ true → IsIn p t.fresh → ⊥) → IsWaiting b (name_at t.requests p)
 waiting_is b t p h q o at unmoved old = by_life t.life refl
   where
     n : ℕ
@@ -298,23 +325,23 @@ waiting_is b t p h q o at unmoved old = by_life t.life refl
       | inl i ↦ absurd (subst (λ (x : Life). IsIn p (awaited_ids (link_in x).queue)) e i)
       | inr k ↦ elim k [
         | inl a ↦ absurd (subst (λ ws. IsIn p (waiting_ids ws)) (q.none (λ link r. not_ready t.life Dialing link refl e r)) a.1)
-        | inr w ↦ as_shown wait.Connect (elim (h.waits.connect p w.0 e) [ inl new ↦ absurd (old new) | inr s ↦ s ]) (dialing_step b t p h e within)
+        | inr w ↦ as_shown wait.Connect (elim (h.waits.connect p w.0 e) [ inl new ↦ absurd (old w.0 new) | inr s ↦ s ]) (dialing_step b t p h e within)
       ]
     ]
     by_life (Ready link) e = elim at [
       | inl i ↦ as_shown wait.Room (elim (h.waits.room p i) [ inl m ↦ absurd (unmoved m) | inr s ↦ s ]) (room_holds b t p link h q e (in_queue p (link_in t.life).queue i))
       | inr k ↦ elim k [
-        | inl a ↦ as_shown wait.Place (elim (h.waits.place p a.0) [ inl m ↦ absurd (unmoved m) | inr s ↦ s ]) (place_holds b t p link h q e o a.1)
-        | inr w ↦ absurd (subst (λ ws. IsIn p (waiting_ids ws)) (q.waiting (λ d. (let no : Ready link ≡ Dialing = sym e ∙ d in cc))) w.1)
+        | inl a ↦ as_shown wait.Place (elim (h.waits.place p a.0) [ inl m ↦ absurd (unmoved m) | inr s ↦ s ]) (place_holds b t p link h q e a.0 a.1)
+        | inr w ↦ as_shown wait.Permit (elim (h.waits.permit p link w.0 e) [ inl new ↦ absurd (old w.0 new) | inr s ↦ s ]) (permit_holds b t p link h q e w.0 w.1)
       ]
     ]
-    by_life (Ended x) e = absurd (none_open b t x n h q.settled e (λ i. kept_ids (q.none (λ link r. not_ready t.life (Ended x) link refl e r) i) (q.waiting (λ d. (let no : Ended x ≡ Dialing = sym e ∙ d in cc)) i)) ((request_story b t p h within).open_is ∙ o))
+    by_life (Ended x) e = absurd (none_open b t x n h q.settled e (λ i. kept_ids (q.none (λ link r. not_ready t.life (Ended x) link refl e r) i) (q.gone (ap has_ended e) i)) ((request_story b t p h within).open_is ∙ o))
 
 -- a wait may be shown
 --
 -- one that is true and was not shown, where none before it is still to be shown
 pub wait_may : (b : Book) (t : Inner) (p : ℕ) (kind : WaitKind) → Tied b t → IsQuiet t → has_ended t.life ≡ false → IsWritten b → is_open_at t.requests p ≡ true → IsPlacedOrKept t p → shown_wait b.story t.requests p ≢ Some kind → WaitHolds b (name_at t.requests p) kind
-    → ((m : ℕ) → m < p → IsIn m t.moved → ⊥) → ((m : ℕ) → m < p → t.fresh ≡ m ∷ [] → ⊥) → MayWait b (name_at t.requests p) kind
+    → ((m : ℕ) → m < p → IsIn m t.moved → ⊥) → ((m : ℕ) → m < p → is_waiting_at t.requests m ≡ true → IsIn m t.fresh → ⊥) → MayWait b (name_at t.requests p) kind
 wait_may b t p kind h q up written o at new holds unmoved old =
     let n = name_at t.requests p in
     let within = open_within t.requests p o in
@@ -348,27 +375,67 @@ names_differ b t p q h l m other same = other (same_name t.table t.requests p q 
 shown_then : (b : Book) (t : Inner) (p q : ℕ) (kind : WaitKind) → Tied b t → p < length t.requests → q < length t.requests → p ≢ q → shown_wait (waits_at (name_at t.requests p) kind b.story) t.requests q ≡ shown_wait b.story t.requests q
 shown_then b t p q kind h l m other = shown_other b.story t.requests p q kind (names_differ b t p q h l m other)
 
+-- who waits for the connection, or for a permit, is among those
+pub waiting_there : (b : Book) (t : Inner) (p : ℕ) → Tied b t → t.pending ≡ [] → is_waiting_at t.requests p ≡ true → IsIn p (waiting_ids t.waiting)
+waiting_there b t p h none w =
+    let apart = waiting_apart t.requests p w in
+    elim (located b t p h none (waiting_open t.requests p w)) [
+      | inl i ↦ absurd (not_both (is_placed_at t.requests p) apart.1 (wanted_placed t.requests (link_in t.life).row p h.lines.entries i))
+      | inr at ↦ elim at as (λ _. IsIn p (waiting_ids t.waiting)) [
+        | inl i ↦ absurd (not_both (is_placed_at t.requests p) apart.1 (awaited_placed b.story t.requests (link_in t.life).queue p h.lines.queued i))
+        | inr k ↦ elim k as (λ _. IsIn p (waiting_ids t.waiting)) [
+          | inl a ↦ absurd (not_both (is_admitted_at t.requests p) apart.0 a.0)
+          | inr x ↦ x.1
+        ]
+      ]
+    ]
+
+-- who waits for the connection, or for a permit, stands behind who has a place or waits for one
+pub behind_places : (b : Book) (t : Inner) (p m : ℕ) → Tied b t → t.pending ≡ [] → has_ended t.life ≡ false → IsIn p (queue_ids (link_in t.life).queue ++ waiting_ids t.admitted) → is_waiting_at t.requests m ≡ true → m < p → ⊥
+behind_places b t p m h none up i w less =
+    let queue = queue_ids (link_in t.life).queue in
+    let admitted = waiting_ids t.admitted in
+    let last = waiting_ids t.waiting in
+    let line = rising_right 0 t.started (queue ++ (admitted ++ last)) (length t.requests) h.lines.line in
+    let all = subst (λ ns. Rising 0 ns (length t.requests)) (sym (append_assoc queue admitted last)) line in
+    let there = waiting_there b t m h none w in
+    let k = rising_apart 0 (queue ++ admitted) last (length t.requests) p m all i there in
+    omega arith
+
+-- a list, the first of which is left out
+--
+-- who else is in it
+rest_in : (p q : ℕ) (ps : List ℕ) → p ≢ q → IsIn q (p ∷ ps) → IsIn q ps
+rest_in p q ps other i = elim i [ inl same ↦ absurd (other same) | inr j ↦ j ]
+
+-- is another
+rest_other : (p q : ℕ) (ps : List ℕ) (hi : ℕ) → Rising 0 (p ∷ ps) hi → IsIn q ps → p ≢ q
+rest_other p q ps hi r i same = let k = rising_in (suc p) ps hi q r.1 i in omega (arith, k.0, same)
+
+-- it rises
+rest_rises : (p : ℕ) (ps : List ℕ) (hi : ℕ) → Rising 0 (p ∷ ps) hi → Rising 0 ps hi
+rest_rises p ps hi r = rising_from (suc p) 0 ps hi (omega arith) r.1
+
 -- the waits, with that of the first of those that were moved
-pub moved_waits : (b : Book) (t : Inner) (p : ℕ) (kind : WaitKind) (ps : List ℕ) → Tied b t → t.moved ≡ p ∷ ps → t.fresh ≡ [] → t.life ≢ Dialing → p < length t.requests → WaitsSo t p kind → TiedWaits (waits_at (name_at t.requests p) kind b.story) t.requests t.life [] ps
-moved_waits b t p kind ps h is no_fresh up l so =
+pub moved_waits : (b : Book) (t : Inner) (p : ℕ) (kind : WaitKind) (ps : List ℕ) → Tied b t → t.moved ≡ p ∷ ps → p < length t.requests → WaitsSo t p kind → TiedWaits (waits_at (name_at t.requests p) kind b.story) t.requests t.life t.fresh ps
+moved_waits b t p kind ps h is l so =
     let requests = t.requests in
     let after = waits_at (name_at requests p) kind b.story in
     let line = subst (λ ns. Rising 0 ns (length requests)) is h.waits.rising in
-    let rest : (q : ℕ) → IsIn q (p ∷ ps) → p ≢ q → IsIn q ps = λ q i other. elim i [ inl same ↦ absurd (other same) | inr j ↦ j ] in
-    let above : (q : ℕ) → IsIn q ps → p ≢ q = λ q i same. (let k = rising_in (suc p) ps (length requests) q line.1 i in omega (arith, k.0, same)) in
+    let above : (q : ℕ) → IsIn q ps → p ≢ q = λ q i. rest_other p q ps (length requests) line i in
     let back : (q : ℕ) → IsIn q ps → IsIn q t.moved = λ q i. subst (IsIn q) (sym is) (inr i) in
+    let still : (q : ℕ) → is_waiting_at requests q ≡ true → shown_wait after requests q ≡ shown_wait b.story requests q = λ q w.
+    shown_then b t p q kind h l (there_within is_waiting requests q w) (λ e. so.moved (ap (is_waiting_at requests) e ∙ w)) in
     record {
-      new = tt;
-      early = λ q w.
-          let same = shown_then b t p q kind h l (there_within is_waiting requests q w) (λ e. so.moved (ap (is_waiting_at requests) e ∙ w)) in
-          elim (h.waits.early q w) [ inl e ↦ inl (same ∙ e) | inr e ↦ inr (same ∙ e) ];
-      connect = λ q w d. absurd (up d);
+      early = λ q w. elim (h.waits.early q w) [ inl e ↦ inl (still q w ∙ e) | inr k ↦ elim k [ inl e ↦ inr (inl (still q w ∙ e)) | inr e ↦ inr (inr (still q w ∙ e)) ] ];
+      connect = λ q w d. elim (h.waits.connect q w d) [ inl i ↦ inl i | inr e ↦ inr (still q w ∙ e) ];
+      permit = λ q link w r. elim (h.waits.permit q link w r) [ inl i ↦ inl i | inr e ↦ inr (still q w ∙ e) ];
       place = λ q a. by_test (p == q) _
           (λ t1. inr (subst (λ m. shown_wait after requests m ≡ Some wait.Place) (eq_from p q t1) (shown_own b.story requests p kind ∙ ap Some (so.place (ap (is_admitted_at requests) (eq_from p q t1) ∙ a)))))
           (λ f.
           let other = ne_from p q f in
           elim (h.waits.place q a) [
-            | inl i ↦ inl (rest q (subst (IsIn q) is i) other)
+            | inl i ↦ inl (rest_in p q ps other (subst (IsIn q) is i))
             | inr e ↦ inr (shown_then b t p q kind h l (there_within is_admitted requests q a) other ∙ e)
           ]);
       room = λ q r. by_test (p == q) _
@@ -376,10 +443,13 @@ moved_waits b t p kind ps h is no_fresh up l so =
           (λ f.
           let other = ne_from p q f in
           elim (h.waits.room q r) [
-            | inl i ↦ inl (rest q (subst (IsIn q) is i) other)
+            | inl i ↦ inl (rest_in p q ps other (subst (IsIn q) is i))
             | inr e ↦ inr (shown_then b t p q kind h l (queue_within b t q h (in_queue q (link_in t.life).queue r)) other ∙ e)
           ]);
-      rising = rising_from (suc p) 0 ps (length requests) (omega arith) line.1;
+      newer = h.waits.newer;
+      rising = rest_rises p ps (length requests) line;
+      no_connect = λ q i w d e. h.waits.no_connect q i w d (sym (still q w) ∙ e);
+      no_permit = λ q link i w r e. h.waits.no_permit q link i w r (sym (still q w) ∙ e);
       no_place = λ q i a e. h.waits.no_place q (back q i) a (sym (shown_then b t p q kind h l (there_within is_admitted requests q a) (above q i)) ∙ e);
       no_room = λ q i r e. h.waits.no_room q (back q i) r (sym (shown_then b t p q kind h l (queue_within b t q h (in_queue q (link_in t.life).queue r)) (above q i)) ∙ e);
     }
@@ -390,9 +460,9 @@ passed_waits b t p ps h is gone none =
     let line = subst (λ ns. Rising 0 ns (length t.requests)) is h.waits.rising in
     let back : (q : ℕ) → IsIn q ps → IsIn q t.moved = λ q i. subst (IsIn q) (sym is) (inr i) in
     record {
-      new = h.waits.new;
       early = h.waits.early;
       connect = h.waits.connect;
+      permit = h.waits.permit;
       place = λ q a. elim (h.waits.place q a) [
         | inl i ↦ elim (subst (IsIn q) is i) [ inl same ↦ absurd (not_both (is_admitted_at t.requests q) (ap (is_admitted_at t.requests) (sym same) ∙ gone) a) | inr j ↦ inl j ]
         | inr e ↦ inr e
@@ -401,65 +471,80 @@ passed_waits b t p ps h is gone none =
         | inl i ↦ elim (subst (IsIn q) is i) [ inl same ↦ absurd (none (subst (λ m. IsIn m (awaited_ids (link_in t.life).queue)) (sym same) r)) | inr j ↦ inl j ]
         | inr e ↦ inr e
       ];
-      rising = rising_from (suc p) 0 ps (length t.requests) (omega arith) line.1;
+      newer = h.waits.newer;
+      rising = rest_rises p ps (length t.requests) line;
+      no_connect = h.waits.no_connect;
+      no_permit = h.waits.no_permit;
       no_place = λ q i a. h.waits.no_place q (back q i) a;
       no_room = λ q i r. h.waits.no_room q (back q i) r;
     }
 
--- while the connect isn't answered
---
--- nobody waits for a place
+-- while the connect isn't answered nobody waits for a place
 pub dialing_admits : (b : Book) (t : Inner) (p : ℕ) → Tied b t → IsQuiet t → t.life ≡ Dialing → is_admitted_at t.requests p ≡ false
 dialing_admits b t p h q e = by_test (is_admitted_at t.requests p) _
     (λ a. absurd (subst (λ ws. IsIn p (waiting_ids ws)) (q.none (λ link r. not_ready t.life Dialing link refl e r)) (admitted_there b t p h q.settled a)))
     (λ f. f)
 
--- and none is in the queue
-dialing_queues : (t : Inner) (p : ℕ) → t.life ≡ Dialing → IsIn p (awaited_ids (link_in t.life).queue) → ⊥
-dialing_queues t p e i = subst (λ (x : Life). IsIn p (awaited_ids (link_in x).queue)) e i
+-- the waits of those that came in this turn, or whose connect was answered in it
+--
+-- one of them waits for the connect, or for a permit
+pub record IsEarly (t : Inner) (kind : WaitKind) : Type 0 where
+  pub either : (kind ≡ wait.Connect) ⊎ (kind ≡ wait.Permit)
+  pub connect : t.life ≡ Dialing → kind ≡ wait.Connect
+  pub permit : (link : LinkState) → t.life ≡ Ready link → kind ≡ wait.Permit
 
--- lists of one
-pub same_one : (p q : ℕ) → p ∷ [] ≡ q ∷ [] → p ≡ q
-same_one p q e = cc
-
--- the waits, with that of the request that came in this turn
-pub fresh_waits : (b : Book) (t : Inner) (p : ℕ) → Tied b t → IsQuiet t → t.fresh ≡ p ∷ [] → t.life ≡ Dialing → is_waiting_at t.requests p ≡ true → TiedWaits (waits_at (name_at t.requests p) wait.Connect b.story) t.requests t.life [] []
-fresh_waits b t p h q is dialing w =
+-- with that of the first of them
+pub fresh_waits : (b : Book) (t : Inner) (p : ℕ) (kind : WaitKind) (ps : List ℕ) → Tied b t → t.fresh ≡ p ∷ ps → is_waiting_at t.requests p ≡ true → IsEarly t kind → TiedWaits (waits_at (name_at t.requests p) kind b.story) t.requests t.life ps t.moved
+fresh_waits b t p kind ps h is w so =
     let requests = t.requests in
-    let after = waits_at (name_at requests p) wait.Connect b.story in
+    let after = waits_at (name_at requests p) kind b.story in
     let l = there_within is_waiting requests p w in
-    let own : (m : ℕ) → p ≡ m → shown_wait after requests m ≡ Some wait.Connect = λ m e. subst (λ k. shown_wait after requests k ≡ Some wait.Connect) e (shown_own b.story requests p wait.Connect) in
-    let still : (m : ℕ) → is_waiting_at requests m ≡ true → p ≢ m → shown_wait after requests m ≡ shown_wait b.story requests m = λ m v other. shown_then b t p m wait.Connect h l (there_within is_waiting requests m v) other in
+    let line = subst (λ ns. Rising 0 ns (length requests)) is h.waits.newer in
+    let apart = waiting_apart requests p w in
+    let own : (q : ℕ) → p ≡ q → shown_wait after requests q ≡ Some kind = λ q e. subst (λ m. shown_wait after requests m ≡ Some kind) e (shown_own b.story requests p kind) in
+    let still : (q : ℕ) → q < length requests → p ≢ q → shown_wait after requests q ≡ shown_wait b.story requests q = λ q m other. shown_then b t p q kind h l m other in
+    let admitted : (q : ℕ) → is_admitted_at requests q ≡ true → shown_wait after requests q ≡ shown_wait b.story requests q = λ q a.
+    still q (there_within is_admitted requests q a) (λ e. not_both (is_admitted_at requests p) apart.0 (ap (is_admitted_at requests) e ∙ a)) in
+    let queued : (q : ℕ) → IsIn q (awaited_ids (link_in t.life).queue) → shown_wait after requests q ≡ shown_wait b.story requests q = λ q r.
+    still q (queue_within b t q h (in_queue q (link_in t.life).queue r)) (λ e. not_both (is_placed_at requests p) apart.1 (ap (is_placed_at requests) e ∙ awaited_placed b.story requests (link_in t.life).queue q h.lines.queued r)) in
+    let back : (q : ℕ) → IsIn q ps → IsIn q t.fresh = λ q i. subst (IsIn q) (sym is) (inr i) in
+    let waits : (q : ℕ) → is_waiting_at requests q ≡ true → p ≢ q → shown_wait after requests q ≡ shown_wait b.story requests q = λ q v other. still q (there_within is_waiting requests q v) other in
     record {
-      new = tt;
-      early = λ m v. by_test (p == m) _
-          (λ t1. inr (own m (eq_from p m t1)))
-          (λ f. elim (h.waits.early m v) [ inl e ↦ inl (still m v (ne_from p m f) ∙ e) | inr e ↦ inr (still m v (ne_from p m f) ∙ e) ]);
-      connect = λ m v d. inr (by_test (p == m) _
-          (λ t1. own m (eq_from p m t1))
-          (λ f. elim (h.waits.connect m v d) [
-            | inl new ↦ absurd (ne_from p m f (same_one p m (sym is ∙ new)))
-            | inr e ↦ still m v (ne_from p m f) ∙ e
-          ]));
-      place = λ m a. absurd (not_both (is_admitted_at requests m) (dialing_admits b t m h q dialing) a);
-      room = λ m r. absurd (dialing_queues t m dialing r);
-      rising = omega arith;
-      no_place = λ m i. absurd i;
-      no_room = λ m i. absurd i;
+      early = λ q v. by_test (p == q) _
+          (λ t1. inr (elim so.either [ inl e ↦ inl (own q (eq_from p q t1) ∙ ap Some e) | inr e ↦ inr (own q (eq_from p q t1) ∙ ap Some e) ]))
+          (λ f. let other = ne_from p q f in elim (h.waits.early q v) [ inl e ↦ inl (waits q v other ∙ e) | inr k ↦ elim k [ inl e ↦ inr (inl (waits q v other ∙ e)) | inr e ↦ inr (inr (waits q v other ∙ e)) ] ]);
+      connect = λ q v d. by_test (p == q) _
+          (λ t1. inr (own q (eq_from p q t1) ∙ ap Some (so.connect d)))
+          (λ f. let other = ne_from p q f in elim (h.waits.connect q v d) [ inl i ↦ inl (rest_in p q ps other (subst (IsIn q) is i)) | inr e ↦ inr (waits q v other ∙ e) ]);
+      permit = λ q link v r. by_test (p == q) _
+          (λ t1. inr (own q (eq_from p q t1) ∙ ap Some (so.permit link r)))
+          (λ f. let other = ne_from p q f in elim (h.waits.permit q link v r) [ inl i ↦ inl (rest_in p q ps other (subst (IsIn q) is i)) | inr e ↦ inr (waits q v other ∙ e) ]);
+      place = λ q a. elim (h.waits.place q a) [ inl i ↦ inl i | inr e ↦ inr (admitted q a ∙ e) ];
+      room = λ q r. elim (h.waits.room q r) [ inl i ↦ inl i | inr e ↦ inr (queued q r ∙ e) ];
+      newer = rest_rises p ps (length requests) line;
+      rising = h.waits.rising;
+      no_connect = λ q i v d e. h.waits.no_connect q (back q i) v d (sym (waits q v (rest_other p q ps (length requests) line i)) ∙ e);
+      no_permit = λ q link i v r e. h.waits.no_permit q link (back q i) v r (sym (waits q v (rest_other p q ps (length requests) line i)) ∙ e);
+      no_place = λ q i a e. h.waits.no_place q i a (sym (admitted q a) ∙ e);
+      no_room = λ q i r e. h.waits.no_room q i r (sym (queued q r) ∙ e);
     }
 
--- one that has gone, or whose link isn't dialing, shows none
-pub stale_waits : (b : Book) (t : Inner) (p : ℕ) → Tied b t → t.fresh ≡ p ∷ [] → (is_waiting_at t.requests p ≡ true → t.life ≡ Dialing → ⊥) → TiedWaits b.story t.requests t.life [] t.moved
-stale_waits b t p h is none = record {
-  new = tt;
-  early = h.waits.early;
-  connect = λ m w d. elim (h.waits.connect m w d) [
-    | inl new ↦ absurd (none (ap (is_waiting_at t.requests) (same_one p m (sym is ∙ new)) ∙ w) d)
-    | inr e ↦ inr e
-  ];
-  place = h.waits.place;
-  room = h.waits.room;
-  rising = h.waits.rising;
-  no_place = h.waits.no_place;
-  no_room = h.waits.no_room;
-}
+-- one of them waits no more
+pub stale_waits : (b : Book) (t : Inner) (p : ℕ) (ps : List ℕ) → Tied b t → t.fresh ≡ p ∷ ps → is_waiting_at t.requests p ≡ false → TiedWaits b.story t.requests t.life ps t.moved
+stale_waits b t p ps h is gone =
+    let line = subst (λ ns. Rising 0 ns (length t.requests)) is h.waits.newer in
+    let back : (q : ℕ) → IsIn q ps → IsIn q t.fresh = λ q i. subst (IsIn q) (sym is) (inr i) in
+    let other : (q : ℕ) → is_waiting_at t.requests q ≡ true → p ≢ q = λ q w same. not_both (is_waiting_at t.requests q) (ap (is_waiting_at t.requests) (sym same) ∙ gone) w in
+    record {
+      early = h.waits.early;
+      connect = λ q w d. elim (h.waits.connect q w d) [ inl i ↦ inl (rest_in p q ps (other q w) (subst (IsIn q) is i)) | inr e ↦ inr e ];
+      permit = λ q link w r. elim (h.waits.permit q link w r) [ inl i ↦ inl (rest_in p q ps (other q w) (subst (IsIn q) is i)) | inr e ↦ inr e ];
+      place = h.waits.place;
+      room = h.waits.room;
+      newer = rest_rises p ps (length t.requests) line;
+      rising = h.waits.rising;
+      no_connect = λ q i w d. h.waits.no_connect q (back q i) w d;
+      no_permit = λ q link i w r. h.waits.no_permit q link (back q i) w r;
+      no_place = h.waits.no_place;
+      no_room = h.waits.no_room;
+    }

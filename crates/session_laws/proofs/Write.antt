@@ -18,13 +18,13 @@ use Rattle.legal_trace.specs.Book.{Book, book, entered}
 use Rattle.legal_trace.specs.Ledger.{IsOffered, noted, offers}
 use Rattle.legal_trace.specs.Legal.{IsMoved, IsWritten, MayWrite, NoneEnds}
 use Rattle.session_laws.proofs.Going.{is_moved, none_ends_kept}
-use Rattle.session_laws.proofs.Kept.{mine_noted, numbers_kept, others_kept, tied_by}
+use Rattle.session_laws.proofs.Kept.{mine_noted, others_kept, tied_by}
 use Rattle.session_laws.proofs.Moved.{HasMoved}
 use Rattle.session_laws.proofs.Settle.{book_of_more, holds_more, seen, trace_of_acts}
 use Rattle.session_laws.proofs.Start.{on_link}
 use Rattle.session_laws.proofs.Took.{queue_waits}
 use Rattle.session_laws.proofs.States.{IsFit}
-use Rattle.session_laws.proofs.Tied.{Inner, Tied, TiedLife, link_in, owner_of, has_ended}
+use Rattle.session_laws.proofs.Tied.{Inner, Tied, TiedLife, link_in, owner_of, has_ended, numbers_kept}
 
 -- an offer
 --
@@ -33,7 +33,7 @@ write_tied b t link h =
     let l = b.link t.link in
     let line = offers link.outbox.unwritten in
     tied_by (entered b (action.Write t.link link.outbox.unwritten)) (on_link t (offered_of link)) (noted l line) (mine_noted l t.link line) (record {
-      numbers = numbers_kept b _ _ (on_link t link) _ _ _ _ _ _ _ _ h.numbers;
+      numbers = numbers_kept b _ _ (on_link t link) _ _ _ _ _ _ _ _ _ _ h.numbers;
       others = others_kept b t.link line h.others;
       life = h.life;
       link = λ e. offered_tied (owner_of t.requests) l link (h.link refl);
@@ -43,6 +43,8 @@ write_tied b t link h =
       lines = record { line = h.lines.line; queued = h.lines.queued; entries = h.lines.entries; packs = h.lines.packs; packed_in = h.lines.packed_in; there = h.lines.there };
       told = λ e. h.told refl;
       waits = queue_waits b.story t.requests link (offered_of link) t.fresh t.moved (λ p i. i) h.waits;
+      permits = h.permits;
+      late = h.late;
     })
 
 -- it may stand, once all requests are moved
@@ -78,7 +80,7 @@ pub record HasWritten (before : List Action) (f : Core) (w : Work) : Type 0 wher
 
 -- all requests of a session are moved
 pub moved_book : (before : List Action) (f : Core) (w : Work) → HasMoved before f w → IsMoved (book (trace_of_acts before f w.acts))
-moved_book before f w h = is_moved (book (trace_of_acts before f w.acts)) (seen f w.conn [] h.started) h.holds.tied refl h.ended h.fit.link h.fit.none h.still.held h.still.full h.still.waiting
+moved_book before f w h = is_moved (book (trace_of_acts before f w.acts)) (seen f w.acts w.conn [] h.started) h.holds.tied refl refl h.ended h.fit.link h.fit.none h.still.held h.still.full h.still.waiting h.still.none_waits
 
 -- the link of a life
 same_link : (link other : LinkState) → Ready link ≡ Ready other → link ≡ other
@@ -88,7 +90,7 @@ same_link link other e = cc
 write_shown : (before : List Action) (f : Core) (w : Work) (link : LinkState) → w.conn.life ≡ Ready link → can_offer link.outbox ≡ true → HasMoved before f w → HasWritten before f (acted (with_link w (offered_of link)) (act.Write link.outbox.unwritten))
 write_shown before f w link life can h =
     let b = book (trace_of_acts before f w.acts) in
-    let t = seen f w.conn [] h.started in
+    let t = seen f w.acts w.conn [] h.started in
     let a = act.Write link.outbox.unwritten in
     let fit = h.fit.link link life in
     let after = offered_of link in
@@ -105,7 +107,8 @@ write_shown before f w link life can h =
         still = record {
           held = λ other e. subst (λ (x : LinkState). (x.queue ≡ []) ⊎ (holds_back x ≡ true)) (same_link after other e) (h.still.held link life);
           full = λ other e. subst (λ (x : LinkState). (w.conn.admitted ≡ []) ⊎ (is_full x ≡ true)) (same_link after other e) (h.still.full link life);
-          waiting = λ e. h.still.waiting (λ x. (let no : Ready link ≡ Dialing = sym life ∙ x in cc));
+          waiting = λ other e. h.still.waiting link life;
+          none_waits = λ e. cc;
         };
       };
       offered = λ other e. subst (λ (x : LinkState). can_offer x.outbox ≡ false) (same_link (offered_of link) other e) (all_offered_can link.outbox);

@@ -43,6 +43,7 @@ pub record IsScriptNote (bytes text : List ℕ) : Type 0 where
 abbrev pub config_words : ConfigName → List ℕ
 config_words name.Url = codes "the URL is no address: it has the scheme redis or valkey, a host, and behind them no more than a port, a database and a protocol"
 config_words name.Kind = codes "this address asks for a password, a protocol or a database, which this version doesn't set up"
+config_words name.Buffer = codes "the queue of a link holds at least 1 message: buffer=0 leaves no place for any"
 config_words other = codes "the configuration is refused for its " ++ config_name other
 
 -- the configuration in the first line is refused, and this note says what to mend

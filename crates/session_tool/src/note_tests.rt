@@ -8,10 +8,10 @@ use std::test::Fail;
 const CONFIG: &[u8] = b"config single url=redis://h:6379 connect=none response=none lib=off\n";
 
 /// First lines of scripts, and the notes on them.
-const FIRST_LINES: [(&[u8], &[u8]); 13] = [
+const FIRST_LINES: [(&[u8], &[u8]); 16] = [
     (
         b"end\n",
-        b"line 1: end: the first line is config single url=URL response=none lib=off, with connect=MS or connect=none where wanted\n",
+        b"line 1: end: the first line is config single url=URL response=none lib=off, with connect=MS or connect=none, buffer=COUNT and boundary=BYTES where wanted\n",
     ),
     (
         b"config manager url=redis://h:6379 connect=none response=none lib=off\n",
@@ -20,6 +20,18 @@ const FIRST_LINES: [(&[u8], &[u8]); 13] = [
     (
         b"config single url=redis://h:6379 connect=5s response=none lib=off\n",
         b"line 1: config single url=redis://h:6379 connect=5s: connect is a number of milliseconds, at most 18446744073709551615, or none\n",
+    ),
+    (
+        b"config single url=redis://h:6379 buffer=+5 response=none lib=off\n",
+        b"line 1: config single url=redis://h:6379 buffer=+5: buffer is a number of messages, digits alone without a leading zero, at most 4294967295\n",
+    ),
+    (
+        b"config single url=redis://h:6379 boundary=8k response=none lib=off\n",
+        b"line 1: config single url=redis://h:6379 boundary=8k: boundary is a number of bytes, digits alone without a leading zero, at most 18446744073709551615\n",
+    ),
+    (
+        b"config single url=redis://h:6379 buffer=5 buffer=5 lib=off\n",
+        b"line 1: config single url=redis://h:6379 buffer=5 buffer=5: each key stands once\n",
     ),
     (
         b"config single url=redis://h:6379 connect=none response=5s lib=off\n",
@@ -31,11 +43,11 @@ const FIRST_LINES: [(&[u8], &[u8]); 13] = [
     ),
     (
         b"config single url=redis://h:6379 conect=none response=none lib=off\n",
-        b"line 1: config single url=redis://h:6379 conect=none: the keys are url, connect, response and lib\n",
+        b"line 1: config single url=redis://h:6379 conect=none: the keys are url, connect, response, buffer, boundary and lib\n",
     ),
     (
         b"config single url=redis://h:6379 connect response=none lib=off\n",
-        b"line 1: config single url=redis://h:6379 connect: a setting is KEY=VALUE, with url, connect, response or lib\n",
+        b"line 1: config single url=redis://h:6379 connect: a setting is KEY=VALUE, with url, connect, response, buffer, boundary or lib\n",
     ),
     (
         b"config single url=redis://h:6379 connect=none connect=none response=none lib=off\n",
@@ -304,8 +316,8 @@ const BAD_EVENTS: [(&[u8], &[u8]); 14] = [
     ),
 ];
 
-/// URLs that are refused, and the notes on them.
-const REFUSED: [(&[u8], &[u8]); 5] = [
+/// URLs with more settings that are refused, and the notes on them.
+const REFUSED: [(&[u8], &[u8]); 6] = [
     (
         b"http://h",
         b"line 1: the URL is no address: it has the scheme redis or valkey, a host, and behind them no more than a port, a database and a protocol\n",
@@ -325,6 +337,10 @@ const REFUSED: [(&[u8], &[u8]); 5] = [
     (
         b"redis://h?protocol=3",
         b"line 1: this address asks for a password, a protocol or a database, which this version doesn't set up\n",
+    ),
+    (
+        b"redis://h buffer=0",
+        b"line 1: the queue of a link holds at least 1 message: buffer=0 leaves no place for any\n",
     ),
 ];
 

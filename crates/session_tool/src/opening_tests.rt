@@ -135,6 +135,25 @@ end
     status: 3,
 };
 
+/// A queue that holds nothing.
+const NO_QUEUE: Row = Row {
+    script: b"config single url=redis://h buffer=0 response=none lib=off
+connected 0
+end
+",
+    output: b"config buffer\n",
+    status: 3,
+};
+
+/// A queue that holds nothing, of a URL that is no address.
+const NOTHING_RIGHT: Row = Row {
+    script: b"config single url=http://h buffer=0 response=none lib=off
+end
+",
+    output: b"config url\n",
+    status: 3,
+};
+
 /// A URL that is no address, in a text that is no script.
 const NO_SCRIPT: Row = Row {
     script: b"config single url=http://h:6379 response=none lib=off
@@ -147,7 +166,15 @@ connected 0
 #[test]
 fn openings_may_fail(rt: HostRuntime) -> Result<(), Fail> {
     for row in [
-        OVERDUE, NO_TIMER, REFUSED, IN_TIME, NO_ADDRESS, WITH_SETUP, NO_SCRIPT,
+        OVERDUE,
+        NO_TIMER,
+        REFUSED,
+        IN_TIME,
+        NO_ADDRESS,
+        WITH_SETUP,
+        NO_QUEUE,
+        NOTHING_RIGHT,
+        NO_SCRIPT,
     ] {
         let (status, sink) = answer(rt.alloc(), &["replay"], row.script, None, None)?;
         assert_eq!(rt; status, row.status);

@@ -38,6 +38,7 @@ shutdown                                 everything is closed
 end                                      the last line
 
 The time of the connect is 1000 ms, or what connect=MS or connect=none says in the first line.
+The queue of a link holds 50 messages, or what buffer=COUNT says there, and none starts while 8192 bytes or more, or what boundary=BYTES says, are unwritten.
 A fault is refused, reset, aborted, not-connected, broken-pipe, eof, timed-out, interrupted, denied or other.
 Status: 0 done, 1 no command, 2 no script, 3 refused configuration, 4 bad event, 5 no memory, 6 no input, 7 no output, 8 no more numbers.
 ";
@@ -460,6 +461,68 @@ outcome s1 err closed
     status: 0,
 };
 
+/// A link whose unwritten bytes reach the boundary.
+const HELD_BACK: Row = Row {
+    script: b"config single url=redis://h:6379 connect=none response=none lib=off boundary=30
+connected 0
+submit cmd GET a
+submit pipe PING ; PING
+submit cmd GET b
+read-fault 0 reset
+end
+",
+    output: b"turn 0 config single url=redis://h:6379 connect=none response=none boundary=30 lib=off
+connect 0 h:6379
+turn 1 connected 0
+created ok
+turn 2 submit cmd GET a
+start 0 0 s0.0 1 20
+write 0 *2%0D%0A$3%0D%0AGET%0D%0A$1%0D%0Aa%0D%0A
+turn 3 submit pipe PING ; PING
+start 0 1 s1.0 2 28
+turn 4 submit cmd GET b
+wait s2.0 room
+turn 5 read-fault 0 reset
+close 0
+outcome s0 err io reset
+outcome s1 err closed
+outcome s2 err closed
+",
+    status: 0,
+};
+
+/// A queue of one place, on a link on which no message starts while a byte is unwritten.
+const ONE_PLACE: Row = Row {
+    script: b"config single url=redis://h:6379 connect=none response=none lib=off buffer=1 boundary=0
+connected 0
+submit cmd GET a
+submit cmd GET b
+submit cmd GET c
+wrote 0 7
+wrote 0 13
+end
+",
+    output: b"turn 0 config single url=redis://h:6379 connect=none response=none buffer=1 boundary=0 lib=off
+connect 0 h:6379
+turn 1 connected 0
+created ok
+turn 2 submit cmd GET a
+start 0 0 s0.0 1 20
+write 0 *2%0D%0A$3%0D%0AGET%0D%0A$1%0D%0Aa%0D%0A
+turn 3 submit cmd GET b
+wait s1.0 room
+turn 4 submit cmd GET c
+wait s2.0 place
+turn 5 wrote 0 7
+write 0 %0AGET%0D%0A$1%0D%0Aa%0D%0A
+turn 6 wrote 0 13
+start 0 1 s1.0 1 20
+write 0 *2%0D%0A$3%0D%0AGET%0D%0A$1%0D%0Ab%0D%0A
+wait s2.0 room
+",
+    status: 0,
+};
+
 pub fn strings(alloc: Global, words: &[&str]) -> Result<Vec<String>, AllocError> {
     let mut all = Vec::new(alloc);
     for word in words {
@@ -542,6 +605,8 @@ fn scripts_are_replayed(rt: HostRuntime) -> Result<(), Fail> {
         NO_REPLY,
         READ_FAULT,
         WRITE_FAULT,
+        HELD_BACK,
+        ONE_PLACE,
     ] {
         let (status, sink) = answer(rt.alloc(), &["replay"], row.script, None, None)?;
         assert_eq!(rt; status, row.status);

@@ -1,7 +1,8 @@
 -- The configuration, the word and the events are read back from the words of their causes.
-use Rattle.std.proofs.Common.{◌≡◌, ℕ, true, false, ◌&&◌, ◌<◌, ◌^◌, ◌==◌, List, [], ◌∷◌, ◌++◌, All, Option, Some, None, map, option_map, option_and_then, decimal, refl, sym, ap, ◌∙◌, if◌then◌else◌, arith}
+use Rattle.std.proofs.Common.{◌≡◌, ℕ, Bool, true, false, ◌&&◌, ◌<◌, ◌^◌, ◌==◌, List, [], ◌∷◌, ◌++◌, All, Option, Some, None, map, option_map, option_and_then, decimal, bytes_eq, codes, append_assoc, refl, sym, ap, ◌∙◌, if◌then◌else◌, arith}
 use Rattle.std.proofs.lemmas.List.Elements.{All-head, All-tail}
 use Rattle.std.specs.Prelude.{is_some}
+use Rattle.std.specs.List.{list_all}
 use Rattle.driver_model.specs.declared.action.Cause.TheVariants as cause
 use Rattle.driver_model.specs.declared.config.Config.{Config}
 use Rattle.driver_model.specs.declared.event.Event.{Event}
@@ -13,14 +14,14 @@ use Rattle.driver_model.specs.Request.{is_single_nameless, has_no_form}
 use Rattle.redis_error.specs.declared.fault_kind.FaultKind.{FaultKind}
 use Rattle.redis_error.specs.declared.fault_kind.FaultKind.TheVariants as fault
 use Rattle.redis_error.specs.Names.{fault_name}
-use Rattle.script_text.specs.Numbers.{number, max_u32, max_u64}
-use Rattle.script_text.specs.ConfigLine.{time_limit, config_of}
+use Rattle.script_text.specs.Numbers.{number, max_u32, max_u64, time_limit}
+use Rattle.script_text.specs.ConfigLine.{is_setting, keys, values, only, is_value, allows, given, config_of}
 use Rattle.script_text.specs.EventLine.{by_first, commands, submissions, faults, fault_among, failed, others, event_of}
 use Rattle.script_text.specs.Words.{LineWords, all_of}
 use Rattle.legal_trace.specs.Legal.{event_causes}
-use Rattle.trace_text.specs.Show.{url, draw_words, config_words, first_of, behind_first, submission_words, submission_more, event_words, event_more}
+use Rattle.trace_text.specs.Show.{url, draw_words, connect_words, response_words, buffer_words, limit_words, boundary_words, times_words, numbers_words, later_words, config_words, time_word, first_of, behind_first, submission_words, submission_more, event_words, event_more}
 use Rattle.containers.proofs.Choices.{chosen, eq_from}
-use Rattle.text_laws.specs.Fits.{FitsSubmission, FitsKind, FitsEvent, FitsLimit, FitsConfig, FitsHistory, HasForm, HaveForms}
+use Rattle.text_laws.specs.Fits.{FitsSubmission, FitsKind, FitsEvent, FitsLimit, FitsNumber, FitsConfig, FitsHistory, HasForm, HaveForms}
 use Rattle.text_laws.specs.History.{drawn, opening_in, drawing, event_in, script_with, history_in}
 use Rattle.text_laws.proofs.Bytes.{number_back, decimal_is_no_none}
 use Rattle.text_laws.proofs.Turns.{cause_line}
@@ -67,6 +68,15 @@ failed_back : (f : ℕ → FaultKind → EventKind) (link : ℕ) (kind : FaultKi
 failed_back f link kind fits =
     ap (option_and_then (λ l. option_map (f l) (fault_among faults (fault_name kind)))) (small_number link fits) ∙ ap (option_map (f link)) (fault_back kind)
 
+-- a time is read back
+time_back : (ms : ℕ) → ms < 2 ^ 64 → time_limit (decimal ms) ≡ Some (Some ms)
+time_back ms small =
+    ap (λ b. if b then Some None else option_map Some (number max_u64 (decimal ms))) (decimal_is_no_none ms) ∙ ap (option_map Some) (long_number ms small)
+
+time_word_back : (ms : Option ℕ) → FitsNumber (2 ^ 64) ms → time_limit (time_word ms) ≡ Some ms
+time_word_back None fits = refl
+time_word_back (Some ms) fits = time_back ms fits
+
 -- an event's own words
 abbrev kind_line : EventKind → LineWords
 kind_line kind = record { words = event_words kind; more = event_more kind }
@@ -85,6 +95,7 @@ kind_back (event.Ended link) fits form = ap (λ o. option_map undrawn (option_ma
 kind_back (event.ReadFault link kind) fits form = ap (option_map undrawn) (failed_back event.ReadFault link kind fits)
 kind_back (event.WriteFault link kind) fits form = ap (option_map undrawn) (failed_back event.WriteFault link kind fits)
 kind_back (event.Fired timer) fits form = ap (λ o. option_map undrawn (option_map event.Fired o)) (small_number timer fits)
+kind_back (event.Timeout ms) fits form = ap (λ o. option_map undrawn (option_map event.Timeout o)) (time_word_back ms fits)
 kind_back event.Shutdown fits form = refl
 
 -- words that begin with no draw
@@ -102,6 +113,7 @@ kind_undrawn (event.Ended link) = refl
 kind_undrawn (event.ReadFault link kind) = refl
 kind_undrawn (event.WriteFault link kind) = refl
 kind_undrawn (event.Fired timer) = refl
+kind_undrawn (event.Timeout ms) = refl
 kind_undrawn event.Shutdown = refl
 
 -- a draw before them
@@ -116,24 +128,179 @@ event_back e fits form =
     ap (option_and_then (λ d. option_map (drawing d.0) (event_of (record { words = d.1; more = event_more e.kind })))) (drawn_back e.word (event_words e.kind) fits.word (kind_undrawn e.kind))
     ∙ ap (option_map (drawing e.word)) (kind_back e.kind fits.kind form)
 
--- a time is read back
-time_back : (ms : ℕ) → ms < 2 ^ 64 → time_limit (decimal ms) ≡ Some (Some ms)
-time_back ms small =
-    ap (λ b. if b then Some None else option_map Some (number max_u64 (decimal ms))) (decimal_is_no_none ms) ∙ ap (option_map Some) (long_number ms small)
+-- whether a setting is allowed, and what is read of it
+record Setting (A : Type 0) : Type 0 where
+  allowed : Bool
+  read : Option A
 
--- the words of a configuration
-abbrev config_line : List ℕ → Option (Option ℕ) → LineWords
-config_line address connect = record { words = config_words (record { url = address; connect = connect }); more = [] }
+-- a setting with these values
+abbrev setting_of : {A : Type 0} → (List ℕ → Option A) → List (List ℕ) → Setting A
+setting_of read values = record { allowed = allows read values; read = given read values }
 
-settings_back : (address : List ℕ) (connect : Option (Option ℕ)) → FitsLimit connect → config_of (config_line address connect) ≡ Some (record { url = address; connect = connect })
+-- a setting whose one value is read so
+abbrev read_as : {A : Type 0} → Option A → Setting A
+read_as found = record { allowed = is_some found; read = found }
+
+-- as it was given
+abbrev as_given : {A : Type 0} → Option A → Setting A
+as_given found = record { allowed = true; read = found }
+
+-- the values that the words of a time give, and those of a number
+abbrev times_in : Option (Option ℕ) → List (List ℕ)
+times_in None = []
+times_in (Some ms) = time_word ms ∷ []
+
+abbrev numbers_in : Option ℕ → List (List ℕ)
+numbers_in None = []
+numbers_in (Some n) = decimal n ∷ []
+
+-- a setting with one value is what that is read as
+read_once : {A : Type 0} (read : List ℕ → Option A) (value : List ℕ) (a : A) → read value ≡ Some a → setting_of read (value ∷ []) ≡ as_given (Some a)
+read_once read value a is = ap read_as is
+
+-- the settings of a time and of a number, each by its words alone
+abbrev time_given : Option (Option ℕ) → Setting (Option ℕ)
+time_given limit = setting_of time_limit (times_in limit ++ [])
+
+abbrev small_given : Option ℕ → Setting ℕ
+small_given n = setting_of (number max_u32) (numbers_in n ++ [])
+
+abbrev long_given : Option ℕ → Setting ℕ
+long_given n = setting_of (number max_u64) (numbers_in n ++ [])
+
+limit_back : (limit : Option (Option ℕ)) → FitsLimit limit → time_given limit ≡ as_given limit
+limit_back None fits = refl
+limit_back (Some ms) fits = read_once time_limit (time_word ms) ms (time_word_back ms fits)
+
+small_back : (n : Option ℕ) → FitsNumber (2 ^ 32) n → small_given n ≡ as_given n
+small_back None fits = refl
+small_back (Some n) fits = read_once (number max_u32) (decimal n) n (small_number n fits)
+
+long_back : (n : Option ℕ) → FitsNumber (2 ^ 64) n → long_given n ≡ as_given n
+long_back None fits = refl
+long_back (Some n) fits = read_once (number max_u64) (decimal n) n (long_number n fits)
+
+-- whether words are settings, and the values that they give each key
+record Found : Type 0 where
+  are : Bool
+  url : List (List ℕ)
+  connect : List (List ℕ)
+  response : List (List ℕ)
+  limit : List (List ℕ)
+  buffer : List (List ℕ)
+  boundary : List (List ℕ)
+  lib : List (List ℕ)
+
+abbrev found_in : List (List ℕ) → Found
+found_in words = record {
+  are = list_all (is_setting keys) words;
+  url = values (codes "url") words;
+  connect = values (codes "connect") words;
+  response = values (codes "response") words;
+  limit = values (codes "limit") words;
+  buffer = values (codes "buffer") words;
+  boundary = values (codes "boundary") words;
+  lib = values (codes "lib") words;
+}
+
+-- what is found, with these words before
+abbrev with_connect : Option (Option ℕ) → Found → Found
+with_connect connect f = record f { connect = times_in connect ++ f.connect }
+
+abbrev with_response : Option (Option ℕ) → Found → Found
+with_response response f = record f { response = times_in response ++ f.response }
+
+abbrev with_buffer : Option ℕ → Found → Found
+with_buffer buffer f = record f { buffer = numbers_in buffer ++ f.buffer }
+
+abbrev with_limit : Option ℕ → Found → Found
+with_limit limit f = record f { limit = numbers_in limit ++ f.limit }
+
+abbrev with_boundary : Option ℕ → Found → Found
+with_boundary boundary f = record f { boundary = numbers_in boundary ++ f.boundary }
+
+connect_found : (connect : Option (Option ℕ)) (words : List (List ℕ)) → found_in (connect_words connect ++ words) ≡ with_connect connect (found_in words)
+connect_found None words = refl
+connect_found (Some None) words = refl
+connect_found (Some (Some ms)) words = refl
+
+response_found : (response : Option (Option ℕ)) (words : List (List ℕ)) → found_in (response_words response ++ words) ≡ with_response response (found_in words)
+response_found None words = refl
+response_found (Some None) words = refl
+response_found (Some (Some ms)) words = refl
+
+buffer_found : (buffer : Option ℕ) (words : List (List ℕ)) → found_in (buffer_words buffer ++ words) ≡ with_buffer buffer (found_in words)
+buffer_found None words = refl
+buffer_found (Some size) words = refl
+
+limit_found : (limit : Option ℕ) (words : List (List ℕ)) → found_in (limit_words limit ++ words) ≡ with_limit limit (found_in words)
+limit_found None words = refl
+limit_found (Some limit) words = refl
+
+boundary_found : (boundary : Option ℕ) (words : List (List ℕ)) → found_in (boundary_words boundary ++ words) ≡ with_boundary boundary (found_in words)
+boundary_found None words = refl
+boundary_found (Some bytes) words = refl
+
+-- the last word
+abbrev last_word : List (List ℕ)
+last_word = codes "lib=off" ∷ []
+
+-- what is found in the words behind the address
+abbrev found_of : Config → Found
+found_of c = with_connect c.connect (with_response c.response (with_buffer c.buffer (with_limit c.limit (with_boundary c.boundary (found_in last_word)))))
+
+-- the words behind the address, in a row
+abbrev in_a_row : Config → List (List ℕ)
+in_a_row c = connect_words c.connect ++ (response_words c.response ++ (buffer_words c.buffer ++ (limit_words c.limit ++ (boundary_words c.boundary ++ last_word))))
+
+row_found : (c : Config) → found_in (in_a_row c) ≡ found_of c
+row_found c =
+    let permits = limit_words c.limit ++ (boundary_words c.boundary ++ last_word) in
+    let numbers = buffer_words c.buffer ++ permits in
+    connect_found c.connect (response_words c.response ++ numbers)
+    ∙ ap (with_connect c.connect)
+    (response_found c.response numbers
+    ∙ ap (with_response c.response)
+    (buffer_found c.buffer permits
+    ∙ ap (with_buffer c.buffer)
+    (limit_found c.limit (boundary_words c.boundary ++ last_word) ∙ ap (with_limit c.limit) (boundary_found c.boundary last_word))))
+
+later_row : (c : Config) → later_words c ≡ in_a_row c
+later_row c =
+    append_assoc (times_words c) (numbers_words c) last_word
+    ∙ append_assoc (connect_words c.connect) (response_words c.response) (numbers_words c ++ last_word)
+    ∙ ap (λ t. connect_words c.connect ++ (response_words c.response ++ t))
+    (append_assoc (buffer_words c.buffer ++ limit_words c.limit) (boundary_words c.boundary) last_word
+    ∙ append_assoc (buffer_words c.buffer) (limit_words c.limit) (boundary_words c.boundary ++ last_word))
+
+-- a configuration by what is read of its settings
+abbrev config_by : List ℕ → Setting (Option ℕ) → Setting (Option ℕ) → Setting ℕ → Setting ℕ → Setting ℕ → Option Config
+config_by address connect response limit buffer boundary =
+    if ((connect.allowed && response.allowed) && (limit.allowed && (buffer.allowed && boundary.allowed))) && true
+    then Some (record { url = address; connect = connect.read; response = response.read; limit = limit.read; buffer = buffer.read; boundary = boundary.read }) else None
+
+-- a configuration by what is found in the words behind its address
+abbrev config_found : List ℕ → Found → Option Config
+config_found address f =
+    if f.are && (((allows time_limit f.connect && allows time_limit f.response) && (allows (number max_u32) f.limit && (allows (number max_u32) f.buffer && allows (number max_u64) f.boundary))) && is_value (only f.lib) (codes "off"))
+    then option_map (λ text. record {
+      url = text;
+      connect = given time_limit f.connect;
+      response = given time_limit f.response;
+      limit = given (number max_u32) f.limit;
+      buffer = given (number max_u32) f.buffer;
+      boundary = given (number max_u64) f.boundary;
+    }) (only (address ∷ f.url)) else None
+
+config_back : (c : Config) → FitsConfig c → config_of (record { words = config_words c; more = [] }) ≡ Some c
 unfolding url config_of
-settings_back address None fits = refl
-settings_back address (Some None) fits = refl
-settings_back address (Some (Some ms)) fits =
-    ap (λ (limit : Option (Option ℕ)). if is_some limit && true && true then Some (record { url = address; connect = limit }) else None) (time_back ms fits)
-
-config_back : (config : Config) → FitsConfig config → config_of (config_line config.url config.connect) ≡ Some config
-config_back config fits = settings_back config.url config.connect fits.connect
+config_back c fits =
+    ap (config_found c.url) (ap found_in (later_row c) ∙ row_found c)
+    ∙ ap (λ s. config_by c.url s (time_given c.response) (small_given c.limit) (small_given c.buffer) (long_given c.boundary)) (limit_back c.connect fits.connect)
+    ∙ ap (λ s. config_by c.url (as_given c.connect) s (small_given c.limit) (small_given c.buffer) (long_given c.boundary)) (limit_back c.response fits.response)
+    ∙ ap (λ s. config_by c.url (as_given c.connect) (as_given c.response) s (small_given c.buffer) (long_given c.boundary)) (small_back c.limit fits.limit)
+    ∙ ap (λ s. config_by c.url (as_given c.connect) (as_given c.response) (as_given c.limit) s (long_given c.boundary)) (small_back c.buffer fits.buffer)
+    ∙ ap (λ s. config_by c.url (as_given c.connect) (as_given c.response) (as_given c.limit) (as_given c.buffer) s) (long_back c.boundary fits.boundary)
 
 config_undrawn : (config : Config) → IsUndrawn (config_words config)
 config_undrawn config = refl

@@ -20,7 +20,7 @@ use Rattle.redis_error.specs.declared.fault_kind.FaultKind.{FaultKind}
 use Rattle.redis_error.specs.declared.fault_kind.FaultKind.TheVariants as fault
 use Rattle.redis_error.specs.Names.{fault_name}
 use Rattle.script_text.specs.Numbers.{is_decimal, number}
-use Rattle.trace_text.specs.Show.{url, connect_words, plain_words, draw_words, config_words, first_of, behind_first, submission_words, submission_more, event_words, event_more, cause_words, cause_more}
+use Rattle.trace_text.specs.Show.{url, connect_words, response_words, buffer_words, limit_words, boundary_words, times_words, numbers_words, later_words, time_word, draw_words, config_words, first_of, behind_first, submission_words, submission_more, event_words, event_more, cause_words, cause_more}
 use Rattle.containers.proofs.Choices.{chosen, lt_from, not_lt_from, le_test, ne_test}
 use Rattle.text_laws.specs.Fits.{IsByte, AreBytes, FitsSubmission, FitsKind, FitsEvent, FitsConfig}
 
@@ -134,6 +134,10 @@ submission_more_bytes (submission.Pipe commands) fits = behind_bytes commands fi
 submission_more_bytes (submission.Multi commands) fits = behind_bytes commands fits
 submission_more_bytes (submission.Packed offset count commands) fits = behind_bytes commands fits.2
 
+time_bytes : (ms : Option ℕ) → AreBytes (time_word ms)
+time_bytes None = looked (codes "none") refl
+time_bytes (Some ms) = decimal_bytes ms
+
 kind_bytes : (kind : EventKind) → FitsKind kind → All AreBytes (event_words kind)
 kind_bytes (event.Submit s) fits = word_and (codes "submit") (submission_words s) (looked (codes "submit") refl) (submission_bytes s fits)
 kind_bytes (event.Cancel s) fits = one_number (codes "cancel") s (looked (codes "cancel") refl)
@@ -147,6 +151,7 @@ kind_bytes (event.Ended link) fits = one_number (codes "ended") link (looked (co
 kind_bytes (event.ReadFault link kind) fits = failed_bytes (codes "read-fault") link kind (looked (codes "read-fault") refl)
 kind_bytes (event.WriteFault link kind) fits = failed_bytes (codes "write-fault") link kind (looked (codes "write-fault") refl)
 kind_bytes (event.Fired timer) fits = one_number (codes "fired") timer (looked (codes "fired") refl)
+kind_bytes (event.Timeout ms) fits = word_and (codes "timeout") (time_word ms ∷ []) (looked (codes "timeout") refl) (word_and (time_word ms) [] (time_bytes ms) no_words)
 kind_bytes event.Shutdown fits = word_and (codes "shutdown") [] (looked (codes "shutdown") refl) no_words
 
 kind_more_bytes : (kind : EventKind) → FitsKind kind → All (All AreBytes) (event_more kind)
@@ -160,6 +165,7 @@ kind_more_bytes (event.Ended link) fits = All-nil (All AreBytes)
 kind_more_bytes (event.ReadFault link kind) fits = All-nil (All AreBytes)
 kind_more_bytes (event.WriteFault link kind) fits = All-nil (All AreBytes)
 kind_more_bytes (event.Fired timer) fits = All-nil (All AreBytes)
+kind_more_bytes (event.Timeout ms) fits = All-nil (All AreBytes)
 kind_more_bytes event.Shutdown fits = All-nil (All AreBytes)
 
 draw_bytes : (w : ℕ) → All AreBytes (draw_words w)
@@ -169,21 +175,49 @@ url_bytes : (config : Config) → FitsConfig config → AreBytes (url config)
 unfolding url
 url_bytes config fits = All-append IsByte (codes "url=") config.url (looked (codes "url=") refl) fits.url
 
+-- a setting that is given
+setting_bytes : (key value : List ℕ) → AreBytes key → AreBytes value → All AreBytes ((key ++ value) ∷ [])
+setting_bytes key value first second = word_and (key ++ value) [] (All-append IsByte key value first second) no_words
+
 connect_bytes : (connect : Option (Option ℕ)) → All AreBytes (connect_words connect)
 connect_bytes None = no_words
 connect_bytes (Some None) = word_and (codes "connect=none") [] (looked (codes "connect=none") refl) no_words
-connect_bytes (Some (Some ms)) =
-    word_and (codes "connect=" ++ decimal ms) [] (All-append IsByte (codes "connect=") (decimal ms) (looked (codes "connect=") refl) (decimal_bytes ms)) no_words
+connect_bytes (Some (Some ms)) = setting_bytes (codes "connect=") (decimal ms) (looked (codes "connect=") refl) (decimal_bytes ms)
 
-plain_bytes : All AreBytes plain_words
-plain_bytes = word_and (codes "response=none") (codes "lib=off" ∷ []) (looked (codes "response=none") refl) (word_and (codes "lib=off") [] (looked (codes "lib=off") refl) no_words)
+response_bytes : (response : Option (Option ℕ)) → All AreBytes (response_words response)
+response_bytes None = no_words
+response_bytes (Some None) = word_and (codes "response=none") [] (looked (codes "response=none") refl) no_words
+response_bytes (Some (Some ms)) = setting_bytes (codes "response=") (decimal ms) (looked (codes "response=") refl) (decimal_bytes ms)
+
+buffer_bytes : (buffer : Option ℕ) → All AreBytes (buffer_words buffer)
+buffer_bytes None = no_words
+buffer_bytes (Some size) = setting_bytes (codes "buffer=") (decimal size) (looked (codes "buffer=") refl) (decimal_bytes size)
+
+limit_bytes : (limit : Option ℕ) → All AreBytes (limit_words limit)
+limit_bytes None = no_words
+limit_bytes (Some limit) = setting_bytes (codes "limit=") (decimal limit) (looked (codes "limit=") refl) (decimal_bytes limit)
+
+boundary_bytes : (boundary : Option ℕ) → All AreBytes (boundary_words boundary)
+boundary_bytes None = no_words
+boundary_bytes (Some bytes) = setting_bytes (codes "boundary=") (decimal bytes) (looked (codes "boundary=") refl) (decimal_bytes bytes)
+
+times_bytes : (config : Config) → All AreBytes (times_words config)
+times_bytes config = All-append AreBytes (connect_words config.connect) (response_words config.response) (connect_bytes config.connect) (response_bytes config.response)
+
+numbers_bytes : (config : Config) → All AreBytes (numbers_words config)
+numbers_bytes config =
+    All-append AreBytes (buffer_words config.buffer ++ limit_words config.limit) (boundary_words config.boundary)
+    (All-append AreBytes (buffer_words config.buffer) (limit_words config.limit) (buffer_bytes config.buffer) (limit_bytes config.limit)) (boundary_bytes config.boundary)
+
+later_bytes : (config : Config) → All AreBytes (later_words config)
+later_bytes config =
+    All-append AreBytes (times_words config ++ numbers_words config) (codes "lib=off" ∷ []) (All-append AreBytes (times_words config) (numbers_words config) (times_bytes config) (numbers_bytes config))
+    (word_and (codes "lib=off") [] (looked (codes "lib=off") refl) no_words)
 
 config_bytes : (config : Config) → FitsConfig config → All AreBytes (config_words config)
 config_bytes config fits =
-    let settings = connect_words config.connect ++ plain_words in
-    word_and (codes "config") (codes "single" ∷ url config ∷ settings) (looked (codes "config") refl)
-    (word_and (codes "single") (url config ∷ settings) (looked (codes "single") refl)
-    (word_and (url config) settings (url_bytes config fits) (All-append AreBytes (connect_words config.connect) plain_words (connect_bytes config.connect) plain_bytes)))
+    word_and (codes "config") (codes "single" ∷ url config ∷ later_words config) (looked (codes "config") refl)
+    (word_and (codes "single") (url config ∷ later_words config) (looked (codes "single") refl) (word_and (url config) (later_words config) (url_bytes config fits) (later_bytes config)))
 
 -- a cause that its type holds
 abbrev pub FitsCause : Cause → Type 0

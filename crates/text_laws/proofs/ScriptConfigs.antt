@@ -1,15 +1,15 @@
 -- The configurations of scripts are configurations that their type holds.
-use Rattle.std.proofs.Common.{◌≡◌, ℕ, ◌≤◌, ◌==◌, List, [], ◌∷◌, All, Option, Some, None, IfSome, bytes_eq, option_map, option_and_then, codes, if◌then◌else◌, arith}
+use Rattle.std.proofs.Common.{◌≡◌, ℕ, ◌+◌, ◌^◌, ◌<◌, ◌≤◌, ◌==◌, List, [], ◌∷◌, All, Option, Some, None, IfSome, bytes_eq, option_map, option_and_then, codes, if◌then◌else◌, arith}
 use Rattle.std.specs.Option.{option_to_list}
 use Rattle.std.proofs.lemmas.List.Elements.{All-nil, All-cons, All-head, All-tail, All-append}
 use Rattle.containers.proofs.Choices.{chosen}
 use Rattle.script_text.specs.Words.{LineWords, cut_at}
-use Rattle.script_text.specs.Numbers.{number, max_u64}
+use Rattle.script_text.specs.Numbers.{number, max_u32, max_u64, time_limit}
 use Rattle.script_text.specs.EventLine.{by_first}
-use Rattle.script_text.specs.ConfigLine.{value_of, values, only, time_limit, single, kinds, config_of}
-use Rattle.text_laws.specs.Fits.{IsByte, AreBytes, FitsLimit, FitsConfig}
+use Rattle.script_text.specs.ConfigLine.{value_of, values, only, config_with, single, kinds, config_of}
+use Rattle.text_laws.specs.Fits.{IsByte, AreBytes, FitsLimit, FitsNumber, FitsConfig}
 use Rattle.text_laws.proofs.Held.{mapped, then_read, if_read, number_within}
-use Rattle.text_laws.proofs.ScriptEvents.{IsByteLine, by_form, whole_fits}
+use Rattle.text_laws.proofs.ScriptEvents.{IsByteLine, by_form, whole_fits, time_fits}
 
 -- the second of two texts is bytes
 abbrev SecondBytes : List ℕ × List ℕ → Type 0
@@ -41,25 +41,33 @@ only_bytes [] small = tt
 only_bytes (text ∷ []) small = All-head AreBytes text [] small
 only_bytes (text ∷ next ∷ more) small = tt
 
-number_fits : (o : Option ℕ) → IfSome o (λ n. n ≤ max_u64) → FitsLimit (option_map Some o)
-number_fits None within = tt
-number_fits (Some n) within = omega (arith, within)
-
-time_fits : (value : List ℕ) → FitsLimit (time_limit value)
-time_fits value =
-    chosen FitsLimit (bytes_eq value (codes "none")) (Some None) (option_map Some (number max_u64 value)) (λ t. tt) (λ f. number_fits (number max_u64 value) (number_within max_u64 value))
-
 limit_fits : (value : Option (List ℕ)) → FitsLimit (option_and_then time_limit value)
 limit_fits None = tt
 limit_fits (Some value) = time_fits value
 
+bounded : (most bound : ℕ) → most < bound → (o : Option ℕ) → IfSome o (λ n. n ≤ most) → FitsNumber bound o
+bounded most bound less None within = tt
+bounded most bound less (Some n) within = omega (arith, within, less)
+
+given_fits : (most bound : ℕ) → most < bound → (value : Option (List ℕ)) → FitsNumber bound (option_and_then (number most) value)
+given_fits most bound less None = tt
+given_fits most bound less (Some value) = bounded most bound less (number most value) (number_within most value)
+
+with_url : (words : List (List ℕ)) (url : List ℕ) → AreBytes url → FitsConfig (config_with words url)
+with_url words url small = record {
+  url = small;
+  connect = limit_fits (only (values (codes "connect") words));
+  response = limit_fits (only (values (codes "response") words));
+  limit = given_fits max_u32 (2 ^ 32) (omega arith) (only (values (codes "limit") words));
+  buffer = given_fits max_u32 (2 ^ 32) (omega arith) (only (values (codes "buffer") words));
+  boundary = given_fits max_u64 (2 ^ 64) (omega arith) (only (values (codes "boundary") words));
+}
+
 single_fits : (words : List (List ℕ)) → All AreBytes words → IfSome (single words) FitsConfig
 single_fits words small =
-    let connect = option_and_then time_limit (only (values (codes "connect") words)) in
     let url = only (values (codes "url") words) in
-    if_read FitsConfig _ (option_map (λ text. record { url = text; connect = connect }) url)
-    (λ t. mapped AreBytes FitsConfig (λ text. record { url = text; connect = connect }) (λ text h. record { url = h; connect = limit_fits (only (values (codes "connect") words)) }) url
-    (only_bytes (values (codes "url") words) (values_bytes (codes "url") words small)))
+    if_read FitsConfig _ (option_map (config_with words) url)
+    (λ t. mapped AreBytes FitsConfig (config_with words) (with_url words) url (only_bytes (values (codes "url") words) (values_bytes (codes "url") words small)))
 
 pub config_fits : (line : LineWords) → IsByteLine line → IfSome (config_of line) FitsConfig
 unfolding config_of

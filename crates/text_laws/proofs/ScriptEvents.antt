@@ -1,18 +1,18 @@
 -- The events of scripts are events that their types hold, and their submissions have forms.
-use Rattle.std.proofs.Common.{◌≡◌, ℕ, ◌<◌, ◌≤◌, ◌^◌, false, List, [], ◌∷◌, All, Option, IfSome, bytes_eq, option_map, refl, arith}
+use Rattle.std.proofs.Common.{◌≡◌, ℕ, ◌<◌, ◌≤◌, ◌^◌, false, List, [], ◌∷◌, All, Option, Some, None, IfSome, bytes_eq, codes, option_map, refl, arith}
 use Rattle.std.proofs.lemmas.List.Elements.{All-cons, All-head, All-tail}
 use Rattle.driver_model.specs.declared.event.Event.{Event}
 use Rattle.driver_model.specs.declared.event.EventKind.{EventKind}
-use Rattle.driver_model.specs.declared.event.EventKind.TheVariants.{Submit, Cancel, Connected, Refused, Wrote, Bytes, Ended, ReadFault, WriteFault, Fired, Shutdown}
+use Rattle.driver_model.specs.declared.event.EventKind.TheVariants.{Submit, Cancel, Connected, Refused, Wrote, Bytes, Ended, ReadFault, WriteFault, Fired, Timeout, Shutdown}
 use Rattle.driver_model.specs.declared.event.Submission.{Submission}
 use Rattle.driver_model.specs.declared.event.Submission.TheVariants.{Packed}
 use Rattle.driver_model.specs.Request.{is_single_nameless, has_no_form}
 use Rattle.redis_error.specs.declared.fault_kind.FaultKind.{FaultKind}
-use Rattle.script_text.specs.Numbers.{number, max_u32, max_u64}
+use Rattle.script_text.specs.Numbers.{number, max_u32, max_u64, time_limit}
 use Rattle.script_text.specs.Words.{LineWords}
-use Rattle.script_text.specs.EventLine.{Forms, by_first, whole, numbered, wrote, came, alone, faults, fault_among, failed, commands, packed, submissions, others, events, event_of}
+use Rattle.script_text.specs.EventLine.{Forms, by_first, whole, numbered, wrote, came, timed, alone, faults, fault_among, failed, commands, packed, submissions, others, events, event_of}
 use Rattle.containers.proofs.Choices.{chosen}
-use Rattle.text_laws.specs.Fits.{AreBytes, FitsCommands, FitsSubmission, FitsKind, FitsEvent, HasForm}
+use Rattle.text_laws.specs.Fits.{AreBytes, FitsCommands, FitsSubmission, FitsNumber, FitsLimit, FitsKind, FitsEvent, HasForm}
 use Rattle.text_laws.proofs.Held.{mapped, then_read, any_read, number_within}
 
 -- the words of a line are bytes
@@ -46,6 +46,15 @@ whole_fits P read each words (next ∷ more) small behind = tt
 
 small_number : (word : List ℕ) → IfSome (number max_u32 word) (λ n. n ≤ max_u32)
 small_number word = number_within max_u32 word
+
+number_fits : (o : Option ℕ) → IfSome o (λ n. n ≤ max_u64) → FitsLimit (option_map Some o)
+number_fits None within = tt
+number_fits (Some n) within = omega (arith, within)
+
+-- a time is one that its type holds
+pub time_fits : (value : List ℕ) → FitsLimit (time_limit value)
+time_fits value =
+    chosen FitsLimit (bytes_eq value (codes "none")) (Some None) (option_map Some (number max_u64 value)) (λ t. tt) (λ f. number_fits (number max_u64 value) (number_within max_u64 value))
 
 -- commands that their type holds, and that are no single nameless one
 abbrev SaidCommands : List (List (List ℕ)) → Type 0
@@ -82,6 +91,11 @@ came_fits (link ∷ []) small = tt
 came_fits (link ∷ piece ∷ []) small =
     mapped (λ l. l ≤ max_u32) SaidKind (λ l. Bytes l piece) (λ l within. ((omega arith, All-head AreBytes piece [] (All-tail AreBytes link (piece ∷ []) small)), tt)) (number max_u32 link) (small_number link)
 came_fits (link ∷ piece ∷ next ∷ rest) small = tt
+
+timed_fits : Reads SaidKind timed
+timed_fits [] small = tt
+timed_fits (value ∷ []) small = mapped (FitsNumber (2 ^ 64)) SaidKind Timeout (λ ms fits. (fits, tt)) (time_limit value) (time_fits value)
+timed_fits (value ∷ next ∷ rest) small = tt
 
 alone_fits : Reads SaidKind (alone Shutdown)
 alone_fits [] small = (tt, tt)
@@ -138,7 +152,7 @@ others_fit = (
             plain _ (one_number Ended (λ n l. (l, tt))),
             (
               plain _ (failed_fits ReadFault (λ l kind small. (small, tt))),
-              (plain _ (failed_fits WriteFault (λ l kind small. (small, tt))), (plain _ (one_number Fired (λ n l. (l, tt))), (plain _ alone_fits, tt))),
+              (plain _ (failed_fits WriteFault (λ l kind small. (small, tt))), (plain _ (one_number Fired (λ n l. (l, tt))), (plain _ timed_fits, (plain _ alone_fits, tt)))),
             ),
           ),
         ),

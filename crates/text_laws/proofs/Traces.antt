@@ -1,5 +1,5 @@
 -- The turns of a replay's trace are those of its history, and its text tells them.
-use Rattle.std.proofs.Common.{◌≡◌, ℕ, false, List, [], ◌∷◌, ◌++◌, All, Option, Some, None, map, refl, ap, ◌∙◌}
+use Rattle.std.proofs.Common.{◌≡◌, ℕ, ◌+◌, false, List, [], ◌∷◌, ◌++◌, length, All, Option, Some, None, map, refl, ap, ◌∙◌}
 use Rattle.std.specs.Prelude.{option_and_then}
 use Rattle.std.proofs.lemmas.List.Elements.{All-nil, All-cons, All-head, All-tail, All-same}
 use Rattle.driver_model.specs.declared.action.Action.{Action}
@@ -26,20 +26,23 @@ use Rattle.text_laws.proofs.Bytes.{FitsCause}
 use Rattle.text_laws.proofs.Turns.{cause_line, turns_told}
 
 -- what a connection shows begins no turn
-no_causes : (l : ℕ) (acts : List LinkAct) → causes (shown_each l acts) ≡ []
-no_causes l [] = refl
-no_causes l (act.Created error ∷ more) = no_causes l more
-no_causes l (act.Close ∷ more) = no_causes l more
-no_causes l (act.Write bytes ∷ more) = no_causes l more
-no_causes l (act.Wait n kind ∷ more) = no_causes l more
-no_causes l (act.Start message n need len ∷ more) = no_causes l more
-no_causes l (act.Outcome n o ∷ more) = no_causes l more
+no_causes : (l t : ℕ) (acts : List LinkAct) → causes (shown_each l t acts) ≡ []
+no_causes l t [] = refl
+no_causes l t (act.Created error ∷ more) = no_causes l (t + 0) more
+no_causes l t (act.Took n count ∷ more) = no_causes l (t + 0) more
+no_causes l t (act.Timer n ms ∷ more) = no_causes l (t + 1) more
+no_causes l t (act.Close ∷ more) = no_causes l (t + 0) more
+no_causes l t (act.Write bytes ∷ more) = no_causes l (t + 0) more
+no_causes l t (act.Wait n kind ∷ more) = no_causes l (t + 0) more
+no_causes l t (act.Start message n need len ∷ more) = no_causes l (t + 0) more
+no_causes l t (act.Outcome n o ∷ more) = no_causes l (t + 0) more
 
 causes_append : (xs ys : List Action) → causes (xs ++ ys) ≡ causes xs ++ causes ys
 causes_append [] ys = refl
 causes_append (action.Turn k c ∷ xs) ys = ap (λ (cs : List Cause). c ∷ cs) (causes_append xs ys)
 causes_append (action.Connect link host port ∷ xs) ys = causes_append xs ys
 causes_append (action.Timer timer ms what ∷ xs) ys = causes_append xs ys
+causes_append (action.Took owner link count ∷ xs) ys = causes_append xs ys
 causes_append (action.Close link ∷ xs) ys = causes_append xs ys
 causes_append (action.Write link bytes ∷ xs) ys = causes_append xs ys
 causes_append (action.Wait owner kind ∷ xs) ys = causes_append xs ys
@@ -49,7 +52,7 @@ causes_append (action.Outcome s outcome ∷ xs) ys = causes_append xs ys
 
 -- a turn has its own cause alone
 one_cause : (c : Core) (e : Event) → causes (actions_of c e) ≡ cause.Event e ∷ []
-one_cause c e = ap (λ (cs : List Cause). cause.Event e ∷ cs) (no_causes c.single.link (next_turn c e.kind).acts)
+one_cause c e = ap (λ (cs : List Cause). cause.Event e ∷ cs) (no_causes c.single.link (length c.timers) (next_turn c e.kind).acts)
 
 causes_on : (c : Core) (es : List Event) → causes (turns_on c es) ≡ event_causes es
 causes_on c [] = refl
@@ -102,6 +105,7 @@ good_form c (event.Ended l) good = tt
 good_form c (event.ReadFault l kind) good = tt
 good_form c (event.WriteFault l kind) good = tt
 good_form c (event.Fired timer) good = tt
+good_form c (event.Timeout ms) good = tt
 good_form c event.Shutdown good = tt
 
 good_forms_on : (c : Core) (es : List Event) → AreGoodOn c es → HaveForms es

@@ -52,6 +52,7 @@ turns_told (action.Turn k c ∷ more) fits =
     a_turn k c (show more) (All-head FitsCause c (causes more) fits) ∙ ap (option_map (λ cs. cause_line c ∷ cs)) (turns_told more (All-tail FitsCause c (causes more) fits))
 turns_told (action.Connect link host port ∷ more) fits = untold (codes "connect") (decimal link ∷ address host port ∷ []) (show more) refl ∙ turns_told more fits
 turns_told (action.Timer timer ms what ∷ more) fits = untold (codes "timer") (decimal timer ∷ decimal ms ∷ purpose_words what) (show more) refl ∙ turns_told more fits
+turns_told (action.Took owner link count ∷ more) fits = untold (codes "took") (owner_word owner ∷ decimal link ∷ decimal count ∷ []) (show more) refl ∙ turns_told more fits
 turns_told (action.Close link ∷ more) fits = untold (codes "close") (decimal link ∷ []) (show more) refl ∙ turns_told more fits
 turns_told (action.Write link bytes ∷ more) fits = untold (codes "write") (decimal link ∷ bytes ∷ []) (show more) refl ∙ turns_told more fits
 turns_told (action.Wait owner kind ∷ more) fits = untold (codes "wait") (owner_word owner ∷ wait_word kind ∷ []) (show more) refl ∙ turns_told more fits

@@ -1,6 +1,6 @@
 -- What the types of a history hold: each number is in the range of its type, and each byte is one. And which histories have
 -- submissions with forms alone.
-use Rattle.std.specs.Prelude.{◌≡◌, ℕ, ◌^◌, ◌<◌, false, List, Option, Some, None, All}
+use Rattle.std.specs.Prelude.{◌≡◌, ℕ, ◌^◌, ◌<◌, false, List, Option, Some, None, IfSome, All}
 use Rattle.driver_model.specs.declared.config.Config.{Config}
 use Rattle.driver_model.specs.declared.event.Event.{Event}
 use Rattle.driver_model.specs.declared.event.EventKind.{EventKind}
@@ -29,6 +29,11 @@ FitsSubmission (submission.Pipe commands) = FitsCommands commands
 FitsSubmission (submission.Multi commands) = FitsCommands commands
 FitsSubmission (submission.Packed offset count commands) = (offset < 2 ^ 32) × (count < 2 ^ 32) × FitsCommands commands
 
+-- a number that is less than this, where there is one
+abbrev pub FitsNumber : ℕ → Option ℕ → Type 0
+FitsNumber bound None = Unit {0}
+FitsNumber bound (Some n) = n < bound
+
 -- a kind of event that its type holds
 abbrev pub FitsKind : EventKind → Type 0
 FitsKind (event.Submit s) = FitsSubmission s
@@ -41,6 +46,7 @@ FitsKind (event.Ended link) = link < 2 ^ 32
 FitsKind (event.ReadFault link kind) = link < 2 ^ 32
 FitsKind (event.WriteFault link kind) = link < 2 ^ 32
 FitsKind (event.Fired timer) = timer < 2 ^ 32
+FitsKind (event.Timeout ms) = FitsNumber (2 ^ 64) ms
 FitsKind event.Shutdown = Unit {0}
 
 -- an event that its type holds
@@ -50,14 +56,16 @@ pub record FitsEvent (e : Event) : Type 0 where
 
 -- a number of milliseconds, where there is one, that its type holds
 abbrev pub FitsLimit : Option (Option ℕ) → Type 0
-FitsLimit None = Unit {0}
-FitsLimit (Some None) = Unit {0}
-FitsLimit (Some (Some ms)) = ms < 2 ^ 64
+FitsLimit limit = IfSome limit (FitsNumber (2 ^ 64))
 
 -- a configuration that its type holds
 pub record FitsConfig (config : Config) : Type 0 where
   pub url : AreBytes config.url
   pub connect : FitsLimit config.connect
+  pub response : FitsLimit config.response
+  pub limit : FitsNumber (2 ^ 32) config.limit
+  pub buffer : FitsNumber (2 ^ 32) config.buffer
+  pub boundary : FitsNumber (2 ^ 64) config.boundary
 
 -- a history that the types hold
 pub record FitsHistory (c : Config) (w : ℕ) (es : List Event) : Type 0 where
@@ -77,6 +85,7 @@ HasForm (event.Ended link) = Unit {0}
 HasForm (event.ReadFault link kind) = Unit {0}
 HasForm (event.WriteFault link kind) = Unit {0}
 HasForm (event.Fired timer) = Unit {0}
+HasForm (event.Timeout ms) = Unit {0}
 HasForm event.Shutdown = Unit {0}
 
 -- each submission has a form

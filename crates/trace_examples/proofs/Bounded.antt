@@ -14,13 +14,14 @@ use Rattle.driver_model.specs.News.{News, refused, overdue, took, came, failed, 
 use Rattle.legal_trace.specs.Ledger.{Ledger, Line, asks, hears, ends, dials, with_news, noted, noted_each}
 use Rattle.legal_trace.specs.Story.{Story, is_open}
 use Rattle.legal_trace.proofs.Ledgers.{unasked_dials_not}
-use Rattle.legal_trace.specs.Book.{Book, blank_book, if_mine, lines_of, after_event, story_after, submitted_by, entered, entered_each}
+use Rattle.legal_trace.specs.Book.{Book, blank_book, if_mine, lines_of, is_clock_of, after_event, story_after, submitted_by, entered, entered_each}
 
 -- no link but the first is connected
 abbrev pub connects_first : EventKind → Bool
 connects_first (event.Connected l) = l == 0
 connects_first (event.Refused l f) = true
 connects_first (event.Fired t) = true
+connects_first (event.Timeout ms) = true
 connects_first (event.Submit what) = true
 connects_first (event.Cancel m) = true
 connects_first (event.Wrote l count) = true
@@ -36,6 +37,7 @@ is_of_first (action.Turn k (cause.Opening config word)) = true
 is_of_first (action.Turn k (cause.Event e)) = connects_first e.kind
 is_of_first (action.Connect l host port) = l == 0
 is_of_first (action.Timer t ms what) = true
+is_of_first (action.Took who l count) = true
 is_of_first (action.Close l) = l == 0
 is_of_first (action.Write l bytes) = true
 is_of_first (action.Wait who kind) = true
@@ -76,6 +78,7 @@ hears_idle l turn false x h g = record { down = h.down; unasked = h.unasked; liv
 fired_idle : (l : Ledger) (turn n : ℕ) (what : Option Purpose) → IsIdle l → IsIdle (noted l (hears turn (of_timer n what)))
 fired_idle l turn n None h = record { down = h.down; unasked = h.unasked; lives = h.lives }
 fired_idle l turn n (Some (purpose.Connect m)) h = hears_idle l turn (m == n) overdue h h
+fired_idle l turn n (Some (purpose.Response who)) h = record { down = h.down; unasked = h.unasked; lives = h.lives }
 
 -- so do the news of an event that doesn't connect it
 event_idle : (l : Ledger) (turn : ℕ) (timers : List Purpose) (n : ℕ) (kind : EventKind) → 0 < n → connects_first kind ≡ true → IsIdle l → IsIdle (noted l (hears turn (news_of timers n kind)))
@@ -88,6 +91,7 @@ event_idle l turn timers n (event.Ended m) some first h = hears_idle l turn (m =
 event_idle l turn timers n (event.ReadFault m kind) some first h = hears_idle l turn (m == n) (failed _) h h
 event_idle l turn timers n (event.WriteFault m kind) some first h = hears_idle l turn (m == n) (failed _) h h
 event_idle l turn timers n event.Shutdown some first h = record { down = h.down; unasked = h.unasked; lives = h.lives }
+event_idle l turn timers n (event.Timeout ms) some first h = record { down = h.down; unasked = h.unasked; lives = h.lives }
 event_idle l turn timers n (event.Submit what) some first h = record { down = h.down; unasked = h.unasked; lives = h.lives }
 event_idle l turn timers n (event.Cancel m) some first h = record { down = h.down; unasked = h.unasked; lives = h.lives }
 
@@ -97,6 +101,7 @@ still_idle b n (action.Turn k (cause.Opening config word)) some first h = h
 still_idle b n (action.Turn k (cause.Event e)) some first h = event_idle (b.link n) k b.timers n e.kind some first h
 still_idle b n (action.Connect l host port) some first h = mine_idle b n l asks some first h
 still_idle b n (action.Timer t ms what) some first h = h
+still_idle b n (action.Took who l count) some first h = h
 still_idle b n (action.Close l) some first h = mine_idle b n l (ends (b.turns - 1)) some first h
 still_idle b n (action.Write l bytes) some first h = any_idle (b.link n) (l == n) _ h (record { down = h.down; unasked = h.unasked; lives = h.lives })
 still_idle b n (action.Wait who kind) some first h = h
@@ -114,7 +119,8 @@ event_absent b n (event.Submit what) l h = rw (ne_test b.submissions n (λ e. ab
 event_absent b n (event.Cancel m) l h = chosen IsAbsent (m == n) _ _ (λ t. chosen IsAbsent (is_open (b.story n)) _ _ (λ u. h) (λ u. h)) (λ t. h)
 event_absent b n (event.Connected m) l h = h
 event_absent b n (event.Refused m f) l h = h
-event_absent b n (event.Fired t) l h = h
+event_absent b n (event.Fired t) l h = chosen IsAbsent (is_clock_of n (slice_get b.timers t)) _ _ (λ e. chosen IsAbsent (is_open (b.story n)) _ _ (λ u. h) (λ u. h)) (λ f. h)
+event_absent b n (event.Timeout ms) l h = h
 event_absent b n (event.Wrote m count) l h = h
 event_absent b n (event.Bytes m piece) l h = h
 event_absent b n (event.Ended m) l h = h
@@ -130,7 +136,8 @@ still_absent b n (action.Start m k (owner.Try i round) count len) l h = chosen I
 still_absent b n (action.Wait (owner.Try i round) kind) l h = chosen IsAbsent (i == n) _ _ (λ t. h n l) (λ t. h n l)
 still_absent b n (action.Outcome m o) l h = chosen IsAbsent (m == n) _ _ (λ t. h n l) (λ t. h n l)
 still_absent b n (action.Connect m host port) l h = h n l
-still_absent b n (action.Timer t ms what) l h = h n l
+still_absent b n (action.Timer t ms what) l h = chosen IsAbsent (is_clock_of n (Some what)) _ _ (λ e. h n l) (λ e. h n l)
+still_absent b n (action.Took (owner.Try i round) m count) l h = chosen IsAbsent (i == n) _ _ (λ t. h n l) (λ t. h n l)
 still_absent b n (action.Close m) l h = h n l
 still_absent b n (action.Write m bytes) l h = h n l
 still_absent b n (action.Created e) l h = h n l

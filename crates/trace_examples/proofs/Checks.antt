@@ -5,7 +5,7 @@ use Rattle.std.proofs.lemmas.Bool.{not-true}
 use Rattle.containers.proofs.Choices.{by_test, eq_from, ne_from, both_left, both_right, not_both}
 use Rattle.driver_model.specs.declared.action.WaitKind.{WaitKind}
 use Rattle.driver_model.specs.declared.action.WaitKind.TheVariants as wait
-use Rattle.legal_trace.specs.Steps.{Step, waits, tells, starts, nothing}
+use Rattle.legal_trace.specs.Steps.{Step, waits, takes, asks, tells, starts, nothing}
 
 -- the second test, where the first is true
 abbrev pub holds_if : Bool → Bool → Bool
@@ -51,6 +51,7 @@ below test (suc k) n e l =
 -- two waits of one kind
 abbrev pub same_wait : WaitKind → WaitKind → Bool
 same_wait wait.Connect wait.Connect = true
+same_wait wait.Permit wait.Permit = true
 same_wait wait.Place wait.Place = true
 same_wait wait.Room wait.Room = true
 same_wait _ _ = false
@@ -58,6 +59,7 @@ same_wait _ _ = false
 -- what this says
 wait_from : (k j : WaitKind) → same_wait k j ≡ true → k ≡ j
 wait_from wait.Connect wait.Connect e = refl
+wait_from wait.Permit wait.Permit e = refl
 wait_from wait.Place wait.Place e = refl
 wait_from wait.Room wait.Room e = refl
 wait_from _ _ e = cc
@@ -65,12 +67,15 @@ wait_from _ _ e = cc
 -- each is of its own kind
 wait_is_one : (k : WaitKind) → same_wait k k ≡ true
 wait_is_one wait.Connect = refl
+wait_is_one wait.Permit = refl
 wait_is_one wait.Place = refl
 wait_is_one wait.Room = refl
 
 -- two steps of one sort
 abbrev pub same_step : Step → Step → Bool
 same_step (waits k) (waits j) = same_wait k j
+same_step (takes m) (takes n) = m == n
+same_step (asks m) (asks n) = m == n
 same_step tells tells = true
 same_step starts starts = true
 same_step nothing nothing = true
@@ -79,6 +84,8 @@ same_step _ _ = false
 -- what this says
 pub step_from : (s t : Step) → same_step s t ≡ true → s ≡ t
 step_from (waits k) (waits j) e = ap waits (wait_from k j e)
+step_from (takes m) (takes n) e = ap takes (eq_from m n e)
+step_from (asks m) (asks n) e = ap asks (eq_from m n e)
 step_from tells tells e = refl
 step_from starts starts e = refl
 step_from nothing nothing e = refl

@@ -1,5 +1,5 @@
 -- A trace whose steps are tested one by one is legal: each action stands where it may, since it is the next that is due.
-use Rattle.std.proofs.Common.{◌≡◌, ◌⊎◌, ℕ, ◌==◌, Bool, true, ◌&&◌, not, List, [], ◌∷◌, length, Option, Some, None, is_some, refl, sym, ap, ◌∙◌, inl, inr, arith}
+use Rattle.std.proofs.Common.{◌≡◌, ◌⊎◌, ℕ, ◌==◌, Bool, true, ◌&&◌, not, List, [], ◌∷◌, length, Option, Some, None, is_some, refl, sym, ap, subst, ◌∙◌, inl, inr, arith}
 use Rattle.std.proofs.lemmas.Bool.{not-true}
 use Rattle.containers.proofs.Choices.{eq_from, ne_from, both_left, both_right}
 use Rattle.resp_value.specs.declared.value.Value.TheVariants.{Nil}
@@ -22,10 +22,10 @@ use Rattle.driver_model.specs.Shape.{need_of}
 use Rattle.legal_trace.specs.Ledger.{Ending, is_over, ending, failure_in, unwritten}
 use Rattle.legal_trace.specs.Story.{is_open, is_unstarted, bytes_of, shape}
 use Rattle.legal_trace.specs.Book.{Book, blank_book, book, current, entered, entered_each}
-use Rattle.legal_trace.specs.Steps.{tells, starts, next_step}
+use Rattle.legal_trace.specs.Steps.{takes, asks, tells, starts, next_step}
 use Rattle.legal_trace.specs.Owed.{owed}
 use Rattle.legal_trace.specs.Events.{is_bad_event}
-use Rattle.legal_trace.specs.Legal.{IsOpen, IsWaiting, link_of, MayTurn, MayConnect, MayTimer, MayClose, MayBeCreated, MayFail, MayAnswer, MayTell, MayStart, MayWrite, MayWait, MayStand, AllStand, causes, event_causes, Legal}
+use Rattle.legal_trace.specs.Legal.{IsOpen, IsWaiting, link_of, MayTurn, MayConnect, MayTimeConnect, MayTime, MayTake, MayTimer, MayClose, MayBeCreated, MayFail, MayAnswer, MayTell, MayStart, MayWrite, MayWait, MayStand, AllStand, causes, event_causes, Legal}
 use Rattle.trace_examples.proofs.Bounded.{IsBounded, is_of_first, still_bounded, blank_bounded}
 use Rattle.trace_examples.proofs.Checks.{holds_if, held, is_empty, empty_from, filled_from, each_below, below, same_step, step_from, is_other_wait, other_wait}
 use Rattle.trace_examples.proofs.Settled.{is_quiet, quiet, all_quiet, none_is_owed, all_shown, verdicts_are_shown, none_ends, no_end, failure_shown, failures_are_shown, is_applied, applied, all_stay, none_before, is_moved, moved, is_written, written, wait_holds, holds, is_waiting, waiting, is_settled, settled}
@@ -108,9 +108,40 @@ start_stands b l k n count len bounded e = record {
   long_as_its_bytes = eq_from len (length (bytes_of (b.story n))) (search (both_left, both_right));
 }
 
--- the timer of the opening; for how long and for what is left to be said
-abbrev pub timer_due : Book → ℕ → Bool
-timer_due b t = not (b.links == 0) && is_empty b.timers && (t == length b.timers)
+-- permits that are taken
+abbrev pub take_due : Book → ℕ → ℕ → ℕ → Bool
+take_due b n l count = is_applied b && is_unstarted (b.story n) && same_step (next_step b n) (takes count) && all_stay b n && (l == (b.story n).link)
+
+-- what this says
+take_stands : (b : Book) (n l count : ℕ) → IsBounded b → take_due b n l count ≡ true → MayTake b n l count
+take_stands b n l count bounded e = record {
+  applied = applied b bounded (search (both_left, both_right));
+  unstarted = search (both_left, both_right);
+  takes = step_from (next_step b n) (takes count) (search (both_left, both_right));
+  in_order = none_before b n (search (both_left, both_right));
+  on_its_link = eq_from l (b.story n).link (search (both_left, both_right));
+}
+
+-- the timer of a submission
+abbrev pub ask_due : Book → ℕ → ℕ → ℕ → Bool
+ask_due b t ms n = is_applied b && is_unstarted (b.story n) && same_step (next_step b n) (asks ms) && all_stay b n && (t == length b.timers)
+
+-- what this says
+ask_stands : (b : Book) (t ms n : ℕ) → IsBounded b → ask_due b t ms n ≡ true → MayTime b t ms (purpose.Response (owner.Try n 0))
+ask_stands b t ms n bounded e = record {
+  n = n;
+  applied = applied b bounded (search (both_left, both_right));
+  unstarted = search (both_left, both_right);
+  asks = step_from (next_step b n) (asks ms) (search (both_left, both_right));
+  in_order = none_before b n (search (both_left, both_right));
+  next = eq_from t (length b.timers) (search (both_left, both_right));
+  is_for = refl;
+}
+
+-- the timer of the opening, of which is left to be said for how long and for what; or that of a submission
+abbrev pub timer_due : Book → ℕ → ℕ → Purpose → Bool
+timer_due b t ms (purpose.Connect l) = not (b.links == 0) && is_empty b.timers && (t == length b.timers)
+timer_due b t ms (purpose.Response (owner.Try n round)) = (round == 0) && ask_due b t ms n
 
 -- that a connect may take so long, and is what the timer is for
 abbrev pub IsTime : Book → Option Cause → ℕ → Purpose → Type 0
@@ -118,10 +149,16 @@ IsTime b None ms what = ⊥
 IsTime b (Some (cause.Event e)) ms what = ⊥
 IsTime b (Some (cause.Opening config word)) ms what = (connect_timeout config ≡ Some ms) × (what ≡ purpose.Connect (current b))
 
-timer_stands : (b : Book) (t ms : ℕ) (what : Purpose) → timer_due b t ≡ true → IsTime b b.running ms what → MayTimer b t ms what
-timer_stands b t ms what e said = of_cause b.running refl said
+-- this is left to be said of the timer of a connect
+abbrev pub IsTimeOf : Book → ℕ → Purpose → Type 0
+IsTimeOf b ms (purpose.Connect l) = IsTime b b.running ms (purpose.Connect l)
+IsTimeOf b ms (purpose.Response who) = Unit {0}
+
+-- so the timer of a connect may stand
+connect_timer_stands : (b : Book) (t ms l : ℕ) → timer_due b t ms (purpose.Connect l) ≡ true → IsTime b b.running ms (purpose.Connect l) → MayTimeConnect b t ms (purpose.Connect l)
+connect_timer_stands b t ms l e said = of_cause b.running refl said
   where
-    of_cause : (c : Option Cause) → b.running ≡ c → IsTime b c ms what → MayTimer b t ms what
+    of_cause : (c : Option Cause) → b.running ≡ c → IsTime b c ms (purpose.Connect l) → MayTimeConnect b t ms (purpose.Connect l)
     of_cause None same s = absurd s
     of_cause (Some (cause.Event event)) same s = absurd s
     of_cause (Some (cause.Opening config word)) same s = record {
@@ -134,6 +171,12 @@ timer_stands b t ms what e said = of_cause b.running refl said
       next = eq_from t (length b.timers) (search (both_left, both_right));
       is_for = s.1;
     }
+
+-- and any timer
+timer_stands : (b : Book) (t ms : ℕ) (what : Purpose) → IsBounded b → timer_due b t ms what ≡ true → IsTimeOf b ms what → MayTimer b t ms what
+timer_stands b t ms (purpose.Connect l) bounded e said = inl (connect_timer_stands b t ms l e said)
+timer_stands b t ms (purpose.Response (owner.Try n round)) bounded e said =
+    inr (subst (λ r. MayTime b t ms (purpose.Response (owner.Try n r))) (sym (eq_from round 0 (both_left (round == 0) (ask_due b t ms n) e))) (ask_stands b t ms n bounded (both_right (round == 0) (ask_due b t ms n) e)))
 
 -- a creation that failed; with which error is left to be said
 abbrev pub failure_due : Book → Bool
@@ -203,7 +246,8 @@ outcome_stands b n o bounded e said = of_owed (owed b n) refl (both_right (is_op
 abbrev pub due : Book → Action → Bool
 due b (action.Turn k c) = turn_due b k c
 due b (action.Connect l host port) = (b.links == 0) && (l == 0)
-due b (action.Timer t ms what) = timer_due b t
+due b (action.Timer t ms what) = timer_due b t ms what
+due b (action.Took (owner.Try n round) l count) = (round == 0) && take_due b n l count
 due b (action.Close l) = close_due b l
 due b (action.Write l bytes) = write_due b l bytes
 due b (action.Wait (owner.Try n round) kind) = (round == 0) && wait_due b n kind
@@ -259,7 +303,8 @@ AllSaid b (action.Connect l host port ∷ more) = IsAddress b.running host port 
 AllSaid b (action.Write l bytes ∷ more) = (bytes ≡ unwritten (b.link l)) × AllSaid (entered b (action.Write l bytes)) more
 AllSaid b (action.Outcome n o ∷ more) = IsSaid o (owed b n) × AllSaid (entered b (action.Outcome n o)) more
 AllSaid b (action.Turn k c ∷ more) = AllSaid (entered b (action.Turn k c)) more
-AllSaid b (action.Timer t ms what ∷ more) = IsTime b b.running ms what × AllSaid (entered b (action.Timer t ms what)) more
+AllSaid b (action.Timer t ms what ∷ more) = IsTimeOf b ms what × AllSaid (entered b (action.Timer t ms what)) more
+AllSaid b (action.Took who l count ∷ more) = AllSaid (entered b (action.Took who l count)) more
 AllSaid b (action.Close l ∷ more) = AllSaid (entered b (action.Close l)) more
 AllSaid b (action.Wait who kind ∷ more) = AllSaid (entered b (action.Wait who kind)) more
 AllSaid b (action.Start l k who count len ∷ more) = AllSaid (entered b (action.Start l k who count len)) more
@@ -270,7 +315,9 @@ AllSaid b (action.Created (Some e) ∷ more) = (failure_in (b.link 0).end ≡ So
 first_stands : (b : Book) (a : Action) (more : List Action) → IsBounded b → due b a ≡ true → AllSaid b (a ∷ more) → MayStand b a × AllSaid (entered b a) more
 first_stands b (action.Turn k c) more bounded e said = (turn_stands b k c bounded e, said)
 first_stands b (action.Connect l host port) more bounded e said = (connect_stands b l host port e said.0, said.1)
-first_stands b (action.Timer t ms what) more bounded e said = (timer_stands b t ms what e said.0, said.1)
+first_stands b (action.Timer t ms what) more bounded e said = (timer_stands b t ms what bounded e said.0, said.1)
+first_stands b (action.Took (owner.Try n round) l count) more bounded e said =
+    ((eq_from round 0 (both_left (round == 0) (take_due b n l count) e), take_stands b n l count bounded (both_right (round == 0) (take_due b n l count) e)), said)
 first_stands b (action.Close l) more bounded e said = (close_stands b l bounded e, said)
 first_stands b (action.Write l bytes) more bounded e said = (write_stands b l bytes bounded e said.0, said.1)
 first_stands b (action.Wait (owner.Try n round) kind) more bounded e said =

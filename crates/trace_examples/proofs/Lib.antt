@@ -12,3 +12,4 @@ pub mod Unopened
 pub mod LeftOut
 pub mod Fronts
 pub mod Places
+pub mod Permits

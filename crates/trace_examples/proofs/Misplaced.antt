@@ -1,9 +1,7 @@
 -- Actions that stand where they may not: whatever comes after these fronts, no trace that begins so is legal.
-use Rattle.std.proofs.Common.{length, ap, ◌∙◌, ◌≡◌, ◌≢◌, ℕ, ◌<◌, ◌==◌, nat_le, Bool, true, false, List, [], ◌∷◌, ◌++◌, Option, Some, None, if◌then◌else◌, codes, refl, inl, inr, arith}
-use Rattle.containers.proofs.Choices.{ne_from, not_le_from, not_le_test}
+use Rattle.std.proofs.Common.{length, ap, ◌∙◌, ◌≡◌, ◌≢◌, ℕ, ◌<◌, nat_le, Bool, true, false, List, ◌∷◌, ◌++◌, nat_lt, ◌&&◌, ◌||◌, Option, Some, None, is_none, refl, sym, inl, inr, arith}
+use Rattle.containers.proofs.Choices.{not_both, not_le_from, not_le_test}
 use Rattle.std.specs.Fmt.{digits}
-use Rattle.redis_error.specs.declared.config_name.ConfigName.TheVariants as name
-use Rattle.connection_info.specs.declared.address.ConnectionInfo.{ConnectionInfo}
 use Rattle.resp_value.specs.declared.value.Value.TheVariants.{Nil}
 use Rattle.resp_read.specs.Grammar.{max_depth}
 use Rattle.resp_read.specs.Values.{values, left_over}
@@ -19,55 +17,68 @@ use Rattle.driver_model.specs.declared.config.Config.{Config}
 use Rattle.driver_model.specs.declared.event.Event.{Event}
 use Rattle.driver_model.specs.declared.event.EventKind.TheVariants as event
 use Rattle.driver_model.specs.declared.outcome.Outcome.TheVariants as outcome
-use Rattle.driver_model.specs.Config.{address, buffer_size, boundary, has_setup, fault_in, first_fault}
+use Rattle.driver_model.specs.Config.{buffer_size, boundary}
 use Rattle.driver_model.specs.Request.{packed_bytes}
 use Rattle.legal_trace.specs.Events.{is_bad_event}
-use Rattle.legal_trace.specs.Steps.{tells, starts, step_up, is_due}
-use Rattle.legal_trace.specs.Legal.{MayTurn, MayConnect, Legal}
+use Rattle.legal_trace.specs.Ledger.{dials}
+use Rattle.legal_trace.specs.Story.{is_told, is_awaited}
+use Rattle.legal_trace.specs.Book.{Book}
+use Rattle.legal_trace.specs.Steps.{tells, starts, permits_in, line_before, is_outside, is_held_back, is_due, next_step}
+use Rattle.legal_trace.specs.Legal.{link_of, MayTurn, Legal}
+use Rattle.legal_trace.proofs.Moves.{is_timed, starts_mean, tells_mean, placed_is_awaited, free_is_due}
 use Rattle.trace_examples.specs.Parts.{turn, command, unawaited, one_nameless, nameless_atomic, nameless_skipped}
 use Rattle.trace_examples.specs.Traces.{taken_in_part, came_up, arrived, started_one, started_unoffered, held_back, spoiled, cut_off, left_untold, left_out, both_left_out, up_in_wait, both_in_wait, first_of_both, ended}
 use Rattle.trace_examples.proofs.Stood.{book_of, may_stand}
 
--- a command whose reply nobody awaits doesn't start before it was told
-not_untold : (outside held : Bool) → step_up false outside false held ≡ starts → ⊥
-not_untold true held e = cc e
-not_untold false held e = cc e
+-- whoever starts and wasn't told starts at its place, where its reply is awaited
+untold_starts : (b : Book) (n : ℕ) → is_told (b.story n) ≡ false → is_awaited (b.story n) ≡ false → next_step b n ≡ starts → ⊥
+untold_starts b n untold unawaited e = elim (starts_mean b n e).3 [
+  | inl told ↦ not_both (is_told (b.story n)) untold told
+  | inr placed ↦ not_both (is_awaited (b.story n)) unawaited (placed_is_awaited b n untold e)
+]
 
--- whoever is told at its place has one
-told_inside : (outside held : Bool) → step_up false outside false held ≡ tells → outside ≡ false
-told_inside true held e = cc
-told_inside false held e = refl
+-- where the second has its place, so has the first of two
+pub room_for_one : (size line : ℕ) → nat_le size line ≡ false → nat_le size 0 ≡ false
+room_for_one size line e = let more : line < size = not_le_from size line e in not_le_test size 0 (omega arith)
 
--- whoever starts has its place, too
-pub started_inside : (outside held : Bool) → step_up false outside true held ≡ starts → outside ≡ false
-started_inside true held e = cc
-started_inside false held e = refl
+-- whoever holds no permits and was let in is where they aren't counted
+uncounted : (limit : Option ℕ) (permits : ℕ) (timed : Bool) → permits ≡ 0 → ((is_none limit || nat_lt 0 permits) && timed) ≡ true → limit ≡ None
+uncounted None permits timed none e = refl
+uncounted (Some k) permits timed none e = let x : false ≡ true = sym (ap (λ n. (false || nat_lt 0 n) && timed) none) ∙ e in cc x
 
--- whoever has its place starts where its link isn't held back
-inside_is_due : (outside held : Bool) → outside ≡ false → held ≡ false → is_due (step_up false outside true held) ≡ true
-inside_is_due true held e f = cc
-inside_is_due false true e f = cc
-inside_is_due false false e f = refl
+-- so whoever starts and holds none is
+pub starts_uncounted : (b : Book) (n : ℕ) → is_told (b.story n) ≡ false → (b.story n).permits ≡ 0 → next_step b n ≡ starts → (permits_in b.config ≡ None) × (is_outside b n ≡ false)
+starts_uncounted b n untold none e = elim (starts_mean b n e).3 [
+  | inl told ↦ absurd (not_both (is_told (b.story n)) untold told)
+  | inr placed ↦ (uncounted (permits_in b.config) (b.story n).permits (is_timed (b.story n).timeout (b.story n).clock) none placed.0, placed.1)
+]
 
--- where the second has a place, the first of two may start
-pub first_is_due : (size : ℕ) → nat_le size 1 ≡ false → is_due (step_up false (nat_le size 0) true false) ≡ true
-first_is_due size e = let more : 1 < size = not_le_from size 1 e in inside_is_due (nat_le size 0) false (not_le_test size 0 (omega arith)) refl
+-- and who is told
+tells_uncounted : (b : Book) (n : ℕ) → (b.story n).permits ≡ 0 → next_step b n ≡ tells → (permits_in b.config ≡ None) × (is_outside b n ≡ false)
+tells_uncounted b n none e = let t = tells_mean b n e in (uncounted (permits_in b.config) (b.story n).permits (is_timed (b.story n).timeout (b.story n).clock) none t.2, t.3)
 
 -- a message that starts, although nobody awaits its reply and its command wasn't told
 pub started_untold : (config : Config) (word : ℕ) (events : List Event) (after : List Action)
     → Legal config word events (left_untold config word ++ action.Start 0 0 (owner.Try 0 0) 1 11 ∷ after) → ⊥
 started_untold config word events after h =
     let m = may_stand config word events (left_untold config word) after (action.Start 0 0 (owner.Try 0 0) 1 11) h in
-    not_untold (nat_le (buffer_size config) 0) false m.1.starts
+    untold_starts (book_of (left_untold config word)) 0 refl refl m.1.starts
+
+-- where the second of two that came before the connect has its place, the first is to make a step
+pub first_is_due : (b : Book) → dials (link_of b 0) ≡ false → (link_of b 0).up ≡ true → is_held_back b (link_of b 0) ≡ false → is_told (b.story 0) ≡ false → permits_in b.config ≡ None → is_outside b 0 ≡ false → is_due (next_step b 0) ≡ true
+first_is_due b d u h t limit o = free_is_due b 0 d u h t (ap (λ x. is_none x || nat_lt 0 (b.story 0).permits) limit) o
 
 -- the Nil of a command whose reply nobody awaits, before the start of an earlier one
 pub told_out_of_order : (config : Config) (word : ℕ) (events : List Event) (after : List Action)
     → Legal config word events (both_in_wait config word (unawaited 72) ++ action.Outcome 1 (outcome.One Nil) ∷ after) → ⊥
 unfolding digits
 told_out_of_order config word events after h =
+    let b = book_of (both_in_wait config word (unawaited 72)) in
     elim (may_stand config word events (both_in_wait config word (unawaited 72)) after (action.Outcome 1 (outcome.One Nil)) h) [
       | inl answer ↦ cc answer.owes
-      | inr tell ↦ tell.in_order 0 (omega arith) (record { unstarted = refl; due = first_is_due (buffer_size config) (told_inside (nat_le (buffer_size config) 1) false tell.tells) })
+      | inr tell ↦
+          let t = tells_uncounted b 1 refl tell.tells in
+          tell.in_order 0 (omega arith) (record { unstarted = refl; due = first_is_due b refl refl refl refl t.0 (room_for_one (buffer_size config) (line_before config.limit b.story 0 1) t.1) })
     ]
 
 -- and before the creation
@@ -104,27 +115,9 @@ held_back_behind config word events after number c h = of_cause c (may_stand con
     of_cause (cause.Opening config word) m = cc m.is_for
     of_cause (cause.Event e) m = elim (m.is_for.1.goes 1 refl) [ inl started ↦ cc started.last | inr waits ↦ cc waits.shown ]
 
--- what is refused for neither of two reasons isn't for the second
-only_the_queue : (setup none : Bool) → (if setup then Some name.Kind else if none then Some name.Buffer else None) ≡ None → none ≡ false
-only_the_queue true none e = cc
-only_the_queue false true e = cc
-only_the_queue false false e = refl
-
--- so it is of an address that isn't refused
-sized : (info : Option ConnectionInfo) (size : ℕ) → fault_in info size ≡ None → (size == 0) ≡ false
-sized None size e = cc
-sized (Some info) size e = only_the_queue (has_setup info.redis) (size == 0) e
-
 -- an opening has one configuration
 pub same_config : (c d : Config) (v w : ℕ) → Some (cause.Opening c v) ≡ Some (cause.Opening d w) → c ≡ d
 same_config c d v w e = cc
-
--- so a configuration whose opening asks for a link has a queue that holds something
-holds_one : (config : Config) (word l : ℕ) (host : List ℕ) (port : ℕ) → MayConnect (book_of (action.Turn 0 (cause.Opening config word) ∷ [])) l host port → nat_le (buffer_size config) 0 ≡ false
-holds_one config word l host port m =
-    let same : config ≡ m.config = same_config config m.config word m.word m.opens in
-    let some : buffer_size config ≢ 0 = ne_from (buffer_size config) 0 (sized (address config) (buffer_size config) (ap first_fault same ∙ m.sound)) in
-    not_le_test (buffer_size config) 0 (omega arith)
 
 -- bytes that are offered before a message that may start, where these 11 don't hold it back
 pub offered_before_a_start : (config : Config) (word : ℕ) (events : List Event) (after : List Action) (bytes : List ℕ) → 11 < boundary config
@@ -132,8 +125,10 @@ pub offered_before_a_start : (config : Config) (word : ℕ) (events : List Event
 unfolding digits
 offered_before_a_start config word events after bytes free h =
     let m = may_stand config word events (first_of_both config word) after (action.Write 0 bytes) h in
-    let place : nat_le (buffer_size config) 0 ≡ false = holds_one config word 0 (codes "h") 6379 h.each.1.0 in
-    m.moved.moved 1 (record { unstarted = refl; due = inside_is_due (nat_le (buffer_size config) 0) (nat_le (boundary config) 11) place (not_le_test (boundary config) 11 free) })
+    let first = may_stand config word events (both_in_wait config word (command 72)) (action.Write 0 bytes ∷ after) (action.Start 0 0 (owner.Try 0 0) 1 11) h in
+    let s = starts_uncounted (book_of (both_in_wait config word (command 72))) 0 refl refl first.1.starts in
+    let b = book_of (first_of_both config word) in
+    m.moved.moved 1 (record { unstarted = refl; due = free_is_due b 1 refl refl (not_le_test (boundary config) 11 free) refl (ap (λ x. is_none x || false) s.0) s.1 })
 
 -- bytes that are offered twice
 pub offered_twice : (config : Config) (word : ℕ) (events : List Event) (after : List Action)

@@ -1,5 +1,5 @@
 -- Places and room: traces that can be relied on, and actions that stand where they may not.
-use Rattle.std.proofs.Common.{◌≡◌, ℕ, nat_le, drop, [], ◌∷◌, ◌++◌, Some, false, refl, inl, inr, arith}
+use Rattle.std.proofs.Common.{◌≡◌, ℕ, drop, [], ◌∷◌, ◌++◌, Some, refl, inl, inr, arith}
 use Rattle.std.specs.Fmt.{digits}
 use Rattle.resp_value.specs.declared.value.Value.TheVariants.{Nil}
 use Rattle.redis_error.specs.declared.fault_kind.FaultKind.TheVariants.{Reset}
@@ -15,7 +15,7 @@ use Rattle.driver_model.specs.declared.outcome.Outcome.TheVariants as outcome
 use Rattle.driver_model.specs.Config.{buffer_size}
 use Rattle.driver_model.specs.Request.{packed_bytes}
 use Rattle.legal_trace.specs.Events.{is_bad_event}
-use Rattle.legal_trace.specs.Steps.{waits}
+use Rattle.legal_trace.specs.Steps.{waits, line_before}
 use Rattle.legal_trace.specs.Legal.{MayTurn}
 use Rattle.trace_examples.specs.Parts.{turn, command, unawaited, two_together}
 use Rattle.trace_examples.specs.Traces.{held_back, both_in_wait}
@@ -23,7 +23,7 @@ use Rattle.trace_examples.specs.Places.{narrow, one_at_a_time, third_held, third
 use Rattle.trace_examples.specs.Fronts.{EachStands}
 use Rattle.trace_examples.specs.Claims.{IsTraceIn, NoneBegins, NoneBeginsIn}
 use Rattle.trace_examples.proofs.Due.{legal, stands}
-use Rattle.trace_examples.proofs.Misplaced.{first_is_due, started_inside}
+use Rattle.trace_examples.proofs.Misplaced.{first_is_due, room_for_one, starts_uncounted}
 use Rattle.trace_examples.proofs.Server.{at_held}
 use Rattle.trace_examples.proofs.Stood.{book_of, may_stand}
 
@@ -147,5 +147,7 @@ another_wait_was_shown number c word events after h = of_cause c (may_stand one_
 -- the second in line, started before the first
 pub second_before_the_first : NoneBegins (λ config word. both_in_wait config word (command 72)) (action.Start 0 0 (owner.Try 1 0) 1 11)
 second_before_the_first config word events after h =
+    let b = book_of (both_in_wait config word (command 72)) in
     let m = may_stand config word events (both_in_wait config word (command 72)) after (action.Start 0 0 (owner.Try 1 0) 1 11) h in
-    m.1.in_order 0 (omega arith) (record { unstarted = refl; due = first_is_due (buffer_size config) (started_inside (nat_le (buffer_size config) 1) false m.1.starts) })
+    let s = starts_uncounted b 1 refl refl m.1.starts in
+    m.1.in_order 0 (omega arith) (record { unstarted = refl; due = first_is_due b refl refl refl refl s.0 (room_for_one (buffer_size config) (line_before config.limit b.story 0 1) s.1) })

@@ -1,6 +1,6 @@
 -- Actions around an opening that fails, where they may not stand: whatever comes after these fronts, no trace that begins so
 -- is legal.
-use Rattle.std.proofs.Common.{◌≡◌, ◌≢◌, ℕ, Option, Some, None, true, refl, sym, ◌∙◌, ap, arith}
+use Rattle.std.proofs.Common.{◌≡◌, ◌≢◌, ℕ, Option, Some, None, true, refl, inl, inr, sym, ◌∙◌, ap, arith}
 use Rattle.std.specs.Fmt.{digits}
 use Rattle.redis_error.specs.declared.fault_kind.FaultKind.TheVariants.{Reset}
 use Rattle.redis_error.specs.declared.redis_error.RedisError.{RedisError}
@@ -84,11 +84,12 @@ closed_when_refused config word events after h = cc (may_stand config word event
 
 -- a timer of a connect that may take any time
 pub timer_unasked : (config : Config) (t ms : ℕ) (what : Purpose) → connect_timeout config ≡ None → NoneBeginsIn config opening (action.Timer t ms what)
-timer_unasked config t ms what none word events after h =
-    let m = may_stand config word events (opening config word) after (action.Timer t ms what) h in
-    let same : config ≡ m.config = same_config config m.config word m.word m.opens in
-    let both : ◌≡◌ {A = Option ℕ} None (Some ms) = sym none ∙ (ap connect_timeout same ∙ m.bounded) in
-    cc both
+timer_unasked config t ms what none word events after h = elim (may_stand config word events (opening config word) after (action.Timer t ms what) h) [
+  | inl m ↦
+      let same : config ≡ m.config = same_config config m.config word m.word m.opens in
+      let both : ◌≡◌ {A = Option ℕ} None (Some ms) = sym none ∙ (ap connect_timeout same ∙ m.bounded) in cc both
+  | inr m ↦ cc m.unstarted
+]
 
 -- a turn behind an opening without a timer, where the time of the connect is bounded
 pub timer_left_out : (config : Config) (number : ℕ) (c : Cause) → connect_timeout config ≢ None → NoneBeginsIn config opening (action.Turn number c)

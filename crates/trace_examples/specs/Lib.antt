@@ -4,3 +4,4 @@ pub mod Openings
 pub mod Places
 pub mod Fronts
 pub mod Claims
+pub mod Permits

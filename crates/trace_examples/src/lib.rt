@@ -15,6 +15,7 @@ ghost use Rattle.driver_model.specs.declared.action.Cause.{Cause};
 ghost use Rattle.driver_model.specs.declared.action.Owner.TheVariants as owner;
 ghost use Rattle.driver_model.specs.Config.{connect_timeout, boundary};
 ghost use Rattle.driver_model.specs.declared.action.Purpose.{Purpose};
+ghost use Rattle.driver_model.specs.declared.action.Purpose.TheVariants as purpose;
 ghost use Rattle.driver_model.specs.declared.action.WaitKind.{WaitKind};
 ghost use Rattle.driver_model.specs.declared.action.WaitKind.TheVariants as wait;
 ghost use Rattle.driver_model.specs.declared.config.Config.{Config};
@@ -45,6 +46,12 @@ ghost use Rattle.trace_examples.specs.Openings.{timed_opening, connect_refused, 
 ghost use Rattle.trace_examples.specs.Openings.{refused_at_first, overdue, timed_out};
 ghost use Rattle.trace_examples.specs.Places.{narrow, one_at_a_time, third_held, third_came};
 ghost use Rattle.trace_examples.specs.Places.{queue_full, second_unshown, place_fronts};
+ghost use Rattle.trace_examples.specs.Parts.{limited_to, plain, held_for};
+ghost use Rattle.trace_examples.specs.Permits.{one_permit, permits_alone, permit_taken};
+ghost use Rattle.trace_examples.specs.Permits.{timer_asked, second_came, time_is_over};
+ghost use Rattle.trace_examples.specs.Permits.{permit_is_free, replied_late, two_taken};
+ghost use Rattle.trace_examples.specs.Permits.{unawaited_first, second_timer, three_timers};
+ghost use Rattle.trace_examples.specs.Permits.{connect_left_standing, permit_fronts};
 ghost use Rattle.trace_examples.specs.Traces.{opening};
 ghost use Rattle.trace_examples.specs.Claims.{IsTraceOf, IsTraceIn};
 ghost use Rattle.trace_examples.specs.Claims.{NoneBegins, NoneBeginsIn, NoneIs};
@@ -371,4 +378,112 @@ pub fn nor_are_these_places()
     ensures second_before_the_first { NoneBegins
         (λ config word. both_in_wait config word (command 72))
         (action.Start 0 0 (owner.Try 1 0) 1 11) }
+{}
+
+/// Does nothing. Its contract: these are legal too. A submission takes its permits where they are
+/// counted, a pipeline as many as are free up to the number of its commands, and then its timer is
+/// asked for, of the time that was in force where it came. Once its time is over it is answered so,
+/// and who waits for a permit takes it; so it does where its holder leaves, or is told at its
+/// place. Where nothing is said a request has 500 milliseconds, and those that wait for room or
+/// for a place are answered, too.
+pub fn these_take_permits()
+    ensures timed_out_and_replied { IsTraceIn one_permit
+        (event.Connected 0 ∷ event.Submit (command 71) ∷ event.Wrote 0 11
+        ∷ event.Submit (command 72) ∷ event.Fired 0 ∷ event.Bytes 0 one_reply ∷ []) replied_late
+        [] }
+    ensures two_of_three { IsTraceIn (permits_alone 3)
+        (event.Connected 0 ∷ event.Submit two_together ∷ event.Submit two_together
+        ∷ event.Submit (command 73) ∷ []) two_taken
+        (action.Took (owner.Try 1 0) 0 1 ∷ action.Start 0 1 (owner.Try 1 0) 2 22
+        ∷ turn 4 (event.Submit (command 73)) ∷ action.Wait (owner.Try 2 0) wait.Permit ∷ []) }
+    ensures given_back_by_nil { IsTraceIn (permits_alone 1)
+        (event.Submit (unawaited 71) ∷ event.Submit (command 72) ∷ event.Connected 0 ∷ [])
+        unawaited_first
+        (action.Took (owner.Try 0 0) 0 1 ∷ action.Outcome 0 (outcome.One Nil)
+        ∷ action.Start 0 0 (owner.Try 0 0) 1 11 ∷ action.Took (owner.Try 1 0) 0 1
+        ∷ action.Start 0 1 (owner.Try 1 0) 1 11
+        ∷ action.Write 0 (packed_bytes (unawaited 71) ++ packed_bytes (command 72)) ∷ []) }
+    ensures no_time { IsTraceIn one_permit
+        (event.Connected 0 ∷ event.Timeout None ∷ event.Submit (command 71) ∷ []) came_up
+        (turn 2 (event.Timeout None) ∷ turn 3 (event.Submit (command 71))
+        ∷ action.Took (owner.Try 0 0) 0 1 ∷ action.Start 0 0 (owner.Try 0 0) 1 11
+        ∷ action.Write 0 (packed_bytes (command 71)) ∷ []) }
+    ensures another_time { IsTraceIn one_permit
+        (event.Connected 0 ∷ event.Timeout (Some 7) ∷ event.Submit (command 71) ∷ []) came_up
+        (turn 2 (event.Timeout (Some 7)) ∷ turn 3 (event.Submit (command 71))
+        ∷ action.Took (owner.Try 0 0) 0 1
+        ∷ action.Timer 0 7 (purpose.Response (owner.Try 0 0))
+        ∷ action.Start 0 0 (owner.Try 0 0) 1 11
+        ∷ action.Write 0 (packed_bytes (command 71)) ∷ []) }
+    ensures the_connect_and_then_a_permit { IsTraceIn (permits_alone 1)
+        (event.Submit (command 71) ∷ event.Submit (command 72) ∷ event.Connected 0 ∷ [])
+        connect_left_standing (action.Wait (owner.Try 1 0) wait.Permit ∷ []) }
+    ensures a_permit_that_was_left { IsTraceIn one_permit
+        (event.Connected 0 ∷ event.Submit (command 71) ∷ event.Wrote 0 11
+        ∷ event.Submit (command 72) ∷ event.Cancel 0 ∷ []) second_came
+        (action.Wait (owner.Try 1 0) wait.Permit ∷ turn 5 (event.Cancel 0)
+        ∷ action.Took (owner.Try 1 0) 0 1
+        ∷ action.Timer 1 100 (purpose.Response (owner.Try 1 0))
+        ∷ action.Start 0 1 (owner.Try 1 0) 1 11
+        ∷ action.Write 0 (packed_bytes (command 72)) ∷ []) }
+    ensures fired_behind_nil { IsTraceIn one_permit
+        (event.Connected 0 ∷ event.Submit (unawaited 71) ∷ event.Fired 0 ∷ [])
+        (λ config word. arrived config word (unawaited 71))
+        (action.Took (owner.Try 0 0) 0 1
+        ∷ action.Timer 0 100 (purpose.Response (owner.Try 0 0))
+        ∷ action.Outcome 0 (outcome.One Nil) ∷ action.Start 0 0 (owner.Try 0 0) 1 11
+        ∷ action.Write 0 (packed_bytes (unawaited 71)) ∷ turn 3 (event.Fired 0) ∷ []) }
+    ensures where_nothing_is_said { IsTraceIn plain
+        (event.Connected 0 ∷ event.Submit (command 71) ∷ event.Fired 0
+        ∷ event.Bytes 0 one_reply ∷ event.Fired 1 ∷ []) second_timer
+        (action.Start 0 0 (owner.Try 0 0) 1 11 ∷ action.Write 0 (packed_bytes (command 71))
+        ∷ turn 3 (event.Fired 0) ∷ turn 4 (event.Bytes 0 one_reply)
+        ∷ action.Outcome 0 (reply 120) ∷ turn 5 (event.Fired 1) ∷ []) }
+    ensures timed_out_in_wait { IsTraceIn (held_for 100)
+        (event.Connected 0 ∷ event.Submit (command 71) ∷ event.Submit (command 72)
+        ∷ event.Submit (command 73) ∷ event.Fired 1 ∷ event.Fired 2 ∷ []) three_timers
+        (turn 5 (event.Fired 1) ∷ action.Outcome 1 (outcome.Fault (error.Io TimedOut))
+        ∷ action.Wait (owner.Try 2 0) wait.Room ∷ turn 6 (event.Fired 2)
+        ∷ action.Outcome 2 (outcome.Fault (error.Io TimedOut)) ∷ []) }
+{}
+
+/// Does nothing. Its contract: no trace that begins so is legal, whatever its events were and
+/// whatever comes after: starts before the permit or the timer, permits that are taken where they
+/// aren't counted, of which fewer are free, or out of order; a timer before the permit, a second
+/// one, or of another time; another outcome where the time is over, or its reply given to anyone;
+/// a wait for a permit while one is free; and a turn that begins while that wait is true and isn't
+/// shown, or a permit is free that is waited for. Each action of their fronts stands where it may.
+pub fn nor_are_these_permits()
+    ensures fronts { (word : ℕ) → EachStands (permit_fronts word) }
+    ensures started_without_a_permit { NoneBeginsIn one_permit
+        (λ config word. arrived config word (command 71))
+        (action.Start 0 0 (owner.Try 0 0) 1 11) }
+    ensures started_without_its_timer { NoneBeginsIn one_permit permit_taken
+        (action.Start 0 0 (owner.Try 0 0) 1 11) }
+    ensures taken_uncounted { NoneBeginsIn unbounded
+        (λ config word. arrived config word (command 71)) (action.Took (owner.Try 0 0) 0 1) }
+    ensures more_than_are_free { NoneBeginsIn (permits_alone 3) two_taken
+        (action.Took (owner.Try 1 0) 0 2) }
+    ensures taken_out_of_order { NoneBeginsIn (permits_alone 2)
+        (λ config word. both_in_wait config word (command 72))
+        (action.Took (owner.Try 1 0) 0 1) }
+    ensures timer_before_the_permit { NoneBeginsIn one_permit
+        (λ config word. arrived config word (command 71))
+        (action.Timer 0 100 (purpose.Response (owner.Try 0 0))) }
+    ensures a_second_timer { NoneBeginsIn one_permit timer_asked
+        (action.Timer 1 100 (purpose.Response (owner.Try 0 0))) }
+    ensures timer_of_another_time { NoneBeginsIn one_permit permit_taken
+        (action.Timer 0 99 (purpose.Response (owner.Try 0 0))) }
+    ensures closed_when_over { NoneBeginsIn one_permit time_is_over
+        (action.Outcome 0 (outcome.Fault error.Closed)) }
+    ensures reply_of_the_first { NoneBeginsIn one_permit replied_late
+        (action.Outcome 1 (reply 120)) }
+    ensures answered_when_over { NoneBeginsIn one_permit replied_late
+        (action.Outcome 0 (reply 120)) }
+    ensures waits_though_one_is_free { NoneBeginsIn (limited_to 2 (Some 100)) second_came
+        (action.Wait (owner.Try 1 0) wait.Permit) }
+    ensures connect_was_shown { (number : ℕ) (c : Cause)
+        → NoneBeginsIn (permits_alone 1) connect_left_standing (action.Turn number c) }
+    ensures permit_is_kept { (number : ℕ) (c : Cause)
+        → NoneBeginsIn one_permit permit_is_free (action.Turn number c) }
 {}

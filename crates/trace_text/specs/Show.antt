@@ -40,6 +40,7 @@ owner_word (Try s round) = submission_word s ++ byte "." ∷ decimal round
 
 abbrev pub wait_word : WaitKind → List ℕ
 wait_word wait.Connect = codes "connect"
+wait_word wait.Permit = codes "permit"
 wait_word wait.Place = codes "place"
 wait_word wait.Room = codes "room"
 
@@ -57,28 +58,47 @@ connect_words None = []
 connect_words (Some None) = codes "connect=none" ∷ []
 connect_words (Some (Some ms)) = (codes "connect=" ++ decimal ms) ∷ []
 
+-- within how many milliseconds a request is to be answered, where it is given
+abbrev pub response_words : Option (Option ℕ) → List (List ℕ)
+response_words None = []
+response_words (Some None) = codes "response=none" ∷ []
+response_words (Some (Some ms)) = (codes "response=" ++ decimal ms) ∷ []
+
 -- how many messages the queue of the link holds, where it is given
 abbrev pub buffer_words : Option ℕ → List (List ℕ)
 buffer_words None = []
 buffer_words (Some size) = (codes "buffer=" ++ decimal size) ∷ []
+
+-- how many permits there are, where it is given
+abbrev pub limit_words : Option ℕ → List (List ℕ)
+limit_words None = []
+limit_words (Some limit) = (codes "limit=" ++ decimal limit) ∷ []
 
 -- at how many unwritten bytes no message of the link starts, where it is given
 abbrev pub boundary_words : Option ℕ → List (List ℕ)
 boundary_words None = []
 boundary_words (Some bytes) = (codes "boundary=" ++ decimal bytes) ∷ []
 
--- what is given of the queue of the link
-abbrev pub queue_words : Config → List (List ℕ)
-queue_words c = buffer_words c.buffer ++ boundary_words c.boundary
+-- what is given of the times
+abbrev pub times_words : Config → List (List ℕ)
+times_words c = connect_words c.connect ++ response_words c.response
 
--- the settings behind the time of the connect: no response timers, what is given of the queue, and no library named to the
--- server
+-- what is given of the queue of the link, and of the number of permits
+abbrev pub numbers_words : Config → List (List ℕ)
+numbers_words c = buffer_words c.buffer ++ limit_words c.limit ++ boundary_words c.boundary
+
+-- the settings behind the address: what is given of the times and of the numbers, and no library named to the server
 abbrev pub later_words : Config → List (List ℕ)
-later_words c = codes "response=none" ∷ queue_words c ++ codes "lib=off" ∷ []
+later_words c = times_words c ++ numbers_words c ++ codes "lib=off" ∷ []
 
 -- the config line of one multiplexed connection
 abbrev pub config_words : Config → List (List ℕ)
-config_words c = codes "config" ∷ codes "single" ∷ url c ∷ connect_words c.connect ++ later_words c
+config_words c = codes "config" ∷ codes "single" ∷ url c ∷ later_words c
+
+-- a time: so many milliseconds, or any number
+abbrev pub time_word : Option ℕ → List ℕ
+time_word None = codes "none"
+time_word (Some ms) = decimal ms
 
 -- the first of some commands, which has no words where there is none
 abbrev pub first_of : List (List (List ℕ)) → List (List ℕ)
@@ -116,6 +136,7 @@ event_words (event.Ended link) = codes "ended" ∷ decimal link ∷ []
 event_words (event.ReadFault link kind) = codes "read-fault" ∷ decimal link ∷ fault_name kind ∷ []
 event_words (event.WriteFault link kind) = codes "write-fault" ∷ decimal link ∷ fault_name kind ∷ []
 event_words (event.Fired timer) = codes "fired" ∷ decimal timer ∷ []
+event_words (event.Timeout ms) = codes "timeout" ∷ time_word ms ∷ []
 event_words event.Shutdown = codes "shutdown" ∷ []
 
 abbrev pub event_more : EventKind → List (List (List ℕ))
@@ -139,6 +160,7 @@ outcome_words (Fault error) = codes "err" ∷ error_words error
 -- what a timer is asked for
 abbrev pub purpose_words : Purpose → List (List ℕ)
 purpose_words (purpose.Connect link) = codes "connect" ∷ decimal link ∷ []
+purpose_words (purpose.Response owner) = codes "response" ∷ owner_word owner ∷ []
 
 -- how an opening went: its error, where it failed
 abbrev pub created_words : Option RedisError → List (List ℕ)
@@ -150,6 +172,7 @@ abbrev pub words_of : Action → List (List ℕ)
 words_of (action.Turn number cause) = codes "turn" ∷ decimal number ∷ cause_words cause
 words_of (action.Connect link host port) = codes "connect" ∷ decimal link ∷ address host port ∷ []
 words_of (action.Timer timer ms what) = codes "timer" ∷ decimal timer ∷ decimal ms ∷ purpose_words what
+words_of (action.Took owner link count) = codes "took" ∷ owner_word owner ∷ decimal link ∷ decimal count ∷ []
 words_of (action.Close link) = codes "close" ∷ decimal link ∷ []
 words_of (action.Write link bytes) = codes "write" ∷ decimal link ∷ bytes ∷ []
 words_of (action.Wait owner kind) = codes "wait" ∷ owner_word owner ∷ wait_word kind ∷ []

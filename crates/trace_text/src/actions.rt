@@ -40,16 +40,29 @@ impl Writer {
     }
 
     /// What a timer is asked for.
-    fn purpose(&mut self, purpose: Purpose) -> Result<(), AllocError>
+    fn purpose(&mut self, alloc: Global, purpose: Purpose) -> Result<(), AllocError>
         ensures before { self.new.before ≡ self.old.before }
         ensures ok { OnOk result (AddedWords self.old self.new (purpose_words purpose)) }
     {
-        let Purpose::Connect { link } = purpose;
-        self.word(b"connect")?;
-        self.number(u64::from(link))
+        match purpose {
+            Purpose::Connect { link } => {
+                self.word(b"connect")?;
+                self.number(u64::from(link))
+            }
+            Purpose::Response { owner } => {
+                self.word(b"response")?;
+                self.owner(alloc, owner)
+            }
+        }
     }
 
-    fn timer(&mut self, timer: u32, ms: u64, purpose: Purpose) -> Result<(), AllocError>
+    fn timer(
+        &mut self,
+        alloc: Global,
+        timer: u32,
+        ms: u64,
+        purpose: Purpose,
+    ) -> Result<(), AllocError>
         ensures before { self.new.before ≡ self.old.before }
         ensures ok { OnOk result
             (Added self.old self.new (action_line (Action.Timer timer ms purpose))) }
@@ -57,7 +70,19 @@ impl Writer {
         self.first(b"timer")?;
         self.number(u64::from(timer))?;
         self.number(ms)?;
-        self.purpose(purpose)?;
+        self.purpose(alloc, purpose)?;
+        self.end_line()
+    }
+
+    fn took(&mut self, alloc: Global, owner: Owner, link: u32, count: u32) -> Result<(), AllocError>
+        ensures before { self.new.before ≡ self.old.before }
+        ensures ok { OnOk result
+            (Added self.old self.new (action_line (Action.Took owner link count))) }
+    {
+        self.first(b"took")?;
+        self.owner(alloc, owner)?;
+        self.number(u64::from(link))?;
+        self.number(u64::from(count))?;
         self.end_line()
     }
 
@@ -161,7 +186,8 @@ impl Writer {
         match action {
             Action::Turn { number, cause } => self.turn(alloc, *number, cause),
             Action::Connect { link, host, port } => self.connect(alloc, *link, host, *port),
-            Action::Timer { timer, ms, purpose } => self.timer(*timer, *ms, *purpose),
+            Action::Timer { timer, ms, purpose } => self.timer(alloc, *timer, *ms, *purpose),
+            Action::Took { owner, link, count } => self.took(alloc, *owner, *link, *count),
             Action::Close { link } => self.close(*link),
             Action::Write { link, bytes } => self.write(*link, bytes),
             Action::Wait { owner, wait } => self.wait(alloc, *owner, *wait),

@@ -1,8 +1,9 @@
 ghost use Rattle.std.specs.Prelude.{◌≡◌, ◌++◌, ◌∷◌, [], OnOk, decimal};
 ghost use Rattle.redis_error.specs.Names.{fault_name};
 ghost use Rattle.trace_text.specs.Words.{following, separated};
-ghost use Rattle.trace_text.specs.Show.{behind_first, config_words, connect_words, first_of};
-ghost use Rattle.trace_text.specs.Show.{boundary_words, buffer_words, later_words, queue_words, url};
+ghost use Rattle.trace_text.specs.Show.{behind_first, config_words, connect_words, first_of, url};
+ghost use Rattle.trace_text.specs.Show.{boundary_words, buffer_words, limit_words, response_words};
+ghost use Rattle.trace_text.specs.Show.{later_words, numbers_words, times_words, time_word};
 ghost use Rattle.trace_text.specs.Show.{cause_more, cause_words, event_more, event_words};
 ghost use Rattle.trace_text.specs.Show.{submission_more, submission_words};
 ghost use Rattle.trace_text.specs.Writer.{Added, AddedWords, AddedParts};
@@ -44,6 +45,25 @@ impl Writer {
         }
     }
 
+    /// Within how long a request is to be answered, where it is given.
+    fn response_limit(
+        &mut self,
+        alloc: Global,
+        response: Option<Option<u64>>,
+    ) -> Result<(), AllocError>
+        ensures before { self.new.before ≡ self.old.before }
+        ensures ok { OnOk result (AddedWords self.old self.new (response_words response)) }
+    {
+        match response {
+            None => Ok(()),
+            Some(None) => self.word(b"response=none"),
+            Some(Some(ms)) => {
+                let word = format!(in alloc; "response={ms}")?;
+                self.word(word.as_bytes())
+            }
+        }
+    }
+
     /// How many messages the queue of the link holds, where it is given.
     fn buffer(&mut self, alloc: Global, buffer: Option<u32>) -> Result<(), AllocError>
         ensures before { self.new.before ≡ self.old.before }
@@ -53,6 +73,20 @@ impl Writer {
             None => Ok(()),
             Some(size) => {
                 let word = format!(in alloc; "buffer={size}")?;
+                self.word(word.as_bytes())
+            }
+        }
+    }
+
+    /// How many permits there are, where it is given.
+    fn limit(&mut self, alloc: Global, limit: Option<u32>) -> Result<(), AllocError>
+        ensures before { self.new.before ≡ self.old.before }
+        ensures ok { OnOk result (AddedWords self.old self.new (limit_words limit)) }
+    {
+        match limit {
+            None => Ok(()),
+            Some(limit) => {
+                let word = format!(in alloc; "limit={limit}")?;
                 self.word(word.as_bytes())
             }
         }
@@ -72,22 +106,32 @@ impl Writer {
         }
     }
 
-    /// What is given of the queue of the link.
-    fn queue(&mut self, alloc: Global, config: &Config) -> Result<(), AllocError>
+    /// What is given of the times.
+    fn time_settings(&mut self, alloc: Global, config: &Config) -> Result<(), AllocError>
         ensures before { self.new.before ≡ self.old.before }
-        ensures ok { OnOk result (AddedWords self.old self.new (queue_words config.now)) }
+        ensures ok { OnOk result (AddedWords self.old self.new (times_words config.now)) }
+    {
+        self.connect_limit(alloc, config.connect)?;
+        self.response_limit(alloc, config.response)
+    }
+
+    /// What is given of the queue of the link, and of the number of permits.
+    fn number_settings(&mut self, alloc: Global, config: &Config) -> Result<(), AllocError>
+        ensures before { self.new.before ≡ self.old.before }
+        ensures ok { OnOk result (AddedWords self.old self.new (numbers_words config.now)) }
     {
         self.buffer(alloc, config.buffer)?;
+        self.limit(alloc, config.limit)?;
         self.boundary(alloc, config.boundary)
     }
 
-    /// The settings behind the time of the connect.
+    /// The settings behind the address.
     fn later_settings(&mut self, alloc: Global, config: &Config) -> Result<(), AllocError>
         ensures before { self.new.before ≡ self.old.before }
         ensures ok { OnOk result (AddedWords self.old self.new (later_words config.now)) }
     {
-        self.word(b"response=none")?;
-        self.queue(alloc, config)?;
+        self.time_settings(alloc, config)?;
+        self.number_settings(alloc, config)?;
         self.word(b"lib=off")
     }
 
@@ -99,8 +143,18 @@ impl Writer {
         self.word(b"config")?;
         self.word(b"single")?;
         self.url(alloc, config)?;
-        self.connect_limit(alloc, config.connect)?;
         self.later_settings(alloc, config)
+    }
+
+    /// A time: so many milliseconds, or any number.
+    fn time(&mut self, ms: Option<u64>) -> Result<(), AllocError>
+        ensures before { self.new.before ≡ self.old.before }
+        ensures ok { OnOk result (AddedWords self.old self.new (time_word ms ∷ [])) }
+    {
+        match ms {
+            None => self.word(b"none"),
+            Some(ms) => self.number(ms),
+        }
     }
 
     /// Each argument as a word.
@@ -226,6 +280,10 @@ impl Writer {
             EventKind::Fired { timer } => {
                 self.word(b"fired")?;
                 self.number(u64::from(*timer))
+            }
+            EventKind::Timeout { ms } => {
+                self.word(b"timeout")?;
+                self.time(*ms)
             }
             EventKind::Shutdown => self.word(b"shutdown"),
         }

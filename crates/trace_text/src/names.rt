@@ -1,6 +1,7 @@
 ghost use Rattle.std.specs.Prelude.{◌≡◌, ◌++◌, ◌∷◌, [], OnOk};
 ghost use Rattle.trace_text.specs.Words.{following};
-ghost use Rattle.trace_text.specs.Show.{address, draw_words, owner_word, submission_word, wait_word};
+ghost use Rattle.trace_text.specs.Show.{address, draw_words, owner_word, submission_word};
+ghost use Rattle.trace_text.specs.Show.{wait_word};
 ghost use Rattle.trace_text.specs.Writer.{AddedWords};
 
 use crate::writer::Writer;
@@ -50,6 +51,7 @@ impl Writer {
     {
         match wait {
             WaitKind::Connect => self.word(b"connect"),
+            WaitKind::Permit => self.word(b"permit"),
             WaitKind::Place => self.word(b"place"),
             WaitKind::Room => self.word(b"room"),
         }

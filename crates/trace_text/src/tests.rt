@@ -61,6 +61,7 @@ fn opening(
 ) -> Result<Action, AllocError> {
     let mut config = Config::new(bytes(alloc, url)?);
     config.connect = connect;
+    config.response = Some(None);
     let cause = Cause::Opening { config, word };
     Ok(Action::Turn { number: 0, cause })
 }
@@ -333,26 +334,31 @@ fn failed_openings_have_text(rt: HostRuntime) -> Result<(), AllocError> {
     Ok(())
 }
 
-/// What is given of the queue of a link, and what requests wait for.
-const QUEUES: &[u8] = b"turn 0 config single url=a response=none buffer=4294967295 lib=off
+/// What is given of the times, of the queue of a link and of its permits, and what requests wait for.
+const QUEUES: &[u8] = b"turn 0 config single url=a buffer=4294967295 limit=4294967295 lib=off
 turn 0 config single url=a connect=none response=none boundary=18446744073709551615 lib=off
-turn 0 config single url=a connect=5 response=none buffer=0 boundary=0 lib=off
+turn 0 config single url=a connect=5 response=0 buffer=0 limit=1 boundary=0 lib=off
 wait s0.0 connect
 wait s1.0 place
 wait s2.0 room
+wait s3.0 permit
 ";
 
 /// An opening with these settings.
 fn settings(
     alloc: Global,
-    connect: Option<Option<u64>>,
+    times: (Option<Option<u64>>, Option<Option<u64>>),
     buffer: Option<u32>,
+    limit: Option<u32>,
     boundary: Option<u64>,
 ) -> Result<Action, AllocError> {
+    let (connect, response) = times;
     let url = bytes(alloc, b"a")?;
     let config = Config {
         url,
         connect,
+        response,
+        limit,
         buffer,
         boundary,
     };
@@ -370,12 +376,16 @@ fn wait(submission: u32, wait: WaitKind) -> Action {
 }
 
 fn queues(alloc: Global, actions: &mut Seq<Action>) -> Result<(), AllocError> {
-    actions.push(settings(alloc, None, Some(u32::MAX), None)?)?;
-    actions.push(settings(alloc, Some(None), None, Some(u64::MAX))?)?;
-    actions.push(settings(alloc, Some(Some(5)), Some(0), Some(0))?)?;
+    let none = (Some(None), Some(None));
+    let some = (Some(Some(5)), Some(Some(0)));
+    let most = Some(u32::MAX);
+    actions.push(settings(alloc, (None, None), most, most, None)?)?;
+    actions.push(settings(alloc, none, None, None, Some(u64::MAX))?)?;
+    actions.push(settings(alloc, some, Some(0), Some(1), Some(0))?)?;
     actions.push(wait(0, WaitKind::Connect))?;
     actions.push(wait(1, WaitKind::Place))?;
-    actions.push(wait(2, WaitKind::Room))
+    actions.push(wait(2, WaitKind::Room))?;
+    actions.push(wait(3, WaitKind::Permit))
 }
 
 #[test]
@@ -384,6 +394,46 @@ fn queues_and_waits_have_text(rt: HostRuntime) -> Result<(), AllocError> {
     let mut actions = Seq::new(alloc);
     queues(alloc, &mut actions)?;
     assert_eq!(rt; show(alloc, actions.as_slice())?.as_slice(), QUEUES);
+    Ok(())
+}
+
+/// Permits that are taken, times of requests, and the events that tell times.
+const TIMES: &[u8] = b"took s4.0 7 4294967295
+timer 3 0 response s4.1
+turn 1 timeout 18446744073709551615
+turn 2 timeout none
+";
+
+fn times(alloc: Global, actions: &mut Seq<Action>) -> Result<(), AllocError> {
+    let owner = Owner::Try {
+        submission: 4,
+        round: 0,
+    };
+    let again = Owner::Try {
+        submission: 4,
+        round: 1,
+    };
+    actions.push(Action::Took {
+        owner,
+        link: 7,
+        count: u32::MAX,
+    })?;
+    actions.push(Action::Timer {
+        timer: 3,
+        ms: 0,
+        purpose: Purpose::Response { owner: again },
+    })?;
+    let ms = Some(u64::MAX);
+    actions.push(turn(1, 0, EventKind::Timeout { ms }))?;
+    actions.push(turn(2, 0, EventKind::Timeout { ms: None }))
+}
+
+#[test]
+fn permits_and_times_have_text(rt: HostRuntime) -> Result<(), AllocError> {
+    let alloc = rt.alloc();
+    let mut actions = Seq::new(alloc);
+    times(alloc, &mut actions)?;
+    assert_eq!(rt; show(alloc, actions.as_slice())?.as_slice(), TIMES);
     Ok(())
 }
 

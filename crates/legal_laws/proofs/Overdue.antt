@@ -1,0 +1,159 @@
+-- Timers of submissions run only on links whose opening didn't fail.
+use Rattle.std.proofs.Common.{◌≡◌, ◌⊎◌, inl, inr, ℕ, zero, suc, ◌-◌, ◌<◌, ◌≤◌, ◌==◌, true, false, List, [], ◌∷◌, ◌++◌, Some, None, sym, ◌∙◌, ap, subst, arith}
+use Rattle.std.specs.Prelude.{slice_get}
+use Rattle.containers.proofs.Choices.{chosen, eq_from, not_both}
+use Rattle.redis_error.specs.declared.redis_error.RedisError.{RedisError}
+use Rattle.driver_model.specs.declared.action.Action.{Action}
+use Rattle.driver_model.specs.declared.action.Action.TheVariants as action
+use Rattle.driver_model.specs.declared.action.Cause.TheVariants as cause
+use Rattle.driver_model.specs.declared.action.Owner.TheVariants as owner
+use Rattle.driver_model.specs.declared.action.Purpose.{Purpose}
+use Rattle.driver_model.specs.declared.event.EventKind.{EventKind}
+use Rattle.driver_model.specs.declared.event.EventKind.TheVariants as event
+use Rattle.driver_model.specs.News.{news_of}
+use Rattle.legal_trace.specs.Ledger.{begins, offers, ends, failure_in}
+use Rattle.legal_trace.specs.Story.{Story, is_open, handed_in, left, holds, clocked, fires, tried, waits, answered}
+use Rattle.legal_trace.specs.Book.{Book, blank_book, book, entered, entered_each, message_of, current, is_clock_of, after_event}
+use Rattle.legal_trace.specs.Legal.{MayTimer, MayTime, MayStand, AllStand, link_of}
+use Rattle.legal_trace.proofs.Ledgers.{mine_keeps}
+use Rattle.legal_laws.proofs.InLine.{follows, submissions_grow}
+use Rattle.legal_trace.proofs.Moves.{mover_is_up, asker_moves}
+use Rattle.legal_laws.proofs.Numbers.{mover_is_numbered}
+use Rattle.legal_laws.proofs.Quiet.{IsQuiet, hears_quiet, ends_quiet}
+use Rattle.legal_laws.proofs.Sound.{Sound, stays_sound, blank_is_sound}
+
+-- one of these timers is that of submission n
+abbrev pub HasClock : ℕ → List Purpose → Type 0
+HasClock n [] = ⊥
+HasClock n (p ∷ ps) = (is_clock_of n (Some p) ≡ true) ⊎ HasClock n ps
+
+-- the timer of that number is one of these
+clock_at : (n : ℕ) (ps : List Purpose) (t : ℕ) → is_clock_of n (slice_get ps t) ≡ true → HasClock n ps
+clock_at n [] t e = absurd (cc e)
+clock_at n (p ∷ ps) zero e = inl e
+clock_at n (p ∷ ps) (suc t) e = inr (clock_at n ps t e)
+
+-- of timers and one more, one of them or that
+clock_more : (n : ℕ) (ps : List Purpose) (p : Purpose) → HasClock n (ps ++ p ∷ []) → HasClock n ps ⊎ (is_clock_of n (Some p) ≡ true)
+clock_more n [] p (inl e) = inr e
+clock_more n [] p (inr h) = absurd h
+clock_more n (q ∷ ps) p (inl e) = inl (inl e)
+clock_more n (q ∷ ps) p (inr h) = elim (clock_more n ps p h) [ inl before ↦ inl (inr before) | inr new ↦ inr new ]
+
+-- it was handed in, and the connect of its link is not open and didn't fail
+abbrev pub IsOnALink : Book → ℕ → Type 0
+IsOnALink b n = (n < b.submissions) × IsQuiet [] (link_of b n)
+
+-- a link whose connect is not open and didn't fail stays so, once a submission is there
+quiet_stays : (b : Book) (a : Action) → MayStand b a → Sound b → (b.submissions ≡ 0 → ⊥) → (l : ℕ) → IsQuiet [] (b.link l) → IsQuiet [] ((entered b a).link l)
+quiet_stays b (action.Turn k (cause.Opening config word)) may h some l q = q
+quiet_stays b (action.Turn k (cause.Event e)) may h some l q = hears_quiet [] (b.link l) k (news_of b.timers l e.kind) q
+quiet_stays b (action.Connect m host port) may h some l q = absurd (some (h.opens.no_submissions may.first))
+quiet_stays b (action.Timer t ms what) may h some l q = q
+quiet_stays b (action.Took (owner.Try n round) m count) may h some l q = q
+quiet_stays b (action.Close m) may h some l q = mine_keeps (IsQuiet []) (m == l) (b.link l) (ends (b.turns - 1)) (λ t. ends_quiet [] (b.link l) (b.turns - 1) q) q
+quiet_stays b (action.Write m bytes) may h some l q = mine_keeps (IsQuiet []) (m == l) (b.link l) (offers bytes) (λ t. record { quiet = q.quiet; tells = q.tells }) q
+quiet_stays b (action.Wait (owner.Try n round) kind) may h some l q = q
+quiet_stays b (action.Start m k (owner.Try n round) count len) may h some l q =
+    mine_keeps (IsQuiet []) (m == l) (b.link l) (begins (message_of b (owner.Try n round))) (λ t. record { quiet = q.quiet; tells = q.tells }) q
+quiet_stays b (action.Created e) may h some l q = q
+quiet_stays b (action.Outcome n o) may h some l q = q
+
+-- so does a submission on it
+link_stays : (b : Book) (a : Action) → MayStand b a → Sound b → (n : ℕ) → IsOnALink b n → IsOnALink (entered b a) n
+link_stays b a may h n on =
+    let i : n < b.submissions = on.0 in
+    let grows : b.submissions ≤ (entered b a).submissions = submissions_grow b a in (
+      omega (arith, i, grows),
+      subst (λ x. IsQuiet [] ((entered b a).link x)) (sym (follows b a may n i).link) (quiet_stays b a may h (λ none. omega (arith, i, none)) (b.story n).link on.1),
+    )
+
+-- each submission for which a timer was asked is on such a link, and so is each whose timer fired
+pub record TimesRun (b : Book) : Type 0 where
+  pub asked : (n : ℕ) → HasClock n b.timers → IsOnALink b n
+  pub over : (n : ℕ) → (b.story n).overdue ≡ true → IsOnALink b n
+
+-- whose timer is asked for now is on one that is up
+asker_on_a_link : (b : Book) (t ms : ℕ) (what : Purpose) → Sound b → (may : MayTime b t ms what) → IsOnALink b may.n
+asker_on_a_link b t ms what h may =
+    let up = mover_is_up b may.n (asker_moves b t ms what may) in (
+      mover_is_numbered b may.n h.stories (asker_moves b t ms what may),
+      record {
+        quiet = λ asked down lives. not_both (link_of b may.n).up down up;
+        tells = λ e fails. absurd (let x : failure_in None ≡ Some e = sym (ap failure_in (h.up (b.story may.n).link up)) ∙ fails in cc x);
+      },
+    )
+
+-- the timer that is asked for now
+new_clock : (b : Book) (t ms : ℕ) (what : Purpose) (n : ℕ) → Sound b → MayTimer b t ms what → is_clock_of n (Some what) ≡ true → IsOnALink b n
+new_clock b t ms what n h (inl may) e = absurd (let x : false ≡ true = sym (ap (λ p. is_clock_of n (Some p)) may.is_for) ∙ e in cc x)
+new_clock b t ms what n h (inr may) e = subst (IsOnALink b) (eq_from may.n n (sym (ap (λ p. is_clock_of n (Some p)) may.is_for) ∙ e)) (asker_on_a_link b t ms what h may)
+
+-- where a timer was asked for, it was before, or is now
+clock_before : (b : Book) (a : Action) → MayStand b a → Sound b → TimesRun b → (n : ℕ) → HasClock n (entered b a).timers → IsOnALink b n
+clock_before b (action.Turn k (cause.Opening config word)) may h run n c = run.asked n c
+clock_before b (action.Turn k (cause.Event e)) may h run n c = run.asked n c
+clock_before b (action.Connect m host port) may h run n c = run.asked n c
+clock_before b (action.Timer t ms what) may h run n c = elim (clock_more n b.timers what c) [ inl before ↦ run.asked n before | inr new ↦ new_clock b t ms what n h may new ]
+clock_before b (action.Took who m count) may h run n c = run.asked n c
+clock_before b (action.Close m) may h run n c = run.asked n c
+clock_before b (action.Write m bytes) may h run n c = run.asked n c
+clock_before b (action.Wait who kind) may h run n c = run.asked n c
+clock_before b (action.Start m k who count len) may h run n c = run.asked n c
+clock_before b (action.Created e) may h run n c = run.asked n c
+clock_before b (action.Outcome m o) may h run n c = run.asked n c
+
+-- one whose time is over: it was before, or has a timer
+abbrev WasOver : Book → ℕ → Story → Type 0
+WasOver b n s = s.overdue ≡ true → ((b.story n).overdue ≡ true) ⊎ HasClock n b.timers
+
+-- so it is behind an event
+event_over : (b : Book) (n : ℕ) (kind : EventKind) → WasOver b n (after_event b n kind)
+event_over b n (event.Submit what) = chosen (WasOver b n) (b.submissions == n) (handed_in (b.story n) what b.shut (current b) b.timeout) (b.story n) (λ t e. inl e) (λ f e. inl e)
+event_over b n (event.Cancel m) = chosen (WasOver b n) (m == n) (left (b.story n)) (b.story n)
+    (λ t. chosen (WasOver b n) (is_open (b.story n)) (record (b.story n) { cancelled = true; permits = 0; waiting = None }) (b.story n) (λ o e. inl e) (λ o e. inl e)) (λ f e. inl e)
+event_over b n (event.Fired t) = chosen (WasOver b n) (is_clock_of n (slice_get b.timers t)) (fires (b.story n)) (b.story n) (λ c e. inr (clock_at n b.timers t c)) (λ f e. inl e)
+event_over b n (event.Connected l) = λ e. inl e
+event_over b n (event.Refused l f) = λ e. inl e
+event_over b n (event.Wrote l count) = λ e. inl e
+event_over b n (event.Bytes l piece) = λ e. inl e
+event_over b n (event.Ended l) = λ e. inl e
+event_over b n (event.ReadFault l kind) = λ e. inl e
+event_over b n (event.WriteFault l kind) = λ e. inl e
+event_over b n (event.Timeout ms) = λ e. inl e
+event_over b n event.Shutdown = λ e. inl e
+
+-- and behind each action
+over_before : (b : Book) (a : Action) (n : ℕ) → WasOver b n ((entered b a).story n)
+over_before b (action.Turn k (cause.Opening config word)) n = λ e. inl e
+over_before b (action.Turn k (cause.Event e)) n = event_over b n e.kind
+over_before b (action.Connect m host port) n = λ e. inl e
+over_before b (action.Timer t ms what) n = chosen (WasOver b n) (is_clock_of n (Some what)) (clocked (b.story n) t) (b.story n) (λ c e. inl e) (λ f e. inl e)
+over_before b (action.Took (owner.Try m round) l count) n = chosen (WasOver b n) (m == n) (holds (b.story n) count) (b.story n) (λ t e. inl e) (λ f e. inl e)
+over_before b (action.Close m) n = λ e. inl e
+over_before b (action.Write m bytes) n = λ e. inl e
+over_before b (action.Wait (owner.Try m round) kind) n = chosen (WasOver b n) (m == n) (waits (b.story n) kind) (b.story n) (λ t e. inl e) (λ f e. inl e)
+over_before b (action.Start l k (owner.Try m round) count len) n = chosen (WasOver b n) (m == n) (tried (b.story n) l k) (b.story n) (λ t e. inl e) (λ f e. inl e)
+over_before b (action.Created x) n = λ e. inl e
+over_before b (action.Outcome m o) n = chosen (WasOver b n) (m == n) (answered (b.story n) o) (b.story n) (λ t e. inl e) (λ f e. inl e)
+
+-- each action that may stand keeps it
+times_kept : (b : Book) (a : Action) → MayStand b a → Sound b → TimesRun b → TimesRun (entered b a)
+times_kept b a may h run = record {
+  asked = λ n c. link_stays b a may h n (clock_before b a may h run n c);
+  over = λ n e. link_stays b a may h n (elim (over_before b a n e) [ inl before ↦ run.over n before | inr c ↦ run.asked n c ]);
+}
+
+-- and so do many
+each_runs : (b : Book) (front : List Action) → AllStand b front → Sound b → TimesRun b → TimesRun (entered_each b front)
+each_runs b [] all h run = run
+each_runs b (a ∷ more) all h run = each_runs (entered b a) more all.1 (stays_sound b a all.0 h) (times_kept b a all.0 h run)
+
+-- so it is behind actions that may stand
+pub times_run : (front : List Action) → AllStand blank_book front → TimesRun (book front)
+unfolding book
+times_run front all = each_runs blank_book front all blank_is_sound (record { asked = λ n c. absurd c; over = λ n e. absurd (cc e) })
+
+-- where the opening of its link failed, the time of a submission isn't over
+pub failed_in_time : (b : Book) (n : ℕ) (e : RedisError) → TimesRun b → failure_in (link_of b n).end ≡ Some e → (b.story n).overdue ≡ true → ⊥
+failed_in_time b n e run fails over = let x : [] ≡ Some e ∷ [] = (run.over n over).1.tells e fails in cc x

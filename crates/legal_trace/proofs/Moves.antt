@@ -1,0 +1,385 @@
+-- Submissions whose messages haven't started: what they have, and what it tells that they make a step next, or wait.
+use Rattle.std.proofs.Common.{◌≡◌, ◌⊎◌, inl, inr, ℕ, zero, suc, ◌+◌, ◌-◌, ◌<◌, ◌≤◌, ◌==◌, nat_lt, nat_le, min, Bool, true, false, ◌&&◌, ◌||◌, length, Option, None, Some, is_none, is_some, if◌then◌else◌, [], refl, sym, ◌∙◌, ap, subst, arith}
+use Rattle.std.proofs.lemmas.List.{nil_from_length}
+use Rattle.containers.proofs.Choices.{by_test, both_left, both_right, eq_from, not_both, not_lt_from}
+use Rattle.driver_model.specs.declared.action.Purpose.{Purpose}
+use Rattle.driver_model.specs.declared.action.WaitKind.{WaitKind}
+use Rattle.driver_model.specs.declared.action.WaitKind.TheVariants as wait
+use Rattle.driver_model.specs.declared.config.Config.{Config}
+use Rattle.driver_model.specs.Config.{buffer_size, boundary}
+use Rattle.driver_model.specs.Shape.{permits_for}
+use Rattle.driver_model.specs.declared.outcome.Outcome.{Outcome}
+use Rattle.legal_trace.specs.Ledger.{Ledger, dials}
+use Rattle.legal_trace.specs.Story.{Story, is_open, is_told, is_awaited, is_unstarted, shape}
+use Rattle.legal_trace.specs.Book.{Book}
+use Rattle.legal_trace.specs.Steps.{Step, waits, takes, asks, tells, starts, nothing, is_due, configured, is_held, is_held_back, permits_in, permits_on, permits_held, free_permits, is_let_in, is_in_line, line_before, is_outside, starts_or_waits, step_placed, step_timed, step_taking, step_holding, step_open, step_ready, next_step}
+use Rattle.legal_trace.specs.Legal.{MayTell, MayStart, MayTime, MayTake, CanMove, link_of}
+
+-- one of two holds
+one_holds : (p q : Bool) → (p || q) ≡ true → (p ≡ true) ⊎ (q ≡ true)
+one_holds true q e = inl refl
+one_holds false q e = inr e
+
+-- such a submission has no message
+pub has_no_tries : (s : Story) → is_unstarted s ≡ true → s.tries ≡ []
+has_no_tries s h = nil_from_length s.tries (eq_from (length s.tries) 0 (both_left (length s.tries == 0) (is_open s || is_told s) h))
+
+-- and is open, or was told
+pub open_or_told : (s : Story) → is_unstarted s ≡ true → (is_open s ≡ true) ⊎ (is_told s ≡ true)
+open_or_told s h = one_holds (is_open s) (is_told s) (both_right (length s.tries == 0) (is_open s || is_told s) h)
+
+-- the next step of such a submission: what the configuration is, its story, how many stand in line before it, how many permits
+-- are held, and its link
+abbrev pub step_of : Option Config → Story → ℕ → ℕ → Ledger → Step
+step_of config s line held l =
+    if dials l then waits wait.Connect
+    else if l.up then step_open (is_told s) (is_held (configured boundary config) l)
+    (step_holding (permits_in config) s.permits (λ limit. step_taking (limit - held) (permits_for (shape s) limit))
+    (step_timed s.timeout s.clock (step_placed (nat_le (configured buffer_size config) line) (is_awaited s) (is_held (configured boundary config) l))))
+    else nothing
+
+-- where the same stand in line, as many do
+pub line_alike : (limit : Option ℕ) (story other : ℕ → Story) → ((l k : ℕ) → is_in_line limit l (story k) ≡ is_in_line limit l (other k)) → (l n : ℕ) → line_before limit story l n ≡ line_before limit other l n
+line_alike limit story other same l zero = refl
+line_alike limit story other same l (suc n) =
+    ap (λ x. x + (if is_in_line limit l (story n) then 1 else 0)) (line_alike limit story other same l n) ∙ ap (λ t. line_before limit other l n + (if t then 1 else 0)) (same l n)
+
+-- where each holds the same, as many permits are held
+pub permits_alike : (story other : ℕ → Story) → ((l k : ℕ) → permits_on l (story k) ≡ permits_on l (other k)) → (l n : ℕ) → permits_held story l n ≡ permits_held other l n
+permits_alike story other same l zero = refl
+permits_alike story other same l (suc n) = ap (λ x. x + permits_on l (story n)) (permits_alike story other same l n) ∙ ap (λ x. permits_held other l n + x) (same l n)
+
+-- its next step where its link is up
+abbrev pub up_step : Book → ℕ → Step
+up_step b n = step_ready b n (b.story n)
+
+-- a step that is due is made on a link that is up
+due_up : (dialing up : Bool) (step : Step) → is_due (if dialing then waits wait.Connect else if up then step else nothing) ≡ true → up ≡ true
+due_up true up step e = cc
+due_up false true step e = refl
+due_up false false step e = cc
+
+-- so the link of who makes a step is up
+pub mover_is_up : (b : Book) (n : ℕ) → CanMove b n → (link_of b n).up ≡ true
+mover_is_up b n moves = due_up (dials (link_of b n)) (link_of b n).up (up_step b n) moves.due
+
+-- who is told at its place makes a step
+pub teller_moves : (b : Book) (n : ℕ) (o : Outcome) → MayTell b n o → CanMove b n
+teller_moves b n o may = record { unstarted = may.unstarted; due = ap is_due may.tells }
+
+-- and so does who starts
+pub starter_moves : (b : Book) (l k n count len : ℕ) → MayStart b l k n count len → CanMove b n
+starter_moves b l k n count len may = record { unstarted = may.unstarted; due = ap is_due may.starts }
+
+-- who takes permits
+pub taker_moves : (b : Book) (n l count : ℕ) → MayTake b n l count → CanMove b n
+taker_moves b n l count may = record { unstarted = may.unstarted; due = ap is_due may.takes }
+
+-- and whose timer is asked for
+pub asker_moves : (b : Book) (t ms : ℕ) (what : Purpose) (may : MayTime b t ms what) → CanMove b may.n
+asker_moves b t ms what may = record { unstarted = may.unstarted; due = ap is_due may.asks }
+
+-- who waits, waits for the connect, or on a link that is up
+waits_up : (dialing up : Bool) (step : Step) (kind : WaitKind) → (if dialing then waits wait.Connect else if up then step else nothing) ≡ waits kind → (dialing ≡ true) ⊎ (up ≡ true)
+waits_up true up step kind e = inl refl
+waits_up false true step kind e = inr refl
+waits_up false false step kind e = cc
+
+-- so the link of who waits isn't answered, or is up
+pub waits_on_a_link : (b : Book) (n : ℕ) (kind : WaitKind) → next_step b n ≡ waits kind → (dials (link_of b n) ≡ true) ⊎ ((link_of b n).up ≡ true)
+waits_on_a_link b n kind e = waits_up (dials (link_of b n)) (link_of b n).up (up_step b n) kind e
+
+-- one kind of wait is true at a time
+pub same_kind : (s : Step) (kind other : WaitKind) → s ≡ waits kind → s ≡ waits other → kind ≡ other
+same_kind s kind other e f = cc
+
+-- a step that is no wait for the connect is made on a link that is up
+ready_of : (dialing up : Bool) (step s : Step) → is_due s ≡ true → (if dialing then waits wait.Connect else if up then step else nothing) ≡ s → (dialing ≡ false) × (up ≡ true) × (step ≡ s)
+ready_of true up step s due e = absurd (let x : false ≡ true = ap is_due e ∙ due in cc x)
+ready_of false true step s due e = (refl, refl, e)
+ready_of false false step s due e = absurd (let x : false ≡ true = ap is_due e ∙ due in cc x)
+
+-- what is less is tested so
+pub lt_test : (a b : ℕ) → a < b → nat_lt a b ≡ true
+lt_test a b i = by_test (nat_lt a b) (nat_lt a b ≡ true) (λ t. t) (λ f. absurd (let k : b ≤ a = not_lt_from a b f in omega (arith, i, k)))
+
+-- a submission holds its permits, where they are counted
+abbrev pub holds_some : Option ℕ → ℕ → Bool
+holds_some limit permits = is_none limit || nat_lt 0 permits
+
+-- its timer was asked for, where it is to be answered within a time
+abbrev pub is_timed : Option ℕ → Option ℕ → Bool
+is_timed timeout clock = is_none timeout || is_some clock
+
+-- whoever wasn't told does what else it does
+open_next : (told held : Bool) (next s : Step) → step_open told held next ≡ s → ((told ≡ true) × (starts_or_waits held ≡ s)) ⊎ ((told ≡ false) × (next ≡ s))
+open_next true held next s e = inl (refl, e)
+open_next false held next s e = inr (refl, e)
+
+-- whoever takes no permits holds some, and goes on
+holding_next : (limit : Option ℕ) (permits : ℕ) (taking : ℕ → Step) (next s : Step) → ((most : ℕ) → taking most ≡ s → ⊥) → step_holding limit permits taking next ≡ s → (holds_some limit permits ≡ true) × (next ≡ s)
+holding_next None permits taking next s none e = (refl, e)
+holding_next (Some limit) zero taking next s none e = absurd (none limit e)
+holding_next (Some limit) (suc held) taking next s none e = (lt_test 0 (suc held) (omega arith), e)
+
+-- whose timer isn't asked for has it, where it is to have one, and goes on
+timed_next : (timeout clock : Option ℕ) (next s : Step) → ((ms : ℕ) → asks ms ≡ s → ⊥) → step_timed timeout clock next ≡ s → (is_timed timeout clock ≡ true) × (next ≡ s)
+timed_next None clock next s none e = (refl, e)
+timed_next (Some ms) None next s none e = absurd (none ms e)
+timed_next (Some ms) (Some t) next s none e = (refl, e)
+
+-- whoever takes permits, or waits for one, neither starts nor is told nor has its timer asked for
+taking_is : (free most : ℕ) (s : Step) → (s ≡ starts) ⊎ (s ≡ tells) → step_taking free most ≡ s → ⊥
+taking_is zero most s (inl f) e = let x : waits wait.Permit ≡ starts = e ∙ f in cc x
+taking_is zero most s (inr f) e = let x : waits wait.Permit ≡ tells = e ∙ f in cc x
+taking_is (suc free) most s (inl f) e = let x : takes (min (suc free) most) ≡ starts = e ∙ f in cc x
+taking_is (suc free) most s (inr f) e = let x : takes (min (suc free) most) ≡ tells = e ∙ f in cc x
+
+-- nor is a timer a start
+asking_is : (ms : ℕ) (s : Step) → (s ≡ starts) ⊎ (s ≡ tells) → asks ms ≡ s → ⊥
+asking_is ms s (inl f) e = let x : asks ms ≡ starts = e ∙ f in cc x
+asking_is ms s (inr f) e = let x : asks ms ≡ tells = e ∙ f in cc x
+
+-- whoever starts at its place has it, and isn't held back
+placed_starts : (outside awaited held : Bool) → step_placed outside awaited held ≡ starts → (outside ≡ false) × (held ≡ false)
+placed_starts true awaited held e = absurd (cc e)
+placed_starts false true true e = absurd (cc e)
+placed_starts false true false e = (refl, refl)
+placed_starts false false held e = absurd (cc e)
+
+-- and so has who is told there, and its reply isn't awaited
+placed_tells : (outside awaited held : Bool) → step_placed outside awaited held ≡ tells → (outside ≡ false) × (awaited ≡ false)
+placed_tells true awaited held e = absurd (cc e)
+placed_tells false true true e = absurd (cc e)
+placed_tells false true false e = absurd (cc e)
+placed_tells false false held e = (refl, refl)
+
+-- whoever was told and starts isn't held back
+told_starts : (held : Bool) → starts_or_waits held ≡ starts → held ≡ false
+told_starts true e = absurd (cc e)
+told_starts false e = refl
+
+-- and it isn't told again
+told_tells : (held : Bool) → starts_or_waits held ≡ tells → ⊥
+told_tells true e = cc e
+told_tells false e = cc e
+
+-- nor does it take permits, or get a timer
+told_takes : (held : Bool) (count : ℕ) → starts_or_waits held ≡ takes count → ⊥
+told_takes true count e = cc e
+told_takes false count e = cc e
+
+-- and its timer isn't asked for
+told_asks : (held : Bool) (ms : ℕ) → starts_or_waits held ≡ asks ms → ⊥
+told_asks true ms e = cc e
+told_asks false ms e = cc e
+
+-- both of two hold
+pub both_hold : (p q : Bool) → p ≡ true → q ≡ true → (p && q) ≡ true
+both_hold p q x y = rw (x, y)
+
+-- where its next step goes past its permits and its timer
+past_timer : (b : Book) (n : ℕ) (s : Step) → (s ≡ starts) ⊎ (s ≡ tells)
+    → step_holding (permits_in b.config) (b.story n).permits (λ limit. step_taking (free_permits b (b.story n).link limit) (permits_for (shape (b.story n)) limit)) (step_timed (b.story n).timeout (b.story n).clock (step_placed (is_outside b n) (is_awaited (b.story n)) (is_held_back b (link_of b n)))) ≡ s
+    → (is_let_in (permits_in b.config) (b.story n) ≡ true) × (step_placed (is_outside b n) (is_awaited (b.story n)) (is_held_back b (link_of b n)) ≡ s)
+past_timer b n s is e =
+    let h = holding_next (permits_in b.config) (b.story n).permits (λ limit. step_taking (free_permits b (b.story n).link limit) (permits_for (shape (b.story n)) limit)) (step_timed (b.story n).timeout (b.story n).clock (step_placed (is_outside b n) (is_awaited (b.story n)) (is_held_back b (link_of b n)))) s
+    (λ most. taking_is (free_permits b (b.story n).link most) (permits_for (shape (b.story n)) most) s is) e in
+    let t = timed_next (b.story n).timeout (b.story n).clock (step_placed (is_outside b n) (is_awaited (b.story n)) (is_held_back b (link_of b n))) s (λ ms. asking_is ms s is) h.1 in
+    (both_hold (holds_some (permits_in b.config) (b.story n).permits) (is_timed (b.story n).timeout (b.story n).clock) h.0 t.0, t.1)
+
+-- what it does next on a link that is up, past whether it was told
+abbrev pub untold_step : Book → ℕ → Step
+untold_step b n = step_holding (permits_in b.config) (b.story n).permits (λ limit. step_taking (free_permits b (b.story n).link limit) (permits_for (shape (b.story n)) limit)) (step_timed (b.story n).timeout (b.story n).clock (step_placed (is_outside b n) (is_awaited (b.story n)) (is_held_back b (link_of b n))))
+
+-- where the next step is a start, the link is up and isn't held back, and the submission was told, or was let in and has a place
+pub starts_mean : (b : Book) (n : ℕ) → next_step b n ≡ starts
+    → (dials (link_of b n) ≡ false) × ((link_of b n).up ≡ true) × (is_held_back b (link_of b n) ≡ false)
+    × ((is_told (b.story n) ≡ true) ⊎ ((is_let_in (permits_in b.config) (b.story n) ≡ true) × (is_outside b n ≡ false)))
+starts_mean b n e =
+    let r = ready_of (dials (link_of b n)) (link_of b n).up (up_step b n) starts refl e in
+    elim (open_next (is_told (b.story n)) (is_held_back b (link_of b n)) (untold_step b n) starts r.2) [
+      | inl told ↦ (r.0, r.1, told_starts (is_held_back b (link_of b n)) told.1, inl told.0)
+      | inr not_told ↦
+          let p = past_timer b n starts (inl refl) not_told.1 in
+          let q = placed_starts (is_outside b n) (is_awaited (b.story n)) (is_held_back b (link_of b n)) p.1 in
+          (r.0, r.1, q.1, inr (p.0, q.0))
+    ]
+
+-- where it is to be told, its link is up, it was let in and has a place, and its reply isn't awaited
+pub tells_mean : (b : Book) (n : ℕ) → next_step b n ≡ tells
+    → (dials (link_of b n) ≡ false) × ((link_of b n).up ≡ true) × (is_let_in (permits_in b.config) (b.story n) ≡ true) × (is_outside b n ≡ false) × (is_awaited (b.story n) ≡ false)
+tells_mean b n e =
+    let r = ready_of (dials (link_of b n)) (link_of b n).up (up_step b n) tells refl e in
+    elim (open_next (is_told (b.story n)) (is_held_back b (link_of b n)) (untold_step b n) tells r.2) [
+      | inl told ↦ absurd (told_tells (is_held_back b (link_of b n)) told.1)
+      | inr not_told ↦
+          let p = past_timer b n tells (inr refl) not_told.1 in
+          let q = placed_tells (is_outside b n) (is_awaited (b.story n)) (is_held_back b (link_of b n)) p.1 in
+          (r.0, r.1, p.0, q.0, q.1)
+    ]
+
+-- what is taken is free
+taken_is_free : (free most count : ℕ) → step_taking free most ≡ takes count → (count ≤ free) × (0 < free)
+taken_is_free zero most count e = absurd (cc e)
+taken_is_free (suc free) most count e = let x : min (suc free) most ≡ count = cc e in (omega arith, omega arith)
+
+-- at a place nothing is taken, nor a timer asked for
+placed_takes : (outside awaited held : Bool) (count : ℕ) → step_placed outside awaited held ≡ takes count → ⊥
+placed_takes true awaited held count e = cc e
+placed_takes false true true count e = cc e
+placed_takes false true false count e = cc e
+placed_takes false false held count e = cc e
+
+-- nor is a timer asked for
+placed_asks : (outside awaited held : Bool) (ms : ℕ) → step_placed outside awaited held ≡ asks ms → ⊥
+placed_asks true awaited held ms e = cc e
+placed_asks false true true ms e = cc e
+placed_asks false true false ms e = cc e
+placed_asks false false held ms e = cc e
+
+-- nor where a timer is asked for
+timed_takes : (timeout clock : Option ℕ) (outside awaited held : Bool) (count : ℕ) → step_timed timeout clock (step_placed outside awaited held) ≡ takes count → ⊥
+timed_takes None clock outside awaited held count e = placed_takes outside awaited held count e
+timed_takes (Some ms) None outside awaited held count e = cc e
+timed_takes (Some ms) (Some t) outside awaited held count e = placed_takes outside awaited held count e
+
+-- where permits are counted, and it holds none, and so many are free, it takes some
+holding_takes : (limit : Option ℕ) (permits : ℕ) (free : ℕ → ℕ) (most : ℕ → ℕ) (timeout clock : Option ℕ) (outside awaited held : Bool) (count : ℕ)
+    → step_holding limit permits (λ k. step_taking (free k) (most k)) (step_timed timeout clock (step_placed outside awaited held)) ≡ takes count
+    → (k : ℕ) × (limit ≡ Some k) × (permits ≡ 0) × (count ≤ free k) × (0 < free k)
+holding_takes None permits free most timeout clock outside awaited held count e = absurd (timed_takes timeout clock outside awaited held count e)
+holding_takes (Some k) zero free most timeout clock outside awaited held count e = let t = taken_is_free (free k) (most k) count e in (k, refl, refl, t.0, t.1)
+holding_takes (Some k) (suc n) free most timeout clock outside awaited held count e = absurd (timed_takes timeout clock outside awaited held count e)
+
+-- where it takes permits, its link is up, and of a limit so many are free; it holds none
+pub takes_mean : (b : Book) (n count : ℕ) → next_step b n ≡ takes count
+    → (dials (link_of b n) ≡ false) × ((link_of b n).up ≡ true)
+    × ((limit : ℕ) × (permits_in b.config ≡ Some limit) × ((b.story n).permits ≡ 0) × (count ≤ free_permits b (b.story n).link limit) × (0 < free_permits b (b.story n).link limit))
+takes_mean b n count e =
+    let r = ready_of (dials (link_of b n)) (link_of b n).up (up_step b n) (takes count) refl e in
+    elim (open_next (is_told (b.story n)) (is_held_back b (link_of b n)) (untold_step b n) (takes count) r.2) [
+      | inl told ↦ absurd (told_takes (is_held_back b (link_of b n)) count told.1)
+      | inr not_told ↦ (r.0, r.1, holding_takes (permits_in b.config) (b.story n).permits (free_permits b (b.story n).link) (permits_for (shape (b.story n))) (b.story n).timeout (b.story n).clock (is_outside b n) (is_awaited (b.story n)) (is_held_back b (link_of b n)) count not_told.1)
+    ]
+
+-- whoever takes permits, or waits for one, has no timer asked for
+taking_asks : (free most ms : ℕ) → step_taking free most ≡ asks ms → ⊥
+taking_asks zero most ms e = cc e
+taking_asks (suc free) most ms e = cc e
+
+-- whose timer is asked for is to be answered within that time, and has none
+timed_asks : (timeout clock : Option ℕ) (outside awaited held : Bool) (ms : ℕ) → step_timed timeout clock (step_placed outside awaited held) ≡ asks ms → (timeout ≡ Some ms) × (clock ≡ None)
+timed_asks None clock outside awaited held ms e = absurd (placed_asks outside awaited held ms e)
+timed_asks (Some time) None outside awaited held ms e = let x : time ≡ ms = cc e in (ap Some x, refl)
+timed_asks (Some time) (Some t) outside awaited held ms e = absurd (placed_asks outside awaited held ms e)
+
+-- and it holds its permits
+pub asks_mean : (b : Book) (n ms : ℕ) → next_step b n ≡ asks ms
+    → (holds_some (permits_in b.config) (b.story n).permits ≡ true) × ((b.story n).timeout ≡ Some ms) × ((b.story n).clock ≡ None)
+asks_mean b n ms e =
+    let r = ready_of (dials (link_of b n)) (link_of b n).up (up_step b n) (asks ms) refl e in
+    elim (open_next (is_told (b.story n)) (is_held_back b (link_of b n)) (untold_step b n) (asks ms) r.2) [
+      | inl told ↦ absurd (told_asks (is_held_back b (link_of b n)) ms told.1)
+      | inr not_told ↦
+          let h = holding_next (permits_in b.config) (b.story n).permits (λ limit. step_taking (free_permits b (b.story n).link limit) (permits_for (shape (b.story n)) limit)) (step_timed (b.story n).timeout (b.story n).clock (step_placed (is_outside b n) (is_awaited (b.story n)) (is_held_back b (link_of b n)))) (asks ms)
+          (λ most. taking_asks (free_permits b (b.story n).link most) (permits_for (shape (b.story n)) most) ms) not_told.1 in
+          let t = timed_asks (b.story n).timeout (b.story n).clock (is_outside b n) (is_awaited (b.story n)) (is_held_back b (link_of b n)) ms h.1 in (h.0, t.0, t.1)
+    ]
+
+-- what an open submission that holds its permits does with a place on a link that isn't held back is due
+placed_due : (outside awaited held : Bool) → held ≡ false → outside ≡ false → is_due (step_placed outside awaited held) ≡ true
+placed_due true awaited held h o = absurd (cc o)
+placed_due false true true h o = absurd (cc h)
+placed_due false true false h o = refl
+placed_due false false held h o = refl
+
+-- so it is behind its timer
+timed_due : (timeout clock : Option ℕ) (next : Step) → is_due next ≡ true → is_due (step_timed timeout clock next) ≡ true
+timed_due None clock next e = e
+timed_due (Some ms) None next e = refl
+timed_due (Some ms) (Some t) next e = e
+
+-- and behind its permits
+holding_due : (limit : Option ℕ) (permits : ℕ) (taking : ℕ → Step) (next : Step) → holds_some limit permits ≡ true → is_due (step_holding limit permits taking next) ≡ is_due next
+holding_due None permits taking next h = refl
+holding_due (Some limit) zero taking next h = absurd (cc h)
+holding_due (Some limit) (suc held) taking next h = refl
+
+-- so is what is done on a link that is up
+ready_due : (dialing up : Bool) (step : Step) → dialing ≡ false → up ≡ true → is_due (if dialing then waits wait.Connect else if up then step else nothing) ≡ is_due step
+ready_due true up step d u = absurd (cc d)
+ready_due false true step d u = refl
+ready_due false false step d u = absurd (cc u)
+
+-- whoever was told does so where the link isn't held back
+told_due : (told held : Bool) (next : Step) → told ≡ true → held ≡ false → is_due (step_open told held next) ≡ true
+told_due true true next t h = absurd (cc h)
+told_due true false next t h = refl
+told_due false held next t h = absurd (cc t)
+
+-- and whoever wasn't does what else is due
+untold_due : (told held : Bool) (next : Step) → told ≡ false → is_due (step_open told held next) ≡ is_due next
+untold_due true held next t = absurd (cc t)
+untold_due false held next t = refl
+
+-- whoever was told makes a step on a link that is up and isn't held back
+pub told_is_due : (b : Book) (n : ℕ) → dials (link_of b n) ≡ false → (link_of b n).up ≡ true → is_held_back b (link_of b n) ≡ false → is_told (b.story n) ≡ true → is_due (next_step b n) ≡ true
+told_is_due b n d u h t = ready_due (dials (link_of b n)) (link_of b n).up (up_step b n) d u ∙ told_due (is_told (b.story n)) (is_held_back b (link_of b n)) (untold_step b n) t h
+
+-- what is due of who wasn't told
+untold_is_due : (b : Book) (n : ℕ) → dials (link_of b n) ≡ false → (link_of b n).up ≡ true → is_told (b.story n) ≡ false → is_due (untold_step b n) ≡ true → is_due (next_step b n) ≡ true
+untold_is_due b n d u t due = ready_due (dials (link_of b n)) (link_of b n).up (up_step b n) d u ∙ (untold_due (is_told (b.story n)) (is_held_back b (link_of b n)) (untold_step b n) t ∙ due)
+
+-- and so does who holds its permits and has a place
+pub free_is_due : (b : Book) (n : ℕ) → dials (link_of b n) ≡ false → (link_of b n).up ≡ true → is_held_back b (link_of b n) ≡ false → is_told (b.story n) ≡ false
+    → holds_some (permits_in b.config) (b.story n).permits ≡ true → is_outside b n ≡ false → is_due (next_step b n) ≡ true
+free_is_due b n d u h t p o = untold_is_due b n d u t
+    (holding_due (permits_in b.config) (b.story n).permits (λ limit. step_taking (free_permits b (b.story n).link limit) (permits_for (shape (b.story n)) limit)) (step_timed (b.story n).timeout (b.story n).clock (step_placed (is_outside b n) (is_awaited (b.story n)) (is_held_back b (link_of b n)))) p
+    ∙ timed_due (b.story n).timeout (b.story n).clock (step_placed (is_outside b n) (is_awaited (b.story n)) (is_held_back b (link_of b n))) (placed_due (is_outside b n) (is_awaited (b.story n)) (is_held_back b (link_of b n)) h o))
+
+-- who makes no step though it holds its permits has its timer
+timed_from : (timeout clock : Option ℕ) (next : Step) → (is_due (step_timed timeout clock next) ≡ true → ⊥) → is_timed timeout clock ≡ true
+timed_from None clock next none = refl
+timed_from (Some ms) None next none = absurd (none refl)
+timed_from (Some ms) (Some t) next none = refl
+
+-- so it is in a book
+pub holder_is_timed : (b : Book) (n : ℕ) → dials (link_of b n) ≡ false → (link_of b n).up ≡ true → is_told (b.story n) ≡ false → holds_some (permits_in b.config) (b.story n).permits ≡ true
+    → (is_due (next_step b n) ≡ true → ⊥) → is_timed (b.story n).timeout (b.story n).clock ≡ true
+holder_is_timed b n d u t p none = timed_from (b.story n).timeout (b.story n).clock (step_placed (is_outside b n) (is_awaited (b.story n)) (is_held_back b (link_of b n)))
+    (λ due. none (untold_is_due b n d u t (holding_due (permits_in b.config) (b.story n).permits (λ limit. step_taking (free_permits b (b.story n).link limit) (permits_for (shape (b.story n)) limit)) (step_timed (b.story n).timeout (b.story n).clock (step_placed (is_outside b n) (is_awaited (b.story n)) (is_held_back b (link_of b n)))) p ∙ due)))
+
+-- whoever takes permits makes a step
+takes_due : (free most : ℕ) → 0 < free → is_due (step_taking free most) ≡ true
+takes_due zero most i = absurd (omega arith)
+takes_due (suc free) most i = refl
+
+-- and who makes no step though some are free holds some
+holds_from : (limit permits : ℕ) (taking : ℕ → Step) (next : Step) → is_due (taking limit) ≡ true → (is_due (step_holding (Some limit) permits taking next) ≡ true → ⊥) → 0 < permits
+holds_from limit zero taking next due none = absurd (none due)
+holds_from limit (suc held) taking next due none = omega arith
+
+-- so it is in a book, too
+pub rester_holds : (b : Book) (n limit : ℕ) → dials (link_of b n) ≡ false → (link_of b n).up ≡ true → is_told (b.story n) ≡ false → permits_in b.config ≡ Some limit → 0 < free_permits b (b.story n).link limit
+    → (is_due (next_step b n) ≡ true → ⊥) → 0 < (b.story n).permits
+rester_holds b n limit d u t p free none =
+    holds_from limit (b.story n).permits (λ k. step_taking (free_permits b (b.story n).link k) (permits_for (shape (b.story n)) k)) (step_timed (b.story n).timeout (b.story n).clock (step_placed (is_outside b n) (is_awaited (b.story n)) (is_held_back b (link_of b n))))
+    (takes_due (free_permits b (b.story n).link limit) (permits_for (shape (b.story n)) limit) free)
+    (λ due. none (untold_is_due b n d u t
+    (subst (λ o. is_due (step_holding o (b.story n).permits (λ k. step_taking (free_permits b (b.story n).link k) (permits_for (shape (b.story n)) k)) (step_timed (b.story n).timeout (b.story n).clock (step_placed (is_outside b n) (is_awaited (b.story n)) (is_held_back b (link_of b n))))) ≡ true) (sym p) due)))
+
+-- whoever starts at its place without being told is awaited
+awaited_at_its_place : (outside awaited held : Bool) → step_placed outside awaited held ≡ starts → awaited ≡ true
+awaited_at_its_place true awaited held e = absurd (cc e)
+awaited_at_its_place false true held e = refl
+awaited_at_its_place false false held e = absurd (cc e)
+
+-- so it is in a book, too
+pub placed_is_awaited : (b : Book) (n : ℕ) → is_told (b.story n) ≡ false → next_step b n ≡ starts → is_awaited (b.story n) ≡ true
+placed_is_awaited b n untold e =
+    let r = ready_of (dials (link_of b n)) (link_of b n).up (up_step b n) starts refl e in
+    elim (open_next (is_told (b.story n)) (is_held_back b (link_of b n)) (untold_step b n) starts r.2) [
+      | inl told ↦ absurd (not_both (is_told (b.story n)) untold told.0)
+      | inr not_told ↦ awaited_at_its_place (is_outside b n) (is_awaited (b.story n)) (is_held_back b (link_of b n)) (past_timer b n starts (inl refl) not_told.1).1
+    ]
