@@ -26,6 +26,7 @@ use Rattle.session_tool.proofs.Traces.{kept_next}
 fires_nothing : (l : Ledger) (turn : ℕ) (asked : Option Purpose) → with_news l turn (of_timer 0 asked) ≡ l
 fires_nothing l turn None = refl
 fires_nothing l turn (Some (purpose.Connect k)) = chosen (λ news. with_news l turn news ≡ l) (k == 0) overdue silence (λ t. refl) (λ f. refl)
+fires_nothing l turn (Some (purpose.Response who)) = refl
 
 -- that a timer fires is no news of an offer, whatever timers there are
 pub any_timers : (l : Ledger) (turn : ℕ) (timers : List Purpose) (kind : EventKind) → with_news l turn (news_of [] 0 kind) ≡ with_news l turn (news_of timers 0 kind)
@@ -39,6 +40,7 @@ any_timers l turn timers (event.Ended k) = refl
 any_timers l turn timers (event.ReadFault k f) = refl
 any_timers l turn timers (event.WriteFault k f) = refl
 any_timers l turn timers (event.Fired t) = sym (fires_nothing l turn (slice_get timers t))
+any_timers l turn timers (event.Timeout ms) = refl
 any_timers l turn timers event.Shutdown = refl
 
 -- the session has taken these events, and the offer is that of their trace

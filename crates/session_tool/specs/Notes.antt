@@ -43,6 +43,7 @@ pub record IsScriptNote (bytes text : List ℕ) : Type 0 where
 abbrev pub config_words : ConfigName → List ℕ
 config_words name.Url = codes "the URL is no address: it has the scheme redis or valkey, a host, and behind them no more than a port, a database and a protocol"
 config_words name.Kind = codes "this address asks for a password, a protocol or a database, which this version doesn't set up"
+config_words name.Limit = codes "a request holds at least 1 permit: limit=0 leaves none for any"
 config_words name.Buffer = codes "the queue of a link holds at least 1 message: buffer=0 leaves no place for any"
 config_words other = codes "the configuration is refused for its " ++ config_name other
 
@@ -63,6 +64,7 @@ event_words (event.Ended l) = codes "ended " ++ decimal l
 event_words (event.ReadFault l kind) = codes "read-fault " ++ decimal l
 event_words (event.WriteFault l kind) = codes "write-fault " ++ decimal l
 event_words (event.Fired t) = codes "fired " ++ decimal t
+event_words (event.Timeout ms) = codes "timeout"
 event_words event.Shutdown = codes "shutdown"
 
 -- why an event is bad, in words
@@ -89,6 +91,7 @@ bad_reason b (event.Ended l) = NoLink
 bad_reason b (event.ReadFault l kind) = NoLink
 bad_reason b (event.WriteFault l kind) = NoLink
 bad_reason b (event.Fired t) = NoTimer
+bad_reason b (event.Timeout ms) = NoLink
 bad_reason b event.Shutdown = NoLink
 
 -- an event that is bad after what is in this book, in words
@@ -119,6 +122,7 @@ kept_by kept (event.Ended l) = kept
 kept_by kept (event.ReadFault l kind) = kept
 kept_by kept (event.WriteFault l kind) = kept
 kept_by kept (event.Fired t) = kept
+kept_by kept (event.Timeout ms) = kept
 kept_by kept event.Shutdown = kept
 
 abbrev pub kept_each : List Bool → List Event → List Bool

@@ -71,6 +71,7 @@ fn push_event(text: &mut Bytes, kind: &EventKind) -> Result<(), AllocError>
             push_words(text, b"write-fault ", u64::from(*link))
         }
         EventKind::Fired { timer } => push_words(text, b"fired ", u64::from(*timer)),
+        EventKind::Timeout { ms: _ } => text.extend_from_slice(b"timeout"),
         EventKind::Shutdown => text.extend_from_slice(b"shutdown"),
     }
 }

@@ -18,7 +18,7 @@ session_tool --version  the version
 gen N and live CONFIG are not in this version: they answer 1
 
 A script, each line an example:
-config single url=redis://HOST:PORT response=none lib=off
+config single url=redis://HOST:PORT lib=off
 submit cmd GET a                         a command
 submit noreply SET k 1                   a command whose reply nobody awaits
 submit pipe GET a ; GET b                a pipeline
@@ -33,10 +33,13 @@ ended 0                                  the peer closed the link
 read-fault 0 reset                       a read failed
 write-fault 0 broken-pipe                a write failed
 fired 0                                  the time of timer 0 is over
+timeout 250                              each later submission is to be answered within 250 ms
+timeout none                             or within any time
 shutdown                                 everything is closed
 end                                      the last line
 
 The time of the connect is 1000 ms, or what connect=MS or connect=none says in the first line.
+The time of a request is 500 ms, or what response=MS or response=none says there; limit=COUNT sets how many permits there are.
 The queue of a link holds 50 messages, or what buffer=COUNT says there, and none starts while 8192 bytes or more, or what boundary=BYTES says, are unwritten.
 A fault is refused, reset, aborted, not-connected, broken-pipe, eof, timed-out, interrupted, denied or other.
 Status: 0 done, 1 no command, 2 no script, 3 refused configuration, 4 bad event, 5 no memory, 6 no input, 7 no output, 8 no more numbers.

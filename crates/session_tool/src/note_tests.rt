@@ -8,10 +8,10 @@ use std::test::Fail;
 const CONFIG: &[u8] = b"config single url=redis://h:6379 connect=none response=none lib=off\n";
 
 /// First lines of scripts, and the notes on them.
-const FIRST_LINES: [(&[u8], &[u8]); 16] = [
+const FIRST_LINES: [(&[u8], &[u8]); 17] = [
     (
         b"end\n",
-        b"line 1: end: the first line is config single url=URL response=none lib=off, with connect=MS or connect=none, buffer=COUNT and boundary=BYTES where wanted\n",
+        b"line 1: end: the first line is config single url=URL lib=off, with connect=MS, response=MS (MS or none), buffer=COUNT, limit=COUNT and boundary=BYTES where wanted\n",
     ),
     (
         b"config manager url=redis://h:6379 connect=none response=none lib=off\n",
@@ -26,6 +26,10 @@ const FIRST_LINES: [(&[u8], &[u8]); 16] = [
         b"line 1: config single url=redis://h:6379 buffer=+5: buffer is a number of messages, digits alone without a leading zero, at most 4294967295\n",
     ),
     (
+        b"config single url=redis://h:6379 limit=none response=none lib=off\n",
+        b"line 1: config single url=redis://h:6379 limit=none: limit is a number of permits, digits alone without a leading zero, at most 4294967295\n",
+    ),
+    (
         b"config single url=redis://h:6379 boundary=8k response=none lib=off\n",
         b"line 1: config single url=redis://h:6379 boundary=8k: boundary is a number of bytes, digits alone without a leading zero, at most 18446744073709551615\n",
     ),
@@ -35,7 +39,7 @@ const FIRST_LINES: [(&[u8], &[u8]); 16] = [
     ),
     (
         b"config single url=redis://h:6379 connect=none response=5s lib=off\n",
-        b"line 1: config single url=redis://h:6379 connect=none response=5s: only none is supported yet\n",
+        b"line 1: config single url=redis://h:6379 connect=none response=5s: response is a number of milliseconds, at most 18446744073709551615, or none\n",
     ),
     (
         b"config single url=redis://h:6379 connect=none response=none lib=on\n",
@@ -43,23 +47,23 @@ const FIRST_LINES: [(&[u8], &[u8]); 16] = [
     ),
     (
         b"config single url=redis://h:6379 conect=none response=none lib=off\n",
-        b"line 1: config single url=redis://h:6379 conect=none: the keys are url, connect, response, buffer, boundary and lib\n",
+        b"line 1: config single url=redis://h:6379 conect=none: the keys are url, connect, response, buffer, limit, boundary and lib\n",
     ),
     (
         b"config single url=redis://h:6379 connect response=none lib=off\n",
-        b"line 1: config single url=redis://h:6379 connect: a setting is KEY=VALUE, with url, connect, response, buffer, boundary or lib\n",
+        b"line 1: config single url=redis://h:6379 connect: a setting is KEY=VALUE, with url, connect, response, buffer, limit, boundary or lib\n",
     ),
     (
         b"config single url=redis://h:6379 connect=none connect=none response=none lib=off\n",
         b"line 1: config single url=redis://h:6379 connect=none connect=none: each key stands once\n",
     ),
     (
-        b"config single url=redis://h:6379 connect=none lib=off\n",
-        b"line 1: config single url=redis://h:6379 connect=none lib=off: each of url, response and lib stands once\n",
+        b"config single url=redis://h:6379 connect=none response=5\n",
+        b"line 1: config single url=redis://h:6379 connect=none response=5: each of url and lib stands once\n",
     ),
     (
         b"config single connect=none response=none lib=off\n",
-        b"line 1: config single connect=none response=none lib=off: each of url, response and lib stands once\n",
+        b"line 1: config single connect=none response=none lib=off: each of url and lib stands once\n",
     ),
     (
         b"config single url=redis://h:6379 ; connect=none response=none lib=off\n",
@@ -76,7 +80,7 @@ const FIRST_LINES: [(&[u8], &[u8]); 16] = [
 ];
 
 /// Second lines of scripts, and the notes on them.
-const LATER_LINES: [(&[u8], &[u8]); 40] = [
+const LATER_LINES: [(&[u8], &[u8]); 42] = [
     (
         b"\n",
         b"line 2: this line is empty: a line has words, one space between two\n",
@@ -119,11 +123,11 @@ const LATER_LINES: [(&[u8], &[u8]); 40] = [
     ),
     (
         b"subscribe a\n",
-        b"line 2: subscribe: an event is submit, cancel, connected, refused, wrote, bytes, ended, read-fault, write-fault, fired or shutdown, and the last line is end\n",
+        b"line 2: subscribe: an event is submit, cancel, connected, refused, wrote, bytes, ended, read-fault, write-fault, fired, timeout or shutdown, and the last line is end\n",
     ),
     (
         b"; a\n",
-        b"line 2: ;: an event is submit, cancel, connected, refused, wrote, bytes, ended, read-fault, write-fault, fired or shutdown, and the last line is end\n",
+        b"line 2: ;: an event is submit, cancel, connected, refused, wrote, bytes, ended, read-fault, write-fault, fired, timeout or shutdown, and the last line is end\n",
     ),
     (
         b"submit get a\n",
@@ -231,6 +235,14 @@ const LATER_LINES: [(&[u8], &[u8]); 40] = [
         b"connected \x7f\xc3\n",
         b"line 2: connected %7F%C3: a number has digits alone, no leading zero, and is at most 4294967295\n",
     ),
+    (
+        b"timeout 5s\n",
+        b"line 2: timeout 5s: a time is a number of milliseconds, digits alone without a leading zero, at most 18446744073709551615, or none\n",
+    ),
+    (
+        b"timeout\n",
+        b"line 2: timeout: this event is timeout MS or timeout none\n",
+    ),
 ];
 
 /// Whole texts that are no scripts, and the notes on them.
@@ -263,7 +275,7 @@ const TEXTS: [(&[u8], &[u8]); 7] = [
 ];
 
 /// Events with a bad one, and the notes on it.
-const BAD_EVENTS: [(&[u8], &[u8]); 14] = [
+const BAD_EVENTS: [(&[u8], &[u8]); 15] = [
     (
         b"cancel 0\n",
         b"line 2: cancel 0: no submission has this number yet\n",
@@ -314,10 +326,14 @@ const BAD_EVENTS: [(&[u8], &[u8]); 14] = [
         b"connected 0\nsubmit cmd GET a\ncancel 1\n",
         b"line 4: cancel 1: no submission has this number yet\n",
     ),
+    (
+        b"timeout 5\nsubmit cmd GET a\nconnected 0\nfired 0\nfired 1\n",
+        b"line 6: fired 1: no timer has this number\n",
+    ),
 ];
 
 /// URLs with more settings that are refused, and the notes on them.
-const REFUSED: [(&[u8], &[u8]); 6] = [
+const REFUSED: [(&[u8], &[u8]); 7] = [
     (
         b"http://h",
         b"line 1: the URL is no address: it has the scheme redis or valkey, a host, and behind them no more than a port, a database and a protocol\n",
@@ -342,6 +358,10 @@ const REFUSED: [(&[u8], &[u8]); 6] = [
         b"redis://h buffer=0",
         b"line 1: the queue of a link holds at least 1 message: buffer=0 leaves no place for any\n",
     ),
+    (
+        b"redis://h buffer=0 limit=0",
+        b"line 1: a request holds at least 1 permit: limit=0 leaves none for any\n",
+    ),
 ];
 
 #[test]
@@ -358,7 +378,7 @@ fn a_refused_configuration_is_explained(rt: HostRuntime) -> Result<(), Fail> {
 }
 
 /// Events, and the notes on what is open after them.
-const OPEN: [(&[u8], &[u8]); 6] = [
+const OPEN: [(&[u8], &[u8]); 7] = [
     (b"", b""),
     (
         b"submit cmd GET a\n",
@@ -374,6 +394,10 @@ const OPEN: [(&[u8], &[u8]); 6] = [
     ),
     (b"submit cmd GET a\nsubmit cmd GET b\nshutdown\n", b""),
     (b"submit cmd GET a\nrefused 0 reset\n", b""),
+    (
+        b"connected 0\ntimeout 5\nsubmit cmd GET a\nsubmit cmd GET b\nfired 0\n",
+        b"open submissions: 1, neither answered nor cancelled\n",
+    ),
 ];
 
 /// The status of a replay of a text, and its notes, of which twenty bytes are taken at a time.
@@ -459,11 +483,11 @@ fn noted_long(alloc: Global, length: u32) -> Result<(u8, MemSink), AllocError> {
 const LONG: [(u32, &[u8]); 3] = [
     (
         60,
-        b"line 2: aaaaaaaaaaaaaaaaaaaaaaaaaaaaaaaaaaaaaaaaaaaaaaaaaaaaaaaaaaaa: an event is submit, cancel, connected, refused, wrote, bytes, ended, read-fault, write-fault, fired or shutdown, and the last line is end\n",
+        b"line 2: aaaaaaaaaaaaaaaaaaaaaaaaaaaaaaaaaaaaaaaaaaaaaaaaaaaaaaaaaaaa: an event is submit, cancel, connected, refused, wrote, bytes, ended, read-fault, write-fault, fired, timeout or shutdown, and the last line is end\n",
     ),
     (
         61,
-        b"line 2: ..aaaaaaaaaaaaaaaaaaaaaaaaaaaaaaaaaaaaaaaaaaaaaaaaaaaaaaaaaaaa: an event is submit, cancel, connected, refused, wrote, bytes, ended, read-fault, write-fault, fired or shutdown, and the last line is end\n",
+        b"line 2: ..aaaaaaaaaaaaaaaaaaaaaaaaaaaaaaaaaaaaaaaaaaaaaaaaaaaaaaaaaaaa: an event is submit, cancel, connected, refused, wrote, bytes, ended, read-fault, write-fault, fired, timeout or shutdown, and the last line is end\n",
     ),
     (
         1_048_577,

@@ -35,6 +35,10 @@ const URL_WORDS: &[u8] =
 const KIND_WORDS: &[u8] =
     b"this address asks for a password, a protocol or a database, which this version doesn't set up";
 
+/// Where there would be no permit.
+const LIMIT_WORDS: &[u8] =
+    b"a request holds at least 1 permit: limit=0 leaves none for any";
+
 /// Where the queue of a link would hold nothing.
 const BUFFER_WORDS: &[u8] =
     b"the queue of a link holds at least 1 message: buffer=0 leaves no place for any";
@@ -81,6 +85,7 @@ fn config_words(alloc: Global, name: ConfigName) -> Result<Bytes, AllocError>
     match name {
         ConfigName::Url => Bytes::from_slice(alloc, URL_WORDS),
         ConfigName::Kind => Bytes::from_slice(alloc, KIND_WORDS),
+        ConfigName::Limit => Bytes::from_slice(alloc, LIMIT_WORDS),
         ConfigName::Buffer => Bytes::from_slice(alloc, BUFFER_WORDS),
         _ => {
             let mut words = Bytes::from_slice(alloc, b"the configuration is refused for its ")?;

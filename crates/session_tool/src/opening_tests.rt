@@ -145,6 +145,15 @@ end
     status: 3,
 };
 
+/// A limit of no permits, and a queue that holds nothing.
+const NO_PERMIT: Row = Row {
+    script: b"config single url=redis://h:6379 limit=0 buffer=0 lib=off
+end
+",
+    output: b"config limit\n",
+    status: 3,
+};
+
 /// A queue that holds nothing, of a URL that is no address.
 const NOTHING_RIGHT: Row = Row {
     script: b"config single url=http://h buffer=0 response=none lib=off
@@ -173,6 +182,7 @@ fn openings_may_fail(rt: HostRuntime) -> Result<(), Fail> {
         NO_ADDRESS,
         WITH_SETUP,
         NO_QUEUE,
+        NO_PERMIT,
         NOTHING_RIGHT,
         NO_SCRIPT,
     ] {

@@ -19,7 +19,7 @@ session_tool --version  the version
 gen N and live CONFIG are not in this version: they answer 1
 
 A script, each line an example:
-config single url=redis://HOST:PORT response=none lib=off
+config single url=redis://HOST:PORT lib=off
 submit cmd GET a                         a command
 submit noreply SET k 1                   a command whose reply nobody awaits
 submit pipe GET a ; GET b                a pipeline
@@ -34,10 +34,13 @@ ended 0                                  the peer closed the link
 read-fault 0 reset                       a read failed
 write-fault 0 broken-pipe                a write failed
 fired 0                                  the time of timer 0 is over
+timeout 250                              each later submission is to be answered within 250 ms
+timeout none                             or within any time
 shutdown                                 everything is closed
 end                                      the last line
 
 The time of the connect is 1000 ms, or what connect=MS or connect=none says in the first line.
+The time of a request is 500 ms, or what response=MS or response=none says there; limit=COUNT sets how many permits there are.
 The queue of a link holds 50 messages, or what buffer=COUNT says there, and none starts while 8192 bytes or more, or what boundary=BYTES says, are unwritten.
 A fault is refused, reset, aborted, not-connected, broken-pipe, eof, timed-out, interrupted, denied or other.
 Status: 0 done, 1 no command, 2 no script, 3 refused configuration, 4 bad event, 5 no memory, 6 no input, 7 no output, 8 no more numbers.
@@ -523,6 +526,77 @@ wait s2.0 room
     status: 0,
 };
 
+/// One permit and a time for each reply: a time that is over gives the permit back, and its late reply goes to nobody.
+const ONE_PERMIT: Row = Row {
+    script: b"config single url=redis://h:6379 connect=none response=100 limit=1 lib=off
+connected 0
+submit cmd PING
+wrote 0 14
+submit cmd PING
+fired 0
+bytes 0 +PONG%0D%0A
+end
+",
+    output: b"turn 0 config single url=redis://h:6379 connect=none response=100 limit=1 lib=off
+connect 0 h:6379
+turn 1 connected 0
+created ok
+turn 2 submit cmd PING
+took s0.0 0 1
+timer 0 100 response s0.0
+start 0 0 s0.0 1 14
+write 0 *1%0D%0A$4%0D%0APING%0D%0A
+turn 3 wrote 0 14
+turn 4 submit cmd PING
+wait s1.0 permit
+turn 5 fired 0
+outcome s0 err io timed-out
+took s1.0 0 1
+timer 1 100 response s1.0
+start 0 1 s1.0 1 14
+write 0 *1%0D%0A$4%0D%0APING%0D%0A
+turn 6 bytes 0 +PONG%0D%0A
+",
+    status: 0,
+};
+
+/// Times that events set: those of later requests.
+const TIMES: Row = Row {
+    script: b"config single url=redis://h:6379 connect=none lib=off
+connected 0
+submit cmd GET a
+timeout none
+submit cmd GET b
+timeout 20
+submit cmd GET c
+fired 1
+bytes 0 +a%0D%0A+b%0D%0A
+end
+",
+    output: b"turn 0 config single url=redis://h:6379 connect=none lib=off
+connect 0 h:6379
+turn 1 connected 0
+created ok
+turn 2 submit cmd GET a
+timer 0 500 response s0.0
+start 0 0 s0.0 1 20
+write 0 *2%0D%0A$3%0D%0AGET%0D%0A$1%0D%0Aa%0D%0A
+turn 3 timeout none
+turn 4 submit cmd GET b
+start 0 1 s1.0 1 20
+turn 5 timeout 20
+turn 6 submit cmd GET c
+timer 1 20 response s2.0
+start 0 2 s2.0 1 20
+turn 7 fired 1
+outcome s2 err io timed-out
+turn 8 bytes 0 +a%0D%0A+b%0D%0A
+outcome s0 ok +a%0D%0A
+outcome s1 ok +b%0D%0A
+",
+    status: 0,
+};
+
 pub fn strings(alloc: Global, words: &[&str]) -> Result<Vec<String>, AllocError> {
     let mut all = Vec::new(alloc);
     for word in words {
@@ -607,6 +681,8 @@ fn scripts_are_replayed(rt: HostRuntime) -> Result<(), Fail> {
         WRITE_FAULT,
         HELD_BACK,
         ONE_PLACE,
+        ONE_PERMIT,
+        TIMES,
     ] {
         let (status, sink) = answer(rt.alloc(), &["replay"], row.script, None, None)?;
         assert_eq!(rt; status, row.status);
