@@ -3,7 +3,8 @@ ghost use Rattle.std.specs.Prelude.{Some};
 
 use super::running::run_alone;
 use super::status::Status;
-use super::tests::{ANSWERED, numbers, strings};
+use super::rows::ANSWERED;
+use super::tests::{numbers, strings};
 use containers::Bytes;
 use outside::{Got, MemSink, MemSource, Put, Sink, Source, SureSink};
 use std::alloc::{AllocError, Global};

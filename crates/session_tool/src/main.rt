@@ -15,6 +15,8 @@ mod offer;
 mod opening_tests;
 mod reading;
 mod replaying;
+#[cfg(test)]
+mod rows;
 mod running;
 mod status;
 mod streaming;

@@ -1,4 +1,5 @@
-use super::tests::{Row, answer};
+use super::rows::Row;
+use super::tests::answer;
 use std::test::Fail;
 
 /// The time of the connect is over.
