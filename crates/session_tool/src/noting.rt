@@ -36,8 +36,7 @@ const KIND_WORDS: &[u8] =
     b"this address asks for a password, a protocol or a database, which this version doesn't set up";
 
 /// Where there would be no permit.
-const LIMIT_WORDS: &[u8] =
-    b"a request holds at least 1 permit: limit=0 leaves none for any";
+const LIMIT_WORDS: &[u8] = b"a request holds at least 1 permit: limit=0 leaves none for any";
 
 /// Where the queue of a link would hold nothing.
 const BUFFER_WORDS: &[u8] =
