@@ -1,9 +1,9 @@
 ghost use Rattle.outside.specs.Memory.{held_bytes, read_faults, unread, write_faults};
 ghost use Rattle.std.specs.Prelude.{Some};
 
+use super::rows::ANSWERED;
 use super::running::run_alone;
 use super::status::Status;
-use super::rows::ANSWERED;
 use super::tests::{numbers, strings};
 use containers::Bytes;
 use outside::{Got, MemSink, MemSource, Put, Sink, Source, SureSink};

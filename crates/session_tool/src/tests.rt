@@ -4,7 +4,11 @@ ghost use Rattle.session_tool.specs.Words.{command_of};
 
 use super::command::Command;
 use super::reading::read_text;
-use super::rows::{ABORTED, ANSWERED, BAD_EVENT, BEHIND_END, CANCELLED, CANCELLED_EARLY, EMPTY_COMMAND, HELD_BACK, IN_PIECES, NONE_KEPT, NO_REPLY, NO_TRANSACTION, NO_VALUE, ONE_PERMIT, ONE_PLACE, OPENING, PUSHED, READ_FAULT, SHUT_DOWN, TIMES, TOO_LONG, WITHOUT_END, WRITE_FAULT, Row};
+use super::rows::{
+    ABORTED, ANSWERED, BAD_EVENT, BEHIND_END, CANCELLED, CANCELLED_EARLY, EMPTY_COMMAND, HELD_BACK,
+    IN_PIECES, NO_REPLY, NO_TRANSACTION, NO_VALUE, NONE_KEPT, ONE_PERMIT, ONE_PLACE, OPENING,
+    PUSHED, READ_FAULT, Row, SHUT_DOWN, TIMES, TOO_LONG, WITHOUT_END, WRITE_FAULT,
+};
 use super::running::{run, run_alone};
 use super::status::Status;
 use containers::{Bytes, Seq};
