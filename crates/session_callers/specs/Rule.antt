@@ -155,6 +155,7 @@ submits (event.Bytes l piece) = 0
 submits (event.Ended l) = 0
 submits (event.ReadFault l kind) = 0
 submits (event.WriteFault l kind) = 0
+submits (event.Timeout ms) = 0
 submits event.Shutdown = 0
 
 -- how many submissions a history has
@@ -203,7 +204,7 @@ abbrev pub newcomer : Config → ℕ → ℕ → List Event → ℕ → View
 newcomer config word number seen dial = record { stage = Idle; drawn = 0; number = number ∷ []; made = 0; config = config; word = word; seen = seen; failure = Sound; mine = []; dial = dial; claims = []; ended = []; fronts = [] }
 
 abbrev pub no_config : Config
-no_config = record { url = []; connect = None }
+no_config = record { url = []; connect = None; response = None; limit = None; buffer = None; boundary = None }
 
 -- what a seat that was joined is left with
 abbrev pub nobody : View
