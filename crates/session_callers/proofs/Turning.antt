@@ -59,12 +59,12 @@ pub took_of : (v a b w : View) (h : Home) (t : ℕ) (seen : List Event) (failure
 took_of v a b w h t seen failure made drew begins turn holds session made_is count spent few =
     let is : b ≡ served (waiting v t) seen failure made = turn ∙ ap (λ (x : View). served x seen failure made) drew in
     subst (λ (x : View). Took v x h) (sym (holds ∙ ap (λ (x : View). record x { stage = Holding (ticket_of x.stage) }) is)) (took_plain v h t seen failure made
-      (subst (λ (x : View). IsPrefix x.seen seen) drew begins)
-      (session ∙ ap (λ (x : View). history x.config x.word x.seen x.failure) is)
-      (made_is ∙ ap (λ (x : View). x.made) is)
-      (count ∙ ap (λ (x : View). submissions_in x.seen) is)
-      (subst (λ (x : View). MaySpend x.config x.word x.seen x.failure) is spent)
-      (subst (λ (x : View). x.made < 2 ^ 32) is few))
+    (subst (λ (x : View). IsPrefix x.seen seen) drew begins)
+    (session ∙ ap (λ (x : View). history x.config x.word x.seen x.failure) is)
+    (made_is ∙ ap (λ (x : View). x.made) is)
+    (count ∙ ap (λ (x : View). submissions_in x.seen) is)
+    (subst (λ (x : View). MaySpend x.config x.word x.seen x.failure) is spent)
+    (subst (λ (x : View). x.made < 2 ^ 32) is few))
 
 -- the session that was taken out is counted
 pub counted : (v w : View) (h : Home) → Took v w h → IsCounted h
