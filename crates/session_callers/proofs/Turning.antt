@@ -15,7 +15,7 @@ use Rattle.shared_session.specs.declared.session.Failure.TheVariants.{Sound}
 use Rattle.session_callers.specs.declared.board.Home.{Home}
 use Rattle.session_callers.specs.declared.board.View.{View}
 use Rattle.session_callers.specs.declared.board.Stage.TheVariants.{Idle, Holding}
-use Rattle.session_callers.specs.Rule.{MaySpend, MayGive, Grows, more, given, left_of, history, submissions_in}
+use Rattle.session_callers.specs.Rule.{MaySpend, MayGive, Grows, more, given, left_of, history, submissions_in, waiting, served, ticket_of}
 use Rattle.session_callers.specs.Steps.{IsCounted, Stepped, HasTaken, IsRefused, HasRefused}
 use Rattle.session_callers.specs.Calls.{Took, Turned, Added, Refused, history_of}
 use Rattle.session_callers.proofs.Totals.{prefix_of, prefix_all, prefix_more}
@@ -32,6 +32,39 @@ if_ok (Err e) f p = tt
 pub if_err : {T E : Type 0} {P Q : E → Type 0} (r : Result T E) → ((e : E) → P e → Q e) → IfErr r P → IfErr r Q
 if_err (Ok x) f p = tt
 if_err (Err e) f p = f e p
+
+-- a view whose turn has come and which takes the session out, from the view before its ticket was drawn
+took_plain : (v : View) (h : Home) (t : ℕ) (seen : List Event) (failure : Failure) (made : ℕ) → IsPrefix v.seen seen → h.session ≡ history v.config v.word seen failure → h.made ≡ made → h.submissions ≡ submissions_in seen → MaySpend v.config v.word seen failure → made < 2 ^ 32 → Took v (record (served (waiting v t) seen failure made) { stage = Holding t }) h
+took_plain v h t seen failure made begins session made_is count spent few = record {
+  stage = (t, refl);
+  seen = begins;
+  mine = refl;
+  drawn = refl;
+  number = refl;
+  ended = refl;
+  fronts = refl;
+  dial = refl;
+  claims = refl;
+  config = refl;
+  word = refl;
+  session = session;
+  made = made_is;
+  submissions = count;
+  spent = spent;
+  few = few;
+}
+
+-- the same, as the three steps say it
+pub took_of : (v a b w : View) (h : Home) (t : ℕ) (seen : List Event) (failure : Failure) (made : ℕ) → a ≡ waiting v t → IsPrefix a.seen seen → b ≡ served a seen failure made → w ≡ record b { stage = Holding (ticket_of b.stage) } → h.session ≡ history b.config b.word b.seen b.failure → h.made ≡ b.made → h.submissions ≡ submissions_in b.seen → MaySpend b.config b.word b.seen b.failure → b.made < 2 ^ 32 → Took v w h
+took_of v a b w h t seen failure made drew begins turn holds session made_is count spent few =
+    let is : b ≡ served (waiting v t) seen failure made = turn ∙ ap (λ (x : View). served x seen failure made) drew in
+    subst (λ (x : View). Took v x h) (sym (holds ∙ ap (λ (x : View). record x { stage = Holding (ticket_of x.stage) }) is)) (took_plain v h t seen failure made
+    (subst (λ (x : View). IsPrefix x.seen seen) drew begins)
+    (session ∙ ap (λ (x : View). history x.config x.word x.seen x.failure) is)
+    (made_is ∙ ap (λ (x : View). x.made) is)
+    (count ∙ ap (λ (x : View). submissions_in x.seen) is)
+    (subst (λ (x : View). MaySpend x.config x.word x.seen x.failure) is spent)
+    (subst (λ (x : View). x.made < 2 ^ 32) is few))
 
 -- the session that was taken out is counted
 pub counted : (v w : View) (h : Home) → Took v w h → IsCounted h
