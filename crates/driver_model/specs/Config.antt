@@ -1,5 +1,5 @@
 -- What the words of a configuration mean.
-use Rattle.std.specs.Prelude.{◌≡◌, ⊤, ℕ, ℤ, pos, zero, ◌==◌, Bool, true, false, ◌||◌, not, Option, Some, None, is_some, unwrap_or, if◌then◌else◌}
+use Rattle.std.specs.Prelude.{◌≡◌, ⊤, ℕ, pos, ◌==◌, Bool, true, not, Option, Some, None, option_map, unwrap_or, if◌then◌else◌}
 use Rattle.std.specs.Str.{is_utf8}
 use Rattle.redis_error.specs.declared.config_name.ConfigName.{ConfigName}
 use Rattle.redis_error.specs.declared.config_name.ConfigName.TheVariants as name
@@ -7,9 +7,9 @@ use Rattle.connection_info.specs.declared.address.ConnectionInfo.{ConnectionInfo
 use Rattle.connection_info.specs.declared.address.RedisConnectionInfo.{RedisConnectionInfo}
 use Rattle.connection_info.specs.declared.open_error.OpenError.{OpenError}
 use Rattle.connection_info.specs.declared.open_error.OpenError.TheVariants as error
+use Rattle.connection_info.specs.declared.protocol.ProtocolVersion.TheVariants.{RESP2}
 use Rattle.connection_info.specs.Address.{address_of}
 use Rattle.connection_info.specs.Config.{default_config}
-use Rattle.connection_info.specs.Protocol.{is_resp3}
 use Rattle.driver_model.specs.declared.config.Config.{Config}
 
 -- the address of its server, if its URL is one
@@ -32,14 +32,17 @@ buffer_size c = unwrap_or c.buffer default_config.pipeline_buffer_size
 abbrev pub boundary : Config → ℕ
 boundary c = unwrap_or c.boundary default_config.write_backpressure_boundary
 
-abbrev pub is_zero : ℤ → Bool
-is_zero (pos zero) = true
-is_zero _ = false
+-- what is said to a server of this address: the library is named unless the configuration leaves it out
+abbrev pub told_of : Config → ConnectionInfo → RedisConnectionInfo
+told_of c info = record info.redis { skip_set_lib_name = not (unwrap_or c.lib true) }
 
--- something is to be said to the server before the first request: a password, another protocol than RESP2, or another
--- database than 0
-abbrev pub has_setup : RedisConnectionInfo → Bool
-has_setup info = is_some info.password || is_resp3 info.protocol || not (is_zero info.db)
+-- what is said to a server to which nothing is to be said
+abbrev pub bare_info : RedisConnectionInfo
+bare_info = record { db = pos 0; username = None; password = None; protocol = RESP2; skip_set_lib_name = true }
+
+-- what is said to the server before the first request; nothing where the URL is no address
+abbrev pub told_info : Config → RedisConnectionInfo
+told_info c = unwrap_or (option_map (told_of c) (address c)) bare_info
 
 -- a queue that holds nothing is refused
 abbrev pub buffer_fault : ℕ → Option ConfigName
@@ -53,10 +56,10 @@ room_fault (Some limit) size = if limit == 0 then Some name.Limit else buffer_fa
 -- what is refused of an address, or none was, of a number of permits, and of a queue of this size
 abbrev pub fault_in : Option ConnectionInfo → Option ℕ → ℕ → Option ConfigName
 fault_in None limit size = Some name.Url
-fault_in (Some info) limit size = if has_setup info.redis then Some name.Kind else room_fault limit size
+fault_in (Some info) limit size = room_fault limit size
 
--- what of a configuration is refused first, if anything is: a URL that isn't an address, an address that asks for a setup,
--- which a session doesn't make yet, a limit of no permits, and a queue that holds nothing
+-- what of a configuration is refused first, if anything is: a URL that isn't an address, a limit of no permits, and a queue
+-- that holds nothing
 abbrev pub first_fault : Config → Option ConfigName
 first_fault c = fault_in (address c) c.limit (buffer_size c)
 

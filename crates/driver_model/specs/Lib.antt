@@ -1,4 +1,5 @@
 pub mod Shape
 pub mod Request
+pub mod Setup
 pub mod News
 pub mod Config

@@ -18,6 +18,8 @@ pub enum Cause {
 #[derive(Clone, Copy, PartialEq, Eq)]
 pub enum Owner {
     Try { submission: u32, round: u32 },
+    /// What is said to the server before the first request.
+    Setup,
 }
 
 /// What a request waits for.
@@ -25,6 +27,8 @@ pub enum Owner {
 pub enum WaitKind {
     /// The connect of its link is not answered yet.
     Connect,
+    /// The setup of its link is not answered yet.
+    Setup,
     /// All permits of its connection are held.
     Permit,
     /// The queue of its link holds its size.

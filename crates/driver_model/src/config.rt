@@ -1,5 +1,5 @@
 ghost use Rattle.std.specs.Prelude.{◌≡◌, Some, None, OnOk, IfOk, IfErr};
-ghost use Rattle.driver_model.specs.Config.{address, has_setup, connect_timeout, buffer_size};
+ghost use Rattle.driver_model.specs.Config.{address, told_info, connect_timeout, buffer_size};
 ghost use Rattle.driver_model.specs.Config.{response_timeout};
 ghost use Rattle.driver_model.specs.Config.{boundary, first_fault, RefusesConfig};
 ghost use Rattle.connection_info.specs.Refusal.{RefusesUrl};
@@ -24,14 +24,8 @@ pub struct Config {
     pub buffer: Option<u32>,
     /// No message starts while bytes of the link are unwritten, and as many as these. 8,192 where nothing is given.
     pub boundary: Option<u64>,
-}
-
-/// Whether anything is to be said to the server before the first request: a password, another protocol than RESP2, or
-/// another database than 0.
-fn needs_setup(info: &RedisConnectionInfo) -> bool
-    ensures { result ≡ has_setup info.now }
-{
-    info.password.is_some() || info.protocol.supports_resp3() || info.db != 0
+    /// Whether the server is told which library speaks. It is where nothing is given.
+    pub lib: Option<bool>,
 }
 
 impl Config {
@@ -45,6 +39,7 @@ impl Config {
               limit = None;
               buffer = None;
               boundary = None;
+              lib = None;
             } }
     {
         Config {
@@ -54,6 +49,7 @@ impl Config {
             limit: None,
             buffer: None,
             boundary: None,
+            lib: None,
         }
     }
 
@@ -69,6 +65,7 @@ impl Config {
             limit: self.limit,
             buffer: self.buffer,
             boundary: self.boundary,
+            lib: self.lib,
         })
     }
 
@@ -100,6 +97,26 @@ impl Config {
         self.boundary.unwrap_or(8192)
     }
 
+    /// What is said to the server before the first request, where this is its address.
+    #[tactic(auto, using(crate::proofs::Text::told_at))]
+    pub fn told_info(
+        &self,
+        alloc: Global,
+        info: &ConnectionInfo,
+    ) -> Result<RedisConnectionInfo, AllocError>
+        requires { address self.now ≡ Some info.now }
+        ensures { IfOk result (λ told. told ≡ told_info self.now) }
+    {
+        let redis = info.redis.clone(alloc)?;
+        Ok(RedisConnectionInfo {
+            db: redis.db,
+            username: redis.username,
+            password: redis.password,
+            protocol: redis.protocol,
+            skip_set_lib_name: !self.lib.unwrap_or(true),
+        })
+    }
+
     /// The server's address. A URL that isn't one is refused.
     #[tactic(auto, using(crate::proofs::Text::utf8_true, crate::proofs::Text::utf8_false))]
     fn read_address(&self, alloc: Global) -> Result<ConnectionInfo, OpenError>
@@ -113,17 +130,13 @@ impl Config {
     }
 
     /// The server's address, where nothing of the configuration is refused. Else the name of what is refused first: a URL
-    /// that isn't an address, an address that asks for a setup, which a session doesn't make yet, a limit of no permits, and
-    /// a queue that holds nothing.
+    /// that isn't an address, a limit of no permits, and a queue that holds nothing.
     pub fn info(&self, alloc: Global) -> Result<ConnectionInfo, OpenError>
         ensures ok { IfOk result (λ info. address self.now ≡ Some info) }
         ensures sound { OnOk result (first_fault self.now ≡ None) }
         ensures err { IfErr result (RefusesConfig self.now) }
     {
         let info = self.read_address(alloc)?;
-        if needs_setup(&info.redis) {
-            return Err(OpenError::Config(ConfigName::Kind));
-        }
         if self.limit == Some(0) {
             return Err(OpenError::Config(ConfigName::Limit));
         }

@@ -36,8 +36,8 @@ const REFUSED: [(&[u8], Option<u32>, Option<u32>, Option<ConfigName>); 13] = [
     (b"redis://h", Some(0), Some(0), Some(ConfigName::Limit)),
     (b"http://h", Some(0), Some(0), Some(ConfigName::Url)),
     (b"http://h", None, None, Some(ConfigName::Url)),
-    (b"redis://h/1", Some(0), Some(0), Some(ConfigName::Kind)),
-    (b"redis://h/1", None, Some(1), Some(ConfigName::Kind)),
+    (b"redis://h/1", Some(0), Some(0), Some(ConfigName::Limit)),
+    (b"redis://u:p@h/1?protocol=resp3", None, Some(1), None),
 ];
 
 #[test]
@@ -70,10 +70,12 @@ fn what_is_given_stands_also_in_a_copy(rt: HostRuntime) -> Result<(), Fail> {
     config.limit = Some(3);
     config.buffer = Some(7);
     config.boundary = Some(0);
+    config.lib = Some(false);
     let copy = config.clone(alloc)?;
     assert!(rt; copy.response_timeout() == None);
     assert!(rt; copy.limit == Some(3));
     assert_eq!(rt; copy.buffer_size(), 7);
     assert_eq!(rt; copy.boundary(), 0);
+    assert!(rt; copy.lib == Some(false));
     Ok(())
 }

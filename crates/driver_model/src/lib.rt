@@ -13,6 +13,7 @@ mod making_tests;
 mod news;
 mod outcome;
 mod request;
+mod setup;
 #[cfg(test)]
 mod tests;
 mod verdicts;
@@ -23,3 +24,4 @@ pub use config::Config;
 pub use event::{Event, EventKind, Submission};
 pub use news::{LinkEvent, LinkFault, LinkNews};
 pub use outcome::{Outcome, Shape, Verdict};
+pub use setup::{says_nothing, setup_bytes, setup_shape};

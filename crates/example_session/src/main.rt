@@ -19,7 +19,9 @@ const SUBMISSION: u32 = 0;
 /// A session for one connection, whose opening `opening` gains.
 fn open(alloc: Global, opening: &mut Vec<driver_model::Action>) -> Result<Session, MakeError> {
     let url = Bytes::from_slice(alloc, b"redis://localhost:6379")?;
-    Session::new(alloc, Config::new(url), 0, opening)
+    let mut config = Config::new(url);
+    config.lib = Some(false);
+    Session::new(alloc, config, 0, opening)
 }
 
 /// A caller hands in GET of a key.

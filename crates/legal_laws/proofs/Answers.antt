@@ -23,7 +23,7 @@ at_most_one config word events trace h n = ((sound_behind trace h.each).once n).
 
 -- once everything was shut down and the turn is settled, no link is there to wait for
 no_link_left : (b : Book) → Sound b → IsSettled b → b.shut ≡ true → (l : ℕ) → (b.link l).asked ≡ true → (b.link l).end ≡ None → ⊥
-no_link_left b h settled shut l asked end = none_left b settled.written.moved.applied.ended h.shut shut l asked end
+no_link_left b h settled shut l asked end = none_left b settled.written.moved.begun.applied.ended h.shut shut l asked end
 
 -- nor one that is up
 no_link_up : (b : Book) → Sound b → IsSettled b → b.shut ≡ true → (l : ℕ) → (b.link l).up ≡ true → ⊥

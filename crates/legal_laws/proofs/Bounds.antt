@@ -93,15 +93,15 @@ stays_within config word events trace h = record {
       let legal : Legal config word events (front ++ a ∷ more) = subst (Legal config word events) is h in
       let ready = ready_behind config word events front (a ∷ more) legal in
       let m = start_of (book front) a l n (next_may config word events front more a legal) s in
-      start_bounds config (book front) l m.0 n m.1 m.2 (ready.configured (applied_began (book front) ready.sound m.3.applied)) m.3;
+      start_bounds config (book front) l m.0 n m.1 m.2 (ready.configured (applied_began (book front) ready.sound m.3.begun.applied)) m.3;
   starts = λ front more a l n is s.
       let legal : Legal config word events (front ++ a ∷ more) = subst (Legal config word events) is h in
       let ready = ready_behind config word events front (a ∷ more) legal in
       let m = start_of (book front) a l n (next_may config word events front more a legal) s in
-      has_place config (book front) n (ready.configured (applied_began (book front) ready.sound m.3.applied)) (starter_inside (book front) l m.0 n m.1 m.2 ready.sound ready.seated m.3);
+      has_place config (book front) n (ready.configured (applied_began (book front) ready.sound m.3.begun.applied)) (starter_inside (book front) l m.0 n m.1 m.2 ready.sound ready.seated m.3);
   tells = λ front more n o is none good.
       let legal : Legal config word events (front ++ action.Outcome n o ∷ more) = subst (Legal config word events) is h in
       let ready = ready_behind config word events front (action.Outcome n o ∷ more) legal in
       let m = tell_of (book front) n o (next_may config word events front more (action.Outcome n o) legal) none good in
-      has_place config (book front) n (ready.configured (applied_began (book front) ready.sound m.applied)) (tells_mean (book front) n m.tells).3;
+      has_place config (book front) n (ready.configured (applied_began (book front) ready.sound m.begun.applied)) (tells_mean (book front) n m.tells).3;
 }

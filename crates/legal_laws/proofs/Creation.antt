@@ -1,7 +1,7 @@
 -- What a legal trace tells of the opening.
 use Rattle.std.proofs.Common.{◌≡◌, ◌≢◌, ◌⊎◌, inl, inr, ℕ, ◌<◌, ◌≤◌, ◌==◌, ◌-◌, nat_le, true, false, List, [], ◌∷◌, ◌++◌, length, Option, Some, None, is_some, refl, sym, ◌∙◌, ap, subst, append_assoc, arith}
 use Rattle.std.proofs.lemmas.List.{append-nil, nil_from_length}
-use Rattle.containers.proofs.Choices.{by_test, le_from, not_le_from, left_if, not_both, ne_test}
+use Rattle.containers.proofs.Choices.{by_test, le_from, not_le_from, left_if, not_both, eq_from, ne_test}
 use Rattle.redis_error.specs.declared.redis_error.RedisError.{RedisError}
 use Rattle.driver_model.specs.declared.action.Action.{Action}
 use Rattle.driver_model.specs.declared.action.Action.TheVariants as action
@@ -12,21 +12,23 @@ use Rattle.driver_model.specs.declared.event.Event.{Event}
 use Rattle.driver_model.specs.declared.outcome.Outcome.{Outcome}
 use Rattle.driver_model.specs.declared.outcome.Outcome.TheVariants as outcome
 use Rattle.driver_model.specs.News.{news_of}
-use Rattle.legal_trace.specs.Ledger.{Ledger, End, Ending, by_shutdown, by_fault, by_opening, begins, offers, ends, failure_of, failure_in}
+use Rattle.legal_trace.specs.Ledger.{Ledger, End, Ending, by_shutdown, by_fault, by_opening, begins, offers, ends, failure_of, failure_in, is_set_up, setup_due}
 use Rattle.legal_trace.specs.Story.{Try, bytes_of, last_of}
 use Rattle.legal_trace.specs.Book.{Book, blank_book, book, entered, entered_each, lines_of, message_of}
 use Rattle.legal_trace.specs.Owed.{owed, owed_to_try, owed_unstarted, unstarted_error}
-use Rattle.legal_trace.specs.Legal.{MayStand, MayAnswer, MayTell, MayBeCreated, MayFail, MayShowCreation, AllStand, link_of, Legal}
+use Rattle.legal_trace.specs.Legal.{MayStand, MayAnswer, MayTell, MaySetUp, MayBeCreated, MayFail, MayShowCreation, AllStand, link_of, Legal}
 use Rattle.legal_trace.proofs.Books.{stand_front, stand_behind}
 use Rattle.legal_trace.proofs.Ledgers.{mine_keeps}
 use Rattle.legal_trace.proofs.Plain.{not_none, same_some}
 use Rattle.legal_laws.specs.Creation.{shown_by, creations, HasFailed, IsUnopened, AnswersTell, TellsOfOpening}
 use Rattle.legal_laws.proofs.Links.{lines_may}
-use Rattle.legal_trace.proofs.Moves.{mover_is_up, teller_moves}
-use Rattle.legal_laws.proofs.Numbers.{up_is_numbered, over_is_numbered}
+use Rattle.legal_trace.proofs.Moves.{mover_is_up, teller_moves, ready_is_up, ready_is_set}
+use Rattle.legal_trace.proofs.Setups.{set_is_undue, due_is_up}
+use Rattle.legal_laws.proofs.Numbers.{up_is_numbered, up_is_asked, over_is_numbered}
 use Rattle.legal_laws.proofs.Overdue.{TimesRun, times_run, failed_in_time}
-use Rattle.legal_laws.proofs.Quiet.{IsQuiet, hears_quiet, ends_quiet, failed_is_over, failed_stays}
-use Rattle.legal_laws.proofs.Ranks.{none_failed}
+use Rattle.legal_laws.proofs.Quiet.{IsQuiet, begins_quiet, ends_quiet, failed_is_over, failed_stays}
+use Rattle.legal_laws.proofs.Ranks.{none_failed, none_over}
+use Rattle.legal_laws.proofs.Turned.{turn_quiet}
 use Rattle.legal_laws.proofs.Sound.{Sound, stays_sound, blank_is_sound, sound_behind}
 
 -- of what was shown of the creation: how often, that a link was asked for before, that no connect is open any more, and that
@@ -56,12 +58,16 @@ is_the_link b l m h i asked = by_test (nat_le b.links m) (l ≡ m)
 
 -- once a link is up, no connect is open
 quiet_by_up : (b : Book) → MayBeCreated b → Sound b → (l : ℕ) → IsQuiet (None ∷ []) (b.link l)
-quiet_by_up b may h l = record {
-  quiet = λ asked down lives.
-      let same : may.l ≡ l = is_the_link b may.l l h (up_is_numbered b may.l h.links may.up) asked in
-      not_both (b.link l).up down (subst (λ k. (b.link k).up ≡ true) same may.up);
-  tells = λ e fails. absurd (none_failed b may.l h may.up l e fails may.once);
-}
+quiet_by_up b may h l =
+    let up : (b.link may.l).up ≡ true = ready_is_up (b.link may.l) may.ready in
+    let first : may.l < b.links = up_is_numbered b may.l h.links up in
+    record {
+      quiet = (
+        λ asked down lives. not_both (b.link l).up down (subst (λ k. (b.link k).up ≡ true) (is_the_link b may.l l h first asked) up),
+        λ is_up. subst (λ k. is_set_up (b.link k) ≡ true) (is_the_link b may.l l h first (up_is_asked b l h.links is_up)) (ready_is_set (b.link may.l) may.ready),
+      );
+      tells = λ e fails. absurd (none_failed b may.l h up l e fails may.once);
+    }
 
 -- nor once its opening failed
 quiet_by_failure : (b : Book) (e : RedisError) → MayFail b e → Sound b → (l : ℕ) → IsQuiet (Some e ∷ []) (b.link l)
@@ -69,9 +75,10 @@ quiet_by_failure b e may h l =
     let over = failed_is_over (b.link may.l).end e may.fails in
     let i : may.l < b.links = over_is_numbered b may.l over.0 h.links over.1 in
     record {
-      quiet = λ asked down lives.
-          let same : may.l ≡ l = is_the_link b may.l l h i asked in
-          not_none (b.link l).end over.0 lives (subst (λ k. (b.link k).end ≡ Some over.0) same over.1);
+      quiet = (
+        λ asked down lives. not_none (b.link l).end over.0 lives (subst (λ k. (b.link k).end ≡ Some over.0) (is_the_link b may.l l h i asked) over.1),
+        λ is_up. absurd (none_over b l may.l over.0 h is_up over.1),
+      );
       tells = λ d fails.
           let ended = failed_is_over (b.link l).end d fails in
           let j : l < b.links = over_is_numbered b l ended.0 h.links ended.1 in
@@ -86,7 +93,7 @@ creation_told : (b : Book) (e : Option RedisError) → MayShowCreation b e → S
 creation_told b None may h = record {
   counted = let none : b.created ≡ 0 = may.once in omega arith;
   once = let none : b.created ≡ 0 = may.once in omega arith;
-  linked = λ c none. let i : may.l < b.links = up_is_numbered b may.l h.links may.up in omega arith;
+  linked = λ c none. let i : may.l < b.links = up_is_numbered b may.l h.links (ready_is_up (b.link may.l) may.ready) in omega arith;
   quiet = λ c. quiet_by_up b may h;
   caused = λ d is. absurd (cc is);
 }
@@ -108,18 +115,24 @@ abbrev ShowsNone : Book → Action → Type 0
 ShowsNone b a = (shown : List (Option RedisError)) → MayStand b a → Sound b → ToldIn shown b → ToldIn shown (entered b a)
 
 -- and leaves the links as they are in this
-unchanged : (b : Book) (a : Action) → ((entered b a).created ≡ b.created) → (entered b a).links ≡ b.links → ((shown : List (Option RedisError)) (l : ℕ) → MayStand b a → IsQuiet shown (b.link l) → IsQuiet shown ((entered b a).link l)) → ShowsNone b a
+unchanged : (b : Book) (a : Action) → ((entered b a).created ≡ b.created) → (entered b a).links ≡ b.links → ((shown : List (Option RedisError)) (l : ℕ) → MayStand b a → Sound b → IsQuiet shown (b.link l) → IsQuiet shown ((entered b a).link l)) → ShowsNone b a
 unchanged b a created links keeps shown may h told = record {
   counted = told.counted ∙ sym created;
   once = subst (λ n. n ≤ 1) (sym created) told.once;
   linked = λ c none. told.linked (λ zero. c (created ∙ zero)) (sym links ∙ none);
-  quiet = λ c l. keeps shown l may (told.quiet (λ zero. c (created ∙ zero)) l);
+  quiet = λ c l. keeps shown l may h (told.quiet (λ zero. c (created ∙ zero)) l);
   caused = cause_kept b a shown may h told;
 }
 
+-- no setup starts on a link whose opening is over
+pub setup_is_open : (b : Book) (m l k count len : ℕ) (shown : List (Option RedisError)) → MaySetUp b m k count len → m ≡ l → IsQuiet shown (b.link l) → ⊥
+setup_is_open b m l k count len shown may same q =
+    let due : setup_due (b.link l) ≡ Some may.k = ap (λ j. setup_due (b.link j)) (sym same) ∙ may.due in
+    set_is_undue (b.link l) may.k (q.quiet.1 (due_is_up (b.link l) may.k due)) due
+
 -- a turn
 turn_shows_none : (b : Book) (k : ℕ) (e : Event) → ShowsNone b (action.Turn k (cause.Event e))
-turn_shows_none b k e = unchanged b (action.Turn k (cause.Event e)) refl refl (λ shown l may q. hears_quiet shown (b.link l) k (news_of b.timers l e.kind) q)
+turn_shows_none b k e = unchanged b (action.Turn k (cause.Event e)) refl refl (λ shown l may h q. turn_quiet b k e shown l may h q)
 
 -- a connect, before which nothing is shown
 connect_shows_none : (b : Book) (m : ℕ) (host : List ℕ) (port : ℕ) → ShowsNone b (action.Connect m host port)
@@ -134,17 +147,23 @@ connect_shows_none b m host port shown may h told = record {
 -- a close
 close_shows_none : (b : Book) (m : ℕ) → ShowsNone b (action.Close m)
 close_shows_none b m = unchanged b (action.Close m) refl refl
-    (λ shown l may q. mine_keeps (IsQuiet shown) (m == l) (b.link l) (ends (b.turns - 1)) (λ t. ends_quiet shown (b.link l) (b.turns - 1) q) q)
+    (λ shown l may h q. mine_keeps (IsQuiet shown) (m == l) (b.link l) (ends (b.turns - 1)) (λ t. ends_quiet shown (b.link l) (b.turns - 1) q) q)
 
 -- a write
 write_shows_none : (b : Book) (m : ℕ) (bytes : List ℕ) → ShowsNone b (action.Write m bytes)
 write_shows_none b m bytes = unchanged b (action.Write m bytes) refl refl
-    (λ shown l may q. mine_keeps (IsQuiet shown) (m == l) (b.link l) (offers bytes) (λ t. record { quiet = q.quiet; tells = q.tells }) q)
+    (λ shown l may h q. mine_keeps (IsQuiet shown) (m == l) (b.link l) (offers bytes) (λ t. record { quiet = q.quiet; tells = q.tells }) q)
 
 -- a start
 start_shows_none : (b : Book) (m k n round count len : ℕ) → ShowsNone b (action.Start m k (owner.Try n round) count len)
 start_shows_none b m k n round count len = unchanged b (action.Start m k (owner.Try n round) count len) refl refl
-    (λ shown l may q. mine_keeps (IsQuiet shown) (m == l) (b.link l) (begins (message_of b (owner.Try n round))) (λ t. record { quiet = q.quiet; tells = q.tells }) q)
+    (λ shown l may h q. mine_keeps (IsQuiet shown) (m == l) (b.link l) (begins (message_of b m (owner.Try n round))) (λ t. begins_quiet shown (b.link l) (message_of b m (owner.Try n round)) refl q) q)
+
+-- a setup, which starts where none is over
+setup_shows_none : (b : Book) (m k count len : ℕ) → ShowsNone b (action.Start m k owner.Setup count len)
+setup_shows_none b m k count len = unchanged b (action.Start m k owner.Setup count len) refl refl
+    (λ shown l may h q. mine_keeps (IsQuiet shown) (m == l) (b.link l) (begins (message_of b m owner.Setup))
+    (λ t. absurd (setup_is_open b m l k count len shown may (eq_from m l t) q)) q)
 
 -- where nothing is shown, what was shown stays
 nothing_more : (b : Book) (shown : List (Option RedisError)) → ToldIn shown b → ToldIn (shown ++ []) b
@@ -158,16 +177,19 @@ still_told b shown a none may h told = nothing_more (entered b a) shown (none sh
 step_told : (b : Book) (shown : List (Option RedisError)) (a : Action) → MayStand b a → Sound b → ToldIn shown b → ToldIn (shown ++ shown_by a) (entered b a)
 step_told b shown (action.Created e) may h told =
     subst (λ s. ToldIn (s ++ e ∷ []) (entered b (action.Created e))) (sym (nil_from_length shown (told.counted ∙ none_before b e may))) (creation_told b e may h)
-step_told b shown (action.Turn k (cause.Opening config word)) may h told = still_told b shown (action.Turn k (cause.Opening config word)) (unchanged b (action.Turn k (cause.Opening config word)) refl refl (λ s l m q. q)) may h told
+step_told b shown (action.Turn k (cause.Opening config word)) may h told = still_told b shown (action.Turn k (cause.Opening config word)) (unchanged b (action.Turn k (cause.Opening config word)) refl refl (λ s l m h q. q)) may h told
 step_told b shown (action.Turn k (cause.Event e)) may h told = still_told b shown (action.Turn k (cause.Event e)) (turn_shows_none b k e) may h told
 step_told b shown (action.Connect m host port) may h told = still_told b shown (action.Connect m host port) (connect_shows_none b m host port) may h told
-step_told b shown (action.Timer t ms what) may h told = still_told b shown (action.Timer t ms what) (unchanged b (action.Timer t ms what) refl refl (λ s l m q. q)) may h told
-step_told b shown (action.Took (owner.Try n round) l count) may h told = still_told b shown (action.Took (owner.Try n round) l count) (unchanged b (action.Took (owner.Try n round) l count) refl refl (λ s j m q. q)) may h told
+step_told b shown (action.Timer t ms what) may h told = still_told b shown (action.Timer t ms what) (unchanged b (action.Timer t ms what) refl refl (λ s l m h q. q)) may h told
+step_told b shown (action.Took owner.Setup l count) may h told = absurd may
+step_told b shown (action.Took (owner.Try n round) l count) may h told = still_told b shown (action.Took (owner.Try n round) l count) (unchanged b (action.Took (owner.Try n round) l count) refl refl (λ s j m h q. q)) may h told
 step_told b shown (action.Close m) may h told = still_told b shown (action.Close m) (close_shows_none b m) may h told
 step_told b shown (action.Write m bytes) may h told = still_told b shown (action.Write m bytes) (write_shows_none b m bytes) may h told
-step_told b shown (action.Wait (owner.Try n round) kind) may h told = still_told b shown (action.Wait (owner.Try n round) kind) (unchanged b (action.Wait (owner.Try n round) kind) refl refl (λ s l m q. q)) may h told
+step_told b shown (action.Wait owner.Setup kind) may h told = absurd may
+step_told b shown (action.Wait (owner.Try n round) kind) may h told = still_told b shown (action.Wait (owner.Try n round) kind) (unchanged b (action.Wait (owner.Try n round) kind) refl refl (λ s l m h q. q)) may h told
+step_told b shown (action.Start m k owner.Setup count len) may h told = still_told b shown (action.Start m k owner.Setup count len) (setup_shows_none b m k count len) may h told
 step_told b shown (action.Start m k (owner.Try n round) count len) may h told = still_told b shown (action.Start m k (owner.Try n round) count len) (start_shows_none b m k n round count len) may h told
-step_told b shown (action.Outcome n o) may h told = still_told b shown (action.Outcome n o) (unchanged b (action.Outcome n o) refl refl (λ s l m q. q)) may h told
+step_told b shown (action.Outcome n o) may h told = still_told b shown (action.Outcome n o) (unchanged b (action.Outcome n o) refl refl (λ s l m h q. q)) may h told
 
 -- and actions behind one another
 each_told : (b : Book) (shown : List (Option RedisError)) (trace : List Action) → AllStand b trace → Sound b → ToldIn shown b → ToldIn (shown ++ creations trace) (entered_each b trace)
@@ -234,7 +256,7 @@ answers_tell trace all front more n o e is u =
 pub opening_is_told : (config : Config) (word : ℕ) (events : List Event) (trace : List Action) → Legal config word events trace → TellsOfOpening trace
 opening_is_told config word events trace h =
     let t = told_behind trace h.each in
-    let done = h.settled.written.moved.applied in
+    let done = h.settled.written.moved.begun.applied in
     record {
       once = subst (λ n. n ≤ 1) (sym t.counted) t.once;
       told = λ l e fails. (t.quiet (done.created.failed l e fails) l).tells e fails;

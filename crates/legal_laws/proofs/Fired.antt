@@ -54,7 +54,7 @@ event_over b n event.Shutdown i h = h
 -- an outcome of it leaves it done
 outcome_over : (b : Book) (n : ℕ) (o : Outcome) → MayAnswer b n o ⊎ MayTell b n o → IsOver (b.story n) → IsOver (answered (b.story n) o)
 outcome_over b n o (inl owes) h u = absurd (owed_is_done b n o owes u)
-outcome_over b n o (inr told) h u = absurd (not_over b n told.applied told.unstarted h)
+outcome_over b n o (inr told) h u = absurd (not_over b n told.begun.applied told.unstarted h)
 
 -- so it is behind each action
 over_kept : (b : Book) (a : Action) → MayStand b a → (n : ℕ) → n < b.submissions → IsOver (b.story n) → IsOver ((entered b a).story n)
@@ -62,10 +62,13 @@ over_kept b (action.Turn k (cause.Opening config word)) may n i h = h
 over_kept b (action.Turn k (cause.Event e)) may n i h = event_over b n e.kind i h
 over_kept b (action.Connect m host port) may n i h = h
 over_kept b (action.Timer t ms what) may n i h = chosen IsOver (is_clock_of n (Some what)) (clocked (b.story n) t) (b.story n) (λ e. h) (λ f. h)
+over_kept b (action.Took owner.Setup l count) may n i h = absurd may
 over_kept b (action.Took (owner.Try m round) l count) may n i h = chosen IsOver (m == n) (holds (b.story n) count) (b.story n) (λ e. h) (λ f. h)
 over_kept b (action.Close m) may n i h = h
 over_kept b (action.Write m bytes) may n i h = h
+over_kept b (action.Wait owner.Setup kind) may n i h = absurd may
 over_kept b (action.Wait (owner.Try m round) kind) may n i h = chosen IsOver (m == n) (waits (b.story n) kind) (b.story n) (λ e. h) (λ f. h)
+over_kept b (action.Start l k owner.Setup count len) may n i h = h
 over_kept b (action.Start l k (owner.Try m round) count len) may n i h = chosen IsOver (m == n) (tried (b.story n) l k) (b.story n)
     (λ e u. absurd (not_empty (b.story n).tries (record { link = l; message = k }) (has_no_tries (tried (b.story n) l k) u))) (λ f. h)
 over_kept b (action.Created e) may n i h = h
@@ -92,7 +95,7 @@ none_behind b middle more k t e c l n sound all is clock o start =
     let numbered : n < b.submissions = open_is_numbered b n sound.stories o in
     let grows : b.submissions ≤ after.submissions = submissions_grow b (action.Turn k (cause.Event e)) in
     let s = start_of (entered_each after middle) c l n (stand_behind after middle (c ∷ more) all.1).0 start in
-    not_over (entered_each after middle) n s.3.applied s.3.unstarted
+    not_over (entered_each after middle) n s.3.begun.applied s.3.unstarted
     (stays_over after middle (stand_front after middle (c ∷ more) all.1) n (omega (arith, numbered, grows)) (fired_over b n t e.kind is clock o))
 
 -- nor in a legal trace

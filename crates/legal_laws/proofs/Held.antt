@@ -1,20 +1,22 @@
 -- What is done stays done while messages start, are written and wait.
 use Rattle.std.proofs.Common.{◌≡◌, ◌≢◌, ℕ, ◌==◌, true, List, [], ◌∷◌, Option, Some, None, refl, sym, ◌∙◌, ap, subst}
-use Rattle.containers.proofs.Choices.{chosen, eq_from, eq_test, if_true}
+use Rattle.containers.proofs.Choices.{chosen, eq_from, eq_test, if_true, not_both}
 use Rattle.driver_model.specs.declared.action.Action.{Action}
 use Rattle.driver_model.specs.declared.action.Action.TheVariants as action
+use Rattle.driver_model.specs.declared.action.Owner.{Owner}
 use Rattle.driver_model.specs.declared.action.Owner.TheVariants as owner
 use Rattle.driver_model.specs.declared.action.Purpose.{Purpose}
 use Rattle.driver_model.specs.declared.action.WaitKind.{WaitKind}
 use Rattle.driver_model.specs.declared.outcome.Outcome.{Outcome}
-use Rattle.legal_trace.specs.Ledger.{Ledger, Line, Start, begins, offers, noted_each, ending, failure_in}
+use Rattle.legal_trace.specs.Ledger.{Ledger, Line, Start, begins, offers, noted_each, is_of_setup, is_set_up, is_ready, setup_due, ending, failure_in}
 use Rattle.legal_trace.specs.Story.{Story, Try, is_open, is_unstarted, shape, holds, clocked, tried, waits, answered}
-use Rattle.legal_trace.specs.Steps.{is_due, permits_in, permits_on, permits_held, is_in_line, line_before, next_step}
+use Rattle.legal_trace.specs.Steps.{is_due, is_held_back, permits_in, permits_on, permits_held, is_in_line, line_before, next_step}
 use Rattle.legal_trace.specs.Owed.{owed_to_message, owed_to_try}
 use Rattle.legal_trace.specs.Book.{Book, entered, if_mine, message_of, is_clock_of}
-use Rattle.legal_trace.specs.Legal.{MayTell, MayStart, link_of, NoneIsOwed, IsApplied, IsMoved, IsWritten}
+use Rattle.legal_trace.specs.Legal.{MayTell, MayStart, MaySetUp, link_of, NoneIsOwed, IsApplied, IsBegun, IsMoved, IsWritten}
 use Rattle.legal_trace.proofs.Ledgers.{mine_keeps}
-use Rattle.legal_trace.proofs.Moves.{mover_is_up, starter_moves, step_of, line_alike, permits_alike}
+use Rattle.legal_trace.proofs.Setups.{set_begins, ends_where_set, begun_undecided, setup_stays}
+use Rattle.legal_trace.proofs.Moves.{mover_is_up, mover_is_ready, ready_is_up, ready_is_set, starter_moves, step_of, line_alike, permits_alike}
 use Rattle.legal_laws.proofs.Tales.{open_has_none, last_behind}
 use Rattle.legal_laws.proofs.Owes.{owed_story, owed_again, owed_by_last, begins_keeps, new_is_owed_nothing}
 use Rattle.legal_trace.proofs.Plain.{not_empty}
@@ -32,23 +34,27 @@ begun_end b l m s e = mine_keeps (λ (x : Ledger). x.end ≡ None) (l == m) (b.l
 new_message : (b : Book) (l k n round count len : ℕ) → MayStart b l k n count len → Sound b → owed_to_message ((entered b (starting l k n round count len)).link l) k (shape (b.story n)) ≡ None
 new_message b l k n round count len may h =
     let up : (b.link l).up ≡ true = subst (λ j. (b.link j).up ≡ true) (sym may.on_its_link) (mover_is_up b n (starter_moves b l k n count len may)) in
-    if_true (λ (lines : List Line). owed_to_message (noted_each (b.link l) lines) k (shape (b.story n)) ≡ None) (l == l) (begins (message_of b (owner.Try n round)) ∷ []) [] (eq_test l l refl)
-    (new_is_owed_nothing (b.link l) (message_of b (owner.Try n round)) k (shape (b.story n)) (h.few l) (h.up l up) may.next)
+    if_true (λ (lines : List Line). owed_to_message (noted_each (b.link l) lines) k (shape (b.story n)) ≡ None) (l == l) (begins (message_of b l (owner.Try n round)) ∷ []) [] (eq_test l l refl)
+    (new_is_owed_nothing (b.link l) (message_of b l (owner.Try n round)) k (shape (b.story n)) (h.few l) (h.up l up) may.next)
+
+-- its link is ready
+starts_ready : (b : Book) (l k n count len : ℕ) → MayStart b l k n count len → is_ready (b.link l) ≡ true
+starts_ready b l k n count len may = subst (λ j. is_ready (b.link j) ≡ true) (sym may.on_its_link) (mover_is_ready b n (starter_moves b l k n count len may))
 
 -- so is the submission whose message starts
 starter_owed : (b : Book) (l k n round count len : ℕ) → MayStart b l k n count len → Sound b → is_open (b.story n) ≡ true → owed_story (entered b (starting l k n round count len)) (tried (b.story n) l k) ≡ None
 starter_owed b l k n round count len may h o =
     owed_by_last b (entered b (starting l k n round count len)) (b.story n) (tried (b.story n) l k) refl refl refl
     (subst (λ (x : Option Try). owed_to_try (entered b (starting l k n round count len)) (tried (b.story n) l k) x ≡ None) (sym (last_behind (b.story n).tries (record { link = l; message = k }))) (new_message b l k n round count len may h))
-    (may.applied.answered n o)
+    (may.begun.applied.answered n o)
 
 -- and any other
-others_owed : (b : Book) (l k m round count len : ℕ) → Sound b → (n : ℕ) → owed_story b (b.story n) ≡ None → owed_story (entered b (starting l k m round count len)) (b.story n) ≡ None
-others_owed b l k m round count len h n =
-    owed_again b (entered b (starting l k m round count len)) (b.story n) (
-      begun_end b l (b.story n).link (message_of b (owner.Try m round)),
-      λ t last e. mine_keeps (λ x. owed_to_message x t.message (shape (b.story n)) ≡ None) (l == t.link) (b.link t.link) (begins (message_of b (owner.Try m round)))
-          (λ mine. begins_keeps (b.link t.link) (message_of b (owner.Try m round)) t.message (shape (b.story n)) (h.starts n t last) e) e,
+others_owed : (b : Book) (l k : ℕ) (who : Owner) (count len : ℕ) → Sound b → (n : ℕ) → owed_story b (b.story n) ≡ None → owed_story (entered b (action.Start l k who count len)) (b.story n) ≡ None
+others_owed b l k who count len h n =
+    owed_again b (entered b (action.Start l k who count len)) (b.story n) (
+      begun_end b l (b.story n).link (message_of b l who),
+      λ t last e. mine_keeps (λ x. owed_to_message x t.message (shape (b.story n)) ≡ None) (l == t.link) (b.link t.link) (begins (message_of b l who))
+          (λ mine. begins_keeps (b.link t.link) (message_of b l who) t.message (shape (b.story n)) (h.starts n t last) e) e,
     )
 
 -- so nothing is owed behind a start
@@ -56,17 +62,40 @@ start_owes : (b : Book) (l k m round count len : ℕ) → MayStart b l k m count
 start_owes b l k m round count len may h n =
     chosen (λ (s : Story). is_open s ≡ true → owed_story (entered b (starting l k m round count len)) s ≡ None) (m == n) (tried (b.story n) l k) (b.story n)
     (λ t. subst (λ j. is_open (tried (b.story j) l k) ≡ true → owed_story (entered b (starting l k m round count len)) (tried (b.story j) l k) ≡ None) (eq_from m n t) (starter_owed b l k m round count len may h))
-    (λ f o. others_owed b l k m round count len h n (may.applied.answered n o))
+    (λ f o. others_owed b l k (owner.Try m round) count len h n (may.begun.applied.answered n o))
+
+-- a link that is ready and doesn't end doesn't where a request's message starts
+ready_begins : (l : Ledger) (s : Start) → is_of_setup s.owner ≡ false → is_ready l ≡ true → ending l ≡ None → ending (record l { starts = l.starts ++ s ∷ [] }) ≡ None
+ready_begins l s request ready none =
+    let set : is_set_up l ≡ true = ready_is_set l ready in
+    ends_where_set (record l { starts = l.starts ++ s ∷ [] }) (ready_is_up l ready) (set_begins l s request set) ∙ (sym (ends_where_set l (ready_is_up l ready) set) ∙ none)
 
 -- a start leaves the event applied
 pub start_applied : (b : Book) (l k m round count len : ℕ) → MayStart b l k m count len → Sound b → IsApplied (entered b (starting l k m round count len))
 start_applied b l k m round count len may h = record {
   answered = start_owes b l k m round count len may h;
-  ended = λ j. mine_keeps (λ x. ending x ≡ None) (l == j) (b.link j) (begins (message_of b (owner.Try m round))) (λ t. may.applied.ended j) (may.applied.ended j);
+  ended = λ j. mine_keeps (λ x. ending x ≡ None) (l == j) (b.link j) (begins (message_of b l (owner.Try m round)))
+      (λ t. ready_begins (b.link j) (message_of b l (owner.Try m round)) refl (subst (λ i. is_ready (b.link i) ≡ true) (eq_from l j t) (starts_ready b l k m count len may)) (may.begun.applied.ended j)) (may.begun.applied.ended j);
+  created = record {
+    asked = may.begun.applied.created.asked;
+    shown = λ j. mine_keeps (λ (x : Ledger). is_ready x ≡ true → b.created ≢ 0) (l == j) (b.link j) (begins (message_of b l (owner.Try m round))) (λ t ready. may.begun.applied.created.shown l (starts_ready b l k m count len may)) (may.begun.applied.created.shown j);
+    failed = λ j e. mine_keeps (λ (x : Ledger). failure_in x.end ≡ Some e → b.created ≢ 0) (l == j) (b.link j) (begins (message_of b l (owner.Try m round))) (λ t. may.begun.applied.created.failed j e) (may.begun.applied.created.failed j e);
+  };
+  timed = may.begun.applied.timed;
+}
+
+-- a setup leaves the event applied
+pub setup_applied : (b : Book) (l k count len : ℕ) → MaySetUp b l k count len → Sound b → IsApplied (entered b (action.Start l k owner.Setup count len))
+setup_applied b l k count len may h = record {
+  answered = λ n o. others_owed b l k owner.Setup count len h n (may.applied.answered n o);
+  ended = λ j. mine_keeps (λ x. ending x ≡ None) (l == j) (b.link j) (begins (message_of b l owner.Setup))
+      (λ t. subst (λ i. ending (record (b.link i) { starts = (b.link i).starts ++ message_of b l owner.Setup ∷ [] }) ≡ None) (eq_from l j t) (setup_stays (b.link l) (message_of b l owner.Setup) may.k refl may.due (h.few l) (may.applied.ended l))) (may.applied.ended j);
   created = record {
     asked = may.applied.created.asked;
-    shown = λ j. mine_keeps (λ (x : Ledger). x.up ≡ true → b.created ≢ 0) (l == j) (b.link j) (begins (message_of b (owner.Try m round))) (λ t. may.applied.created.shown j) (may.applied.created.shown j);
-    failed = λ j e. mine_keeps (λ (x : Ledger). failure_in x.end ≡ Some e → b.created ≢ 0) (l == j) (b.link j) (begins (message_of b (owner.Try m round))) (λ t. may.applied.created.failed j e) (may.applied.created.failed j e);
+    shown = λ j. mine_keeps (λ (x : Ledger). is_ready x ≡ true → b.created ≢ 0) (l == j) (b.link j) (begins (message_of b l owner.Setup))
+        (λ t. subst (λ i. is_ready (record (b.link i) { starts = (b.link i).starts ++ message_of b l owner.Setup ∷ [] }) ≡ true → b.created ≢ 0) (eq_from l j t)
+        (λ ready. absurd (not_both (is_set_up (record (b.link l) { starts = (b.link l).starts ++ message_of b l owner.Setup ∷ [] })) (begun_undecided (b.link l) (message_of b l owner.Setup) may.k refl may.due (h.few l)).unwell (ready_is_set (record (b.link l) { starts = (b.link l).starts ++ message_of b l owner.Setup ∷ [] }) ready)))) (may.applied.created.shown j);
+    failed = λ j e. mine_keeps (λ (x : Ledger). failure_in x.end ≡ Some e → b.created ≢ 0) (l == j) (b.link j) (begins (message_of b l owner.Setup)) (λ t. may.applied.created.failed j e) (may.applied.created.failed j e);
   };
   timed = may.applied.timed;
 }
@@ -80,10 +109,10 @@ pub tell_applied : (b : Book) (m : ℕ) (o : Outcome) → MayTell b m o → IsAp
 tell_applied b m o may = record {
   answered = λ n. chosen (λ (s : Story). is_open s ≡ true → owed_story (entered b (action.Outcome m o)) s ≡ None) (m == n) (answered (b.story n) o) (b.story n)
       (λ t open_still. absurd (not_open (b.story n) o open_still))
-      (λ f open_still. owed_again b (entered b (action.Outcome m o)) (b.story n) (λ e. e, λ t last e. e) (may.applied.answered n open_still));
-  ended = may.applied.ended;
-  created = record { asked = may.applied.created.asked; shown = may.applied.created.shown; failed = may.applied.created.failed };
-  timed = may.applied.timed;
+      (λ f open_still. owed_again b (entered b (action.Outcome m o)) (b.story n) (λ e. e, λ t last e. e) (may.begun.applied.answered n open_still));
+  ended = may.begun.applied.ended;
+  created = record { asked = may.begun.applied.created.asked; shown = may.begun.applied.created.shown; failed = may.begun.applied.created.failed };
+  timed = may.begun.applied.timed;
 }
 
 -- a write leaves the event applied and all moved
@@ -97,10 +126,17 @@ write_applied b l bytes done = record {
   ended = λ j. mine_keeps (λ x. ending x ≡ None) (l == j) (b.link j) (offers bytes) (λ t. done.ended j) (done.ended j);
   created = record {
     asked = done.created.asked;
-    shown = λ j. mine_keeps (λ (x : Ledger). x.up ≡ true → b.created ≢ 0) (l == j) (b.link j) (offers bytes) (λ t. done.created.shown j) (done.created.shown j);
+    shown = λ j. mine_keeps (λ (x : Ledger). is_ready x ≡ true → b.created ≢ 0) (l == j) (b.link j) (offers bytes) (λ t. done.created.shown j) (done.created.shown j);
     failed = λ j e. mine_keeps (λ (x : Ledger). failure_in x.end ≡ Some e → b.created ≢ 0) (l == j) (b.link j) (offers bytes) (λ t. done.created.failed j e) (done.created.failed j e);
   };
   timed = done.timed;
+}
+
+-- setups stay started
+write_begun : (b : Book) (l : ℕ) (bytes : List ℕ) → IsBegun b → IsBegun (entered b (action.Write l bytes))
+write_begun b l bytes done = record {
+  applied = write_applied b l bytes done.applied;
+  setups = λ j k. mine_keeps (λ x. setup_due x ≡ Some k → is_held_back b x ≡ true) (l == j) (b.link j) (offers bytes) (λ t. done.setups j k) (done.setups j k);
 }
 
 -- a write leaves each submission its next step
@@ -110,7 +146,7 @@ written_step b l n bytes = mine_keeps (λ x. step_of b.config (b.story n) (line_
 -- so nothing moves behind a write that couldn't before
 pub write_moved : (b : Book) (l : ℕ) (bytes : List ℕ) → IsMoved b → IsMoved (entered b (action.Write l bytes))
 write_moved b l bytes done = record {
-  applied = write_applied b l bytes done.applied;
+  begun = write_begun b l bytes done.begun;
   moved = λ n m. done.moved n (record { unstarted = m.unstarted; due = sym (ap is_due (written_step b l n bytes)) ∙ m.due });
 }
 
@@ -174,7 +210,7 @@ wait_unstarted b m round kind n = chosen (λ s. is_unstarted s ≡ is_unstarted 
 pub wait_written : (b : Book) (m round : ℕ) (kind : WaitKind) → IsWritten b → IsWritten (entered b (action.Wait (owner.Try m round) kind))
 wait_written b m round kind done = record {
   moved = record {
-    applied = wait_applied b m round kind done.moved.applied;
+    begun = record { applied = wait_applied b m round kind done.moved.begun.applied; setups = done.moved.begun.setups };
     moved = λ n p. done.moved.moved n (record {
       unstarted = sym (wait_unstarted b m round kind n) ∙ p.unstarted;
       due = sym (ap is_due (wait_step b m round kind n)) ∙ p.due;

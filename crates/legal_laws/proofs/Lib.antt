@@ -5,10 +5,12 @@ pub mod Numbers
 pub mod Owes
 pub mod Tales
 pub mod Shutdown
+pub mod Shaped
 pub mod Sound
 pub mod Links
 pub mod Answers
 pub mod Quiet
+pub mod Turned
 pub mod Ranks
 pub mod Next
 pub mod Equal

@@ -16,11 +16,12 @@ use Rattle.driver_model.specs.declared.action.Purpose.TheVariants as purpose
 use Rattle.driver_model.specs.News.{silence, connected, refused, overdue, took, came, failed, news_of, of_timer}
 use Rattle.legal_trace.specs.Ledger.{Ledger, Line, asks, begins, offers, ends, is_over, IsWithin, MayNote, AllNoted}
 use Rattle.legal_trace.specs.Story.{is_awaited, is_no_error, bytes_of}
-use Rattle.legal_trace.specs.Book.{Book, blank_book, entered, lines_of, lines_of_each, if_mine, message_of}
+use Rattle.legal_trace.specs.Book.{Book, blank_book, entered, lines_of, lines_of_each, if_mine, info_in, message_of}
 use Rattle.legal_trace.specs.Events.{is_bad_event, is_no_link}
 use Rattle.legal_trace.specs.Legal.{MayStand, MayStart, AllStand, Legal}
 use Rattle.legal_laws.specs.Links.{LinksAreLegal, TakesInOrder, lines_for}
 use Rattle.legal_trace.proofs.Ledgers.{may_append}
+use Rattle.legal_trace.proofs.Setups.{due_is_up, due_has_bytes}
 use Rattle.legal_trace.proofs.Moves.{has_no_tries, open_or_told, mover_is_up, starter_moves}
 use Rattle.legal_laws.proofs.Streams.{takes_in_order}
 use Rattle.legal_laws.proofs.Sound.{Sound, stays_sound, blank_is_sound}
@@ -70,7 +71,7 @@ within b l (event.Cancel n) good h = tt
 -- a message that may start has bytes
 pub starts_with_bytes : (b : Book) (l k n count len : ℕ) → MayStart b l k n count len → Sound b → bytes_of (b.story n) ≢ []
 starts_with_bytes b l k n count len may h = elim (open_or_told (b.story n) may.unstarted) [
-  | inl o ↦ has_bytes b (b.story n) (may.applied.answered n o)
+  | inl o ↦ has_bytes b (b.story n) (may.begun.applied.answered n o)
   | inr told ↦ (h.once n).told (both_right (not (is_awaited (b.story n))) (is_no_error (b.story n).outcomes) told) (has_no_tries (b.story n) may.unstarted)
 ]
 
@@ -82,14 +83,19 @@ connects_new b l m next h t = let e : m ≡ l = eq_from m l t in (h.links.unaske
 pub lines_may : (b : Book) (l : ℕ) (a : Action) → MayStand b a → Sound b → AllNoted (b.link l) (lines_of b l a)
 lines_may b l (action.Turn k (cause.Opening config word)) may h = tt
 lines_may b l (action.Turn k (cause.Event e)) may h = (within b l e.kind may.is_for.2 h, tt)
-lines_may b l (action.Connect m host port) may h = may_mine (m == l) (b.link l) asks (connects_new b l m may.next h)
+lines_may b l (action.Connect m host port) may h = may_mine (m == l) (b.link l) (asks (info_in b.config)) (connects_new b l m may.next h)
 lines_may b l (action.Timer t ms what) may h = tt
+lines_may b l (action.Took owner.Setup m count) may h = absurd may
 lines_may b l (action.Took (owner.Try n round) m count) may h = tt
 lines_may b l (action.Close m) may h = may_mine (m == l) (b.link l) (ends (b.turns - 1)) (λ t. subst (λ j. MayNote (b.link j) (ends (b.turns - 1))) (eq_from m l t) (may.why, may.ends))
 lines_may b l (action.Write m bytes) may h = may_mine (m == l) (b.link l) (offers bytes) (λ t. subst (λ j. MayNote (b.link j) (offers bytes)) (eq_from m l t) (may.up, may.answered, may.all, may.some))
+lines_may b l (action.Wait owner.Setup kind) may h = absurd may
 lines_may b l (action.Wait (owner.Try n round) kind) may h = tt
+lines_may b l (action.Start m k owner.Setup count len) may h =
+    may_mine (m == l) (b.link l) (begins (message_of b m owner.Setup))
+    (λ t. (subst (λ j. (b.link j).up ≡ true) (eq_from m l t) (due_is_up (b.link m) may.k may.due), due_has_bytes (b.link m) may.k may.due))
 lines_may b l (action.Start m k (owner.Try n round) count len) may h =
-    may_mine (m == l) (b.link l) (begins (message_of b (owner.Try n round)))
+    may_mine (m == l) (b.link l) (begins (message_of b m (owner.Try n round)))
     (λ t. (subst (λ j. (b.link j).up ≡ true) (sym may.1.on_its_link ∙ eq_from m l t) (mover_is_up b n (starter_moves b m k n count len may.1)), starts_with_bytes b m k n count len may.1 h))
 lines_may b l (action.Created e) may h = tt
 lines_may b l (action.Outcome n o) may h = tt

@@ -1,6 +1,6 @@
 -- At most one action may stand next.
 use Rattle.std.proofs.Common.{◌≡◌, ◌⊎◌, inl, inr, ℕ, zero, suc, ◌<◌, ◌≤◌, nat_lt, Bool, true, false, List, [], length, Option, Some, None, refl, sym, ◌∙◌, subst, ap, arith}
-use Rattle.containers.proofs.Choices.{by_test, lt_from, not_lt_from}
+use Rattle.containers.proofs.Choices.{by_test, lt_from, not_lt_from, not_both}
 use Rattle.driver_model.specs.declared.action.Action.{Action}
 use Rattle.driver_model.specs.declared.action.Action.TheVariants as action
 use Rattle.driver_model.specs.declared.action.Cause.TheVariants as cause
@@ -17,12 +17,12 @@ use Rattle.driver_model.specs.declared.event.Event.{Event}
 use Rattle.driver_model.specs.declared.outcome.Outcome.{Outcome}
 use Rattle.driver_model.specs.declared.outcome.Outcome.TheVariants as outcome
 use Rattle.resp_value.specs.declared.value.Value.TheVariants.{Nil}
-use Rattle.legal_trace.specs.Ledger.{IsOffered, is_over, unwritten, ending, failure_in}
+use Rattle.legal_trace.specs.Ledger.{IsOffered, is_over, unwritten, ending, failure_in, setup_due, setup_message}
 use Rattle.legal_trace.specs.Story.{shape, bytes_of}
 use Rattle.legal_trace.specs.Owed.{owed}
 use Rattle.legal_trace.specs.Book.{Book, book}
-use Rattle.legal_trace.specs.Steps.{Step, waits, takes, asks, tells, starts, nothing, next_step}
-use Rattle.legal_trace.specs.Legal.{MayStand, MayConnect, MayTimeConnect, MayTime, MayTake, MayTimer, MayClose, MayFail, MayShowCreation, MayAnswer, MayTell, MayStart, MayWrite, MayWait, IsOpen, IsWaiting, link_of, CanMove}
+use Rattle.legal_trace.specs.Steps.{Step, waits, takes, asks, tells, starts, nothing, is_held_back, next_step}
+use Rattle.legal_trace.specs.Legal.{MayStand, MayConnect, MayTimeConnect, MayTime, MayTake, MayTimer, MayClose, MayFail, MayShowCreation, MayAnswer, MayTell, MayStart, MaySetUp, MayWrite, MayWait, IsOpen, IsWaiting, link_of, CanMove}
 use Rattle.legal_laws.specs.Next.{BothAnnounce, OneIsNext, OneIsNextBehind}
 use Rattle.legal_trace.proofs.Moves.{teller_moves, starter_moves, taker_moves, asker_moves, same_kind}
 use Rattle.legal_laws.proofs.Ranks.{answer_rank, creation_rank, rank, same_rank, outcome_rank, timer_rank, not_offered, not_shown}
@@ -135,6 +135,29 @@ one_failure b d e h k =
     (λ j i w. w (h.in_order j i)) (λ j i w. w (k.in_order j i)) in
     same_some d e (sym h.fails ∙ (ap (λ j. failure_in (b.link j).end) l ∙ k.fails))
 
+-- a setup is known by its link
+abbrev pub setup_on : Book → ℕ → ℕ → Action
+setup_on b l k = action.Start l (length (b.link l).starts) owner.Setup (need_of (setup_message (b.link l) k).shape) (length (setup_message (b.link l) k).bytes)
+
+-- it is that
+setup_is : (b : Book) (l message count len : ℕ) (may : MaySetUp b l message count len) → action.Start l message owner.Setup count len ≡ setup_on b l may.k
+setup_is b l message count len may =
+    ap (λ x. action.Start l x owner.Setup count len) may.next
+    ∙ (ap (λ x. action.Start l (length (b.link l).starts) owner.Setup x len) may.needs_its_items
+    ∙ ap (λ x. action.Start l (length (b.link l).starts) owner.Setup (need_of (setup_message (b.link l) may.k).shape) x) may.long_as_its_bytes)
+
+-- a setup is to start on that link, which isn't held back
+abbrev pub IsSettingUp : Book → ℕ → Type 0
+IsSettingUp b l = (k : ℕ) × (setup_due (b.link l) ≡ Some k) × (is_held_back b (b.link l) ≡ false)
+
+-- two setups are one
+one_setup : (b : Book) (l m message other count need len size : ℕ) → MaySetUp b l message count len → MaySetUp b m other need size → action.Start l message owner.Setup count len ≡ action.Start m other owner.Setup need size
+one_setup b l m message other count need len size h k =
+    let e : l ≡ m = least_is_one (IsSettingUp b) l m (h.k, h.due, h.free) (k.k, k.due, k.free)
+    (λ j i w. not_both (is_held_back b (b.link j)) w.2 (h.in_order j w.0 i w.1)) (λ j i w. not_both (is_held_back b (b.link j)) w.2 (k.in_order j w.0 i w.1)) in
+    let same : h.k ≡ k.k = same_some h.k k.k (sym h.due ∙ (ap (λ j. setup_due (b.link j)) e ∙ k.due)) in
+    setup_is b l message count len h ∙ (ap (λ j. setup_on b j h.k) e ∙ (ap (setup_on b m) same ∙ sym (setup_is b m other need size k)))
+
 -- two closes are one
 one_close : (b : Book) (l m : ℕ) → MayClose b l → MayClose b m → action.Close l ≡ action.Close m
 one_close b l m h k =
@@ -170,14 +193,15 @@ OfRank zero b y = (k : ℕ) × (config : Config) × (word : ℕ) × (y ≡ actio
 OfRank (suc zero) b y = (l : ℕ) × (host : List ℕ) × (port : ℕ) × (y ≡ action.Connect l host port) × MayConnect b l host port
 OfRank (suc (suc zero)) b y = (t : ℕ) × (ms : ℕ) × (what : Purpose) × (y ≡ action.Timer t ms what) × MayTimeConnect b t ms what
 OfRank (suc (suc (suc zero))) b y = IsAnswering b false y
-OfRank (suc (suc (suc (suc zero)))) b y = (l : ℕ) × (y ≡ action.Close l) × MayClose b l
-OfRank (suc (suc (suc (suc (suc zero))))) b y = (e : RedisError) × (y ≡ action.Created (Some e)) × MayFail b e
-OfRank (suc (suc (suc (suc (suc (suc zero)))))) b y = IsAnswering b true y
-OfRank (suc (suc (suc (suc (suc (suc (suc zero))))))) b y = y ≡ action.Created None
-OfRank (suc (suc (suc (suc (suc (suc (suc (suc zero)))))))) b y = IsMoving b y
-OfRank (suc (suc (suc (suc (suc (suc (suc (suc (suc zero))))))))) b y = (l : ℕ) × (bytes : List ℕ) × (y ≡ action.Write l bytes) × MayWrite b l bytes
-OfRank (suc (suc (suc (suc (suc (suc (suc (suc (suc (suc zero)))))))))) b y = (n : ℕ) × (kind : WaitKind) × (y ≡ action.Wait (owner.Try n 0) kind) × MayWait b n kind
-OfRank (suc (suc (suc (suc (suc (suc (suc (suc (suc (suc (suc more))))))))))) b y = (k : ℕ) × (e : Event) × (y ≡ action.Turn k (cause.Event e)) × (k ≡ b.turns)
+OfRank (suc (suc (suc (suc zero)))) b y = y ≡ action.Created None
+OfRank (suc (suc (suc (suc (suc zero))))) b y = (l : ℕ) × (y ≡ action.Close l) × MayClose b l
+OfRank (suc (suc (suc (suc (suc (suc zero)))))) b y = (e : RedisError) × (y ≡ action.Created (Some e)) × MayFail b e
+OfRank (suc (suc (suc (suc (suc (suc (suc zero))))))) b y = IsAnswering b true y
+OfRank (suc (suc (suc (suc (suc (suc (suc (suc zero)))))))) b y = (l : ℕ) × (k : ℕ) × (count : ℕ) × (len : ℕ) × (y ≡ action.Start l k owner.Setup count len) × MaySetUp b l k count len
+OfRank (suc (suc (suc (suc (suc (suc (suc (suc (suc zero))))))))) b y = IsMoving b y
+OfRank (suc (suc (suc (suc (suc (suc (suc (suc (suc (suc zero)))))))))) b y = (l : ℕ) × (bytes : List ℕ) × (y ≡ action.Write l bytes) × MayWrite b l bytes
+OfRank (suc (suc (suc (suc (suc (suc (suc (suc (suc (suc (suc zero))))))))))) b y = (n : ℕ) × (kind : WaitKind) × (y ≡ action.Wait (owner.Try n 0) kind) × MayWait b n kind
+OfRank (suc (suc (suc (suc (suc (suc (suc (suc (suc (suc (suc (suc more)))))))))))) b y = (k : ℕ) × (e : Event) × (y ≡ action.Turn k (cause.Event e)) × (k ≡ b.turns)
 
 -- an outcome that is owed is of its rank
 answer_of_rank : (b : Book) (n : ℕ) (o : Outcome) (over : Bool) → is_over (link_of b n) ≡ over → MayAnswer b n o → OfRank (answer_rank over) b (action.Outcome n o)
@@ -204,12 +228,15 @@ pub of_rank : (b : Book) (y : Action) (may : MayStand b y) → OfRank (rank b y 
 of_rank b (action.Turn k (cause.Opening config word)) may = (k, config, word, refl, may.next)
 of_rank b (action.Connect l host port) may = (l, host, port, refl, may)
 of_rank b (action.Timer t ms what) may = timer_of_rank b t ms what may
+of_rank b (action.Took owner.Setup l count) may = absurd may
 of_rank b (action.Took (owner.Try n round) l count) may = subst (λ r. IsMoving b (action.Took (owner.Try n r) l count)) (sym may.0) (take_moving b n l count may.1)
 of_rank b (action.Outcome n o) may = outcome_of_rank b n o may
 of_rank b (action.Close l) may = (l, refl, may)
 of_rank b (action.Created e) may = creation_of_rank b e may
+of_rank b (action.Start l k owner.Setup count len) may = (l, k, count, len, refl, may)
 of_rank b (action.Start l k (owner.Try n round) count len) may = subst (λ r. IsMoving b (action.Start l k (owner.Try n r) count len)) (sym may.0) (start_moving b l k n count len may.1)
 of_rank b (action.Write l bytes) may = (l, bytes, refl, may)
+of_rank b (action.Wait owner.Setup kind) may = absurd may
 of_rank b (action.Wait (owner.Try n round) kind) may = (n, kind, ap (λ r. action.Wait (owner.Try n r) kind) may.0, may.1)
 of_rank b (action.Turn k (cause.Event e)) may = (k, e, refl, may.next)
 
@@ -238,12 +265,15 @@ pub beside : (b : Book) (x y : Action) (p : MayStand b x) → OfRank (rank b x p
 beside b (action.Turn j (cause.Opening config word)) y p q = subst (AreOne (action.Turn j (cause.Opening config word))) (sym q.3) (inr (p.next ∙ sym q.4, tt))
 beside b (action.Connect l host port) y p q = inl (one_connect b l q.0 host q.1 port q.2 p q.4 ∙ sym q.3)
 beside b (action.Timer t ms what) y p q = beside_timer b t ms what y p q
+beside b (action.Took owner.Setup l count) y p q = absurd p
 beside b (action.Took (owner.Try n round) l count) y p q = subst (λ r. AreOne (action.Took (owner.Try n r) l count) y) (sym p.0) (inl (one_moving b (action.Took (owner.Try n 0) l count) y (take_moving b n l count p.1) q))
 beside b (action.Outcome n o) y p q = beside_outcome b n o y p q
 beside b (action.Close l) y p q = inl (one_close b l q.0 p q.2 ∙ sym q.1)
 beside b (action.Created e) y p q = beside_creation b e y p q
+beside b (action.Start l k owner.Setup count len) y p q = inl (one_setup b l q.0 k q.1 count q.2 len q.3 p q.5 ∙ sym q.4)
 beside b (action.Start l k (owner.Try n round) count len) y p q = subst (λ r. AreOne (action.Start l k (owner.Try n r) count len) y) (sym p.0) (inl (one_moving b (action.Start l k (owner.Try n 0) count len) y (start_moving b l k n count len p.1) q))
 beside b (action.Write l bytes) y p q = inl (one_write b l q.0 bytes q.1 p q.3 ∙ sym q.2)
+beside b (action.Wait owner.Setup kind) y p q = absurd p
 beside b (action.Wait (owner.Try n round) kind) y p q = subst (λ r. AreOne (action.Wait (owner.Try n r) kind) y) (sym p.0) (inl (one_wait b n q.0 kind q.1 p.1 q.3 ∙ sym q.2))
 beside b (action.Turn j (cause.Event e)) y p q = subst (AreOne (action.Turn j (cause.Event e))) (sym q.2) (inr (p.next ∙ sym q.3, tt))
 

@@ -13,9 +13,9 @@ use Rattle.driver_model.specs.declared.action.Purpose.{Purpose}
 use Rattle.driver_model.specs.declared.action.Purpose.TheVariants as purpose
 use Rattle.driver_model.specs.News.{News, silence, connected, refused, overdue, took, came, failed, news_of, for_link, of_timer}
 use Rattle.driver_model.specs.declared.outcome.Outcome.{Outcome}
-use Rattle.legal_trace.specs.Ledger.{Ledger, End, asks, begins, offers, ends, is_over, ending, ending_up, ending_asked, noted_each}
+use Rattle.legal_trace.specs.Ledger.{Ledger, End, asks, begins, offers, ends, is_over, ending, ending_alive, ending_asked, noted_each}
 use Rattle.legal_trace.specs.Story.{Story, blank_story, is_open, is_told, handed_in, left, holds, clocked, fires, tried, waits, answered}
-use Rattle.legal_trace.specs.Book.{Book, entered, lines_of, if_mine, message_of, current, is_clock_of, after_event, submitted_by}
+use Rattle.legal_trace.specs.Book.{Book, entered, lines_of, if_mine, info_in, message_of, current, is_clock_of, after_event, submitted_by}
 use Rattle.legal_trace.specs.Events.{is_bad_event}
 use Rattle.legal_trace.specs.Legal.{MayAnswer, MayTell, MayTimer, MayStand, IsOpen, CanMove}
 use Rattle.legal_trace.proofs.Ledgers.{each_keeps, mine_keeps, IsAsked, asked_keeps, IsUnasked, unasked_hears}
@@ -63,7 +63,7 @@ not_connected b l (event.Cancel s) i good e = cc e
 
 -- a link that was not asked for doesn't end
 pub unasked_stays : (l : Ledger) → IsUnasked l → ending l ≡ None
-unasked_stays l h = left_if l.up (ending_up l l.heard) (if l.asked && not (is_over l) then ending_asked l.heard else None) h.1 ∙ left_if (l.asked && not (is_over l)) (ending_asked l.heard) None (ap (λ x. x && not (is_over l)) h.0)
+unasked_stays l h = left_if l.up (ending_alive l) (if l.asked && not (is_over l) then ending_asked l.heard else None) h.1 ∙ left_if (l.asked && not (is_over l)) (ending_asked l.heard) None (ap (λ x. x && not (is_over l)) h.0)
 
 -- a link that was not asked for is told nothing of its own
 unasked_kept : (b : Book) (l : ℕ) (a : Action) → MayStand b a → (entered b a).links ≤ l → IsUnasked (b.link l) → IsUnasked (noted_each (b.link l) (lines_of b l a))
@@ -72,7 +72,7 @@ unasked_kept b l (action.Turn k (cause.Event e)) may i h = unasked_hears (b.link
 unasked_kept b l (action.Connect m host port) may i h =
     let e : m ≡ b.links = may.next in
     let other : (m == l) ≡ false = ne_test m l (omega arith) in
-    mine_keeps IsUnasked (m == l) (b.link l) asks (λ t. absurd (not_both (m == l) other t)) h
+    mine_keeps IsUnasked (m == l) (b.link l) (asks (info_in b.config)) (λ t. absurd (not_both (m == l) other t)) h
 unasked_kept b l (action.Timer t ms what) may i h = h
 unasked_kept b l (action.Took who m count) may i h = h
 unasked_kept b l (action.Close m) may i h =
@@ -80,7 +80,7 @@ unasked_kept b l (action.Close m) may i h =
     (λ t. absurd (not_none (ending (b.link m)) may.why (unasked_stays (b.link m) (subst (λ j. IsUnasked (b.link j)) (sym (eq_from m l t)) h)) may.ends)) h
 unasked_kept b l (action.Write m bytes) may i h = mine_keeps IsUnasked (m == l) (b.link l) (offers bytes) (λ t. h) h
 unasked_kept b l (action.Wait who kind) may i h = h
-unasked_kept b l (action.Start m k who count len) may i h = mine_keeps IsUnasked (m == l) (b.link l) (begins (message_of b who)) (λ t. h) h
+unasked_kept b l (action.Start m k who count len) may i h = mine_keeps IsUnasked (m == l) (b.link l) (begins (message_of b m who)) (λ t. h) h
 unasked_kept b l (action.Created e) may i h = h
 unasked_kept b l (action.Outcome n o) may i h = h
 
@@ -108,14 +108,17 @@ asked_kept b l (action.Turn k (cause.Opening config word)) may h i = asked_stays
 asked_kept b l (action.Turn k (cause.Event e)) may h i = asked_stays b l (action.Turn k (cause.Event e)) (h.asked l i)
 asked_kept b l (action.Connect m host port) may h i =
     let e : m ≡ b.links = may.next in
-    by_test (m == l) (IsAsked (noted_each (b.link l) (if_mine (m == l) asks)))
-    (λ t. subst (λ (x : Bool). IsAsked (noted_each (b.link l) (if_mine x asks))) (sym t) refl)
-    (λ f. let other : m ≢ l = ne_from m l f in mine_keeps IsAsked (m == l) (b.link l) asks (λ t. refl) (h.asked l (omega arith)))
+    by_test (m == l) (IsAsked (noted_each (b.link l) (if_mine (m == l) (asks (info_in b.config)))))
+    (λ t. subst (λ (x : Bool). IsAsked (noted_each (b.link l) (if_mine x (asks (info_in b.config))))) (sym t) refl)
+    (λ f. let other : m ≢ l = ne_from m l f in mine_keeps IsAsked (m == l) (b.link l) (asks (info_in b.config)) (λ t. refl) (h.asked l (omega arith)))
 asked_kept b l (action.Timer t ms what) may h i = asked_stays b l (action.Timer t ms what) (h.asked l i)
+asked_kept b l (action.Took owner.Setup m count) may h i = absurd may
 asked_kept b l (action.Took (owner.Try n round) m count) may h i = asked_stays b l (action.Took (owner.Try n round) m count) (h.asked l i)
 asked_kept b l (action.Close m) may h i = asked_stays b l (action.Close m) (h.asked l i)
 asked_kept b l (action.Write m bytes) may h i = asked_stays b l (action.Write m bytes) (h.asked l i)
+asked_kept b l (action.Wait owner.Setup kind) may h i = absurd may
 asked_kept b l (action.Wait (owner.Try n round) kind) may h i = asked_stays b l (action.Wait (owner.Try n round) kind) (h.asked l i)
+asked_kept b l (action.Start m k owner.Setup count len) may h i = asked_stays b l (action.Start m k owner.Setup count len) (h.asked l i)
 asked_kept b l (action.Start m k (owner.Try n round) count len) may h i = asked_stays b l (action.Start m k (owner.Try n round) count len) (h.asked l i)
 asked_kept b l (action.Created e) may h i = asked_stays b l (action.Created e) (h.asked l i)
 asked_kept b l (action.Outcome n o) may h i = asked_stays b l (action.Outcome n o) (h.asked l i)
@@ -207,10 +210,13 @@ stories_kept b (action.Turn k (cause.Opening config word)) may h n i = h n i
 stories_kept b (action.Turn k (cause.Event e)) may h n i = event_leaves_blank b n e.kind may.is_for.2 h i
 stories_kept b (action.Connect l host port) may h n i = h n i
 stories_kept b (action.Timer t ms what) may h n i = timer_leaves_blank b t ms what n may h i
+stories_kept b (action.Took owner.Setup l count) may h n i = absurd may
 stories_kept b (action.Took (owner.Try m round) l count) may h n i = others_blank b m n (holds (b.story n) count) h i (mover_is_numbered b m h (taker_moves b m l count may.1))
 stories_kept b (action.Close l) may h n i = h n i
 stories_kept b (action.Write l bytes) may h n i = h n i
+stories_kept b (action.Wait owner.Setup kind) may h n i = absurd may
 stories_kept b (action.Wait (owner.Try m round) kind) may h n i = others_blank b m n (waits (b.story n) kind) h i (open_is_numbered b m h may.1.asked)
+stories_kept b (action.Start l k owner.Setup count len) may h n i = h n i
 stories_kept b (action.Start l k (owner.Try m round) count len) may h n i = others_blank b m n (tried (b.story n) l k) h i (mover_is_numbered b m h (starter_moves b l k m count len may.1))
 stories_kept b (action.Created e) may h n i = h n i
 stories_kept b (action.Outcome m o) may h n i = others_blank b m n (answered (b.story n) o) h i (outcome_is_numbered b m o h may)

@@ -8,8 +8,8 @@ use Rattle.driver_model.specs.declared.action.Cause.TheVariants as cause
 use Rattle.driver_model.specs.declared.action.Owner.TheVariants as owner
 use Rattle.driver_model.specs.declared.config.Config.{Config}
 use Rattle.driver_model.specs.News.{News, silence}
-use Rattle.legal_trace.specs.Ledger.{Ledger, Ending, asks, begins, offers, is_over, ending, ending_up, ending_asked}
-use Rattle.legal_trace.specs.Book.{Book, entered, message_of}
+use Rattle.legal_trace.specs.Ledger.{Ledger, Ending, asks, begins, offers, is_over, ending, ending_alive, ending_asked}
+use Rattle.legal_trace.specs.Book.{Book, entered, info_in, message_of}
 use Rattle.legal_trace.specs.Legal.{MayStand}
 use Rattle.legal_trace.proofs.Ledgers.{mine_keeps}
 use Rattle.legal_trace.proofs.Plain.{not_none}
@@ -44,9 +44,9 @@ opening_kept b (action.Turn k (cause.Event event)) may h = record {
   no_links = λ e. absurd (omega arith);
   not_running = λ e. absurd (omega arith);
   first = λ config word e. absurd (cc e);
-  no_submissions = λ e. absurd (may.is_for.1.written.moved.applied.created.asked e);
+  no_submissions = λ e. absurd (may.is_for.1.written.moved.begun.applied.created.asked e);
   none_yet = λ i. let later : b.turns ≢ 0 = may.is_for.0 in absurd (omega arith);
-  not_shut = λ e. absurd (may.is_for.1.written.moved.applied.created.asked e);
+  not_shut = λ e. absurd (may.is_for.1.written.moved.begun.applied.created.asked e);
   one_link = h.one_link;
 }
 opening_kept b (action.Connect l host port) may h = record {
@@ -59,10 +59,13 @@ opening_kept b (action.Connect l host port) may h = record {
   one_link = let none : b.links ≡ 0 = may.first in omega arith;
 }
 opening_kept b (action.Timer t ms what) may h = h
+opening_kept b (action.Took owner.Setup l count) may h = absurd may
 opening_kept b (action.Took (owner.Try n round) l count) may h = h
 opening_kept b (action.Close l) may h = h
 opening_kept b (action.Write l bytes) may h = h
+opening_kept b (action.Wait owner.Setup kind) may h = absurd may
 opening_kept b (action.Wait (owner.Try n round) kind) may h = h
+opening_kept b (action.Start l k owner.Setup count len) may h = h
 opening_kept b (action.Start l k (owner.Try n round) count len) may h = h
 opening_kept b (action.Created e) may h = h
 opening_kept b (action.Outcome n o) may h = h
@@ -80,7 +83,7 @@ StillAtFirst turns link = turns ≤ 1 → (l : ℕ) → IsStill (link l)
 -- a link that is still doesn't end
 pub still_stays : (l : Ledger) → IsStill l → ending l ≡ None
 still_stays l h =
-    left_if l.up (ending_up l l.heard) (if l.asked && not (is_over l) then ending_asked l.heard else None) h.down
+    left_if l.up (ending_alive l) (if l.asked && not (is_over l) then ending_asked l.heard else None) h.down
     ∙ (ap (λ (x : News). if l.asked && not (is_over l) then ending_asked x else None) h.untold
     ∙ chosen (λ (x : Option Ending). x ≡ None) (l.asked && not (is_over l)) None None (λ t. refl) (λ f. refl))
 
@@ -88,12 +91,15 @@ still_stays l h =
 pub still_kept : (b : Book) (a : Action) → MayStand b a → StillAtFirst b.turns b.link → StillAtFirst (entered b a).turns (entered b a).link
 still_kept b (action.Turn k (cause.Opening config word)) may h = λ i. h (omega arith)
 still_kept b (action.Turn k (cause.Event e)) may h = λ i. let later : b.turns ≢ 0 = may.is_for.0 in absurd (omega arith)
-still_kept b (action.Connect m host port) may h = λ i l. mine_keeps IsStill (m == l) (b.link l) asks (λ t. record { down = (h i l).down; lives = (h i l).lives; untold = (h i l).untold }) (h i l)
+still_kept b (action.Connect m host port) may h = λ i l. mine_keeps IsStill (m == l) (b.link l) (asks (info_in b.config)) (λ t. record { down = (h i l).down; lives = (h i l).lives; untold = (h i l).untold }) (h i l)
 still_kept b (action.Timer t ms what) may h = h
+still_kept b (action.Took owner.Setup l count) may h = absurd may
 still_kept b (action.Took (owner.Try n round) l count) may h = h
 still_kept b (action.Close m) may h = λ i. absurd (not_none (ending (b.link m)) may.why (still_stays (b.link m) (h i m)) may.ends)
 still_kept b (action.Write m bytes) may h = λ i l. mine_keeps IsStill (m == l) (b.link l) (offers bytes) (λ t. record { down = (h i l).down; lives = (h i l).lives; untold = (h i l).untold }) (h i l)
+still_kept b (action.Wait owner.Setup kind) may h = absurd may
 still_kept b (action.Wait (owner.Try n round) kind) may h = h
-still_kept b (action.Start m k (owner.Try n round) count len) may h = λ i l. mine_keeps IsStill (m == l) (b.link l) (begins (message_of b (owner.Try n round))) (λ t. record { down = (h i l).down; lives = (h i l).lives; untold = (h i l).untold }) (h i l)
+still_kept b (action.Start m k owner.Setup count len) may h = λ i l. mine_keeps IsStill (m == l) (b.link l) (begins (message_of b m owner.Setup)) (λ t. record { down = (h i l).down; lives = (h i l).lives; untold = (h i l).untold }) (h i l)
+still_kept b (action.Start m k (owner.Try n round) count len) may h = λ i l. mine_keeps IsStill (m == l) (b.link l) (begins (message_of b m (owner.Try n round))) (λ t. record { down = (h i l).down; lives = (h i l).lives; untold = (h i l).untold }) (h i l)
 still_kept b (action.Created e) may h = h
 still_kept b (action.Outcome n o) may h = h

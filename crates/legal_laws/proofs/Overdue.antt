@@ -1,5 +1,5 @@
 -- Timers of submissions run only on links whose opening didn't fail.
-use Rattle.std.proofs.Common.{◌≡◌, ◌⊎◌, inl, inr, ℕ, zero, suc, ◌-◌, ◌<◌, ◌≤◌, ◌==◌, true, false, List, [], ◌∷◌, ◌++◌, Some, None, sym, ◌∙◌, ap, subst, arith}
+use Rattle.std.proofs.Common.{◌≡◌, ◌⊎◌, inl, inr, ℕ, zero, suc, ◌-◌, ◌<◌, ◌≤◌, ◌==◌, true, false, List, [], ◌∷◌, ◌++◌, Some, None, sym, ◌∙◌, ap, subst, refl, arith}
 use Rattle.std.specs.Prelude.{slice_get}
 use Rattle.containers.proofs.Choices.{chosen, eq_from, not_both}
 use Rattle.redis_error.specs.declared.redis_error.RedisError.{RedisError}
@@ -11,15 +11,17 @@ use Rattle.driver_model.specs.declared.action.Purpose.{Purpose}
 use Rattle.driver_model.specs.declared.event.EventKind.{EventKind}
 use Rattle.driver_model.specs.declared.event.EventKind.TheVariants as event
 use Rattle.driver_model.specs.News.{news_of}
-use Rattle.legal_trace.specs.Ledger.{begins, offers, ends, failure_in}
+use Rattle.legal_trace.specs.Ledger.{begins, offers, ends, failure_in, setup_due}
 use Rattle.legal_trace.specs.Story.{Story, is_open, handed_in, left, holds, clocked, fires, tried, waits, answered}
 use Rattle.legal_trace.specs.Book.{Book, blank_book, book, entered, entered_each, message_of, current, is_clock_of, after_event}
 use Rattle.legal_trace.specs.Legal.{MayTimer, MayTime, MayStand, AllStand, link_of}
 use Rattle.legal_trace.proofs.Ledgers.{mine_keeps}
 use Rattle.legal_laws.proofs.InLine.{follows, submissions_grow}
-use Rattle.legal_trace.proofs.Moves.{mover_is_up, asker_moves}
+use Rattle.legal_trace.proofs.Moves.{mover_is_ready, ready_is_up, ready_is_set, asker_moves}
+use Rattle.legal_trace.proofs.Setups.{set_is_undue, due_is_up}
 use Rattle.legal_laws.proofs.Numbers.{mover_is_numbered}
-use Rattle.legal_laws.proofs.Quiet.{IsQuiet, hears_quiet, ends_quiet}
+use Rattle.legal_laws.proofs.Quiet.{IsQuiet, begins_quiet, ends_quiet}
+use Rattle.legal_laws.proofs.Turned.{turn_quiet}
 use Rattle.legal_laws.proofs.Sound.{Sound, stays_sound, blank_is_sound}
 
 -- one of these timers is that of submission n
@@ -47,15 +49,20 @@ IsOnALink b n = (n < b.submissions) × IsQuiet [] (link_of b n)
 -- a link whose connect is not open and didn't fail stays so, once a submission is there
 quiet_stays : (b : Book) (a : Action) → MayStand b a → Sound b → (b.submissions ≡ 0 → ⊥) → (l : ℕ) → IsQuiet [] (b.link l) → IsQuiet [] ((entered b a).link l)
 quiet_stays b (action.Turn k (cause.Opening config word)) may h some l q = q
-quiet_stays b (action.Turn k (cause.Event e)) may h some l q = hears_quiet [] (b.link l) k (news_of b.timers l e.kind) q
+quiet_stays b (action.Turn k (cause.Event e)) may h some l q = turn_quiet b k e [] l may h q
 quiet_stays b (action.Connect m host port) may h some l q = absurd (some (h.opens.no_submissions may.first))
 quiet_stays b (action.Timer t ms what) may h some l q = q
+quiet_stays b (action.Took owner.Setup m count) may h some l q = absurd may
 quiet_stays b (action.Took (owner.Try n round) m count) may h some l q = q
 quiet_stays b (action.Close m) may h some l q = mine_keeps (IsQuiet []) (m == l) (b.link l) (ends (b.turns - 1)) (λ t. ends_quiet [] (b.link l) (b.turns - 1) q) q
 quiet_stays b (action.Write m bytes) may h some l q = mine_keeps (IsQuiet []) (m == l) (b.link l) (offers bytes) (λ t. record { quiet = q.quiet; tells = q.tells }) q
+quiet_stays b (action.Wait owner.Setup kind) may h some l q = absurd may
 quiet_stays b (action.Wait (owner.Try n round) kind) may h some l q = q
+quiet_stays b (action.Start m k owner.Setup count len) may h some l q =
+    mine_keeps (IsQuiet []) (m == l) (b.link l) (begins (message_of b m owner.Setup))
+    (λ t. absurd (let due : setup_due (b.link l) ≡ Some may.k = ap (λ j. setup_due (b.link j)) (sym (eq_from m l t)) ∙ may.due in set_is_undue (b.link l) may.k (q.quiet.1 (due_is_up (b.link l) may.k due)) due)) q
 quiet_stays b (action.Start m k (owner.Try n round) count len) may h some l q =
-    mine_keeps (IsQuiet []) (m == l) (b.link l) (begins (message_of b (owner.Try n round))) (λ t. record { quiet = q.quiet; tells = q.tells }) q
+    mine_keeps (IsQuiet []) (m == l) (b.link l) (begins (message_of b m (owner.Try n round))) (λ t. begins_quiet [] (b.link l) (message_of b m (owner.Try n round)) refl q) q
 quiet_stays b (action.Created e) may h some l q = q
 quiet_stays b (action.Outcome n o) may h some l q = q
 
@@ -76,10 +83,11 @@ pub record TimesRun (b : Book) : Type 0 where
 -- whose timer is asked for now is on one that is up
 asker_on_a_link : (b : Book) (t ms : ℕ) (what : Purpose) → Sound b → (may : MayTime b t ms what) → IsOnALink b may.n
 asker_on_a_link b t ms what h may =
-    let up = mover_is_up b may.n (asker_moves b t ms what may) in (
+    let ready = mover_is_ready b may.n (asker_moves b t ms what may) in
+    let up = ready_is_up (link_of b may.n) ready in (
       mover_is_numbered b may.n h.stories (asker_moves b t ms what may),
       record {
-        quiet = λ asked down lives. not_both (link_of b may.n).up down up;
+        quiet = (λ asked down lives. not_both (link_of b may.n).up down up, λ is_up. ready_is_set (link_of b may.n) ready);
         tells = λ e fails. absurd (let x : failure_in None ≡ Some e = sym (ap failure_in (h.up (b.story may.n).link up)) ∙ fails in cc x);
       },
     )
@@ -129,10 +137,13 @@ over_before b (action.Turn k (cause.Opening config word)) n = λ e. inl e
 over_before b (action.Turn k (cause.Event e)) n = event_over b n e.kind
 over_before b (action.Connect m host port) n = λ e. inl e
 over_before b (action.Timer t ms what) n = chosen (WasOver b n) (is_clock_of n (Some what)) (clocked (b.story n) t) (b.story n) (λ c e. inl e) (λ f e. inl e)
+over_before b (action.Took owner.Setup l count) n = λ e. inl e
 over_before b (action.Took (owner.Try m round) l count) n = chosen (WasOver b n) (m == n) (holds (b.story n) count) (b.story n) (λ t e. inl e) (λ f e. inl e)
 over_before b (action.Close m) n = λ e. inl e
 over_before b (action.Write m bytes) n = λ e. inl e
+over_before b (action.Wait owner.Setup kind) n = λ e. inl e
 over_before b (action.Wait (owner.Try m round) kind) n = chosen (WasOver b n) (m == n) (waits (b.story n) kind) (b.story n) (λ t e. inl e) (λ f e. inl e)
+over_before b (action.Start l k owner.Setup count len) n = λ e. inl e
 over_before b (action.Start l k (owner.Try m round) count len) n = chosen (WasOver b n) (m == n) (tried (b.story n) l k) (b.story n) (λ t e. inl e) (λ f e. inl e)
 over_before b (action.Created x) n = λ e. inl e
 over_before b (action.Outcome m o) n = chosen (WasOver b n) (m == n) (answered (b.story n) o) (b.story n) (λ t e. inl e) (λ f e. inl e)

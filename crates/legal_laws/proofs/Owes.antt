@@ -8,9 +8,9 @@ use Rattle.driver_model.specs.declared.outcome.Outcome.{Outcome}
 use Rattle.driver_model.specs.declared.outcome.Outcome.TheVariants as outcome
 use Rattle.driver_model.specs.declared.outcome.Shape.{Shape}
 use Rattle.driver_model.specs.Shape.{need_of, outcome_of, verdict_of}
-use Rattle.legal_trace.specs.Ledger.{Ledger, Start, End, begins, noted, reach}
+use Rattle.legal_trace.specs.Ledger.{Ledger, Start, End, begins, noted, reach, is_full, cut}
 use Rattle.legal_trace.specs.Story.{Story, Try, bytes_of, shape, last_of}
-use Rattle.legal_trace.specs.Owed.{owed_to_try, owed_to_message, owed_unstarted, cut_off_if, is_full, cut}
+use Rattle.legal_trace.specs.Owed.{owed_to_try, owed_to_message, owed_unstarted, cut_off_if}
 use Rattle.legal_trace.specs.Book.{Book}
 use Rattle.legal_trace.proofs.Ledgers.{FewAreDealt, reach_more, takes_one}
 

@@ -1,30 +1,32 @@
 -- Links whose connect is answered: no opening of theirs fails any more, and none that failed is forgotten.
-use Rattle.std.proofs.Common.{◌≡◌, ℕ, true, false, ◌&&◌, not, List, [], ◌∷◌, Option, Some, None, if◌then◌else◌, refl}
+use Rattle.std.proofs.Common.{◌≡◌, ℕ, true, false, ◌&&◌, not, List, [], ◌∷◌, Option, Some, None, if◌then◌else◌, ◌++◌, take, refl, sym, subst}
 use Rattle.std.proofs.lemmas.Bool.{not-true}
-use Rattle.containers.proofs.Choices.{chosen, both_left, both_right}
+use Rattle.containers.proofs.Choices.{by_test, chosen, taken_if, both_left, both_right}
 use Rattle.redis_error.specs.declared.redis_error.RedisError.{RedisError}
 use Rattle.redis_error.specs.declared.redis_error.RedisError.TheVariants as error
 use Rattle.driver_model.specs.declared.news.LinkFault.TheVariants as fault
 use Rattle.driver_model.specs.News.{News, silence, connected, refused, overdue, took, came, failed, shut}
 use Rattle.resp_read.specs.Values.{is_spoiled}
-use Rattle.legal_trace.specs.Ledger.{Ledger, Line, End, Ending, by_fault, asks, hears, begins, offers, ends, noted, noted_each, with_news, refused_in, bytes_came, is_over, dials, ending, ending_up, ending_asked, ending_or_shutdown, failure_of, failure_in, MayNote, AllNoted}
+use Rattle.legal_trace.specs.Ledger.{Ledger, Line, Start, End, Ending, is_of_setup, is_set_up, setup_result, error_in, ending_by, ending_unready, ending_alive, by_fault, asks, hears, begins, offers, ends, noted, noted_each, with_news, refused_in, bytes_came, is_over, dials, ending, ending_up, ending_asked, ending_or_shutdown, failure_of, failure_in, MayNote, AllNoted}
 use Rattle.legal_trace.proofs.Ledgers.{dials_from, UpIsNotOver, up_keeps}
 use Rattle.legal_trace.proofs.Plain.{none_from, not_none}
+use Rattle.legal_trace.proofs.Setups.{AreSetups, set_came, set_begins}
 
--- its connect is not open: it was not asked for, is up, or has ended
+-- its opening is over: its connect is not open, since it was not asked for, is up, or has ended; and where it is up it is set up
 abbrev pub Quiet : Ledger → Type 0
-Quiet l = l.asked ≡ true → l.up ≡ false → l.end ≡ None → ⊥
+Quiet l = (l.asked ≡ true → l.up ≡ false → l.end ≡ None → ⊥) × (l.up ≡ true → is_set_up l ≡ true)
 
--- news leave it so
-quiet_hears : (l : Ledger) (turn : ℕ) (news : News) → Quiet l → Quiet (with_news l turn news)
-quiet_hears l turn silence h = h
-quiet_hears l turn connected h = chosen Quiet (is_over l) l (record l { up = true }) (λ t. h) (λ e a u n. absurd (cc u))
-quiet_hears l turn (refused f) h = chosen Quiet (dials l) (refused_in l turn (error.Io f)) l (λ t a u n. absurd (cc n)) (λ e. h)
-quiet_hears l turn overdue h = h
-quiet_hears l turn (took count) h = chosen Quiet l.up _ l (λ t. h) (λ e. h)
-quiet_hears l turn (came piece) h = chosen Quiet l.up (bytes_came l piece) l (λ t. h) (λ e. h)
-quiet_hears l turn (failed f) h = h
-quiet_hears l turn shut h = h
+-- news leave it so where it was asked for
+quiet_hears : (l : Ledger) (turn : ℕ) (news : News) → l.asked ≡ true → AreSetups l → Quiet l → Quiet (with_news l turn news)
+quiet_hears l turn silence asked shaped h = h
+quiet_hears l turn connected asked shaped h = chosen Quiet (is_over l) l (record l { up = true }) (λ t. h)
+    (λ e. (λ a u n. absurd (cc u), λ u. by_test l.up (is_set_up l ≡ true) h.1 (λ down. absurd (h.0 asked down (none_from l.end e)))))
+quiet_hears l turn (refused f) asked shaped h = chosen Quiet (dials l) (refused_in l turn (error.Io f)) l (λ t. (λ a u n. absurd (cc n), h.1)) (λ e. h)
+quiet_hears l turn overdue asked shaped h = h
+quiet_hears l turn (took count) asked shaped h = chosen Quiet l.up (record l { taken = l.taken ++ take count l.offer; offer = [] }) l (λ t. h) (λ e. h)
+quiet_hears l turn (came piece) asked shaped h = chosen Quiet l.up (bytes_came l piece) l (λ t. (h.0, λ u. set_came l piece shaped (h.1 u))) (λ e. h)
+quiet_hears l turn (failed f) asked shaped h = h
+quiet_hears l turn shut asked shaped h = h
 
 -- no opening fails by these
 abbrev NoFailure : Option Ending → Type 0
@@ -44,10 +46,10 @@ up_fails_not l shut = refl
 -- nor is what ends one whose connect is not open
 quiet_fails_not : (l : Ledger) → Quiet l → NoFailure (ending l)
 quiet_fails_not l h =
-    chosen NoFailure l.up (ending_up l l.heard) (if l.asked && not (is_over l) then ending_asked l.heard else None)
-    (λ t. up_fails_not l l.heard)
+    chosen NoFailure l.up (ending_alive l) (if l.asked && not (is_over l) then ending_asked l.heard else None)
+    (λ t. subst NoFailure (sym (taken_if (is_set_up l) (ending_up l l.heard) (ending_by (error_in (setup_result l)) (ending_unready l l.heard)) (h.1 t))) (up_fails_not l l.heard))
     (λ down. chosen NoFailure (l.asked && not (is_over l)) (ending_asked l.heard) None
-    (λ t. absurd (h (both_left l.asked (not (is_over l)) t) down (none_from l.end (not-true (is_over l) (both_right l.asked (not (is_over l)) t)))))
+    (λ t. absurd (h.0 (both_left l.asked (not (is_over l)) t) down (none_from l.end (not-true (is_over l) (both_right l.asked (not (is_over l)) t)))))
     (λ f. refl))
 
 -- its connect is not open, and if its opening failed, this is what was shown
@@ -64,7 +66,7 @@ tells_hears shown l turn silence h = h.tells
 tells_hears shown l turn connected h = chosen (Tells shown) (is_over l) l (record l { up = true }) (λ t. h.tells) (λ e. h.tells)
 tells_hears shown l turn (refused f) h =
     chosen (Tells shown) (dials l) (refused_in l turn (error.Io f)) l
-    (λ t. let open_still = dials_from l t in absurd (h.quiet open_still.0 open_still.1 (none_from l.end open_still.2)))
+    (λ t. let open_still = dials_from l t in absurd (h.quiet.0 open_still.0 open_still.1 (none_from l.end open_still.2)))
     (λ e. h.tells)
 tells_hears shown l turn overdue h = h.tells
 tells_hears shown l turn (took count) h = chosen (Tells shown) l.up _ l (λ t. h.tells) (λ e. h.tells)
@@ -73,20 +75,24 @@ tells_hears shown l turn (failed f) h = h.tells
 tells_hears shown l turn shut h = h.tells
 
 -- so it stays with a turn
-pub hears_quiet : (shown : List (Option RedisError)) (l : Ledger) (turn : ℕ) (news : News) → IsQuiet shown l → IsQuiet shown (noted l (hears turn news))
-hears_quiet shown l turn news h = record { quiet = quiet_hears l turn news h.quiet; tells = tells_hears shown l turn news h }
+pub hears_quiet : (shown : List (Option RedisError)) (l : Ledger) (turn : ℕ) (news : News) → l.asked ≡ true → AreSetups l → IsQuiet shown l → IsQuiet shown (noted l (hears turn news))
+hears_quiet shown l turn news asked shaped h = record { quiet = quiet_hears l turn news asked shaped h.quiet; tells = tells_hears shown l turn news h }
 
 -- and with its end
 pub ends_quiet : (shown : List (Option RedisError)) (l : Ledger) (turn : ℕ) → IsQuiet shown l → IsQuiet shown (noted l (ends turn))
 ends_quiet shown l turn h = record {
-  quiet = λ a u n. absurd (cc n);
+  quiet = (λ a u n. absurd (cc n), λ u. absurd (cc u));
   tells = λ e fails. absurd (not_none (failure_of (ending_or_shutdown (ending l))) e (quiet_fails_not l h.quiet) fails);
 }
+
+-- with the message of a request
+pub begins_quiet : (shown : List (Option RedisError)) (l : Ledger) (s : Start) → is_of_setup s.owner ≡ false → IsQuiet shown l → IsQuiet shown (noted l (begins s))
+begins_quiet shown l s request h = record { quiet = (h.quiet.0, λ u. set_begins l s request (h.quiet.1 u)); tells = h.tells }
 
 -- what has ended ends no second time
 over_stays : (l : Ledger) (end : End) → UpIsNotOver l → l.end ≡ Some end → ending l ≡ None
 over_stays l end h over =
-    chosen (λ (x : Option Ending). x ≡ None) l.up (ending_up l l.heard) (if l.asked && not (is_over l) then ending_asked l.heard else None)
+    chosen (λ (x : Option Ending). x ≡ None) l.up (ending_alive l) (if l.asked && not (is_over l) then ending_asked l.heard else None)
     (λ t. absurd (not_none l.end end (h t) over))
     (λ down. chosen (λ (x : Option Ending). x ≡ None) (l.asked && not (is_over l)) (ending_asked l.heard) None
     (λ t. absurd (not_none l.end end (none_from l.end (not-true (is_over l) (both_right l.asked (not (is_over l)) t))) over))
@@ -117,7 +123,7 @@ failed_hears e l turn shut h = h
 
 -- with any line that may stand
 failed_noted : (e : RedisError) (l : Ledger) (x : Line) → MayNote l x → UpIsNotOver l → FailedWith e l → FailedWith e (noted l x)
-failed_noted e l asks may up h = h
+failed_noted e l (asks info) may up h = h
 failed_noted e l (hears turn news) may up h = failed_hears e l turn news h
 failed_noted e l (begins s) may up h = h
 failed_noted e l (offers bytes) may up h = h

@@ -1,5 +1,5 @@
 -- In which order things are due: each action has a rank, and what comes later asks that all before it is done.
-use Rattle.std.proofs.Common.{◌≡◌, ◌≢◌, ◌⊎◌, inl, inr, ℕ, zero, suc, ◌<◌, ◌≤◌, ◌==◌, nat_lt, Bool, true, false, List, [], Option, Some, None, refl, sym, ◌∙◌, subst, ap, arith}
+use Rattle.std.proofs.Common.{◌≡◌, ◌≢◌, ◌⊎◌, inl, inr, ℕ, zero, suc, ◌<◌, ◌≤◌, ◌==◌, nat_lt, Bool, true, false, List, [], Option, Some, None, is_some, refl, sym, ◌∙◌, subst, ap, arith}
 use Rattle.containers.proofs.Choices.{by_test, eq_from, ne_from, lt_from, not_lt_from, not_both}
 use Rattle.redis_error.specs.declared.redis_error.RedisError.{RedisError}
 use Rattle.driver_model.specs.declared.action.Action.{Action}
@@ -13,9 +13,9 @@ use Rattle.driver_model.specs.Config.{connect_timeout}
 use Rattle.legal_trace.specs.Ledger.{End, Ending, is_over, IsOffered, ending}
 use Rattle.legal_trace.specs.Story.{Try, last_of}
 use Rattle.legal_trace.specs.Book.{Book}
-use Rattle.legal_trace.specs.Steps.{next_step}
-use Rattle.legal_trace.specs.Legal.{MayStand, MayTimer, MayAnswer, MayTell, MayWrite, MayWait, MayShowCreation, IsOpen, link_of, NoneIsOwed, VerdictsAreShown, NoneEnds, FailuresAreShown, IsTimed, IsCreated, IsApplied, IsMoved, IsWritten, IsSettled, IsStarted, IsWaiting, CanMove}
-use Rattle.legal_trace.proofs.Moves.{teller_moves, starter_moves, taker_moves, asker_moves, same_kind}
+use Rattle.legal_trace.specs.Steps.{is_held_back, next_step}
+use Rattle.legal_trace.specs.Legal.{MayStand, MayTimer, MayAnswer, MayTell, MayWrite, MayWait, MayShowCreation, IsOpen, link_of, NoneIsOwed, VerdictsAreShown, NoneEnds, FailuresAreShown, ReadyIsShown, SetupsAreStarted, IsTimed, IsApplied, IsBegun, IsMoved, IsWritten, IsSettled, IsStarted, IsWaiting, CanMove}
+use Rattle.legal_trace.proofs.Moves.{teller_moves, starter_moves, taker_moves, asker_moves, same_kind, ready_is_up}
 use Rattle.legal_laws.proofs.Numbers.{up_is_numbered, over_is_numbered, open_is_numbered, unasked_stays}
 use Rattle.legal_laws.proofs.Opens.{still_stays}
 use Rattle.legal_laws.proofs.Quiet.{failed_is_over}
@@ -26,37 +26,39 @@ use Rattle.legal_laws.proofs.Sound.{Sound}
 -- the outcomes that are owed: what values gave, where the link has not ended, and then the others
 abbrev pub answer_rank : Bool → ℕ
 answer_rank false = 3
-answer_rank true = 6
+answer_rank true = 7
 
--- the creation: that an opening failed comes before the outcomes that it gives
+-- the creation: that a link is ready comes before the closes, and that an opening failed behind them, and before the outcomes
+-- that it gives
 abbrev pub creation_rank : Option RedisError → ℕ
-creation_rank (Some e) = 5
-creation_rank None = 7
+creation_rank (Some e) = 6
+creation_rank None = 4
 
 -- these come before one that is told at its place
 abbrev pub outcome_rank : (b : Book) (n : ℕ) (o : Outcome) → MayAnswer b n o ⊎ MayTell b n o → ℕ
 outcome_rank b n o (inl owed) = answer_rank (is_over (link_of b n))
-outcome_rank b n o (inr told) = 8
+outcome_rank b n o (inr told) = 9
 
 -- the timer of the opening is of its second, and one of a submission of the passes
 abbrev pub timer_rank : (b : Book) (t ms : ℕ) (what : Purpose) → MayTimer b t ms what → ℕ
 timer_rank b t ms what (inl opening) = 2
-timer_rank b t ms what (inr response) = 8
+timer_rank b t ms what (inr response) = 9
 
--- the opening, its connect and its timer, the outcomes of links that have not ended, the closes, the creation that failed,
--- the other outcomes that are owed, the creation, the passes, the writes, the waits, and the next event
+-- the opening, its connect and its timer, the outcomes of links that have not ended, the creation, the closes, the creation
+-- that failed, the other outcomes that are owed, the setups, the passes, the writes, the waits, and the next event
 abbrev pub rank : (b : Book) (a : Action) → MayStand b a → ℕ
 rank b (action.Turn k (cause.Opening config word)) may = 0
 rank b (action.Connect l host port) may = 1
 rank b (action.Timer t ms what) may = timer_rank b t ms what may
-rank b (action.Took who l count) may = 8
+rank b (action.Took who l count) may = 9
 rank b (action.Outcome n o) may = outcome_rank b n o may
-rank b (action.Close l) may = 4
+rank b (action.Close l) may = 5
 rank b (action.Created e) may = creation_rank e
-rank b (action.Start l k who count len) may = 8
-rank b (action.Write l bytes) may = 9
-rank b (action.Wait who kind) may = 10
-rank b (action.Turn k (cause.Event e)) may = 11
+rank b (action.Start l k owner.Setup count len) may = 8
+rank b (action.Start l k (owner.Try n round) count len) may = 9
+rank b (action.Write l bytes) may = 10
+rank b (action.Wait who kind) may = 11
+rank b (action.Turn k (cause.Event e)) may = 12
 
 -- an outcome that is owed comes before the passes
 pub answer_first : (over : Bool) → answer_rank over < 8
@@ -74,14 +76,15 @@ Step zero b = b.turns ≢ 0
 Step (suc zero) b = b.links ≢ 0
 Step (suc (suc zero)) b = IsTimed b
 Step (suc (suc (suc zero))) b = VerdictsAreShown b
-Step (suc (suc (suc (suc zero)))) b = NoneEnds b
-Step (suc (suc (suc (suc (suc zero))))) b = FailuresAreShown b
-Step (suc (suc (suc (suc (suc (suc zero)))))) b = NoneIsOwed b
-Step (suc (suc (suc (suc (suc (suc (suc zero))))))) b = IsCreated b
-Step (suc (suc (suc (suc (suc (suc (suc (suc zero)))))))) b = (n : ℕ) → CanMove b n → ⊥
-Step (suc (suc (suc (suc (suc (suc (suc (suc (suc zero))))))))) b = (l : ℕ) → (b.link l).up ≡ true → IsOffered (b.link l)
-Step (suc (suc (suc (suc (suc (suc (suc (suc (suc (suc zero)))))))))) b = (n : ℕ) → IsOpen b n → IsStarted b n ⊎ IsWaiting b n
-Step (suc (suc (suc (suc (suc (suc (suc (suc (suc (suc (suc more))))))))))) b = ⊥
+Step (suc (suc (suc (suc zero)))) b = ReadyIsShown b
+Step (suc (suc (suc (suc (suc zero))))) b = NoneEnds b
+Step (suc (suc (suc (suc (suc (suc zero)))))) b = FailuresAreShown b
+Step (suc (suc (suc (suc (suc (suc (suc zero))))))) b = NoneIsOwed b
+Step (suc (suc (suc (suc (suc (suc (suc (suc zero)))))))) b = SetupsAreStarted b
+Step (suc (suc (suc (suc (suc (suc (suc (suc (suc zero))))))))) b = (n : ℕ) → CanMove b n → ⊥
+Step (suc (suc (suc (suc (suc (suc (suc (suc (suc (suc zero)))))))))) b = (l : ℕ) → (b.link l).up ≡ true → IsOffered (b.link l)
+Step (suc (suc (suc (suc (suc (suc (suc (suc (suc (suc (suc zero))))))))))) b = (n : ℕ) → IsOpen b n → IsStarted b n ⊎ IsWaiting b n
+Step (suc (suc (suc (suc (suc (suc (suc (suc (suc (suc (suc (suc more)))))))))))) b = ⊥
 
 -- all below this rank is done
 abbrev pub Reached : ℕ → Book → Type 0
@@ -123,7 +126,7 @@ outcome_not_done b n o (inr told) h = h n (teller_moves b n o told)
 
 -- the creation that may be shown is due
 creation_not_done : (b : Book) (e : Option RedisError) → MayShowCreation b e → Step (creation_rank e) b → ⊥
-creation_not_done b None may h = h.shown may.l may.up may.once
+creation_not_done b None may h = h may.l may.ready may.once
 creation_not_done b (Some e) may h = h may.l e may.fails may.once
 
 -- a timer that may be asked for is due
@@ -136,12 +139,15 @@ pub not_done : (b : Book) (a : Action) (may : MayStand b a) → Step (rank b a m
 not_done b (action.Turn k (cause.Opening config word)) may h = h may.is_for
 not_done b (action.Connect l host port) may h = h may.first
 not_done b (action.Timer t ms what) may h = timer_not_done b t ms what may h
+not_done b (action.Took owner.Setup l count) may h = absurd may
 not_done b (action.Took (owner.Try n round) l count) may h = h n (taker_moves b n l count may.1)
 not_done b (action.Outcome n o) may h = outcome_not_done b n o may h
 not_done b (action.Close l) may h = not_none (ending (b.link l)) may.why (h l) may.ends
 not_done b (action.Created e) may h = creation_not_done b e may h
+not_done b (action.Start l k owner.Setup count len) may h = not_both (is_held_back b (b.link l)) may.free (h l may.k may.due)
 not_done b (action.Start l k (owner.Try n round) count len) may h = h n (starter_moves b l k n count len may.1)
 not_done b (action.Write l bytes) may h = not_offered b l bytes may (h l may.up)
+not_done b (action.Wait owner.Setup kind) may h = absurd may
 not_done b (action.Wait (owner.Try n round) kind) may h = not_gone b n kind may.1 (h n may.1.asked)
 not_done b (action.Turn k (cause.Event e)) may h = h
 
@@ -160,18 +166,22 @@ verdicts b none n o e = none n o
 -- what is done where the event has had its effect
 pub applied : (b : Book) → Sound b → IsApplied b → Reached 8 b
 applied b h done =
-    (done.created, (done.answered, (done.created.failed, (done.ended, (verdicts b done.answered, (done.timed, linked b h done.created.asked))))))
+    (done.answered, (done.created.failed, (done.ended, (done.created.shown, (verdicts b done.answered, (done.timed, linked b h done.created.asked))))))
+
+-- where setups have started
+pub begun_all : (b : Book) → Sound b → IsBegun b → Reached 9 b
+begun_all b h done = (done.setups, applied b h done.applied)
 
 -- where all messages have started
-pub moved : (b : Book) → Sound b → IsMoved b → Reached 9 b
-moved b h done = (done.moved, applied b h done.applied)
+pub moved : (b : Book) → Sound b → IsMoved b → Reached 10 b
+moved b h done = (done.moved, begun_all b h done.begun)
 
 -- where all is written
-pub written : (b : Book) → Sound b → IsWritten b → Reached 10 b
+pub written : (b : Book) → Sound b → IsWritten b → Reached 11 b
 written b h done = (done.offered, moved b h done.moved)
 
 -- where the turn is settled
-pub settled : (b : Book) → Sound b → IsSettled b → Reached 11 b
+pub settled : (b : Book) → Sound b → IsSettled b → Reached 12 b
 settled b h done = (done.goes, written b h done.written)
 
 -- where a submission is open, an event came
@@ -198,37 +208,50 @@ end_is_begun b l why h ends =
     begun b h (λ e. not_none (ending (b.link l)) why (unasked_stays (b.link l) (h.links.unasked l (omega arith))) ends)
     (λ early. not_none (ending (b.link l)) why (still_stays (b.link l) (h.still early l)) ends)
 
+-- where a link is up, none has ended, since there is one link
+pub none_over : (b : Book) (l m : ℕ) (end : End) → Sound b → (b.link l).up ≡ true → (b.link m).end ≡ Some end → ⊥
+none_over b l m end h up over =
+    let i : l < b.links = up_is_numbered b l h.links up in
+    let j : m < b.links = over_is_numbered b m end h.links over in
+    let one : b.links ≤ 1 = h.opens.one_link in
+    let same : l ≡ m = omega arith in
+    not_none (b.link m).end end (h.up m (subst (λ k. (b.link k).up ≡ true) same up)) over
+
+-- so no opening failed
+pub none_failed : (b : Book) (l : ℕ) → Sound b → (b.link l).up ≡ true → FailuresAreShown b
+none_failed b l h up m e fails created = let over = failed_is_over (b.link m).end e fails in none_over b l m over.0 h up over.1
+
+-- and where a link has ended, none is ready
+none_ready : (b : Book) (m : ℕ) (end : End) → Sound b → (b.link m).end ≡ Some end → ReadyIsShown b
+none_ready b m end h over l ready created = none_over b l m end h (ready_is_up (b.link l) ready) over
+
+-- an end that some is
+some_end : (o : Option End) → is_some o ≡ true → (end : End) × (o ≡ Some end)
+some_end None e = absurd (cc e)
+some_end (Some end) e = (end, refl)
+
 -- all before an outcome that is owed is done
 answer_reached : (b : Book) (n : ℕ) (o : Outcome) (over : Bool) → is_over (link_of b n) ≡ over → MayAnswer b n o → Sound b → Reached (answer_rank over) b
 answer_reached b n o false e may h = open_is_begun b n h may.asked
-answer_reached b n o true e may h = ((may.after_closes e).2, ((may.after_closes e).0, ((may.after_closes e).1, open_is_begun b n h may.asked)))
-
--- where a link is up, no opening failed, since there is one link
-pub none_failed : (b : Book) (l : ℕ) → Sound b → (b.link l).up ≡ true → FailuresAreShown b
-none_failed b l h up m e fails created =
-    let over = failed_is_over (b.link m).end e fails in
-    let i : l < b.links = up_is_numbered b l h.links up in
-    let j : m < b.links = over_is_numbered b m over.0 h.links over.1 in
-    let one : b.links ≤ 1 = h.opens.one_link in
-    let same : l ≡ m = omega arith in
-    not_none (b.link m).end over.0 (h.up m (subst (λ k. (b.link k).up ≡ true) same up)) over.1
+answer_reached b n o true e may h =
+    let end = some_end (link_of b n).end e in
+    ((may.after_closes e).2, ((may.after_closes e).0, (none_ready b (b.story n).link end.0 h end.1, ((may.after_closes e).1, open_is_begun b n h may.asked))))
 
 -- all before the creation
 creation_reached : (b : Book) (e : Option RedisError) → MayShowCreation b e → Sound b → Reached (creation_rank e) b
-creation_reached b None may h =
-    (may.answered, (none_failed b may.l h may.up, (may.ended, (verdicts b may.answered, up_is_begun b may.l h may.up))))
+creation_reached b None may h = (may.answered, up_is_begun b may.l h (ready_is_up (b.link may.l) may.ready))
 creation_reached b (Some e) may h =
-    let over = failed_is_over (b.link may.l).end e may.fails in (may.ended, (may.answered, over_is_begun b may.l over.0 h over.1))
+    let over = failed_is_over (b.link may.l).end e may.fails in (may.ended, (none_ready b may.l over.0 h over.1, (may.answered, over_is_begun b may.l over.0 h over.1)))
 
 -- and before any outcome
 outcome_reached : (b : Book) (n : ℕ) (o : Outcome) (may : MayAnswer b n o ⊎ MayTell b n o) → Sound b → Reached (outcome_rank b n o may) b
 outcome_reached b n o (inl owes) h = answer_reached b n o (is_over (link_of b n)) refl owes h
-outcome_reached b n o (inr told) h = applied b h told.applied
+outcome_reached b n o (inr told) h = begun_all b h told.begun
 
 -- before any timer
 timer_reached : (b : Book) (t ms : ℕ) (what : Purpose) (may : MayTimer b t ms what) → Sound b → Reached (timer_rank b t ms what may) b
 timer_reached b t ms what (inl may) h = linked b h may.asked
-timer_reached b t ms what (inr may) h = applied b h may.applied
+timer_reached b t ms what (inr may) h = begun_all b h may.begun
 
 -- where an action may stand, all below its rank is done
 pub reached : (b : Book) (a : Action) (may : MayStand b a) → Sound b → Reached (rank b a may) b
@@ -236,11 +259,14 @@ reached b (action.Turn k (cause.Opening config word)) may h = tt
 reached b (action.Connect l host port) may h = (λ e. not_none b.running (cause.Opening may.config may.word) (h.opens.not_running e) may.opens, tt)
 reached b (action.Outcome n o) may h = outcome_reached b n o may h
 reached b (action.Timer t ms what) may h = timer_reached b t ms what may h
-reached b (action.Took (owner.Try n round) l count) may h = applied b h may.1.applied
-reached b (action.Close l) may h = (may.answered, end_is_begun b l may.why h may.ends)
+reached b (action.Took owner.Setup l count) may h = absurd may
+reached b (action.Took (owner.Try n round) l count) may h = begun_all b h may.1.begun
+reached b (action.Close l) may h = (may.created, (may.answered, end_is_begun b l may.why h may.ends))
 reached b (action.Created e) may h = creation_reached b e may h
-reached b (action.Start l k (owner.Try n round) count len) may h = applied b h may.1.applied
+reached b (action.Start l k owner.Setup count len) may h = applied b h may.applied
+reached b (action.Start l k (owner.Try n round) count len) may h = begun_all b h may.1.begun
 reached b (action.Write l bytes) may h = moved b h may.moved
+reached b (action.Wait owner.Setup kind) may h = absurd may
 reached b (action.Wait (owner.Try n round) kind) may h = written b h may.1.written
 reached b (action.Turn k (cause.Event e)) may h = settled b h may.is_for.1
 

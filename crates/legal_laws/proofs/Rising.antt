@@ -55,7 +55,7 @@ first_to_start b l k m count len sound seated may n i e =
     let s = starts_mean b m may.starts in
     let inside : is_outside b n ≡ false = inside_before b n m same i (starter_inside b l k m count len sound seated may) in
     let dialing : dials (link_of b n) ≡ false = ap (λ x. dials (b.link x)) same ∙ s.0 in
-    let up : (link_of b n).up ≡ true = ap (λ x. (b.link x).up) same ∙ s.1 in
+    let up : is_ready (link_of b n) ≡ true = ap (λ x. is_ready (b.link x)) same ∙ s.1 in
     let free : is_held_back b (link_of b n) ≡ false = ap (λ x. is_held_back b (b.link x)) same ∙ s.2 in
     let due : is_due (next_step b n) ≡ true = by_test (is_told (b.story n)) (is_due (next_step b n) ≡ true) (told_is_due b n dialing up free)
     (λ untold. free_is_due b n dialing up free untold (holds_before b l k m count len sound seated may n i (subst (λ x. is_to_start x (b.story n) ≡ true) may.on_its_link e) untold) inside) in

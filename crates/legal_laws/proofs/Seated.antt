@@ -127,13 +127,13 @@ holds_like None p q h more = refl
 holds_like (Some k) p q h more = lt_test 0 q (more (lt_from 0 p h))
 
 -- before one that makes a step and holds its permits, all that are to start on its link are admitted
-admitted_before : (b : Book) (n : ℕ) → HoldersInOrder b → n < b.submissions → dials (link_of b n) ≡ false → (link_of b n).up ≡ true → holds_some (permits_in b.config) (b.story n).permits ≡ true
+admitted_before : (b : Book) (n : ℕ) → HoldersInOrder b → n < b.submissions → dials (link_of b n) ≡ false → is_ready (link_of b n) ≡ true → holds_some (permits_in b.config) (b.story n).permits ≡ true
     → ((m : ℕ) → m < n → CanMove b m → ⊥) → (m : ℕ) → m < n → is_to_start (b.story n).link (b.story m) ≡ true → is_admitted (permits_in b.config) (b.story m) ≡ true
 admitted_before b n holders i d u p first m j t =
     let same : (b.story m).link ≡ (b.story n).link = eq_from (b.story m).link (b.story n).link (both_left ((b.story m).link == (b.story n).link) (is_unstarted (b.story m)) t) in
     let unstarted : is_unstarted (b.story m) ≡ true = both_right ((b.story m).link == (b.story n).link) (is_unstarted (b.story m)) t in
     let dialing : dials (link_of b m) ≡ false = ap (λ x. dials (b.link x)) same ∙ d in
-    let up : (link_of b m).up ≡ true = ap (λ x. (b.link x).up) same ∙ u in
+    let up : is_ready (link_of b m) ≡ true = ap (λ x. is_ready (b.link x)) same ∙ u in
     by_test (is_told (b.story m)) (is_admitted (permits_in b.config) (b.story m) ≡ true)
     (λ told. first_holds (is_told (b.story m)) (is_let_in (permits_in b.config) (b.story m)) told)
     (λ untold.
@@ -169,12 +169,15 @@ seated_kept b (action.Turn k (cause.Event e)) may sound holders h = λ n i u t. 
 seated_kept b (action.Connect l host port) may sound holders h = kept_by b (action.Connect l host port) may refl (unchanged b (action.Connect l host port) (λ n t. t)) h
 seated_kept b (action.Timer w ms what) may sound holders h =
     kept_by b (action.Timer w ms what) may refl (unchanged b (action.Timer w ms what) (λ n. chosen (λ s. is_told s ≡ true → is_told (b.story n) ≡ true) (is_clock_of n (Some what)) (clocked (b.story n) w) (b.story n) (λ e t. t) (λ f t. t))) h
+seated_kept b (action.Took owner.Setup l count) may sound holders h = absurd may
 seated_kept b (action.Took (owner.Try m round) l count) may sound holders h =
     kept_by b (action.Took (owner.Try m round) l count) may refl (unchanged b (action.Took (owner.Try m round) l count) (λ n. chosen (λ s. is_told s ≡ true → is_told (b.story n) ≡ true) (m == n) (holds (b.story n) count) (b.story n) (λ e t. t) (λ f t. t))) h
 seated_kept b (action.Close l) may sound holders h = kept_by b (action.Close l) may refl (unchanged b (action.Close l) (λ n t. t)) h
 seated_kept b (action.Write l bytes) may sound holders h = kept_by b (action.Write l bytes) may refl (unchanged b (action.Write l bytes) (λ n t. t)) h
+seated_kept b (action.Wait owner.Setup kind) may sound holders h = absurd may
 seated_kept b (action.Wait (owner.Try m round) kind) may sound holders h =
     kept_by b (action.Wait (owner.Try m round) kind) may refl (unchanged b (action.Wait (owner.Try m round) kind) (λ n. chosen (λ s. is_told s ≡ true → is_told (b.story n) ≡ true) (m == n) (waits (b.story n) kind) (b.story n) (λ e t. t) (λ f t. t))) h
+seated_kept b (action.Start l k owner.Setup count len) may sound holders h = kept_by b (action.Start l k owner.Setup count len) may refl (unchanged b (action.Start l k owner.Setup count len) (λ n t. t)) h
 seated_kept b (action.Start l k (owner.Try m round) count len) may sound holders h =
     kept_by b (action.Start l k (owner.Try m round) count len) may refl (unchanged b (action.Start l k (owner.Try m round) count len) (λ n. chosen (λ s. is_told s ≡ true → is_told (b.story n) ≡ true) (m == n) (tried (b.story n) l k) (b.story n) (λ e t. t) (λ f t. t))) h
 seated_kept b (action.Created e) may sound holders h = kept_by b (action.Created e) may refl (unchanged b (action.Created e) (λ n t. t)) h
@@ -195,7 +198,7 @@ taker_behind b m n i t untold now =
     let x = takes_mean b n now.1 may.takes in
     let same : (b.story m).link ≡ (b.story n).link = eq_from (b.story m).link (b.story n).link (both_left ((b.story m).link == (b.story n).link) (is_unstarted (b.story m)) t) in
     let unstarted : is_unstarted (b.story m) ≡ true = both_right ((b.story m).link == (b.story n).link) (is_unstarted (b.story m)) t in
-    rester_holds b m x.2.0 (ap (λ y. dials (b.link y)) same ∙ x.0) (ap (λ y. (b.link y).up) same ∙ x.1) untold x.2.1 (subst (λ y. 0 < free_permits b y x.2.0) (sym same) x.2.4)
+    rester_holds b m x.2.0 (ap (λ y. dials (b.link y)) same ∙ x.0) (ap (λ y. is_ready (b.link y)) same ∙ x.1) untold x.2.1 (subst (λ y. 0 < free_permits b y x.2.0) (sym same) x.2.4)
     (λ due. may.in_order m i (record { unstarted = unstarted; due = due }))
 
 -- whoever holds permits behind an action held some, or takes them now
@@ -225,11 +228,14 @@ gains b (action.Turn k (cause.Opening config word)) may n = λ i. inl i
 gains b (action.Turn k (cause.Event e)) may n = event_gains b n e.kind
 gains b (action.Connect l host port) may n = λ i. inl i
 gains b (action.Timer t ms what) may n = chosen (Gains b n) (is_clock_of n (Some what)) (clocked (b.story n) t) (b.story n) (λ e i. inl i) (λ f i. inl i)
+gains b (action.Took owner.Setup l count) may n = absurd may
 gains b (action.Took (owner.Try m round) l count) may n = chosen (Gains b n) (m == n) (holds (b.story n) count) (b.story n)
     (λ t i. inr (subst (TakesNow b) (eq_from m n t) (l, count, may.1))) (λ f i. inl i)
 gains b (action.Close l) may n = λ i. inl i
 gains b (action.Write l bytes) may n = λ i. inl i
+gains b (action.Wait owner.Setup kind) may n = absurd may
 gains b (action.Wait (owner.Try m round) kind) may n = chosen (Gains b n) (m == n) (waits (b.story n) kind) (b.story n) (λ t i. inl i) (λ f i. inl i)
+gains b (action.Start l k owner.Setup count len) may n = λ i. inl i
 gains b (action.Start l k (owner.Try m round) count len) may n = chosen (Gains b n) (m == n) (tried (b.story n) l k) (b.story n) (λ t i. inl i) (λ f i. inl i)
 gains b (action.Created e) may n = λ i. inl i
 gains b (action.Outcome m o) may n = chosen (Gains b n) (m == n) (answered (b.story n) o) (b.story n) (λ t i. absurd (omega (arith, i))) (λ f i. inl i)

@@ -1,6 +1,7 @@
 -- What every link hears of a shutdown.
-use Rattle.std.proofs.Common.{◌≡◌, ℕ, ◌-◌, ◌==◌, Bool, true, false, ◌&&◌, ◌||◌, not, Option, Some, None, is_some, if◌then◌else◌, refl, sym, ◌∙◌, subst}
-use Rattle.containers.proofs.Choices.{not_both}
+use Rattle.std.proofs.Common.{◌≡◌, ℕ, ◌-◌, ◌==◌, Bool, true, false, ◌&&◌, ◌||◌, not, Option, Some, None, is_some, if◌then◌else◌, refl, sym, ◌∙◌, ap}
+use Rattle.containers.proofs.Choices.{not_both, chosen}
+use Rattle.redis_error.specs.declared.redis_error.RedisError.{RedisError}
 use Rattle.driver_model.specs.declared.action.Action.{Action}
 use Rattle.driver_model.specs.declared.action.Action.TheVariants as action
 use Rattle.driver_model.specs.declared.action.Cause.TheVariants as cause
@@ -8,7 +9,7 @@ use Rattle.driver_model.specs.declared.action.Owner.TheVariants as owner
 use Rattle.driver_model.specs.declared.event.EventKind.{EventKind}
 use Rattle.driver_model.specs.declared.event.EventKind.TheVariants as event
 use Rattle.driver_model.specs.News.{News, shut, news_of}
-use Rattle.legal_trace.specs.Ledger.{Ledger, End, by_shutdown, hears, begins, offers, ends, noted, ending, ending_up, ending_asked}
+use Rattle.legal_trace.specs.Ledger.{Ledger, End, Ending, by_shutdown, hears, begins, offers, ends, noted, is_set_up, setup_result, error_in, ending, ending_up, ending_by, ending_unready, ending_alive, ending_asked}
 use Rattle.legal_trace.specs.Book.{Book, entered, message_of, shuts}
 use Rattle.legal_trace.specs.Legal.{MayStand, NoneEnds}
 use Rattle.legal_trace.proofs.Ledgers.{mine_keeps, hears_past}
@@ -23,20 +24,32 @@ HearsShut l = l.asked ≡ true → l.end ≡ None → l.heard ≡ shut
 abbrev pub ShutIsHeard : Bool → (ℕ → Ledger) → Type 0
 ShutIsHeard is_shut link = is_shut ≡ true → (l : ℕ) → HearsShut (link l)
 
+-- a setup that failed ends it, and what else does
+by_error : (failed : Option RedisError) (other : Option Ending) → other ≡ Some by_shutdown → ending_by failed other ≡ None → ⊥
+by_error None other s none = not_none other by_shutdown none s
+by_error (Some e) other s none = cc none
+
+-- a link that is up ends where it hears of the shutdown
+alive_ends : (l : Ledger) → l.heard ≡ shut → ending_alive l ≡ None → ⊥
+alive_ends l h = chosen (λ (o : Option Ending). o ≡ None → ⊥) (is_set_up l) (ending_up l l.heard) (ending_by (error_in (setup_result l)) (ending_unready l l.heard))
+    (λ t none. not_none (ending_up l l.heard) by_shutdown none (ap (ending_up l) h))
+    (λ f. by_error (error_in (setup_result l)) (ending_unready l l.heard) (ap (ending_unready l) h))
+
 -- whether it is up or asked for, the shutdown ends it
-ends_by_shutdown : (up asked : Bool) (end : Option End) (l : Ledger) → asked ≡ true → end ≡ None → (if up then ending_up l shut else (if asked && not (is_some end) then ending_asked shut else None)) ≡ Some by_shutdown
-ends_by_shutdown true asked end l a e = refl
-ends_by_shutdown false true None l a e = refl
-ends_by_shutdown false true (Some end) l a e = cc
-ends_by_shutdown false false end l a e = cc
+ends_by_shutdown : (up asked : Bool) (end : Option End) (alive : Option Ending) → asked ≡ true → end ≡ None → (alive ≡ None → ⊥) → (if up then alive else (if asked && not (is_some end) then ending_asked shut else None)) ≡ None → ⊥
+ends_by_shutdown true asked end alive a e s none = s none
+ends_by_shutdown false true None alive a e s none = cc none
+ends_by_shutdown false true (Some end) alive a e s none = cc e
+ends_by_shutdown false false end alive a e s none = cc a
 
 -- it must end
-pub shut_ends : (l : Ledger) → l.asked ≡ true → l.end ≡ None → l.heard ≡ shut → ending l ≡ Some by_shutdown
-shut_ends l a e h = subst (λ (x : News). (if l.up then ending_up l x else (if l.asked && not (is_some l.end) then ending_asked x else None)) ≡ Some by_shutdown) (sym h) (ends_by_shutdown l.up l.asked l.end l a e)
+pub shut_ends : (l : Ledger) → l.asked ≡ true → l.end ≡ None → l.heard ≡ shut → ending l ≡ None → ⊥
+shut_ends l a e h none = ends_by_shutdown l.up l.asked l.end (ending_alive l) a e (alive_ends l h)
+    (sym (ap (λ (x : News). if l.up then ending_alive l else (if l.asked && not (is_some l.end) then ending_asked x else None)) h) ∙ none)
 
 -- so that once all that must end have ended, no link is left
 pub none_left : (b : Book) → NoneEnds b → ShutIsHeard b.shut b.link → b.shut ≡ true → (l : ℕ) → (b.link l).asked ≡ true → (b.link l).end ≡ None → ⊥
-none_left b none h s l a e = not_none (ending (b.link l)) by_shutdown (none l) (shut_ends (b.link l) a e (h s l a e))
+none_left b none h s l a e = shut_ends (b.link l) a e (h s l a e) (none l)
 
 -- what doesn't shut down leaves it as it was
 was_shut : (s : Bool) → (s || false) ≡ true → s ≡ true
@@ -65,13 +78,16 @@ turn_heard b turn (event.WriteFault m kind) none h = λ s l. still_none b turn (
 -- it stays so
 pub shut_kept : (b : Book) (a : Action) → MayStand b a → IsOpening b → ShutIsHeard b.shut b.link → ShutIsHeard (entered b a).shut (entered b a).link
 shut_kept b (action.Turn k (cause.Opening config word)) may opening h = h
-shut_kept b (action.Turn k (cause.Event e)) may opening h = turn_heard b k e.kind may.is_for.1.written.moved.applied.ended h
+shut_kept b (action.Turn k (cause.Event e)) may opening h = turn_heard b k e.kind may.is_for.1.written.moved.begun.applied.ended h
 shut_kept b (action.Connect m host port) may opening h = λ s. absurd (not_both b.shut (opening.not_shut may.first) s)
 shut_kept b (action.Timer t ms what) may opening h = h
+shut_kept b (action.Took owner.Setup l count) may opening h = absurd may
 shut_kept b (action.Took (owner.Try n round) l count) may opening h = h
 shut_kept b (action.Close m) may opening h = λ s l. mine_keeps HearsShut (m == l) (b.link l) (ends (b.turns - 1)) (λ t a e. cc) (h s l)
 shut_kept b (action.Write m bytes) may opening h = λ s l. mine_keeps HearsShut (m == l) (b.link l) (offers bytes) (λ t. h s l) (h s l)
+shut_kept b (action.Wait owner.Setup kind) may opening h = absurd may
 shut_kept b (action.Wait (owner.Try n round) kind) may opening h = h
-shut_kept b (action.Start m k (owner.Try n round) count len) may opening h = λ s l. mine_keeps HearsShut (m == l) (b.link l) (begins (message_of b (owner.Try n round))) (λ t. h s l) (h s l)
+shut_kept b (action.Start m k owner.Setup count len) may opening h = λ s l. mine_keeps HearsShut (m == l) (b.link l) (begins (message_of b m owner.Setup)) (λ t. h s l) (h s l)
+shut_kept b (action.Start m k (owner.Try n round) count len) may opening h = λ s l. mine_keeps HearsShut (m == l) (b.link l) (begins (message_of b m (owner.Try n round))) (λ t. h s l) (h s l)
 shut_kept b (action.Created e) may opening h = h
 shut_kept b (action.Outcome n o) may opening h = h

@@ -8,9 +8,10 @@ use Rattle.legal_laws.proofs.Opens.{IsOpening, opening_kept, StillAtFirst, still
 use Rattle.legal_laws.proofs.Numbers.{HasLinks, links_kept, HasStories, stories_kept}
 use Rattle.legal_laws.proofs.Tales.{AnsweredOnce, once_kept, TriesAreStarted, starts_kept}
 use Rattle.legal_laws.proofs.Shutdown.{ShutIsHeard, shut_kept}
+use Rattle.legal_laws.proofs.Shaped.{IsShaped, shaped_kept}
 
 -- how it opens, and that until the first event nothing happens to links; the numbers of links and submissions; that links which are up have not ended, and are not dealt too many
--- items; what submissions were answered, and which messages they started; and what links hear of a shutdown
+-- items; what submissions were answered, and which messages they started; what links hear of a shutdown, and that setups take what they are to
 pub record Sound (b : Book) : Type 0 where
   pub opens : IsOpening b
   pub still : StillAtFirst b.turns b.link
@@ -21,6 +22,7 @@ pub record Sound (b : Book) : Type 0 where
   pub once : (n : ℕ) → AnsweredOnce (b.story n)
   pub starts : (n : ℕ) → TriesAreStarted b.link (b.story n)
   pub shut : ShutIsHeard b.shut b.link
+  pub shaped : (l : ℕ) → IsShaped (b.link l)
 
 -- each action that may stand keeps it
 pub stays_sound : (b : Book) (a : Action) → MayStand b a → Sound b → Sound (entered b a)
@@ -34,6 +36,7 @@ stays_sound b a may h = record {
   once = λ n. once_kept b a may h.stories n (h.once n);
   starts = λ n. starts_kept b a may n (h.starts n);
   shut = shut_kept b a may h.opens h.shut;
+  shaped = λ l. shaped_kept b a l may h.links (h.shaped l);
 }
 
 -- the blank book has it
@@ -56,6 +59,7 @@ blank_is_sound = record {
   once = λ n. record { once = omega arith; told = λ e t. absurd (cc e) };
   starts = λ n t e. absurd (cc e);
   shut = λ s l. absurd (cc s);
+  shaped = λ l. record { none = λ e. refl; are = λ k s i. absurd (omega (arith, i)) };
 }
 
 -- and so do many

@@ -75,7 +75,7 @@ first_outcome b n o asked bytes =
 -- so with each outcome that may stand
 outcome_once : (b : Book) (n : ℕ) (o : Outcome) → MayAnswer b n o ⊎ MayTell b n o → AnsweredOnce (answered (b.story n) o)
 outcome_once b n o (inl owes) = first_outcome b n o owes.asked (λ t e. absurd (unstarted_gets_a_fault b n o t owes.owes e))
-outcome_once b n o (inr told) = first_outcome b n o told.asked (λ t e. has_bytes b (b.story n) (told.applied.answered n told.asked))
+outcome_once b n o (inr told) = first_outcome b n o told.asked (λ t e. has_bytes b (b.story n) (told.begun.applied.answered n told.asked))
 
 -- events answer none
 event_once : (b : Book) (n : ℕ) (kind : EventKind) → HasStories b → AnsweredOnce (b.story n) → AnsweredOnce (after_event b n kind)
@@ -105,10 +105,13 @@ once_kept b (action.Turn k (cause.Opening config word)) may blank n h = h
 once_kept b (action.Turn k (cause.Event e)) may blank n h = event_once b n e.kind blank h
 once_kept b (action.Connect l host port) may blank n h = h
 once_kept b (action.Timer t ms what) may blank n h = chosen AnsweredOnce (is_clock_of n (Some what)) (clocked (b.story n) t) (b.story n) (λ e. h) (λ f. h)
+once_kept b (action.Took owner.Setup l count) may blank n h = absurd may
 once_kept b (action.Took (owner.Try m round) l count) may blank n h = chosen AnsweredOnce (m == n) (holds (b.story n) count) (b.story n) (λ t. h) (λ f. h)
 once_kept b (action.Close l) may blank n h = h
 once_kept b (action.Write l bytes) may blank n h = h
+once_kept b (action.Wait owner.Setup kind) may blank n h = absurd may
 once_kept b (action.Wait (owner.Try m round) kind) may blank n h = chosen AnsweredOnce (m == n) (waits (b.story n) kind) (b.story n) (λ t. h) (λ f. h)
+once_kept b (action.Start l k owner.Setup count len) may blank n h = h
 once_kept b (action.Start l k (owner.Try m round) count len) may blank n h = chosen AnsweredOnce (m == n) (tried (b.story n) l k) (b.story n) (λ t. started_once (b.story n) l k h) (λ f. h)
 once_kept b (action.Created e) may blank n h = h
 once_kept b (action.Outcome m o) may blank n h =
@@ -135,8 +138,8 @@ starts_next : (b : Book) (l k n count len : ℕ) (round : ℕ) → k ≡ length 
 starts_next b l k n count len round next t e =
     let it : record { link = l; message = k } ≡ t = same_some (record { link = l; message = k }) t (sym (last_behind (b.story n).tries (record { link = l; message = k })) ∙ e) in
     subst (λ (u : Try). HasStarted u.message ((entered b (action.Start l k (owner.Try n round) count len)).link u.link)) it
-    (let longer : length ((b.link l).starts ++ message_of b (owner.Try n round) ∷ []) ≡ length (b.link l).starts + 1 = length-append (b.link l).starts (message_of b (owner.Try n round) ∷ []) in
-    if_true (λ (lines : List Line). HasStarted k (noted_each (b.link l) lines)) (l == l) (begins (message_of b (owner.Try n round)) ∷ []) [] (eq_test l l refl) (omega arith))
+    (let longer : length ((b.link l).starts ++ message_of b l (owner.Try n round) ∷ []) ≡ length (b.link l).starts + 1 = length-append (b.link l).starts (message_of b l (owner.Try n round) ∷ []) in
+    if_true (λ (lines : List Line). HasStarted k (noted_each (b.link l) lines)) (l == l) (begins (message_of b l (owner.Try n round)) ∷ []) [] (eq_test l l refl) (omega arith))
 
 -- events start none
 event_tries : (b : Book) (n : ℕ) (kind : EventKind) (link : ℕ → Ledger) → TriesAreStarted link (b.story n) → TriesAreStarted link (after_event b n kind)
@@ -159,10 +162,13 @@ tries_kept b (action.Turn k (cause.Opening config word)) may n h = h
 tries_kept b (action.Turn k (cause.Event e)) may n h = event_tries b n e.kind (entered b (action.Turn k (cause.Event e))).link h
 tries_kept b (action.Connect l host port) may n h = h
 tries_kept b (action.Timer t ms what) may n h = chosen (TriesAreStarted (entered b (action.Timer t ms what)).link) (is_clock_of n (Some what)) (clocked (b.story n) t) (b.story n) (λ e. h) (λ f. h)
+tries_kept b (action.Took owner.Setup l count) may n h = absurd may
 tries_kept b (action.Took (owner.Try m round) l count) may n h = chosen (TriesAreStarted (entered b (action.Took (owner.Try m round) l count)).link) (m == n) (holds (b.story n) count) (b.story n) (λ t. h) (λ f. h)
 tries_kept b (action.Close l) may n h = h
 tries_kept b (action.Write l bytes) may n h = h
+tries_kept b (action.Wait owner.Setup kind) may n h = absurd may
 tries_kept b (action.Wait (owner.Try m round) kind) may n h = chosen (TriesAreStarted (entered b (action.Wait (owner.Try m round) kind)).link) (m == n) (waits (b.story n) kind) (b.story n) (λ t. h) (λ f. h)
+tries_kept b (action.Start l k owner.Setup count len) may n h = h
 tries_kept b (action.Start l k (owner.Try m round) count len) may n h =
     chosen (TriesAreStarted (entered b (action.Start l k (owner.Try m round) count len)).link) (m == n) (tried (b.story n) l k) (b.story n)
     (λ t. subst (λ j. TriesAreStarted (entered b (action.Start l k (owner.Try m round) count len)).link (tried (b.story j) l k)) (eq_from m n t) (starts_next b l k m count len round may.1.next))

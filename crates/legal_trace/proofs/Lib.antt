@@ -2,3 +2,4 @@ pub mod Plain
 pub mod Ledgers
 pub mod Books
 pub mod Moves
+pub mod Setups

@@ -9,7 +9,7 @@ use Rattle.driver_model.specs.declared.config.Config.{Config}
 use Rattle.driver_model.specs.Config.{buffer_size, boundary}
 use Rattle.driver_model.specs.Shape.{permits_for}
 use Rattle.driver_model.specs.declared.outcome.Outcome.{Outcome}
-use Rattle.legal_trace.specs.Ledger.{Ledger, dials}
+use Rattle.legal_trace.specs.Ledger.{Ledger, dials, is_ready, is_set_up}
 use Rattle.legal_trace.specs.Story.{Story, is_open, is_told, is_awaited, is_unstarted, shape}
 use Rattle.legal_trace.specs.Book.{Book}
 use Rattle.legal_trace.specs.Steps.{Step, waits, takes, asks, tells, starts, nothing, is_due, configured, is_held, is_held_back, permits_in, permits_on, permits_held, free_permits, is_let_in, is_in_line, line_before, is_outside, starts_or_waits, step_placed, step_timed, step_taking, step_holding, step_open, step_ready, next_step}
@@ -33,9 +33,9 @@ open_or_told s h = one_holds (is_open s) (is_told s) (both_right (length s.tries
 abbrev pub step_of : Option Config → Story → ℕ → ℕ → Ledger → Step
 step_of config s line held l =
     if dials l then waits wait.Connect
-    else if l.up then step_open (is_told s) (is_held (configured boundary config) l)
+    else if l.up then (if is_set_up l then step_open (is_told s) (is_held (configured boundary config) l)
     (step_holding (permits_in config) s.permits (λ limit. step_taking (limit - held) (permits_for (shape s) limit))
-    (step_timed s.timeout s.clock (step_placed (nat_le (configured buffer_size config) line) (is_awaited s) (is_held (configured boundary config) l))))
+    (step_timed s.timeout s.clock (step_placed (nat_le (configured buffer_size config) line) (is_awaited s) (is_held (configured boundary config) l)))) else waits wait.Setup)
     else nothing
 
 -- where the same stand in line, as many do
@@ -53,15 +53,32 @@ permits_alike story other same l (suc n) = ap (λ x. x + permits_on l (story n))
 abbrev pub up_step : Book → ℕ → Step
 up_step b n = step_ready b n (b.story n)
 
--- a step that is due is made on a link that is up
-due_up : (dialing up : Bool) (step : Step) → is_due (if dialing then waits wait.Connect else if up then step else nothing) ≡ true → up ≡ true
-due_up true up step e = cc
-due_up false true step e = refl
-due_up false false step e = cc
+-- a step that is due is made on a link that is up, and set up
+due_ready : (dialing up set : Bool) (step : Step) → is_due (if dialing then waits wait.Connect else if up then (if set then step else waits wait.Setup) else nothing) ≡ true → (up && set) ≡ true
+due_ready true up set step e = cc
+due_ready false true true step e = refl
+due_ready false true false step e = cc
+due_ready false false set step e = cc
 
--- so the link of who makes a step is up
+-- so the link of who makes a step is ready
+pub mover_is_ready : (b : Book) (n : ℕ) → CanMove b n → is_ready (link_of b n) ≡ true
+mover_is_ready b n moves = due_ready (dials (link_of b n)) (link_of b n).up (is_set_up (link_of b n)) (up_step b n) moves.due
+
+-- a link that is ready is up
+pub ready_is_up : (l : Ledger) → is_ready l ≡ true → l.up ≡ true
+ready_is_up l h = both_left l.up (is_set_up l) h
+
+-- and set up
+pub ready_is_set : (l : Ledger) → is_ready l ≡ true → is_set_up l ≡ true
+ready_is_set l h = both_right l.up (is_set_up l) h
+
+-- one that is both is ready
+pub up_and_set : (l : Ledger) → l.up ≡ true → is_set_up l ≡ true → is_ready l ≡ true
+up_and_set l u s = ap (λ up. up && is_set_up l) u ∙ s
+
+-- so it is up
 pub mover_is_up : (b : Book) (n : ℕ) → CanMove b n → (link_of b n).up ≡ true
-mover_is_up b n moves = due_up (dials (link_of b n)) (link_of b n).up (up_step b n) moves.due
+mover_is_up b n moves = ready_is_up (link_of b n) (mover_is_ready b n moves)
 
 -- who is told at its place makes a step
 pub teller_moves : (b : Book) (n : ℕ) (o : Outcome) → MayTell b n o → CanMove b n
@@ -80,24 +97,25 @@ pub asker_moves : (b : Book) (t ms : ℕ) (what : Purpose) (may : MayTime b t ms
 asker_moves b t ms what may = record { unstarted = may.unstarted; due = ap is_due may.asks }
 
 -- who waits, waits for the connect, or on a link that is up
-waits_up : (dialing up : Bool) (step : Step) (kind : WaitKind) → (if dialing then waits wait.Connect else if up then step else nothing) ≡ waits kind → (dialing ≡ true) ⊎ (up ≡ true)
-waits_up true up step kind e = inl refl
-waits_up false true step kind e = inr refl
-waits_up false false step kind e = cc
+waits_up : (dialing up set : Bool) (step : Step) (kind : WaitKind) → (if dialing then waits wait.Connect else if up then (if set then step else waits wait.Setup) else nothing) ≡ waits kind → (dialing ≡ true) ⊎ (up ≡ true)
+waits_up true up set step kind e = inl refl
+waits_up false true set step kind e = inr refl
+waits_up false false set step kind e = cc
 
 -- so the link of who waits isn't answered, or is up
 pub waits_on_a_link : (b : Book) (n : ℕ) (kind : WaitKind) → next_step b n ≡ waits kind → (dials (link_of b n) ≡ true) ⊎ ((link_of b n).up ≡ true)
-waits_on_a_link b n kind e = waits_up (dials (link_of b n)) (link_of b n).up (up_step b n) kind e
+waits_on_a_link b n kind e = waits_up (dials (link_of b n)) (link_of b n).up (is_set_up (link_of b n)) (up_step b n) kind e
 
 -- one kind of wait is true at a time
 pub same_kind : (s : Step) (kind other : WaitKind) → s ≡ waits kind → s ≡ waits other → kind ≡ other
 same_kind s kind other e f = cc
 
--- a step that is no wait for the connect is made on a link that is up
-ready_of : (dialing up : Bool) (step s : Step) → is_due s ≡ true → (if dialing then waits wait.Connect else if up then step else nothing) ≡ s → (dialing ≡ false) × (up ≡ true) × (step ≡ s)
-ready_of true up step s due e = absurd (let x : false ≡ true = ap is_due e ∙ due in cc x)
-ready_of false true step s due e = (refl, refl, e)
-ready_of false false step s due e = absurd (let x : false ≡ true = ap is_due e ∙ due in cc x)
+-- a step that is no wait is made on a link that is ready
+ready_of : (dialing up set : Bool) (step s : Step) → is_due s ≡ true → (if dialing then waits wait.Connect else if up then (if set then step else waits wait.Setup) else nothing) ≡ s → (dialing ≡ false) × ((up && set) ≡ true) × (step ≡ s)
+ready_of true up set step s due e = absurd (let x : false ≡ true = ap is_due e ∙ due in cc x)
+ready_of false true true step s due e = (refl, refl, e)
+ready_of false true false step s due e = absurd (let x : false ≡ true = ap is_due e ∙ due in cc x)
+ready_of false false set step s due e = absurd (let x : false ≡ true = ap is_due e ∙ due in cc x)
 
 -- what is less is tested so
 pub lt_test : (a b : ℕ) → a < b → nat_lt a b ≡ true
@@ -188,16 +206,16 @@ past_timer b n s is e =
     let t = timed_next (b.story n).timeout (b.story n).clock (step_placed (is_outside b n) (is_awaited (b.story n)) (is_held_back b (link_of b n))) s (λ ms. asking_is ms s is) h.1 in
     (both_hold (holds_some (permits_in b.config) (b.story n).permits) (is_timed (b.story n).timeout (b.story n).clock) h.0 t.0, t.1)
 
--- what it does next on a link that is up, past whether it was told
+-- what it does next on a link that is ready, past whether it was told
 abbrev pub untold_step : Book → ℕ → Step
 untold_step b n = step_holding (permits_in b.config) (b.story n).permits (λ limit. step_taking (free_permits b (b.story n).link limit) (permits_for (shape (b.story n)) limit)) (step_timed (b.story n).timeout (b.story n).clock (step_placed (is_outside b n) (is_awaited (b.story n)) (is_held_back b (link_of b n))))
 
 -- where the next step is a start, the link is up and isn't held back, and the submission was told, or was let in and has a place
 pub starts_mean : (b : Book) (n : ℕ) → next_step b n ≡ starts
-    → (dials (link_of b n) ≡ false) × ((link_of b n).up ≡ true) × (is_held_back b (link_of b n) ≡ false)
+    → (dials (link_of b n) ≡ false) × (is_ready (link_of b n) ≡ true) × (is_held_back b (link_of b n) ≡ false)
     × ((is_told (b.story n) ≡ true) ⊎ ((is_let_in (permits_in b.config) (b.story n) ≡ true) × (is_outside b n ≡ false)))
 starts_mean b n e =
-    let r = ready_of (dials (link_of b n)) (link_of b n).up (up_step b n) starts refl e in
+    let r = ready_of (dials (link_of b n)) (link_of b n).up (is_set_up (link_of b n)) (up_step b n) starts refl e in
     elim (open_next (is_told (b.story n)) (is_held_back b (link_of b n)) (untold_step b n) starts r.2) [
       | inl told ↦ (r.0, r.1, told_starts (is_held_back b (link_of b n)) told.1, inl told.0)
       | inr not_told ↦
@@ -206,11 +224,11 @@ starts_mean b n e =
           (r.0, r.1, q.1, inr (p.0, q.0))
     ]
 
--- where it is to be told, its link is up, it was let in and has a place, and its reply isn't awaited
+-- where it is to be told, its link is ready, it was let in and has a place, and its reply isn't awaited
 pub tells_mean : (b : Book) (n : ℕ) → next_step b n ≡ tells
-    → (dials (link_of b n) ≡ false) × ((link_of b n).up ≡ true) × (is_let_in (permits_in b.config) (b.story n) ≡ true) × (is_outside b n ≡ false) × (is_awaited (b.story n) ≡ false)
+    → (dials (link_of b n) ≡ false) × (is_ready (link_of b n) ≡ true) × (is_let_in (permits_in b.config) (b.story n) ≡ true) × (is_outside b n ≡ false) × (is_awaited (b.story n) ≡ false)
 tells_mean b n e =
-    let r = ready_of (dials (link_of b n)) (link_of b n).up (up_step b n) tells refl e in
+    let r = ready_of (dials (link_of b n)) (link_of b n).up (is_set_up (link_of b n)) (up_step b n) tells refl e in
     elim (open_next (is_told (b.story n)) (is_held_back b (link_of b n)) (untold_step b n) tells r.2) [
       | inl told ↦ absurd (told_tells (is_held_back b (link_of b n)) told.1)
       | inr not_told ↦
@@ -252,12 +270,12 @@ holding_takes None permits free most timeout clock outside awaited held count e 
 holding_takes (Some k) zero free most timeout clock outside awaited held count e = let t = taken_is_free (free k) (most k) count e in (k, refl, refl, t.0, t.1)
 holding_takes (Some k) (suc n) free most timeout clock outside awaited held count e = absurd (timed_takes timeout clock outside awaited held count e)
 
--- where it takes permits, its link is up, and of a limit so many are free; it holds none
+-- where it takes permits, its link is ready, and of a limit so many are free; it holds none
 pub takes_mean : (b : Book) (n count : ℕ) → next_step b n ≡ takes count
-    → (dials (link_of b n) ≡ false) × ((link_of b n).up ≡ true)
+    → (dials (link_of b n) ≡ false) × (is_ready (link_of b n) ≡ true)
     × ((limit : ℕ) × (permits_in b.config ≡ Some limit) × ((b.story n).permits ≡ 0) × (count ≤ free_permits b (b.story n).link limit) × (0 < free_permits b (b.story n).link limit))
 takes_mean b n count e =
-    let r = ready_of (dials (link_of b n)) (link_of b n).up (up_step b n) (takes count) refl e in
+    let r = ready_of (dials (link_of b n)) (link_of b n).up (is_set_up (link_of b n)) (up_step b n) (takes count) refl e in
     elim (open_next (is_told (b.story n)) (is_held_back b (link_of b n)) (untold_step b n) (takes count) r.2) [
       | inl told ↦ absurd (told_takes (is_held_back b (link_of b n)) count told.1)
       | inr not_told ↦ (r.0, r.1, holding_takes (permits_in b.config) (b.story n).permits (free_permits b (b.story n).link) (permits_for (shape (b.story n))) (b.story n).timeout (b.story n).clock (is_outside b n) (is_awaited (b.story n)) (is_held_back b (link_of b n)) count not_told.1)
@@ -278,7 +296,7 @@ timed_asks (Some time) (Some t) outside awaited held ms e = absurd (placed_asks 
 pub asks_mean : (b : Book) (n ms : ℕ) → next_step b n ≡ asks ms
     → (holds_some (permits_in b.config) (b.story n).permits ≡ true) × ((b.story n).timeout ≡ Some ms) × ((b.story n).clock ≡ None)
 asks_mean b n ms e =
-    let r = ready_of (dials (link_of b n)) (link_of b n).up (up_step b n) (asks ms) refl e in
+    let r = ready_of (dials (link_of b n)) (link_of b n).up (is_set_up (link_of b n)) (up_step b n) (asks ms) refl e in
     elim (open_next (is_told (b.story n)) (is_held_back b (link_of b n)) (untold_step b n) (asks ms) r.2) [
       | inl told ↦ absurd (told_asks (is_held_back b (link_of b n)) ms told.1)
       | inr not_told ↦
@@ -306,11 +324,12 @@ holding_due None permits taking next h = refl
 holding_due (Some limit) zero taking next h = absurd (cc h)
 holding_due (Some limit) (suc held) taking next h = refl
 
--- so is what is done on a link that is up
-ready_due : (dialing up : Bool) (step : Step) → dialing ≡ false → up ≡ true → is_due (if dialing then waits wait.Connect else if up then step else nothing) ≡ is_due step
-ready_due true up step d u = absurd (cc d)
-ready_due false true step d u = refl
-ready_due false false step d u = absurd (cc u)
+-- so is what is done on a link that is ready
+ready_due : (dialing up set : Bool) (step : Step) → dialing ≡ false → (up && set) ≡ true → is_due (if dialing then waits wait.Connect else if up then (if set then step else waits wait.Setup) else nothing) ≡ is_due step
+ready_due true up set step d u = absurd (cc d)
+ready_due false true true step d u = refl
+ready_due false true false step d u = absurd (cc u)
+ready_due false false set step d u = absurd (cc u)
 
 -- whoever was told does so where the link isn't held back
 told_due : (told held : Bool) (next : Step) → told ≡ true → held ≡ false → is_due (step_open told held next) ≡ true
@@ -323,16 +342,16 @@ untold_due : (told held : Bool) (next : Step) → told ≡ false → is_due (ste
 untold_due true held next t = absurd (cc t)
 untold_due false held next t = refl
 
--- whoever was told makes a step on a link that is up and isn't held back
-pub told_is_due : (b : Book) (n : ℕ) → dials (link_of b n) ≡ false → (link_of b n).up ≡ true → is_held_back b (link_of b n) ≡ false → is_told (b.story n) ≡ true → is_due (next_step b n) ≡ true
-told_is_due b n d u h t = ready_due (dials (link_of b n)) (link_of b n).up (up_step b n) d u ∙ told_due (is_told (b.story n)) (is_held_back b (link_of b n)) (untold_step b n) t h
+-- whoever was told makes a step on a link that is ready and isn't held back
+pub told_is_due : (b : Book) (n : ℕ) → dials (link_of b n) ≡ false → is_ready (link_of b n) ≡ true → is_held_back b (link_of b n) ≡ false → is_told (b.story n) ≡ true → is_due (next_step b n) ≡ true
+told_is_due b n d u h t = ready_due (dials (link_of b n)) (link_of b n).up (is_set_up (link_of b n)) (up_step b n) d u ∙ told_due (is_told (b.story n)) (is_held_back b (link_of b n)) (untold_step b n) t h
 
 -- what is due of who wasn't told
-untold_is_due : (b : Book) (n : ℕ) → dials (link_of b n) ≡ false → (link_of b n).up ≡ true → is_told (b.story n) ≡ false → is_due (untold_step b n) ≡ true → is_due (next_step b n) ≡ true
-untold_is_due b n d u t due = ready_due (dials (link_of b n)) (link_of b n).up (up_step b n) d u ∙ (untold_due (is_told (b.story n)) (is_held_back b (link_of b n)) (untold_step b n) t ∙ due)
+untold_is_due : (b : Book) (n : ℕ) → dials (link_of b n) ≡ false → is_ready (link_of b n) ≡ true → is_told (b.story n) ≡ false → is_due (untold_step b n) ≡ true → is_due (next_step b n) ≡ true
+untold_is_due b n d u t due = ready_due (dials (link_of b n)) (link_of b n).up (is_set_up (link_of b n)) (up_step b n) d u ∙ (untold_due (is_told (b.story n)) (is_held_back b (link_of b n)) (untold_step b n) t ∙ due)
 
 -- and so does who holds its permits and has a place
-pub free_is_due : (b : Book) (n : ℕ) → dials (link_of b n) ≡ false → (link_of b n).up ≡ true → is_held_back b (link_of b n) ≡ false → is_told (b.story n) ≡ false
+pub free_is_due : (b : Book) (n : ℕ) → dials (link_of b n) ≡ false → is_ready (link_of b n) ≡ true → is_held_back b (link_of b n) ≡ false → is_told (b.story n) ≡ false
     → holds_some (permits_in b.config) (b.story n).permits ≡ true → is_outside b n ≡ false → is_due (next_step b n) ≡ true
 free_is_due b n d u h t p o = untold_is_due b n d u t
     (holding_due (permits_in b.config) (b.story n).permits (λ limit. step_taking (free_permits b (b.story n).link limit) (permits_for (shape (b.story n)) limit)) (step_timed (b.story n).timeout (b.story n).clock (step_placed (is_outside b n) (is_awaited (b.story n)) (is_held_back b (link_of b n)))) p
@@ -345,7 +364,7 @@ timed_from (Some ms) None next none = absurd (none refl)
 timed_from (Some ms) (Some t) next none = refl
 
 -- so it is in a book
-pub holder_is_timed : (b : Book) (n : ℕ) → dials (link_of b n) ≡ false → (link_of b n).up ≡ true → is_told (b.story n) ≡ false → holds_some (permits_in b.config) (b.story n).permits ≡ true
+pub holder_is_timed : (b : Book) (n : ℕ) → dials (link_of b n) ≡ false → is_ready (link_of b n) ≡ true → is_told (b.story n) ≡ false → holds_some (permits_in b.config) (b.story n).permits ≡ true
     → (is_due (next_step b n) ≡ true → ⊥) → is_timed (b.story n).timeout (b.story n).clock ≡ true
 holder_is_timed b n d u t p none = timed_from (b.story n).timeout (b.story n).clock (step_placed (is_outside b n) (is_awaited (b.story n)) (is_held_back b (link_of b n)))
     (λ due. none (untold_is_due b n d u t (holding_due (permits_in b.config) (b.story n).permits (λ limit. step_taking (free_permits b (b.story n).link limit) (permits_for (shape (b.story n)) limit)) (step_timed (b.story n).timeout (b.story n).clock (step_placed (is_outside b n) (is_awaited (b.story n)) (is_held_back b (link_of b n)))) p ∙ due)))
@@ -361,7 +380,7 @@ holds_from limit zero taking next due none = absurd (none due)
 holds_from limit (suc held) taking next due none = omega arith
 
 -- so it is in a book, too
-pub rester_holds : (b : Book) (n limit : ℕ) → dials (link_of b n) ≡ false → (link_of b n).up ≡ true → is_told (b.story n) ≡ false → permits_in b.config ≡ Some limit → 0 < free_permits b (b.story n).link limit
+pub rester_holds : (b : Book) (n limit : ℕ) → dials (link_of b n) ≡ false → is_ready (link_of b n) ≡ true → is_told (b.story n) ≡ false → permits_in b.config ≡ Some limit → 0 < free_permits b (b.story n).link limit
     → (is_due (next_step b n) ≡ true → ⊥) → 0 < (b.story n).permits
 rester_holds b n limit d u t p free none =
     holds_from limit (b.story n).permits (λ k. step_taking (free_permits b (b.story n).link k) (permits_for (shape (b.story n)) k)) (step_timed (b.story n).timeout (b.story n).clock (step_placed (is_outside b n) (is_awaited (b.story n)) (is_held_back b (link_of b n))))
@@ -378,7 +397,7 @@ awaited_at_its_place false false held e = absurd (cc e)
 -- so it is in a book, too
 pub placed_is_awaited : (b : Book) (n : ℕ) → is_told (b.story n) ≡ false → next_step b n ≡ starts → is_awaited (b.story n) ≡ true
 placed_is_awaited b n untold e =
-    let r = ready_of (dials (link_of b n)) (link_of b n).up (up_step b n) starts refl e in
+    let r = ready_of (dials (link_of b n)) (link_of b n).up (is_set_up (link_of b n)) (up_step b n) starts refl e in
     elim (open_next (is_told (b.story n)) (is_held_back b (link_of b n)) (untold_step b n) starts r.2) [
       | inl told ↦ absurd (not_both (is_told (b.story n)) untold told.0)
       | inr not_told ↦ awaited_at_its_place (is_outside b n) (is_awaited (b.story n)) (is_held_back b (link_of b n)) (past_timer b n starts (inl refl) not_told.1).1

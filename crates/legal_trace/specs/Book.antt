@@ -11,9 +11,10 @@ use Rattle.driver_model.specs.declared.action.Owner.{Owner}
 use Rattle.driver_model.specs.declared.action.Owner.TheVariants as owner
 use Rattle.driver_model.specs.declared.event.EventKind.{EventKind}
 use Rattle.driver_model.specs.declared.event.EventKind.TheVariants as event
-use Rattle.driver_model.specs.Config.{response_timeout}
+use Rattle.connection_info.specs.declared.address.RedisConnectionInfo.{RedisConnectionInfo}
+use Rattle.driver_model.specs.Config.{response_timeout, told_info, bare_info}
 use Rattle.driver_model.specs.News.{news_of}
-use Rattle.legal_trace.specs.Ledger.{Ledger, Start, Line, asks, hears, begins, offers, ends, blank_ledger, noted_each}
+use Rattle.legal_trace.specs.Ledger.{Ledger, Start, Line, asks, hears, begins, offers, ends, blank_ledger, setup_count, setup_message, noted_each}
 use Rattle.legal_trace.specs.Story.{Story, blank_story, bytes_of, shape, handed_in, left, holds, clocked, fires, tried, waits, answered}
 
 -- the configuration, once the opening has told it; how many links were asked for, and the ledger of each; how many
@@ -36,9 +37,15 @@ pub record Book : Type 0 where
 abbrev pub blank_book : Book
 blank_book = record { config = None; links = 0; link = λ n. blank_ledger; submissions = 0; story = λ n. blank_story; timers = []; created = 0; timeout = None; shut = false; turns = 0; running = None }
 
--- a message as its owner has it: it carries the owner's bytes
-abbrev pub message_of : Book → Owner → Start
-message_of b (owner.Try n round) = record { owner = owner.Try n round; shape = shape (b.story n); bytes = bytes_of (b.story n) }
+-- what is said to a server before the first request, where a configuration tells it
+abbrev pub info_in : Option Config → RedisConnectionInfo
+info_in None = bare_info
+info_in (Some config) = told_info config
+
+-- a message that starts on link l as its owner has it: it carries the owner's bytes
+abbrev pub message_of : Book → ℕ → Owner → Start
+message_of b l owner.Setup = setup_message (b.link l) (setup_count (b.link l).starts)
+message_of b l (owner.Try n round) = record { owner = owner.Try n round; shape = shape (b.story n); bytes = bytes_of (b.story n) }
 
 -- a line of one link alone
 abbrev pub if_mine : Bool → Line → List Line
@@ -48,12 +55,12 @@ if_mine mine line = if mine then line ∷ [] else []
 abbrev pub lines_of : Book → ℕ → Action → List Line
 lines_of b n (action.Turn number (cause.Opening config word)) = []
 lines_of b n (action.Turn number (cause.Event e)) = hears number (news_of b.timers n e.kind) ∷ []
-lines_of b n (action.Connect l host port) = if_mine (l == n) asks
+lines_of b n (action.Connect l host port) = if_mine (l == n) (asks (info_in b.config))
 lines_of b n (action.Timer t ms what) = []
 lines_of b n (action.Took who l count) = []
 lines_of b n (action.Close l) = if_mine (l == n) (ends (b.turns - 1))
 lines_of b n (action.Write l bytes) = if_mine (l == n) (offers bytes)
-lines_of b n (action.Start l message who count len) = if_mine (l == n) (begins (message_of b who))
+lines_of b n (action.Start l message who count len) = if_mine (l == n) (begins (message_of b l who))
 lines_of b n (action.Wait who kind) = []
 lines_of b n (action.Created e) = []
 lines_of b n (action.Outcome m o) = []
@@ -70,6 +77,7 @@ if_own own changed s = if own then changed else s
 abbrev pub is_clock_of : ℕ → Option Purpose → Bool
 is_clock_of n None = false
 is_clock_of n (Some (purpose.Connect l)) = false
+is_clock_of n (Some (purpose.Response owner.Setup)) = false
 is_clock_of n (Some (purpose.Response (owner.Try m round))) = m == n
 
 -- what an event is to submission n
@@ -96,6 +104,9 @@ story_after b n (action.Wait (owner.Try m round) kind) = if_own (m == n) (waits 
 story_after b n (action.Outcome m o) = if_own (m == n) (answered (b.story n) o) (b.story n)
 story_after b n (action.Connect l host port) = b.story n
 story_after b n (action.Timer t ms what) = if_own (is_clock_of n (Some what)) (clocked (b.story n) t) (b.story n)
+story_after b n (action.Took owner.Setup l count) = b.story n
+story_after b n (action.Start l message owner.Setup count len) = b.story n
+story_after b n (action.Wait owner.Setup kind) = b.story n
 story_after b n (action.Took (owner.Try m round) l count) = if_own (m == n) (holds (b.story n) count) (b.story n)
 story_after b n (action.Close l) = b.story n
 story_after b n (action.Write l bytes) = b.story n

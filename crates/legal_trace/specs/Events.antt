@@ -1,5 +1,5 @@
 -- Which events are bad after what is in a book, and which numbers have run out.
-use Rattle.std.specs.Prelude.{◌⊎◌, ◌<◌, ◌≤◌, ℕ, ◌^◌, nat_lt, nat_le, Bool, false, ◌&&◌, ◌||◌, not, length}
+use Rattle.std.specs.Prelude.{◌≡◌, ◌⊎◌, ◌<◌, ◌≤◌, ℕ, ◌^◌, nat_lt, nat_le, Bool, true, false, ◌&&◌, ◌||◌, not, length}
 use Rattle.driver_model.specs.declared.event.EventKind.{EventKind}
 use Rattle.driver_model.specs.declared.event.EventKind.TheVariants as event
 use Rattle.driver_model.specs.Request.{has_no_form}
@@ -27,6 +27,6 @@ is_bad_event b (event.Timeout ms) = false
 is_bad_event b event.Shutdown = false
 
 -- more numbers of a sort were given out than there are: a turn after the number 2^32 - 1, or that number itself to a
--- submission, to a link, to a timer, or to a message of a link
+-- submission, to a link, to a timer, or to a message of a link that is up
 abbrev pub HasRunOut : Book → Type 0
-HasRunOut b = (2 ^ 32 < b.turns) ⊎ (2 ^ 32 ≤ b.submissions) ⊎ (2 ^ 32 ≤ b.links) ⊎ (2 ^ 32 ≤ length b.timers) ⊎ ((l : ℕ) × (2 ^ 32 ≤ length (b.link l).starts))
+HasRunOut b = (2 ^ 32 < b.turns) ⊎ (2 ^ 32 ≤ b.submissions) ⊎ (2 ^ 32 ≤ b.links) ⊎ (2 ^ 32 ≤ length b.timers) ⊎ ((l : ℕ) × ((b.link l).up ≡ true) × (2 ^ 32 ≤ length (b.link l).starts))

@@ -1,13 +1,21 @@
 -- What is told of one link, line by line, and what it comes to: the link's ledger. It knows neither its number nor whose
 -- messages it carries.
-use Rattle.std.specs.Prelude.{◌≡◌, ◌≢◌, ◌⊎◌, ◌≤◌, ℕ, suc, ◌+◌, ◌-◌, nat_le, Bool, true, false, ◌&&◌, not, List, [], ◌∷◌, ◌++◌, length, take, drop, flat_map, Option, Some, None, is_some, if◌then◌else◌}
+use Rattle.std.specs.Prelude.{◌≡◌, ◌≢◌, ◌⊎◌, ◌≤◌, ℕ, zero, suc, ◌+◌, ◌-◌, ◌==◌, nat_le, Bool, true, false, ◌&&◌, not, List, [], ◌∷◌, ◌++◌, length, take, drop, flat_map, Option, Some, None, is_some, if◌then◌else◌}
 use Rattle.resp_value.specs.Data.{Data}
 use Rattle.resp_read.specs.Values.{left_over, is_spoiled}
 use Rattle.resp_read.specs.Items.{items}
 use Rattle.redis_error.specs.declared.fault_kind.FaultKind.TheVariants as kind
 use Rattle.redis_error.specs.declared.redis_error.RedisError.{RedisError}
 use Rattle.redis_error.specs.declared.redis_error.RedisError.TheVariants as error
+use Rattle.connection_info.specs.declared.address.RedisConnectionInfo.{RedisConnectionInfo}
+use Rattle.connection_setup.specs.declared.judgement.SetupResult.{SetupResult}
+use Rattle.connection_setup.specs.declared.judgement.SetupResult.TheVariants.{Ready, RepeatWithoutUser, Failed}
+use Rattle.connection_setup.specs.Setup.{Step, setup}
+use Rattle.connection_setup.specs.Judgement.{judged}
+use Rattle.driver_model.specs.Config.{bare_info}
+use Rattle.driver_model.specs.Setup.{says_nothing, setup_bytes, setup_shape}
 use Rattle.driver_model.specs.declared.action.Owner.{Owner}
+use Rattle.driver_model.specs.declared.action.Owner.TheVariants as owner
 use Rattle.driver_model.specs.declared.news.LinkFault.{LinkFault}
 use Rattle.driver_model.specs.declared.news.LinkFault.TheVariants as fault
 use Rattle.driver_model.specs.declared.outcome.Shape.{Shape}
@@ -39,11 +47,12 @@ pub record End : Type 0 where
   pub why : Ending
   pub oldest : ℕ
 
--- whether its connect was asked for; whether the connect succeeded and it has not ended; how it ended; its starts in order;
+-- whether its connect was asked for, and what is to be said to its server then; whether the connect succeeded and it has not ended; how it ended; its starts in order;
 -- the bytes that were taken from it; the bytes of its unanswered offer; what came behind the last whole value; the items
 -- dealt; and what it was told by the turn that runs
 pub record Ledger : Type 0 where
   pub asked : Bool
+  pub info : RedisConnectionInfo
   pub up : Bool
   pub end : Option End
   pub starts : List Start
@@ -54,7 +63,7 @@ pub record Ledger : Type 0 where
   pub heard : News
 
 abbrev pub blank_ledger : Ledger
-blank_ledger = record { asked = false; up = false; end = None; starts = []; taken = []; offer = []; rest = []; dealt = []; heard = silence }
+blank_ledger = record { asked = false; info = bare_info; up = false; end = None; starts = []; taken = []; offer = []; rest = []; dealt = []; heard = silence }
 
 abbrev pub is_over : Ledger → Bool
 is_over l = is_some l.end
@@ -71,6 +80,15 @@ reach (s ∷ ss) dealt = need_in s.shape dealt + reach ss (drop (need_in s.shape
 -- how many items the first k messages of a link take
 abbrev pub reached : Ledger → ℕ → ℕ
 reached l k = reach (take k l.starts) l.dealt
+
+-- the items of the message that started as number k: those dealt from what the messages before it take on, as many as it
+-- takes
+abbrev pub cut : Ledger → ℕ → Shape → List Data
+cut l k of_shape = let from = drop (reached l k) l.dealt in take (need_in of_shape from) from
+
+-- the message that started as number k has all its items
+abbrev pub is_full : Ledger → ℕ → Bool
+is_full l k = nat_le (reached l (k + 1)) (length l.dealt)
 
 -- items come: as many are dealt as the starts before them still take, and the others are dropped
 abbrev pub items_came : Ledger → List Data → Ledger
@@ -99,7 +117,71 @@ with_news l turn overdue = l
 with_news l turn (failed f) = l
 with_news l turn shut = l
 
--- what ends a link that is up: its peer, a read or a write that failed, bytes that begin no value, or the shutdown
+-- a start of the setup
+abbrev pub is_of_setup : Owner → Bool
+is_of_setup owner.Setup = true
+is_of_setup (owner.Try n round) = false
+
+-- how many of these starts are of the setup: they are the first ones
+abbrev pub setup_count : List Start → ℕ
+setup_count [] = 0
+setup_count (s ∷ ss) = if is_of_setup s.owner then suc (setup_count ss) else 0
+
+-- the commands of the setup as it is sent for the first time, with the user name, and of any later one, without it
+abbrev pub setup_steps : Ledger → ℕ → List Step
+setup_steps l k = setup l.info (k == 0)
+
+-- what the replies to the setup that started as number k come to, once they are all there
+abbrev pub result_of : Ledger → ℕ → Option SetupResult
+result_of l k = if is_full l k then Some (judged (setup_steps l k) (cut l k (setup_shape (setup_steps l k)))) else None
+
+-- what the last of so many setups came to
+abbrev pub last_result : Ledger → ℕ → Option SetupResult
+last_result l zero = None
+last_result l (suc k) = result_of l k
+
+-- what the setup came to: where nothing is to be said the link is ready at once
+abbrev pub setup_result : Ledger → Option SetupResult
+setup_result l = if says_nothing (setup_steps l 0) then Some Ready else last_result l (setup_count l.starts)
+
+abbrev pub is_well : Option SetupResult → Bool
+is_well (Some Ready) = true
+is_well _ = false
+
+-- the link is set up
+abbrev pub is_set_up : Ledger → Bool
+is_set_up l = is_well (setup_result l)
+
+-- it is up, and set up
+abbrev pub is_ready : Ledger → Bool
+is_ready l = l.up && is_set_up l
+
+-- the error with which a setup failed
+abbrev pub error_in : Option SetupResult → Option RedisError
+error_in (Some (Failed e)) = Some e
+error_in _ = None
+
+-- the server counts other arguments
+abbrev pub repeats : Option SetupResult → Bool
+repeats (Some RepeatWithoutUser) = true
+repeats _ = false
+
+-- the number of the setup that is to start next, of so many that started: the first where something is to be said, and a
+-- second one without the user name where the server counts other arguments
+abbrev pub setup_after : Ledger → ℕ → Option ℕ
+setup_after l zero = if says_nothing (setup_steps l 0) then None else Some 0
+setup_after l (suc zero) = if repeats (result_of l 0) then Some 1 else None
+setup_after l (suc (suc k)) = None
+
+-- the setup that is to start on a link that is up
+abbrev pub setup_due : Ledger → Option ℕ
+setup_due l = if l.up then setup_after l (setup_count l.starts) else None
+
+-- the message of the setup that starts as number k
+abbrev pub setup_message : Ledger → ℕ → Start
+setup_message l k = record { owner = owner.Setup; shape = setup_shape (setup_steps l k); bytes = setup_bytes (setup_steps l k) }
+
+-- what ends a link that is up and set up: its peer, a read or a write that failed, bytes that begin no value, or the shutdown
 abbrev pub ending_up : Ledger → News → Option Ending
 ending_up l (came piece) = if is_spoiled l.rest then Some (by_fault fault.Parse) else None
 ending_up l (failed f) = Some (by_fault f)
@@ -109,6 +191,26 @@ ending_up l connected = None
 ending_up l (refused f) = None
 ending_up l overdue = None
 ending_up l (took count) = None
+
+-- what ends a link that is up and not set up: the setup failed, the time for it is over, everything is shut down, or the link
+-- fails, which closes the connection for the setup, as for a pipeline
+abbrev pub ending_unready : Ledger → News → Option Ending
+ending_unready l shut = Some by_shutdown
+ending_unready l overdue = Some (by_opening (error.Io kind.TimedOut))
+ending_unready l (failed f) = Some (by_opening error.Closed)
+ending_unready l (came piece) = if is_spoiled l.rest then Some (by_opening error.Closed) else None
+ending_unready l silence = None
+ending_unready l connected = None
+ending_unready l (refused f) = None
+ending_unready l (took count) = None
+
+abbrev pub ending_by : Option RedisError → Option Ending → Option Ending
+ending_by None other = other
+ending_by (Some e) other = Some (by_opening e)
+
+-- what ends a link that is up
+abbrev pub ending_alive : Ledger → Option Ending
+ending_alive l = if is_set_up l then ending_up l l.heard else ending_by (error_in (setup_result l)) (ending_unready l l.heard)
 
 -- what closes a link whose connect isn't answered: the shutdown, and the end of the time in which it was to be connected
 abbrev pub ending_asked : News → Option Ending
@@ -123,7 +225,7 @@ ending_asked (failed f) = None
 
 -- what must end the link in the turn that runs, if anything does
 abbrev pub ending : Ledger → Option Ending
-ending l = if l.up then ending_up l l.heard else (if l.asked && not (is_over l) then ending_asked l.heard else None)
+ending l = if l.up then ending_alive l else (if l.asked && not (is_over l) then ending_asked l.heard else None)
 
 abbrev pub ending_or_shutdown : Option Ending → Ending
 ending_or_shutdown None = by_shutdown
@@ -138,10 +240,10 @@ full_count (s ∷ ss) dealt = if nat_le (need_in s.shape dealt) (length dealt) t
 abbrev pub ended : Ledger → ℕ → Ledger
 ended l turn = record l { up = false; end = Some (record { turn = turn; why = ending_or_shutdown (ending l); oldest = full_count l.starts l.dealt }) }
 
--- a line of what is told of a link: its connect is asked for; the turn of that number, with this news for it; a message
+-- a line of what is told of a link: its connect is asked for, and this is to be said to its server then; the turn of that number, with this news for it; a message
 -- begins; its unwritten bytes are offered; it is closed, in that turn
 pub data Line : Type 0 where
-  asks : Line
+  asks : RedisConnectionInfo → Line
   hears : ℕ → News → Line
   begins : Start → Line
   offers : List ℕ → Line
@@ -149,7 +251,7 @@ pub data Line : Type 0 where
 
 -- what one more line makes of it
 abbrev pub noted : Ledger → Line → Ledger
-noted l asks = record l { asked = true }
+noted l (asks info) = record l { asked = true; info = info }
 noted l (hears turn news) = record (with_news l turn news) { heard = news }
 noted l (begins s) = record l { starts = l.starts ++ s ∷ [] }
 noted l (offers bytes) = record l { offer = bytes }
@@ -192,7 +294,7 @@ IsWithin l _ = Unit {0}
 -- where a line may stand: a link is asked for once; its messages have bytes, and start while it is up; it is offered all
 -- its unwritten bytes at once, where no offer is unanswered; and it ends where something must end it
 abbrev pub MayNote : Ledger → Line → Type 0
-MayNote l asks = l.asked ≡ false
+MayNote l (asks info) = l.asked ≡ false
 MayNote l (hears turn news) = IsWithin l news
 MayNote l (begins s) = (l.up ≡ true) × (s.bytes ≢ [])
 MayNote l (offers bytes) = (l.up ≡ true) × (l.offer ≡ []) × (bytes ≡ unwritten l) × (bytes ≢ [])

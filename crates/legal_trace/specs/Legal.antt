@@ -19,11 +19,11 @@ use Rattle.driver_model.specs.declared.outcome.Outcome.{Outcome}
 use Rattle.driver_model.specs.declared.outcome.Outcome.TheVariants as outcome
 use Rattle.driver_model.specs.Config.{address, connect_timeout, first_fault}
 use Rattle.driver_model.specs.Shape.{need_of}
-use Rattle.legal_trace.specs.Ledger.{Ledger, Ending, IsOffered, is_over, ending, failure_in, unwritten}
+use Rattle.legal_trace.specs.Ledger.{Ledger, Ending, IsOffered, is_full, is_over, is_ready, ending, failure_in, setup_due, setup_message, unwritten}
 use Rattle.legal_trace.specs.Story.{Try, last_of, is_open, is_unstarted, bytes_of, shape}
 use Rattle.legal_trace.specs.Book.{Book, blank_book, book, entered, current}
-use Rattle.legal_trace.specs.Owed.{owed, is_full}
-use Rattle.legal_trace.specs.Steps.{waits, takes, asks, tells, starts, is_due, next_step}
+use Rattle.legal_trace.specs.Owed.{owed}
+use Rattle.legal_trace.specs.Steps.{waits, takes, asks, tells, starts, is_due, is_held_back, next_step}
 use Rattle.legal_trace.specs.Events.{is_bad_event}
 
 -- submission n is handed in, and neither answered nor cancelled
@@ -50,10 +50,14 @@ NoneEnds b = (l : ℕ) → ending (b.link l) ≡ None
 abbrev pub FailuresAreShown : Book → Type 0
 FailuresAreShown b = (l : ℕ) (e : RedisError) → failure_in (b.link l).end ≡ Some e → b.created ≢ 0
 
--- a link was asked for, and where a link is up, or its opening failed, the creation was shown
+-- where a link is ready, the creation was shown
+abbrev pub ReadyIsShown : Book → Type 0
+ReadyIsShown b = (l : ℕ) → is_ready (b.link l) ≡ true → b.created ≢ 0
+
+-- a link was asked for, and where a link is ready, or its opening failed, the creation was shown
 pub record IsCreated (b : Book) : Type 0 where
   pub asked : b.links ≢ 0
-  pub shown : (l : ℕ) → (b.link l).up ≡ true → b.created ≢ 0
+  pub shown : ReadyIsShown b
   pub failed : FailuresAreShown b
 
 -- the opening has asked for a timer where the connect is bounded
@@ -67,6 +71,15 @@ pub record IsApplied (b : Book) : Type 0 where
   pub created : IsCreated b
   pub timed : IsTimed b
 
+-- the setup of each link has started that is to start, but where the link is held back
+abbrev pub SetupsAreStarted : Book → Type 0
+SetupsAreStarted b = (l k : ℕ) → setup_due (b.link l) ≡ Some k → is_held_back b (b.link l) ≡ true
+
+-- the event has had its own effect, and setups have started
+pub record IsBegun (b : Book) : Type 0 where
+  pub applied : IsApplied b
+  pub setups : SetupsAreStarted b
+
 -- a submission whose message has not started, and which makes a step next
 pub record CanMove (b : Book) (n : ℕ) : Type 0 where
   pub unstarted : is_unstarted (b.story n) ≡ true
@@ -74,7 +87,7 @@ pub record CanMove (b : Book) (n : ℕ) : Type 0 where
 
 -- every step that may be made was made
 pub record IsMoved (b : Book) : Type 0 where
-  pub applied : IsApplied b
+  pub begun : IsBegun b
   pub moved : (n : ℕ) → CanMove b n → ⊥
 
 -- every link that is up is offered its bytes
@@ -82,8 +95,8 @@ pub record IsWritten (b : Book) : Type 0 where
   pub moved : IsMoved b
   pub offered : (l : ℕ) → (b.link l).up ≡ true → IsOffered (b.link l)
 
--- the wait that is true of a submission without a message: its link's connect isn't answered; all permits are held; the queue
--- of its link has no place for it; or it has its place, and its link is held back
+-- the wait that is true of a submission without a message: its link's connect isn't answered, or its setup; all permits are
+-- held; the queue of its link has no place for it; or it has its place, and its link is held back
 abbrev pub WaitHolds : Book → ℕ → WaitKind → Type 0
 WaitHolds b n kind = next_step b n ≡ waits kind
 
@@ -146,14 +159,14 @@ pub record MayClose (b : Book) (l : ℕ) : Type 0 where
   pub ends : ending (b.link l) ≡ Some why
   pub in_order : (m : ℕ) → m < l → ending (b.link m) ≡ None
   pub answered : VerdictsAreShown b
+  pub created : ReadyIsShown b
 
--- the creation is shown once, when a link is up
+-- the creation is shown once, when a link is ready: once the outcomes that values gave are shown, and before a link ends
 pub record MayBeCreated (b : Book) : Type 0 where
   pub l : ℕ
-  pub up : (b.link l).up ≡ true
+  pub ready : is_ready (b.link l) ≡ true
   pub once : b.created ≡ 0
-  pub answered : NoneIsOwed b
-  pub ended : NoneEnds b
+  pub answered : VerdictsAreShown b
 
 -- it is shown once that the opening of a link failed, the first that did, with its error: once all links that must end have,
 -- and the outcomes that values gave are shown
@@ -178,13 +191,25 @@ pub record MayAnswer (b : Book) (n : ℕ) (o : Outcome) : Type 0 where
   pub in_order : (m : ℕ) → m < n → IsOpen b m → is_over (link_of b m) ≡ is_over (link_of b n) → owed b m ≡ None
   pub after_closes : is_over (link_of b n) ≡ true → NoneEnds b × VerdictsAreShown b × FailuresAreShown b
 
+-- the setup of a link starts once its cause is there, and once more where the server counts other arguments, while the link
+-- isn't held back
+pub record MaySetUp (b : Book) (l message count len : ℕ) : Type 0 where
+  pub applied : IsApplied b
+  pub k : ℕ
+  pub due : setup_due (b.link l) ≡ Some k
+  pub free : is_held_back b (b.link l) ≡ false
+  pub in_order : (m i : ℕ) → m < l → setup_due (b.link m) ≡ Some i → is_held_back b (b.link m) ≡ true
+  pub next : message ≡ length (b.link l).starts
+  pub needs_its_items : count ≡ need_of (setup_message (b.link l) k).shape
+  pub long_as_its_bytes : len ≡ length (setup_message (b.link l) k).bytes
+
 -- no submission before n makes a step
 abbrev pub IsFirstToMove : Book → ℕ → Type 0
 IsFirstToMove b n = (m : ℕ) → m < n → CanMove b m → ⊥
 
 -- a command whose reply nobody awaits is answered with Nil at its place
 pub record MayTell (b : Book) (n : ℕ) (o : Outcome) : Type 0 where
-  pub applied : IsApplied b
+  pub begun : IsBegun b
   pub asked : IsOpen b n
   pub unstarted : is_unstarted (b.story n) ≡ true
   pub tells : next_step b n ≡ tells
@@ -194,7 +219,7 @@ pub record MayTell (b : Book) (n : ℕ) (o : Outcome) : Type 0 where
 -- a message starts on the link of its submission, in the order of submissions, with its number there, its need and its
 -- length
 pub record MayStart (b : Book) (l message n count len : ℕ) : Type 0 where
-  pub applied : IsApplied b
+  pub begun : IsBegun b
   pub unstarted : is_unstarted (b.story n) ≡ true
   pub starts : next_step b n ≡ starts
   pub in_order : IsFirstToMove b n
@@ -224,7 +249,7 @@ pub record MayWait (b : Book) (n : ℕ) (kind : WaitKind) : Type 0 where
 -- the timer of a submission is asked for, once it holds its permits, in the order of submissions
 pub record MayTime (b : Book) (t ms : ℕ) (what : Purpose) : Type 0 where
   pub n : ℕ
-  pub applied : IsApplied b
+  pub begun : IsBegun b
   pub unstarted : is_unstarted (b.story n) ≡ true
   pub asks : next_step b n ≡ asks ms
   pub in_order : IsFirstToMove b n
@@ -236,7 +261,7 @@ MayTimer b t ms what = MayTimeConnect b t ms what ⊎ MayTime b t ms what
 
 -- a submission takes its permits, in the order of submissions
 pub record MayTake (b : Book) (n l count : ℕ) : Type 0 where
-  pub applied : IsApplied b
+  pub begun : IsBegun b
   pub unstarted : is_unstarted (b.story n) ≡ true
   pub takes : next_step b n ≡ takes count
   pub in_order : IsFirstToMove b n
@@ -247,9 +272,12 @@ abbrev pub MayStand : Book → Action → Type 0
 MayStand b (action.Turn number c) = MayTurn b number c
 MayStand b (action.Connect l host port) = MayConnect b l host port
 MayStand b (action.Timer t ms what) = MayTimer b t ms what
+MayStand b (action.Took owner.Setup l count) = ⊥
 MayStand b (action.Took (owner.Try n round) l count) = (round ≡ 0) × MayTake b n l count
 MayStand b (action.Close l) = MayClose b l
 MayStand b (action.Write l bytes) = MayWrite b l bytes
+MayStand b (action.Wait owner.Setup kind) = ⊥
+MayStand b (action.Start l message owner.Setup count len) = MaySetUp b l message count len
 MayStand b (action.Wait (owner.Try n round) kind) = (round ≡ 0) × MayWait b n kind
 MayStand b (action.Start l message (owner.Try n round) count len) = (round ≡ 0) × MayStart b l message n count len
 MayStand b (action.Created e) = MayShowCreation b e

@@ -11,18 +11,9 @@ use Rattle.driver_model.specs.declared.outcome.Outcome.TheVariants as outcome
 use Rattle.driver_model.specs.declared.outcome.Shape.{Shape}
 use Rattle.driver_model.specs.declared.outcome.Shape.TheVariants.{Single, Pipeline}
 use Rattle.driver_model.specs.Shape.{verdict_of, outcome_of}
-use Rattle.legal_trace.specs.Ledger.{Ledger, End, Ending, by_shutdown, by_fault, by_opening, need_in, reached}
+use Rattle.legal_trace.specs.Ledger.{Ledger, End, Ending, by_shutdown, by_fault, by_opening, cut, is_full}
 use Rattle.legal_trace.specs.Story.{Story, Try, bytes_of, shape, last_of}
 use Rattle.legal_trace.specs.Book.{Book}
-
--- the items of the message that started as number k: those dealt from what the messages before it take on, as many as it
--- takes
-abbrev pub cut : Ledger → ℕ → Shape → List Data
-cut l k of_shape = let from = drop (reached l k) l.dealt in take (need_in of_shape from) from
-
--- the message that started as number k has all its items
-abbrev pub is_full : Ledger → ℕ → Bool
-is_full l k = nat_le (reached l (k + 1)) (length l.dealt)
 
 -- the error that a fault is
 abbrev pub fault_error : LinkFault → RedisError

@@ -5,7 +5,7 @@ use Rattle.driver_model.specs.declared.action.WaitKind.TheVariants as wait
 use Rattle.driver_model.specs.declared.config.Config.{Config}
 use Rattle.driver_model.specs.Config.{buffer_size, boundary}
 use Rattle.driver_model.specs.Shape.{permits_for}
-use Rattle.legal_trace.specs.Ledger.{Ledger, dials, unwritten}
+use Rattle.legal_trace.specs.Ledger.{Ledger, dials, is_set_up, unwritten}
 use Rattle.legal_trace.specs.Story.{Story, is_awaited, is_told, is_unstarted, shape}
 use Rattle.legal_trace.specs.Book.{Book}
 
@@ -126,4 +126,6 @@ abbrev pub next_step : Book → ℕ → Step
 next_step b n =
     let s = b.story n in
     let l = b.link s.link in
-    if dials l then waits wait.Connect else if l.up then step_ready b n s else nothing
+    if dials l then waits wait.Connect
+    else if l.up then (if is_set_up l then step_ready b n s else waits wait.Setup)
+    else nothing

@@ -129,6 +129,34 @@ impl LinkCore {
         }
     }
 
+    /// A message whose verdict is wanted takes the last place of the queue, also where the queue holds its size.
+    pub fn enqueue_beyond(
+        &mut self,
+        alloc: Global,
+        id: u64,
+        packed: &[u8],
+        shape: Shape,
+    ) -> Result<(), AllocError>
+        ensures ok { OnOk result (
+            self.new
+            ≡ enqueued self.old
+            (record { id = id; packed = packed.now; shape = shape; awaited = true })
+            ) }
+        ensures no_memory { OnErr result (self.new.failed ≡ true) }
+        ensures failed { self.old.failed ≡ true → IsErr result }
+    {
+        if self.failed {
+            return Err(AllocError);
+        }
+        match self.try_enqueue(alloc, id, packed, shape, false) {
+            Ok(()) => Ok(()),
+            Err(error) => {
+                self.failed = true;
+                Err(error)
+            }
+        }
+    }
+
     /// Whether the queue holds its size.
     pub fn is_full(&self) -> bool
         ensures { result ≡ is_full self.now }

@@ -9,6 +9,7 @@ use Rattle.redis_error.specs.declared.redis_error.RedisError.TheVariants as erro
 use Rattle.driver_model.specs.declared.action.Owner.{Owner}
 use Rattle.driver_model.specs.declared.news.LinkFault.{LinkFault}
 use Rattle.driver_model.specs.declared.news.LinkFault.TheVariants as fault
+use Rattle.driver_model.specs.Config.{bare_info}
 use Rattle.driver_model.specs.News.{News, silence, connected, took, came, failed, shut}
 use Rattle.link_core.specs.declared.message.Queued.{Queued}
 use Rattle.link_core.specs.declared.message.Settled.{Settled}
@@ -19,6 +20,7 @@ use Rattle.link_core.specs.Waiting.{is_wanted, without}
 use Rattle.legal_trace.specs.Ledger.{Ledger, reach, Ending, by_shutdown, by_fault, Line, asks, hears, begins, offers, ends, blank_ledger, ending, ending_up, ended, noted, noted_each, ledger, AllNoted, LinkLegal}
 use Rattle.legal_trace.specs.Owed.{unstarted_error}
 use Rattle.legal_trace.proofs.Ledgers.{noted_append, may_append}
+use Rattle.legal_trace.proofs.Setups.{bare_is_set, ends_where_set}
 use Rattle.link_laws.specs.Settles.{IsOwed, IsOwedUnstarted}
 use Rattle.link_laws.specs.Starts.{start_from, starting, begins_each}
 use Rattle.link_laws.specs.Runs.{Operation, place, begin, offer, take_up, read, withdraw, fail, shut_down, pass, Run, fresh_run, heard, settling, over_with, placed, begun_all, offered, taken_up, has_come, or_parse, has_read, acted, performed, performed_each, run, AreOwed}
@@ -41,8 +43,9 @@ told_more l lines more h may = record {
   stands = may_append blank_ledger lines more h.stands (subst (λ (x : Ledger). AllNoted x more) (sym h.told) may);
 }
 
--- a link that is up, has not ended, and reads on
+-- a link that is up, to whose server nothing is to be said, has not ended, and reads on
 record Lives (l : Ledger) : Type 0 where
+  pub bare : l.info ≡ bare_info
   pub up : l.up ≡ true
   pub lives : l.end ≡ None
   pub unspoiled : is_spoiled l.rest ≡ false
@@ -74,11 +77,11 @@ fresh_sound : (name : ℕ → Owner) (size boundary : ℕ) → Sound name (fresh
 fresh_sound name size boundary = inl (
   refl,
   (
-    noted (noted blank_ledger asks) (hears 1 connected),
+    noted (noted blank_ledger (asks bare_info)) (hears 1 connected),
     record {
       told = record { told = refl; stands = (refl, (tt, tt)) };
-      lives = record { up = refl; lives = refl; unspoiled = values-empty.2 };
-      tied = connected_tied name (noted blank_ledger asks) (fresh size boundary) 1 (asked_tied name blank_ledger (fresh size boundary) (fresh_tied name size boundary));
+      lives = record { bare = refl; up = refl; lives = refl; unspoiled = values-empty.2 };
+      tied = connected_tied name (noted blank_ledger (asks bare_info)) (fresh size boundary) 1 (asked_tied name blank_ledger bare_info (fresh size boundary) (fresh_tied name size boundary));
       packed = tt;
       cuts = tt;
       none = refl;
@@ -92,7 +95,7 @@ fresh_sound name size boundary = inl (
 heard_live : (name : ℕ → Owner) (l : Ledger) (r : Run) → IsLive name l r → IsLive name (noted l (hears (r.turn + 1) silence)) (heard r silence)
 heard_live name l r h = record {
   told = told_more l r.lines (hears (r.turn + 1) silence ∷ []) h.told (tt, tt);
-  lives = record { up = h.lives.up; lives = h.lives.lives; unspoiled = h.lives.unspoiled };
+  lives = record { bare = h.lives.bare; up = h.lives.up; lives = h.lives.lives; unspoiled = h.lives.unspoiled };
   tied = told_tied name l r.link l.asked l.up silence h.tied;
   packed = h.packed;
   cuts = h.cuts;
@@ -142,7 +145,7 @@ withdrawn_live name l r id h = record {
 -- a link lives on where messages start
 begins_live : (name : ℕ → Owner) (l : Ledger) (qs : List Queued) → Lives l → Lives (noted_each l (begins_each name qs))
 begins_live name l [] h = h
-begins_live name l (q ∷ qs) h = begins_live name (noted l (begins (start_from name q))) qs (record { up = h.up; lives = h.lives; unspoiled = h.unspoiled })
+begins_live name l (q ∷ qs) h = begins_live name (noted l (begins (start_from name q))) qs (record { bare = h.bare; up = h.up; lives = h.lives; unspoiled = h.unspoiled })
 
 -- and what was settled keeps its cuts
 begins_cuts : (name : ℕ → Owner) (l : Ledger) (qs : List Queued) (out : List Settled) → AreCuts name l.starts l.dealt out
@@ -180,7 +183,7 @@ offered_live name l r goes_on h =
         noted l (offers r.link.outbox.unwritten),
         record {
           told = told_more l r.lines (offers r.link.outbox.unwritten ∷ []) h.told (offer_stands name l r.link h.lives.up t h.tied, tt);
-          lives = record { up = h.lives.up; lives = h.lives.lives; unspoiled = h.lives.unspoiled };
+          lives = record { bare = h.lives.bare; up = h.lives.up; lives = h.lives.lives; unspoiled = h.lives.unspoiled };
           tied = offered_tied name l r.link h.tied;
           packed = h.packed;
           cuts = h.cuts;
@@ -192,7 +195,7 @@ offered_live name l r goes_on h =
 
 -- what a link that is up keeps when bytes are taken
 taken_lives : (l : Ledger) (turn n : ℕ) → Lives l → Lives (noted l (hears turn (took n)))
-taken_lives l turn n h = if_true (λ (x : Ledger). Lives (record x { heard = took n })) l.up _ l h.up (record { up = h.up; lives = h.lives; unspoiled = h.unspoiled })
+taken_lives l turn n h = if_true (λ (x : Ledger). Lives (record x { heard = took n })) l.up _ l h.up (record { bare = h.bare; up = h.up; lives = h.lives; unspoiled = h.unspoiled })
 
 -- what was settled keeps its cuts
 taken_cuts : (name : ℕ → Owner) (l : Ledger) (turn n : ℕ) (out : List Settled) → l.up ≡ true → AreCuts name l.starts l.dealt out → AreCuts name (noted l (hears turn (took n))).starts (noted l (hears turn (took n))).dealt out
@@ -254,20 +257,20 @@ faulted_sound name l r f ends_by h = over_sound name l r (row_hit f r.link.row) 
 closed_sound : (name : ℕ → Owner) (l : Ledger) (r : Run) → ending l ≡ Some by_shutdown → IsEnding name l r → Sound name (over_with r (closed_all (settling r)))
 closed_sound name l r ends_by h = over_sound name l r (row_closed r.link.row) by_shutdown ends_by refl (row_closed_owed name l r.link r.turn ends_by h.lives h.tied) h
 
--- news that ends a link that is up
-ends_up : (l : Ledger) (news : News) (why : Ending) → l.up ≡ true → ending_up l news ≡ Some why → ending (record l { heard = news }) ≡ Some why
-ends_up l news why up e = taken_if l.up _ _ up ∙ e
+-- news that ends a link that is up, to whose server nothing is to be said
+ends_up : (l : Ledger) (news : News) (why : Ending) → Lives l → ending_up l news ≡ Some why → ending (record l { heard = news }) ≡ Some why
+ends_up l news why lives e = ends_where_set (record l { heard = news }) lives.up (bare_is_set (record l { heard = news }) lives.bare) ∙ e
 
 -- a fault is told, and ends the link
 failed_sound : (name : ℕ → Owner) (l : Ledger) (r : Run) (f : LinkFault) → IsLive name l r → Sound name (over_with (heard r (failed f)) (faulted (settling r) f))
 failed_sound name l r f h =
-    faulted_sound name (noted l (hears (r.turn + 1) (failed f))) (heard r (failed f)) f (ends_up l (failed f) (by_fault f) h.lives.up refl)
+    faulted_sound name (noted l (hears (r.turn + 1) (failed f))) (heard r (failed f)) f (ends_up l (failed f) (by_fault f) h.lives refl)
     (record { told = told_more l r.lines (hears (r.turn + 1) (failed f) ∷ []) h.told (tt, tt); lives = h.lives.lives; tied = told_tied name l r.link l.asked l.up (failed f) h.tied; cuts = h.cuts })
 
 -- the shutdown is told, and ends the link
 shut_sound : (name : ℕ → Owner) (l : Ledger) (r : Run) → IsLive name l r → Sound name (over_with (heard r shut) (closed_all (settling r)))
 shut_sound name l r h =
-    closed_sound name (noted l (hears (r.turn + 1) shut)) (heard r shut) (ends_up l shut by_shutdown h.lives.up refl)
+    closed_sound name (noted l (hears (r.turn + 1) shut)) (heard r shut) (ends_up l shut by_shutdown h.lives refl)
     (record { told = told_more l r.lines (hears (r.turn + 1) shut ∷ []) h.told (tt, tt); lives = h.lives.lives; tied = told_tied name l r.link l.asked l.up shut h.tied; cuts = h.cuts })
 
 -- bytes come
@@ -288,8 +291,8 @@ read_ending name l r piece h =
     }
 
 -- bytes that begin no value end a link that is up
-breaks_up : (l : Ledger) (piece : List ℕ) → l.up ≡ true → is_spoiled (has_heard l piece).rest ≡ true → ending (has_heard l piece) ≡ Some (by_fault fault.Parse)
-breaks_up l piece up spoiled = taken_if l.up _ _ up ∙ taken_if (is_spoiled (has_heard l piece).rest) (Some (by_fault fault.Parse)) None spoiled
+breaks_up : (l : Ledger) (piece : List ℕ) → Lives l → is_spoiled (has_heard l piece).rest ≡ true → ending (has_heard l piece) ≡ Some (by_fault fault.Parse)
+breaks_up l piece lives spoiled = ends_where_set (has_heard l piece) lives.up (bare_is_set (has_heard l piece) lives.bare) ∙ taken_if (is_spoiled (has_heard l piece).rest) (Some (by_fault fault.Parse)) None spoiled
 
 -- and then ends where they begin no value
 parse_sound : (name : ℕ → Owner) (l : Ledger) (r : Run) (piece : List ℕ) → r.over ≡ false → IsLive name l r → Sound name (or_parse (after_read r piece))
@@ -297,14 +300,14 @@ parse_sound name l r piece goes_on h =
     let e = read_ending name l r piece h in
     let spoils : (link_read r.link piece).broken ≡ is_spoiled (has_heard l piece).rest = e.tied.broken ∙ ap is_spoiled (sym e.tied.rest) in
     chosen (Sound name) (link_read r.link piece).broken (over_with (after_read r piece) (faulted (settling (after_read r piece)) fault.Parse)) (after_read r piece)
-    (λ t. faulted_sound name (has_heard l piece) (after_read r piece) fault.Parse (breaks_up l piece h.lives.up (sym spoils ∙ t)) e)
+    (λ t. faulted_sound name (has_heard l piece) (after_read r piece) fault.Parse (breaks_up l piece h.lives (sym spoils ∙ t)) e)
     (λ f. inl (
       goes_on,
       (
         has_heard l piece,
         record {
           told = e.told;
-          lives = record { up = h.lives.up; lives = h.lives.lives; unspoiled = sym spoils ∙ f };
+          lives = record { bare = h.lives.bare; up = h.lives.up; lives = h.lives.lives; unspoiled = sym spoils ∙ f };
           tied = e.tied;
           packed = h.packed;
           cuts = e.cuts;

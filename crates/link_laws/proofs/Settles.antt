@@ -19,8 +19,8 @@ use Rattle.link_core.specs.declared.message.Settled.{Settled}
 use Rattle.link_core.specs.Ends.{failed_by, error_of, hit_by, row_closed, row_hit, queue_closed}
 use Rattle.link_core.specs.Link.{LinkState, Settling, piece_dealt}
 use Rattle.link_core.specs.Row.{lack_of, lack_of_row}
-use Rattle.legal_trace.specs.Ledger.{Start, hears, noted, End, Ending, by_shutdown, by_fault, Ledger, reach, ending, ending_or_shutdown, full_count, ended}
-use Rattle.legal_trace.specs.Owed.{cut, is_full, fault_error, oldest_error, unstarted_error, cut_off, owed_to_message, owed_unstarted}
+use Rattle.legal_trace.specs.Ledger.{Start, hears, noted, End, Ending, by_shutdown, by_fault, Ledger, reach, ending, ending_or_shutdown, full_count, ended, cut, is_full}
+use Rattle.legal_trace.specs.Owed.{fault_error, oldest_error, unstarted_error, cut_off, owed_to_message, owed_unstarted}
 use Rattle.link_laws.specs.Settles.{StandsAs, IsOwed, IsOwedUnstarted}
 use Rattle.link_laws.proofs.Rows.{Open, untouched_each, open_rows, open_list, StandFrom, rows_stand, unfilled}
 use Rattle.link_laws.proofs.Dealt.{IsCutOf, AreCuts, all_append}

@@ -7,8 +7,8 @@ use Rattle.link_core.specs.declared.message.Entry.{Entry}
 use Rattle.link_core.specs.declared.message.Queued.{Queued}
 use Rattle.link_core.specs.declared.message.Started.{Started}
 use Rattle.link_core.specs.Link.{LinkState, Starting, start_of, holds_back, started_one, started_each}
-use Rattle.legal_trace.specs.Ledger.{Start, Ledger, full_count}
-use Rattle.legal_trace.specs.Owed.{is_full, cut_off_if, owed_to_message}
+use Rattle.legal_trace.specs.Ledger.{Start, Ledger, full_count, is_full}
+use Rattle.legal_trace.specs.Owed.{cut_off_if, owed_to_message}
 use Rattle.link_laws.specs.Settles.{StandsAs}
 use Rattle.link_laws.specs.Starts.{begun, starting}
 use Rattle.link_laws.proofs.Choices.{chosen_both}

@@ -8,6 +8,7 @@ use Rattle.resp_value.specs.Data.{Data}
 use Rattle.resp_read.specs.Values.{left_over, is_spoiled}
 use Rattle.resp_read.specs.Items.{items}
 use Rattle.resp_read.proofs.ValueLaws.{values-empty, left_over-settled}
+use Rattle.connection_info.specs.declared.address.RedisConnectionInfo.{RedisConnectionInfo}
 use Rattle.driver_model.specs.declared.action.Owner.{Owner}
 use Rattle.redis_error.specs.declared.fault_kind.FaultKind.{FaultKind}
 use Rattle.redis_error.specs.declared.redis_error.RedisError.TheVariants as error
@@ -86,8 +87,18 @@ pub told_tied : (name : ℕ → Owner) (l : Ledger) (s : LinkState) (asked up : 
 told_tied name l s asked up news h = retied name name l s asked up l.end news s.queue s.row h h.row
 
 -- its connect is asked for
-pub asked_tied : (name : ℕ → Owner) (l : Ledger) (s : LinkState) → TiedLink name l s → TiedLink name (noted l asks) s
-asked_tied name l s h = told_tied name l s true l.up l.heard h
+pub asked_tied : (name : ℕ → Owner) (l : Ledger) (info : RedisConnectionInfo) (s : LinkState) → TiedLink name l s → TiedLink name (noted l (asks info)) s
+asked_tied name l info s h = record {
+  sent = h.sent;
+  offer = h.offer;
+  bound = h.bound;
+  rest = h.rest;
+  broken = h.broken;
+  started = h.started;
+  within = h.within;
+  bytes = h.bytes;
+  row = h.row;
+}
 
 -- and succeeds
 pub connected_tied : (name : ℕ → Owner) (l : Ledger) (s : LinkState) (turn : ℕ) → TiedLink name l s → TiedLink name (noted l (hears turn connected)) s

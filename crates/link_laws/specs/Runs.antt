@@ -3,6 +3,7 @@ use Rattle.std.specs.Prelude.{ℕ, ◌≡◌, ◌+◌, ◌==◌, nat_le, Bool, t
 use Rattle.driver_model.specs.declared.action.Owner.{Owner}
 use Rattle.driver_model.specs.declared.news.LinkFault.{LinkFault}
 use Rattle.driver_model.specs.declared.news.LinkFault.TheVariants as fault
+use Rattle.driver_model.specs.Config.{bare_info}
 use Rattle.driver_model.specs.News.{News, silence, connected, took, came, failed, shut}
 use Rattle.link_core.specs.declared.message.Queued.{Queued}
 use Rattle.link_core.specs.declared.message.Settled.{Settled}
@@ -39,7 +40,7 @@ pub record Run : Type 0 where
 
 -- a link is asked for in turn 0, and its connect succeeds in turn 1
 abbrev pub fresh_run : ℕ → ℕ → Run
-fresh_run size boundary = record { link = fresh size boundary; over = false; turn = 1; lines = asks ∷ hears 1 connected ∷ []; settled = []; unstarted = [] }
+fresh_run size boundary = record { link = fresh size boundary; over = false; turn = 1; lines = asks bare_info ∷ hears 1 connected ∷ []; settled = []; unstarted = [] }
 
 -- a turn, with this news for the link
 abbrev pub heard : Run → News → Run

@@ -1,3 +1,4 @@
 pub mod Spent
 pub mod Entries
 pub mod Threads
+pub mod Judged

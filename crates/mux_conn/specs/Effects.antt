@@ -1,5 +1,5 @@
 -- What news of its link does to a connection, and the leave of a caller. No request is moved.
-use Rattle.std.specs.Prelude.{◌≤◌, ℕ, Bool, List, [], ◌∷◌, Some, None, if◌then◌else◌}
+use Rattle.std.specs.Prelude.{◌≤◌, ℕ, ◌+◌, ◌^◌, Bool, true, false, List, [], ◌∷◌, Some, None, if◌then◌else◌}
 use Rattle.redis_error.specs.declared.fault_kind.FaultKind.{FaultKind}
 use Rattle.redis_error.specs.declared.fault_kind.FaultKind.TheVariants as kind
 use Rattle.redis_error.specs.declared.redis_error.RedisError.{RedisError}
@@ -8,16 +8,24 @@ use Rattle.driver_model.specs.declared.news.LinkFault.{LinkFault}
 use Rattle.driver_model.specs.declared.news.LinkFault.TheVariants as fault
 use Rattle.driver_model.specs.declared.outcome.Outcome.TheVariants as outcome
 use Rattle.driver_model.specs.News.{News, silence, connected, refused, overdue, took, came, failed, shut}
+use Rattle.connection_setup.specs.declared.judgement.SetupResult.{SetupResult}
+use Rattle.connection_setup.specs.declared.judgement.SetupResult.TheVariants as result
+use Rattle.connection_setup.specs.Setup.{Step, setup}
+use Rattle.connection_setup.specs.Judgement.{judged}
+use Rattle.driver_model.specs.declared.outcome.Verdict.{Verdict}
+use Rattle.driver_model.specs.declared.outcome.Verdict.TheVariants as verdict
+use Rattle.driver_model.specs.Setup.{says_nothing, setup_bytes, setup_shape}
 use Rattle.driver_model.specs.Shape.{outcome_of}
+use Rattle.link_core.specs.declared.message.Queued.{Queued}
 use Rattle.link_core.specs.declared.message.Settled.{Settled}
-use Rattle.link_core.specs.Link.{LinkState, Settling, fresh, wrote_of, cancelled, faulted, closed_all}
+use Rattle.link_core.specs.Link.{LinkState, Settling, fresh, enqueued, wrote_of, cancelled, faulted, closed_all}
 use Rattle.link_core.specs.Link.{piece_dealt}
 use Rattle.mux_conn.specs.declared.act.LinkAct.TheVariants as act
 use Rattle.mux_conn.specs.declared.connection.MultiplexedConnection.{MultiplexedConnection}
 use Rattle.mux_conn.specs.declared.life.Life.{Life}
-use Rattle.mux_conn.specs.declared.life.Life.TheVariants.{Dialing, Ready, Ended}
+use Rattle.mux_conn.specs.declared.life.Life.TheVariants.{Dialing, SettingUp, Ready, Ended}
 use Rattle.mux_conn.specs.declared.request.Waiting.{Waiting}
-use Rattle.mux_conn.specs.Connection.{Work, acted, at_life, with_link}
+use Rattle.mux_conn.specs.Connection.{Work, acted, at_life, with_link, with_setup}
 use Rattle.mux_conn.specs.Requests.{is_open_at, closed, answered}
 
 -- a link without messages, with the queue and the boundary of its connection
@@ -62,21 +70,49 @@ numbers_of (q ∷ qs) = q.number ∷ numbers_of qs
 abbrev pub all_fresh : Work → Work
 all_fresh w = record w { conn = record w.conn { fresh = numbers_of w.conn.waiting } }
 
+-- the link is set up, which is shown
+abbrev pub made_ready : Work → LinkState → Work
+made_ready w link = acted (with_link (all_fresh w) link) (act.Created None)
+
+-- the number of the message that sets a link up: no request has it
+abbrev pub setup_id : Bool → ℕ
+setup_id true = 2 ^ 32
+setup_id false = 2 ^ 32 + 1
+
+-- the setup, with the user name or without it
+abbrev pub steps_of : MultiplexedConnection → Bool → List Step
+steps_of c with_user = setup c.info with_user
+
+-- the message that sets a link up
+abbrev pub setup_queued : List Step → Bool → Queued
+setup_queued steps with_user = record { id = setup_id with_user; packed = setup_bytes steps; shape = setup_shape steps; awaited = true }
+
+-- the setup takes its place on this link, and starts with the next pass
+abbrev pub sets_up : Work → LinkState → Bool → Work
+sets_up w link with_user = with_setup w (enqueued link (setup_queued (steps_of w.conn with_user) with_user)) with_user
+
+-- the link is up: it is set up, or, where nothing is to be said, ready
+abbrev pub come_up : Work → Work
+come_up w = if says_nothing (steps_of w.conn true) then made_ready w (new_link w.conn) else sets_up (all_fresh w) (new_link w.conn) true
+
 -- the first answer to the connect: it succeeded
 abbrev pub connected_at : Work → Life → Work
-connected_at w Dialing = acted (with_link (all_fresh w) (new_link w.conn)) (act.Created None)
+connected_at w Dialing = come_up w
+connected_at w (SettingUp link with_user) = w
 connected_at w (Ready link) = w
 connected_at w (Ended e) = w
 
 -- the first answer to the connect: it failed
 abbrev pub refused_at : Work → FaultKind → Life → Work
 refused_at w f Dialing = opening_failed w (error.Io f)
+refused_at w f (SettingUp link with_user) = w
 refused_at w f (Ready link) = w
 refused_at w f (Ended e) = w
 
--- the time in which it was to be connected is over: where it isn't, it is closed
+-- the time in which it was to be connected and set up is over: where it isn't, it is closed
 abbrev pub overdue_at : Work → Life → Work
 overdue_at w Dialing = opening_failed (acted w act.Close) (error.Io kind.TimedOut)
+overdue_at w (SettingUp link with_user) = opening_failed (acted w act.Close) (error.Io kind.TimedOut)
 overdue_at w (Ready link) = w
 overdue_at w (Ended e) = w
 
@@ -84,17 +120,20 @@ overdue_at w (Ended e) = w
 abbrev pub CanTake : Life → ℕ → Type 0
 CanTake (Ready link) count = count ≤ link.outbox.offered
 CanTake Dialing count = Unit {0}
+CanTake (SettingUp link with_user) count = count ≤ link.outbox.offered
 CanTake (Ended e) count = Unit {0}
 
 abbrev pub taken_at : Work → ℕ → Life → Work
 taken_at w count (Ready link) = with_link w (wrote_of link count)
 taken_at w count Dialing = w
+taken_at w count (SettingUp link with_user) = with_setup w (wrote_of link count) with_user
 taken_at w count (Ended e) = w
 
--- the link ends where it is up
+-- the link ends where it is up; before it is set up its opening fails, and the connection is closed for the setup
 abbrev pub failed_at : Work → LinkFault → Life → Work
 failed_at w f (Ready link) = ended_by w link f
 failed_at w f Dialing = w
+failed_at w f (SettingUp link with_user) = opening_failed (acted w act.Close) error.Closed
 failed_at w f (Ended e) = w
 
 abbrev pub broken_at : Bool → Work → Work
@@ -104,15 +143,38 @@ broken_at broken w = if broken then failed_at w fault.Parse w.conn.life else w
 abbrev pub read_to : Work → Settling → Work
 read_to w s = broken_at s.link.broken (settled_each (with_link w s.link) s.out)
 
+-- what the replies to the setup come to
+abbrev pub judged_by : List Step → Verdict → SetupResult
+judged_by steps (verdict.Many replies) = judged steps replies
+judged_by steps (verdict.One value) = result.Ready
+judged_by steps (verdict.Fault e) = result.Failed e
+
+-- the setup is answered: the link is ready, the setup is sent once more without the user name, or the opening failed
+abbrev pub set_up_by : Work → LinkState → SetupResult → Work
+set_up_by w link result.Ready = made_ready w link
+set_up_by w link result.RepeatWithoutUser = sets_up w link false
+set_up_by w link (result.Failed e) = opening_failed (acted w act.Close) e
+set_up_by w link result.NoMemory = w
+
+abbrev pub answered_setup : Work → LinkState → Bool → List Settled → Work
+answered_setup w link with_user [] = with_setup w link with_user
+answered_setup w link with_user (s ∷ ss) = set_up_by w link (judged_by (steps_of w.conn with_user) s.verdict)
+
+-- the setup is answered, if it is, and bytes that begin no value end the link
+abbrev pub read_setup : Work → Bool → Settling → Work
+read_setup w with_user s = broken_at s.link.broken (answered_setup w s.link with_user s.out)
+
 abbrev pub read_at : Work → List ℕ → Life → Work
 read_at w piece (Ready link) = read_to w (piece_dealt (record { link = link; out = [] }) piece)
 read_at w piece Dialing = w
+read_at w piece (SettingUp link with_user) = read_setup w with_user (piece_dealt (record { link = link; out = [] }) piece)
 read_at w piece (Ended e) = w
 
 -- everything is closed
 abbrev pub shut_at : Work → Life → Work
 shut_at w (Ready link) = ended w (closed_all (record { link = link; out = [] })).out
 shut_at w Dialing = ended w []
+shut_at w (SettingUp link with_user) = ended w []
 shut_at w (Ended e) = w
 
 -- no more bytes are taken than were offered
@@ -140,6 +202,7 @@ applied w shut = shut_at w w.conn.life
 abbrev pub cancelled_in : Life → ℕ → Life
 cancelled_in (Ready link) p = Ready (cancelled link p)
 cancelled_in Dialing p = Dialing
+cancelled_in (SettingUp link with_user) p = SettingUp link with_user
 cancelled_in (Ended e) p = Ended e
 
 -- the caller of request p has gone: its message leaves the queue, or is answered to nobody

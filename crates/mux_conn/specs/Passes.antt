@@ -11,10 +11,10 @@ use Rattle.link_core.specs.Link.{Starting, enqueued, started_all}
 use Rattle.mux_conn.specs.declared.act.LinkAct.TheVariants as act
 use Rattle.mux_conn.specs.declared.connection.MultiplexedConnection.{MultiplexedConnection}
 use Rattle.mux_conn.specs.declared.life.Life.{Life}
-use Rattle.mux_conn.specs.declared.life.Life.TheVariants.{Dialing, Ready, Ended}
+use Rattle.mux_conn.specs.declared.life.Life.TheVariants.{Dialing, SettingUp, Ready, Ended}
 use Rattle.mux_conn.specs.declared.request.Progress.TheVariants as progress
 use Rattle.mux_conn.specs.declared.request.Waiting.{Waiting}
-use Rattle.mux_conn.specs.Connection.{Work, acted, with_link, admits_none, has_room}
+use Rattle.mux_conn.specs.Connection.{Work, acted, with_link, with_setup, admits_none, has_room}
 use Rattle.mux_conn.specs.Requests.{name_at, is_waiting_at, is_admitted_at, with_permits, progressed, answered}
 
 -- each start is shown
@@ -25,9 +25,18 @@ shown_each w (s ∷ ss) = shown_each (acted w (act.Start s.msg (name_at w.conn.r
 abbrev pub starts_with : Work → Starting → Work
 starts_with w s = shown_each (with_link w s.link) s.out
 
+-- the start of a setup is shown
+abbrev pub set_up_each : Work → List Started → Work
+set_up_each w [] = w
+set_up_each w (s ∷ ss) = set_up_each (acted w (act.SetUp s.msg s.need s.len)) ss
+
+abbrev pub sets_up_with : Work → Bool → Starting → Work
+sets_up_with w with_user s = set_up_each (with_setup w s.link with_user) s.out
+
 -- messages start as far as they can
 abbrev pub started_at : Work → Life → Work
 started_at w (Ready link) = starts_with w (started_all (record { link = link; out = [] }))
+started_at w (SettingUp link with_user) = sets_up_with w with_user (started_all (record { link = link; out = [] }))
 started_at w Dialing = w
 started_at w (Ended e) = w
 
@@ -45,6 +54,7 @@ noted w p = record w { conn = record w.conn { moved = w.conn.moved ++ p ∷ [] }
 abbrev pub placed_at : Work → Waiting → Life → Work
 placed_at w q (Ready link) = with_link (progressed (noted w q.number) q.number progress.Placed) (enqueued link (message_of q))
 placed_at w q Dialing = w
+placed_at w q (SettingUp link with_user) = w
 placed_at w q (Ended e) = w
 
 -- a command whose reply nobody awaits is answered with Nil at its place
@@ -110,6 +120,7 @@ abbrev pub admitted_at : Work → Waiting → Life → Work
 admitted_at w q (Ready link) = seated_or_behind (let_in w q) q
 admitted_at w q (Ended e) = answered w q.number (outcome.Fault e)
 admitted_at w q Dialing = w
+admitted_at w q (SettingUp link with_user) = w
 
 abbrev pub admitted : Work → Waiting → Work
 admitted w q = if is_waiting_at w.conn.requests q.number then admitted_at w q w.conn.life else w

@@ -1,5 +1,6 @@
 -- What a turn ends with, and a whole turn of a connection.
 use Rattle.std.specs.Prelude.{ℕ, nat_le, Bool, false, ◌&&◌, Option, None, Some, unwrap_or, List, [], ◌∷◌, if◌then◌else◌}
+use Rattle.connection_info.specs.declared.address.RedisConnectionInfo.{RedisConnectionInfo}
 use Rattle.driver_model.specs.declared.action.WaitKind.{WaitKind}
 use Rattle.driver_model.specs.declared.action.WaitKind.TheVariants as wait
 use Rattle.driver_model.specs.News.{News}
@@ -8,19 +9,20 @@ use Rattle.link_core.specs.Outbox.{can_offer}
 use Rattle.mux_conn.specs.declared.act.LinkAct.TheVariants as act
 use Rattle.mux_conn.specs.declared.connection.MultiplexedConnection.{MultiplexedConnection}
 use Rattle.mux_conn.specs.declared.life.Life.{Life}
-use Rattle.mux_conn.specs.declared.life.Life.TheVariants.{Dialing, Ready, Ended}
-use Rattle.mux_conn.specs.Connection.{Work, acted, with_link, awaits_connect, first_queued}
+use Rattle.mux_conn.specs.declared.life.Life.TheVariants.{Dialing, SettingUp, Ready, Ended}
+use Rattle.mux_conn.specs.Connection.{Work, acted, with_link, with_setup, first_queued}
 use Rattle.mux_conn.specs.Requests.{name_at, is_waiting_at, is_admitted_at, is_placed_at}
 use Rattle.mux_conn.specs.Effects.{applied}
 use Rattle.mux_conn.specs.Passes.{passed}
 
 -- a connection whose connect isn't answered, without requests
-abbrev pub dialing : ℕ → ℕ → Option ℕ → MultiplexedConnection
-dialing size boundary limit = record {
+abbrev pub dialing : ℕ → ℕ → Option ℕ → RedisConnectionInfo → MultiplexedConnection
+dialing size boundary limit info = record {
   size = size;
   boundary = boundary;
   limit = limit;
   free = unwrap_or limit 0;
+  info = info;
   life = Dialing;
   requests = [];
   waiting = [];
@@ -34,9 +36,14 @@ dialing size boundary limit = record {
 abbrev pub offers : Work → LinkState → Work
 offers w link = if can_offer link.outbox then acted (with_link w (offered_of link)) (act.Write link.outbox.unwritten) else w
 
+-- the same while the link is set up
+abbrev pub setup_offered : Work → LinkState → Bool → Work
+setup_offered w link with_user = if can_offer link.outbox then acted (with_setup w (offered_of link) with_user) (act.Write link.outbox.unwritten) else w
+
 abbrev pub written_at : Work → Life → Work
 written_at w (Ready link) = offers w link
 written_at w Dialing = w
+written_at w (SettingUp link with_user) = setup_offered w link with_user
 written_at w (Ended e) = w
 
 abbrev pub written : Work → Work
@@ -53,9 +60,16 @@ moved_wait c p =
     if is_admitted_at c.requests p then Some wait.Place
     else if is_placed_at c.requests p && is_from (first_queued c.life) p then Some wait.Room else None
 
--- what a request waits for that has come into this turn without permits, if it waits: the connect, or a permit
+-- what a request waits for that waits for its connection: the connect, the setup, or a permit
+abbrev pub early_wait : Life → WaitKind
+early_wait Dialing = wait.Connect
+early_wait (SettingUp link with_user) = wait.Setup
+early_wait (Ready link) = wait.Permit
+early_wait (Ended e) = wait.Permit
+
+-- what a request waits for that has come into this turn without permits, if it waits
 abbrev pub fresh_wait : MultiplexedConnection → ℕ → Option WaitKind
-fresh_wait c p = if is_waiting_at c.requests p then Some (if awaits_connect c.life then wait.Connect else wait.Permit) else None
+fresh_wait c p = if is_waiting_at c.requests p then Some (early_wait c.life) else None
 
 abbrev pub wait_shown : Work → ℕ → Option WaitKind → Work
 wait_shown w p None = w

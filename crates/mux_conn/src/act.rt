@@ -38,6 +38,12 @@ pub enum LinkAct {
         need: u64,
         len: u64,
     },
+    /// The setup starts: which message of the link it is, how many items it takes, and how many bytes it has.
+    SetUp {
+        message: u32,
+        need: u64,
+        len: u64,
+    },
     /// A request is answered.
     Outcome {
         request: u32,

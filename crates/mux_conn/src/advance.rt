@@ -16,8 +16,8 @@ use resp_value::Value;
 use std::alloc::{AllocError, Global};
 
 impl MultiplexedConnection {
-    ghost use Rattle.mux_conn.specs.Connection.{work_with, runs_out};
-    ghost use Rattle.mux_conn.specs.Passes.{shown_each, started};
+    ghost use Rattle.mux_conn.specs.Connection.{work_with, runs_out, is_setting_up};
+    ghost use Rattle.mux_conn.specs.Passes.{shown_each, set_up_each, started};
 
     /// Each start is shown.
     fn show_starts(
@@ -44,8 +44,31 @@ impl MultiplexedConnection {
         Ok(())
     }
 
-    /// Messages start as far as they can.
-    fn start(&mut self, alloc: Global, out: &mut Vec<LinkAct>) -> Result<(), ConnectionError>
+    /// Each start of a setup is shown.
+    fn show_setups(
+        &self,
+        starts: Vec<Started>,
+        out: &mut Vec<LinkAct>,
+    ) -> Result<(), AllocError>
+        ensures { OnOk result (
+            work_with self.now out.new.items
+            ≡ set_up_each (work_with self.now out.old.items) starts.items
+            ) }
+    {
+        let mut rest = Queue::from_vec(starts);
+        while let Some(start) = rest.pop_front() {
+            out.push(LinkAct::SetUp {
+                message: start.msg,
+                need: start.need,
+                len: start.len,
+            })?;
+        }
+        Ok(())
+    }
+
+    /// The setup starts, if it can.
+    fn start_setup(&mut self, alloc: Global, out: &mut Vec<LinkAct>) -> Result<(), ConnectionError>
+        requires { is_setting_up self.old.life ≡ true }
         ensures work { OnOk result (
             work_with self.new out.new.items ≡ started (work_with self.old out.old.items)
             ) }
@@ -56,7 +79,39 @@ impl MultiplexedConnection {
     {
         let mut starts = Vec::new(alloc);
         let ready = match &mut self.life {
+            Life::SettingUp { link, with_user: _ } => start_ready(alloc, link, &mut starts),
+            Life::Ready { link: _ } => unreachable!(),
+            Life::Dialing => unreachable!(),
+            Life::Ended { error: _ } => unreachable!(),
+        };
+        match ready {
+            Ok(()) => {}
+            Err(error) => return Err(error),
+        }
+        self.show_setups(starts, out)?;
+        Ok(())
+    }
+
+    /// Messages start as far as they can.
+    fn start(&mut self, alloc: Global, out: &mut Vec<LinkAct>) -> Result<(), ConnectionError>
+        ensures work { OnOk result (
+            work_with self.new out.new.items ≡ started (work_with self.old out.old.items)
+            ) }
+        ensures spent { IsErrOf result ConnectionError.Spent
+            → runs_out (started (work_with self.old out.old.items)) ≡ true }
+        ensures count { length self.new.requests ≡ length self.old.requests }
+        ensures failure { self.new.failure ≡ self.old.failure }
+    {
+        if self.life.is_setting_up() {
+            return self.start_setup(alloc, out);
+        }
+        let mut starts = Vec::new(alloc);
+        let ready = match &mut self.life {
             Life::Ready { link } => start_ready(alloc, link, &mut starts),
+            Life::SettingUp {
+                link: _,
+                with_user: _,
+            } => unreachable!(),
             Life::Dialing => return Ok(()),
             Life::Ended { error: _ } => return Ok(()),
         };
@@ -184,6 +239,10 @@ impl MultiplexedConnection {
     {
         let link = match &mut self.life {
             Life::Ready { link } => link,
+            Life::SettingUp {
+                link: _,
+                with_user: _,
+            } => return Ok(()),
             Life::Dialing => return Ok(()),
             Life::Ended { error: _ } => return Ok(()),
         };

@@ -6,6 +6,7 @@ use crate::act::LinkAct;
 use crate::errors::ConnectionError;
 use crate::life::Life;
 use crate::request::{Pending, Progress, Request, Waiting};
+use connection_info::RedisConnectionInfo;
 use containers::{Bytes, Queue, Seq};
 use driver_model::{Outcome, Shape};
 use std::alloc::{AllocError, Global};
@@ -19,6 +20,8 @@ pub struct MultiplexedConnection {
     /// How many permits there are, if they are counted, and how many of them nobody holds.
     pub limit: Option<u32>,
     pub free: u32,
+    /// What is said to the server before the first request.
+    pub info: RedisConnectionInfo,
     pub life: Life,
     pub requests: Seq<Request>,
     pub waiting: Queue<Waiting>,
@@ -36,6 +39,7 @@ impl Drop for MultiplexedConnection {
             boundary: _,
             limit: _,
             free: _,
+            info,
             life,
             requests,
             waiting,
@@ -44,6 +48,7 @@ impl Drop for MultiplexedConnection {
             moved,
             failure: _,
         } = self;
+        drop(info);
         drop(life);
         drop(requests);
         drop(waiting);
@@ -62,15 +67,23 @@ impl MultiplexedConnection {
 
     /// A connection whose connect isn't answered. The queue of its link will hold `size` messages, at least one, and no
     /// message will start on it while `boundary` bytes or more, and at least one, are unwritten. Its requests will hold no
-    /// more than `limit` permits, at least one, and where there is no limit they need none. Takes no memory.
-    pub fn new(alloc: Global, size: u32, boundary: u64, limit: Option<u32>) -> MultiplexedConnection
-        ensures { result ≡ dialing size boundary limit }
+    /// more than `limit` permits, at least one, and where there is no limit they need none. `info` is what is said to the
+    /// server before the first of them. Takes no memory.
+    pub fn new(
+        alloc: Global,
+        size: u32,
+        boundary: u64,
+        limit: Option<u32>,
+        info: RedisConnectionInfo,
+    ) -> MultiplexedConnection
+        ensures { result ≡ dialing size boundary limit info }
     {
         MultiplexedConnection {
             size,
             boundary,
             limit,
             free: limit.unwrap_or(0),
+            info,
             life: Life::Dialing,
             requests: Seq::new(alloc),
             waiting: Queue::new(alloc),
@@ -98,6 +111,7 @@ impl MultiplexedConnection {
     {
         match &self.life {
             Life::Dialing => 0,
+            Life::SettingUp { link, with_user: _ } => link.started(),
             Life::Ready { link } => link.started(),
             Life::Ended { error: _ } => 0,
         }

@@ -1,4 +1,4 @@
-ghost use Rattle.std.specs.Prelude.{◌≡◌, length, OnOk};
+ghost use Rattle.std.specs.Prelude.{◌≡◌, length, true, OnOk};
 ghost use Rattle.mux_conn.specs.Turn.{is_from};
 
 use crate::act::LinkAct;
@@ -9,9 +9,33 @@ use driver_model::WaitKind;
 use std::alloc::{AllocError, Global};
 
 impl MultiplexedConnection {
-    ghost use Rattle.mux_conn.specs.Connection.{work_with};
+    ghost use Rattle.mux_conn.specs.Connection.{work_with, is_setting_up};
     ghost use Rattle.mux_conn.specs.Turn.{written, moved_wait, fresh_wait, wait_shown};
     ghost use Rattle.mux_conn.specs.Turn.{moved_shown, fresh_shown, flushed};
+
+    /// All unwritten bytes of a link that is set up are offered, unless an offer is unanswered.
+    fn offer_setup(&mut self, alloc: Global, out: &mut Vec<LinkAct>) -> Result<(), AllocError>
+        requires { is_setting_up self.old.life ≡ true }
+        ensures work { OnOk result (
+            work_with self.new out.new.items ≡ written (work_with self.old out.old.items)
+            ) }
+        ensures count { length self.new.requests ≡ length self.old.requests }
+        ensures failure { self.new.failure ≡ self.old.failure }
+    {
+        let mut bytes = Vec::new(alloc);
+        let offers = match &mut self.life {
+            Life::SettingUp { link, with_user: _ } => link.offer(&mut bytes)?,
+            Life::Ready { link: _ } => unreachable!(),
+            Life::Dialing => unreachable!(),
+            Life::Ended { error: _ } => unreachable!(),
+        };
+        if offers {
+            out.push(LinkAct::Write {
+                bytes: Bytes::from_vec(bytes),
+            })?;
+        }
+        Ok(())
+    }
 
     /// All unwritten bytes are offered, unless an offer is unanswered.
     fn offer(&mut self, alloc: Global, out: &mut Vec<LinkAct>) -> Result<(), AllocError>
@@ -21,9 +45,16 @@ impl MultiplexedConnection {
         ensures count { length self.new.requests ≡ length self.old.requests }
         ensures failure { self.new.failure ≡ self.old.failure }
     {
+        if self.life.is_setting_up() {
+            return self.offer_setup(alloc, out);
+        }
         let mut bytes = Vec::new(alloc);
         let offers = match &mut self.life {
             Life::Ready { link } => link.offer(&mut bytes)?,
+            Life::SettingUp {
+                link: _,
+                with_user: _,
+            } => unreachable!(),
             Life::Dialing => return Ok(()),
             Life::Ended { error: _ } => return Ok(()),
         };
@@ -48,17 +79,14 @@ impl MultiplexedConnection {
         None
     }
 
-    /// What a request waits for that has come into this turn without permits, if it waits: the connect, or a permit.
+    /// What a request waits for that has come into this turn without permits, if it waits.
     fn fresh_wait(&self, number: u32) -> Option<WaitKind>
         ensures { result ≡ fresh_wait self.now number }
     {
         if !self.is_waiting(number) {
             return None;
         }
-        if self.life.is_dialing() {
-            return Some(WaitKind::Connect);
-        }
-        Some(WaitKind::Permit)
+        Some(self.life.early_wait())
     }
 
     /// The wait of a request is shown, if it waits.

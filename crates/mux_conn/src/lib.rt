@@ -19,6 +19,8 @@ pub use life::Life;
 pub use request::{Pending, Progress, Request, Waiting};
 
 #[cfg(test)]
+mod setup_tests;
+#[cfg(test)]
 mod tests;
 #[cfg(test)]
 mod threads_tests;

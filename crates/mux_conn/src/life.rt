@@ -1,3 +1,4 @@
+use driver_model::WaitKind;
 use link_core::LinkCore;
 use redis_error::RedisError;
 
@@ -6,7 +7,9 @@ use redis_error::RedisError;
 pub enum Life {
     /// Its connect isn't answered.
     Dialing,
-    /// It is up, and takes messages.
+    /// It is up, and what is said to the server before the first request isn't answered, with the user name or without it.
+    SettingUp { link: LinkCore, with_user: bool },
+    /// It is up and set up, and takes messages.
     Ready { link: LinkCore },
     /// It takes no more messages: a request gets this error. It is that of its opening where this failed, and else the closed
     /// connection.
@@ -15,8 +18,9 @@ pub enum Life {
 
 impl Life {
     ghost use Rattle.std.specs.Prelude.{◌≡◌};
-    ghost use Rattle.mux_conn.specs.Connection.{awaits_connect, admits_none_at, has_room};
+    ghost use Rattle.mux_conn.specs.Connection.{awaits_connect, is_setting_up, admits_none_at, has_room};
     ghost use Rattle.mux_conn.specs.Connection.{first_queued};
+    ghost use Rattle.mux_conn.specs.Turn.{early_wait};
 
     /// Whether the connect isn't answered.
     pub fn is_dialing(&self) -> bool
@@ -24,6 +28,25 @@ impl Life {
     {
         match self {
             Life::Dialing => true,
+            Life::SettingUp {
+                link: _,
+                with_user: _,
+            } => false,
+            Life::Ready { link: _ } => false,
+            Life::Ended { error: _ } => false,
+        }
+    }
+
+    /// Whether it is up, and what is said to the server before the first request isn't answered.
+    pub fn is_setting_up(&self) -> bool
+        ensures { result ≡ is_setting_up self.now }
+    {
+        match self {
+            Life::Dialing => false,
+            Life::SettingUp {
+                link: _,
+                with_user: _,
+            } => true,
             Life::Ready { link: _ } => false,
             Life::Ended { error: _ } => false,
         }
@@ -36,6 +59,10 @@ impl Life {
     {
         match self {
             Life::Dialing => true,
+            Life::SettingUp {
+                link: _,
+                with_user: _,
+            } => true,
             Life::Ready { link: _ } => empty,
             Life::Ended { error: _ } => false,
         }
@@ -47,6 +74,10 @@ impl Life {
     {
         match self {
             Life::Dialing => false,
+            Life::SettingUp {
+                link: _,
+                with_user: _,
+            } => false,
             Life::Ready { link } => !link.is_full(),
             Life::Ended { error: _ } => false,
         }
@@ -58,8 +89,27 @@ impl Life {
     {
         match self {
             Life::Dialing => None,
+            Life::SettingUp {
+                link: _,
+                with_user: _,
+            } => None,
             Life::Ready { link } => link.first_queued(),
             Life::Ended { error: _ } => None,
+        }
+    }
+
+    /// What a request waits for that waits for its connection: the connect, the setup, or a permit.
+    pub fn early_wait(&self) -> WaitKind
+        ensures { result ≡ early_wait self.now }
+    {
+        match self {
+            Life::Dialing => WaitKind::Connect,
+            Life::SettingUp {
+                link: _,
+                with_user: _,
+            } => WaitKind::Setup,
+            Life::Ready { link: _ } => WaitKind::Permit,
+            Life::Ended { error: _ } => WaitKind::Permit,
         }
     }
 }

@@ -3,6 +3,7 @@ ghost use Rattle.driver_model.specs.News.{told};
 ghost use Rattle.mux_conn.specs.Effects.{CanTake, IsWithin};
 
 use crate::{ConnectionError, Life, LinkAct, MultiplexedConnection, Pending};
+use connection_info::{ProtocolVersion, RedisConnectionInfo};
 use containers::Bytes;
 use driver_model::{LinkEvent, LinkFault, LinkNews, Outcome, Shape, WaitKind};
 use redis_error::{FaultKind, RedisError};
@@ -12,7 +13,7 @@ use std::process::Abort;
 
 /// One call at a connection.
 #[derive(Clone, Copy)]
-enum Call {
+pub(crate) enum Call {
     /// A request of this name, with these bytes.
     Ask(u32, &'static str),
     /// The same, whose reply nobody awaits.
@@ -88,6 +89,7 @@ fn describe_wait(
 ) -> Result<(), AllocError> {
     let what: &str = match kind {
         WaitKind::Connect => "",
+        WaitKind::Setup => " for the setup",
         WaitKind::Permit => " for a permit",
         WaitKind::Place => " for a place",
         WaitKind::Room => " for room",
@@ -140,6 +142,28 @@ fn describe_creation(error: &Option<RedisError>, log: &mut Vec<u8>) -> Result<()
     }
 }
 
+fn describe_setup(
+    alloc: Global,
+    message: u32,
+    need: u64,
+    len: u64,
+    log: &mut Vec<u8>,
+) -> Result<(), AllocError> {
+    let text = format!(in alloc; "setup starts as {message}, {need} items, {len} bytes")?;
+    log.extend_from_slice(text.as_bytes())
+}
+
+/// What is said to a server to which nothing is to be said.
+pub(crate) fn bare() -> RedisConnectionInfo {
+    RedisConnectionInfo {
+        db: 0,
+        username: None,
+        password: None,
+        protocol: ProtocolVersion::RESP2,
+        skip_set_lib_name: true,
+    }
+}
+
 fn describe_act(alloc: Global, act: &LinkAct, log: &mut Vec<u8>) -> Result<(), AllocError> {
     match act {
         LinkAct::Created { error } => describe_creation(error, log),
@@ -154,6 +178,11 @@ fn describe_act(alloc: Global, act: &LinkAct, log: &mut Vec<u8>) -> Result<(), A
             need: _,
             len,
         } => describe_start(alloc, *message, *request, *len, log),
+        LinkAct::SetUp {
+            message,
+            need,
+            len,
+        } => describe_setup(alloc, *message, *need, *len, log),
         LinkAct::Outcome { request, outcome } => describe_answer(alloc, *request, outcome, log),
     }
 }
@@ -225,6 +254,7 @@ fn can_take(conn: &MultiplexedConnection, count: u64) -> bool
 {
     match &conn.life {
         Life::Ready { link } => count <= link.offered_len(),
+        Life::SettingUp { link, with_user: _ } => count <= link.offered_len(),
         Life::Dialing => true,
         Life::Ended { error: _ } => true,
     }
@@ -349,7 +379,7 @@ fn run_with(
     calls: &[Call],
     wanted: &str,
 ) -> Result<(), AllocError> {
-    let conn = MultiplexedConnection::new(alloc, size, boundary, None);
+    let conn = MultiplexedConnection::new(alloc, size, boundary, None, bare());
     run_on(rt, alloc, conn, calls, wanted)
 }
 
@@ -361,12 +391,12 @@ fn run_limited(
     calls: &[Call],
     wanted: &str,
 ) -> Result<(), AllocError> {
-    let conn = MultiplexedConnection::new(alloc, 50, 8192, Some(limit));
+    let conn = MultiplexedConnection::new(alloc, 50, 8192, Some(limit), bare());
     run_on(rt, alloc, conn, calls, wanted)
 }
 
 /// The same at this connection.
-fn run_on(
+pub(crate) fn run_on(
     rt: &impl Abort,
     alloc: Global,
     mut conn: MultiplexedConnection,
@@ -753,6 +783,6 @@ fn a_time_is_over_before_a_message_starts(rt: HostRuntime) -> Result<(), AllocEr
         "created; 7 takes 1; 7 within 5; start 0 of 7, 2; 8 takes 1; 8 within 5; 9 takes 1; \
 9 within 5; write aa; 8 waits for room; 9 waits for a place; 6 waits for a permit; 9 timed-out; \
 6 takes 1; 6 within 5; 6 waits for a place; 8 timed-out; 6 waits for room; 6 timed-out; ";
-    let conn = MultiplexedConnection::new(alloc, 1, 0, Some(3));
+    let conn = MultiplexedConnection::new(alloc, 1, 0, Some(3), bare());
     run_on(&rt, alloc, conn, calls.as_slice(), wanted)
 }

@@ -4,7 +4,7 @@ use Rattle.std.specs.Option.{option_to_list}
 use Rattle.std.specs.List.{list_all, list_any}
 use Rattle.driver_model.specs.declared.config.Config.{Config}
 use Rattle.script_text.specs.Words.{LineWords, cut_at}
-use Rattle.script_text.specs.Numbers.{number, max_u32, max_u64, time_limit}
+use Rattle.script_text.specs.Numbers.{number, max_u32, max_u64, time_limit, switch}
 use Rattle.script_text.specs.EventLine.{Forms, by_first, whole}
 
 -- the key is one of these
@@ -29,15 +29,6 @@ values key (word ∷ words) = option_to_list (value_of key word) ++ values key w
 abbrev pub only : {A : Type 0} → List A → Option A
 only (a ∷ []) = Some a
 only _ = None
-
--- there is a value, and it is this text
-abbrev pub is_value : Option (List ℕ) → List ℕ → Bool
-is_value None text = false
-is_value (Some value) text = bytes_eq value text
-
--- the words give the key just one value, and it is this one
-abbrev pub gives : List (List ℕ) → List ℕ → List ℕ → Bool
-gives words key value = is_value (only (values key words)) value
 
 -- the keys of one connection
 abbrev pub keys : List (List ℕ)
@@ -65,13 +56,13 @@ allows_queue words = allows (number max_u32) (values (codes "buffer") words) && 
 abbrev pub allows_numbers : List (List ℕ) → Bool
 allows_numbers words = allows (number max_u32) (values (codes "limit") words) && allows_queue words
 
--- the settings that may be left out are, or can be read
+-- what is given of the times and of the numbers can be read
 abbrev pub allows_optional : List (List ℕ) → Bool
 allows_optional words = allows_times words && allows_numbers words
 
--- all settings but the URL are allowed: `lib` has the only value that there is
+-- all settings but the URL, each of which may be left out, are, or can be read
 abbrev pub are_allowed : List (List ℕ) → Bool
-are_allowed words = allows_optional words && gives words (codes "lib") (codes "off")
+are_allowed words = allows_optional words && allows switch (values (codes "lib") words)
 
 -- the configuration with this URL, and with what words give it beside that
 abbrev pub config_with : List (List ℕ) → List ℕ → Config
@@ -82,9 +73,10 @@ config_with words url = record {
   limit = given (number max_u32) (values (codes "limit") words);
   buffer = given (number max_u32) (values (codes "buffer") words);
   boundary = given (number max_u64) (values (codes "boundary") words);
+  lib = given switch (values (codes "lib") words);
 }
 
--- one connection: each key once at most, in any order, and `url` and `lib` there. What `url` says is any text
+-- one connection: each key once at most, in any order, and `url` there. What `url` says is any text
 abbrev pub single : List (List ℕ) → Option Config
 single words =
     if list_all (is_setting keys) words && are_allowed words

@@ -1,5 +1,5 @@
--- Numbers in decimal, and times.
-use Rattle.std.specs.Prelude.{ℕ, Bool, false, not, ◌&&◌, ◌||◌, ◌==◌, nat_le, List, [], ◌∷◌, length, Option, Some, None, option_map, bytes_eq, codes, if◌then◌else◌}
+-- Numbers in decimal, times, and switches.
+use Rattle.std.specs.Prelude.{ℕ, Bool, true, false, not, ◌&&◌, ◌||◌, ◌==◌, nat_le, List, [], ◌∷◌, length, Option, Some, None, option_map, bytes_eq, codes, if◌then◌else◌}
 use Rattle.std.specs.Str.{all_ascii_digits}
 use Rattle.std.specs.Str.Parse.{digits_value}
 
@@ -22,3 +22,7 @@ max_u64 = 18_446_744_073_709_551_615
 -- how long something may take: so many milliseconds, or `none` for any number
 abbrev pub time_limit : List ℕ → Option (Option ℕ)
 time_limit value = if bytes_eq value (codes "none") then Some None else option_map Some (number max_u64 value)
+
+-- whether something is on: `on` or `off`
+abbrev pub switch : List ℕ → Option Bool
+switch value = if bytes_eq value (codes "on") then Some true else (if bytes_eq value (codes "off") then Some false else None)

@@ -1,14 +1,14 @@
 ghost use Rattle.std.specs.Prelude.{◌≡◌, not, is_some, is_none, codes};
 ghost use Rattle.std.specs.List.{list_all};
-ghost use Rattle.script_text.specs.ConfigLine.{keys, is_setting, values, only, gives};
+ghost use Rattle.script_text.specs.ConfigLine.{keys, is_setting, values, only};
 ghost use Rattle.script_text.specs.ConfigLine.{allows, allows_times, allows_queue};
 ghost use Rattle.script_text.specs.ConfigLine.{allows_numbers, allows_optional, are_allowed};
 ghost use Rattle.script_text.specs.ConfigLine.{single, config_of};
 ghost use Rattle.script_text.specs.Faults.{FindsFault, values_reason};
-ghost use Rattle.script_text.specs.Numbers.{number, max_u32, max_u64, time_limit};
+ghost use Rattle.script_text.specs.Numbers.{number, max_u32, max_u64, time_limit, switch};
 
 use crate::config_line::{
-    allows_large_number, allows_number, allows_time, gives_only, has_value, is_known_setting,
+    allows_large_number, allows_lib, allows_number, allows_time, has_value, is_known_setting,
     only_value, value,
 };
 use crate::fault::Fault;
@@ -74,14 +74,14 @@ fn values_fault(words: &[Bytes], key: &[u8], wrong: Reason) -> Fault
     }
 }
 
-/// What is wrong with a key that has one value alone.
-fn only_fault(words: &[Bytes], key: &[u8], value: &[u8], reason: ConfigReason) -> Option<Fault>
-    ensures { is_some result ≡ not (gives words.now key.now value.now) }
+/// What is wrong with what is said of the library.
+fn lib_fault(words: &[Bytes]) -> Option<Fault>
+    ensures { is_some result ≡ not (allows switch (values (codes "lib") words.now)) }
 {
-    if gives_only(words, key, value) {
+    if allows_lib(words) {
         return None;
     }
-    Some(values_fault(words, key, Reason::Config(reason)))
+    Some(values_fault(words, b"lib", Reason::Config(ConfigReason::OnOrOff)))
 }
 
 /// What is wrong with the time of a key.
@@ -145,7 +145,7 @@ fn numbers_fault(words: &[Bytes]) -> Option<Fault>
     queue_fault(words)
 }
 
-/// What is wrong with a setting that may be left out.
+/// What is wrong with what is given of the times and of the numbers.
 #[tactic(auto, using(crate::proofs::Values::first_fails, crate::proofs::Values::second_tells))]
 fn optional_fault(words: &[Bytes]) -> Option<Fault>
     ensures { is_some result ≡ not (allows_optional words.now) }
@@ -164,7 +164,7 @@ fn allowed_fault(words: &[Bytes]) -> Option<Fault>
     if let Some(fault) = optional_fault(words) {
         return Some(fault);
     }
-    only_fault(words, b"lib", b"off", ConfigReason::OnlyOff)
+    lib_fault(words)
 }
 
 /// What is wrong with the URL: that it doesn't stand just once. Whether it is an address is no matter of the script.

@@ -1,14 +1,14 @@
 ghost use Rattle.std.specs.Prelude.{◌≡◌, ◌==◌, not, length, MatchOption, Some, None, IfOk};
 ghost use Rattle.std.specs.Prelude.{codes};
 ghost use Rattle.std.specs.List.{list_all};
-ghost use Rattle.script_text.specs.ConfigLine.{keys, is_setting, value_of, values, only, gives};
+ghost use Rattle.script_text.specs.ConfigLine.{keys, is_setting, value_of, values, only};
 ghost use Rattle.script_text.specs.ConfigLine.{allows, given, allows_times, allows_queue};
 ghost use Rattle.script_text.specs.ConfigLine.{allows_numbers, allows_optional, are_allowed};
 ghost use Rattle.script_text.specs.ConfigLine.{config_with, single, config_of};
-ghost use Rattle.script_text.specs.Numbers.{number, max_u32, max_u64, time_limit};
+ghost use Rattle.script_text.specs.Numbers.{number, max_u32, max_u64, time_limit, switch};
 
 use crate::line::Line;
-use crate::number::{number_u32, number_u64, time_limit};
+use crate::number::{number_u32, number_u64, switch, time_limit};
 use crate::words::cut;
 use containers::Bytes;
 use driver_model::Config;
@@ -69,16 +69,6 @@ pub fn only_value<'a>(words: &'a [Bytes], key: &[u8]) -> Option<&'a [u8]>
     found
 }
 
-/// Whether words give the key just this value.
-pub fn gives_only(words: &[Bytes], key: &[u8], value: &[u8]) -> bool
-    ensures { result ≡ gives words.now key.now value.now }
-{
-    match only_value(words, key) {
-        Some(given) => given == value,
-        None => false,
-    }
-}
-
 /// Whether words give the key some value.
 pub fn has_value(words: &[Bytes], key: &[u8]) -> bool
     ensures { result ≡ (not (length (values key.now words.now) == 0)) }
@@ -110,6 +100,13 @@ fn large_number_of(words: &[Bytes], key: &[u8]) -> Option<u64>
     ensures { result ≡ given (number max_u64) (values key.now words.now) }
 {
     number_u64(only_value(words, key)?)
+}
+
+/// Whether the server is told which library speaks, where words say so once.
+fn lib_of(words: &[Bytes]) -> Option<bool>
+    ensures { result ≡ given switch (values (codes "lib") words.now) }
+{
+    switch(only_value(words, b"lib")?)
 }
 
 /// Whether words leave the time of the key open, or give it once.
@@ -145,6 +142,17 @@ pub fn allows_large_number(words: &[Bytes], key: &[u8]) -> bool
     }
 }
 
+/// Whether words leave open whether the server is told which library speaks, or say it once.
+#[tactic(auto, using(crate::proofs::Values::allowed_once, crate::proofs::Values::allowed_never))]
+pub fn allows_lib(words: &[Bytes]) -> bool
+    ensures { result ≡ allows switch (values (codes "lib") words.now) }
+{
+    match only_value(words, b"lib") {
+        Some(value) => switch(value).is_some(),
+        None => !has_value(words, b"lib"),
+    }
+}
+
 /// Whether words leave the times open, or give each once.
 fn allows_times(words: &[Bytes]) -> bool
     ensures { result ≡ allows_times words.now }
@@ -166,7 +174,7 @@ fn allows_numbers(words: &[Bytes]) -> bool
     allows_number(words, b"limit") && allows_queue(words)
 }
 
-/// Whether words leave open the settings that may be left out, or give each once.
+/// Whether words leave the times and the numbers open, or give each once.
 fn allows_optional(words: &[Bytes]) -> bool
     ensures { result ≡ allows_optional words.now }
 {
@@ -177,7 +185,7 @@ fn allows_optional(words: &[Bytes]) -> bool
 fn are_allowed(words: &[Bytes]) -> bool
     ensures { result ≡ are_allowed words.now }
 {
-    allows_optional(words) && gives_only(words, b"lib", b"off")
+    allows_optional(words) && allows_lib(words)
 }
 
 /// The configuration with this URL, and with what words give it beside that.
@@ -191,6 +199,7 @@ fn config_with(words: &[Bytes], url: Bytes) -> Config
         limit: number_of(words, b"limit"),
         buffer: number_of(words, b"buffer"),
         boundary: large_number_of(words, b"boundary"),
+        lib: lib_of(words),
     }
 }
 

@@ -1,6 +1,6 @@
 ghost use Rattle.std.specs.Prelude.{◌≡◌, ◌≤◌, ◌<◌, ◌+◌, ◌*◌, IfSome};
 ghost use Rattle.std.specs.Option.{SomeIff};
-ghost use Rattle.script_text.specs.Numbers.{number, max_u32, max_u64, time_limit};
+ghost use Rattle.script_text.specs.Numbers.{number, max_u32, max_u64, time_limit, switch};
 
 /// A number with one more digit, if it is one of at most that.
 fn with_digit(n: u64, digit: u64, most: u64) -> Option<u64>
@@ -59,4 +59,17 @@ pub fn time_limit(value: &[u8]) -> Option<Option<u64>>
     }
     let ms = number_u64(value)?;
     Some(Some(ms))
+}
+
+/// Whether something is on, where the value is `on` or `off`.
+pub fn switch(value: &[u8]) -> Option<bool>
+    ensures { result ≡ switch value.now }
+{
+    if value == b"on".as_slice() {
+        return Some(true);
+    }
+    if value == b"off".as_slice() {
+        return Some(false);
+    }
+    None
 }

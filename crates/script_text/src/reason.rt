@@ -60,8 +60,8 @@ pub enum ConfigReason {
     Limit,
     /// The boundary: no number of 64 bits.
     Boundary,
-    /// A value other than `off`.
-    OnlyOff,
+    /// Whether the library is named: neither `on` nor `off`.
+    OnOrOff,
 }
 
 /// Why the words of a line are no event.
@@ -145,7 +145,7 @@ impl ConfigReason {
     fn sentence(self) -> &'static [u8] {
         match self {
             ConfigReason::Name => {
-                b"the first line is config single url=URL lib=off, with connect=MS, response=MS (MS or none), buffer=COUNT, limit=COUNT and boundary=BYTES where wanted"
+                b"the first line is config single url=URL, with connect=MS, response=MS (MS or none), buffer=COUNT, limit=COUNT, boundary=BYTES and lib=on or lib=off where wanted"
             }
             ConfigReason::Kind => b"only single is supported yet",
             ConfigReason::Setting => {
@@ -155,7 +155,7 @@ impl ConfigReason {
                 b"the keys are url, connect, response, buffer, limit, boundary and lib"
             }
             ConfigReason::KeyTwice => b"each key stands once",
-            ConfigReason::NoKey => b"each of url and lib stands once",
+            ConfigReason::NoKey => b"url stands once",
             ConfigReason::Connect => {
                 b"connect is a number of milliseconds, at most 18446744073709551615, or none"
             }
@@ -171,7 +171,7 @@ impl ConfigReason {
             ConfigReason::Boundary => {
                 b"boundary is a number of bytes, digits alone without a leading zero, at most 18446744073709551615"
             }
-            ConfigReason::OnlyOff => b"only off is supported yet",
+            ConfigReason::OnOrOff => b"lib is on or off",
         }
     }
 }

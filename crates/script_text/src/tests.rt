@@ -24,7 +24,7 @@ fn fault_behind(alloc: Global, rest: &[u8]) -> Result<u32, ScriptError> {
 }
 
 /// Whole texts, each with its line at fault, or 0.
-const FIRST_LINES: [(&[u8], u32); 28] = [
+const FIRST_LINES: [(&[u8], u32); 29] = [
     (b"", 1),
     (b"\n", 1),
     (b"end\n", 1),
@@ -108,8 +108,9 @@ const FIRST_LINES: [(&[u8], u32); 28] = [
     (b"config single url=redis://h response=5 lib=off\nend\n", 0),
     (
         b"config single url=redis://h response=none lib=on\nend\n",
-        1,
+        0,
     ),
+    (b"config single url=redis://127.0.0.1\nend\n", 0),
     (b"config single url response=none lib=off\nend\n", 1),
     (
         b"config single url=no%20address response=none lib=off\nend\n",
@@ -119,7 +120,7 @@ const FIRST_LINES: [(&[u8], u32); 28] = [
 ];
 
 /// Settings, each line with the line at fault, or 0.
-const QUEUE_LINES: [(&[u8], u32); 27] = [
+const QUEUE_LINES: [(&[u8], u32); 32] = [
     (b"url=a response=none lib=off buffer=1 boundary=0", 0),
     (
         b"buffer=0 boundary=18446744073709551615 url=a response=none lib=off",
@@ -141,7 +142,7 @@ const QUEUE_LINES: [(&[u8], u32); 27] = [
     (b"url=a response=none lib=off boundary=1 boundary=1", 1),
     (b"url=a response=none lib=off boundary", 1),
     (b"url=a lib=off buffer=1 boundary=1", 0),
-    (b"url=a buffer=1 boundary=1", 1),
+    (b"url=a buffer=1 boundary=1", 0),
     (b"url=a lib=off", 0),
     (b"lib=off url=a limit=4294967295 response=0", 0),
     (b"limit=0 url=a lib=off", 0),
@@ -153,6 +154,11 @@ const QUEUE_LINES: [(&[u8], u32); 27] = [
     (b"url=a lib=off response=18446744073709551616", 1),
     (b"url=a lib=off response=5s", 1),
     (b"url=a lib=off response=none response=none", 1),
+    (b"lib=on url=a", 0),
+    (b"url=a lib=", 1),
+    (b"url=a lib=On", 1),
+    (b"url=a lib=on lib=on", 1),
+    (b"lib=on", 1),
 ];
 
 #[test]
@@ -362,6 +368,25 @@ fn permits_as_given(rt: HostRuntime) -> Result<(), Fail> {
         let config = read_script(rt.alloc(), text.as_slice())?.config;
         assert!(rt; config.response == response);
         assert!(rt; config.limit == limit);
+    }
+    Ok(())
+}
+
+/// Settings, each line with whether the server is told which library speaks.
+const LIBS: [(&[u8], Option<bool>); 3] = [
+    (b"url=a", None),
+    (b"lib=on url=a limit=1", Some(true)),
+    (b"url=a lib=off connect=1", Some(false)),
+];
+
+#[test]
+fn libs_as_given(rt: HostRuntime) -> Result<(), Fail> {
+    for (settings, lib) in LIBS {
+        let mut text = Bytes::from_slice(rt.alloc(), b"config single ")?;
+        text.extend_from_slice(settings)?;
+        text.extend_from_slice(b"\nend\n")?;
+        let config = read_script(rt.alloc(), text.as_slice())?.config;
+        assert!(rt; config.lib == lib);
     }
     Ok(())
 }

@@ -20,6 +20,7 @@ fn start(alloc: Global, out: &mut Vec<Action>) -> Result<(SharedSession, Caller)
     ensures { IfOk result (λ made. made.1.table ≡ made.0.table.shared.table_id) }
 {
     let mut config = Config::new(Bytes::from_slice(alloc, b"redis://h")?);
+    config.lib = Some(false);
     config.connect = Some(None);
     match SharedSession::new(alloc, config, 0, out) {
         Ok(made) => Ok(made),
@@ -162,6 +163,7 @@ fn a_queue_that_holds_nothing_is_refused(rt: HostRuntime) -> Result<(), AllocErr
     let alloc = rt.alloc();
     let mut out = Vec::new(alloc);
     let mut config = Config::new(Bytes::from_slice(alloc, b"redis://h")?);
+    config.lib = Some(false);
     config.buffer = Some(0);
     assert_eq!(rt; refusal(alloc, config, &mut out), "buffer");
     assert_eq!(rt; out.len(), 0);

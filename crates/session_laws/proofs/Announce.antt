@@ -4,6 +4,7 @@ use Rattle.std.proofs.lemmas.List.{append-nil}
 use Rattle.containers.proofs.Choices.{by_test, chosen, taken_if, left_if, eq_test, ne_test, not_le_from, or_left}
 use Rattle.redis_error.specs.declared.redis_error.RedisError.TheVariants as error
 use Rattle.driver_model.specs.declared.action.Action.{Action}
+use Rattle.driver_model.specs.declared.action.Owner.{Owner}
 use Rattle.driver_model.specs.declared.action.Owner.TheVariants as owner
 use Rattle.driver_model.specs.declared.action.Purpose.{Purpose}
 use Rattle.driver_model.specs.declared.action.Purpose.TheVariants as purpose
@@ -18,16 +19,16 @@ use Rattle.link_core.specs.Link.{LinkState}
 use Rattle.link_laws.proofs.TiedLink.{TiedLink}
 use Rattle.mux_conn.specs.declared.connection.MultiplexedConnection.{MultiplexedConnection}
 use Rattle.mux_conn.specs.declared.life.Life.{Life}
-use Rattle.mux_conn.specs.declared.life.Life.TheVariants.{Dialing, Ready, Ended}
+use Rattle.mux_conn.specs.declared.life.Life.TheVariants.{Dialing, SettingUp, Ready, Ended}
 use Rattle.mux_conn.specs.declared.request.Request.{Request}
 use Rattle.shared_session.specs.declared.core_state.Core.{Core}
 use Rattle.shared_session.specs.Turn.{is_shutdown, shut_by, exceeds_offer, is_no_link, is_bad}
-use Rattle.legal_trace.specs.Ledger.{Ledger, hears, noted, is_over, bytes_came, dials, refused_in}
+use Rattle.legal_trace.specs.Ledger.{Ledger, Start, setup_count, hears, noted, is_over, bytes_came, dials, refused_in}
 use Rattle.legal_trace.specs.Story.{Story, fires}
 use Rattle.legal_trace.specs.Book.{Book, book, entered, is_clock_of}
 use Rattle.legal_trace.specs.Events.{is_bad_event}
 use Rattle.legal_trace.specs.Legal.{MayTurn}
-use Rattle.session_laws.proofs.Tied.{AreAimed, IsAim, owners_of, Inner, inner, link_in, owner_of, IsUnknown, TiedLife, TiedTries, TiedLines, AreQueued, TiedWaits, Tied, Sound, no_opening, has_ended}
+use Rattle.session_laws.proofs.Tied.{AreAimed, IsAim, owners_of, owners_each, setup_owners, Inner, inner, link_in, carried, whole_link, IsUnknown, TiedLife, TiedSetup, TiedTries, TiedLines, AreQueued, TiedWaits, Tied, Sound, no_opening, has_ended}
 use Rattle.session_laws.proofs.States.{Between}
 use Rattle.session_laws.proofs.Entered.{book_more, sound_more}
 use Rattle.session_laws.proofs.Answer.{some_end}
@@ -37,13 +38,14 @@ use Rattle.session_laws.proofs.Settle.{seen, trace_of_acts, Holds}
 -- bad events
 --
 -- what a link that has not ended is offered
-offered_length : (l : Ledger) (s : LinkState) (requests : List Request) → TiedLink (owner_of requests) l s → length l.offer ≡ s.outbox.offered
-offered_length l s requests h = ap length h.offer ∙ (let e = length-take s.outbox.offered s.outbox.unwritten in let b = h.bound in omega arith)
+offered_length : (name : ℕ → Owner) (l : Ledger) (s : LinkState) → TiedLink name l s → length l.offer ≡ s.outbox.offered
+offered_length name l s h = ap length h.offer ∙ (let e = length-take s.outbox.offered s.outbox.unwritten in let b = h.bound in omega arith)
 
 -- the connection's link can't take so much
-too_much : (l : Ledger) (created : ℕ) (life : Life) (requests : List Request) (count : ℕ) → TiedLife l created life → (has_ended life ≡ false → TiedLink (owner_of requests) l (link_in life)) → (not (is_over l) && nat_lt (length l.offer) count) ≡ exceeds_offer life count
-too_much l created Dialing requests count h link = (λ i. not (is_some (h.2 i)) && nat_lt (offered_length l (link_in Dialing) requests (link refl) i) count)
-too_much l created (Ready s) requests count h link = (λ i. not (is_some (h.2 i)) && nat_lt (offered_length l s requests (link refl) i) count)
+too_much : (l : Ledger) (created : ℕ) (life : Life) (requests : List Request) (count : ℕ) → TiedLife l created life → (has_ended life ≡ false → TiedLink (carried life requests) l (whole_link life)) → (not (is_over l) && nat_lt (length l.offer) count) ≡ exceeds_offer life count
+too_much l created Dialing requests count h link = (λ i. not (is_some (h.2 i)) && nat_lt (offered_length (carried Dialing requests) l (whole_link Dialing) (link refl) i) count)
+too_much l created (SettingUp s with_user) requests count h link = (λ i. not (is_some (h.2 i)) && nat_lt (offered_length (carried (SettingUp s with_user) requests) l s (link refl) i) count)
+too_much l created (Ready s) requests count h link = (λ i. not (is_some (h.2 i)) && nat_lt (offered_length (carried (Ready s) requests) l s (link refl) i) count)
 too_much l created (Ended e) requests count h link = ap (λ o. not o && nat_lt (length l.offer) count) (some_end l.end (outcome.Fault e) h.1)
 
 -- an event is bad after a trace where it is bad for its session
@@ -196,9 +198,9 @@ heard_is b number word event.Shutdown k = still_as_many b number word event.Shut
 -- tries are of the starts
 tries_by : (l after : Ledger) (story : ℕ → Story) (requests : List Request) (link : ℕ) (started : List ℕ) → after.starts ≡ l.starts → TiedTries l story requests link started → TiedTries after story requests link started
 tries_by l after story requests link started e h = record {
-  owners = ap owners_of e ∙ h.owners;
-  shapes = λ k p s i j. h.shapes k p s i (ap (λ ss. slice_get ss k) (sym e) ∙ j);
-  tried = h.tried;
+  owners = subst (λ (ss : List Start). owners_of ss ≡ setup_owners (setup_count ss) (owners_each requests started)) (sym e) h.owners;
+  shapes = λ k p s i j. h.shapes k p s i (ap (λ (ss : List Start). slice_get ss (setup_count ss + k)) (sym e) ∙ j);
+  tried = λ k p i. h.tried k p i ∙ ap (λ (ss : List Start). record { link = link; message = setup_count ss + k } ∷ []) (sym e);
   untried = h.untried;
 }
 
@@ -216,16 +218,17 @@ aims_longer timers link count more l h k what e = by_purpose what (h k what e)
   where
     by_purpose : (x : Purpose) → IsAim x link count → IsAim x link more
     by_purpose (purpose.Connect m) is = is
+    by_purpose (purpose.Response owner.Setup) is = absurd is
     by_purpose (purpose.Response (owner.Try n round)) is = (let less = is.0 in omega arith, is.1)
 
--- the session tied to that book, by what its link hears and has come to; the creation may be shown with it
-pub heard_tied : (b : Book) (c : Core) (started : List ℕ) (word created : ℕ) (kind : EventKind) (life : Life) (fresh pending : List ℕ) (l : Ledger) → Tied b (inner c started) → is_bad c kind ≡ false → noted (b.link c.single.link) (hears c.turns (news_of b.timers c.single.link kind)) ≡ l
-    → l.starts ≡ (b.link c.single.link).starts → TiedLife l created life → (has_ended life ≡ false → TiedLink (owner_of c.single.connection.requests) l (link_in life))
+-- the session tied to a book with these ledgers, by what its link has come to there; the creation may be shown with it
+pub heard_tied_by : (b : Book) (c : Core) (started : List ℕ) (word created : ℕ) (kind : EventKind) (life : Life) (fresh pending : List ℕ) (links : ℕ → Ledger) (l : Ledger) → Tied b (inner c started) → ((m : ℕ) → m ≢ c.single.link → IsUnknown (links m)) → links c.single.link ≡ l
+    → l.starts ≡ (b.link c.single.link).starts → TiedLife l created life → TiedSetup l c.single.connection.info started life → (has_ended life ≡ false → TiedLink (carried life c.single.connection.requests) l (whole_link life))
     → TiedLines b.story c.single.connection.requests (link_in life) c.single.connection.waiting c.single.connection.admitted pending started → (has_ended life ≡ false → AreQueued b.story c.single.connection.requests (link_in life))
     → TiedWaits b.story c.single.connection.requests life fresh c.single.connection.moved
-    → Tied (record (heard_book b c.turns word kind) { created = created }) (seen (turned c kind) [] (record c.single.connection { life = life; fresh = fresh }) pending started)
-heard_tied b c started word created kind life fresh pending l h good is same lived linked lines told waits =
-    let after = record (heard_book b c.turns word kind) { created = created } in
+    → Tied (record (heard_book b c.turns word kind) { created = created; link = links }) (seen (turned c kind) [] (record c.single.connection { life = life; fresh = fresh }) pending started)
+heard_tied_by b c started word created kind life fresh pending links l h others is same lived said linked lines told waits =
+    let after = record (heard_book b c.turns word kind) { created = created; link = links } in
     let t = seen (turned c kind) [] (record c.single.connection { life = life; fresh = fresh }) pending started in
     tied_by after t l is (record {
       numbers = record {
@@ -241,8 +244,9 @@ heard_tied b c started word created kind life fresh pending l h good is same liv
         one = h.numbers.one;
         only = h.numbers.only;
       };
-      others = others_heard b c started kind h good;
+      others = others;
       life = lived;
+      setup = said;
       link = linked;
       names = h.names;
       story = h.story;
@@ -253,6 +257,15 @@ heard_tied b c started word created kind life fresh pending l h good is same liv
       permits = h.permits;
       late = λ p o late. absurd (h.late p o late);
     })
+
+-- by what its link hears
+pub heard_tied : (b : Book) (c : Core) (started : List ℕ) (word created : ℕ) (kind : EventKind) (life : Life) (fresh pending : List ℕ) (l : Ledger) → Tied b (inner c started) → is_bad c kind ≡ false → noted (b.link c.single.link) (hears c.turns (news_of b.timers c.single.link kind)) ≡ l
+    → l.starts ≡ (b.link c.single.link).starts → TiedLife l created life → TiedSetup l c.single.connection.info started life → (has_ended life ≡ false → TiedLink (carried life c.single.connection.requests) l (whole_link life))
+    → TiedLines b.story c.single.connection.requests (link_in life) c.single.connection.waiting c.single.connection.admitted pending started → (has_ended life ≡ false → AreQueued b.story c.single.connection.requests (link_in life))
+    → TiedWaits b.story c.single.connection.requests life fresh c.single.connection.moved
+    → Tied (record (heard_book b c.turns word kind) { created = created }) (seen (turned c kind) [] (record c.single.connection { life = life; fresh = fresh }) pending started)
+heard_tied b c started word created kind life fresh pending l h good is same lived said linked lines told waits =
+    heard_tied_by b c started word created kind life fresh pending (heard_book b c.turns word kind).link l h (others_heard b c started kind h good) is same lived said linked lines told waits
 
 -- the trace begins
 --

@@ -11,21 +11,21 @@ use Rattle.redis_error.specs.declared.redis_error.RedisError.TheVariants as erro
 use Rattle.link_core.specs.declared.message.Entry.{Entry}
 use Rattle.link_core.specs.Link.{LinkState}
 use Rattle.link_laws.specs.Settles.{wanted}
-use Rattle.link_laws.proofs.TiedLink.{TiedLink}
 use Rattle.mux_conn.specs.declared.life.Life.{Life}
-use Rattle.mux_conn.specs.declared.life.Life.TheVariants.{Dialing, Ready, Ended}
+use Rattle.mux_conn.specs.declared.life.Life.TheVariants.{Dialing, SettingUp, Ready, Ended}
 use Rattle.mux_conn.specs.declared.request.Pending.{Pending}
 use Rattle.mux_conn.specs.declared.request.Progress.TheVariants as progress
 use Rattle.mux_conn.specs.declared.request.Request.{Request}
 use Rattle.mux_conn.specs.declared.request.Waiting.{Waiting}
 use Rattle.mux_conn.specs.Requests.{is_open as is_open_progress, is_placed, is_open_at, name_at, permits_at, with_permits, given_back}
-use Rattle.legal_trace.specs.Ledger.{End, ending_up, ending_asked, Ledger, is_over, ending}
+use Rattle.legal_trace.specs.Ledger.{End, ending_alive, ending_asked, Ledger, is_over, ending}
 use Rattle.legal_trace.specs.Story.{Story, Try, last_of, is_no_error, is_open, packed_in, shape_in, bytes_of, answered}
 use Rattle.legal_trace.specs.Book.{Book, entered}
 use Rattle.legal_trace.specs.Owed.{owed, owed_to_try, owed_to_message, owed_unstarted, unstarted_error}
 use Rattle.legal_trace.specs.Legal.{NoneEnds, VerdictsAreShown, MayAnswer, FailuresAreShown}
 use Rattle.session_laws.proofs.Numbers.{IsIn, in_either, in_right, in_left, Rising, rising_in}
 use Rattle.session_laws.proofs.Tied.{Inner, link_in, queue_ids, IsUnknown, TiedLife, TiedNames, IsEntry, AreQueued, TiedLines, Tied, relined, has_ended, numbers_kept}
+use Rattle.session_laws.proofs.Said.{carried_tied}
 use Rattle.session_laws.proofs.Names.{name_within, open_within, earlier_name, owners_with, length_with, names_with, with_other, with_then}
 use Rattle.session_laws.proofs.InLine.{kept_ids, line_of, IsInLine, awaited_in, first_is_apart}
 use Rattle.session_laws.proofs.Behind.{open_unanswered, told_answered}
@@ -54,7 +54,7 @@ may_answer b t p o h e owes before after =
 
 -- what isn't up need not end where it isn't asked for, or is over
 pub not_up_ends : (l : Ledger) → l.up ≡ false → (l.asked && not (is_over l)) ≡ false → ending l ≡ None
-not_up_ends l down no_dial = left_if l.up (ending_up l l.heard) _ down ∙ left_if (l.asked && not (is_over l)) (ending_asked l.heard) None no_dial
+not_up_ends l down no_dial = left_if l.up (ending_alive l) _ down ∙ left_if (l.asked && not (is_over l)) (ending_asked l.heard) None no_dial
 
 -- nor what was never asked for
 pub unknown_ends : (l : Ledger) → IsUnknown l → ending l ≡ None
@@ -76,12 +76,14 @@ over_not_asked l over = ap (λ o. l.asked && not o) over ∙ none_of l.asked
 -- a connection that has ended has a link that is over
 ended_over : (l : Ledger) (created : ℕ) (life : Life) → has_ended life ≡ true → TiedLife l created life → is_over l ≡ true
 ended_over l created Dialing over h = cc
+ended_over l created (SettingUp link with_user) over h = cc
 ended_over l created (Ready link) over h = cc
 ended_over l created (Ended e) over h = some_end l.end (outcome.Fault e) h.1
 
 -- what has ended need not end
 ended_ends : (l : Ledger) (created : ℕ) (life : Life) → has_ended life ≡ true → TiedLife l created life → ending l ≡ None
 ended_ends l created Dialing over h = cc
+ended_ends l created (SettingUp link with_user) over h = cc
 ended_ends l created (Ready link) over h = cc
 ended_ends l created (Ended e) over h = not_up_ends l h.0 (over_not_asked l (some_end l.end (outcome.Fault e) h.1))
 
@@ -200,13 +202,14 @@ answer_apart b t p pending o l apart told h =
       numbers = numbers_kept b b.link (entered b (action.Outcome n o)).story now t.life (given_back t.limit t.free (permits_at t.requests p)) (with_permits t.requests p progress.Closed 0) t.waiting t.admitted t.fresh t.moved t.letting pending t.started h.numbers;
       others = h.others;
       life = h.life;
-      link = λ up. subst (λ name. TiedLink name (b.link t.link) (link_in t.life)) (sym (owners_with t.requests p progress.Closed 0)) (h.link up);
+      setup = h.setup;
+      link = λ up. carried_tied t.life t.requests (with_permits t.requests p progress.Closed 0) (b.link t.link) (sym (owners_with t.requests p progress.Closed 0)) (h.link up);
       names = names_with t.table t.requests p progress.Closed 0 h.names;
       story = λ m. story_closed b.story t.table t.requests t.link p closed m h.names l refl (c m) (h.story m);
       tries = tries_closed (b.link t.link) b.story t.requests t.link p closed t.started c h.tries;
       lines = lines_answered t.table b.story t.requests (link_in t.life) t.waiting t.admitted p pending t.started closed h.names l c apart h.lines;
       told = told;
-      waits = waits_closed t.table b.story t.requests p closed t.life t.life t.fresh t.moved h.names l (λ e. e) (λ x e. (x, e))
+      waits = waits_closed t.table b.story t.requests p closed t.life t.life t.fresh t.moved h.names l (λ e. e) (λ x u e. (x, e)) (λ x e. (x, e))
           (λ q i.
           let j = awaited_in q link.queue i in
           let k = rising_in 0 (t.started ++ (queue ++ kept)) (length t.requests) q h.lines.line (in_right q t.started (queue ++ kept) (in_left q queue kept j)) in

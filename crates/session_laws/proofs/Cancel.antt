@@ -4,7 +4,8 @@ use Rattle.std.proofs.Common.{◌≡◌, ◌≢◌, inl, inr, ℕ, suc, ◌+◌,
 use Rattle.std.specs.List.{AllByRecursion}
 use Rattle.containers.proofs.Choices.{by_test, both_left, chosen, left_if, taken_if, eq_from, eq_test, ne_from, not_both}
 use Rattle.driver_model.specs.declared.action.Action.{Action}
-use Rattle.driver_model.specs.declared.action.Owner.{Owner}
+use Rattle.connection_info.specs.declared.address.RedisConnectionInfo.{RedisConnectionInfo}
+use Rattle.driver_model.specs.declared.action.Owner.TheVariants as owner
 use Rattle.driver_model.specs.declared.event.EventKind.TheVariants as event
 use Rattle.driver_model.specs.declared.outcome.Outcome.TheVariants as outcome
 use Rattle.resp_value.specs.declared.value.Value.TheVariants.{Nil}
@@ -19,7 +20,7 @@ use Rattle.link_laws.specs.Settles.{wanted, awaited_ids}
 use Rattle.link_laws.proofs.TiedLink.{TiedLink, told_tied, cancelled_tied}
 use Rattle.mux_conn.specs.declared.connection.MultiplexedConnection.{MultiplexedConnection}
 use Rattle.mux_conn.specs.declared.life.Life.{Life}
-use Rattle.mux_conn.specs.declared.life.Life.TheVariants.{Dialing, Ready, Ended}
+use Rattle.mux_conn.specs.declared.life.Life.TheVariants.{Dialing, SettingUp, Ready, Ended}
 use Rattle.mux_conn.specs.declared.request.Pending.{Pending}
 use Rattle.mux_conn.specs.declared.request.Progress.TheVariants as progress
 use Rattle.mux_conn.specs.declared.request.Request.{Request}
@@ -32,19 +33,21 @@ use Rattle.legal_trace.specs.Ledger.{Ledger, ending, hears, noted}
 use Rattle.legal_trace.specs.Story.{Story, is_open, is_told, left}
 use Rattle.legal_trace.specs.Book.{Book, after_event, book, entered, if_own, shuts, submitted_by, timeout_after}
 use Rattle.session_laws.proofs.Numbers.{IsIn, in_left, in_right, in_either, Rising, rising_from, rising_in, rising_right, rising_tail}
-use Rattle.session_laws.proofs.Tied.{inner, no_link, link_in, owner_of, queue_ids, IsQueued, IsEntry, AreQueued, TiedLife, TiedStory, TiedNames, TiedNumbers, TiedPermits, TiedLines, IsUnknown, Tied, no_opening, has_ended}
+use Rattle.session_laws.proofs.Tied.{carried, inner, no_link, link_in, owner_of, queue_ids, whole_link, IsQueued, IsEntry, AreQueued, TiedLife, TiedStory, TiedNames, TiedNumbers, TiedPermits, TiedLines, TiedSetup, IsUnknown, Tied, no_opening, has_ended}
 use Rattle.session_laws.proofs.States.{IsFit, IsFitIn, Between, HasApplied}
 use Rattle.session_laws.proofs.Names.{name_within, open_within, name_of_some, owners_with, length_with, names_with, with_other, with_then}
 use Rattle.session_laws.proofs.InLine.{row_ids, kept_ids, chosen_in, awaited_in, wanted_in}
 use Rattle.session_laws.proofs.Behind.{open_untold}
 use Rattle.session_laws.proofs.Owes.{answered_closed, request_story, row_in_line}
-use Rattle.session_laws.proofs.Closing.{Closes, WasReady, closed_other, late_closed, with_closed, story_closed, tries_closed, packs_closed, queued_other, queue_closed, AreOthers, waits_closed, kept_other, IsUntried, told_closed}
+use Rattle.legal_trace.specs.Legal.{NoneEnds}
+use Rattle.session_laws.proofs.Closing.{Closes, WasReady, WasSettingUp, closed_other, late_closed, with_closed, story_closed, tries_closed, packs_closed, queued_other, queue_closed, AreOthers, waits_closed, kept_other, IsUntried, told_closed}
 use Rattle.session_laws.proofs.Answer.{entries_answered}
 use Rattle.session_laws.proofs.Settle.{seen}
 use Rattle.session_laws.proofs.Announce.{aims_on, turn_of, turned}
 use Rattle.session_laws.proofs.Kept.{tied_by}
 use Rattle.session_laws.proofs.Permits.{permits_closed}
-use Rattle.session_laws.proofs.Heard.{silent_applied, told_life, silent_no_end}
+use Rattle.session_laws.proofs.Heard.{silent_applied, still_none, told_life, silent_no_end}
+use Rattle.session_laws.proofs.Said.{carried_tied, setup_on}
 
 -- one who leaves closes its story
 --
@@ -217,26 +220,45 @@ left_lines table story requests link waiting admitted p started closed names l a
 -- the link is as far as it was
 pub left_life : (l : Ledger) (created : ℕ) (life : Life) (p : ℕ) → TiedLife l created life → TiedLife (record l { heard = silence }) created (cancelled_in life p)
 left_life l created Dialing p h = h
+left_life l created (SettingUp link with_user) p h = h
 left_life l created (Ready link) p h = h
 left_life l created (Ended e) p h = h
 
+-- and its setup is
+pub left_setup : (l : Ledger) (info : RedisConnectionInfo) (started : List ℕ) (life : Life) (p : ℕ) → TiedSetup l info started life → TiedSetup (record l { heard = silence }) info started (cancelled_in life p)
+left_setup l info started Dialing p h = setup_on l l.asked l.up l.end l.taken l.offer l.rest silence info started Dialing h
+left_setup l info started (SettingUp link with_user) p h = setup_on l l.asked l.up l.end l.taken l.offer l.rest silence info started (SettingUp link with_user) h
+left_setup l info started (Ready link) p h = let k = setup_on l l.asked l.up l.end l.taken l.offer l.rest silence info started (Ready link) h in record { info_is = k.info_is; sent = k.sent; said = k.said }
+left_setup l info started (Ended e) p h = setup_on l l.asked l.up l.end l.taken l.offer l.rest silence info started (Ended e) h
+
 -- and tied to its ledger
-pub left_link : (name : ℕ → Owner) (l : Ledger) (life : Life) (p : ℕ) → (has_ended life ≡ false → TiedLink name l (link_in life)) → has_ended (cancelled_in life p) ≡ false → TiedLink name (record l { heard = silence }) (link_in (cancelled_in life p))
-left_link name l Dialing p h n = told_tied name l (link_in Dialing) l.asked l.up silence (h refl)
-left_link name l (Ready link) p h n = told_tied name l (cancelled link p) l.asked l.up silence (cancelled_tied name l link p (h refl))
-left_link name l (Ended e) p h n = cc
+pub left_link : (requests : List Request) (l : Ledger) (life : Life) (p : ℕ) → (has_ended life ≡ false → TiedLink (carried life requests) l (whole_link life)) → has_ended (cancelled_in life p) ≡ false
+    → TiedLink (carried (cancelled_in life p) requests) (record l { heard = silence }) (whole_link (cancelled_in life p))
+left_link requests l Dialing p h n = told_tied (owner_of requests) l (whole_link Dialing) l.asked l.up silence (h refl)
+left_link requests l (SettingUp link with_user) p h n = told_tied (λ (q : ℕ). owner.Setup) l link l.asked l.up silence (h refl)
+left_link requests l (Ready link) p h n = told_tied (owner_of requests) l (cancelled link p) l.asked l.up silence (cancelled_tied (owner_of requests) l link p (h refl))
+left_link requests l (Ended e) p h n = cc
 
 -- what dials has dialled before
 pub still_dials : (life : Life) (p : ℕ) → cancelled_in life p ≡ Dialing → life ≡ Dialing
 still_dials Dialing p e = refl
+still_dials (SettingUp link with_user) p e = cc
 still_dials (Ready link) p e = cc
 still_dials (Ended x) p e = cc
 
 -- a link that is up was so
 pub was_ready : (life : Life) (p : ℕ) → WasReady life (cancelled_in life p)
 was_ready Dialing p x e = cc
+was_ready (SettingUp link with_user) p x e = cc
 was_ready (Ready link) p x e = (link, refl)
 was_ready (Ended y) p x e = cc
+
+-- and so was one that is set up
+pub was_setting : (life : Life) (p : ℕ) → WasSettingUp life (cancelled_in life p)
+was_setting Dialing p x u e = cc
+was_setting (SettingUp link with_user) p x u e = (x, e)
+was_setting (Ready link) p x u e = cc
+was_setting (Ended y) p x u e = cc
 
 -- the lines of the others, by the life of the link
 left_lines_in : (table : List (Option Pending)) (story : ℕ → Story) (requests : List Request) (life : Life) (waiting admitted : List Waiting) (p : ℕ) (started : List ℕ) (closed : ℕ → Story) → TiedNames table requests → p < length requests
@@ -255,6 +277,7 @@ left_lines_in table story requests life waiting admitted p started closed names 
         → TiedLines (with_closed story requests p closed) (with_permits requests p progress.Closed 0) (link_in (cancelled_in x p)) waiting admitted [] started
     by_life (Ready link) r h = left_lines table story requests link waiting admitted p started closed names l asked c (r refl) h
     by_life Dialing r h = bare h
+    by_life (SettingUp link with_user) r h = bare h
     by_life (Ended e) r h = bare h
 
 -- who was told is none that leaves, and is in the queue still
@@ -271,6 +294,7 @@ left_told story requests life p asked h = by_life life h
     by_life : (x : Life) → (has_ended x ≡ false → AreQueued story requests (link_in x)) → has_ended (cancelled_in x p) ≡ false → AreQueued (with_closed story requests p (λ n. left (story n))) (with_permits requests p progress.Closed 0) (link_in (cancelled_in x p))
     by_life (Ready link) g n = told_closed story requests p (λ m. left (story m)) link (cancelled link p) own (λ q is i. without_others link.queue p q (other q is) i) (g refl)
     by_life Dialing g n = told_closed story requests p (λ m. left (story m)) no_link no_link own (λ q is i. i) (g refl)
+    by_life (SettingUp link with_user) g n = told_closed story requests p (λ m. left (story m)) no_link no_link own (λ q is i. i) (g refl)
     by_life (Ended e) g n = cc
 
 -- those that are awaited in the queue then are others
@@ -280,13 +304,20 @@ left_others requests (Ready link) ys p lo r q i =
     let k = rising_in lo (queue_ids link.queue ++ ys) (length requests) q r (in_left q (queue_ids link.queue) ys (awaited_in q link.queue was)) in
     ((λ same. without_apart link.queue ys p lo (length requests) r (subst (λ n. IsIn n (awaited_ids (without link.queue p))) (sym same) i)), k.1, was)
 left_others requests Dialing ys p lo r q i = absurd i
+left_others requests (SettingUp link with_user) ys p lo r q i = absurd i
 left_others requests (Ended e) ys p lo r q i = absurd i
 
 -- the link is fit
 pub left_fit : (c : MultiplexedConnection) (free : ℕ) (requests : List Request) (life : Life) (p : ℕ) → c.life ≡ life → IsFitIn c → IsFitIn (record c { free = free; requests = requests; life = cancelled_in life p })
-left_fit c free requests Dialing p is h = record { link = λ x e. cc; none = λ n. h.none (λ x e. (let no : Dialing ≡ Ready x = sym is ∙ e in cc)) }
-left_fit c free requests (Ended y) p is h = record { link = λ x e. cc; none = λ n. h.none (λ x e. (let no : Ended y ≡ Ready x = sym is ∙ e in cc)) }
+left_fit c free requests Dialing p is h = record { setup = λ x u e. cc; link = λ x e. cc; none = λ n. h.none (λ x e. (let no : Dialing ≡ Ready x = sym is ∙ e in cc)) }
+left_fit c free requests (SettingUp link with_user) p is h = record {
+  setup = λ x u e. let same : link ≡ x = cc in subst (IsFit c.size c.boundary) same (h.setup link with_user is);
+  link = λ x e. cc;
+  none = λ n. h.none (λ x e. (let no : SettingUp link with_user ≡ Ready x = sym is ∙ e in cc));
+}
+left_fit c free requests (Ended y) p is h = record { setup = λ x u e. cc; link = λ x e. cc; none = λ n. h.none (λ x e. (let no : Ended y ≡ Ready x = sym is ∙ e in cc)) }
 left_fit c free requests (Ready link) p is h = record {
+  setup = λ x u e. cc;
   link = λ x e.
       let same : cancelled link p ≡ x = cc in
       let k = h.link link is in
@@ -336,8 +367,8 @@ pub silent_others : (b : Book) (c : Core) (kind : EventKind) (timeout : Option �
 silent_others b c kind timeout m q u = subst (λ (x : News). IsUnknown (noted (b.link m) (hears c.turns x))) (sym (q.silent m)) (record { asked = u.asked; up = u.up; end = u.end; starts = u.starts })
 
 -- no link must end
-pub silent_ends : (b : Book) (c : Core) (kind : EventKind) (timeout : Option ℕ) → IsSilent b c kind timeout → (m : ℕ) → ending (noted (b.link m) (hears c.turns (news_of b.timers m kind))) ≡ None
-silent_ends b c kind timeout q m = ap (λ (x : News). ending (noted (b.link m) (hears c.turns x))) (q.silent m) ∙ silent_no_end (b.link m) c.turns
+pub silent_ends : (b : Book) (c : Core) (kind : EventKind) (timeout : Option ℕ) → IsSilent b c kind timeout → NoneEnds b → (m : ℕ) → ending (noted (b.link m) (hears c.turns (news_of b.timers m kind))) ≡ None
+silent_ends b c kind timeout q none m = ap (λ (x : News). ending (noted (b.link m) (hears c.turns x))) (q.silent m) ∙ silent_no_end (b.link m) c.turns (none m)
 
 -- where nothing else changes, the session is tied as it was
 pub still_tied : (b : Book) (c : Core) (started : List ℕ) (word : ℕ) (kind : EventKind) (timeout : Option ℕ) → IsSilent b c kind timeout → ((m : ℕ) → after_event b m kind ≡ b.story m) → Tied b (inner c started)
@@ -354,7 +385,8 @@ still_tied b c started word kind timeout q same h =
       numbers = silent_numbers b c started word kind timeout b.story conn.free conn.life conn.requests [] q h;
       others = λ m other. silent_others b c kind timeout m q (h.others m other);
       life = told_life ledger b.created conn.life silence h.life;
-      link = λ alive. told_tied (owner_of conn.requests) ledger (link_in conn.life) ledger.asked ledger.up silence (h.link alive);
+      setup = setup_on ledger ledger.asked ledger.up ledger.end ledger.taken ledger.offer ledger.rest silence conn.info started conn.life h.setup;
+      link = λ alive. told_tied (carried conn.life conn.requests) ledger (whole_link conn.life) ledger.asked ledger.up silence (h.link alive);
       names = h.names;
       story = h.story;
       tries = record { owners = h.tries.owners; shapes = h.tries.shapes; tried = h.tries.tried; untried = h.tries.untried };
@@ -392,13 +424,14 @@ gone_tied b c started word p n h o named =
       numbers = silent_numbers b c started word (event.Cancel own) c.timeout after free (cancelled_in conn.life p) requests [] (leave_silent b c word own started h) h;
       others = λ m other. let u = h.others m other in record { asked = u.asked; up = u.up; end = u.end; starts = u.starts };
       life = left_life ledger b.created conn.life p h.life;
-      link = λ alive. left_link (owner_of requests) ledger conn.life p (λ up. subst (λ name. TiedLink name ledger (link_in conn.life)) (sym (owners_with conn.requests p progress.Closed 0)) (h.link up)) alive;
+      setup = left_setup ledger conn.info started conn.life p h.setup;
+      link = λ alive. left_link requests ledger conn.life p (λ up. carried_tied conn.life conn.requests requests ledger (sym (owners_with conn.requests p progress.Closed 0)) (h.link up)) alive;
       names = names_with c.table conn.requests p progress.Closed 0 h.names;
       story = λ m. story_closed b.story c.table conn.requests c.single.link p closed m h.names l (leave_frees (b.story own) asked) (k m) (h.story m);
       tries = tries_closed (record ledger { heard = silence }) b.story conn.requests c.single.link p closed started k (record { owners = h.tries.owners; shapes = h.tries.shapes; tried = h.tries.tried; untried = h.tries.untried });
       lines = left_lines_in c.table b.story conn.requests conn.life conn.waiting conn.admitted p started closed h.names l asked k (λ up. row_in_line b (inner c started) h up) h.lines;
       told = left_told b.story conn.requests conn.life p asked h.told;
-      waits = waits_closed c.table b.story conn.requests p closed conn.life (cancelled_in conn.life p) conn.fresh conn.moved h.names l (still_dials conn.life p) (was_ready conn.life p) (left_others conn.requests conn.life (kept_ids conn.admitted conn.waiting) p 0 line) h.waits;
+      waits = waits_closed c.table b.story conn.requests p closed conn.life (cancelled_in conn.life p) conn.fresh conn.moved h.names l (still_dials conn.life p) (was_setting conn.life p) (was_ready conn.life p) (left_others conn.requests conn.life (kept_ids conn.admitted conn.waiting) p 0 line) h.waits;
       permits = subst (λ m. TiedPermits after m requests c.single.link conn.limit free []) (none_more b.submissions)
           (permits_closed b.story after c.table b.submissions conn.requests c.single.link conn.limit conn.free [] p h.names l known r.on r.permits_is (λ m other. closed_other b.story conn.requests p closed m other)
           (ap (λ (s : Story). s.permits) is ∙ leave_frees (b.story own) asked) (ap (λ (s : Story). s.link) is ∙ leave_link (b.story own) ∙ r.on) h.permits);
@@ -419,7 +452,7 @@ cancel_applied before c started word n h good = by_entry (slice_get c.table n) r
     b = book before
 
     still : is_open (b.story n) ≡ false → HasApplied (before ++ turn_of c word (event.Cancel n) ∷ []) (with_work (record { core = turned c (event.Cancel n); acts = [] }) (record { conn = c.single.connection; acts = [] })) started
-    still f = silent_applied before c started word (event.Cancel n) (turned c (event.Cancel n)) c.single.connection h good (λ m. silent_no_end (b.link m) c.turns) (λ z. absurd (omega arith)) h.moved h.fit
+    still f = silent_applied before c started word (event.Cancel n) (turned c (event.Cancel n)) c.single.connection h good (λ m. silent_no_end (b.link m) c.turns (still_none before c started h m)) (λ z. absurd (omega arith)) h.moved h.fit
         (still_tied b c started word (event.Cancel n) c.timeout (leave_silent b c word n started h.sound.tied) (stays_left b n f) h.sound.tied)
 
     by_entry : (x : Option (Option Pending)) → slice_get c.table n ≡ x → TiedStory (b.story n) c.single.connection.requests c.single.link x → HasApplied (before ++ turn_of c word (event.Cancel n) ∷ []) (left_by (heard (counted c) (event.Cancel n)) x) started
@@ -432,6 +465,6 @@ cancel_applied before c started word n h good = by_entry (slice_get c.table n) r
         chosen (λ (x : MultiplexedConnection). HasApplied (before ++ turn_of c word (event.Cancel n) ∷ []) (with_work (record { core = turned c (event.Cancel n); acts = [] }) (record { conn = x; acts = [] })) started)
         (is_open_at conn.requests p.number) (record (closed_conn conn p.number) { life = cancelled_in conn.life p.number }) conn
         (λ t. silent_applied before c started word (event.Cancel n) (turned c (event.Cancel n)) (record (closed_conn conn p.number) { life = cancelled_in conn.life p.number }) h good
-        (λ m. silent_no_end (b.link m) c.turns) (λ z. absurd (omega arith)) h.moved (left_fit conn (given_back conn.limit conn.free (permits_at conn.requests p.number)) (with_permits conn.requests p.number progress.Closed 0) conn.life p.number refl h.fit)
+        (λ m. silent_no_end (b.link m) c.turns (still_none before c started h m)) (λ z. absurd (omega arith)) h.moved (left_fit conn (given_back conn.limit conn.free (permits_at conn.requests p.number)) (with_permits conn.requests p.number progress.Closed 0) conn.life p.number refl h.fit)
         (gone_tied b c started word p.number n h.sound.tied t named))
         (λ f. still (s.open_is ∙ f))

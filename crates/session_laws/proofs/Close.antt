@@ -17,7 +17,7 @@ use Rattle.link_laws.proofs.Dealt.{all_append}
 use Rattle.link_laws.proofs.Once.{settled_ids-append}
 use Rattle.mux_conn.specs.declared.act.LinkAct.TheVariants as act
 use Rattle.mux_conn.specs.declared.life.Life.{Life}
-use Rattle.mux_conn.specs.declared.life.Life.TheVariants.{Ready, Ended}
+use Rattle.mux_conn.specs.declared.life.Life.TheVariants.{SettingUp, Ready, Ended}
 use Rattle.mux_conn.specs.declared.request.Request.{Request}
 use Rattle.mux_conn.specs.declared.request.Waiting.{Waiting}
 use Rattle.mux_conn.specs.Connection.{Work, acted, at_life}
@@ -32,6 +32,7 @@ use Rattle.legal_trace.specs.Owed.{owed, owed_unstarted, unstarted_error}
 use Rattle.legal_trace.specs.Legal.{MayClose}
 use Rattle.session_laws.proofs.Numbers.{IsIn, in_left, in_right, Rising, rising_in, rising_within, rising_right, rising_tail}
 use Rattle.session_laws.proofs.Tied.{Inner, no_link, link_in, owner_of, queue_ids, waiting_ids, IsKept, TiedLines, TiedWaits, Tied, relined, FailureIsShown, TiedLife, has_ended}
+use Rattle.session_laws.proofs.Said.{ready_shown}
 use Rattle.session_laws.proofs.States.{HasApplied}
 use Rattle.session_laws.proofs.InLine.{kept_ids, kept_in, line_of, IsInLine, awaited_rises}
 use Rattle.session_laws.proofs.Owes.{in_time, none_owed, in_line, later_unstarted, owed_none_started, settled_owed}
@@ -48,6 +49,7 @@ may_close b t why h none n must = record {
   ends = must;
   in_order = λ m less. unknown_ends (b.link m) (h.others m (λ e. omega arith));
   answered = λ m asked alive. none_owed b t h none n m asked;
+  created = ready_shown b t h;
 }
 
 -- the wanted messages of the row and the queue are to be answered
@@ -72,12 +74,14 @@ pub ended_waits : (story : ℕ → Story) (requests : List Request) (life : Life
 ended_waits story requests life e fresh moved h = record {
   early = h.early;
   connect = λ p w d. cc;
+  setup = λ p link with_user w s. cc;
   permit = λ p link w r. cc;
   place = h.place;
   room = λ p i. absurd i;
   newer = h.newer;
   rising = h.rising;
   no_connect = λ p i w d. cc;
+  no_setup = λ p link with_user i w s. cc;
   no_permit = λ p link i w r. cc;
   no_place = h.no_place;
   no_room = λ p i r. absurd r;
@@ -102,6 +106,7 @@ close_tied b t created why e pending ids must is shown h =
       numbers = record { turns = h.numbers.turns; links = h.numbers.links; timers = h.numbers.timers; aims = h.numbers.aims; timed = h.numbers.timed; submissions = h.numbers.submissions; timeout = h.numbers.timeout; shut = h.numbers.shut; settings = record { size_is = h.numbers.settings.size_is; bound_is = h.numbers.settings.bound_is; limit_is = h.numbers.settings.limit_is; some = h.numbers.settings.some; limited = h.numbers.settings.limited }; one = h.numbers.one; only = h.numbers.only };
       others = others_kept b t.link (ends turn) h.others;
       life = (refl, ends_owed (b.link t.link) turn why e must is, ends_failed (b.link t.link) turn created why must shown);
+      setup = record { info_is = h.setup.info_is; sent = h.setup.sent; said = tt };
       link = λ n. cc;
       names = h.names;
       story = h.story;
@@ -345,5 +350,9 @@ ended_applied before f w e started began none_moved h = record {
   ended = (after_end (book (trace_of_acts before f w.acts)) (seen f w.acts w.conn [] started) h.holds.tied (ap has_ended h.over)).0;
   began = began;
   moved = none_moved;
-  fit = record { link = λ link is. (let no : Ended e ≡ Ready link = sym h.over ∙ is in cc); none = λ n. h.none_admitted };
+  fit = record {
+    setup = λ link with_user is. (let no : Ended e ≡ SettingUp link with_user = sym h.over ∙ is in cc);
+    link = λ link is. (let no : Ended e ≡ Ready link = sym h.over ∙ is in cc);
+    none = λ n. h.none_admitted;
+  };
 }

@@ -10,7 +10,7 @@ use Rattle.link_core.specs.declared.message.Queued.{Queued}
 use Rattle.link_core.specs.Link.{LinkState}
 use Rattle.link_laws.specs.Settles.{awaited_ids}
 use Rattle.mux_conn.specs.declared.life.Life.{Life}
-use Rattle.mux_conn.specs.declared.life.Life.TheVariants.{Dialing, Ready}
+use Rattle.mux_conn.specs.declared.life.Life.TheVariants.{Dialing, SettingUp, Ready}
 use Rattle.mux_conn.specs.declared.request.Pending.{Pending}
 use Rattle.mux_conn.specs.declared.request.Progress.TheVariants as progress
 use Rattle.mux_conn.specs.declared.request.Request.{Request}
@@ -21,7 +21,8 @@ use Rattle.legal_trace.specs.Ledger.{Ledger}
 use Rattle.legal_trace.specs.Story.{Story, is_open, is_told, shape, packed_in, shape_in, awaited_in}
 use Rattle.legal_trace.specs.Book.{if_own}
 use Rattle.session_laws.proofs.Numbers.{IsIn, Rising}
-use Rattle.session_laws.proofs.Tied.{link_in, owners_each, queue_ids, IsRefused, IsRequest, TiedStory, TiedTries, TiedNames, IsOf, IsQueued, IsPacked, IsKept, AreQueued, shown_wait, TiedWaits, AreLate}
+use Rattle.legal_trace.specs.Ledger.{setup_count}
+use Rattle.session_laws.proofs.Tied.{link_in, owners_each, setup_owners, queue_ids, IsRefused, IsRequest, TiedStory, TiedTries, TiedNames, IsOf, IsQueued, IsPacked, IsKept, AreQueued, shown_wait, TiedWaits, AreLate}
 use Rattle.session_laws.proofs.Names.{name_placed, permits_other, permits_with, same_name, name_of_some, name_with, owners_with, length_with, was_with, there_within, with_same, with_other, with_then}
 
 -- a story that closes: what was handed in and tried stays
@@ -119,7 +120,7 @@ tries_closed l story requests link p closed started c h =
     let after = with_closed story requests p closed in
     let still = name_with requests p progress.Closed 0 in
     record {
-      owners = h.owners ∙ sym (owners_each_still requests p started);
+      owners = h.owners ∙ ap (setup_owners (setup_count l.starts)) (sym (owners_each_still requests p started));
       shapes = λ k q s i j. h.shapes k q s i j ∙ ap shape_in (sym (closed_submission story requests p closed (name_at requests q) (c (name_at requests q)))) ∙ ap (λ n. shape (after n)) (sym (still q));
       tried = λ k q i. ap (λ n. (after n).tries) (still q) ∙ closed_tries story requests p closed (name_at requests q) (c (name_at requests q)) ∙ h.tried k q i;
       untried = λ q r i not_started.
@@ -184,29 +185,41 @@ shown_closed table story requests p q closed names l m other =
 abbrev pub AreOthers : List Request → ℕ → Life → Life → Type 0
 AreOthers requests p life after = (q : ℕ) → IsIn q (awaited_ids (link_in after).queue) → (p ≢ q) × (q < length requests) × IsIn q (awaited_ids (link_in life).queue)
 
--- one of three equations, with another left side
-one_of_three : (x y a b c : Option WaitKind) → x ≡ y → (y ≡ a) ⊎ ((y ≡ b) ⊎ (y ≡ c)) → (x ≡ a) ⊎ ((x ≡ b) ⊎ (x ≡ c))
-one_of_three x y a b c same h = elim h [ inl e ↦ inl (same ∙ e) | inr k ↦ inr (elim k as (λ _. (x ≡ b) ⊎ (x ≡ c)) [ inl e ↦ inl (same ∙ e) | inr e ↦ inr (same ∙ e) ]) ]
+-- what is shown of a request that waits for the connection, or for a permit: nothing, or one of these
+abbrev pub IsOneOf : Option WaitKind → Type 0
+IsOneOf x = (x ≡ None) ⊎ ((x ≡ Some wait.Connect) ⊎ ((x ≡ Some wait.Setup) ⊎ (x ≡ Some wait.Permit)))
+
+-- with another left side
+pub one_of : (x y : Option WaitKind) → x ≡ y → IsOneOf y → IsOneOf x
+one_of x y same h = subst IsOneOf (sym same) h
 
 -- a link that is up was so before
 abbrev pub WasReady : Life → Life → Type 0
 WasReady life after = (link : LinkState) → after ≡ Ready link → (x : LinkState) × (life ≡ Ready x)
 
+-- a link that is set up was so before
+abbrev pub WasSettingUp : Life → Life → Type 0
+WasSettingUp life after = (link : LinkState) (with_user : Bool) → after ≡ SettingUp link with_user → (x : LinkState) × (life ≡ SettingUp x with_user)
+
 -- the waits of the others stay
 pub waits_closed : (table : List (Option Pending)) (story : ℕ → Story) (requests : List Request) (p : ℕ) (closed : ℕ → Story) (life after : Life) (fresh moved : List ℕ) → TiedNames table requests → p < length requests
-    → (after ≡ Dialing → life ≡ Dialing) → WasReady life after → AreOthers requests p life after → TiedWaits story requests life fresh moved
+    → (after ≡ Dialing → life ≡ Dialing) → WasSettingUp life after → WasReady life after → AreOthers requests p life after → TiedWaits story requests life fresh moved
     → TiedWaits (with_closed story requests p closed) (with_permits requests p progress.Closed 0) after fresh moved
-waits_closed table story requests p closed life after fresh moved names l dials ready others h =
+waits_closed table story requests p closed life after fresh moved names l dials sets ready others h =
     let waits : (q : ℕ) → is_waiting_at (with_permits requests p progress.Closed 0) q ≡ true → (p ≢ q) × (is_waiting_at requests q ≡ true) = λ q w. with_then is_waiting requests p q progress.Closed 0 refl l w in
     let admits : (q : ℕ) → is_admitted_at (with_permits requests p progress.Closed 0) q ≡ true → (p ≢ q) × (is_admitted_at requests q ≡ true) = λ q a. with_then is_admitted requests p q progress.Closed 0 refl l a in
     let same : (q : ℕ) → p ≢ q → q < length requests → shown_wait (with_closed story requests p closed) (with_permits requests p progress.Closed 0) q ≡ shown_wait story requests q = λ q other m. shown_closed table story requests p q closed names l m other in
     record {
       early = λ q w.
           let k = waits q w in
-          one_of_three (shown_wait (with_closed story requests p closed) (with_permits requests p progress.Closed 0) q) (shown_wait story requests q) None (Some wait.Connect) (Some wait.Permit) (same q k.0 (there_within is_waiting requests q k.1)) (h.early q k.1);
+          one_of (shown_wait (with_closed story requests p closed) (with_permits requests p progress.Closed 0) q) (shown_wait story requests q) (same q k.0 (there_within is_waiting requests q k.1)) (h.early q k.1);
       connect = λ q w d.
           let k = waits q w in
           elim (h.connect q k.1 (dials d)) [ inl i ↦ inl i | inr e ↦ inr (same q k.0 (there_within is_waiting requests q k.1) ∙ e) ];
+      setup = λ q link with_user w s.
+          let k = waits q w in
+          let x = sets link with_user s in
+          elim (h.setup q x.0 with_user k.1 x.1) [ inl i ↦ inl i | inr e ↦ inr (same q k.0 (there_within is_waiting requests q k.1) ∙ e) ];
       permit = λ q link w r.
           let k = waits q w in
           let x = ready link r in
@@ -220,6 +233,7 @@ waits_closed table story requests p closed life after fresh moved names l dials 
       newer = subst (Rising 0 fresh) (sym (length_with requests p progress.Closed 0)) h.newer;
       rising = subst (Rising 0 moved) (sym (length_with requests p progress.Closed 0)) h.rising;
       no_connect = λ q i w d e. let k = waits q w in h.no_connect q i k.1 (dials d) (sym (same q k.0 (there_within is_waiting requests q k.1)) ∙ e);
+      no_setup = λ q link with_user i w s e. let k = waits q w in let x = sets link with_user s in h.no_setup q x.0 with_user i k.1 x.1 (sym (same q k.0 (there_within is_waiting requests q k.1)) ∙ e);
       no_permit = λ q link i w r e. let k = waits q w in let x = ready link r in h.no_permit q x.0 i k.1 x.1 (sym (same q k.0 (there_within is_waiting requests q k.1)) ∙ e);
       no_place = λ q i a e. let k = admits q a in h.no_place q i k.1 (sym (same q k.0 (there_within is_admitted requests q k.1)) ∙ e);
       no_room = λ q i r e. let k = others q r in h.no_room q i k.2 (sym (same q k.0 k.1) ∙ e);

@@ -7,7 +7,7 @@ use Rattle.driver_model.specs.declared.event.EventKind.TheVariants as event
 use Rattle.driver_model.specs.declared.news.LinkFault.TheVariants as fault
 use Rattle.driver_model.specs.News.{News, connected, took, came, failed, news_of, of_timer, refused, overdue, silence}
 use Rattle.mux_conn.specs.declared.life.Life.{Life}
-use Rattle.mux_conn.specs.declared.life.Life.TheVariants.{Dialing, Ready, Ended}
+use Rattle.mux_conn.specs.declared.life.Life.TheVariants.{Dialing, Ready, Ended, SettingUp}
 use Rattle.mux_conn.specs.Effects.{CanTake, applied}
 use Rattle.shared_session.specs.declared.core_state.Core.{Core}
 use Rattle.shared_session.specs.Turn.{with_work, heard, fired_by, late_by, effect, counted, is_no_link, exceeds_offer, is_bad}
@@ -35,6 +35,7 @@ by_news before c started word kind heard n e h = subst (λ (x : News). HasApplie
 -- no more is taken than is offered
 can_take : (life : Life) (count : ℕ) → exceeds_offer life count ≡ false → CanTake life count
 can_take Dialing count f = tt
+can_take (SettingUp link with_user) count f = not_lt_from link.outbox.offered count f
 can_take (Ready link) count f = not_lt_from link.outbox.offered count f
 can_take (Ended e) count f = tt
 
@@ -48,6 +49,7 @@ fired : (before : List Action) (c : Core) (started : List ℕ) (word n : ℕ) (w
 fired before c started word n (purpose.Connect l) h good is =
     let own = own_timer c n l h.sound.tied.numbers.aims is in
     by_news before c started word (event.Fired n) (news_of c.timers c.single.link (event.Fired n)) overdue own (overdue_applied before c started word (event.Fired n) h good (λ m. ap (is_clock_of m) is) own)
+fired before c started word n (purpose.Response owner.Setup) h good is = absurd (h.sound.tied.numbers.aims n (purpose.Response owner.Setup) is)
 fired before c started word n (purpose.Response (owner.Try m round)) h good is =
     let aim : (m < length c.table) × (round ≡ 0) = h.sound.tied.numbers.aims n (purpose.Response (owner.Try m round)) is in
     let first = is ∙ ap (λ k. Some (purpose.Response (owner.Try m k))) aim.1 in

@@ -1,10 +1,13 @@
 -- A fault ends the connection's link, or the shutdown does.
-use Rattle.std.proofs.Common.{inl, inr, ◌≡◌, ◌≢◌, ℕ, ◌-◌, true, false, List, [], ◌∷◌, ◌++◌, Some, None, refl, sym, ap, ◌∙◌, subst, ◌&&◌, not, is_some, arith}
+use Rattle.std.proofs.Common.{inl, inr, ◌≡◌, ◌≢◌, ℕ, ◌-◌, Bool, true, false, List, [], ◌∷◌, ◌++◌, Some, None, refl, sym, ap, ◌∙◌, subst, ◌&&◌, not, is_some, arith}
 use Rattle.std.specs.List.{AllByRecursion}
 use Rattle.containers.proofs.Choices.{chosen, taken_if, left_if}
+use Rattle.redis_error.specs.declared.fault_kind.FaultKind.TheVariants as kinds
+use Rattle.redis_error.specs.declared.redis_error.RedisError.{RedisError}
 use Rattle.redis_error.specs.declared.redis_error.RedisError.TheVariants as error
 use Rattle.driver_model.specs.declared.action.Action.{Action}
 use Rattle.driver_model.specs.declared.action.Owner.{Owner}
+use Rattle.driver_model.specs.declared.action.Owner.TheVariants as owner
 use Rattle.driver_model.specs.declared.event.EventKind.{EventKind}
 use Rattle.driver_model.specs.declared.news.LinkFault.{LinkFault}
 use Rattle.driver_model.specs.declared.outcome.Verdict.TheVariants as verdict
@@ -19,17 +22,20 @@ use Rattle.link_laws.proofs.Once.{closed_ids, hit_ids}
 use Rattle.link_laws.proofs.Settles.{row_hit_owed, row_closed_owed}
 use Rattle.link_laws.proofs.TiedLink.{TiedLink, told_tied}
 use Rattle.mux_conn.specs.declared.life.Life.{Life}
-use Rattle.mux_conn.specs.declared.life.Life.TheVariants.{Dialing, Ready, Ended}
+use Rattle.mux_conn.specs.declared.life.Life.TheVariants.{Dialing, SettingUp, Ready, Ended}
 use Rattle.mux_conn.specs.Connection.{Work}
-use Rattle.mux_conn.specs.Effects.{ended_by, failed_at, shut_at}
+use Rattle.mux_conn.specs.Effects.{ended, ended_by, failed_at, overdue_at, shut_at}
 use Rattle.shared_session.specs.declared.core_state.Core.{Core}
 use Rattle.shared_session.specs.Turn.{with_work, is_bad}
-use Rattle.legal_trace.specs.Ledger.{Ledger, by_fault, by_shutdown, ends, noted, ending, is_over}
-use Rattle.legal_trace.specs.Book.{book}
+use Rattle.legal_trace.specs.Ledger.{Ledger, by_fault, by_opening, by_shutdown, ends, noted, ending, ending_alive, ending_unready, is_over, is_set_up}
+use Rattle.legal_trace.specs.Book.{Book, book}
 use Rattle.session_laws.proofs.Numbers.{IsIn}
-use Rattle.session_laws.proofs.Tied.{link_in, owner_of, queue_ids, TiedLife, has_ended}
+use Rattle.session_laws.proofs.Tied.{Inner, inner, link_in, no_link, carried, whole_link, owner_of, queue_ids, HasSaid, IsSettingUp, Tied, TiedLife, has_ended}
+use Rattle.session_laws.proofs.SetUp.{not_set_up}
+use Rattle.session_laws.proofs.Said.{ready_heard, setting_heard, setting_told, setup_hears}
+use Rattle.session_laws.proofs.Failing.{Fails, setup_failed}
 use Rattle.session_laws.proofs.States.{Between, HasApplied}
-use Rattle.session_laws.proofs.Settle.{trace_of_acts, Holds}
+use Rattle.session_laws.proofs.Settle.{seen, trace_of_acts, Holds}
 use Rattle.session_laws.proofs.Close.{HasEnded, IsClosedOf, SettlesAll, ended_holds, ended_moved, ended_applied}
 use Rattle.session_laws.proofs.Announce.{turn_of, turned, IsNewsKind}
 use Rattle.session_laws.proofs.Heard.{told_life, heard_by, Begins, Leads, heard_begins, leads_on, ended_quiet, dialing_quiet}
@@ -54,18 +60,48 @@ pub record IsUp (name : ℕ → Owner) (l : Ledger) (created : ℕ) (link : Link
   pub up : l.up ≡ true
   pub alive : l.end ≡ None
   pub shown : created ≢ 0
+  pub well : is_set_up l ≡ true
   pub tied : TiedLink name l link
 
 -- the link of a connection that is ready is up
-pub up_tied : (name : ℕ → Owner) (l : Ledger) (created : ℕ) (life : Life) (link : LinkState) → life ≡ Ready link → TiedLife l created life → (has_ended life ≡ false → TiedLink name l (link_in life)) → IsUp name l created link
-up_tied name l created life link is h tied =
-    let lived = subst (λ (x : Life). TiedLife l created x) is h in
+pub up_tied : (b : Book) (t : Inner) (link : LinkState) → t.life ≡ Ready link → Tied b t → IsUp (owner_of t.requests) (b.link t.link) b.created link
+up_tied b t link is h =
+    let l = b.link t.link in
+    let lived = subst (λ (x : Life). TiedLife l b.created x) is h.life in
+    let said = subst (λ (x : Life). HasSaid l t.started x) is h.setup.said in
     record {
       asked = lived.0;
       up = lived.1;
       alive = lived.2;
       shown = lived.3;
-      tied = subst (λ (x : Life). TiedLink name l (link_in x)) is (tied (ap has_ended is));
+      well = said.well;
+      tied = subst (λ (x : Life). TiedLink (carried x t.requests) l (whole_link x)) is (h.link (ap has_ended is));
+    }
+
+-- a link that is set up, with its ledger
+pub record IsSetting (l : Ledger) (created : ℕ) (started : List ℕ) (link : LinkState) (with_user : Bool) : Type 0 where
+  pub asked : l.asked ≡ true
+  pub up : l.up ≡ true
+  pub alive : l.end ≡ None
+  pub unshown : created ≡ 0
+  pub none : started ≡ []
+  pub said : IsSettingUp l link with_user
+  pub tied : TiedLink (λ p. owner.Setup) l link
+
+-- so it is while the connection says so
+pub setting_tied : (b : Book) (t : Inner) (link : LinkState) (with_user : Bool) → t.life ≡ SettingUp link with_user → Tied b t → IsSetting (b.link t.link) b.created t.started link with_user
+setting_tied b t link with_user is h =
+    let l = b.link t.link in
+    let lived = subst (λ (x : Life). TiedLife l b.created x) is h.life in
+    let said = subst (λ (x : Life). HasSaid l t.started x) is h.setup.said in
+    record {
+      asked = lived.0;
+      up = lived.1;
+      alive = lived.2;
+      unshown = lived.3;
+      none = said.0;
+      said = said.1;
+      tied = subst (λ (x : Life). TiedLink (carried x t.requests) l (whole_link x)) is (h.link (ap has_ended is));
     }
 
 -- the link ends by a fault
@@ -75,7 +111,7 @@ fault_ends before f w link fault started h is must =
     let b = book (trace_of_acts before f w.acts) in
     let l = b.link f.single.link in
     let name = owner_of w.conn.requests in
-    let tied = up_tied name l b.created w.conn.life link is h.tied.life h.tied.link in
+    let tied = up_tied b (seen f w.acts w.conn [] started) link is h.tied in
     let turn = b.turns - 1 in
     let row = row_hit_owed name l link turn fault must tied.alive tied.tied in
     ended_holds before f w (row_hit fault link.row) (queue_closed link.queue) (by_fault fault) started h (ap has_ended is) refl refl
@@ -88,19 +124,19 @@ shutdown_ends before f w link started h is must =
     let b = book (trace_of_acts before f w.acts) in
     let l = b.link f.single.link in
     let name = owner_of w.conn.requests in
-    let tied = up_tied name l b.created w.conn.life link is h.tied.life h.tied.link in
+    let tied = up_tied b (seen f w.acts w.conn [] started) link is h.tied in
     let turn = b.turns - 1 in
     let row = row_closed_owed name l link turn must tied.alive tied.tied in
     ended_holds before f w (row_closed link.row) (queue_closed link.queue) by_shutdown started h (ap has_ended is) refl refl
     (must, settles_ready name (noted l (ends turn)) w.conn.life link (row_closed link.row) is row (closed_ids link.row link.queue))
 
--- also before its connect is answered
-pub dial_ends : (before : List Action) (f : Core) (w : Work) (started : List ℕ) → Holds before f w [] started → w.conn.life ≡ Dialing → ending ((book (trace_of_acts before f w.acts)).link f.single.link) ≡ Some by_shutdown
-    → HasEnded before f (shut_at w Dialing) error.Closed started
-dial_ends before f w started h is must =
+-- also before it is ready
+pub bare_ends : (before : List Action) (f : Core) (w : Work) (started : List ℕ) → Holds before f w [] started → has_ended w.conn.life ≡ false → link_in w.conn.life ≡ no_link → ending ((book (trace_of_acts before f w.acts)).link f.single.link) ≡ Some by_shutdown
+    → HasEnded before f (ended w []) error.Closed started
+bare_ends before f w started h alive bare must =
     let b = book (trace_of_acts before f w.acts) in
-    let settles = λ (x : Life). SettlesAll (owner_of w.conn.requests) (noted (b.link f.single.link) (ends (b.turns - 1))) (link_in x) [] [] in
-    ended_holds before f w [] [] by_shutdown started h (ap has_ended is) refl refl (must, subst settles (sym is) (record { started = tt; waits = tt; ids = refl }))
+    let settles = λ (x : LinkState). SettlesAll (owner_of w.conn.requests) (noted (b.link f.single.link) (ends (b.turns - 1))) x [] [] in
+    ended_holds before f w [] [] by_shutdown started h alive refl refl (must, subst settles (sym bare) (record { started = tt; waits = tt; ids = refl }))
 
 -- the turns of these events
 --
@@ -125,14 +161,29 @@ plain_leads before c started n k h = by_news n k
     by_news (took count) j = absurd j
     by_news (came piece) j = absurd j
     by_news (refused f) j = absurd j
-    by_news overdue j = leads_on before c started overdue h (told_life l (book before).created c.single.connection.life overdue h.sound.tied.life, λ alive. told_tied (owner_of c.single.connection.requests) l (link_in c.single.connection.life) l.asked l.up overdue (h.sound.tied.link alive))
-    by_news (failed f) j = leads_on before c started (failed f) h (told_life l (book before).created c.single.connection.life (failed f) h.sound.tied.life, λ alive. told_tied (owner_of c.single.connection.requests) l (link_in c.single.connection.life) l.asked l.up (failed f) (h.sound.tied.link alive))
-    by_news shut j = leads_on before c started shut h (told_life l (book before).created c.single.connection.life shut h.sound.tied.life, λ alive. told_tied (owner_of c.single.connection.requests) l (link_in c.single.connection.life) l.asked l.up shut (h.sound.tied.link alive))
+    by_news overdue j = leads_on before c started overdue h (told_life l (book before).created c.single.connection.life overdue h.sound.tied.life, setup_hears l c.turns overdue c.single.connection.info started c.single.connection.life tt h.sound.tied.setup, λ alive. told_tied (carried c.single.connection.life c.single.connection.requests) l (whole_link c.single.connection.life) l.asked l.up overdue (h.sound.tied.link alive))
+    by_news (failed f) j = leads_on before c started (failed f) h (told_life l (book before).created c.single.connection.life (failed f) h.sound.tied.life, setup_hears l c.turns (failed f) c.single.connection.info started c.single.connection.life tt h.sound.tied.setup, λ alive. told_tied (carried c.single.connection.life c.single.connection.requests) l (whole_link c.single.connection.life) l.asked l.up (failed f) (h.sound.tied.link alive))
+    by_news shut j = leads_on before c started shut h (told_life l (book before).created c.single.connection.life shut h.sound.tied.life, setup_hears l c.turns shut c.single.connection.info started c.single.connection.life tt h.sound.tied.setup, λ alive. told_tied (carried c.single.connection.life c.single.connection.requests) l (whole_link c.single.connection.life) l.asked l.up shut (h.sound.tied.link alive))
 
 -- the turn of such an event begins with its link as it was
 pub plain_begins : (before : List Action) (c : Core) (started : List ℕ) (word : ℕ) (kind : EventKind) (n : News) → IsPlain n → Between before c started → is_bad c kind ≡ false → IsNewsKind c.timers kind → news_of c.timers c.single.link kind ≡ n
     → Begins (before ++ turn_of c word kind ∷ []) (turned c kind) c.single.connection (heard_by (book before) c n) (book before).story [] started
 plain_begins before c started word kind n p h good k is = heard_begins before c started word kind n c.single.connection.life [] h good k is (plain_leads before c started n p h)
+
+-- a link that is set up fails by news that leave its ledger
+plain_fails : (before : List Action) (c : Core) (started : List ℕ) (n : News) (x : RedisError) (link : LinkState) (with_user : Bool) → Between before c started → c.single.connection.life ≡ SettingUp link with_user
+    → (let l = record ((book before).link c.single.link) { heard = n } in ending_unready l n ≡ Some (by_opening x)) → Fails (record ((book before).link c.single.link) { heard = n }) c.single.connection.info x
+plain_fails before c started n x link with_user h e is =
+    let b = book before in
+    let l = b.link c.single.link in
+    let s = setting_tied b (inner c started) link with_user e h.sound.tied in
+    record {
+      alive = s.alive;
+      unready = (not_set_up (record l { heard = n }) link with_user (setting_told l n link with_user s.said)).unwell;
+      must = setting_heard l n link with_user s.up s.said ∙ is;
+      info_is = h.sound.tied.setup.info_is;
+      sent = h.sound.tied.setup.sent;
+    }
 
 -- a fault, or the peer's end
 pub failed_applied : (before : List Action) (c : Core) (started : List ℕ) (word : ℕ) (kind : EventKind) (f : LinkFault) → Between before c started → is_bad c kind ≡ false → IsNewsKind c.timers kind → news_of c.timers c.single.link kind ≡ failed f
@@ -142,14 +193,24 @@ failed_applied before c started word kind f h good k is = by_life c.single.conne
     by_life : (x : Life) → c.single.connection.life ≡ x → HasApplied (before ++ turn_of c word kind ∷ []) (with_work (record { core = turned c kind; acts = [] }) (failed_at (record { conn = c.single.connection; acts = [] }) f x)) started
     by_life Dialing e = dialing_quiet before c started word kind (failed f) tt h good k is e
     by_life (Ended x) e = ended_quiet before c started word kind (failed f) x h good k is e
+    by_life (SettingUp link with_user) e =
+        setup_failed before c started word kind (failed f) error.Closed link with_user h good k is e (plain_fails before c started (failed f) error.Closed link with_user h e refl)
     by_life (Ready link) e =
         let begins = plain_begins before c started word kind (failed f) tt h good k is in
         let l = (book before).link c.single.link in
-        let up = (up_tied (owner_of c.single.connection.requests) l (book before).created c.single.connection.life link e h.sound.tied.life h.sound.tied.link).up in
-        let must = ap ending begins.ledger ∙ taken_if l.up (Some (by_fault f)) _ up in
+        let u = up_tied (book before) (inner c started) link e h.sound.tied in
+        let must = ap ending begins.ledger ∙ ready_heard l (failed f) u.up u.well in
         ended_applied (before ++ turn_of c word kind ∷ []) (turned c kind) (failed_at (record { conn = c.single.connection; acts = [] }) f (Ready link)) error.Closed started (λ z. absurd (omega arith))
         (ended_moved (record { conn = c.single.connection; acts = [] }) (row_hit f link.row ++ queue_closed link.queue) ∙ h.moved)
         (fault_ends (before ++ turn_of c word kind ∷ []) (turned c kind) (record { conn = c.single.connection; acts = [] }) link f started begins.holds e must)
+
+-- the time of the opening is over while the link is set up
+pub setting_overdue : (before : List Action) (c : Core) (started : List ℕ) (word : ℕ) (kind : EventKind) (link : LinkState) (with_user : Bool) → Between before c started → is_bad c kind ≡ false → IsNewsKind c.timers kind → news_of c.timers c.single.link kind ≡ overdue
+    → c.single.connection.life ≡ SettingUp link with_user
+    → HasApplied (before ++ turn_of c word kind ∷ []) (with_work (record { core = turned c kind; acts = [] }) (overdue_at (record { conn = c.single.connection; acts = [] }) (SettingUp link with_user))) started
+setting_overdue before c started word kind link with_user h good k is e =
+    let x = error.Io kinds.TimedOut in
+    setup_failed before c started word kind overdue x link with_user h good k is e (plain_fails before c started overdue x link with_user h e refl)
 
 -- everything is shut down
 pub shut_applied : (before : List Action) (c : Core) (started : List ℕ) (word : ℕ) (kind : EventKind) → Between before c started → is_bad c kind ≡ false → IsNewsKind c.timers kind → news_of c.timers c.single.link kind ≡ shut
@@ -162,18 +223,26 @@ shut_applied before c started word kind h good k is = by_life c.single.connectio
     begins : Begins (before ++ turn_of c word kind ∷ []) (turned c kind) c.single.connection (heard_by (book before) c shut) (book before).story [] started
     begins = plain_begins before c started word kind shut tt h good k is
 
+    -- where no request has a place
+    bare : (x : Life) → c.single.connection.life ≡ x → has_ended x ≡ false → link_in x ≡ no_link → ending (record l { heard = shut }) ≡ Some by_shutdown
+        → HasApplied (before ++ turn_of c word kind ∷ []) (with_work (record { core = turned c kind; acts = [] }) (ended (record { conn = c.single.connection; acts = [] }) [])) started
+    bare x e alive none must =
+        ended_applied (before ++ turn_of c word kind ∷ []) (turned c kind) (ended (record { conn = c.single.connection; acts = [] }) []) error.Closed started (λ z. absurd (omega arith))
+        (ended_moved (record { conn = c.single.connection; acts = [] }) [] ∙ h.moved)
+        (bare_ends (before ++ turn_of c word kind ∷ []) (turned c kind) (record { conn = c.single.connection; acts = [] }) started begins.holds (ap has_ended e ∙ alive) (ap link_in e ∙ none) (ap ending begins.ledger ∙ must))
+
     by_life : (x : Life) → c.single.connection.life ≡ x → HasApplied (before ++ turn_of c word kind ∷ []) (with_work (record { core = turned c kind; acts = [] }) (shut_at (record { conn = c.single.connection; acts = [] }) x)) started
     by_life (Ended x) e = ended_quiet before c started word kind shut x h good k is e
     by_life Dialing e =
         let lived = subst (λ (x : Life). TiedLife l (book before).created x) e h.sound.tied.life in
         let asked : (l.asked && not (is_over l)) ≡ true = (λ i. lived.0 i && not (is_some (lived.2 i))) in
-        let must = ap ending begins.ledger ∙ left_if l.up (Some by_shutdown) _ lived.1 ∙ taken_if (l.asked && not (is_over l)) (Some by_shutdown) None asked in
-        ended_applied (before ++ turn_of c word kind ∷ []) (turned c kind) (shut_at (record { conn = c.single.connection; acts = [] }) Dialing) error.Closed started (λ z. absurd (omega arith))
-        (ended_moved (record { conn = c.single.connection; acts = [] }) [] ∙ h.moved)
-        (dial_ends (before ++ turn_of c word kind ∷ []) (turned c kind) (record { conn = c.single.connection; acts = [] }) started begins.holds e must)
+        bare Dialing e refl refl (left_if l.up (ending_alive (record l { heard = shut })) _ lived.1 ∙ taken_if (l.asked && not (is_over l)) (Some by_shutdown) None asked)
+    by_life (SettingUp link with_user) e =
+        let s = setting_tied (book before) (inner c started) link with_user e h.sound.tied in
+        bare (SettingUp link with_user) e refl refl (setting_heard l shut link with_user s.up s.said)
     by_life (Ready link) e =
-        let up = (up_tied (owner_of c.single.connection.requests) l (book before).created c.single.connection.life link e h.sound.tied.life h.sound.tied.link).up in
-        let must = ap ending begins.ledger ∙ taken_if l.up (Some by_shutdown) _ up in
+        let u = up_tied (book before) (inner c started) link e h.sound.tied in
+        let must = ap ending begins.ledger ∙ ready_heard l shut u.up u.well in
         ended_applied (before ++ turn_of c word kind ∷ []) (turned c kind) (shut_at (record { conn = c.single.connection; acts = [] }) (Ready link)) error.Closed started (λ z. absurd (omega arith))
         (ended_moved (record { conn = c.single.connection; acts = [] }) (row_closed link.row ++ queue_closed link.queue) ∙ h.moved)
         (shutdown_ends (before ++ turn_of c word kind ∷ []) (turned c kind) (record { conn = c.single.connection; acts = [] }) link started begins.holds e must)

@@ -8,24 +8,25 @@ use Rattle.driver_model.specs.declared.outcome.Shape.{Shape}
 use Rattle.link_core.specs.declared.message.Entry.{Entry}
 use Rattle.link_core.specs.declared.message.Queued.{Queued}
 use Rattle.link_laws.proofs.Lists.{get_before, get_last}
-use Rattle.link_laws.proofs.TiedLink.{SameNames}
+use Rattle.link_laws.proofs.TiedLink.{SameNames, TiedLink, named_tied}
 use Rattle.mux_conn.specs.declared.request.Pending.{Pending}
 use Rattle.mux_conn.specs.declared.request.Progress.{Progress}
 use Rattle.mux_conn.specs.declared.request.Request.{Request}
 use Rattle.mux_conn.specs.declared.request.Waiting.{Waiting}
 use Rattle.mux_conn.specs.Requests.{is_open as is_open_progress, is_waiting, is_admitted, is_placed, is_open_at, is_waiting_at, is_admitted_at, is_placed_at, if_there, name_or_none, name_at, permits_or_none, permits_at}
 use Rattle.mux_conn.specs.declared.life.Life.{Life}
+use Rattle.mux_conn.specs.declared.life.Life.TheVariants.{Dialing, Ended, Ready, SettingUp}
 use Rattle.link_core.specs.Link.{LinkState}
 use Rattle.link_laws.specs.Settles.{awaited_ids}
-use Rattle.legal_trace.specs.Ledger.{Ledger}
+use Rattle.legal_trace.specs.Ledger.{Ledger, setup_count}
 use Rattle.legal_trace.specs.Story.{Story, is_told, shape}
 use Rattle.session_laws.proofs.Numbers.{IsIn, Rising}
-use Rattle.session_laws.proofs.Tied.{link_in, owner_of, owners_each, queue_ids, waiting_ids, IsRequest, TiedStory, TiedTries, TiedNames, IsOf, IsQueued, IsEntry, IsPacked, AreQueued, AreLate, shown_wait, TiedWaits, TiedPermits}
+use Rattle.session_laws.proofs.Tied.{carried, link_in, no_link, owner_of, owners_each, queue_ids, setup_owners, waiting_ids, whole_link, IsRequest, TiedStory, TiedTries, TiedNames, IsOf, IsQueued, IsEntry, IsPacked, AreQueued, AreLate, shown_wait, TiedWaits, TiedPermits}
 use Rattle.session_laws.proofs.Permits.{held_same}
 use Rattle.legal_trace.specs.Steps.{is_let_in, permits_held, permits_on}
 use Rattle.driver_model.specs.declared.action.WaitKind.{WaitKind}
 use Rattle.driver_model.specs.declared.action.WaitKind.TheVariants as wait
-use Rattle.session_laws.proofs.Closing.{IsUntried}
+use Rattle.session_laws.proofs.Closing.{IsUntried, one_of}
 use Rattle.session_laws.proofs.Names.{name_within}
 
 -- nothing stands beyond the end
@@ -126,7 +127,7 @@ pub tries_longer : (table : List (Option Pending)) (l : Ledger) (story after : �
     → ((p : ℕ) → IsIn p started → p < length requests) → ((k p : ℕ) → slice_get started k ≡ Some p → p < length requests) → ((p : ℕ) (r : Request) → slice_get more p ≡ Some r → length requests ≤ p → (after r.name).tries ≡ [])
     → TiedTries l story requests link started → TiedTries l after more link started
 tries_longer table l story after requests more link started names same longer within at new h = record {
-  owners = h.owners ∙ sym (owners_longer requests more started longer within);
+  owners = h.owners ∙ ap (setup_owners (setup_count l.starts)) (sym (owners_longer requests more started longer within));
   shapes = λ k p s i j. h.shapes k p s i j ∙ ap shape (sym (story_at table story after requests more p names same longer (at k p i)));
   tried = λ k p i. ap (λ (s : Story). s.tries) (story_at table story after requests more p names same longer (at k p i)) ∙ h.tried k p i;
   untried = λ p r i out. before_or_new requests more p ((after r.name).tries ≡ [])
@@ -184,6 +185,13 @@ pub owners_of_row : (requests more : List Request) (row : List Entry) → IsLong
 owners_of_row requests more [] longer all = tt
 owners_of_row requests more (e ∷ es) longer all = (sym (λ i. owner.Try (name_longer requests more e.id longer all.0.below i) 0), owners_of_row requests more es longer all.1)
 
+-- so the link is tied
+pub link_longer : (l : Ledger) (requests more : List Request) (life : Life) → IsLonger requests more → AllByRecursion (IsEntry requests) (link_in life).row → TiedLink (carried life requests) l (whole_link life) → TiedLink (carried life more) l (whole_link life)
+link_longer l requests more Dialing longer all h = named_tied (owner_of requests) (owner_of more) l no_link tt h
+link_longer l requests more (SettingUp link with_user) longer all h = h
+link_longer l requests more (Ready link) longer all h = named_tied (owner_of requests) (owner_of more) l link (owners_of_row requests more link.row longer all) h
+link_longer l requests more (Ended e) longer all h = named_tied (owner_of requests) (owner_of more) l no_link tt h
+
 -- who was told and has not started is in the queue still
 pub told_longer : (table : List (Option Pending)) (story after : ℕ → Story) (requests more : List Request) (link : LinkState) → SameBefore story after (length table) → IsLonger requests more → (IsUntried (after (length table)) → ⊥) → AreQueued story requests link
     → AreQueued after more link
@@ -230,10 +238,13 @@ waits_longer table story after requests more life fresh later moved names same l
     let old_one : (p : ℕ) → IsIn p fresh → ⊥ = λ p i. subst (IsIn p) no_fresh i in
     record {
       early = λ p w. before_or_new requests more p _
-          (λ old. elim (h.early p (was p old w)) [ inl e ↦ inl (still p old ∙ e) | inr k ↦ elim k [ inl e ↦ inr (inl (still p old ∙ e)) | inr e ↦ inr (inr (still p old ∙ e)) ] ])
+          (λ old. one_of (shown_wait after more p) (shown_wait story requests p) (still p old) (h.early p (was p old w)))
           (λ past. inl (next.shown p w past).0);
       connect = λ p w d. before_or_new requests more p _
           (λ old. elim (h.connect p (was p old w) d) [ inl i ↦ absurd (old_one p i) | inr e ↦ inr (still p old ∙ e) ])
+          (λ past. inl (next.shown p w past).1);
+      setup = λ p link u w r. before_or_new requests more p _
+          (λ old. elim (h.setup p link u (was p old w) r) [ inl i ↦ absurd (old_one p i) | inr e ↦ inr (still p old ∙ e) ])
           (λ past. inl (next.shown p w past).1);
       permit = λ p link w r. before_or_new requests more p _
           (λ old. elim (h.permit p link (was p old w) r) [ inl i ↦ absurd (old_one p i) | inr e ↦ inr (still p old ∙ e) ])
@@ -245,6 +256,7 @@ waits_longer table story after requests more life fresh later moved names same l
       newer = next.newer;
       rising = rising_below 0 (length requests) (length more) moved longer.long h.rising;
       no_connect = λ p i w d. no_wait (shown_wait after more p) wait.Connect (next.shown p w (next.only p i)).0;
+      no_setup = λ p link u i w r. no_wait (shown_wait after more p) wait.Setup (next.shown p w (next.only p i)).0;
       no_permit = λ p link i w r. no_wait (shown_wait after more p) wait.Permit (next.shown p w (next.only p i)).0;
       no_place = λ p i a. before_or_new requests more p _
           (λ old e. h.no_place p i (sym (there_longer is_admitted requests more p longer old) ∙ a) (sym (still p old) ∙ e))

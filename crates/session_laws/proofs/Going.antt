@@ -1,20 +1,23 @@
 -- A session whose event has had its own effect, while requests are moved.
-use Rattle.std.proofs.Common.{List, None, [], ap, arith, false, inl, inr, length, refl, subst, sym, true, ℕ, ◌++◌, ◌<◌, ◌∙◌, ◌∷◌, ◌≡◌, ◌⊎◌}
-use Rattle.std.specs.Prelude.{if◌then◌else◌, ◌==◌}
-use Rattle.containers.proofs.Choices.{chosen, left_if, not_both}
+use Rattle.std.proofs.Common.{List, None, Option, Some, [], ap, arith, false, inl, inr, length, refl, subst, sym, true, ℕ, ◌++◌, ◌<◌, ◌∙◌, ◌∷◌, ◌≡◌, ◌⊎◌}
+use Rattle.std.specs.Prelude.{Bool, if◌then◌else◌, ◌==◌}
+use Rattle.containers.proofs.Choices.{by_test, chosen, eq_from, left_if, ne_from, not_both}
 use Rattle.redis_error.specs.declared.redis_error.RedisError.{RedisError}
 use Rattle.driver_model.specs.declared.action.Action.{Action}
+use Rattle.driver_model.specs.declared.action.Owner.TheVariants as owner
 use Rattle.driver_model.specs.declared.action.WaitKind.TheVariants as wait
 use Rattle.link_core.specs.Link.{LinkState, holds_back, is_full}
-use Rattle.mux_conn.specs.Connection.{has_no_permit}
+use Rattle.link_laws.proofs.TiedLink.{TiedLink}
+use Rattle.mux_conn.specs.Connection.{has_no_permit, is_ready}
+use Rattle.mux_conn.specs.Effects.{setup_queued}
 use Rattle.mux_conn.specs.Requests.{name_at}
 use Rattle.mux_conn.specs.declared.life.Life.{Life}
-use Rattle.mux_conn.specs.declared.life.Life.TheVariants.{Dialing, Ended, Ready}
+use Rattle.mux_conn.specs.declared.life.Life.TheVariants.{Dialing, Ended, Ready, SettingUp}
 use Rattle.legal_trace.specs.Book.{Book, blank_book, book, entered, if_mine}
-use Rattle.legal_trace.specs.Ledger.{Ledger, Line, dials, ending, noted, noted_each}
-use Rattle.legal_trace.specs.Legal.{AllStand, CanMove, IsApplied, IsFirstToMove, IsMoved, MayStand, NoneEnds}
-use Rattle.legal_trace.specs.Steps.{Step, is_due, next_step, nothing, starts_or_waits, step_ready, waits}
-use Rattle.session_laws.proofs.Ahead.{IsRunning, full_step, permit_step, queue_step, ready_alive, running_of}
+use Rattle.legal_trace.specs.Ledger.{Ledger, Line, dials, ending, is_set_up, noted, noted_each, setup_count, setup_due, setup_steps}
+use Rattle.legal_trace.specs.Legal.{AllStand, CanMove, IsApplied, IsBegun, IsFirstToMove, IsMoved, MayStand, NoneEnds, SetupsAreStarted}
+use Rattle.legal_trace.specs.Steps.{Step, is_due, is_held_back, next_step, nothing, starts_or_waits, step_ready, waits}
+use Rattle.session_laws.proofs.Ahead.{IsRunning, full_step, held_by, permit_step, queue_step, ready_alive, running_of, setup_step}
 use Rattle.session_laws.proofs.Behind.{alive_behind}
 use Rattle.session_laws.proofs.Entered.{book_more, sound_more}
 use Rattle.session_laws.proofs.InLine.{first_is_least, kept_ids, kept_in}
@@ -22,8 +25,9 @@ use Rattle.session_laws.proofs.Moves.{IsLater, later_of, unstarted_alive}
 use Rattle.session_laws.proofs.Names.{earlier_name}
 use Rattle.session_laws.proofs.Numbers.{IsIn, Rising, in_left, in_right, rising_in, rising_right}
 use Rattle.session_laws.proofs.Owes.{created_is, none_open, none_owed}
+use Rattle.session_laws.proofs.SetUp.{down_undue, none_due, sent_undue, set_up_undue}
 use Rattle.session_laws.proofs.States.{IsFit}
-use Rattle.session_laws.proofs.Tied.{Inner, Sound, Tied, TiedLife, link_in, queue_ids, waiting_ids, has_ended}
+use Rattle.session_laws.proofs.Tied.{HasSaid, Inner, IsSetUp, Sound, Tied, TiedLife, carried, has_ended, link_in, queue_ids, waiting_ids, whole_link}
 
 -- nothing must end
 pub record IsGoing (trace : List Action) (t : Inner) : Type 0 where
@@ -41,6 +45,34 @@ going_more trace a t stands may tied none = record {
 pub applied_up : (b : Book) (t : Inner) → Tied b t → t.pending ≡ [] → has_ended t.life ≡ false → NoneEnds b → IsApplied b
 applied_up b t h none up ended = record { answered = none_owed b t h none up; ended = ended; created = created_is b t h; timed = h.numbers.timed }
 
+-- each setup has started that is to start, but where its link is held back, where it is so of the link of the session
+pub setups_started : (b : Book) (t : Inner) → Tied b t → ((link : LinkState) (with_user : Bool) → t.life ≡ SettingUp link with_user → (setup_due (b.link t.link) ≡ None) ⊎ (is_held_back b (b.link t.link) ≡ true)) → SetupsAreStarted b
+setups_started b t h mine m k due = by_test (m == t.link) _
+    (λ same. subst (λ n. is_held_back b (b.link n) ≡ true) (sym (eq_from m t.link same)) (by_life t.life refl (subst (λ n. setup_due (b.link n) ≡ Some k) (eq_from m t.link same) due)))
+    (λ other. absurd (undue (b.link m) (down_undue (b.link m) (h.others m (ne_from m t.link other)).up) due))
+  where
+    undue : (l : Ledger) → setup_due l ≡ None → setup_due l ≡ Some k → ⊥
+    undue l none some = let no : ◌≡◌ {A = Option ℕ} None (Some k) = sym none ∙ some in cc
+
+    by_life : (life : Life) → t.life ≡ life → setup_due (b.link t.link) ≡ Some k → is_held_back b (b.link t.link) ≡ true
+    by_life Dialing e d = absurd (undue (b.link t.link) (down_undue (b.link t.link) (subst (TiedLife (b.link t.link) b.created) e h.life).1) d)
+    by_life (SettingUp link with_user) e d = elim (mine link with_user e) [ inl none ↦ absurd (undue (b.link t.link) none d) | inr held ↦ held ]
+    by_life (Ready link) e d =
+        let said : IsSetUp (b.link t.link) = subst (HasSaid (b.link t.link) t.started) e h.setup.said in
+        absurd (undue (b.link t.link) (none_due (b.link t.link) (set_up_undue (b.link t.link) said)) d)
+    by_life (Ended x) e d = absurd (undue (b.link t.link) (down_undue (b.link t.link) (subst (TiedLife (b.link t.link) b.created) e h.life).0) d)
+
+-- what is ready isn't being set up
+ready_not_setting : (life : Life) (link : LinkState) (with_user : Bool) → is_ready life ≡ true → life ≡ SettingUp link with_user → ⊥
+ready_not_setting life link with_user r e = not_both (is_ready life) (ap is_ready e) r
+
+-- so on a link that is up requests may be moved
+pub begun_up : (b : Book) (t : Inner) → Tied b t → t.pending ≡ [] → is_ready t.life ≡ true → NoneEnds b → IsBegun b
+begun_up b t h none ready ended = record {
+  applied = applied_up b t h none (ready_alive t.life ready) ended;
+  setups = setups_started b t h (λ link with_user e. absurd (ready_not_setting t.life link with_user ready e));
+}
+
 -- or none waits
 pub applied_over : (b : Book) (t : Inner) (e : RedisError) → Tied b t → t.pending ≡ [] → t.life ≡ Ended e → kept_ids t.admitted t.waiting ≡ [] → NoneEnds b → IsApplied b
 applied_over b t e h none over empty ended = record {
@@ -53,6 +85,10 @@ applied_over b t e h none over empty ended = record {
 -- a line of one link that ends none
 pub none_ends_kept : (b : Book) (n : ℕ) (line : Line) → ((l : Ledger) → ending l ≡ None → ending (noted l line) ≡ None) → NoneEnds b → (m : ℕ) → ending (noted_each (b.link m) (if_mine (n == m) line)) ≡ None
 none_ends_kept b n line kept h m = chosen (λ (ls : List Line). ending (noted_each (b.link m) ls) ≡ None) (n == m) (line ∷ []) [] (λ t. kept (b.link m) (h m)) (λ f. h m)
+
+-- a line of the link of a session that ends it not
+pub none_ends_mine : (b : Book) (n : ℕ) (line : Line) → ending (noted (b.link n) line) ≡ None → NoneEnds b → (m : ℕ) → ending (noted_each (b.link m) (if_mine (n == m) line)) ≡ None
+none_ends_mine b n line here h m = chosen (λ (ls : List Line). ending (noted_each (b.link m) ls) ≡ None) (n == m) (line ∷ []) [] (λ t. subst (λ k. ending (noted (b.link k) line) ≡ None) (eq_from n m t) here) (λ f. h m)
 
 -- whose step is first
 --
@@ -110,7 +146,7 @@ down_stays : (b : Book) (n : ℕ) → (b.link (b.story n).link).up ≡ false →
 down_stays b n down =
     let s = b.story n in
     let l = b.link s.link in
-    let step = step_ready b n s in
+    let step : Step = if is_set_up l then step_ready b n s else waits wait.Setup in
     chosen (λ (x : Step). is_due x ≡ false) (dials l) (waits wait.Connect) (if l.up then step else nothing) (λ t. refl) (λ f. ap is_due (left_if l.up step nothing down))
 
 -- as each submission that is still to start is for it
@@ -122,8 +158,29 @@ down_moves_none b t h down n m =
 -- a link whose connect isn't answered isn't up
 dialing_down : (l : Ledger) (created : ℕ) (life : Life) → life ≡ Dialing → TiedLife l created life → l.up ≡ false
 dialing_down l created Dialing e h = h.1
+dialing_down l created (SettingUp link with_user) e h = cc
 dialing_down l created (Ready link) e h = cc
 dialing_down l created (Ended x) e h = cc
+
+-- nor does one on a link that isn't set up
+setting_moves_none : (b : Book) (t : Inner) (link : LinkState) (with_user : Bool) → Tied b t → t.life ≡ SettingUp link with_user → (n : ℕ) → CanMove b n → ⊥
+setting_moves_none b t link with_user h e n m =
+    let a = alive_behind b t n h (unstarted_alive (b.story n) m.unstarted) in
+    not_both (is_due (next_step b n)) (ap (λ k. is_due (next_step b k)) (sym a.name) ∙ ap is_due (setup_step b t a.p link with_user h e a.within)) m.due
+
+-- the setup of a link is to start no more, or is held back
+setting_done : (b : Book) (t : Inner) (link : LinkState) (with_user : Bool) → Tied b t → t.life ≡ SettingUp link with_user → IsFit t.size t.bound link → (link.queue ≡ []) ⊎ (holds_back link ≡ true) → (setup_due (b.link t.link) ≡ None) ⊎ (is_held_back b (b.link t.link) ≡ true)
+setting_done b t link with_user h e fit held =
+    let l = b.link t.link in
+    let said = (subst (HasSaid l t.started) e h.setup.said).1 in
+    let tied : TiedLink (λ (p : ℕ). owner.Setup) l link = subst (λ (x : Life). TiedLink (carried x t.requests) l (whole_link x)) e (h.link (ap has_ended e)) in
+    elim held [
+      | inl empty ↦ elim said.stage [
+        | inl due ↦ absurd (let no : [] ≡ setup_queued (setup_steps l (setup_count l.starts)) with_user ∷ [] = sym empty ∙ due.queue in cc)
+        | inr sent ↦ inl (none_due l (sent_undue l link with_user sent))
+      ]
+      | inr stuck ↦ inr (held_by b t (λ (p : ℕ). owner.Setup) link h.numbers fit.bound_is tied ∙ stuck)
+    ]
 
 -- on a link that is up what is in the queue is held back, those that wait for a place find it full, and the others no permit
 up_moves_none : (b : Book) (t : Inner) → Tied b t → IsRunning t → t.letting ≡ [] → ((link_in t.life).queue ≡ []) ⊎ (holds_back (link_in t.life) ≡ true) → (t.admitted ≡ []) ⊎ (is_full (link_in t.life) ≡ true)
@@ -148,24 +205,35 @@ up_moves_none b t h r nobody still full none n m =
 -- where nothing is to be answered, nothing must end, and nothing moves
 pub is_moved : (b : Book) (t : Inner) → Tied b t → t.pending ≡ [] → t.letting ≡ [] → NoneEnds b → ((link : LinkState) → t.life ≡ Ready link → IsFit t.size t.bound link) → (((link : LinkState) → t.life ≡ Ready link → ⊥) → t.admitted ≡ [])
     → ((link : LinkState) → t.life ≡ Ready link → (link.queue ≡ []) ⊎ (holds_back link ≡ true)) → ((link : LinkState) → t.life ≡ Ready link → (t.admitted ≡ []) ⊎ (is_full link ≡ true))
-    → ((link : LinkState) → t.life ≡ Ready link → (t.waiting ≡ []) ⊎ (has_no_permit t.limit t.free ≡ true)) → (has_ended t.life ≡ true → t.waiting ≡ []) → IsMoved b
-is_moved b t h none alone ends fit nobody held full stuck gone = by_life t.life refl
+    → ((link : LinkState) → t.life ≡ Ready link → (t.waiting ≡ []) ⊎ (has_no_permit t.limit t.free ≡ true)) → (has_ended t.life ≡ true → t.waiting ≡ [])
+    → ((link : LinkState) (with_user : Bool) → t.life ≡ SettingUp link with_user → IsFit t.size t.bound link) → ((link : LinkState) (with_user : Bool) → t.life ≡ SettingUp link with_user → (link.queue ≡ []) ⊎ (holds_back link ≡ true)) → IsMoved b
+is_moved b t h none alone ends fit nobody held full stuck gone setup_fit setup_held = by_life t.life refl
   where
+    setups : SetupsAreStarted b
+    setups = setups_started b t h (λ link with_user e. setting_done b t link with_user h e (setup_fit link with_user e) (setup_held link with_user e))
+
     by_life : (life : Life) → t.life ≡ life → IsMoved b
     by_life Dialing e = record {
-      applied = applied_up b t h none (ap has_ended e) ends;
+      begun = record { applied = applied_up b t h none (ap has_ended e) ends; setups = setups };
       moved = down_moves_none b t h (dialing_down (b.link t.link) b.created t.life e h.life);
+    }
+    by_life (SettingUp link with_user) e = record {
+      begun = record { applied = applied_up b t h none (ap has_ended e) ends; setups = setups };
+      moved = setting_moves_none b t link with_user h e;
     }
     by_life (Ready link) e =
         let here : link_in t.life ≡ link = ap link_in e in
         record {
-          applied = applied_up b t h none (ap has_ended e) ends;
+          begun = record { applied = applied_up b t h none (ap has_ended e) ends; setups = setups };
           moved = up_moves_none b t h (running_of t link none e (fit link e)) alone
               (subst (λ (x : LinkState). (x.queue ≡ []) ⊎ (holds_back x ≡ true)) (sym here) (held link e))
               (subst (λ (x : LinkState). (t.admitted ≡ []) ⊎ (is_full x ≡ true)) (sym here) (full link e))
               (stuck link e);
         }
     by_life (Ended x) e = record {
-      applied = applied_over b t x h none e (λ i. kept_ids (nobody (λ link r. (let no : Ended x ≡ Ready link = sym e ∙ r in cc)) i) (gone (ap has_ended e) i)) ends;
+      begun = record {
+        applied = applied_over b t x h none e (λ i. kept_ids (nobody (λ link r. (let no : Ended x ≡ Ready link = sym e ∙ r in cc)) i) (gone (ap has_ended e) i)) ends;
+        setups = setups;
+      };
       moved = down_moves_none b t h (subst (λ (x : Life). TiedLife (b.link t.link) b.created x) e h.life).0;
     }

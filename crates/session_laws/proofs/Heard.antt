@@ -8,18 +8,21 @@ use Rattle.driver_model.specs.declared.action.Purpose.{Purpose}
 use Rattle.driver_model.specs.declared.event.EventKind.{EventKind}
 use Rattle.driver_model.specs.News.{News, silence, connected, took, came, failed, shut, news_of, refused, overdue}
 use Rattle.driver_model.specs.declared.outcome.Outcome.TheVariants as outcome
+use Rattle.link_core.specs.Link.{LinkState}
 use Rattle.link_laws.proofs.TiedLink.{TiedLink, unheard_tied}
+use Rattle.mux_conn.specs.declared.request.Request.{Request}
 use Rattle.mux_conn.specs.declared.connection.MultiplexedConnection.{MultiplexedConnection}
 use Rattle.mux_conn.specs.declared.life.Life.{Life}
-use Rattle.mux_conn.specs.declared.life.Life.TheVariants.{Dialing, Ready, Ended}
+use Rattle.mux_conn.specs.declared.life.Life.TheVariants.{Dialing, SettingUp, Ready, Ended}
 use Rattle.shared_session.specs.declared.core_state.Core.{Core}
 use Rattle.shared_session.specs.Turn.{with_work, is_bad}
-use Rattle.legal_trace.specs.Ledger.{Ledger, Ending, hears, noted, ending, ending_up, ending_asked, is_over, bytes_came, dials, refused_in}
+use Rattle.legal_trace.specs.Ledger.{Ledger, Ending, hears, noted, ending, ending_alive, ending_asked, is_over, bytes_came, dials, refused_in}
 use Rattle.legal_trace.specs.Book.{Book, book, entered}
 use Rattle.legal_trace.specs.Story.{Story}
 use Rattle.legal_trace.specs.Legal.{NoneEnds}
-use Rattle.session_laws.proofs.Tied.{Inner, link_in, owner_of, TiedLife, TiedLines, AreQueued, TiedWaits, Tied, has_ended}
-use Rattle.session_laws.proofs.States.{IsFitIn, Between, HasApplied}
+use Rattle.session_laws.proofs.Said.{mild_end, setup_unheard}
+use Rattle.session_laws.proofs.Tied.{Inner, link_in, carried, whole_link, TiedLife, TiedSetup, TiedLines, AreQueued, TiedWaits, Tied, has_ended}
+use Rattle.session_laws.proofs.States.{IsFit, IsFitIn, Between, HasApplied}
 use Rattle.session_laws.proofs.Answer.{unknown_ends, not_up_ends, over_not_asked, some_end}
 use Rattle.session_laws.proofs.Settle.{seen, trace_of_acts, Holds}
 use Rattle.session_laws.proofs.Announce.{turn_of, turned, IsNewsKind, heard_book, heard_is, heard_starts, heard_tied, announced_sound, holds_first, first_book}
@@ -47,7 +50,8 @@ pub record Begins (before : List Action) (f : Core) (conn : MultiplexedConnectio
 -- what the turn of news needs of the life that it leads to
 pub record Leads (b : Book) (c : Core) (n : News) (life : Life) (pending started : List ℕ) : Type 0 where
   pub lived : TiedLife (heard_by b c n) b.created life
-  pub linked : has_ended life ≡ false → TiedLink (owner_of c.single.connection.requests) (heard_by b c n) (link_in life)
+  pub said : TiedSetup (heard_by b c n) c.single.connection.info started life
+  pub linked : has_ended life ≡ false → TiedLink (carried life c.single.connection.requests) (heard_by b c n) (whole_link life)
   pub lines : TiedLines b.story c.single.connection.requests (link_in life) c.single.connection.waiting c.single.connection.admitted pending started
   pub told : has_ended life ≡ false → AreQueued b.story c.single.connection.requests (link_in life)
   pub waits : TiedWaits b.story c.single.connection.requests life c.single.connection.fresh c.single.connection.moved
@@ -60,23 +64,57 @@ book_news b c kind n same is = ap (λ (ts : List Purpose). news_of ts c.single.l
 pub book_kind : (b : Book) (c : Core) (kind : EventKind) → b.timers ≡ c.timers → IsNewsKind c.timers kind → IsNewsKind b.timers kind
 book_kind b c kind same k = subst (λ (ts : List Purpose). IsNewsKind ts kind) (sym same) k
 
--- the turn begins so
-pub heard_begins : (before : List Action) (c : Core) (started : List ℕ) (word : ℕ) (kind : EventKind) (n : News) (life : Life) (pending : List ℕ) → Between before c started → is_bad c kind ≡ false → IsNewsKind c.timers kind → news_of c.timers c.single.link kind ≡ n
-    → Leads (book before) c n life pending started → Begins (before ++ turn_of c word kind ∷ []) (turned c kind) (lives_as c life) (heard_by (book before) c n) (book before).story pending started
-heard_begins before c started word kind n life pending h good k is g =
+-- the session with its link in that life, and these waits to be shown
+abbrev pub fresh_as : Core → Life → List ℕ → MultiplexedConnection
+fresh_as c life fresh = record c.single.connection { life = life; fresh = fresh }
+
+-- what the turn needs where other waits are to be shown then
+pub record LeadsTo (b : Book) (c : Core) (n : News) (life : Life) (fresh pending started : List ℕ) : Type 0 where
+  pub lived : TiedLife (heard_by b c n) b.created life
+  pub said : TiedSetup (heard_by b c n) c.single.connection.info started life
+  pub linked : has_ended life ≡ false → TiedLink (carried life c.single.connection.requests) (heard_by b c n) (whole_link life)
+  pub lines : TiedLines b.story c.single.connection.requests (link_in life) c.single.connection.waiting c.single.connection.admitted pending started
+  pub told : has_ended life ≡ false → AreQueued b.story c.single.connection.requests (link_in life)
+  pub waits : TiedWaits b.story c.single.connection.requests life fresh c.single.connection.moved
+
+-- it begins so
+pub fresh_begins : (before : List Action) (c : Core) (started : List ℕ) (word : ℕ) (kind : EventKind) (n : News) (life : Life) (fresh pending : List ℕ) → Between before c started → is_bad c kind ≡ false → IsNewsKind c.timers kind → news_of c.timers c.single.link kind ≡ n
+    → LeadsTo (book before) c n life fresh pending started → Begins (before ++ turn_of c word kind ∷ []) (turned c kind) (fresh_as c life fresh) (heard_by (book before) c n) (book before).story pending started
+fresh_begins before c started word kind n life fresh pending h good k is g =
     let b = book before in
     let l = heard_by b c n in
-    let t = seen (turned c kind) [] (lives_as c life) pending started in
+    let t = seen (turned c kind) [] (fresh_as c life fresh) pending started in
     let same : noted (b.link c.single.link) (hears c.turns (news_of b.timers c.single.link kind)) ≡ l = ap (λ (x : News). heard_by b c x) (book_news b c kind n h.sound.tied.numbers.timers is) in
-    let tied : Tied (heard_book b c.turns word kind) t = heard_tied b c started word b.created kind life c.single.connection.fresh pending l h.sound.tied good same (heard_starts (b.link c.single.link) c.turns n) g.lived g.linked g.lines g.told g.waits in
+    let tied : Tied (heard_book b c.turns word kind) t = heard_tied b c started word b.created kind life fresh pending l h.sound.tied good same (heard_starts (b.link c.single.link) c.turns n) g.lived g.said g.linked g.lines g.told g.waits in
     let book_is : entered b (turn_of c word kind) ≡ heard_book b c.turns word kind = heard_is b c.turns word kind (book_kind b c kind h.sound.tied.numbers.timers k) in
     record {
-      holds = holds_first (before ++ turn_of c word kind ∷ []) (turned c kind) (lives_as c life) pending started (announced_sound before c started word kind t h good (subst (λ (x : Book). Tied x t) (sym book_is) tied));
+      holds = holds_first (before ++ turn_of c word kind ∷ []) (turned c kind) (fresh_as c life fresh) pending started (announced_sound before c started word kind t h good (subst (λ (x : Book). Tied x t) (sym book_is) tied));
       ledger = ap (λ (x : Book). x.link c.single.link) (first_book before (turn_of c word kind) (turned c kind) ∙ book_is) ∙ same;
       stories = λ m. ap (λ (x : Book). x.story m) (first_book before (turn_of c word kind) (turned c kind) ∙ book_is);
     }
 
+-- where the same are
+pub heard_begins : (before : List Action) (c : Core) (started : List ℕ) (word : ℕ) (kind : EventKind) (n : News) (life : Life) (pending : List ℕ) → Between before c started → is_bad c kind ≡ false → IsNewsKind c.timers kind → news_of c.timers c.single.link kind ≡ n
+    → Leads (book before) c n life pending started → Begins (before ++ turn_of c word kind ∷ []) (turned c kind) (lives_as c life) (heard_by (book before) c n) (book before).story pending started
+heard_begins before c started word kind n life pending h good k is g =
+    let s = fresh_begins before c started word kind n life c.single.connection.fresh pending h good k is (record { lived = g.lived; said = g.said; linked = g.linked; lines = g.lines; told = g.told; waits = g.waits }) in
+    record { holds = s.holds; ledger = s.ledger; stories = s.stories }
+
 -- where the link need not end then, and no act follows, the event has had its effect
+pub fresh_applied : (before : List Action) (c : Core) (started : List ℕ) (word : ℕ) (kind : EventKind) (n : News) (life : Life) (fresh : List ℕ) → Between before c started → is_bad c kind ≡ false → IsNewsKind c.timers kind → news_of c.timers c.single.link kind ≡ n
+    → LeadsTo (book before) c n life fresh [] started → ending (heard_by (book before) c n) ≡ None → IsFitIn (fresh_as c life fresh)
+    → HasApplied (before ++ turn_of c word kind ∷ []) (with_work (record { core = turned c kind; acts = [] }) (record { conn = fresh_as c life fresh; acts = [] })) started
+fresh_applied before c started word kind n life fresh h good k is g no_end fit =
+    let s = fresh_begins before c started word kind n life fresh [] h good k is g in
+    record {
+      sound = s.holds;
+      ended = none_ends (book (trace_of_acts (before ++ turn_of c word kind ∷ []) (turned c kind) [])) (seen (turned c kind) [] (fresh_as c life fresh) [] started) s.holds.tied (ap ending s.ledger ∙ no_end);
+      began = λ e. omega arith;
+      moved = h.moved;
+      fit = fit;
+    }
+
+-- where the same waits are to be shown
 pub quiet_applied : (before : List Action) (c : Core) (started : List ℕ) (word : ℕ) (kind : EventKind) (n : News) (life : Life) → Between before c started → is_bad c kind ≡ false → IsNewsKind c.timers kind → news_of c.timers c.single.link kind ≡ n
     → Leads (book before) c n life [] started → ending (heard_by (book before) c n) ≡ None → IsFitIn (lives_as c life)
     → HasApplied (before ++ turn_of c word kind ∷ []) (with_work (record { core = turned c kind; acts = [] }) (record { conn = lives_as c life; acts = [] })) started
@@ -92,9 +130,9 @@ quiet_applied before c started word kind n life h good k is g no_end fit =
 
 -- what is alike of any life
 pub leads_on : (before : List Action) (c : Core) (started : List ℕ) (n : News) → Between before c started → (let l = heard_by (book before) c n in let life = c.single.connection.life in
-    TiedLife l (book before).created life × (has_ended life ≡ false → TiedLink (owner_of c.single.connection.requests) l (link_in life)))
+    TiedLife l (book before).created life × TiedSetup l c.single.connection.info started life × (has_ended life ≡ false → TiedLink (carried life c.single.connection.requests) l (whole_link life)))
     → Leads (book before) c n c.single.connection.life [] started
-leads_on before c started n h g = record { lived = g.0; linked = g.1; lines = h.sound.tied.lines; told = h.sound.tied.told; waits = h.sound.tied.waits }
+leads_on before c started n h g = record { lived = g.0; said = g.1; linked = g.2; lines = h.sound.tied.lines; told = h.sound.tied.told; waits = h.sound.tied.waits }
 
 -- a link that has ended hears nothing
 --
@@ -133,6 +171,7 @@ ended_quiet before c started word kind n error h good k is over =
     quiet_applied before c started word kind n c.single.connection.life h good k is
     (leads_on before c started n h (
       subst (λ (x : Life). TiedLife (noted l (hears c.turns n)) b.created x) (sym over) after,
+      setup_unheard l c.turns n c.single.connection.info started c.single.connection.life life.0 h.sound.tied.setup,
       λ alive. absurd (not_both (has_ended c.single.connection.life) alive (ap has_ended over)),
     ))
     (over_no_end (noted l (hears c.turns n)) b.created error after) h.fit
@@ -176,7 +215,7 @@ asked_on shut k = absurd k
 dialing_no_end : (l : Ledger) (created turn : ℕ) (n : News) → IsOfAnother n → TiedLife l created Dialing → ending (noted l (hears turn n)) ≡ None
 dialing_no_end l created turn n k h =
     let after = noted l (hears turn n) in
-    left_if after.up (ending_up after n) _ (dialing_hears l created turn n k h).1
+    left_if after.up (ending_alive after) _ (dialing_hears l created turn n k h).1
     ∙ chosen (λ (x : Option Ending). x ≡ None) (after.asked && not (is_over after)) (ending_asked n) None (λ t. asked_on n k) (λ f. refl)
 
 -- and the event has no effect
@@ -189,22 +228,25 @@ dialing_quiet before c started word kind n o h good k is dialing =
     quiet_applied before c started word kind n c.single.connection.life h good k is
     (leads_on before c started n h (
       subst (λ (x : Life). TiedLife (noted l (hears c.turns n)) b.created x) (sym dialing) (dialing_hears l b.created c.turns n o life),
-      λ alive. unheard_tied (owner_of c.single.connection.requests) l (link_in c.single.connection.life) c.turns n life.1 (h.sound.tied.link alive),
+      setup_unheard l c.turns n c.single.connection.info started c.single.connection.life life.1 h.sound.tied.setup,
+      λ alive. unheard_tied (carried c.single.connection.life c.single.connection.requests) l (whole_link c.single.connection.life) c.turns n life.1 (h.sound.tied.link alive),
     ))
     (dialing_no_end l b.created c.turns n o life) h.fit
 
 -- what the news are is of no account for how far a link has come
 pub told_life : (l : Ledger) (created : ℕ) (life : Life) (n : News) → TiedLife l created life → TiedLife (record l { heard = n }) created life
 told_life l created Dialing n h = h
+told_life l created (SettingUp link with_user) n h = h
 told_life l created (Ready link) n h = h
 told_life l created (Ended e) n h = h
 
--- a link that hears nothing need not end
-pub silent_no_end : (l : Ledger) (turn : ℕ) → ending (noted l (hears turn silence)) ≡ None
-silent_no_end l turn =
-    chosen (λ (x : Option Ending). x ≡ None) l.up None (if l.asked && not (is_over l) then None else None)
-    (λ t. refl)
-    (λ f. chosen (λ (x : Option Ending). x ≡ None) (l.asked && not (is_over l)) None None (λ t. refl) (λ g. refl))
+-- a link that hears nothing need not end, where it need not before
+pub silent_no_end : (l : Ledger) (turn : ℕ) → ending l ≡ None → ending (noted l (hears turn silence)) ≡ None
+silent_no_end l turn none = mild_end l l.taken l.offer silence tt none
+
+-- between two turns no link must end
+pub still_none : (before : List Action) (c : Core) (started : List ℕ) → Between before c started → NoneEnds (book before)
+still_none before c started h = h.settled.written.moved.begun.applied.ended
 
 -- a turn in which nothing is heard, and no act follows
 pub silent_applied : (before : List Action) (c : Core) (started : List ℕ) (word : ℕ) (kind : EventKind) (f : Core) (conn : MultiplexedConnection) → Between before c started → is_bad c kind ≡ false → ((m : ℕ) → ending ((entered (book before) (turn_of c word kind)).link m) ≡ None)
@@ -219,3 +261,31 @@ silent_applied before c started word kind f conn h good no_end began none_moved 
       moved = none_moved;
       fit = fit;
     }
+
+-- a link that is set up
+--
+-- is fit
+pub setting_fit : (c : MultiplexedConnection) (link after : LinkState) (was with_user : Bool) (fresh : List ℕ) → c.life ≡ SettingUp link was → IsFitIn c → IsFit c.size c.boundary after → IsFitIn (record c { life = SettingUp after with_user; fresh = fresh })
+setting_fit c link after was with_user fresh e h k = record {
+  setup = λ x u is. (let same : after ≡ x = cc in subst (IsFit c.size c.boundary) same k);
+  link = λ x is. cc;
+  none = λ n. h.none (λ x r. (let no : SettingUp link was ≡ Ready x = sym e ∙ r in cc));
+}
+
+-- its waits stay as long as it is set up
+pub setting_waits : (story : ℕ → Story) (requests : List Request) (link after : LinkState) (was with_user : Bool) (fresh moved : List ℕ) → TiedWaits story requests (SettingUp link was) fresh moved → TiedWaits story requests (SettingUp after with_user) fresh moved
+setting_waits story requests link after was with_user fresh moved h = record {
+  early = h.early;
+  connect = λ p w d. cc;
+  setup = λ p x u w s. h.setup p link was w refl;
+  permit = λ p x w r. cc;
+  place = h.place;
+  room = λ p i. absurd i;
+  newer = h.newer;
+  rising = h.rising;
+  no_connect = λ p i w d. cc;
+  no_setup = λ p x u i w s. h.no_setup p link was i w refl;
+  no_permit = λ p x i w r. cc;
+  no_place = h.no_place;
+  no_room = λ p i r. absurd r;
+}

@@ -14,14 +14,15 @@ use Rattle.legal_trace.specs.Ledger.{Ledger, Line, noted, noted_each}
 use Rattle.legal_trace.specs.Story.{Story, awaited_in, packed_in, shape_in, tried}
 use Rattle.session_laws.proofs.Names.{name_placed}
 use Rattle.session_laws.proofs.Owes.{request_story}
-use Rattle.session_laws.proofs.Tied.{AreLate, AreQueued, Inner, IsOf, IsPacked, IsQueued, IsRequest, IsUnknown, Tied, TiedLife, TiedLines, TiedNames, TiedNumbers, TiedPermits, TiedStory, TiedTries, TiedWaits, link_in, owner_of, has_ended}
+use Rattle.session_laws.proofs.Tied.{AreLate, AreQueued, Inner, IsOf, IsPacked, IsQueued, IsRequest, IsUnknown, Tied, TiedLife, TiedLines, TiedNames, TiedNumbers, TiedPermits, TiedSetup, TiedStory, TiedTries, TiedWaits, carried, has_ended, link_in, whole_link}
 
 -- a session and the ledger of its link, which is that of the book
 pub record TiedBy (b : Book) (t : Inner) (l : Ledger) : Type 0 where
   pub numbers : TiedNumbers b t
   pub others : (m : ℕ) → m ≢ t.link → IsUnknown (b.link m)
   pub life : TiedLife l b.created t.life
-  pub link : has_ended t.life ≡ false → TiedLink (owner_of t.requests) l (link_in t.life)
+  pub setup : TiedSetup l t.info t.started t.life
+  pub link : has_ended t.life ≡ false → TiedLink (carried t.life t.requests) l (whole_link t.life)
   pub names : TiedNames t.table t.requests
   pub story : (n : ℕ) → TiedStory (b.story n) t.requests t.link (slice_get t.table n)
   pub tries : TiedTries l b.story t.requests t.link t.started
@@ -37,7 +38,8 @@ tied_by b t l e h = record {
   numbers = h.numbers;
   others = h.others;
   life = subst (λ (x : Ledger). TiedLife x b.created t.life) (sym e) h.life;
-  link = λ up. subst (λ (x : Ledger). TiedLink (owner_of t.requests) x (link_in t.life)) (sym e) (h.link up);
+  setup = subst (λ (x : Ledger). TiedSetup x t.info t.started t.life) (sym e) h.setup;
+  link = λ up. subst (λ (x : Ledger). TiedLink (carried t.life t.requests) x (whole_link t.life)) (sym e) (h.link up);
   names = h.names;
   story = h.story;
   tries = subst (λ (x : Ledger). TiedTries x b.story t.requests t.link t.started) (sym e) h.tries;

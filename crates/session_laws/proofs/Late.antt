@@ -21,7 +21,7 @@ use Rattle.link_laws.specs.Settles.{wanted, awaited_ids}
 use Rattle.mux_conn.specs.declared.act.LinkAct.TheVariants as act
 use Rattle.mux_conn.specs.declared.connection.MultiplexedConnection.{MultiplexedConnection}
 use Rattle.mux_conn.specs.declared.life.Life.{Life}
-use Rattle.mux_conn.specs.declared.life.Life.TheVariants.{Dialing, Ready, Ended}
+use Rattle.mux_conn.specs.declared.life.Life.TheVariants.{Dialing, SettingUp, Ready, Ended}
 use Rattle.mux_conn.specs.declared.request.Pending.{Pending}
 use Rattle.mux_conn.specs.declared.request.Request.{Request}
 use Rattle.mux_conn.specs.declared.request.Waiting.{Waiting}
@@ -37,7 +37,7 @@ use Rattle.legal_trace.specs.Story.{Story, answered, awaited_in, bytes_of, fires
 use Rattle.legal_trace.specs.Book.{Book, after_event, book, entered, if_own, is_clock_of}
 use Rattle.legal_trace.specs.Legal.{NoneEnds}
 use Rattle.session_laws.proofs.Numbers.{IsIn, in_left, in_right, in_either, Rising, rising_in, rising_right, rising_tail}
-use Rattle.session_laws.proofs.Tied.{Inner, inner, no_link, link_in, owner_of, queue_ids, IsEntry, IsQueued, IsRequest, AreQueued, TiedLines, TiedPermits, TiedStory, TiedWaits, Tied, has_ended, shown_wait}
+use Rattle.session_laws.proofs.Tied.{Inner, inner, no_link, link_in, queue_ids, IsEntry, IsQueued, IsRequest, AreQueued, TiedLines, TiedPermits, TiedStory, TiedWaits, Tied, has_ended, shown_wait}
 use Rattle.session_laws.proofs.States.{Between, HasApplied}
 use Rattle.session_laws.proofs.Behind.{open_untold}
 use Rattle.session_laws.proofs.Names.{name_of_some, open_within, same_name}
@@ -45,12 +45,12 @@ use Rattle.session_laws.proofs.InLine.{row_ids, chosen_in, kept_ids, line_of, op
 use Rattle.session_laws.proofs.Owes.{answered_closed, in_time, line_unowed, lives, none_open, not_empty, request_story, row_in_line}
 use Rattle.session_laws.proofs.Permits.{IsHolding, permits_same}
 use Rattle.session_laws.proofs.Kept.{one_changed, packed_same, queued_same, tied_by, tries_same}
-use Rattle.session_laws.proofs.Closing.{told_closed}
+use Rattle.session_laws.proofs.Closing.{one_of, told_closed}
 use Rattle.session_laws.proofs.Answer.{answer_apart, may_answer, owed_untold}
 use Rattle.session_laws.proofs.Settle.{book_of_more, holds_more, seen, trace_of_acts}
 use Rattle.session_laws.proofs.Announce.{announced_sound, first_book, holds_first, turn_of, turned}
-use Rattle.session_laws.proofs.Heard.{silent_applied}
-use Rattle.session_laws.proofs.Cancel.{IsSilent, left_fit, left_life, left_link, left_others, none_more, queued_apart, silenced_wanted, silent_core, silent_ends, silent_numbers, silent_others, still_dials, still_tied, was_ready, without_awaited, without_others, without_rises}
+use Rattle.session_laws.proofs.Heard.{silent_applied, still_none}
+use Rattle.session_laws.proofs.Cancel.{IsSilent, left_fit, left_life, left_link, left_others, left_setup, none_more, queued_apart, silenced_wanted, silent_core, silent_ends, silent_numbers, silent_others, still_dials, still_tied, was_ready, was_setting, without_awaited, without_others, without_rises}
 
 -- a story whose timer fires
 --
@@ -173,6 +173,9 @@ late_lines_in m story requests (Ready link) waiting admitted p started h = late_
 late_lines_in m story requests Dialing waiting admitted p started h =
     let k = late_lines m story requests no_link waiting admitted p started h in
     record { line = k.line; queued = k.queued; entries = k.entries; packs = k.packs; packed_in = k.packed_in; there = k.there }
+late_lines_in m story requests (SettingUp link with_user) waiting admitted p started h =
+    let k = late_lines m story requests no_link waiting admitted p started h in
+    record { line = k.line; queued = k.queued; entries = k.entries; packs = k.packs; packed_in = k.packed_in; there = k.there }
 late_lines_in m story requests (Ended e) waiting admitted p started h =
     let k = late_lines m story requests no_link waiting admitted p started h in
     record { line = k.line; queued = k.queued; entries = k.entries; packs = k.packs; packed_in = k.packed_in; there = k.there }
@@ -197,6 +200,7 @@ late_told story requests life p o h up n is none = by_life life h up
     by_life : (x : Life) → (has_ended x ≡ false → AreQueued story requests (link_in x)) → has_ended (cancelled_in x p) ≡ false → (q : ℕ) × (q < length requests) × (name_at requests q ≡ n) × IsIn q (queue_ids (link_in (cancelled_in x p)).queue)
     by_life (Ready link) g f = let k = g refl n was untried in (k.0, k.1, k.2, without_others link.queue p k.0 (other k.0 k.2) k.3)
     by_life Dialing g f = g refl n was untried
+    by_life (SettingUp link with_user) g f = g refl n was untried
     by_life (Ended e) g f = cc
 
 -- the waits that were shown
@@ -206,17 +210,20 @@ late_waits story requests m life p ys fresh moved line h =
     let after = fires_at m story in
     let same : (q : ℕ) → shown_wait after requests q ≡ shown_wait story requests q = λ q. (fired_at m story (name_at requests q)).waiting in
     let dials = still_dials life p in
+    let sets = was_setting life p in
     let ready = was_ready life p in
     let others = left_others requests life ys p 0 line in
     record {
-      early = λ q w. elim (h.early q w) [ inl e ↦ inl (same q ∙ e) | inr k ↦ elim k [ inl e ↦ inr (inl (same q ∙ e)) | inr e ↦ inr (inr (same q ∙ e)) ] ];
+      early = λ q w. one_of (shown_wait after requests q) (shown_wait story requests q) (same q) (h.early q w);
       connect = λ q w d. elim (h.connect q w (dials d)) [ inl i ↦ inl i | inr e ↦ inr (same q ∙ e) ];
+      setup = λ q link u w r. let x = sets link u r in elim (h.setup q x.0 u w x.1) [ inl i ↦ inl i | inr e ↦ inr (same q ∙ e) ];
       permit = λ q link w r. let x = ready link r in elim (h.permit q x.0 w x.1) [ inl i ↦ inl i | inr e ↦ inr (same q ∙ e) ];
       place = λ q a. elim (h.place q a) [ inl i ↦ inl i | inr e ↦ inr (same q ∙ e) ];
       room = λ q r. elim (h.room q (others q r).2) [ inl i ↦ inl i | inr e ↦ inr (same q ∙ e) ];
       newer = h.newer;
       rising = h.rising;
       no_connect = λ q i w d e. h.no_connect q i w (dials d) (sym (same q) ∙ e);
+      no_setup = λ q link u i w r e. let x = sets link u r in h.no_setup q x.0 u i w x.1 (sym (same q) ∙ e);
       no_permit = λ q link i w r e. let x = ready link r in h.no_permit q x.0 i w x.1 (sym (same q) ∙ e);
       no_place = λ q i a e. h.no_place q i a (sym (same q) ∙ e);
       no_room = λ q i r e. h.no_room q i (others q r).2 (sym (same q) ∙ e);
@@ -264,7 +271,8 @@ late_tied b c started word n p h is o =
       numbers = silent_numbers b c started word (event.Fired n) c.timeout after conn.free (cancelled_in conn.life p) conn.requests (p ∷ []) q h;
       others = λ k other. silent_others b c (event.Fired n) c.timeout k q (h.others k other);
       life = left_life ledger b.created conn.life p h.life;
-      link = λ alive. left_link (owner_of conn.requests) ledger conn.life p h.link alive;
+      setup = left_setup ledger conn.info started conn.life p h.setup;
+      link = λ alive. left_link conn.requests ledger conn.life p h.link alive;
       names = h.names;
       story = one_changed b (inner c started) p fires h l (fires_request (b.story m) conn.requests c.single.link p);
       tries = tries_same (record ledger { heard = silence }) b.story after conn.requests c.single.link started (λ k. (fired_at m b.story k).submission) (λ k. (fired_at m b.story k).tries)
@@ -304,6 +312,7 @@ fired_overdue b c started word n p h is o =
 -- the rows and the queue are without it
 late_apart : (b : Book) (t : Inner) (life : Life) (p : ℕ) → Tied b t → t.life ≡ life → has_ended life ≡ false → is_open (b.story (name_at t.requests p)) ≡ true → IsIn p (wanted (link_in (cancelled_in life p)).row ++ queue_ids (link_in (cancelled_in life p)).queue) → ⊥
 late_apart b t Dialing p h e up o i = i
+late_apart b t (SettingUp link with_user) p h e up o i = i
 late_apart b t (Ended x) p h e up o i = cc
 late_apart b t (Ready link) p h e up o i =
     let here : link_in t.life ≡ link = ap link_in e in
@@ -334,6 +343,7 @@ open_alive before c started p h o = by_life c.single.connection.life refl
 
     by_life : (x : Life) → conn.life ≡ x → has_ended conn.life ≡ false
     by_life Dialing e = ap has_ended e
+    by_life (SettingUp link with_user) e = ap has_ended e
     by_life (Ready link) e = ap has_ended e
     by_life (Ended x) e =
         let b = book before in
@@ -344,6 +354,7 @@ open_alive before c started p h o = by_life c.single.connection.life refl
 -- a cancel ends no link
 still_alive : (life : Life) (p : ℕ) → has_ended life ≡ false → has_ended (cancelled_in life p) ≡ false
 still_alive Dialing p e = refl
+still_alive (SettingUp link with_user) p e = refl
 still_alive (Ready link) p e = refl
 still_alive (Ended x) p e = e
 
@@ -385,7 +396,7 @@ late_answered before c started word n p h good is o =
     let q = late_silent b0 c started n (Some (purpose.Response (owner.Try m 0))) h.sound.tied is (λ k. refl) in
     record {
       sound = after;
-      ended = subst NoneEnds (sym (book_of_more front f [] a ∙ ap (λ (x : Book). entered x (action.Outcome m over)) book_is)) (silent_ends b0 c kind c.timeout q);
+      ended = subst NoneEnds (sym (book_of_more front f [] a ∙ ap (λ (x : Book). entered x (action.Outcome m over)) book_is)) (silent_ends b0 c kind c.timeout q (still_none before c started h));
       began = λ z. absurd (omega arith);
       moved = h.moved;
       fit = left_fit conn (given_back conn.limit conn.free (permits_at conn.requests p)) (with_permits conn.requests p progress.Closed 0) conn.life p refl h.fit;
@@ -419,7 +430,7 @@ late_applied before c started word n m h good is = by_entry (slice_get c.table m
     still f =
         let timer = ap (λ (ts : List Purpose). slice_get ts n) h.sound.tied.numbers.timers ∙ is in
         let q = late_silent b c started n (Some (purpose.Response (owner.Try m 0))) h.sound.tied is (λ k. refl) in
-        silent_applied before c started word (event.Fired n) (turned c (event.Fired n)) conn h good (silent_ends b c (event.Fired n) c.timeout q) (λ z. absurd (omega arith)) h.moved h.fit
+        silent_applied before c started word (event.Fired n) (turned c (event.Fired n)) conn h good (silent_ends b c (event.Fired n) c.timeout q (still_none before c started h)) (λ z. absurd (omega arith)) h.moved h.fit
         (still_tied b c started word (event.Fired n) c.timeout q (stays_fired b n m timer f) h.sound.tied)
 
     by_entry : (x : Option (Option Pending)) → slice_get c.table m ≡ x → TiedStory (b.story m) conn.requests c.single.link x
@@ -448,5 +459,5 @@ pub time_applied : (before : List Action) (c : Core) (started : List ℕ) (word 
 time_applied before c started word ms h good =
     let b = book before in
     let q : IsSilent b c (event.Timeout ms) ms = record { silent = λ m. refl; none = refl; time = refl; shut = ap (λ s. s || false) h.sound.tied.numbers.shut } in
-    silent_applied before c started word (event.Timeout ms) (silent_core c (event.Timeout ms) ms) c.single.connection h good (silent_ends b c (event.Timeout ms) ms q) (λ z. absurd (omega arith)) h.moved h.fit
+    silent_applied before c started word (event.Timeout ms) (silent_core c (event.Timeout ms) ms) c.single.connection h good (silent_ends b c (event.Timeout ms) ms q (still_none before c started h)) (λ z. absurd (omega arith)) h.moved h.fit
     (still_tied b c started word (event.Timeout ms) ms q (λ m. refl) h.sound.tied)

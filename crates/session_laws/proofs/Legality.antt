@@ -65,6 +65,7 @@ late_still t (Some (Some p)) = (refl, refl)
 fired_still : (t : Turning) (x : Option Purpose) → IsStillOf (fired_by t x) t.core.single.link t.core.timers
 fired_still t None = (refl, refl)
 fired_still t (Some (purpose.Connect l)) = (refl, refl)
+fired_still t (Some (purpose.Response owner.Setup)) = (refl, refl)
 fired_still t (Some (purpose.Response (owner.Try n round))) = late_still t (slice_get t.core.table n)
 
 -- and so does any event
@@ -126,6 +127,7 @@ no_causes l n (act.Close ∷ acts) = no_causes l (n + length (timer_of act.Close
 no_causes l n (act.Write bytes ∷ acts) = no_causes l (n + length (timer_of (act.Write bytes))) acts
 no_causes l n (act.Wait k kind ∷ acts) = no_causes l (n + length (timer_of (act.Wait k kind))) acts
 no_causes l n (act.Start m k count len ∷ acts) = no_causes l (n + length (timer_of (act.Start m k count len))) acts
+no_causes l n (act.SetUp m count len ∷ acts) = no_causes l (n + length (timer_of (act.SetUp m count len))) acts
 no_causes l n (act.Outcome k o ∷ acts) = no_causes l (n + length (timer_of (act.Outcome k o))) acts
 
 -- a turn for each event

@@ -16,8 +16,7 @@ use Rattle.driver_model.specs.declared.outcome.Shape.TheVariants.{Single, Pipeli
 use Rattle.link_core.specs.Link.{LinkState, holds_back, is_full}
 use Rattle.link_core.specs.declared.message.Entry.{Entry}
 use Rattle.link_core.specs.declared.message.Queued.{Queued}
-use Rattle.link_laws.proofs.TiedLink.{TiedLink}
-use Rattle.mux_conn.specs.Connection.{Work, has_no_permit}
+use Rattle.mux_conn.specs.Connection.{Work, has_no_permit, is_ready}
 use Rattle.mux_conn.specs.Passes.{holding, let_in, permits_taken, timer_asked, took_shown}
 use Rattle.mux_conn.specs.declared.act.LinkAct.{LinkAct}
 use Rattle.mux_conn.specs.declared.act.LinkAct.TheVariants as act
@@ -35,20 +34,22 @@ use Rattle.mux_conn.specs.declared.request.Progress.TheVariants as progress
 use Rattle.mux_conn.specs.declared.request.Request.{Request}
 use Rattle.mux_conn.specs.declared.request.Waiting.{Waiting}
 use Rattle.legal_trace.specs.Book.{Book, book, entered, if_own}
-use Rattle.legal_trace.specs.Ledger.{Ledger}
+use Rattle.legal_trace.specs.Ledger.{Ledger, setup_count}
 use Rattle.legal_trace.specs.Legal.{IsFirstToMove, MayTake, MayTime, NoneEnds}
 use Rattle.legal_trace.specs.Steps.{is_due, is_let_in, next_step, permits_held, permits_on, takes}
 use Rattle.legal_trace.specs.Story.{Story, awaited_in, clocked, holds, is_no_error, is_open, is_told, is_unstarted, packed_in, shape}
 use Rattle.session_laws.proofs.Ahead.{IsRunning, ask_step, full_step, kept_unstarted, running_of, take_step, waiting_open}
-use Rattle.session_laws.proofs.Going.{IsGoing, applied_up, going_more, moves_later, queue_stays}
+use Rattle.session_laws.proofs.Going.{IsGoing, begun_up, going_more, moves_later, queue_stays}
 use Rattle.session_laws.proofs.InLine.{first_is_least, kept_ids}
 use Rattle.session_laws.proofs.Kept.{of_same, tries_same}
 use Rattle.session_laws.proofs.Names.{earlier_name, get_more, length_with, name_placed, name_of_some, name_with, name_within, names_with, owners_with, permits_other, permits_with, same_name, there_within, was_with, with_other, with_same}
 use Rattle.session_laws.proofs.Numbers.{IsIn, Rising, in_right, rising_in, rising_right}
 use Rattle.session_laws.proofs.Owes.{request_story}
 use Rattle.session_laws.proofs.Permits.{held_changed, held_same, on_this}
+use Rattle.session_laws.proofs.Closing.{one_of}
+use Rattle.session_laws.proofs.Said.{carried_tied}
 use Rattle.session_laws.proofs.States.{IsFit}
-use Rattle.session_laws.proofs.Tied.{IsAim, has_ended, AreAimed, AreQueued, Inner, IsEntry, IsKept, IsOf, IsPacked, IsQueued, IsRequest, Tied, TiedLines, TiedNames, TiedNumbers, TiedPermits, TiedStory, TiedTries, TiedWaits, link_in, owners_each, queue_ids, shown_wait, waiting_ids, numbers_kept}
+use Rattle.session_laws.proofs.Tied.{IsAim, AreAimed, AreQueued, Inner, IsEntry, IsKept, IsOf, IsPacked, IsQueued, IsRequest, Tied, TiedLines, TiedNames, TiedNumbers, TiedPermits, TiedStory, TiedTries, TiedWaits, link_in, owners_each, queue_ids, setup_owners, shown_wait, waiting_ids, numbers_kept}
 use Rattle.session_laws.proofs.Moves.{or_true}
 use Rattle.session_laws.proofs.Behind.{some_more}
 
@@ -221,14 +222,16 @@ waits_let f g requests life fresh moved p count w eased h =
     let admits : (m : ℕ) → is_admitted_at ss m ≡ true → is_admitted_at requests m ≡ true = λ m e. sym (test_kept is_admitted requests p count m w) ∙ e in
     let long = sym (length_with requests p progress.Waiting count) in
     record {
-      early = λ m v. elim (h.early m (waits m v)) [ inl e ↦ inl (same m ∙ e) | inr x ↦ inr (elim x [ inl e ↦ inl (same m ∙ e) | inr e ↦ inr (same m ∙ e) ]) ];
+      early = λ m v. one_of (shown_wait g ss m) (shown_wait f requests m) (same m) (h.early m (waits m v));
       connect = λ m v d. elim (h.connect m (waits m v) d) [ inl e ↦ inl e | inr e ↦ inr (same m ∙ e) ];
+      setup = λ m link u v d. elim (h.setup m link u (waits m v) d) [ inl e ↦ inl e | inr e ↦ inr (same m ∙ e) ];
       permit = λ m link v d. elim (h.permit m link (waits m v) d) [ inl e ↦ inl e | inr e ↦ inr (same m ∙ e) ];
       place = λ m a. elim (h.place m (admits m a)) [ inl i ↦ inl i | inr e ↦ inr (same m ∙ e) ];
       room = λ m i. elim (h.room m i) [ inl j ↦ inl j | inr e ↦ inr (same m ∙ e) ];
       newer = subst (Rising 0 fresh) long h.newer;
       rising = subst (Rising 0 moved) long h.rising;
       no_connect = λ m i v d e. h.no_connect m i (waits m v) d (sym (same m) ∙ e);
+      no_setup = λ m link u i v d e. h.no_setup m link u i (waits m v) d (sym (same m) ∙ e);
       no_permit = λ m link i v d e. h.no_permit m link i (waits m v) d (sym (same m) ∙ e);
       no_place = λ m i a e. h.no_place m i (admits m a) (sym (same m) ∙ e);
       no_room = λ m i j e. h.no_room m i j (sym (same m) ∙ e);
@@ -240,7 +243,7 @@ tries_let l f g requests link started p count eased before =
     let h = tries_same l f g requests link started (λ n. sym (eased n).submission) (λ n. sym (eased n).tries) before in
     let still = name_with requests p progress.Waiting count in
     record {
-      owners = h.owners ∙ sym (owners_let started);
+      owners = h.owners ∙ ap (setup_owners (setup_count l.starts)) (sym (owners_let started));
       shapes = λ k m s i j. h.shapes k m s i j ∙ ap (λ n. shape (g n)) (sym (still m));
       tried = λ k m i. ap (λ n. (g n).tries) (still m) ∙ h.tried k m i;
       untried = λ m r i out. let x = was_with requests p progress.Waiting count m r i in ap (λ n. (g n).tries) (sym x.2) ∙ h.untried m x.0 x.1 out;
@@ -286,7 +289,8 @@ let_tied b t p count free g noted timers w alone eased has sum numbers h = recor
   numbers = numbers;
   others = h.others;
   life = h.life;
-  link = λ e. subst (λ x. TiedLink x (b.link t.link) (link_in t.life)) (sym (owners_with t.requests p progress.Waiting count)) (h.link e);
+  setup = h.setup;
+  link = λ e. carried_tied t.life t.requests (with_permits t.requests p progress.Waiting count) (b.link t.link) (sym (owners_with t.requests p progress.Waiting count)) (h.link e);
   names = names_with t.table t.requests p progress.Waiting count h.names;
   story = λ n. story_let b.story g t.table t.requests t.link p count n h.names w eased has (h.story n);
   tries = tries_let (b.link t.link) b.story g t.requests t.link t.started p count eased.each h.tries;
@@ -357,10 +361,6 @@ opening_unstarted b t link q qs o h =
 opening_packed : (b : Book) (t : Inner) (link : LinkState) (q : Waiting) (qs : List Waiting) → IsOpening t link q qs → Tied b t → IsPacked b.story t.requests q
 opening_packed b t link q qs o h = (subst (AllByRecursion (IsPacked b.story t.requests)) o.waiting h.lines.packs).0
 
--- the link has not ended
-opening_alive : (t : Inner) (link : LinkState) (q : Waiting) (qs : List Waiting) → IsOpening t link q qs → has_ended t.life ≡ false
-opening_alive t link q qs o = ap has_ended o.life
-
 -- it takes its permits
 --
 -- those that it takes are no more than those that are free, and some
@@ -375,7 +375,7 @@ may_take b t link q qs k o alone e some h ends =
     let p = q.number in
     let within = there_within is_waiting t.requests p o.is_waiting in
     record {
-      applied = applied_up b t h o.settled (opening_alive t link q qs o) ends;
+      begun = begun_up b t h o.settled (ap is_ready o.life) ends;
       unstarted = opening_unstarted b t link q qs o h;
       takes = take_step b t p k h (opening_running t link q qs o) o.is_waiting (λ i. subst (IsIn p) alone i) e some
           ∙ ap (λ x. takes (min t.free (permits_for x k))) (sym (opening_packed b t link q qs o h).is_of.shape_is);
@@ -439,7 +439,7 @@ may_time b t link q qs number ms o h ends counted has time none =
     let p = q.number in
     record {
       n = name_at t.requests p;
-      applied = applied_up b t h o.settled (opening_alive t link q qs o) ends;
+      begun = begun_up b t h o.settled (ap is_ready o.life) ends;
       unstarted = opening_unstarted b t link q qs o h;
       asks = ask_step b t p ms h (opening_running t link q qs o) (waiting_open t.requests p o.is_waiting) has (sym (opening_packed b t link q qs o h).time_is ∙ time) none;
       in_order = opening_first b t link q qs o h;

@@ -1,6 +1,8 @@
 pub mod Numbers
 pub mod Tied
 pub mod States
+pub mod SetUp
+pub mod Said
 pub mod Entered
 pub mod Names
 pub mod Permits
@@ -18,12 +20,15 @@ pub mod Starts
 pub mod Place
 pub mod Settle
 pub mod LetIn
+pub mod SetsUp
 pub mod Close
 pub mod Announce
 pub mod Heard
+pub mod Failing
 pub mod End
 pub mod Connect
 pub mod Took
+pub mod ReadSetup
 pub mod Read
 pub mod Cancel
 pub mod Late

@@ -12,7 +12,7 @@ use Rattle.mux_conn.specs.Effects.{failed_each, nobody_waits, waiting_failed}
 use Rattle.mux_conn.specs.Passes.{admitted, admitted_all, admitted_at, admitted_each, moved_up_all, moved_up_each, passed, started_at, still_admitted, still_waiting}
 use Rattle.mux_conn.specs.Requests.{answered, with_permits, is_open as is_open_progress, is_open_at, is_waiting, is_waiting_at}
 use Rattle.mux_conn.specs.declared.life.Life.{Life}
-use Rattle.mux_conn.specs.declared.life.Life.TheVariants.{Dialing, Ended, Ready}
+use Rattle.mux_conn.specs.declared.life.Life.TheVariants.{Dialing, Ended, Ready, SettingUp}
 use Rattle.mux_conn.specs.declared.request.Progress.TheVariants as progress
 use Rattle.mux_conn.specs.declared.request.Request.{Request}
 use Rattle.mux_conn.specs.declared.request.Waiting.{Waiting}
@@ -26,6 +26,7 @@ use Rattle.session_laws.proofs.InLine.{kept_ids}
 use Rattle.session_laws.proofs.Names.{open_within, with_other, with_then}
 use Rattle.session_laws.proofs.Numbers.{IsIn, Rising, rising_right}
 use Rattle.session_laws.proofs.Passes.{IsDone, IsSeated, IsUp, admitted_done, moved_up_seated, moved_up_waits, moving, started_keeps, started_up, no_room}
+use Rattle.session_laws.proofs.SetsUp.{setting_begun}
 use Rattle.session_laws.proofs.Settle.{Holds, answered_leaves, failed_leaves, seen, trace_of_acts}
 use Rattle.session_laws.proofs.States.{IsFit, IsFitIn, IsStill}
 use Rattle.session_laws.proofs.Tied.{Inner, Sound, Tied, has_ended, link_in, queue_ids, waiting_ids}
@@ -51,6 +52,10 @@ pub record IsReady (before : List Action) (f : Core) (w : Work) (started : List 
 one_link : (life : Life) (link link' : LinkState) → life ≡ Ready link → life ≡ Ready link' → link ≡ link'
 one_link life link link' e k = let both : Ready link ≡ Ready link' = sym e ∙ k in cc
 
+-- which isn't set up still
+not_both_lives : (life : Life) (link link' : LinkState) (with_user : Bool) → life ≡ Ready link → life ≡ SettingUp link' with_user → ⊥
+not_both_lives life link link' with_user e k = let both : Ready link ≡ SettingUp link' with_user = sym e ∙ k in cc
+
 -- nothing moves there any more
 up_moved : (before : List Action) (f : Core) (w : Work) → IsDone before f w → HasMoved before f w
 up_moved before f w done =
@@ -60,8 +65,9 @@ up_moved before f w done =
       started = h.started;
       holds = h.going.sound;
       ended = h.going.ended;
-      fit = record { link = λ link e. subst (IsFit c.size c.boundary) (one_link c.life h.link link h.life e) h.fit; none = λ no. absurd (no h.link h.life) };
+      fit = record { setup = λ link u e. absurd (not_both_lives c.life h.link link u h.life e); link = λ link e. subst (IsFit c.size c.boundary) (one_link c.life h.link link h.life e) h.fit; none = λ no. absurd (no h.link h.life) };
       still = record {
+        setup = λ link u e. absurd (not_both_lives c.life h.link link u h.life e);
         held = λ link e. subst (λ (x : LinkState). (x.queue ≡ []) ⊎ (holds_back x ≡ true)) (one_link c.life h.link link h.life e) h.held;
         full = λ link e. elim done.seated.full [ inl empty ↦ inl empty | inr none ↦ inr (no_room c.life link e none) ];
         waiting = λ link e. done.none;
@@ -121,8 +127,47 @@ dialing_moved before f w started life h =
       holds = h.holds;
       ended = h.ended;
       fit = h.fit;
-      still = record { held = λ link e. absurd (down link e); full = λ link e. absurd (down link e); waiting = λ link e. absurd (down link e); none_waits = λ over. absurd (not_both (has_ended w.conn.life) (ap has_ended life) over) };
+      still = record {
+        setup = λ link u e. absurd (let no : Dialing ≡ SettingUp link u = sym life ∙ e in cc);
+        held = λ link e. absurd (down link e);
+        full = λ link e. absurd (down link e);
+        waiting = λ link e. absurd (down link e);
+        none_waits = λ over. absurd (not_both (has_ended w.conn.life) (ap has_ended life) over);
+      };
     })
+
+-- while the link is set up
+--
+-- the setup starts, and all else stays
+setting_moved : (before : List Action) (f : Core) (w : Work) (started : List ℕ) (link : LinkState) (with_user : Bool) → w.conn.life ≡ SettingUp link with_user → IsReady before f w started → HasMoved before f (passed w)
+setting_moved before f w started link with_user life h =
+    let none = h.fit.none (λ x e. absurd (not_both_lives w.conn.life x link with_user e life)) in
+    let v = started_at w (SettingUp link with_user) in
+    let begun = setting_begun before f w started link with_user life (h.fit.setup link with_user life) none (record { sound = h.holds; ended = h.ended }) in
+    let c = v.conn in
+    let down : (x : LinkState) → c.life ≡ Ready x → ⊥ = λ x e. not_both_lives c.life x begun.link with_user e begun.life in
+    let same : passed w ≡ v =
+    ap (λ (x : Life). admitted_all (moved_up_all (started_at w x))) life ∙ ap admitted_all (none_moved_up v begun.admitted) ∙ stuck_stays (still_waiting v []) c.waiting (ap (λ (x : Life). admits_none_at x (has_no_permit c.limit c.free)) begun.life) in
+    subst (HasMoved before f) (sym same) (record {
+      started = started;
+      holds = begun.going.sound;
+      ended = begun.going.ended;
+      fit = record {
+        setup = λ x u e. subst (IsFit c.size c.boundary) (one_setting c.life begun.link x with_user u begun.life e) begun.fit;
+        link = λ x e. absurd (down x e);
+        none = λ no. begun.admitted;
+      };
+      still = record {
+        setup = λ x u e. subst (λ (y : LinkState). (y.queue ≡ []) ⊎ (holds_back y ≡ true)) (one_setting c.life begun.link x with_user u begun.life e) begun.held;
+        held = λ x e. absurd (down x e);
+        full = λ x e. absurd (down x e);
+        waiting = λ x e. absurd (down x e);
+        none_waits = λ over. absurd (not_both (has_ended c.life) (ap has_ended begun.life) over);
+      };
+    })
+  where
+    one_setting : (life : Life) (link link' : LinkState) (u u' : Bool) → life ≡ SettingUp link u → life ≡ SettingUp link' u' → link ≡ link'
+    one_setting life link link' u u' e k = let both : SettingUp link u ≡ SettingUp link' u' = sym e ∙ k in cc
 
 -- on a link that has ended
 --
@@ -191,9 +236,12 @@ over_moved before f w e started over h =
       started = started;
       holds = done.holds;
       ended = ends.0;
-      fit = record { link = λ link r. absurd (down link r); none = λ no. done.none_admitted };
-      still = record { held = λ link r. absurd (down link r); full = λ link r. absurd (down link r); waiting = λ link r. absurd (down link r); none_waits = λ no. done.none_waits };
+      fit = record { setup = λ link u r. absurd (over_setting link u (sym done.over ∙ r)); link = λ link r. absurd (down link r); none = λ no. done.none_admitted };
+      still = record { setup = λ link u r. absurd (over_setting link u (sym done.over ∙ r)); held = λ link r. absurd (down link r); full = λ link r. absurd (down link r); waiting = λ link r. absurd (down link r); none_waits = λ no. done.none_waits };
     })
+  where
+    over_setting : (link : LinkState) (with_user : Bool) → Ended e ≡ SettingUp link with_user → ⊥
+    over_setting link with_user no = cc
 
 -- all requests are moved
 pub passed_moved : (before : List Action) (f : Core) (w : Work) (started : List ℕ) → IsReady before f w started → HasMoved before f (passed w)
@@ -201,5 +249,6 @@ passed_moved before f w started h = by_life w.conn.life refl
   where
     by_life : (life : Life) → w.conn.life ≡ life → HasMoved before f (passed w)
     by_life Dialing e = dialing_moved before f w started e h
+    by_life (SettingUp link with_user) e = setting_moved before f w started link with_user e h
     by_life (Ready link) e = ready_moved before f w started link e h
     by_life (Ended x) e = over_moved before f w x started e h

@@ -11,7 +11,7 @@ use Rattle.legal_trace.specs.Story.{Story, Try, is_open, is_told, is_unstarted}
 use Rattle.session_laws.proofs.InLine.{awaited_in, row_ids, wanted_in}
 use Rattle.session_laws.proofs.Names.{open_within}
 use Rattle.session_laws.proofs.Numbers.{IsIn, in_either}
-use Rattle.session_laws.proofs.Owes.{lives, open_request, stands_started, wanted_entry}
+use Rattle.session_laws.proofs.Owes.{lives, open_request, row_link, stands_started, wanted_entry}
 use Rattle.session_laws.proofs.Tied.{Inner, IsKept, Tied, link_in, owner_of, queue_ids, has_ended}
 
 -- a submission that is still to start is in the queue, or waits
@@ -51,10 +51,10 @@ row_started : (b : Book) (t : Inner) (p : ℕ) → Tied b t → has_ended t.life
 row_started b t p h n within i e =
     let l = b.link t.link in
     let alive = lives l b.created t.life h.life n in
-    let w = wanted_entry (owner_of t.requests) l _ (link_in t.life).row p (row_open (owner_of t.requests) l (link_in t.life) alive (h.link n)) i in
+    let w = wanted_entry (owner_of t.requests) l _ (link_in t.life).row p (row_open (owner_of t.requests) l (link_in t.life) alive (row_link l t.requests t.life p i (h.link n))) i in
     let place = subst (λ m. StandsAs l.starts (owner_of t.requests m) w.entry.shape w.number) w.is w.open_as.place in
     let k = stands_started b t p w.number w.entry.shape h within place in
-    some_tries (sym (h.tries.tried w.number p k) ∙ e)
+    some_tries (sym (h.tries.tried k.0 p k.2) ∙ e)
   where
     some_tries : {x : Try} {xs : List Try} → x ∷ xs ≡ [] → ⊥
     some_tries e = cc

@@ -8,7 +8,7 @@ use Rattle.redis_error.specs.declared.config_name.ConfigName.TheVariants as name
 use Rattle.driver_model.specs.declared.action.Action.TheVariants as action
 use Rattle.driver_model.specs.declared.action.Cause.TheVariants as cause
 use Rattle.driver_model.specs.declared.config.Config.{Config}
-use Rattle.driver_model.specs.Config.{address, boundary, buffer_fault, buffer_size, connect_timeout, fault_in, has_setup, response_timeout, room_fault}
+use Rattle.driver_model.specs.Config.{address, boundary, buffer_fault, buffer_size, connect_timeout, fault_in, response_timeout, room_fault, told_info}
 use Rattle.driver_model.specs.declared.action.Action.{Action}
 use Rattle.driver_model.specs.declared.action.Cause.{Cause}
 use Rattle.driver_model.specs.declared.action.Purpose.{Purpose}
@@ -19,13 +19,13 @@ use Rattle.mux_conn.specs.declared.life.Life.TheVariants.{Dialing}
 use Rattle.shared_session.specs.Replay.{IsSound, connect_asked, connect_timers, first_link, opening_core, opening_actions, timer_asked}
 use Rattle.shared_session.specs.declared.core_state.Core.{Core}
 use Rattle.legal_trace.specs.Book.{Book, blank_book, book, entered}
-use Rattle.legal_trace.specs.Ledger.{Ledger, Line, asks, blank_ledger, ending, noted_each}
+use Rattle.legal_trace.specs.Ledger.{Ledger, Line, Start, asks, blank_ledger, ending, noted_each, setup_count}
 use Rattle.legal_trace.specs.Legal.{AllStand, IsSettled, NoneEnds}
 use Rattle.legal_trace.specs.Story.{blank_story}
 use Rattle.session_laws.proofs.Going.{is_moved}
 use Rattle.session_laws.proofs.Settled.{IsBetween, is_settled}
 use Rattle.session_laws.proofs.States.{IsFitIn, IsStill}
-use Rattle.session_laws.proofs.Tied.{AreAimed, IsAim, IsUnknown, Tied, TiedLines, TiedNames, TiedNumbers, TiedPermits, TiedTries, TiedWaits, inner, no_link, owner_of, owners_of}
+use Rattle.session_laws.proofs.Tied.{AreAimed, IsAim, IsUnknown, Tied, TiedLines, TiedNames, TiedNumbers, TiedPermits, TiedTries, TiedWaits, inner, no_link, owner_of, owners_of, setup_owners}
 use Rattle.session_laws.proofs.Waits.{IsQuiet}
 use Rattle.session_laws.proofs.Write.{is_written}
 
@@ -46,12 +46,12 @@ opened_core config timers = record {
   timeout = response_timeout config;
   timers = timers;
   table = [];
-  single = record { link = first_link; connection = dialing (buffer_size config) (boundary config) config.limit };
+  single = record { link = first_link; connection = dialing (buffer_size config) (boundary config) config.limit (told_info config) };
 }
 
 -- no other link is told of
 opened_link : (config : Config) (word : ℕ) (info : ConnectionInfo) (timers : List Purpose) (m : ℕ) → m ≢ first_link → (opened config word info timers).link m ≡ blank_ledger
-opened_link config word info timers m other = ap (noted_each blank_ledger) (left_if (first_link == m) (asks ∷ []) [] (ne_test first_link m (λ e. other (sym e))))
+opened_link config word info timers m other = ap (noted_each blank_ledger) (left_if (first_link == m) (asks (told_info config) ∷ []) [] (ne_test first_link m (λ e. other (sym e))))
 
 -- the opening that runs is its own
 own_opening : (config other : Config) (word another : ℕ) → ◌≡◌ {A = Option Cause} (Some (cause.Opening config word)) (Some (cause.Opening other another)) → config ≡ other
@@ -94,7 +94,7 @@ room_sized (Some k) size =
 
 -- behind the address
 sized : (info : ConnectionInfo) (limit : Option ℕ) (size : ℕ) → fault_in (Some info) limit size ≡ None → IsSized limit size
-sized info limit size = chosen (λ (x : Option ConfigName). x ≡ None → IsSized limit size) (has_setup info.redis) (Some name.Kind) (room_fault limit size) (λ t e. absurd (no_fault name.Kind e)) (λ f e. room_sized limit size e)
+sized info limit size e = room_sized limit size e
 
 -- its numbers
 opening_numbers : (config : Config) (word : ℕ) (info : ConnectionInfo) (timeout : Option ℕ) → IsSized config.limit (buffer_size config) → connect_timeout config ≡ timeout → TiedNumbers (opened config word info (connect_timers timeout)) (inner (opened_core config (connect_timers timeout)) [])
@@ -121,12 +121,14 @@ opening_waits : TiedWaits (λ n. blank_story) [] Dialing [] []
 opening_waits = record {
   early = λ p w. cc;
   connect = λ p w e. cc;
+  setup = λ p link u w e. cc;
   permit = λ p link w e. cc;
   place = λ p a. cc;
   room = λ p i. absurd i;
   newer = omega arith;
   rising = omega arith;
   no_connect = λ p i. absurd i;
+  no_setup = λ p link u i. absurd i;
   no_permit = λ p link i. absurd i;
   no_place = λ p i. absurd i;
   no_room = λ p i. absurd i;
@@ -146,7 +148,7 @@ opening_names = record { named = λ p r e. cc; kept = λ n p e. cc; rising = λ 
 
 -- its tries
 opening_tries : (l : Ledger) → l.starts ≡ [] → TiedTries l (λ n. blank_story) [] first_link []
-opening_tries l none = record { owners = ap owners_of none; shapes = λ k p s e i. cc; tried = λ k p e. cc; untried = λ p r e out. cc }
+opening_tries l none = record { owners = ap owners_of none ∙ ap (λ (ss : List Start). setup_owners (setup_count ss) []) (sym none); shapes = λ k p s e i. cc; tried = λ k p e. cc; untried = λ p r e out. cc }
 
 -- the session is tied to it
 opening_tied : (config : Config) (word : ℕ) (info : ConnectionInfo) (timeout : Option ℕ) → IsSized config.limit (buffer_size config) → connect_timeout config ≡ timeout → Tied (opened config word info (connect_timers timeout)) (inner (opened_core config (connect_timers timeout)) [])
@@ -154,7 +156,8 @@ opening_tied config word info timeout some is = record {
   numbers = opening_numbers config word info timeout some is;
   others = λ m other. subst IsUnknown (sym (opened_link config word info (connect_timers timeout) m other)) (record { asked = refl; up = refl; end = refl; starts = refl });
   life = (refl, refl, refl, refl);
-  link = λ e. asked_tied (owner_of []) blank_ledger no_link (fresh_tied (owner_of []) 0 0);
+  setup = record { info_is = refl; sent = λ k s less e. absurd (omega arith); said = (refl, refl) };
+  link = λ e. asked_tied (owner_of []) blank_ledger (told_info config) no_link (fresh_tied (owner_of []) 0 0);
   names = opening_names;
   story = λ n. refl;
   tries = opening_tries ((opened config word info (connect_timers timeout)).link first_link) refl;
@@ -167,7 +170,7 @@ opening_tied config word info timeout some is = record {
 
 -- no link must end
 opening_ends : (config : Config) (word : ℕ) (info : ConnectionInfo) (timers : List Purpose) → NoneEnds (opened config word info timers)
-opening_ends config word info timers m = chosen (λ (ls : List Line). ending (noted_each blank_ledger ls) ≡ None) (first_link == m) (asks ∷ []) [] (λ t. refl) (λ f. refl)
+opening_ends config word info timers m = chosen (λ (ls : List Line). ending (noted_each blank_ledger ls) ≡ None) (first_link == m) (asks (told_info config) ∷ []) [] (λ t. refl) (λ f. refl)
 
 -- what the opening shows
 abbrev opened_actions : Config → ℕ → ConnectionInfo → Option ℕ → List Action
@@ -201,11 +204,11 @@ opened_between config word info timeout sound at some is =
     let conn = c.single.connection in
     let t = inner c [] in
     let tied = opening_tied config word info timeout some is in
-    let fit : IsFitIn conn = record { link = λ link e. cc; none = λ no. refl } in
-    let still : IsStill conn = record { held = λ link e. cc; full = λ link e. cc; waiting = λ link e. cc; none_waits = λ e. refl } in
-    let moved = is_moved b t tied refl refl (opening_ends config word info timers) fit.link fit.none still.held still.full still.waiting still.none_waits in
-    let written = is_written b t tied moved (λ link e. cc) in
-    let quiet : IsQuiet t = record { settled = refl; alone = refl; fit = fit.link; none = fit.none; held = still.held; full = still.full; waiting = still.waiting; gone = still.none_waits } in
+    let fit : IsFitIn conn = record { setup = λ link u e. cc; link = λ link e. cc; none = λ no. refl } in
+    let still : IsStill conn = record { setup = λ link u e. cc; held = λ link e. cc; full = λ link e. cc; waiting = λ link e. cc; none_waits = λ e. refl } in
+    let moved = is_moved b t tied refl refl (opening_ends config word info timers) fit.link fit.none still.held still.full still.waiting still.none_waits fit.setup still.setup in
+    let written = is_written b t tied moved refl in
+    let quiet : IsQuiet t = record { settled = refl; alone = refl; fit = fit.link; none = fit.none; held = still.held; full = still.full; waiting = still.waiting; gone = still.none_waits; setup_fit = fit.setup; setup_held = still.setup } in
     let book_is = sym (opening_book config word info timeout) in
     record {
       started = [];

@@ -1,10 +1,11 @@
 -- What submissions are owed, by the requests that they are.
-use Rattle.std.proofs.Common.{◌≡◌, ◌≢◌, inl, inr, ℕ, zero, suc, ◌<◌, ◌==◌, Bool, true, false, ◌&&◌, not, is_some, length-append, List, [], ◌∷◌, ◌++◌, length, Option, Some, None, slice_get, refl, sym, ap, ◌∙◌, subst, arith}
+use Rattle.std.proofs.Common.{◌≡◌, ◌≢◌, inl, inr, ℕ, zero, suc, ◌+◌, ◌<◌, ◌==◌, Bool, true, false, ◌&&◌, not, is_some, length-append, List, [], ◌∷◌, ◌++◌, length, Option, Some, None, slice_get, refl, sym, ap, ◌∙◌, subst, arith}
 use Rattle.std.specs.List.{AllByRecursion}
 use Rattle.std.proofs.lemmas.List.{nil_from_length}
 use Rattle.containers.proofs.Choices.{by_test, left_if, eq_from, ne_from, ne_test, not_both}
 use Rattle.redis_error.specs.declared.redis_error.RedisError.{RedisError}
 use Rattle.driver_model.specs.declared.action.Owner.{Owner}
+use Rattle.driver_model.specs.declared.action.Owner.TheVariants as owner
 use Rattle.driver_model.specs.declared.outcome.Outcome.{Outcome}
 use Rattle.driver_model.specs.declared.outcome.Outcome.TheVariants as outcome
 use Rattle.driver_model.specs.declared.outcome.Shape.{Shape}
@@ -12,19 +13,21 @@ use Rattle.driver_model.specs.Shape.{outcome_of}
 use Rattle.link_core.specs.declared.message.Entry.{Entry}
 use Rattle.link_core.specs.declared.message.Settled.{Settled}
 use Rattle.link_laws.specs.Settles.{wanted, StandsAs, IsOwed}
+use Rattle.link_laws.proofs.TiedLink.{TiedLink}
 use Rattle.link_laws.proofs.Started.{IsOpenAs, OpenFrom, row_open, open_unowed}
 use Rattle.mux_conn.specs.declared.life.Life.{Life}
-use Rattle.mux_conn.specs.declared.life.Life.TheVariants.{Dialing, Ready, Ended}
+use Rattle.mux_conn.specs.declared.life.Life.TheVariants.{Dialing, SettingUp, Ready, Ended}
 use Rattle.mux_conn.specs.declared.request.Pending.{Pending}
 use Rattle.mux_conn.specs.declared.request.Request.{Request}
 use Rattle.mux_conn.specs.Requests.{name_at, is_open_at}
-use Rattle.legal_trace.specs.Ledger.{full_count, Ledger, Start, End, failure_in}
+use Rattle.legal_trace.specs.Ledger.{full_count, Ledger, Start, End, failure_in, is_of_setup, setup_count}
 use Rattle.legal_trace.specs.Story.{Story, bytes_of, shape, last_of, is_open}
 use Rattle.legal_trace.specs.Book.{Book}
 use Rattle.legal_trace.specs.Owed.{owed, owed_to_message, owed_unstarted, owed_to_try}
 use Rattle.legal_trace.specs.Legal.{IsOpen, NoneIsOwed, IsCreated, FailuresAreShown}
-use Rattle.session_laws.proofs.Numbers.{Rising, IsIn, in_either, rising_in, rising_left, rising_apart}
-use Rattle.session_laws.proofs.Tied.{IsEntry, Inner, link_in, owner_of, owners_of, owners_each, queue_ids, IsRequest, TiedStory, TiedLife, Tied, FailureIsShown, has_ended}
+use Rattle.session_laws.proofs.Numbers.{Rising, IsIn, in_either, rising_in, rising_left, rising_right, rising_apart}
+use Rattle.session_laws.proofs.Said.{ready_shown}
+use Rattle.session_laws.proofs.Tied.{IsEntry, Inner, carried, link_in, owner_of, setup_owners, whole_link, owners_of, owners_each, queue_ids, IsRequest, TiedStory, TiedLife, Tied, FailureIsShown, has_ended}
 use Rattle.session_laws.proofs.Names.{get_some, open_within, name_of_some, name_placed, same_name}
 use Rattle.session_laws.proofs.InLine.{AtPlaces, IsInLine, wanted_rises, places_rise, row_ids, wanted_in, kept_ids, line_of, open_in_line}
 
@@ -64,13 +67,27 @@ open_request b t n h o = by_entry (slice_get t.table n) refl (h.story n)
 owner_name : (p q : ℕ) (requests : List Request) → owner_of requests p ≡ owner_of requests q → name_at requests p ≡ name_at requests q
 owner_name p q requests e = cc
 
--- the request whose message started as number k
-started_at : (ss : List Start) (requests : List Request) (started : List ℕ) (k : ℕ) (s : Start) → owners_of ss ≡ owners_each requests started → slice_get ss k ≡ Some s
+-- the request whose message started as number k, where no setup has
+started_first : (ss : List Start) (requests : List Request) (started : List ℕ) (k : ℕ) (s : Start) → owners_of ss ≡ owners_each requests started → slice_get ss k ≡ Some s
     → (p : ℕ) × (slice_get started k ≡ Some p) × (owner_of requests p ≡ s.owner)
-started_at [] requests started k s e i = cc
-started_at (x ∷ ss) requests [] k s e i = cc
-started_at (x ∷ ss) requests (p ∷ ps) zero s e i = (p, refl, let same : x ≡ s = cc in let first : x.owner ≡ owner_of requests p = cc in sym first ∙ ap (λ (y : Start). y.owner) same)
-started_at (x ∷ ss) requests (p ∷ ps) (suc k) s e i = started_at ss requests ps k s (let rest : owners_of ss ≡ owners_each requests ps = cc in rest) i
+started_first [] requests started k s e i = cc
+started_first (x ∷ ss) requests [] k s e i = cc
+started_first (x ∷ ss) requests (p ∷ ps) zero s e i = (p, refl, let same : x ≡ s = cc in let first : x.owner ≡ owner_of requests p = cc in sym first ∙ ap (λ (y : Start). y.owner) same)
+started_first (x ∷ ss) requests (p ∷ ps) (suc k) s e i = started_first ss requests ps k s (let rest : owners_of ss ≡ owners_each requests ps = cc in rest) i
+
+-- and behind so many setups
+started_at : (ss : List Start) (requests : List Request) (started : List ℕ) (n k : ℕ) (s : Start) → owners_of ss ≡ setup_owners n (owners_each requests started) → slice_get ss k ≡ Some s → is_of_setup s.owner ≡ false
+    → (j : ℕ) × (k ≡ n + j) × (p : ℕ) × (slice_get started j ≡ Some p) × (owner_of requests p ≡ s.owner)
+started_at ss requests started zero k s e i other = let h = started_first ss requests started k s e i in (k, omega arith, h.0, h.1, h.2)
+started_at [] requests started (suc n) k s e i other = cc
+started_at (x ∷ ss) requests started (suc n) zero s e i other =
+    let same : x ≡ s = cc in
+    let first : x.owner ≡ owner.Setup = cc in
+    absurd (not_both (is_of_setup s.owner) other (ap (λ (y : Start). is_of_setup y.owner) (sym same) ∙ ap is_of_setup first))
+started_at (x ∷ ss) requests started (suc n) (suc k) s e i other =
+    let rest : owners_of ss ≡ setup_owners n (owners_each requests started) = cc in
+    let h = started_at ss requests started n k s rest i other in
+    (h.0, (let behind = h.1 in omega arith), h.2, h.3, h.4)
 
 -- what started is one of the line
 pub get_in : (xs : List ℕ) (k n : ℕ) → slice_get xs k ≡ Some n → IsIn n xs
@@ -84,12 +101,14 @@ started_within b t k p h e =
     let r = rising_in 0 t.started (length t.requests) p (rising_left 0 t.started (queue_ids (link_in t.life).queue ++ kept_ids t.admitted t.waiting) (length t.requests) h.lines.line) (get_in t.started k p e) in
     r.1
 
--- the message of a request that stands as number k is the one that started so
-pub stands_started : (b : Book) (t : Inner) (p k : ℕ) (of_shape : Shape) → Tied b t → p < length t.requests → StandsAs (b.link t.link).starts (owner_of t.requests p) of_shape k → slice_get t.started k ≡ Some p
+-- the message of a request that stands as number k is the one that started so, behind the setups
+pub stands_started : (b : Book) (t : Inner) (p k : ℕ) (of_shape : Shape) → Tied b t → p < length t.requests → StandsAs (b.link t.link).starts (owner_of t.requests p) of_shape k
+    → (j : ℕ) × (k ≡ setup_count (b.link t.link).starts + j) × (slice_get t.started j ≡ Some p)
 stands_started b t p k of_shape h l place =
-    let s = started_at (b.link t.link).starts t.requests t.started k place.start h.tries.owners place.stands in
-    let same = same_name t.table t.requests s.0 p h.names (started_within b t k s.0 h s.1) l (owner_name s.0 p t.requests (s.2 ∙ place.owned)) in
-    s.1 ∙ ap Some same
+    let starts = (b.link t.link).starts in
+    let s = started_at starts t.requests t.started (setup_count starts) k place.start h.tries.owners place.stands (ap is_of_setup place.owned) in
+    let same = same_name t.table t.requests s.2 p h.names (started_within b t s.0 s.2 h s.3) l (owner_name s.2 p t.requests (s.4 ∙ place.owned)) in
+    (s.0, s.1, s.3 ∙ ap Some same)
 
 -- what a request is owed
 --
@@ -107,9 +126,12 @@ pub owed_started : (b : Book) (t : Inner) (p k : ℕ) (of_shape : Shape) → Tie
 owed_started b t p k of_shape h l in_time place =
     let n = name_at t.requests p in
     let r = request_story b t p h l in
+    let starts = (b.link t.link).starts in
     let e = stands_started b t p k of_shape h l place in
-    let same : shape (b.story n) ≡ of_shape = sym (h.tries.shapes k p place.start e place.stands) ∙ place.shaped in
-    owed_by_try b n r.in_time r.some in_time ∙ ap (λ ts. owed_to_try b (b.story n) (last_of ts)) (h.tries.tried k p e) ∙ ap (owed_to_message (b.link t.link) k) same
+    let same : shape (b.story n) ≡ of_shape = sym (h.tries.shapes e.0 p place.start e.2 (ap (slice_get starts) (sym e.1) ∙ place.stands)) ∙ place.shaped in
+    owed_by_try b n r.in_time r.some in_time
+    ∙ ap (λ ts. owed_to_try b (b.story n) (last_of ts)) (h.tries.tried e.0 p e.2 ∙ ap (λ m. record { link = t.link; message = m } ∷ []) (sym e.1))
+    ∙ ap (owed_to_message (b.link t.link) k) same
 
 -- where it has none
 pub owed_none_started : (b : Book) (t : Inner) (p : ℕ) → Tied b t → p < length t.requests → (b.story (name_at t.requests p)).overdue ≡ false → (IsIn p t.started → ⊥) → owed b (name_at t.requests p) ≡ owed_unstarted (b.link t.link).end
@@ -149,15 +171,23 @@ wanted_entry name l k (e ∷ es) p all (inr i) = let w = wanted_entry name l (su
 -- how far a link has come that has not ended
 pub lives : (l : Ledger) (created : ℕ) (life : Life) → TiedLife l created life → has_ended life ≡ false → l.end ≡ None
 lives l created Dialing h n = h.2
+lives l created (SettingUp link with_user) h n = h.2
 lives l created (Ready link) h n = h.2
 lives l created (Ended e) h n = cc
+
+-- a link that has messages of requests in its row is tied by their names
+pub row_link : (l : Ledger) (requests : List Request) (life : Life) (p : ℕ) → IsIn p (row_ids (link_in life).row) → TiedLink (carried life requests) l (whole_link life) → TiedLink (owner_of requests) l (link_in life)
+row_link l requests Dialing p i h = absurd i
+row_link l requests (SettingUp link with_user) p i h = absurd i
+row_link l requests (Ready link) p i h = h
+row_link l requests (Ended e) p i h = absurd i
 
 -- nothing is owed to a message that takes items
 row_unowed : (b : Book) (t : Inner) (p : ℕ) → Tied b t → has_ended t.life ≡ false → p < length t.requests → (b.story (name_at t.requests p)).overdue ≡ false → IsIn p (row_ids (link_in t.life).row) → owed b (name_at t.requests p) ≡ None
 row_unowed b t p h n l in_time i =
     let ledger = b.link t.link in
     let alive = lives ledger b.created t.life h.life n in
-    let w = wanted_entry (owner_of t.requests) ledger _ (link_in t.life).row p (row_open (owner_of t.requests) ledger (link_in t.life) alive (h.link n)) i in
+    let w = wanted_entry (owner_of t.requests) ledger _ (link_in t.life).row p (row_open (owner_of t.requests) ledger (link_in t.life) alive (row_link ledger t.requests t.life p i (h.link n))) i in
     let place = subst (λ m. StandsAs ledger.starts (owner_of t.requests m) w.entry.shape w.number) w.is w.open_as.place in
     owed_started b t p w.number w.entry.shape h l in_time place ∙ open_unowed (owner_of t.requests) ledger w.number w.entry alive w.open_as
 
@@ -202,6 +232,7 @@ alive_failure end created none e fails = absurd (let no : ◌≡◌ {A = Option 
 -- by how far the link has come
 failure_shown : (l : Ledger) (created : ℕ) (life : Life) → TiedLife l created life → FailureIsShown l.end created
 failure_shown l created Dialing h = alive_failure l.end created h.2
+failure_shown l created (SettingUp link with_user) h = alive_failure l.end created h.2
 failure_shown l created (Ready link) h = alive_failure l.end created h.2
 failure_shown l created (Ended e) h = h.2
 
@@ -211,35 +242,39 @@ failures_shown b t h m = by_test (m == t.link) (FailureIsShown (b.link m).end b.
     (λ same. subst (λ k. FailureIsShown (b.link k).end b.created) (sym (eq_from m t.link same)) (failure_shown (b.link t.link) b.created t.life h.life))
     (λ other. alive_failure (b.link m).end b.created (h.others m (ne_from m t.link other)).end)
 
--- a link was asked for, and where it is up, or its opening failed, the creation was shown
+-- a link was asked for, and where it is ready, or its opening failed, the creation was shown
 pub created_is : (b : Book) (t : Inner) → Tied b t → IsCreated b
 created_is b t h = record {
   asked = λ e. let asked = h.numbers.links in let one = h.numbers.one in omega arith;
-  shown = λ m up. by_test (m == t.link) _
-      (λ same. up_created (b.link t.link) b.created t.life h.life (subst (λ k. (b.link k).up ≡ true) (eq_from m t.link same) up))
-      (λ other. absurd (not_both (b.link m).up (h.others m (ne_from m t.link other)).up up));
+  shown = ready_shown b t h;
   failed = failures_shown b t h;
 }
-  where
-    up_created : (l : Ledger) (created : ℕ) (life : Life) → TiedLife l created life → l.up ≡ true → created ≢ 0
-    up_created l created Dialing k up = absurd (not_both l.up k.1 up)
-    up_created l created (Ready link) k up = k.3
-    up_created l created (Ended e) k up = absurd (not_both l.up k.0 up)
 
 -- the entries of a row are started one after another
-row_places : (b : Book) (t : Inner) (k : ℕ) (row : List Entry) → Tied b t → AllByRecursion (IsEntry t.requests) row → OpenFrom (owner_of t.requests) (b.link t.link) k row → AtPlaces t.started k (row_ids row)
-row_places b t k [] h all open_all = tt
-row_places b t k (e ∷ es) h all open_all = (stands_started b t e.id k e.shape h all.0.below open_all.0.place, row_places b t (suc k) es h all.1 open_all.1)
+row_places : (b : Book) (t : Inner) (k j : ℕ) (row : List Entry) → Tied b t → k ≡ setup_count (b.link t.link).starts + j → AllByRecursion (IsEntry t.requests) row → OpenFrom (owner_of t.requests) (b.link t.link) k row → AtPlaces t.started j (row_ids row)
+row_places b t k j [] h at all open_all = tt
+row_places b t k j (e ∷ es) h at all open_all =
+    let s = stands_started b t e.id k e.shape h all.0.below open_all.0.place in
+    let same : s.0 ≡ j = (let other = s.1 in omega arith) in
+    (ap (slice_get t.started) (sym same) ∙ s.2, row_places b t (suc k) (suc j) es h (omega arith) all.1 open_all.1)
 
 -- the entries and all behind them rise, on a link that has not ended
 pub row_in_line : (b : Book) (t : Inner) → Tied b t → has_ended t.life ≡ false → Rising 0 (row_ids (link_in t.life).row ++ (queue_ids (link_in t.life).queue ++ kept_ids t.admitted t.waiting)) (length t.requests)
-row_in_line b t h n =
-    let ledger = b.link t.link in
-    let row = (link_in t.life).row in
-    let later = queue_ids (link_in t.life).queue ++ kept_ids t.admitted t.waiting in
-    let alive = lives ledger b.created t.life h.life n in
-    let places = row_places b t (full_count ledger.starts ledger.dealt) row h h.lines.entries (row_open (owner_of t.requests) ledger (link_in t.life) alive (h.link n)) in
-    places_rise 0 t.started (full_count ledger.starts ledger.dealt) (row_ids row) later (length t.requests) places h.lines.line
+row_in_line b t h n = by_row (link_in t.life).row refl
+  where
+    later : List ℕ
+    later = queue_ids (link_in t.life).queue ++ kept_ids t.admitted t.waiting
+
+    by_row : (row : List Entry) → (link_in t.life).row ≡ row → Rising 0 (row_ids row ++ later) (length t.requests)
+    by_row [] e = rising_right 0 t.started later (length t.requests) h.lines.line
+    by_row (x ∷ xs) e =
+        let l = b.link t.link in
+        let from = full_count l.starts l.dealt in
+        let i : IsIn x.id (row_ids (link_in t.life).row) = subst (λ (row : List Entry). IsIn x.id (row_ids row)) (sym e) (inl refl) in
+        let all = subst (λ (row : List Entry). OpenFrom (owner_of t.requests) l from row) e (row_open (owner_of t.requests) l (link_in t.life) (lives l b.created t.life h.life n) (row_link l t.requests t.life x.id i (h.link n))) in
+        let entries = subst (AllByRecursion (IsEntry t.requests)) e h.lines.entries in
+        let first = stands_started b t x.id from x.shape h entries.0.below all.0.place in
+        places_rise 0 t.started first.0 (row_ids (x ∷ xs)) later (length t.requests) (row_places b t from first.0 (x ∷ xs) h first.1 entries all) h.lines.line
 
 -- and so does the line
 pub in_line : (b : Book) (t : Inner) → Tied b t → has_ended t.life ≡ false → IsInLine t.requests (link_in t.life) t.admitted t.waiting []

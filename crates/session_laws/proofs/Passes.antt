@@ -10,14 +10,14 @@ use Rattle.driver_model.specs.declared.outcome.Outcome.TheVariants as outcome
 use Rattle.link_core.specs.Link.{LinkState, Starting, enqueued, holds_back, is_full, started_all}
 use Rattle.link_core.specs.declared.message.Queued.{Queued}
 use Rattle.link_laws.specs.Starts.{starting}
-use Rattle.mux_conn.specs.Connection.{Work, acted, admits_none, admits_none_at, has_no_permit, has_room, with_link}
+use Rattle.mux_conn.specs.Connection.{Work, acted, admits_none, admits_none_at, has_no_permit, has_room, with_link, with_setup}
 use Rattle.mux_conn.specs.Passes.{admitted, admitted_at, admitted_each, holding, let_in, message_of, permits_taken, seated_or_behind, still_waiting, moved_up, moved_up_each, noted, placed_at, put_behind, seated, started, started_at, still_admitted, told_at_place}
 use Rattle.mux_conn.specs.Requests.{answered, at_progress, closed, given_back, is_admitted_at, is_open as is_open_progress, is_open_at, is_waiting, is_waiting_at, name_at, permits_at, progressed, with_permits}
 use Rattle.mux_conn.specs.declared.act.LinkAct.{LinkAct}
 use Rattle.mux_conn.specs.declared.act.LinkAct.TheVariants as act
 use Rattle.mux_conn.specs.declared.connection.MultiplexedConnection.{MultiplexedConnection}
 use Rattle.mux_conn.specs.declared.life.Life.{Life}
-use Rattle.mux_conn.specs.declared.life.Life.TheVariants.{Dialing, Ended, Ready}
+use Rattle.mux_conn.specs.declared.life.Life.TheVariants.{Dialing, Ended, Ready, SettingUp}
 use Rattle.mux_conn.specs.declared.request.Progress.{Progress}
 use Rattle.mux_conn.specs.declared.request.Progress.TheVariants as progress
 use Rattle.mux_conn.specs.declared.request.Request.{Request}
@@ -28,13 +28,14 @@ use Rattle.legal_trace.specs.Legal.{MayTell, NoneEnds}
 use Rattle.legal_trace.specs.Steps.{is_let_in}
 use Rattle.session_laws.proofs.Ahead.{IsRunning, first_step, kept_unstarted, waiting_open}
 use Rattle.session_laws.proofs.Entered.{shown_more}
-use Rattle.session_laws.proofs.Going.{IsGoing, applied_up, first_behind, going_more}
+use Rattle.session_laws.proofs.Going.{IsGoing, begun_up, first_behind, going_more}
 use Rattle.session_laws.proofs.InLine.{kept_ids}
 use Rattle.session_laws.proofs.LetIn.{IsOpening, let_in_conn, let_in_going, permits_twice, quiet_timers}
 use Rattle.session_laws.proofs.Names.{length_still, length_with, name_still, name_with, open_within, permits_still, permits_with, there_same, with_same}
 use Rattle.session_laws.proofs.Numbers.{IsIn, Rising, rising_left, rising_right, rising_tail, rising_without}
 use Rattle.session_laws.proofs.Owes.{request_story}
 use Rattle.session_laws.proofs.Place.{IsNext, admit_tied, next_admitted, next_waiting, passed_admitted, passed_waiting, place_tied, tell_tied, with_place, with_told}
+use Rattle.session_laws.proofs.SetsUp.{set_up_conn}
 use Rattle.session_laws.proofs.Settle.{answered_leaves, seen, trace_of_acts}
 use Rattle.session_laws.proofs.Start.{on_link}
 use Rattle.session_laws.proofs.Starts.{each_fit, each_going, each_held, shown_is, shows, shows_timers}
@@ -100,6 +101,10 @@ keeps_on u v w h k = record { admitted = k.admitted ∙ h.admitted; waiting = k.
 -- starts leave those that wait
 pub started_keeps : (w : Work) (life : Life) → Keeps w (started_at w life)
 started_keeps w Dialing = record { admitted = refl; waiting = refl }
+started_keeps w (SettingUp link with_user) =
+    let s = started_all (record { link = link; out = [] }) in
+    let same = set_up_conn (with_setup w s.link with_user) s.out in
+    record { admitted = ap (λ (c : MultiplexedConnection). c.admitted) same; waiting = ap (λ (c : MultiplexedConnection). c.waiting) same }
 started_keeps w (Ready link) =
     let s = started_all (record { link = link; out = [] }) in
     let same = shown_is (with_link w s.link) s.out in
@@ -109,6 +114,7 @@ started_keeps w (Ended e) = record { admitted = refl; waiting = refl }
 -- so does the place of another
 placed_keeps : (w : Work) (q : Waiting) (life : Life) → Keeps w (placed_at w q life)
 placed_keeps w q Dialing = record { admitted = refl; waiting = refl }
+placed_keeps w q (SettingUp link with_user) = record { admitted = refl; waiting = refl }
 placed_keeps w q (Ready link) = record { admitted = refl; waiting = refl }
 placed_keeps w q (Ended e) = record { admitted = refl; waiting = refl }
 
@@ -138,7 +144,7 @@ tell_may b t link q waiting admitted not_awaited fit held room next h ends =
     let kept = kept_ids admitted waiting in
     let running : IsRunning was = record { settled = refl; up = refl; fit = fit } in
     record {
-      applied = applied_up b was h refl refl ends;
+      begun = begun_up b was h refl refl ends;
       asked = (request_story b was p h (open_within t.requests p o)).open_is ∙ o;
       unstarted = kept_unstarted b was p h o (subst (IsIn p) (sym next.first) (inl refl));
       tells = first_step b was p kept h running room o next.first next.let_in (sym next.packed.is_of.awaited_is ∙ not_awaited);

@@ -23,20 +23,20 @@ use Rattle.mux_conn.specs.declared.request.Progress.TheVariants as progress
 use Rattle.mux_conn.specs.declared.request.Request.{Request}
 use Rattle.mux_conn.specs.declared.request.Waiting.{Waiting}
 use Rattle.legal_trace.specs.Book.{Book, entered}
-use Rattle.legal_trace.specs.Ledger.{Ledger}
+use Rattle.legal_trace.specs.Ledger.{Ledger, setup_count}
 use Rattle.legal_trace.specs.Steps.{is_let_in}
 use Rattle.legal_trace.specs.Story.{Story, answered, is_told, shape}
 use Rattle.session_laws.proofs.Answer.{answer_closes, lines_answered}
 use Rattle.session_laws.proofs.Behind.{open_unanswered}
-use Rattle.session_laws.proofs.Closing.{Closes, closed_other, kept_other, late_closed, story_closed, tries_closed, waits_closed, with_closed}
+use Rattle.session_laws.proofs.Closing.{Closes, IsOneOf, closed_other, kept_other, late_closed, one_of, story_closed, tries_closed, waits_closed, with_closed}
 use Rattle.session_laws.proofs.InLine.{awaited_in, kept_ids}
 use Rattle.session_laws.proofs.Kept.{of_same}
 use Rattle.session_laws.proofs.Names.{length_still, length_with, name_still, name_was, name_with, name_within, names_progressed, names_with, open_within, owners_still, owners_with, permits_still, there_other, there_same, there_then, with_same}
 use Rattle.session_laws.proofs.Numbers.{IsIn, Rising, in_either, in_left, in_right, rising_apart, rising_in, rising_right, rising_tail, rising_without}
 use Rattle.session_laws.proofs.Owes.{in_line, request_story}
 use Rattle.session_laws.proofs.Permits.{permits_closed, permits_further, permits_let}
-use Rattle.session_laws.proofs.Start.{not_dialing, on_link}
-use Rattle.session_laws.proofs.Tied.{AreLate, AreQueued, Inner, IsEntry, IsKept, IsOf, IsPacked, IsQueued, Tied, TiedLines, TiedStory, TiedTries, TiedWaits, owner_of, owners_each, queue_ids, relined, shown_wait, waiting_ids, numbers_kept}
+use Rattle.session_laws.proofs.Start.{not_dialing, not_setting, on_link}
+use Rattle.session_laws.proofs.Tied.{AreLate, AreQueued, Inner, IsEntry, IsKept, IsOf, IsPacked, IsQueued, Tied, TiedLines, TiedStory, TiedTries, TiedWaits, owner_of, owners_each, queue_ids, setup_owners, relined, shown_wait, waiting_ids, numbers_kept}
 use Rattle.session_laws.proofs.Ahead.{admitted_open, early_open, waiting_open}
 
 -- those that wait no longer are passed over
@@ -124,7 +124,7 @@ owners_further requests p now (m ∷ ms) = λ i. owners_still requests p now i m
 -- and so are the tries
 tries_further : (l : Ledger) (story : ℕ → Story) (requests : List Request) (link p : ℕ) (now : Progress) (started : List ℕ) → TiedTries l story requests link started → TiedTries l story (at_progress requests p now) link started
 tries_further l story requests link p now started h = record {
-  owners = h.owners ∙ sym (owners_further requests p now started);
+  owners = h.owners ∙ ap (setup_owners (setup_count l.starts)) (sym (owners_further requests p now started));
   shapes = λ k m s i j. h.shapes k m s i j ∙ ap (λ n. shape (story n)) (sym (name_still requests p now m));
   tried = λ k m i. ap (λ n. (story n).tries) (name_still requests p now m) ∙ h.tried k m i;
   untried = λ m r i out. let w = name_was requests p now m r i in ap (λ n. (story n).tries) (sym w.2) ∙ h.untried m w.0 w.1 out;
@@ -219,11 +219,19 @@ next_admitted b t link q qs a last h = record {
   last = last;
 }
 
+-- a wait that is another
+other_wait : (x : Option WaitKind) (one other : WaitKind) → x ≡ Some one → (one ≡ other → ⊥) → x ≢ Some other
+other_wait x one other e apart r = apart (some_same one other (sym e ∙ r))
+  where
+    some_same : (k l : WaitKind) → ◌≡◌ {A = Option WaitKind} (Some k) (Some l) → k ≡ l
+    some_same k l same = cc
+
 -- one that waits for the connection, or for a permit, has shown nothing, or one of these waits
-shown_early : (x : Option WaitKind) → (x ≡ None) ⊎ ((x ≡ Some wait.Connect) ⊎ (x ≡ Some wait.Permit)) → (x ≢ Some wait.Place) × (x ≢ Some wait.Room)
+shown_early : (x : Option WaitKind) → IsOneOf x → (x ≢ Some wait.Place) × (x ≢ Some wait.Room)
 shown_early x (inl e) = (λ r. (let no : ◌≡◌ {A = Option WaitKind} None (Some wait.Place) = sym e ∙ r in cc), λ r. (let no : ◌≡◌ {A = Option WaitKind} None (Some wait.Room) = sym e ∙ r in cc))
-shown_early x (inr (inl e)) = (λ r. (let no : ◌≡◌ {A = Option WaitKind} (Some wait.Connect) (Some wait.Place) = sym e ∙ r in cc), λ r. (let no : ◌≡◌ {A = Option WaitKind} (Some wait.Connect) (Some wait.Room) = sym e ∙ r in cc))
-shown_early x (inr (inr e)) = (λ r. (let no : ◌≡◌ {A = Option WaitKind} (Some wait.Permit) (Some wait.Place) = sym e ∙ r in cc), λ r. (let no : ◌≡◌ {A = Option WaitKind} (Some wait.Permit) (Some wait.Room) = sym e ∙ r in cc))
+shown_early x (inr (inl e)) = (other_wait x wait.Connect wait.Place e (λ r. cc), other_wait x wait.Connect wait.Room e (λ r. cc))
+shown_early x (inr (inr (inl e))) = (other_wait x wait.Setup wait.Place e (λ r. cc), other_wait x wait.Setup wait.Room e (λ r. cc))
+shown_early x (inr (inr (inr e))) = (other_wait x wait.Permit wait.Place e (λ r. cc), other_wait x wait.Permit wait.Room e (λ r. cc))
 
 -- or of those that wait for the connection, where none waits for a place, and it is being let in
 pub next_waiting : (b : Book) (t : Inner) (link : LinkState) (q : Waiting) (qs : List Waiting) → is_waiting_at t.requests q.number ≡ true → is_let_in t.limit (b.story (name_at t.requests q.number)) ≡ true → Rising 0 (t.moved ++ q.number ∷ []) (length t.requests)
@@ -349,14 +357,16 @@ waits_placed story requests p life fresh moved l h =
     let same = shown_further story requests p progress.Placed in
     let long = sym (length_still requests p progress.Placed) in
     record {
-      early = λ m w. let k = there_then is_waiting requests p m progress.Placed refl l w in elim (h.early m k.1) [ inl e ↦ inl (same m ∙ e) | inr x ↦ inr (elim x [ inl e ↦ inl (same m ∙ e) | inr e ↦ inr (same m ∙ e) ]) ];
+      early = λ m w. let k = there_then is_waiting requests p m progress.Placed refl l w in one_of (shown_wait story (at_progress requests p progress.Placed) m) (shown_wait story requests m) (same m) (h.early m k.1);
       connect = λ m w d. let k = there_then is_waiting requests p m progress.Placed refl l w in elim (h.connect m k.1 d) [ inl e ↦ inl e | inr e ↦ inr (same m ∙ e) ];
+      setup = λ m link u w d. let k = there_then is_waiting requests p m progress.Placed refl l w in elim (h.setup m link u k.1 d) [ inl e ↦ inl e | inr e ↦ inr (same m ∙ e) ];
       permit = λ m link w d. let k = there_then is_waiting requests p m progress.Placed refl l w in elim (h.permit m link k.1 d) [ inl e ↦ inl e | inr e ↦ inr (same m ∙ e) ];
       place = λ m a. let k = there_then is_admitted requests p m progress.Placed refl l a in elim (h.place m k.1) [ inl i ↦ inl i | inr e ↦ inr (same m ∙ e) ];
       room = λ m i. elim (h.room m i) [ inl j ↦ inl j | inr e ↦ inr (same m ∙ e) ];
       newer = subst (Rising 0 fresh) long h.newer;
       rising = subst (Rising 0 moved) long h.rising;
       no_connect = λ m i w d e. let k = there_then is_waiting requests p m progress.Placed refl l w in h.no_connect m i k.1 d (sym (same m) ∙ e);
+      no_setup = λ m link u i w d e. let k = there_then is_waiting requests p m progress.Placed refl l w in h.no_setup m link u i k.1 d (sym (same m) ∙ e);
       no_permit = λ m link i w d e. let k = there_then is_waiting requests p m progress.Placed refl l w in h.no_permit m link i k.1 d (sym (same m) ∙ e);
       no_place = λ m i a e. let k = there_then is_admitted requests p m progress.Placed refl l a in h.no_place m i k.1 (sym (same m) ∙ e);
       no_room = λ m i j e. h.no_room m i j (sym (same m) ∙ e);
@@ -371,6 +381,7 @@ waits_enqueued story requests link m fresh moved last placed shown h =
     record {
       early = h.early;
       connect = λ n w e. absurd (not_dialing (enqueued link m) e);
+      setup = λ n l u w e. absurd (not_setting (enqueued link m) l u e);
       permit = λ n l w e. h.permit n link w refl;
       place = λ n a. elim (h.place n a) [ inl i ↦ inl (in_left n moved (p ∷ []) i) | inr e ↦ inr e ];
       room = λ n i. elim (awaited_last n link.queue m i) [
@@ -380,6 +391,7 @@ waits_enqueued story requests link m fresh moved last placed shown h =
       newer = h.newer;
       rising = last;
       no_connect = λ n i w e. absurd (not_dialing (enqueued link m) e);
+      no_setup = λ n l u i w e. absurd (not_setting (enqueued link m) l u e);
       no_permit = λ n l i w e. h.no_permit n link i w refl;
       no_place = λ n i a. h.no_place n (earlier n (λ same. not_both (is_admitted_at requests n) (ap (is_admitted_at requests) (sym same) ∙ placed) a) i) a;
       no_room = λ n i j. by_test (p == n) _
@@ -396,8 +408,9 @@ waits_admitted story requests link p fresh moved w last h =
     let shown = shown_early (shown_wait story requests p) (h.early p w) in
     let earlier : (n : ℕ) → p ≢ n → IsIn n (moved ++ p ∷ []) → IsIn n moved = λ n other i. elim (in_either n moved (p ∷ []) i) [ inl j ↦ j | inr j ↦ elim j [ inl same ↦ absurd (other same) | inr k ↦ absurd k ] ] in
     record {
-      early = λ m v. let k = there_then is_waiting requests p m progress.Admitted refl l v in elim (h.early m k.1) [ inl e ↦ inl (same m ∙ e) | inr x ↦ inr (elim x [ inl e ↦ inl (same m ∙ e) | inr e ↦ inr (same m ∙ e) ]) ];
+      early = λ m v. let k = there_then is_waiting requests p m progress.Admitted refl l v in one_of (shown_wait story (at_progress requests p progress.Admitted) m) (shown_wait story requests m) (same m) (h.early m k.1);
       connect = λ m v d. absurd (not_dialing link d);
+      setup = λ m x u v d. absurd (not_setting link x u d);
       permit = λ m x v d. let k = there_then is_waiting requests p m progress.Admitted refl l v in elim (h.permit m link k.1 refl) [ inl e ↦ inl e | inr e ↦ inr (same m ∙ e) ];
       place = λ m a. by_test (p == m) _
           (λ t. inl (in_right m moved (p ∷ []) (inl (eq_from p m t))))
@@ -406,6 +419,7 @@ waits_admitted story requests link p fresh moved w last h =
       newer = subst (Rising 0 fresh) (sym (length_still requests p progress.Admitted)) h.newer;
       rising = subst (Rising 0 (moved ++ p ∷ [])) (sym (length_still requests p progress.Admitted)) last;
       no_connect = λ m i v d. absurd (not_dialing link d);
+      no_setup = λ m x u i v d. absurd (not_setting link x u d);
       no_permit = λ m x i v d e. let k = there_then is_waiting requests p m progress.Admitted refl l v in h.no_permit m link i k.1 refl (sym (same m) ∙ e);
       no_place = λ m i a e. by_test (p == m) _
           (λ t. shown.0 (ap (shown_wait story requests) (eq_from p m t) ∙ sym (same m) ∙ e))
@@ -462,6 +476,7 @@ place_tied b t link q waiting admitted yes_awaited next h =
       numbers = numbers_kept b _ _ (on_link t link) _ _ _ _ _ _ _ _ _ _ h.numbers;
       others = h.others;
       life = h.life;
+      setup = record { info_is = h.setup.info_is; sent = h.setup.sent; said = h.setup.said };
       link = λ e. subst (λ x. TiedLink x (b.link t.link) (enqueued link (message_of q))) (sym (owners_still t.requests p progress.Placed)) (enqueued_tied (owner_of t.requests) (b.link t.link) link (message_of q) (h.link refl));
       names = names_progressed t.table t.requests p progress.Placed h.names;
       story = λ n. story_further (b.story n) t.requests t.link p progress.Placed (slice_get t.table n) refl o (h.story n);
@@ -524,6 +539,7 @@ tell_tied b t link q waiting admitted not_awaited next h =
       numbers = numbers_kept b _ _ (on_link t link) _ _ _ _ _ _ _ _ _ _ h.numbers;
       others = h.others;
       life = h.life;
+      setup = record { info_is = h.setup.info_is; sent = h.setup.sent; said = h.setup.said };
       link = λ e. subst (λ x. TiedLink x (b.link t.link) (enqueued link (message_of q))) (sym (owners_with t.requests p progress.Closed 0)) (enqueued_tied (owner_of t.requests) (b.link t.link) link (message_of q) (h.link refl));
       names = names_with t.table t.requests p progress.Closed 0 h.names;
       story = λ m. story_closed b.story t.table t.requests t.link p done m h.names within refl (c m) (h.story m);
@@ -539,7 +555,7 @@ tell_tied b t link q waiting admitted not_awaited next h =
           (k.0, subst (λ x. k.0 < x) (sym still) k.1, name_with t.requests p progress.Closed 0 k.0 ∙ k.2, subst (IsIn k.0) (sym (queue_ids-push link.queue (message_of q))) (in_left k.0 (queue_ids link.queue) (p ∷ []) k.3)));
       waits = waits_enqueued after closed link (message_of q) t.fresh t.moved (subst (Rising 0 (t.moved ++ p ∷ [])) (sym still) next.last) (with_same is_admitted t.requests p progress.Closed 0 within)
           (λ e. (let gone : ◌≡◌ {A = Option WaitKind} None (Some wait.Room) = ap (λ (s : Story). s.waiting) same ∙ ap (λ x. (after x).waiting) (sym named) ∙ e in cc))
-          (waits_closed t.table b.story t.requests p done (Ready link) (Ready link) t.fresh t.moved h.names within (λ e. e) (λ l e. (link, refl))
+          (waits_closed t.table b.story t.requests p done (Ready link) (Ready link) t.fresh t.moved h.names within (λ e. e) (λ l u e. absurd (not_setting link l u e)) (λ l e. (link, refl))
           (λ m i.
           let queue = queue_ids link.queue in
           let kept = kept_ids t.admitted t.waiting in
@@ -571,6 +587,7 @@ admit_tied b t link q qs w is last h =
       numbers = numbers_kept b _ _ (record (on_link t link) { waiting = q ∷ qs; letting = q.number ∷ [] }) _ _ _ _ _ _ _ _ _ _ h.numbers;
       others = h.others;
       life = h.life;
+      setup = record { info_is = h.setup.info_is; sent = h.setup.sent; said = h.setup.said };
       link = λ e. subst (λ x. TiedLink x (b.link t.link) link) (sym (owners_still t.requests p now)) (h.link refl);
       names = names_progressed t.table t.requests p now h.names;
       story = λ n. story_further (b.story n) t.requests t.link p now (slice_get t.table n) refl o (h.story n);

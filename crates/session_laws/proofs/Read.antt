@@ -23,20 +23,23 @@ use Rattle.link_laws.proofs.Settles.{read_owed}
 use Rattle.link_laws.proofs.TiedLink.{TiedLink, deals, has_read, has_heard, reads_on, heard_is, read_tied}
 use Rattle.mux_conn.specs.declared.connection.MultiplexedConnection.{MultiplexedConnection}
 use Rattle.mux_conn.specs.declared.life.Life.{Life}
-use Rattle.mux_conn.specs.declared.life.Life.TheVariants.{Dialing, Ready, Ended}
+use Rattle.mux_conn.specs.declared.life.Life.TheVariants.{Dialing, SettingUp, Ready, Ended}
 use Rattle.mux_conn.specs.declared.request.Request.{Request}
 use Rattle.mux_conn.specs.declared.request.Waiting.{Waiting}
 use Rattle.mux_conn.specs.Connection.{Work}
 use Rattle.mux_conn.specs.Requests.{is_open_at, name_at}
-use Rattle.mux_conn.specs.Effects.{settled_each, failed_at, read_to, read_at}
+use Rattle.mux_conn.specs.Effects.{settled_each, failed_at, read_to, read_at, read_setup}
 use Rattle.shared_session.specs.declared.core_state.Core.{Core}
 use Rattle.shared_session.specs.Turn.{with_work, is_bad}
-use Rattle.legal_trace.specs.Ledger.{Ledger, by_fault, ending}
+use Rattle.legal_trace.specs.Ledger.{Ledger, by_fault, ending, is_set_up}
 use Rattle.legal_trace.specs.Story.{Story}
 use Rattle.legal_trace.specs.Book.{Book, book}
 use Rattle.legal_trace.specs.Owed.{owed}
 use Rattle.session_laws.proofs.Numbers.{IsIn, Rising}
-use Rattle.session_laws.proofs.Tied.{inner, link_in, owner_of, queue_ids, IsEntry, TiedLife, TiedLines, AreQueued, TiedWaits, has_ended}
+use Rattle.session_laws.proofs.Tied.{inner, link_in, owner_of, queue_ids, IsEntry, TiedLife, TiedLines, TiedSetup, AreQueued, TiedWaits, has_ended}
+use Rattle.session_laws.proofs.SetUp.{set_up_hears}
+use Rattle.session_laws.proofs.Said.{ending_ready}
+use Rattle.session_laws.proofs.ReadSetup.{setup_read}
 use Rattle.session_laws.proofs.States.{IsFit, IsFitIn, Between, HasApplied}
 use Rattle.session_laws.proofs.InLine.{kept_ids, IsInLine}
 use Rattle.session_laws.proofs.Owes.{in_line}
@@ -93,10 +96,10 @@ read_in_line requests link piece admitted waiting r =
     subst (λ ns. Rising 0 ns (length requests)) (ap (λ ns. ns ++ later) (sym (read_wanted link piece)) ∙ append_assoc ids rows later) r
 
 -- what ends the link is what breaks it
-read_ending : (name : ℕ → Owner) (l : Ledger) (link : LinkState) (piece : List ℕ) → l.up ≡ true → TiedLink name (has_heard l piece) (has_read link piece)
+read_ending : (name : ℕ → Owner) (l : Ledger) (link : LinkState) (piece : List ℕ) → l.up ≡ true → is_set_up (has_heard l piece) ≡ true → TiedLink name (has_heard l piece) (has_read link piece)
     → ending (has_heard l piece) ≡ (if (has_read link piece).broken then Some (by_fault fault.Parse) else None)
-read_ending name l link piece up h =
-    taken_if l.up (if is_spoiled (has_heard l piece).rest then Some (by_fault fault.Parse) else None) _ up
+read_ending name l link piece up well h =
+    ending_ready (has_heard l piece) up well
     ∙ ap (λ (b : Bool). if b then Some (by_fault fault.Parse) else None) (ap is_spoiled h.rest ∙ sym h.broken)
 
 -- a link that is not broken is fit
@@ -114,10 +117,12 @@ read_begins before c started word kind piece link h good k is e =
     let l = b.link c.single.link in
     let conn = c.single.connection in
     let name = owner_of conn.requests in
-    let u = up_tied name l b.created conn.life link e h.sound.tied.life h.sound.tied.link in
+    let u = up_tied b (inner c started) link e h.sound.tied in
+    let said = subst (λ (x : Life). TiedSetup l conn.info started x) e h.sound.tied.setup in
     let same : heard_by b c (came piece) ≡ has_heard l piece = heard_is l c.turns piece u.up in
     let begins = heard_begins before c started word kind (came piece) (Ready (has_read link piece)) (settled_ids (deals link piece).out) h good k is (record {
       lived = subst (λ (x : Ledger). TiedLife x b.created (Ready (has_read link piece))) (sym same) (u.asked, u.up, u.alive, u.shown);
+      said = subst (λ (x : Ledger). TiedSetup x conn.info started (Ready (has_read link piece))) (sym same) (record { info_is = said.info_is; sent = said.sent; said = set_up_hears l piece said.sent said.said });
       linked = λ n. subst (λ (x : Ledger). TiedLink name x (has_read link piece)) (sym same) (read_tied name l link piece u.alive u.tied);
       lines = read_lines b.story conn.requests link piece conn.waiting conn.admitted started (subst (λ (x : Life). TiedLines b.story conn.requests (link_in x) conn.waiting conn.admitted [] started) e h.sound.tied.lines);
       told = λ n. subst (λ (x : Life). AreQueued b.story conn.requests (link_in x)) e (h.sound.tied.told (ap has_ended e));
@@ -143,7 +148,7 @@ read_answered before c started word kind piece link h good k is e =
     let l = b.link c.single.link in
     let conn = c.single.connection in
     let name = owner_of conn.requests in
-    let u = up_tied name l b.created conn.life link e h.sound.tied.life h.sound.tied.link in
+    let u = up_tied b (inner c started) link e h.sound.tied in
     let begins = read_begins before c started word kind piece link h good k is e in
     let front = before ++ turn_of c word kind ∷ [] in
     let f = turned c kind in
@@ -162,6 +167,7 @@ read_answered before c started word kind piece link h good k is e =
 -- a connection whose link is up is fit where the link is
 fit_by : (c : MultiplexedConnection) (size bound : ℕ) (link : LinkState) → c.size ≡ size → c.boundary ≡ bound → c.life ≡ Ready link → ((x : LinkState) → Ready link ≡ Ready x → IsFit size bound x) → IsFitIn c
 fit_by c size bound link size_is bound_is life h = record {
+  setup = λ x u same. (let no : Ready link ≡ SettingUp x u = sym life ∙ same in cc);
   link = λ x same. subst (λ n. IsFit n c.boundary x) (sym size_is) (subst (λ n. IsFit size n x) (sym bound_is) (h x (sym life ∙ same)));
   none = λ none. absurd (none link life);
 }
@@ -174,7 +180,8 @@ read_on before c started word kind piece link h good k is e =
     let b = book before in
     let l = b.link c.single.link in
     let name = owner_of c.single.connection.requests in
-    let u = up_tied name l b.created c.single.connection.life link e h.sound.tied.life h.sound.tied.link in
+    let u = up_tied b (inner c started) link e h.sound.tied in
+    let said = subst (λ (x : Life). TiedSetup l c.single.connection.info started x) e h.sound.tied.setup in
     let begins = read_begins before c started word kind piece link h good k is e in
     let a = read_answered before c started word kind piece link h good k is e in
     let front = before ++ turn_of c word kind ∷ [] in
@@ -182,7 +189,7 @@ read_on before c started word kind piece link h good k is e =
     let after = has_read link piece in
     let v = settled_each (reads c link piece) (deals link piece).out in
     let still = settled_leaves (reads c link piece) (deals link piece).out in
-    let ends_so = ap ending (a.ledger_is ∙ begins.ledger) ∙ read_ending name l link piece u.up (read_tied name l link piece u.alive u.tied) in
+    let ends_so = ap ending (a.ledger_is ∙ begins.ledger) ∙ read_ending name l link piece u.up (set_up_hears l piece said.sent said.said).well (read_tied name l link piece u.alive u.tied) in
     chosen (λ (x : Work). HasApplied front (with_work (record { core = f; acts = [] }) x) started) after.broken (failed_at v fault.Parse v.conn.life) v
     (λ t. ended_applied front f (failed_at v fault.Parse v.conn.life) error.Closed started (λ z. absurd (omega arith))
     (subst (λ (x : Life). (failed_at v fault.Parse x).conn.moved ≡ []) (sym still.life) (ended_moved v (row_hit fault.Parse after.row ++ queue_closed after.queue) ∙ still.moved ∙ h.moved))
@@ -204,6 +211,9 @@ read_applied before c started word kind piece h good k is = by_life c.single.con
     by_life : (x : Life) → c.single.connection.life ≡ x → HasApplied (before ++ turn_of c word kind ∷ []) (with_work (record { core = turned c kind; acts = [] }) (read_at (record { conn = c.single.connection; acts = [] }) piece x)) started
     by_life Dialing e = dialing_quiet before c started word kind (came piece) tt h good k is e
     by_life (Ended x) e = ended_quiet before c started word kind (came piece) x h good k is e
+    by_life (SettingUp link with_user) e =
+        subst (λ (s : Settling). HasApplied (before ++ turn_of c word kind ∷ []) (with_work (record { core = turned c kind; acts = [] }) (read_setup (record { conn = c.single.connection; acts = [] }) with_user s)) started)
+        (sym (reads_on link [] piece (h.fit.setup link with_user e).sound)) (setup_read before c started word kind piece link with_user h good k is e)
     by_life (Ready link) e =
         subst (λ (s : Settling). HasApplied (before ++ turn_of c word kind ∷ []) (with_work (record { core = turned c kind; acts = [] }) (read_to (record { conn = c.single.connection; acts = [] }) s)) started)
         (sym (reads_on link [] piece (h.fit.link link e).sound)) (read_on before c started word kind piece link h good k is e)

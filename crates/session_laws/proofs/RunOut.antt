@@ -1,28 +1,23 @@
 -- When numbers run out.
-use Rattle.std.proofs.Common.{Bool, List, Some, [], ap, arith, false, inl, inr, length, nat_le, refl, slice_get, subst, suc, sym, true, ℕ, ◌++◌, ◌+◌, ◌<◌, ◌∙◌, ◌∷◌, ◌≡◌, ◌≤◌, ◌⊎◌}
+use Rattle.std.proofs.Common.{Bool, List, [], ap, arith, false, inl, inr, length, nat_le, refl, subst, sym, true, ℕ, ◌++◌, ◌+◌, ◌<◌, ◌∙◌, ◌∷◌, ◌≡◌, ◌≤◌, ◌⊎◌}
 use Rattle.std.specs.Prelude.{◌==◌, ◌^◌, ◌||◌}
 use Rattle.std.proofs.lemmas.List.{length_push}
-use Rattle.containers.proofs.Places.{get_within}
-use Rattle.containers.proofs.Choices.{by_test, eq_from, le_from, le_test, ne_from}
+use Rattle.containers.proofs.Choices.{by_test, eq_from, le_from, le_test, ne_from, not_both}
 use Rattle.driver_model.specs.declared.config.Config.{Config}
 use Rattle.driver_model.specs.declared.event.Event.{Event}
 use Rattle.driver_model.specs.declared.action.Purpose.{Purpose}
+use Rattle.link_laws.proofs.TiedLink.{TiedLink}
 use Rattle.mux_conn.specs.Connection.{is_spent_in, started_in}
 use Rattle.mux_conn.specs.declared.life.Life.{Life}
-use Rattle.mux_conn.specs.declared.life.Life.TheVariants.{Dialing, Ended, Ready}
-use Rattle.mux_conn.specs.declared.request.Request.{Request}
+use Rattle.mux_conn.specs.declared.life.Life.TheVariants.{Dialing, Ended, Ready, SettingUp}
 use Rattle.shared_session.specs.Replay.{AreGood, AreGoodOn, is_bad_after, is_spent_after, opening_core, run_on, state_after, trace_of, IsSound}
 use Rattle.shared_session.specs.Turn.{is_bad, has_run_out, spends, next_turn}
 use Rattle.shared_session.specs.declared.core_state.Core.{Core}
 use Rattle.legal_trace.specs.Book.{Book, book}
 use Rattle.legal_trace.specs.Events.{HasRunOut}
-use Rattle.legal_trace.specs.Ledger.{Start}
 use Rattle.shared_session.proofs.Replays.{state_after-more, turns_after}
-use Rattle.session_laws.proofs.InLine.{kept_ids}
 use Rattle.session_laws.proofs.Legality.{replay_between}
-use Rattle.session_laws.proofs.Numbers.{Rising, rising_left}
-use Rattle.session_laws.proofs.Start.{owners_length}
-use Rattle.session_laws.proofs.Tied.{Inner, Tied, inner, link_in, queue_ids, has_ended}
+use Rattle.session_laws.proofs.Tied.{Inner, Tied, TiedLife, carried, has_ended, inner, whole_link}
 
 -- one event more
 --
@@ -42,65 +37,27 @@ turn_counted config word events e =
     let one_more : (state_after config word (events ++ e ∷ [])).turns ≡ (state_after config word events).turns + 1 = omega (arith, turns_after config word (events ++ e ∷ []), turns_after config word events, length_push events e) in
     ap (λ (c : Core). c.turns) (sym (state_after-more config word events e)) ∙ one_more
 
--- how many there are of each sort
---
-rising_length : (lo : ℕ) (xs : List ℕ) (hi : ℕ) → Rising lo xs hi → lo + length xs ≤ hi
-rising_length lo [] hi h = let l : lo ≤ hi = h in omega arith
-rising_length lo (x ∷ xs) hi h = let l : lo ≤ x = h.0 in let k = rising_length (suc x) xs hi h.1 in omega arith
-
--- the names of requests, in order
-abbrev names_of : List Request → List ℕ
-names_of [] = []
-names_of (r ∷ rs) = r.name ∷ names_of rs
-
--- as many as requests
-names_length : (requests : List Request) → length (names_of requests) ≡ length requests
-names_length [] = refl
-names_length (r ∷ rs) = ap suc (names_length rs)
-
--- they rise where those of neighbours do
-names_rising : (lo : ℕ) (requests : List Request) (hi : ℕ) → ((p : ℕ) (r : Request) → slice_get requests p ≡ Some r → (lo ≤ r.name) × (r.name < hi)) → ((p q : ℕ) (r s : Request) → p < q → slice_get requests p ≡ Some r → slice_get requests q ≡ Some s → r.name < s.name)
-    → lo ≤ hi → Rising lo (names_of requests) hi
-names_rising lo [] hi within rise least = least
-names_rising lo (r ∷ rs) hi within rise least = (
-  (within 0 r refl).0,
-  names_rising (suc r.name) rs hi
-      (λ p s e. let l = rise 0 (suc p) r s (omega arith) refl e in let k = within (suc p) s e in (omega arith, k.1))
-      (λ p q s t l e i. rise (suc p) (suc q) s t (omega arith) e i)
-      (let k = (within 0 r refl).1 in omega arith),
-)
-
--- a session has no more requests than submissions
-requests_fewer : (b : Book) (t : Inner) → Tied b t → length t.requests ≤ length t.table
-requests_fewer b t h =
-    let rises = names_rising 0 t.requests (length t.table)
-    (λ p r e. (omega arith, get_within t.table r.name (Some (record { number = p })) (h.names.named p r e)))
-    h.names.rising (omega arith) in
-    let l = rising_length 0 (names_of t.requests) (length t.table) rises in
-    let k = names_length t.requests in
-    omega arith
-
--- and no more started messages than requests
-starts_fewer : (b : Book) (t : Inner) → Tied b t → length (b.link t.link).starts ≤ length t.requests
-starts_fewer b t h =
-    let l = rising_length 0 t.started (length t.requests) (rising_left 0 t.started (queue_ids (link_in t.life).queue ++ kept_ids t.admitted t.waiting) (length t.requests) h.lines.line) in
-    let k = owners_length (b.link t.link).starts t.requests t.started h.tries.owners in
-    omega arith
-
 -- where the session is spent, numbers have run out
 --
-started_here : (b : Book) (t : Inner) → Tied b t → started_in t.life ≤ length (b.link t.link).starts
-started_here b t h = by_life t.life refl
+-- the link of a session that is spent is up
+spent_up : (b : Book) (t : Inner) → Tied b t → is_spent_in t.life ≡ true → (b.link t.link).up ≡ true
+spent_up b t h e = by_life t.life h.life e
   where
-    by_life : (life : Life) → t.life ≡ life → started_in t.life ≤ length (b.link t.link).starts
-    by_life Dialing e = let z = ap started_in e in omega arith
-    by_life (Ended x) e = let z = ap started_in e in omega arith
-    by_life (Ready link) e =
-        let z = ap started_in e in
-        let k = h.link (ap has_ended e) in
-        let s = k.started in
-        let i = ap (λ (x : Life). (link_in x).started) e in
-        omega arith
+    by_life : (life : Life) → TiedLife (b.link t.link) b.created life → is_spent_in life ≡ true → (b.link t.link).up ≡ true
+    by_life Dialing k s = absurd (let far = le_from (2 ^ 32) 0 s in omega arith)
+    by_life (SettingUp link with_user) k s = k.1
+    by_life (Ready link) k s = k.1
+    by_life (Ended x) k s = absurd (let far = le_from (2 ^ 32) 0 s in omega arith)
+
+-- and a link that is up has started as many messages
+up_started : (b : Book) (t : Inner) → Tied b t → (b.link t.link).up ≡ true → started_in t.life ≡ length (b.link t.link).starts
+up_started b t h up = by_life t.life h.life h.link
+  where
+    by_life : (life : Life) → TiedLife (b.link t.link) b.created life → (has_ended life ≡ false → TiedLink (carried life t.requests) (b.link t.link) (whole_link life)) → started_in life ≡ length (b.link t.link).starts
+    by_life Dialing k tied = absurd (not_both (b.link t.link).up k.1 up)
+    by_life (SettingUp link with_user) k tied = (tied refl).started
+    by_life (Ready link) k tied = (tied refl).started
+    by_life (Ended x) k tied = absurd (not_both (b.link t.link).up k.0 up)
 
 -- one of four tests
 either_true : (a b c d : Bool) → (a || (b || (c || d))) ≡ true → (a ≡ true) ⊎ ((b ≡ true) ⊎ ((c ≡ true) ⊎ (d ≡ true)))
@@ -113,10 +70,6 @@ either_true false false false d e = inr (inr (inr e))
 turns_out : (bound turns now next : ℕ) → bound ≤ turns → now ≡ next → next ≡ turns + 1 → bound < now
 turns_out bound turns now next l e i = omega arith
 
--- what is not smaller
-at_least : (bound n m : ℕ) → bound ≤ n → n ≤ m → bound ≤ m
-at_least bound n m l k = omega arith
-
 -- what is as many
 as_many : (bound n m : ℕ) → bound ≤ n → m ≡ n → bound ≤ m
 as_many bound n m l e = omega arith
@@ -127,7 +80,7 @@ run_out_of b t turns h count e =
     elim (either_true (nat_le (2 ^ 32) turns) (is_spent_in t.life) (nat_le (2 ^ 32) (length t.table)) (nat_le (2 ^ 32) (length t.timers)) e) [
       | inl x ↦ inl (turns_out (2 ^ 32) turns b.turns t.turns (le_from (2 ^ 32) turns x) h.numbers.turns count)
       | inr x ↦ elim x [
-        | inl y ↦ inr (inr (inr (inr (t.link, at_least (2 ^ 32) (started_in t.life) (length (b.link t.link).starts) (le_from (2 ^ 32) (started_in t.life) y) (started_here b t h)))))
+        | inl y ↦ let up = spent_up b t h y in inr (inr (inr (inr (t.link, up, as_many (2 ^ 32) (started_in t.life) (length (b.link t.link).starts) (le_from (2 ^ 32) (started_in t.life) y) (sym (up_started b t h up))))))
         | inr y ↦ elim y [
           | inl z ↦ inr (inl (as_many (2 ^ 32) (length t.table) b.submissions (le_from (2 ^ 32) (length t.table) z) h.numbers.submissions))
           | inr z ↦ inr (inr (inr (inl (subst (λ (ts : List Purpose). 2 ^ 32 ≤ length ts) (sym h.numbers.timers) (le_from (2 ^ 32) (length t.timers) z)))))
@@ -140,6 +93,12 @@ run_out_of b t turns h count e =
 first_true : (a b c d : Bool) → a ≡ true → (a || (b || (c || d))) ≡ true
 first_true true b c d e = refl
 first_true false b c d e = cc
+
+-- the second of four tests
+second_true : (a b c d : Bool) → b ≡ true → (a || (b || (c || d))) ≡ true
+second_true true b c d e = refl
+second_true false true c d e = refl
+second_true false false c d e = cc
 
 -- the third of four tests
 third_true : (a b c d : Bool) → c ≡ true → (a || (b || (c || d))) ≡ true
@@ -172,10 +131,6 @@ one_link b t h many =
     more_than_one : (n : ℕ) → 2 ^ 32 ≤ n → 1 < n
     more_than_one n l = omega arith
 
--- no messages are not that many
-none_started_many : (starts : List Start) → starts ≡ [] → 2 ^ 32 ≤ length starts → ⊥
-none_started_many starts e many = let z : length starts ≡ 0 = ap length e in omega arith
-
 -- by the numbers of the session
 pub spent_of : (b : Book) (t : Inner) (turns : ℕ) → Tied b t → t.turns ≡ turns + 1 → HasRunOut b → (nat_le (2 ^ 32) turns || (is_spent_in t.life || (nat_le (2 ^ 32) (length t.table) || nat_le (2 ^ 32) (length t.timers)))) ≡ true
 spent_of b t turns h count out =
@@ -193,10 +148,11 @@ spent_of b t turns h count out =
             | inl l ↦ last_true first second third last (le_test (2 ^ 32) (length t.timers) (subst (λ (ts : List Purpose). 2 ^ 32 ≤ length ts) h.numbers.timers l))
             | inr m ↦ by_test (m.0 == t.link) _
                 (λ e.
-                let here = subst (λ l. 2 ^ 32 ≤ length (b.link l).starts) (eq_from m.0 t.link e) m.1 in
-                let within = at_least (2 ^ 32) (length t.requests) (length t.table) (at_least (2 ^ 32) (length (b.link t.link).starts) (length t.requests) here (starts_fewer b t h)) (requests_fewer b t h) in
-                third_true first second third last (le_test (2 ^ 32) (length t.table) within))
-                (λ o. absurd (none_started_many (b.link m.0).starts (h.others m.0 (ne_from m.0 t.link o)).starts m.1))
+                let same = eq_from m.0 t.link e in
+                let up = subst (λ l. (b.link l).up ≡ true) same m.1 in
+                let here = subst (λ l. 2 ^ 32 ≤ length (b.link l).starts) same m.2 in
+                second_true first second third last (le_test (2 ^ 32) (started_in t.life) (as_many (2 ^ 32) (length (b.link t.link).starts) (started_in t.life) here (up_started b t h up))))
+                (λ o. absurd (not_both (b.link m.0).up (h.others m.0 (ne_from m.0 t.link o)).up m.1))
           ]
         ]
       ]

@@ -10,31 +10,31 @@ use Rattle.link_core.specs.Link.{LinkState, first_in}
 use Rattle.link_core.specs.declared.message.Queued.{Queued}
 use Rattle.link_laws.proofs.Started.{row_open}
 use Rattle.link_laws.specs.Settles.{StandsAs, awaited_ids, wanted}
-use Rattle.mux_conn.specs.Connection.{Work, awaits_connect, first_queued, is_ready}
+use Rattle.mux_conn.specs.Connection.{Work, first_queued, is_ready}
 use Rattle.mux_conn.specs.Passes.{passed}
 use Rattle.mux_conn.specs.Requests.{is_admitted_at, is_open_at, is_placed_at, is_waiting, is_waiting_at, name_at}
-use Rattle.mux_conn.specs.Turn.{flushed, fresh_each_shown, fresh_wait, is_from, moved_each_shown, moved_wait, wait_shown, waits_shown}
+use Rattle.mux_conn.specs.Turn.{early_wait, flushed, fresh_each_shown, fresh_wait, is_from, moved_each_shown, moved_wait, wait_shown, waits_shown}
 use Rattle.mux_conn.specs.declared.act.LinkAct.TheVariants as act
 use Rattle.mux_conn.specs.declared.connection.MultiplexedConnection.{MultiplexedConnection}
 use Rattle.redis_error.specs.declared.redis_error.RedisError.{RedisError}
 use Rattle.mux_conn.specs.declared.life.Life.{Life}
-use Rattle.mux_conn.specs.declared.life.Life.TheVariants.{Dialing, Ended, Ready}
+use Rattle.mux_conn.specs.declared.life.Life.TheVariants.{Dialing, Ended, Ready, SettingUp}
 use Rattle.shared_session.specs.Turn.{Turning, moved_on, timed, with_work, work_of}
 use Rattle.shared_session.specs.declared.core_state.Core.{Core}
 use Rattle.legal_trace.specs.Book.{Book, book}
 use Rattle.legal_trace.specs.Legal.{IsMoved, IsSettled, IsStarted, IsWaiting, IsWritten, NoneEnds, WaitHolds}
 use Rattle.legal_trace.specs.Story.{last_of}
-use Rattle.session_laws.proofs.Ahead.{dialing_step, placed_open, waiting_open, admitted_open}
+use Rattle.session_laws.proofs.Ahead.{dialing_step, placed_open, setup_step, waiting_open, admitted_open}
 use Rattle.session_laws.proofs.Going.{is_moved}
 use Rattle.session_laws.proofs.InLine.{awaited_in, first_is_least, kept_ids, wanted_in}
 use Rattle.session_laws.proofs.Moved.{IsReady, passed_moved}
 use Rattle.session_laws.proofs.Names.{open_within, there_within}
 use Rattle.session_laws.proofs.Numbers.{IsIn, Rising, in_left, in_right, rising_in, rising_left, rising_right}
-use Rattle.session_laws.proofs.Owes.{IsOpenRequest, lives, none_open, open_request, request_story, stands_started, wanted_entry}
+use Rattle.session_laws.proofs.Owes.{IsOpenRequest, lives, none_open, open_request, request_story, row_link, stands_started, wanted_entry}
 use Rattle.session_laws.proofs.Settle.{book_of_more, seen, sound_act, trace_of_acts}
 use Rattle.session_laws.proofs.States.{Between, HasApplied, IsFitIn, IsStill, trace_with}
 use Rattle.session_laws.proofs.Tied.{Inner, Sound, Tied, TiedLife, TiedWaits, has_ended, link_in, owner_of, queue_ids, relined, shown_wait, waiting_ids}
-use Rattle.session_laws.proofs.Waits.{IsEarly, IsPlacedOrKept, IsQuiet, WaitsSo, admitted_there, admitted_unplaced, awaited_placed, behind_places, dialing_admits, fresh_waits, located, moved_waits, passed_waits, permit_holds, place_holds, placed_there, room_holds, stale_waits, wait_may, wait_tied, waiting_apart, waiting_is, waiting_there, waits_at, with_unshown}
+use Rattle.session_laws.proofs.Waits.{IsEarly, IsPlacedOrKept, IsQuiet, WaitsSo, admitted_there, admitted_unplaced, awaited_placed, behind_places, down_admits, fresh_waits, located, moved_waits, passed_waits, permit_holds, place_holds, placed_there, room_holds, stale_waits, wait_may, wait_tied, waiting_apart, waiting_is, waiting_there, waits_at, with_unshown}
 use Rattle.session_laws.proofs.Write.{HasWritten, IsOfferedIn, is_written, written_holds}
 
 -- the bytes of a turn are offered, and its waits are shown but for these: of those that were moved, and of those that came
@@ -52,14 +52,14 @@ unshown f w moved fresh started = with_unshown (seen f w.acts w.conn [] started)
 
 -- nothing moves in it
 showing_quiet : (before : List Action) (f : Core) (w : Work) (moved fresh started : List ℕ) → IsShowing before f w moved fresh started → IsQuiet (unshown f w moved fresh started)
-showing_quiet before f w moved fresh started h = record { settled = refl; alone = refl; fit = h.fit.link; none = h.fit.none; held = h.still.held; full = h.still.full; waiting = h.still.waiting; gone = h.still.none_waits }
+showing_quiet before f w moved fresh started h = record { settled = refl; alone = refl; fit = h.fit.link; setup_fit = h.fit.setup; none = h.fit.none; setup_held = h.still.setup; held = h.still.held; full = h.still.full; waiting = h.still.waiting; gone = h.still.none_waits }
 
 -- and its book has all its writes
 showing_written : (before : List Action) (f : Core) (w : Work) (moved fresh started : List ℕ) → IsShowing before f w moved fresh started → IsWritten (book (trace_of_acts before f w.acts))
 showing_written before f w moved fresh started h =
     let b = book (trace_of_acts before f w.acts) in
     let t = unshown f w moved fresh started in
-    let all : IsMoved b = is_moved b t h.sound.tied refl refl h.ended h.fit.link h.fit.none h.still.held h.still.full h.still.waiting h.still.none_waits in
+    let all : IsMoved b = is_moved b t h.sound.tied refl refl h.ended h.fit.link h.fit.none h.still.held h.still.full h.still.waiting h.still.none_waits h.fit.setup h.still.setup in
     is_written b t h.sound.tied all h.offered
 
 -- other waits are still to be shown
@@ -211,6 +211,8 @@ moved_each_up before f w (p ∷ ps) fresh started link e h =
 none_from : (life : Life) (p : ℕ) (placed : Bool) → is_ready life ≡ false → (placed && is_from (first_queued life) p) ≡ false
 none_from Dialing p true f = refl
 none_from Dialing p false f = refl
+none_from (SettingUp link with_user) p true f = refl
+none_from (SettingUp link with_user) p false f = refl
 none_from (Ready link) p placed f = cc
 none_from (Ended e) p true f = refl
 none_from (Ended e) p false f = refl
@@ -228,12 +230,14 @@ down_waits : (b : Book) (t : Inner) → Tied b t → is_ready t.life ≡ false �
 down_waits b t h down none = record {
   early = h.waits.early;
   connect = h.waits.connect;
+  setup = h.waits.setup;
   permit = h.waits.permit;
   place = λ p a. absurd (not_both (is_admitted_at t.requests p) (none p) a);
   room = λ p r. absurd (no_queue t.life p down r);
   newer = h.waits.newer;
   rising = omega arith;
   no_connect = h.waits.no_connect;
+  no_setup = h.waits.no_setup;
   no_permit = h.waits.no_permit;
   no_place = λ p i. absurd i;
   no_room = λ p i. absurd i;
@@ -241,6 +245,7 @@ down_waits b t h down none = record {
   where
     no_queue : (life : Life) (p : ℕ) → is_ready life ≡ false → IsIn p (awaited_ids (link_in life).queue) → ⊥
     no_queue Dialing p f i = i
+    no_queue (SettingUp link with_user) p f i = i
     no_queue (Ready link) p f i = cc
     no_queue (Ended e) p f i = i
 
@@ -257,16 +262,18 @@ ended_admits b t p x h q e = by_test (is_admitted_at t.requests p) _ (λ a. absu
 -- those that came in this turn, or whose connect was answered in it
 --
 -- which wait they show
-early_kind : (t : Inner) → has_ended t.life ≡ false → IsEarly t (if awaits_connect t.life then wait.Connect else wait.Permit)
+early_kind : (t : Inner) → has_ended t.life ≡ false → IsEarly t (early_wait t.life)
 early_kind t up = record {
   either = by_life t.life up;
-  connect = λ e. ap (λ (x : Life). if awaits_connect x then wait.Connect else wait.Permit) e;
-  permit = λ link e. ap (λ (x : Life). if awaits_connect x then wait.Connect else wait.Permit) e;
+  connect = λ e. ap early_wait e;
+  setup = λ link u e. ap early_wait e;
+  permit = λ link e. ap early_wait e;
 }
   where
-    by_life : (x : Life) → has_ended x ≡ false → ((if awaits_connect x then wait.Connect else wait.Permit) ≡ wait.Connect) ⊎ ((if awaits_connect x then wait.Connect else wait.Permit) ≡ wait.Permit)
+    by_life : (x : Life) → has_ended x ≡ false → (early_wait x ≡ wait.Connect) ⊎ ((early_wait x ≡ wait.Setup) ⊎ (early_wait x ≡ wait.Permit))
     by_life Dialing f = inl refl
-    by_life (Ready link) f = inr refl
+    by_life (SettingUp link with_user) f = inr (inl refl)
+    by_life (Ready link) f = inr (inr refl)
     by_life (Ended x) f = cc
 
 -- its wait is true, and was not shown
@@ -275,16 +282,18 @@ record EarlyHolds (b : Book) (t : Inner) (p : ℕ) (kind : WaitKind) : Type 0 wh
   pub holds : WaitHolds b (name_at t.requests p) kind
 
 -- of the first of them
-early_holds : (b : Book) (t : Inner) (p : ℕ) (ps : List ℕ) → Tied b t → IsQuiet t → t.fresh ≡ p ∷ ps → has_ended t.life ≡ false → is_waiting_at t.requests p ≡ true → EarlyHolds b t p (if awaits_connect t.life then wait.Connect else wait.Permit)
+early_holds : (b : Book) (t : Inner) (p : ℕ) (ps : List ℕ) → Tied b t → IsQuiet t → t.fresh ≡ p ∷ ps → has_ended t.life ≡ false → is_waiting_at t.requests p ≡ true → EarlyHolds b t p (early_wait t.life)
 early_holds b t p ps h q is up w = by_life t.life refl
   where
     first : IsIn p t.fresh
     first = subst (IsIn p) (sym is) (inl refl)
 
-    by_life : (x : Life) → t.life ≡ x → EarlyHolds b t p (if awaits_connect t.life then wait.Connect else wait.Permit)
-    by_life Dialing e = subst (λ (x : Life). EarlyHolds b t p (if awaits_connect x then wait.Connect else wait.Permit)) (sym e)
+    by_life : (x : Life) → t.life ≡ x → EarlyHolds b t p (early_wait t.life)
+    by_life Dialing e = subst (λ (x : Life). EarlyHolds b t p (early_wait x)) (sym e)
         (record { new = h.waits.no_connect p first w e; holds = dialing_step b t p h e (there_within is_waiting t.requests p w) })
-    by_life (Ready link) e = subst (λ (x : Life). EarlyHolds b t p (if awaits_connect x then wait.Connect else wait.Permit)) (sym e)
+    by_life (SettingUp link with_user) e = subst (λ (x : Life). EarlyHolds b t p (early_wait x)) (sym e)
+        (record { new = h.waits.no_setup p link with_user first w e; holds = setup_step b t p link with_user h e (there_within is_waiting t.requests p w) })
+    by_life (Ready link) e = subst (λ (x : Life). EarlyHolds b t p (early_wait x)) (sym e)
         (record { new = h.waits.no_permit p link first w e; holds = permit_holds b t p link h q e w (waiting_there b t p h q.settled w) })
     by_life (Ended x) e = absurd (ended_none b t p x h q e (waiting_open t.requests p w))
 
@@ -294,6 +303,7 @@ waiting_alive b t p h q w = by_life t.life refl
   where
     by_life : (x : Life) → t.life ≡ x → has_ended t.life ≡ false
     by_life Dialing e = ap has_ended e
+    by_life (SettingUp link with_user) e = ap has_ended e
     by_life (Ready link) e = ap has_ended e
     by_life (Ended x) e = absurd (ended_none b t p x h q e (waiting_open t.requests p w))
 
@@ -303,7 +313,7 @@ fresh_shown_one before f w p ps started h =
     let b = book (trace_of_acts before f w.acts) in
     let t = unshown f w [] (p ∷ ps) started in
     let q = showing_quiet before f w [] (p ∷ ps) started h in
-    let kind = if awaits_connect w.conn.life then wait.Connect else wait.Permit in
+    let kind = early_wait w.conn.life in
     chosen (λ (x : Option WaitKind). IsShowing before f (wait_shown w p x) [] ps started) (is_waiting_at w.conn.requests p) (Some kind) None
     (λ v.
     let o = waiting_open w.conn.requests p v in
@@ -346,8 +356,8 @@ showing_unmoved : (before : List Action) (f : Core) (w : Work) (moved fresh star
 showing_unmoved before f w moved fresh started h = record {
   sound = h.sound;
   ended = h.ended;
-  fit = record { link = h.fit.link; none = h.fit.none };
-  still = record { held = h.still.held; full = h.still.full; waiting = h.still.waiting; none_waits = h.still.none_waits };
+  fit = record { setup = h.fit.setup; link = h.fit.link; none = h.fit.none };
+  still = record { setup = h.still.setup; held = h.still.held; full = h.still.full; waiting = h.still.waiting; none_waits = h.still.none_waits };
   offered = h.offered;
 }
 
@@ -356,8 +366,8 @@ showing_unfresh : (before : List Action) (f : Core) (w : Work) (moved fresh star
 showing_unfresh before f w moved fresh started h = record {
   sound = h.sound;
   ended = h.ended;
-  fit = record { link = h.fit.link; none = h.fit.none };
-  still = record { held = h.still.held; full = h.still.full; waiting = h.still.waiting; none_waits = h.still.none_waits };
+  fit = record { setup = h.fit.setup; link = h.fit.link; none = h.fit.none };
+  still = record { setup = h.still.setup; held = h.still.held; full = h.still.full; waiting = h.still.waiting; none_waits = h.still.none_waits };
   offered = h.offered;
 }
 
@@ -402,7 +412,8 @@ waits_hold before f w h = by_life w.conn.life refl
         subst last (sym (unmoved (none_moved w) w.conn.moved off none)) (shown_early before f (none_moved w) started refl settled)
 
     by_life : (life : Life) → w.conn.life ≡ life → HasShown before f (waits_shown w)
-    by_life Dialing e = down (ap is_ready e) (λ p. dialing_admits b t p first.sound.tied quiet e)
+    by_life Dialing e = down (ap is_ready e) (λ p. down_admits b t p Dialing first.sound.tied quiet refl e)
+    by_life (SettingUp link with_user) e = down (ap is_ready e) (λ p. down_admits b t p (SettingUp link with_user) first.sound.tied quiet refl e)
     by_life (Ended x) e = down (ap is_ready e) (λ p. ended_admits b t p x first.sound.tied quiet e)
     by_life (Ready link) e =
         let v = moved_each_shown (none_moved w) w.conn.moved in
@@ -420,12 +431,13 @@ row_goes b t n h written link life r i =
     let alive : has_ended t.life ≡ false = ap has_ended life in
     let within = open_within t.requests r.number r.open_at in
     let lives_on = lives l b.created t.life h.life alive in
-    let w = wanted_entry name l _ (link_in t.life).row r.number (row_open name l (link_in t.life) lives_on (h.link alive)) (wanted_in r.number (link_in t.life).row i) in
+    let w = wanted_entry name l _ (link_in t.life).row r.number (row_open name l (link_in t.life) lives_on (row_link l t.requests t.life r.number (wanted_in r.number (link_in t.life).row i) (h.link alive))) (wanted_in r.number (link_in t.life).row i) in
     let place = subst (λ m. StandsAs l.starts (name m) w.entry.shape w.number) w.is w.open_as.place in
+    let stands = stands_started b t r.number w.number w.entry.shape h within place in
     let up : l.up ≡ true = (subst (λ (x : Life). TiedLife l b.created x) life h.life).1 in
     record {
       try = record { link = t.link; message = w.number };
-      last = ap (λ m. last_of (b.story m).tries) (sym r.named) ∙ ap last_of (h.tries.tried w.number r.number (stands_started b t r.number w.number w.entry.shape h within place));
+      last = ap (λ m. last_of (b.story m).tries) (sym r.named) ∙ ap last_of (h.tries.tried stands.0 r.number stands.2 ∙ ap (λ m. record { link = t.link; message = m } ∷ []) (sym stands.1));
       up = up;
       takes_more = w.open_as.takes_more;
       offered = written.offered t.link up;
@@ -445,6 +457,7 @@ is_settled b t h q fresh moved written = record {
   where
     by_life : (n : ℕ) (r : IsOpenRequest t n) → IsIn r.number (wanted (link_in t.life).row) → (life : Life) → t.life ≡ life → IsStarted b n ⊎ IsWaiting b n
     by_life n r i Dialing e = absurd (subst (λ (x : Life). IsIn r.number (wanted (link_in x).row)) e i)
+    by_life n r i (SettingUp link with_user) e = absurd (subst (λ (x : Life). IsIn r.number (wanted (link_in x).row)) e i)
     by_life n r i (Ready link) e = inl (row_goes b t n h written link e r i)
     by_life n r i (Ended x) e = absurd (subst (λ (x : Life). IsIn r.number (wanted (link_in x).row)) e i)
 
@@ -462,7 +475,7 @@ shown_between before f w began h =
     let t = seen f w.acts w.conn [] h.started in
     let s = h.showing in
     let sound : Sound trace t = subst (λ ns. Sound trace (with_unshown t ns w.conn.fresh)) (sym h.moved) (subst (λ ns. Sound trace (with_unshown t [] ns)) (sym h.fresh) s.sound) in
-    let quiet : IsQuiet t = record { settled = refl; alone = refl; fit = s.fit.link; none = s.fit.none; held = s.still.held; full = s.still.full; waiting = s.still.waiting; gone = s.still.none_waits } in
+    let quiet : IsQuiet t = record { settled = refl; alone = refl; fit = s.fit.link; setup_fit = s.fit.setup; none = s.fit.none; setup_held = s.still.setup; held = s.still.held; full = s.still.full; waiting = s.still.waiting; gone = s.still.none_waits } in
     record {
       started = h.started;
       between = record {

@@ -1,13 +1,14 @@
 -- The first message of the queue starts.
-use Rattle.std.proofs.Common.{List, None, Some, [], ap, append_assoc, arith, false, inl, inr, length, refl, slice_get, subst, suc, sym, true, ℕ, ◌++◌, ◌<◌, ◌∙◌, ◌∷◌, ◌≡◌, ◌≢◌, ◌⊎◌}
+use Rattle.std.proofs.Common.{List, None, Some, [], ap, append_assoc, arith, false, inl, inr, length, refl, slice_get, subst, suc, sym, true, zero, ℕ, ◌+◌, ◌++◌, ◌<◌, ◌∙◌, ◌∷◌, ◌≡◌, ◌≢◌, ◌⊎◌}
 use Rattle.std.proofs.lemmas.List.{append-nil}
-use Rattle.std.specs.Prelude.{if◌then◌else◌, ◌==◌}
+use Rattle.std.specs.Prelude.{Bool, if◌then◌else◌, ◌==◌}
 use Rattle.containers.proofs.Places.{get_within}
 use Rattle.containers.proofs.Choices.{by_test, chosen, eq_test, left_if, ne_from, ne_test, not_both, taken_if}
 use Rattle.resp_read.specs.Frames.{within}
 use Rattle.driver_model.specs.Shape.{need_of}
 use Rattle.driver_model.specs.declared.action.Action.{Action}
 use Rattle.driver_model.specs.declared.action.Action.TheVariants as action
+use Rattle.driver_model.specs.declared.action.Owner.{Owner}
 use Rattle.driver_model.specs.declared.action.Owner.TheVariants as owner
 use Rattle.link_core.specs.Link.{LinkState, entry_of}
 use Rattle.link_core.specs.declared.message.Queued.{Queued}
@@ -16,11 +17,11 @@ use Rattle.link_laws.proofs.TiedLink.{all_push, begun_tied, queue_tied}
 use Rattle.link_laws.specs.Settles.{awaited_ids, wanted}
 use Rattle.link_laws.specs.Starts.{begun, start_from}
 use Rattle.mux_conn.specs.Requests.{is_admitted_at, is_open_at, is_placed_at, is_waiting_at, name_at}
-use Rattle.mux_conn.specs.declared.life.Life.TheVariants.{Dialing, Ready}
+use Rattle.mux_conn.specs.declared.life.Life.TheVariants.{Dialing, Ready, SettingUp}
 use Rattle.mux_conn.specs.declared.request.Request.{Request}
 use Rattle.mux_conn.specs.declared.request.Waiting.{Waiting}
 use Rattle.legal_trace.specs.Book.{Book, entered, if_own, message_of}
-use Rattle.legal_trace.specs.Ledger.{Ledger, Start, begins, noted}
+use Rattle.legal_trace.specs.Ledger.{Ledger, Start, begins, is_of_setup, noted, setup_count}
 use Rattle.legal_trace.specs.Story.{Story, is_told, shape, shape_in, tried}
 use Rattle.session_laws.proofs.Ahead.{queue_within, admitted_open, early_open}
 use Rattle.session_laws.proofs.Behind.{nil_told, open_untold, some_more}
@@ -30,7 +31,8 @@ use Rattle.session_laws.proofs.Names.{get_more, get_some, name_of_some, open_wit
 use Rattle.session_laws.proofs.Numbers.{IsIn, Rising, in_left, in_right, rising_apart, rising_in, rising_left, rising_right}
 use Rattle.session_laws.proofs.Owes.{get_in, request_story}
 use Rattle.session_laws.proofs.Permits.{IsHolding, holding_same, permits_same}
-use Rattle.session_laws.proofs.Tied.{AreQueued, Inner, IsEntry, IsQueued, IsRequest, Tied, TiedLines, TiedTries, TiedWaits, link_in, owner_of, owners_each, owners_of, queue_ids, shown_wait, numbers_kept}
+use Rattle.session_laws.proofs.SetUp.{count_same, set_up_begins, setups_begins}
+use Rattle.session_laws.proofs.Tied.{AreQueued, Inner, IsEntry, IsQueued, IsRequest, Tied, TiedLines, TiedTries, TiedWaits, link_in, owner_of, owners_each, owners_of, queue_ids, setup_owners, shown_wait, numbers_kept}
 
 -- the action that its start shows
 abbrev pub start_action : Inner → LinkState → Queued → Action
@@ -95,11 +97,11 @@ first_apart story requests link waiting admitted started q qs h i =
     first_is_apart 0 q.id (queue_ids qs ++ kept) (length requests) (rising_right 0 started (q.id ∷ (queue_ids qs ++ kept)) (length requests) h.line) (in_left q.id (queue_ids qs) kept i)
 
 -- what is noted of the link is the message of the queue
-same_start : (b : Book) (requests : List Request) (q : Queued) → IsQueued b.story requests q → message_of b (owner_of requests q.id) ≡ start_from (owner_of requests) q
-same_start b requests q h = λ i. record { owner = owner_of requests q.id; shape = sym h.is_of.shape_is i; bytes = sym h.is_of.packs i }
+same_start : (b : Book) (link : ℕ) (requests : List Request) (q : Queued) → IsQueued b.story requests q → message_of b link (owner_of requests q.id) ≡ start_from (owner_of requests) q
+same_start b link requests q h = λ i. record { owner = owner_of requests q.id; shape = sym h.is_of.shape_is i; bytes = sym h.is_of.packs i }
 
 -- the owners of starts, and of others
-owners-append : (xs ys : List Start) → owners_of (xs ++ ys) ≡ owners_of xs ++ owners_of ys
+pub owners-append : (xs ys : List Start) → owners_of (xs ++ ys) ≡ owners_of xs ++ owners_of ys
 owners-append [] ys = refl
 owners-append (x ∷ xs) ys = ap (λ os. x.owner ∷ os) (owners-append xs ys)
 
@@ -108,12 +110,23 @@ owners_each-append : (requests : List Request) (xs ys : List ℕ) → owners_eac
 owners_each-append requests [] ys = refl
 owners_each-append requests (x ∷ xs) ys = ap (λ os. owner_of requests x ∷ os) (owners_each-append requests xs ys)
 
--- as many started as have started
-pub owners_length : (starts : List Start) (requests : List Request) (started : List ℕ) → owners_of starts ≡ owners_each requests started → length starts ≡ length started
-owners_length [] requests [] e = refl
-owners_length [] requests (p ∷ ps) e = cc
-owners_length (s ∷ ss) requests [] e = cc
-owners_length (s ∷ ss) requests (p ∷ ps) e = ap suc (owners_length ss requests ps (cc))
+-- and so behind setups
+setup_owners-append : (n : ℕ) (xs ys : List Owner) → setup_owners n xs ++ ys ≡ setup_owners n (xs ++ ys)
+setup_owners-append zero xs ys = refl
+setup_owners-append (suc n) xs ys = ap (λ os. owner.Setup ∷ os) (setup_owners-append n xs ys)
+
+-- as many started as have started, where no setup has
+owners_first : (starts : List Start) (requests : List Request) (started : List ℕ) → owners_of starts ≡ owners_each requests started → length starts ≡ length started
+owners_first [] requests [] e = refl
+owners_first [] requests (p ∷ ps) e = cc
+owners_first (s ∷ ss) requests [] e = cc
+owners_first (s ∷ ss) requests (p ∷ ps) e = ap suc (owners_first ss requests ps (cc))
+
+-- and behind so many setups
+pub owners_length : (starts : List Start) (requests : List Request) (started : List ℕ) (n : ℕ) → owners_of starts ≡ setup_owners n (owners_each requests started) → length starts ≡ n + length started
+owners_length starts requests started zero e = let long = owners_first starts requests started e in omega arith
+owners_length [] requests started (suc n) e = cc
+owners_length (s ∷ ss) requests started (suc n) e = let long = owners_length ss requests started n (cc) in omega arith
 
 -- the tries
 --
@@ -124,24 +137,32 @@ tries_started : (l : Ledger) (story : ℕ → Story) (requests : List Request) (
     → TiedTries l story requests link started → TiedTries (noted l (begins s)) (tried_at (name_at requests p) link k story) requests link (started ++ p ∷ [])
 tries_started l story requests link k started s p new one owned shaped counted none h =
     let n = name_at requests p in
-    let long : length l.starts ≡ length started = owners_length l.starts requests started h.owners in
+    let c = setup_count l.starts in
+    let same : setup_count (l.starts ++ s ∷ []) ≡ c = count_same l.starts s (ap is_of_setup owned) in
+    let long : length l.starts ≡ c + length started = owners_length l.starts requests started c h.owners in
     record {
-      owners = owners-append l.starts (s ∷ []) ∙ (λ i. h.owners i ++ owned i ∷ []) ∙ sym (owners_each-append requests started (p ∷ []));
-      shapes = λ j m x i e. elim (get_more started p j m i) [
-        | inl a ↦ elim (get_more l.starts s j x e) [
-          | inl c ↦ h.shapes j m x a c ∙ ap shape_in (tried_submissions n link k story (name_at requests m))
-          | inr c ↦ absurd (let w = get_within started j m a in omega (arith, c.0))
-        ]
-        | inr a ↦ elim (get_more l.starts s j x e) [
-          | inl c ↦ absurd (let w = get_within l.starts j x c in omega (arith, a.0))
-          | inr c ↦ ap (λ (y : Start). y.shape) (sym c.1) ∙ shaped ∙ ap (λ y. shape (story (name_at requests y))) a.1 ∙ ap shape_in (tried_submissions n link k story (name_at requests m))
-        ]
-      ];
+      owners = owners-append l.starts (s ∷ []) ∙ (λ i. h.owners i ++ owned i ∷ []) ∙ setup_owners-append c (owners_each requests started) (owner_of requests p ∷ [])
+          ∙ (λ i. setup_owners (sym same i) (sym (owners_each-append requests started (p ∷ [])) i));
+      shapes = λ j m x i e.
+          let at : slice_get (l.starts ++ s ∷ []) (c + j) ≡ Some x = ap (λ y. slice_get (l.starts ++ s ∷ []) (y + j)) (sym same) ∙ e in
+          elim (get_more started p j m i) [
+            | inl a ↦ elim (get_more l.starts s (c + j) x at) [
+              | inl d ↦ h.shapes j m x a d ∙ ap shape_in (tried_submissions n link k story (name_at requests m))
+              | inr d ↦ absurd (let w = get_within started j m a in omega (arith, d.0))
+            ]
+            | inr a ↦ elim (get_more l.starts s (c + j) x at) [
+              | inl d ↦ absurd (let w = get_within l.starts (c + j) x d in omega (arith, a.0))
+              | inr d ↦ ap (λ (y : Start). y.shape) (sym d.1) ∙ shaped ∙ ap (λ y. shape (story (name_at requests y))) a.1 ∙ ap shape_in (tried_submissions n link k story (name_at requests m))
+            ]
+          ];
       tried = λ j m i. elim (get_more started p j m i) [
-        | inl a ↦ ap (λ (x : Story). x.tries) (left_if (n == name_at requests m) (tried (story (name_at requests m)) link k) (story (name_at requests m)) (ne_test n (name_at requests m) (λ e. new m (get_in started j m a) (sym e)))) ∙ h.tried j m a
+        | inl a ↦
+            ap (λ (x : Story). x.tries) (left_if (n == name_at requests m) (tried (story (name_at requests m)) link k) (story (name_at requests m)) (ne_test n (name_at requests m) (λ e. new m (get_in started j m a) (sym e)))) ∙ h.tried j m a
+            ∙ ap (λ y. record { link = link; message = y + j } ∷ []) (sym same)
         | inr a ↦
-            subst (λ y. (tried_at n link k story (name_at requests y)).tries ≡ record { link = link; message = j } ∷ []) a.1
-            (ap (λ (x : Story). x.tries) (taken_if (n == n) (tried (story n) link k) (story n) (eq_test n n refl)) ∙ (λ i. none i ++ record { link = link; message = k } ∷ []) ∙ ap (λ y. record { link = link; message = y } ∷ []) (counted ∙ long ∙ sym a.0))
+            let here : k ≡ setup_count (l.starts ++ s ∷ []) + j = (let at = a.0 in omega arith) in
+            subst (λ y. (tried_at n link k story (name_at requests y)).tries ≡ record { link = link; message = setup_count (l.starts ++ s ∷ []) + j } ∷ []) a.1
+            (ap (λ (x : Story). x.tries) (taken_if (n == n) (tried (story n) link k) (story n) (eq_test n n refl)) ∙ (λ i. none i ++ record { link = link; message = k } ∷ []) ∙ ap (λ y. record { link = link; message = y } ∷ []) here)
       ];
       untried = λ m r i out.
           ap (λ (x : Story). x.tries) (left_if (n == r.name) (tried (story r.name) link k) (story r.name) (ne_test n r.name (λ e. out (in_right m started (p ∷ []) (inl (sym (one m r i (sym e))))))))
@@ -172,6 +193,10 @@ lines_started story requests link waiting admitted started q qs k l h = record {
 pub not_dialing : (link : LinkState) → Ready link ≡ Dialing → ⊥
 not_dialing link e = cc
 
+-- nor is it being set up
+pub not_setting : (link link' : LinkState) (with_user : Bool) → Ready link ≡ SettingUp link' with_user → ⊥
+not_setting link link' with_user e = cc
+
 -- what is shown of a submission's wait is the same, or nothing is shown any more
 abbrev pub LosesWaits : (ℕ → Story) → (ℕ → Story) → Type 0
 LosesWaits f g = (n : ℕ) → ((g n).waiting ≡ None) ⊎ ((g n).waiting ≡ (f n).waiting)
@@ -183,14 +208,16 @@ pub waits_up : (f g : ℕ → Story) (requests : List Request) (link link' : Lin
     → ((p : ℕ) → IsIn p (awaited_ids link'.queue) → IsIn p (awaited_ids link.queue) × (shown_wait g requests p ≡ shown_wait f requests p))
     → TiedWaits f requests (Ready link) fresh moved → TiedWaits g requests (Ready link') fresh moved
 waits_up f g requests link link' fresh moved lost waiting admitted queued h = record {
-  early = λ p w. elim (h.early p w) [ inl k ↦ inl (waiting p w ∙ k) | inr k ↦ inr (elim k [ inl x ↦ inl (waiting p w ∙ x) | inr x ↦ inr (waiting p w ∙ x) ]) ];
+  early = λ p w. elim (h.early p w) [ inl k ↦ inl (waiting p w ∙ k) | inr k ↦ inr (elim k [ inl x ↦ inl (waiting p w ∙ x) | inr x ↦ inr (elim x [ inl y ↦ inl (waiting p w ∙ y) | inr y ↦ inr (waiting p w ∙ y) ]) ]) ];
   connect = λ p w e. absurd (not_dialing link' e);
+  setup = λ p l u w e. absurd (not_setting link' l u e);
   permit = λ p l w e. elim (h.permit p link w refl) [ inl i ↦ inl i | inr k ↦ inr (waiting p w ∙ k) ];
   place = λ p a. elim (h.place p a) [ inl i ↦ inl i | inr k ↦ inr (admitted p a ∙ k) ];
   room = λ p i. let q = queued p i in elim (h.room p q.0) [ inl j ↦ inl j | inr k ↦ inr (q.1 ∙ k) ];
   newer = h.newer;
   rising = h.rising;
   no_connect = λ p i w e. absurd (not_dialing link' e);
+  no_setup = λ p l u i w e. absurd (not_setting link' l u e);
   no_permit = λ p l i w e k. h.no_permit p link i w refl (sym (waiting p w) ∙ k);
   no_place = λ p i a e. h.no_place p i a (sym (admitted p a) ∙ e);
   no_room = λ p i j e. let q = queued p j in h.no_room p i q.0 (sym q.1 ∙ e);
@@ -270,11 +297,12 @@ start_tied b t link q qs h =
     let up = h.link refl in
     let g = get_some t.requests q.id within in
     tied_by (entered b (start_action t link q)) (after_start t link q qs) (noted l (begins s))
-    (mine_noted l t.link (begins (message_of b (name q.id))) ∙ ap (λ x. noted l (begins x)) (same_start b t.requests q is))
+    (mine_noted l t.link (begins (message_of b t.link (name q.id))) ∙ ap (λ x. noted l (begins x)) (same_start b t.link t.requests q is))
     (record {
       numbers = numbers_kept b _ _ was _ _ _ _ _ _ _ _ _ _ h.numbers;
-      others = others_kept b t.link (begins (message_of b (name q.id))) h.others;
+      others = others_kept b t.link (begins (message_of b t.link (name q.id))) h.others;
       life = h.life;
+      setup = record { info_is = h.setup.info_is; sent = setups_begins l s refl h.setup.sent; said = set_up_begins l s refl h.setup.said };
       link = λ e. queue_tied name (noted l (begins s)) (begun (with_queue link (q ∷ qs)) q) qs (begun_tied name l (with_queue link (q ∷ qs)) q (queued_some b was q h within is) up);
       names = h.names;
       story = one_changed b was q.id (λ x. tried x t.link link.started) h within (tried_request (b.story n) t.requests t.link q.id t.link link.started);

@@ -1,5 +1,5 @@
 -- Messages start as far as they can.
-use Rattle.std.proofs.Common.{List, [], ap, append_assoc, arith, false, inl, inr, length, refl, subst, sym, true, ℕ, ◌++◌, ◌∙◌, ◌∷◌, ◌≡◌, ◌⊎◌}
+use Rattle.std.proofs.Common.{List, None, [], ap, append_assoc, arith, false, inl, inr, length, refl, subst, sym, true, ℕ, ◌++◌, ◌∙◌, ◌∷◌, ◌≡◌, ◌⊎◌}
 use Rattle.std.proofs.lemmas.List.{append-nil}
 use Rattle.containers.proofs.Choices.{chosen}
 use Rattle.driver_model.specs.Shape.{need_of}
@@ -17,16 +17,18 @@ use Rattle.mux_conn.specs.declared.act.LinkAct.TheVariants as act
 use Rattle.mux_conn.specs.declared.request.Request.{Request}
 use Rattle.shared_session.specs.Turn.{shown_each, timers_of}
 use Rattle.legal_trace.specs.Book.{Book, book, message_of}
-use Rattle.legal_trace.specs.Ledger.{begins}
+use Rattle.legal_trace.specs.Ledger.{Ledger, Start, begins, ending, is_of_setup, noted}
 use Rattle.legal_trace.specs.Legal.{MayStart, NoneEnds}
 use Rattle.legal_trace.specs.Steps.{starts_or_waits}
 use Rattle.session_laws.proofs.Ahead.{IsRunning, queue_step, queue_unstarted, queue_within}
 use Rattle.session_laws.proofs.Entered.{shown_more, timers_of-append}
-use Rattle.session_laws.proofs.Going.{IsGoing, applied_up, first_in_queue, going_more, none_ends_kept}
+use Rattle.session_laws.proofs.Going.{IsGoing, begun_up, first_in_queue, going_more, none_ends_mine}
 use Rattle.session_laws.proofs.Owes.{request_story}
+use Rattle.session_laws.proofs.Said.{ending_ready}
+use Rattle.session_laws.proofs.SetUp.{ending_up_same, set_up_begins}
 use Rattle.session_laws.proofs.Start.{after_start, on_link, start_action, start_tied, with_queue}
 use Rattle.session_laws.proofs.States.{IsFit}
-use Rattle.session_laws.proofs.Tied.{Inner, Tied, owner_of, queue_ids}
+use Rattle.session_laws.proofs.Tied.{Inner, IsSetUp, Tied, owner_of, queue_ids}
 
 -- a session on a link that is up, with this queue
 pub running_on : (t : Inner) (link : LinkState) (qs : List Queued) → IsFit t.size t.bound (with_queue link qs) → IsRunning (on_link t (with_queue link qs))
@@ -41,7 +43,7 @@ start_may b t link q qs fit free h ended =
     let running = running_on t link (q ∷ qs) fit in
     let r = request_story b was q.id h (queue_within b was q.id h (inl refl)) in
     record {
-      applied = applied_up b was h refl refl ended;
+      begun = begun_up b was h refl refl ended;
       unstarted = queue_unstarted b was q.id h (inl refl);
       starts = queue_step b was q.id h running (inl refl) ∙ ap starts_or_waits free;
       in_order = first_in_queue b was q.id (queue_ids qs) h running refl;
@@ -51,6 +53,10 @@ start_may b t link q qs fit free h ended =
       long_as_its_bytes = ap length is.is_of.packs;
     }
 
+-- the start of a request's message ends no link
+begins_ends_none : (l : Ledger) (s : Start) → l.up ≡ true → is_of_setup s.owner ≡ false → IsSetUp l → ending l ≡ None → ending (noted l (begins s)) ≡ None
+begins_ends_none l s up other h e = ending_ready (noted l (begins s)) up (set_up_begins l s other h).well ∙ ending_up_same l (l.starts ++ s ∷ []) l.heard ∙ sym (ending_ready l up h.well) ∙ e
+
 -- it starts
 start_going : (trace : List Action) (t : Inner) (link : LinkState) (q : Queued) (qs : List Queued) → IsFit t.size t.bound (with_queue link (q ∷ qs)) → holds_back link ≡ false → IsGoing trace (on_link t (with_queue link (q ∷ qs)))
     → IsGoing (trace ++ start_action t link q ∷ []) (after_start t link q qs)
@@ -59,7 +65,7 @@ start_going trace t link q qs fit free h =
     going_more trace (start_action t link q) (after_start t link q qs) h.sound.stands
     (refl, start_may b t link q qs fit free h.sound.tied h.ended)
     (start_tied b t link q qs h.sound.tied)
-    (none_ends_kept b t.link (begins (message_of b (owner_of t.requests q.id))) (λ l e. e) h.ended)
+    (none_ends_mine b t.link (begins (message_of b t.link (owner_of t.requests q.id))) (begins_ends_none (b.link t.link) (message_of b t.link (owner_of t.requests q.id)) h.sound.tied.life.1 refl h.sound.tied.setup.said (h.ended t.link)) h.ended)
 
 -- the acts of the starts of one call
 --

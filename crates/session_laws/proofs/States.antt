@@ -1,9 +1,9 @@
 -- The session between two turns, and when the event of a turn has had its own effect.
-use Rattle.std.proofs.Common.{◌≡◌, ◌≢◌, ◌⊎◌, ℕ, ◌≤◌, true, false, List, [], ◌++◌, length}
+use Rattle.std.proofs.Common.{◌≡◌, ◌≢◌, ◌⊎◌, ℕ, ◌≤◌, Bool, true, false, List, [], ◌++◌, length}
 use Rattle.driver_model.specs.declared.action.Action.{Action}
 use Rattle.link_core.specs.Link.{LinkState, is_full, holds_back}
 use Rattle.mux_conn.specs.declared.connection.MultiplexedConnection.{MultiplexedConnection}
-use Rattle.mux_conn.specs.declared.life.Life.TheVariants.{Ready}
+use Rattle.mux_conn.specs.declared.life.Life.TheVariants.{SettingUp, Ready}
 use Rattle.shared_session.specs.declared.core_state.Core.{Core}
 use Rattle.shared_session.specs.Turn.{Turning, shown_each, timed}
 use Rattle.mux_conn.specs.Connection.{has_no_permit}
@@ -18,14 +18,16 @@ pub record IsFit (size bound : ℕ) (link : LinkState) : Type 0 where
   pub bound_is : link.boundary ≡ bound
   pub within : length link.queue ≤ size
 
--- where a link is up, it is so; and where none is up, nobody waits for a place
+-- where a link is up, it is so, also while it is set up; and where none is ready, nobody waits for a place
 pub record IsFitIn (c : MultiplexedConnection) : Type 0 where
+  pub setup : (link : LinkState) (with_user : Bool) → c.life ≡ SettingUp link with_user → IsFit c.size c.boundary link
   pub link : (link : LinkState) → c.life ≡ Ready link → IsFit c.size c.boundary link
   pub none : ((link : LinkState) → c.life ≡ Ready link → ⊥) → c.admitted ≡ []
 
--- nothing moves: what is in the queue is held back, those that wait for a place find the queue full; once the connect is
+-- nothing moves: what is in the queue is held back, also a setup; those that wait for a place find the queue full; once the connect is
 -- answered, those that wait find no permit free, and on a link that has ended none waits
 pub record IsStill (c : MultiplexedConnection) : Type 0 where
+  pub setup : (link : LinkState) (with_user : Bool) → c.life ≡ SettingUp link with_user → (link.queue ≡ []) ⊎ (holds_back link ≡ true)
   pub held : (link : LinkState) → c.life ≡ Ready link → (link.queue ≡ []) ⊎ (holds_back link ≡ true)
   pub full : (link : LinkState) → c.life ≡ Ready link → (c.admitted ≡ []) ⊎ (is_full link ≡ true)
   pub waiting : (link : LinkState) → c.life ≡ Ready link → (c.waiting ≡ []) ⊎ (has_no_permit c.limit c.free ≡ true)

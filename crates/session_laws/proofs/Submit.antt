@@ -23,13 +23,14 @@ use Rattle.legal_trace.specs.Book.{Book, entered, if_own, current}
 use Rattle.legal_trace.specs.Owed.{owed, owed_to_try}
 use Rattle.legal_trace.specs.Legal.{IsOpen, link_of, NoneIsOwed, NoneEnds, MayAnswer, FailuresAreShown}
 use Rattle.session_laws.proofs.Numbers.{IsIn, in_left, in_right, Rising, rising_in}
-use Rattle.session_laws.proofs.Tied.{inner, link_in, owner_of, queue_ids, waiting_ids, IsRefused, TiedStory, Tied, no_opening}
+use Rattle.session_laws.proofs.Tied.{carried, inner, link_in, queue_ids, waiting_ids, whole_link, IsRefused, TiedStory, Tied, no_opening}
 use Rattle.session_laws.proofs.Names.{there_within, names_refused}
 use Rattle.session_laws.proofs.Owes.{started_within}
 use Rattle.session_laws.proofs.Answer.{owed_in}
 use Rattle.session_laws.proofs.Settle.{seen}
 use Rattle.session_laws.proofs.Announce.{aims_longer, aims_on, turn_of, turned}
 use Rattle.session_laws.proofs.Heard.{told_life, silent_no_end}
+use Rattle.session_laws.proofs.Said.{setup_on}
 use Rattle.session_laws.proofs.Further.{get_beyond, no_longer, SameBefore, further_story, tries_longer, queue_longer, packs_longer, told_longer, IsNext, waits_longer, permits_longer, late_longer}
 use Rattle.session_laws.proofs.InLine.{kept_ids, awaited_in}
 
@@ -104,7 +105,7 @@ may_refuse b c started word what e h none no_end shown why =
       owes = ap (owed_in now) own ∙ new_owed b now what e why;
       in_order = λ m less asked same. others m (λ x. absurd (omega arith)) asked;
       after_closes = λ over. (
-        (λ l. silent_no_end (b.link l) c.turns),
+        (λ l. silent_no_end (b.link l) c.turns (no_end l)),
         (λ m asked alive. by_test (m == size) _
             (λ t. absurd (not_both (is_over (link_of now size)) (subst (λ k. is_over (link_of now k) ≡ false) (eq_from m size t) alive) over))
             (λ o. others m (ne_from m size o) asked)),
@@ -173,7 +174,8 @@ refused_tied b c started word what e h no_fresh =
       };
       others = λ m other. let u = h.others m other in record { asked = u.asked; up = u.up; end = u.end; starts = u.starts };
       life = told_life ledger b.created conn.life silence h.life;
-      link = λ alive. told_tied (owner_of conn.requests) ledger (link_in conn.life) ledger.asked ledger.up silence (h.link alive);
+      setup = setup_on ledger ledger.asked ledger.up ledger.end ledger.taken ledger.offer ledger.rest silence conn.info started conn.life h.setup;
+      link = λ alive. told_tied (carried conn.life conn.requests) ledger (whole_link conn.life) ledger.asked ledger.up silence (h.link alive);
       names = names_refused c.table conn.requests h.names;
       story = further_story c.table b.story after conn.requests conn.requests c.single.link None h.names same longer h.story
           (subst IsRefused (sym is) (record { what = what; handed_in = refl; untried = refl; error = e; answered = refl }));

@@ -1,14 +1,16 @@
 -- What ties a session to the book of its trace.
-use Rattle.std.proofs.Common.{◌≡◌, ◌≢◌, ◌⊎◌, ℕ, ◌+◌, ◌<◌, Bool, true, false, List, [], ◌∷◌, ◌++◌, length, Option, Some, None, slice_get}
+use Rattle.std.proofs.Common.{◌≡◌, ◌≢◌, ◌⊎◌, ℕ, zero, suc, ◌+◌, ◌<◌, ◌==◌, Bool, true, false, List, [], ◌∷◌, ◌++◌, length, Option, Some, None, slice_get}
 use Rattle.std.specs.List.{AllByRecursion}
 use Rattle.redis_error.specs.declared.redis_error.RedisError.{RedisError}
 use Rattle.resp_value.specs.declared.value.Value.TheVariants.{Nil}
+use Rattle.connection_info.specs.declared.address.RedisConnectionInfo.{RedisConnectionInfo}
 use Rattle.driver_model.specs.declared.action.Action.{Action}
 use Rattle.driver_model.specs.declared.action.Owner.{Owner}
 use Rattle.driver_model.specs.declared.action.Cause.{Cause}
 use Rattle.driver_model.specs.declared.action.Purpose.{Purpose}
 use Rattle.driver_model.specs.declared.action.Owner.TheVariants as owner
 use Rattle.driver_model.specs.Config.{boundary}
+use Rattle.driver_model.specs.Setup.{says_nothing, setup_shape}
 use Rattle.driver_model.specs.declared.action.WaitKind.{WaitKind}
 use Rattle.driver_model.specs.declared.action.WaitKind.TheVariants as wait
 use Rattle.driver_model.specs.declared.event.Submission.{Submission}
@@ -24,13 +26,14 @@ use Rattle.link_core.specs.Link.{LinkState, fresh as fresh_link}
 use Rattle.link_laws.specs.Settles.{wanted, awaited_ids}
 use Rattle.link_laws.proofs.TiedLink.{TiedLink}
 use Rattle.mux_conn.specs.declared.life.Life.{Life}
-use Rattle.mux_conn.specs.declared.life.Life.TheVariants.{Dialing, Ready, Ended}
+use Rattle.mux_conn.specs.declared.life.Life.TheVariants.{Dialing, SettingUp, Ready, Ended}
 use Rattle.mux_conn.specs.declared.request.Pending.{Pending}
 use Rattle.mux_conn.specs.declared.request.Request.{Request}
 use Rattle.mux_conn.specs.declared.request.Waiting.{Waiting}
+use Rattle.mux_conn.specs.Effects.{setup_queued}
 use Rattle.mux_conn.specs.Requests.{name_at, permits_at, is_open_at, is_waiting_at, is_admitted_at, is_placed_at}
 use Rattle.shared_session.specs.declared.core_state.Core.{Core}
-use Rattle.legal_trace.specs.Ledger.{Ledger, Start, End, failure_in}
+use Rattle.legal_trace.specs.Ledger.{Ledger, Start, End, failure_in, is_full, is_set_up, setup_count, setup_steps, setup_after}
 use Rattle.legal_trace.specs.Story.{Story, blank_story, is_open, is_told, bytes_of, shape, is_awaited}
 use Rattle.legal_trace.specs.Book.{Book, blank_book, book}
 use Rattle.legal_trace.specs.Steps.{configured, queue_size, permits_in, permits_held, is_let_in}
@@ -42,7 +45,7 @@ use Rattle.session_laws.proofs.Numbers.{IsIn, Rising}
 -- of them is its connection's, what each timer was asked for, whether everything was shut down, the request of each
 -- submission, and within how many milliseconds one that comes now is to be answered; how many messages the queue of its
 -- connection's link holds, at how many unwritten bytes none starts, how many permits there are, if they are counted, and how
--- many are free; its connection's life and requests, those that wait for the connection, those that wait for a place, those
+-- many are free; what is said to the server before the first request; its connection's life and requests, those that wait for the connection, those that wait for a place, those
 -- that came in this turn and those that were moved in it, whose waits aren't shown yet; the one that is being let in; the
 -- requests that are settled and not answered yet; and the requests whose messages started, in order
 pub record Inner : Type 0 where
@@ -57,6 +60,7 @@ pub record Inner : Type 0 where
   pub bound : ℕ
   pub limit : Option ℕ
   pub free : ℕ
+  pub info : RedisConnectionInfo
   pub life : Life
   pub requests : List Request
   pub waiting : List Waiting
@@ -71,21 +75,37 @@ pub record Inner : Type 0 where
 abbrev pub no_link : LinkState
 no_link = fresh_link 0 0
 
--- the link of a connection, which has no messages where it isn't up
+-- the link of a connection as requests see it: it has none of their messages where it isn't up and set up
 abbrev pub link_in : Life → LinkState
 link_in Dialing = no_link
+link_in (SettingUp link with_user) = no_link
 link_in (Ready link) = link
 link_in (Ended e) = no_link
 
 -- it takes no more messages
 abbrev pub has_ended : Life → Bool
 has_ended Dialing = false
+has_ended (SettingUp link with_user) = false
 has_ended (Ready link) = false
 has_ended (Ended e) = true
 
 -- whose message a request's is
 abbrev pub owner_of : List Request → ℕ → Owner
 owner_of requests p = owner.Try (name_at requests p) 0
+
+-- the link of a connection, also while it is set up
+abbrev pub whole_link : Life → LinkState
+whole_link Dialing = no_link
+whole_link (SettingUp link with_user) = link
+whole_link (Ready link) = link
+whole_link (Ended e) = no_link
+
+-- whose messages its link carries: the setup's alone, while it is set up
+abbrev pub carried : Life → List Request → ℕ → Owner
+carried Dialing requests = owner_of requests
+carried (SettingUp link with_user) requests = λ p. owner.Setup
+carried (Ready link) requests = owner_of requests
+carried (Ended e) requests = owner_of requests
 
 abbrev pub queue_ids : List Queued → List ℕ
 queue_ids [] = []
@@ -104,9 +124,15 @@ abbrev pub owners_each : List Request → List ℕ → List Owner
 owners_each requests [] = []
 owners_each requests (p ∷ ps) = owner_of requests p ∷ owners_each requests ps
 
+-- so many setups, and then these
+abbrev pub setup_owners : ℕ → List Owner → List Owner
+setup_owners zero more = more
+setup_owners (suc n) more = owner.Setup ∷ setup_owners n more
+
 -- a timer is for this link, or for one of so many submissions
 abbrev pub IsAim : Purpose → ℕ → ℕ → Type 0
 IsAim (purpose.Connect l) link count = l ≡ link
+IsAim (purpose.Response owner.Setup) link count = ⊥
 IsAim (purpose.Response (owner.Try n round)) link count = (n < count) × (round ≡ 0)
 
 -- all timers are
@@ -151,8 +177,54 @@ FailureIsShown end created = (e : RedisError) → failure_in end ≡ Some e → 
 -- how far the link has come; where it has ended, a submission without a message gets this error
 abbrev pub TiedLife : Ledger → ℕ → Life → Type 0
 TiedLife l created Dialing = (l.asked ≡ true) × (l.up ≡ false) × (l.end ≡ None) × (created ≡ 0)
+TiedLife l created (SettingUp link with_user) = (l.asked ≡ true) × (l.up ≡ true) × (l.end ≡ None) × (created ≡ 0)
 TiedLife l created (Ready link) = (l.asked ≡ true) × (l.up ≡ true) × (l.end ≡ None) × (created ≢ 0)
 TiedLife l created (Ended e) = (l.up ≡ false) × (owed_unstarted l.end ≡ Some (outcome.Fault e)) × FailureIsShown l.end created
+
+-- the setup that is to start next on a link is in its queue: the first with the user name, and a second one without it
+pub record IsSetupDue (l : Ledger) (link : LinkState) (with_user : Bool) : Type 0 where
+  pub due : setup_after l (setup_count l.starts) ≡ Some (setup_count l.starts)
+  pub user : with_user ≡ (setup_count l.starts == 0)
+  pub queue : link.queue ≡ setup_queued (setup_steps l (setup_count l.starts)) with_user ∷ []
+  pub row : link.row ≡ []
+
+-- the last setup that started is not answered, and the one before it is
+pub record IsSetupSent (l : Ledger) (link : LinkState) (with_user : Bool) : Type 0 where
+  pub k : ℕ
+  pub few : k < 2
+  pub count : setup_count l.starts ≡ suc k
+  pub user : with_user ≡ (k == 0)
+  pub queue : link.queue ≡ []
+  pub earlier : (j : ℕ) → j < k → is_full l j ≡ true
+  pub open_is : is_full l k ≡ false
+
+-- something is said to the server, and a setup is to start or isn't answered; its verdict is wanted
+pub record IsSettingUp (l : Ledger) (link : LinkState) (with_user : Bool) : Type 0 where
+  pub says : says_nothing (setup_steps l 0) ≡ false
+  pub stage : IsSetupDue l link with_user ⊎ IsSetupSent l link with_user
+  pub awaited : AllByRecursion (λ (e : Entry). e.awaited ≡ true) link.row
+
+-- it is set up; where nothing is to be said no setup has started
+pub record IsSetUp (l : Ledger) : Type 0 where
+  pub well : is_set_up l ≡ true
+  pub none : says_nothing (setup_steps l 0) ≡ true → setup_count l.starts ≡ 0
+
+-- how far the setup of a link has come; no request's message starts before it is set up
+abbrev pub HasSaid : Ledger → List ℕ → Life → Type 0
+HasSaid l started Dialing = (l.starts ≡ []) × (started ≡ [])
+HasSaid l started (SettingUp link with_user) = (started ≡ []) × IsSettingUp l link with_user
+HasSaid l started (Ready link) = IsSetUp l
+HasSaid l started (Ended e) = Unit {0}
+
+-- the first starts of a link are those of its setup, as it is sent
+abbrev pub AreSetups : Ledger → Type 0
+AreSetups l = (k : ℕ) (s : Start) → k < setup_count l.starts → slice_get l.starts k ≡ Some s → (s.owner ≡ owner.Setup) × (s.shape ≡ setup_shape (setup_steps l k))
+
+-- what is said to the server is the same for the link and the session
+pub record TiedSetup (l : Ledger) (info : RedisConnectionInfo) (started : List ℕ) (life : Life) : Type 0 where
+  pub info_is : l.info ≡ info
+  pub sent : AreSetups l
+  pub said : HasSaid l started life
 
 -- each request has the name of a submission, whose request it is, and names rise with the requests
 pub record TiedNames (table : List (Option Pending)) (requests : List Request) : Type 0 where
@@ -184,11 +256,11 @@ TiedStory s requests link None = s ≡ blank_story
 TiedStory s requests link (Some None) = IsRefused s
 TiedStory s requests link (Some (Some p)) = IsRequest s requests link p.number
 
--- the messages that started, by the tries of their submissions; each has its submission's shape
+-- the messages that started, by the tries of their submissions, behind those of the setup; each has its submission's shape
 pub record TiedTries (l : Ledger) (story : ℕ → Story) (requests : List Request) (link : ℕ) (started : List ℕ) : Type 0 where
-  pub owners : owners_of l.starts ≡ owners_each requests started
-  pub shapes : (k : ℕ) (p : ℕ) (s : Start) → slice_get started k ≡ Some p → slice_get l.starts k ≡ Some s → s.shape ≡ shape (story (name_at requests p))
-  pub tried : (k p : ℕ) → slice_get started k ≡ Some p → (story (name_at requests p)).tries ≡ record { link = link; message = k } ∷ []
+  pub owners : owners_of l.starts ≡ setup_owners (setup_count l.starts) (owners_each requests started)
+  pub shapes : (k : ℕ) (p : ℕ) (s : Start) → slice_get started k ≡ Some p → slice_get l.starts (setup_count l.starts + k) ≡ Some s → s.shape ≡ shape (story (name_at requests p))
+  pub tried : (k p : ℕ) → slice_get started k ≡ Some p → (story (name_at requests p)).tries ≡ record { link = link; message = setup_count l.starts + k } ∷ []
   pub untried : (p : ℕ) (r : Request) → slice_get requests p ≡ Some r → (IsIn p started → ⊥) → (story r.name).tries ≡ []
 
 -- these are the bytes and the shape of a submission, and whether its reply is awaited
@@ -236,17 +308,19 @@ abbrev pub shown_wait : (ℕ → Story) → List Request → ℕ → Option Wait
 shown_wait story requests p = (story (name_at requests p)).waiting
 
 -- a request that waits for the connection, or for a permit, has shown nothing or one of these; the first while the connect
--- isn't answered, and the second while the link is up, where its wait isn't to be shown yet; one that waits for a place, or has
+-- isn't answered, the second while the link is set up, and the third while it is up, where its wait isn't to be shown yet; one that waits for a place, or has
 -- one in the queue, was moved in this turn and its wait isn't shown yet, or has shown it
 pub record TiedWaits (story : ℕ → Story) (requests : List Request) (life : Life) (fresh moved : List ℕ) : Type 0 where
-  pub early : (p : ℕ) → is_waiting_at requests p ≡ true → (shown_wait story requests p ≡ None) ⊎ ((shown_wait story requests p ≡ Some wait.Connect) ⊎ (shown_wait story requests p ≡ Some wait.Permit))
+  pub early : (p : ℕ) → is_waiting_at requests p ≡ true → (shown_wait story requests p ≡ None) ⊎ ((shown_wait story requests p ≡ Some wait.Connect) ⊎ ((shown_wait story requests p ≡ Some wait.Setup) ⊎ (shown_wait story requests p ≡ Some wait.Permit)))
   pub connect : (p : ℕ) → is_waiting_at requests p ≡ true → life ≡ Dialing → IsIn p fresh ⊎ (shown_wait story requests p ≡ Some wait.Connect)
+  pub setup : (p : ℕ) (link : LinkState) (with_user : Bool) → is_waiting_at requests p ≡ true → life ≡ SettingUp link with_user → IsIn p fresh ⊎ (shown_wait story requests p ≡ Some wait.Setup)
   pub permit : (p : ℕ) (link : LinkState) → is_waiting_at requests p ≡ true → life ≡ Ready link → IsIn p fresh ⊎ (shown_wait story requests p ≡ Some wait.Permit)
   pub place : (p : ℕ) → is_admitted_at requests p ≡ true → IsIn p moved ⊎ (shown_wait story requests p ≡ Some wait.Place)
   pub room : (p : ℕ) → IsIn p (awaited_ids (link_in life).queue) → IsIn p moved ⊎ (shown_wait story requests p ≡ Some wait.Room)
   pub newer : Rising 0 fresh (length requests)
   pub rising : Rising 0 moved (length requests)
   pub no_connect : (p : ℕ) → IsIn p fresh → is_waiting_at requests p ≡ true → life ≡ Dialing → shown_wait story requests p ≢ Some wait.Connect
+  pub no_setup : (p : ℕ) (link : LinkState) (with_user : Bool) → IsIn p fresh → is_waiting_at requests p ≡ true → life ≡ SettingUp link with_user → shown_wait story requests p ≢ Some wait.Setup
   pub no_permit : (p : ℕ) (link : LinkState) → IsIn p fresh → is_waiting_at requests p ≡ true → life ≡ Ready link → shown_wait story requests p ≢ Some wait.Permit
   pub no_place : (p : ℕ) → IsIn p moved → is_admitted_at requests p ≡ true → shown_wait story requests p ≢ Some wait.Place
   pub no_room : (p : ℕ) → IsIn p moved → IsIn p (awaited_ids (link_in life).queue) → shown_wait story requests p ≢ Some wait.Room
@@ -266,7 +340,8 @@ pub record Tied (b : Book) (t : Inner) : Type 0 where
   pub numbers : TiedNumbers b t
   pub others : (m : ℕ) → m ≢ t.link → IsUnknown (b.link m)
   pub life : TiedLife (b.link t.link) b.created t.life
-  pub link : has_ended t.life ≡ false → TiedLink (owner_of t.requests) (b.link t.link) (link_in t.life)
+  pub setup : TiedSetup (b.link t.link) t.info t.started t.life
+  pub link : has_ended t.life ≡ false → TiedLink (carried t.life t.requests) (b.link t.link) (whole_link t.life)
   pub names : TiedNames t.table t.requests
   pub story : (n : ℕ) → TiedStory (b.story n) t.requests t.link (slice_get t.table n)
   pub tries : TiedTries (b.link t.link) b.story t.requests t.link t.started
@@ -295,6 +370,7 @@ inner c started = record {
   bound = c.single.connection.boundary;
   limit = c.single.connection.limit;
   free = c.single.connection.free;
+  info = c.single.connection.info;
   life = c.single.connection.life;
   requests = c.single.connection.requests;
   waiting = c.single.connection.waiting;
@@ -337,6 +413,7 @@ relined b t waiting admitted fresh moved pending h lines waits late = record {
   numbers = numbers_kept b b.link b.story t t.life t.free t.requests waiting admitted fresh moved t.letting pending t.started h.numbers;
   others = h.others;
   life = h.life;
+  setup = h.setup;
   link = h.link;
   names = h.names;
   story = h.story;

@@ -1,40 +1,44 @@
 -- Offered bytes were taken.
-use Rattle.std.proofs.Common.{◌≡◌, ℕ, ◌≤◌, false, ◌&&◌, not, List, [], ◌∷◌, ◌++◌, Option, None, if◌then◌else◌, refl, subst, ap}
+use Rattle.std.proofs.Common.{◌≡◌, ℕ, ◌≤◌, Bool, false, List, [], ◌∷◌, ◌++◌, None, ap, refl, subst, sym, take, ◌∙◌}
 use Rattle.containers.proofs.Choices.{chosen}
 use Rattle.driver_model.specs.declared.action.Action.{Action}
+use Rattle.driver_model.specs.declared.action.Owner.TheVariants as owner
 use Rattle.driver_model.specs.declared.event.EventKind.{EventKind}
 use Rattle.driver_model.specs.News.{took, news_of}
 use Rattle.link_core.specs.Link.{LinkState, wrote_of}
-use Rattle.link_laws.proofs.TiedLink.{wrote_tied}
+use Rattle.link_laws.proofs.TiedLink.{TiedLink, wrote_tied}
 use Rattle.link_laws.specs.Settles.{awaited_ids}
 use Rattle.mux_conn.specs.declared.life.Life.{Life}
-use Rattle.mux_conn.specs.declared.life.Life.TheVariants.{Dialing, Ready, Ended}
+use Rattle.mux_conn.specs.declared.life.Life.TheVariants.{Dialing, SettingUp, Ready, Ended}
 use Rattle.mux_conn.specs.declared.request.Request.{Request}
 use Rattle.mux_conn.specs.declared.request.Waiting.{Waiting}
 use Rattle.mux_conn.specs.Effects.{taken_at, CanTake}
 use Rattle.shared_session.specs.declared.core_state.Core.{Core}
 use Rattle.shared_session.specs.Turn.{with_work, is_bad}
-use Rattle.legal_trace.specs.Ledger.{Ledger, Ending, hears, noted, ending, ending_asked, is_over}
+use Rattle.legal_trace.specs.Ledger.{Ledger, hears, noted, ending}
 use Rattle.legal_trace.specs.Story.{Story}
 use Rattle.legal_trace.specs.Book.{book}
 use Rattle.session_laws.proofs.Numbers.{IsIn}
-use Rattle.session_laws.proofs.Tied.{link_in, owner_of, TiedLife, TiedLines, AreQueued, TiedWaits, has_ended}
+use Rattle.session_laws.proofs.Tied.{carried, link_in, owner_of, whole_link, TiedLife, TiedLines, TiedSetup, AreQueued, TiedWaits, has_ended}
 use Rattle.session_laws.proofs.States.{IsFit, Between, HasApplied}
 use Rattle.session_laws.proofs.Announce.{turn_of, turned, IsNewsKind}
-use Rattle.session_laws.proofs.Heard.{quiet_applied, ended_quiet, dialing_quiet}
-use Rattle.session_laws.proofs.End.{up_tied}
+use Rattle.session_laws.proofs.Heard.{quiet_applied, ended_quiet, dialing_quiet, setting_waits, still_none}
+use Rattle.session_laws.proofs.Said.{mild_end, setup_hears, setup_link, setup_ready}
 
 -- it need not end
-took_no_end : (l : Ledger) (turn count : ℕ) → ending (noted l (hears turn (took count))) ≡ None
-took_no_end l turn count =
-    let after = noted l (hears turn (took count)) in
-    chosen (λ (x : Option Ending). x ≡ None) after.up None (if after.asked && not (is_over after) then ending_asked (took count) else None)
-    (λ t. refl)
-    (λ f. chosen (λ (x : Option Ending). x ≡ None) (after.asked && not (is_over after)) None None (λ t. refl) (λ g. refl))
+took_no_end : (l : Ledger) (turn count : ℕ) → ending l ≡ None → ending (noted l (hears turn (took count))) ≡ None
+took_no_end l turn count none =
+    chosen (λ (x : Ledger). ending (record x { heard = took count }) ≡ None) l.up (record l { taken = l.taken ++ take count l.offer; offer = [] }) l
+    (λ t. mild_end l (l.taken ++ take count l.offer) [] (took count) tt none)
+    (λ f. mild_end l l.taken l.offer (took count) tt none)
 
 -- and is as far as it was
 took_life : (l : Ledger) (created turn count : ℕ) (link after : LinkState) → TiedLife l created (Ready link) → TiedLife (noted l (hears turn (took count))) created (Ready after)
 took_life l created turn count link after h = chosen (λ (x : Ledger). TiedLife (record x { heard = took count }) created (Ready after)) l.up _ l (λ t. h) (λ f. h)
+
+-- also while it is set up
+took_setting : (l : Ledger) (created turn count : ℕ) (link after : LinkState) (with_user : Bool) → TiedLife l created (SettingUp link with_user) → TiedLife (noted l (hears turn (took count))) created (SettingUp after with_user)
+took_setting l created turn count link after with_user h = chosen (λ (x : Ledger). TiedLife (record x { heard = took count }) created (SettingUp after with_user)) l.up _ l (λ t. h) (λ f. h)
 
 -- the lines stay
 wrote_lines : (story : ℕ → Story) (requests : List Request) (link : LinkState) (count : ℕ) (waiting admitted : List Waiting) (pending started : List ℕ) → TiedLines story requests link waiting admitted pending started
@@ -47,12 +51,14 @@ pub queue_waits : (story : ℕ → Story) (requests : List Request) (link after 
 queue_waits story requests link after fresh moved same h = record {
   early = h.early;
   connect = λ p w d. cc;
+  setup = λ p x u w d. cc;
   permit = λ p x w r. h.permit p link w refl;
   place = h.place;
   room = λ p i. h.room p (same p i);
   newer = h.newer;
   rising = h.rising;
   no_connect = λ p i w d. cc;
+  no_setup = λ p x u i w d. cc;
   no_permit = λ p x i w r. h.no_permit p link i w refl;
   no_place = h.no_place;
   no_room = λ p i r. h.no_room p i (same p r);
@@ -62,6 +68,10 @@ queue_waits story requests link after fresh moved same h = record {
 wrote_fit : (size bound : ℕ) (link : LinkState) (count : ℕ) → IsFit size bound link → (x : LinkState) → Ready (wrote_of link count) ≡ Ready x → IsFit size bound x
 wrote_fit size bound link count h x e = let same : wrote_of link count ≡ x = cc in subst (IsFit size bound) same (record { sound = h.sound; size_is = h.size_is; bound_is = h.bound_is; within = h.within })
 
+-- also while it is set up
+wrote_fit_set : (size bound : ℕ) (link : LinkState) (count : ℕ) (with_user : Bool) → IsFit size bound link → (x : LinkState) (u : Bool) → SettingUp (wrote_of link count) with_user ≡ SettingUp x u → IsFit size bound x
+wrote_fit_set size bound link count with_user h x u e = let same : wrote_of link count ≡ x = cc in subst (IsFit size bound) same (record { sound = h.sound; size_is = h.size_is; bound_is = h.bound_is; within = h.within })
+
 -- so much was taken of what was offered
 pub took_applied : (before : List Action) (c : Core) (started : List ℕ) (word count : ℕ) (kind : EventKind) → Between before c started → is_bad c kind ≡ false → IsNewsKind c.timers kind → news_of c.timers c.single.link kind ≡ took count → CanTake c.single.connection.life count
     → HasApplied (before ++ turn_of c word kind ∷ []) (with_work (record { core = turned c kind; acts = [] }) (taken_at (record { conn = c.single.connection; acts = [] }) count c.single.connection.life)) started
@@ -70,19 +80,47 @@ took_applied before c started word count kind h good k is can = by_life c.single
     by_life : (x : Life) → c.single.connection.life ≡ x → HasApplied (before ++ turn_of c word kind ∷ []) (with_work (record { core = turned c kind; acts = [] }) (taken_at (record { conn = c.single.connection; acts = [] }) count x)) started
     by_life Dialing e = dialing_quiet before c started word kind (took count) tt h good k is e
     by_life (Ended x) e = ended_quiet before c started word kind (took count) x h good k is e
+    by_life (SettingUp link with_user) e =
+        let b = book before in
+        let l = b.link c.single.link in
+        let conn = c.single.connection in
+        let life = subst (TiedLife l b.created) e h.sound.tied.life in
+        let tied : TiedLink (λ (p : ℕ). owner.Setup) l link = subst (λ (x : Life). TiedLink (carried x conn.requests) l (whole_link x)) e (h.sound.tied.link (ap has_ended e)) in
+        let few : count ≤ link.outbox.offered = subst (λ (x : Life). CanTake x count) e can in
+        let said = setup_hears l c.turns (took count) conn.info started (SettingUp link with_user) tt (subst (TiedSetup l conn.info started) e h.sound.tied.setup) in
+        quiet_applied before c started word kind (took count) (SettingUp (wrote_of link count) with_user) h good k is
+        (record {
+          lived = took_setting l b.created c.turns count link (wrote_of link count) with_user life;
+          said = setup_link (noted l (hears c.turns (took count))) conn.info started link (wrote_of link count) with_user refl refl said;
+          linked = λ n. wrote_tied (λ (p : ℕ). owner.Setup) l link c.turns count life.1 few tied;
+          lines = subst (λ (x : Life). TiedLines b.story conn.requests (link_in x) conn.waiting conn.admitted [] started) e h.sound.tied.lines;
+          told = λ n. subst (λ (x : Life). AreQueued b.story conn.requests (link_in x)) e (h.sound.tied.told (ap has_ended e));
+          waits = setting_waits b.story conn.requests link (wrote_of link count) with_user with_user conn.fresh conn.moved (subst (λ (x : Life). TiedWaits b.story conn.requests x conn.fresh conn.moved) e h.sound.tied.waits);
+        })
+        (took_no_end l c.turns count (still_none before c started h c.single.link)) (record {
+          setup = wrote_fit_set conn.size conn.boundary link count with_user (h.fit.setup link with_user e);
+          link = λ x r. cc;
+          none = λ none. h.fit.none (λ x r. (let no : SettingUp link with_user ≡ Ready x = sym e ∙ r in cc));
+        })
     by_life (Ready link) e =
         let b = book before in
         let l = b.link c.single.link in
         let conn = c.single.connection in
-        let name = owner_of conn.requests in
-        let u = up_tied name l b.created conn.life link e h.sound.tied.life h.sound.tied.link in
+        let life = subst (TiedLife l b.created) e h.sound.tied.life in
+        let tied : TiedLink (owner_of conn.requests) l link = subst (λ (x : Life). TiedLink (carried x conn.requests) l (whole_link x)) e (h.sound.tied.link (ap has_ended e)) in
         let few : count ≤ link.outbox.offered = subst (λ (x : Life). CanTake x count) e can in
+        let said = setup_hears l c.turns (took count) conn.info started (Ready link) tt (subst (TiedSetup l conn.info started) e h.sound.tied.setup) in
         quiet_applied before c started word kind (took count) (Ready (wrote_of link count)) h good k is
         (record {
-          lived = took_life l b.created c.turns count link (wrote_of link count) (u.asked, u.up, u.alive, u.shown);
-          linked = λ n. wrote_tied name l link c.turns count u.up few u.tied;
+          lived = took_life l b.created c.turns count link (wrote_of link count) life;
+          said = setup_ready (noted l (hears c.turns (took count))) conn.info started link (wrote_of link count) said;
+          linked = λ n. wrote_tied (owner_of conn.requests) l link c.turns count life.1 few tied;
           lines = wrote_lines b.story conn.requests link count conn.waiting conn.admitted [] started (subst (λ (x : Life). TiedLines b.story conn.requests (link_in x) conn.waiting conn.admitted [] started) e h.sound.tied.lines);
           told = λ n. subst (λ (x : Life). AreQueued b.story conn.requests (link_in x)) e (h.sound.tied.told (ap has_ended e));
           waits = queue_waits b.story conn.requests link (wrote_of link count) conn.fresh conn.moved (λ p i. i) (subst (λ (x : Life). TiedWaits b.story conn.requests x conn.fresh conn.moved) e h.sound.tied.waits);
         })
-        (took_no_end l c.turns count) (record { link = wrote_fit conn.size conn.boundary link count (h.fit.link link e); none = λ none. absurd (none (wrote_of link count) refl) })
+        (took_no_end l c.turns count (still_none before c started h c.single.link)) (record {
+          setup = λ x u r. cc;
+          link = wrote_fit conn.size conn.boundary link count (h.fit.link link e);
+          none = λ none. absurd (none (wrote_of link count) refl);
+        })

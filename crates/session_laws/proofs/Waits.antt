@@ -16,7 +16,7 @@ use Rattle.mux_conn.specs.Connection.{has_no_permit, is_ready}
 use Rattle.mux_conn.specs.Requests.{if_there, is_admitted, is_admitted_at, is_open_at, is_placed, is_placed_at, is_waiting, is_waiting_at, name_at}
 use Rattle.mux_conn.specs.Turn.{is_from}
 use Rattle.mux_conn.specs.declared.life.Life.{Life}
-use Rattle.mux_conn.specs.declared.life.Life.TheVariants.{Dialing, Ended, Ready}
+use Rattle.mux_conn.specs.declared.life.Life.TheVariants.{Dialing, Ended, Ready, SettingUp}
 use Rattle.mux_conn.specs.declared.request.Progress.{Progress}
 use Rattle.mux_conn.specs.declared.request.Progress.TheVariants as progress
 use Rattle.mux_conn.specs.declared.request.Request.{Request}
@@ -24,7 +24,8 @@ use Rattle.legal_trace.specs.Book.{Book, entered, if_own}
 use Rattle.legal_trace.specs.Legal.{IsWaiting, IsWritten, MayWait, WaitHolds}
 use Rattle.legal_trace.specs.Steps.{starts_or_waits}
 use Rattle.legal_trace.specs.Story.{Story, awaited_in, is_no_error, is_told, waits as waits_now}
-use Rattle.session_laws.proofs.Ahead.{IsRunning, dialing_step, full_step, permit_step, queue_step, queue_within, running_of, waiting_open, admitted_open}
+use Rattle.session_laws.proofs.Ahead.{IsRunning, dialing_step, full_step, permit_step, queue_step, queue_within, running_of, setup_step, waiting_open, admitted_open}
+use Rattle.session_laws.proofs.Closing.{one_of}
 use Rattle.session_laws.proofs.InLine.{awaited_in as in_queue, chosen_in, kept_ids, kept_in, row_ids, wanted_in}
 use Rattle.session_laws.proofs.Kept.{SameOutcomes, SameSubmissions, SameTimes, one_changed, packed_same, queued_same, tries_same}
 use Rattle.session_laws.proofs.Moves.{later_of, open_unstarted}
@@ -151,6 +152,7 @@ wait_tied b t p kind moved fresh within h waits =
       numbers = numbers_kept b b.link after t t.life t.free t.requests t.waiting t.admitted fresh moved t.letting t.pending t.started h.numbers;
       others = h.others;
       life = h.life;
+      setup = h.setup;
       link = h.link;
       names = h.names;
       story = one_changed b t p (λ s. waits_now s kind) h within (waits_request (b.story n) kind t.requests t.link p);
@@ -174,7 +176,9 @@ pub record IsQuiet (t : Inner) : Type 0 where
   pub settled : t.pending ≡ []
   pub alone : t.letting ≡ []
   pub fit : (link : LinkState) → t.life ≡ Ready link → IsFit t.size t.bound link
+  pub setup_fit : (link : LinkState) (with_user : Bool) → t.life ≡ SettingUp link with_user → IsFit t.size t.bound link
   pub none : ((link : LinkState) → t.life ≡ Ready link → ⊥) → t.admitted ≡ []
+  pub setup_held : (link : LinkState) (with_user : Bool) → t.life ≡ SettingUp link with_user → (link.queue ≡ []) ⊎ (holds_back link ≡ true)
   pub held : (link : LinkState) → t.life ≡ Ready link → (link.queue ≡ []) ⊎ (holds_back link ≡ true)
   pub full : (link : LinkState) → t.life ≡ Ready link → (t.admitted ≡ []) ⊎ (is_full link ≡ true)
   pub waiting : (link : LinkState) → t.life ≡ Ready link → (t.waiting ≡ []) ⊎ (has_no_permit t.limit t.free ≡ true)
@@ -328,6 +332,13 @@ waiting_is b t p h q o at unmoved old = by_life t.life refl
         | inr w ↦ as_shown wait.Connect (elim (h.waits.connect p w.0 e) [ inl new ↦ absurd (old w.0 new) | inr s ↦ s ]) (dialing_step b t p h e within)
       ]
     ]
+    by_life (SettingUp link with_user) e = elim at [
+      | inl i ↦ absurd (subst (λ (x : Life). IsIn p (awaited_ids (link_in x).queue)) e i)
+      | inr k ↦ elim k [
+        | inl a ↦ absurd (subst (λ ws. IsIn p (waiting_ids ws)) (q.none (λ other r. not_ready t.life (SettingUp link with_user) other refl e r)) a.1)
+        | inr w ↦ as_shown wait.Setup (elim (h.waits.setup p link with_user w.0 e) [ inl new ↦ absurd (old w.0 new) | inr s ↦ s ]) (setup_step b t p link with_user h e within)
+      ]
+    ]
     by_life (Ready link) e = elim at [
       | inl i ↦ as_shown wait.Room (elim (h.waits.room p i) [ inl m ↦ absurd (unmoved m) | inr s ↦ s ]) (room_holds b t p link h q e (in_queue p (link_in t.life).queue i))
       | inr k ↦ elim k [
@@ -427,8 +438,9 @@ moved_waits b t p kind ps h is l so =
     let still : (q : ℕ) → is_waiting_at requests q ≡ true → shown_wait after requests q ≡ shown_wait b.story requests q = λ q w.
     shown_then b t p q kind h l (there_within is_waiting requests q w) (λ e. so.moved (ap (is_waiting_at requests) e ∙ w)) in
     record {
-      early = λ q w. elim (h.waits.early q w) [ inl e ↦ inl (still q w ∙ e) | inr k ↦ elim k [ inl e ↦ inr (inl (still q w ∙ e)) | inr e ↦ inr (inr (still q w ∙ e)) ] ];
+      early = λ q w. one_of (shown_wait after requests q) (shown_wait b.story requests q) (still q w) (h.waits.early q w);
       connect = λ q w d. elim (h.waits.connect q w d) [ inl i ↦ inl i | inr e ↦ inr (still q w ∙ e) ];
+      setup = λ q link u w r. elim (h.waits.setup q link u w r) [ inl i ↦ inl i | inr e ↦ inr (still q w ∙ e) ];
       permit = λ q link w r. elim (h.waits.permit q link w r) [ inl i ↦ inl i | inr e ↦ inr (still q w ∙ e) ];
       place = λ q a. by_test (p == q) _
           (λ t1. inr (subst (λ m. shown_wait after requests m ≡ Some wait.Place) (eq_from p q t1) (shown_own b.story requests p kind ∙ ap Some (so.place (ap (is_admitted_at requests) (eq_from p q t1) ∙ a)))))
@@ -449,6 +461,7 @@ moved_waits b t p kind ps h is l so =
       newer = h.waits.newer;
       rising = rest_rises p ps (length requests) line;
       no_connect = λ q i w d e. h.waits.no_connect q i w d (sym (still q w) ∙ e);
+      no_setup = λ q link u i w r e. h.waits.no_setup q link u i w r (sym (still q w) ∙ e);
       no_permit = λ q link i w r e. h.waits.no_permit q link i w r (sym (still q w) ∙ e);
       no_place = λ q i a e. h.waits.no_place q (back q i) a (sym (shown_then b t p q kind h l (there_within is_admitted requests q a) (above q i)) ∙ e);
       no_room = λ q i r e. h.waits.no_room q (back q i) r (sym (shown_then b t p q kind h l (queue_within b t q h (in_queue q (link_in t.life).queue r)) (above q i)) ∙ e);
@@ -462,6 +475,7 @@ passed_waits b t p ps h is gone none =
     record {
       early = h.waits.early;
       connect = h.waits.connect;
+      setup = h.waits.setup;
       permit = h.waits.permit;
       place = λ q a. elim (h.waits.place q a) [
         | inl i ↦ elim (subst (IsIn q) is i) [ inl same ↦ absurd (not_both (is_admitted_at t.requests q) (ap (is_admitted_at t.requests) (sym same) ∙ gone) a) | inr j ↦ inl j ]
@@ -474,23 +488,25 @@ passed_waits b t p ps h is gone none =
       newer = h.waits.newer;
       rising = rest_rises p ps (length t.requests) line;
       no_connect = h.waits.no_connect;
+      no_setup = h.waits.no_setup;
       no_permit = h.waits.no_permit;
       no_place = λ q i a. h.waits.no_place q (back q i) a;
       no_room = λ q i r. h.waits.no_room q (back q i) r;
     }
 
--- while the connect isn't answered nobody waits for a place
-pub dialing_admits : (b : Book) (t : Inner) (p : ℕ) → Tied b t → IsQuiet t → t.life ≡ Dialing → is_admitted_at t.requests p ≡ false
-dialing_admits b t p h q e = by_test (is_admitted_at t.requests p) _
-    (λ a. absurd (subst (λ ws. IsIn p (waiting_ids ws)) (q.none (λ link r. not_ready t.life Dialing link refl e r)) (admitted_there b t p h q.settled a)))
+-- while the connect isn't answered, or the link is set up, nobody waits for a place
+pub down_admits : (b : Book) (t : Inner) (p : ℕ) (life : Life) → Tied b t → IsQuiet t → is_ready life ≡ false → t.life ≡ life → is_admitted_at t.requests p ≡ false
+down_admits b t p life h q down e = by_test (is_admitted_at t.requests p) _
+    (λ a. absurd (subst (λ ws. IsIn p (waiting_ids ws)) (q.none (λ link r. not_ready t.life life link down e r)) (admitted_there b t p h q.settled a)))
     (λ f. f)
 
 -- the waits of those that came in this turn, or whose connect was answered in it
 --
--- one of them waits for the connect, or for a permit
+-- one of them waits for the connect, for the setup, or for a permit
 pub record IsEarly (t : Inner) (kind : WaitKind) : Type 0 where
-  pub either : (kind ≡ wait.Connect) ⊎ (kind ≡ wait.Permit)
+  pub either : (kind ≡ wait.Connect) ⊎ ((kind ≡ wait.Setup) ⊎ (kind ≡ wait.Permit))
   pub connect : t.life ≡ Dialing → kind ≡ wait.Connect
+  pub setup : (link : LinkState) (with_user : Bool) → t.life ≡ SettingUp link with_user → kind ≡ wait.Setup
   pub permit : (link : LinkState) → t.life ≡ Ready link → kind ≡ wait.Permit
 
 -- with that of the first of them
@@ -511,11 +527,19 @@ fresh_waits b t p kind ps h is w so =
     let waits : (q : ℕ) → is_waiting_at requests q ≡ true → p ≢ q → shown_wait after requests q ≡ shown_wait b.story requests q = λ q v other. still q (there_within is_waiting requests q v) other in
     record {
       early = λ q v. by_test (p == q) _
-          (λ t1. inr (elim so.either [ inl e ↦ inl (own q (eq_from p q t1) ∙ ap Some e) | inr e ↦ inr (own q (eq_from p q t1) ∙ ap Some e) ]))
-          (λ f. let other = ne_from p q f in elim (h.waits.early q v) [ inl e ↦ inl (waits q v other ∙ e) | inr k ↦ elim k [ inl e ↦ inr (inl (waits q v other ∙ e)) | inr e ↦ inr (inr (waits q v other ∙ e)) ] ]);
+          (λ t1.
+          let shown = own q (eq_from p q t1) in
+          inr (elim so.either [
+            | inl e ↦ inl (shown ∙ ap Some e)
+            | inr k ↦ inr (elim k [ inl e ↦ inl (shown ∙ ap Some e) | inr e ↦ inr (shown ∙ ap Some e) ])
+          ]))
+          (λ f. one_of (shown_wait after requests q) (shown_wait b.story requests q) (waits q v (ne_from p q f)) (h.waits.early q v));
       connect = λ q v d. by_test (p == q) _
           (λ t1. inr (own q (eq_from p q t1) ∙ ap Some (so.connect d)))
           (λ f. let other = ne_from p q f in elim (h.waits.connect q v d) [ inl i ↦ inl (rest_in p q ps other (subst (IsIn q) is i)) | inr e ↦ inr (waits q v other ∙ e) ]);
+      setup = λ q link u v r. by_test (p == q) _
+          (λ t1. inr (own q (eq_from p q t1) ∙ ap Some (so.setup link u r)))
+          (λ f. let other = ne_from p q f in elim (h.waits.setup q link u v r) [ inl i ↦ inl (rest_in p q ps other (subst (IsIn q) is i)) | inr e ↦ inr (waits q v other ∙ e) ]);
       permit = λ q link v r. by_test (p == q) _
           (λ t1. inr (own q (eq_from p q t1) ∙ ap Some (so.permit link r)))
           (λ f. let other = ne_from p q f in elim (h.waits.permit q link v r) [ inl i ↦ inl (rest_in p q ps other (subst (IsIn q) is i)) | inr e ↦ inr (waits q v other ∙ e) ]);
@@ -524,6 +548,7 @@ fresh_waits b t p kind ps h is w so =
       newer = rest_rises p ps (length requests) line;
       rising = h.waits.rising;
       no_connect = λ q i v d e. h.waits.no_connect q (back q i) v d (sym (waits q v (rest_other p q ps (length requests) line i)) ∙ e);
+      no_setup = λ q link u i v r e. h.waits.no_setup q link u (back q i) v r (sym (waits q v (rest_other p q ps (length requests) line i)) ∙ e);
       no_permit = λ q link i v r e. h.waits.no_permit q link (back q i) v r (sym (waits q v (rest_other p q ps (length requests) line i)) ∙ e);
       no_place = λ q i a e. h.waits.no_place q i a (sym (admitted q a) ∙ e);
       no_room = λ q i r e. h.waits.no_room q i r (sym (queued q r) ∙ e);
@@ -538,12 +563,14 @@ stale_waits b t p ps h is gone =
     record {
       early = h.waits.early;
       connect = λ q w d. elim (h.waits.connect q w d) [ inl i ↦ inl (rest_in p q ps (other q w) (subst (IsIn q) is i)) | inr e ↦ inr e ];
+      setup = λ q link u w r. elim (h.waits.setup q link u w r) [ inl i ↦ inl (rest_in p q ps (other q w) (subst (IsIn q) is i)) | inr e ↦ inr e ];
       permit = λ q link w r. elim (h.waits.permit q link w r) [ inl i ↦ inl (rest_in p q ps (other q w) (subst (IsIn q) is i)) | inr e ↦ inr e ];
       place = h.waits.place;
       room = h.waits.room;
       newer = rest_rises p ps (length t.requests) line;
       rising = h.waits.rising;
       no_connect = λ q i w d. h.waits.no_connect q (back q i) w d;
+      no_setup = λ q link u i w r. h.waits.no_setup q link u (back q i) w r;
       no_permit = λ q link i w r. h.waits.no_permit q link (back q i) w r;
       no_place = h.waits.no_place;
       no_room = h.waits.no_room;

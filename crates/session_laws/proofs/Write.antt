@@ -1,18 +1,20 @@
 -- All bytes of a link are offered.
-use Rattle.std.proofs.Common.{Bool, List, [], arith, false, length, not, refl, subst, sym, true, ◌∙◌, ◌≡◌, ◌⊎◌, ap}
+use Rattle.std.proofs.Common.{Bool, List, [], ap, arith, false, inl, inr, length, not, refl, subst, sym, true, ℕ, ◌∙◌, ◌≡◌, ◌≢◌, ◌⊎◌}
 use Rattle.std.specs.Prelude.{◌&&◌, ◌==◌}
 use Rattle.containers.proofs.Choices.{by_test, chosen, eq_from, ne_from, not_both}
 use Rattle.driver_model.specs.declared.action.Action.{Action}
 use Rattle.driver_model.specs.declared.action.Action.TheVariants as action
+use Rattle.driver_model.specs.declared.action.Owner.{Owner}
+use Rattle.driver_model.specs.declared.action.Owner.TheVariants as owner
 use Rattle.link_core.specs.Link.{LinkState, holds_back, is_full, offered_of}
 use Rattle.link_core.specs.Outbox.{all_offered, can_offer}
 use Rattle.link_core.specs.declared.outbox.Outbox.{Outbox}
 use Rattle.link_laws.proofs.TiedLink.{TiedLink, is_offered, offer_stands, offered_tied}
-use Rattle.mux_conn.specs.Connection.{Work, acted, with_link}
+use Rattle.mux_conn.specs.Connection.{Work, acted, with_link, with_setup}
 use Rattle.mux_conn.specs.Turn.{written, written_at}
 use Rattle.mux_conn.specs.declared.act.LinkAct.TheVariants as act
 use Rattle.mux_conn.specs.declared.life.Life.{Life}
-use Rattle.mux_conn.specs.declared.life.Life.TheVariants.{Dialing, Ended, Ready}
+use Rattle.mux_conn.specs.declared.life.Life.TheVariants.{Dialing, Ended, Ready, SettingUp}
 use Rattle.shared_session.specs.declared.core_state.Core.{Core}
 use Rattle.legal_trace.specs.Book.{Book, book, entered}
 use Rattle.legal_trace.specs.Ledger.{IsOffered, noted, offers}
@@ -20,11 +22,14 @@ use Rattle.legal_trace.specs.Legal.{IsMoved, IsWritten, MayWrite, NoneEnds}
 use Rattle.session_laws.proofs.Going.{is_moved, none_ends_kept}
 use Rattle.session_laws.proofs.Kept.{mine_noted, others_kept, tied_by}
 use Rattle.session_laws.proofs.Moved.{HasMoved}
+use Rattle.session_laws.proofs.Heard.{setting_waits}
+use Rattle.session_laws.proofs.Said.{setup_link, setup_on}
+use Rattle.session_laws.proofs.SetsUp.{setting_on}
 use Rattle.session_laws.proofs.Settle.{book_of_more, holds_more, seen, trace_of_acts}
 use Rattle.session_laws.proofs.Start.{on_link}
 use Rattle.session_laws.proofs.Took.{queue_waits}
 use Rattle.session_laws.proofs.States.{IsFit}
-use Rattle.session_laws.proofs.Tied.{Inner, Tied, TiedLife, link_in, owner_of, has_ended, numbers_kept}
+use Rattle.session_laws.proofs.Tied.{Inner, IsUnknown, Tied, TiedLife, carried, has_ended, numbers_kept, owner_of, whole_link}
 
 -- an offer
 --
@@ -36,6 +41,7 @@ write_tied b t link h =
       numbers = numbers_kept b _ _ (on_link t link) _ _ _ _ _ _ _ _ _ _ h.numbers;
       others = others_kept b t.link line h.others;
       life = h.life;
+      setup = record { info_is = h.setup.info_is; sent = h.setup.sent; said = record { well = h.setup.said.well; none = h.setup.said.none } };
       link = λ e. offered_tied (owner_of t.requests) l link (h.link refl);
       names = h.names;
       story = h.story;
@@ -47,17 +53,39 @@ write_tied b t link h =
       late = h.late;
     })
 
+-- so it is while the link is set up
+write_set_tied : (b : Book) (t : Inner) (link : LinkState) (with_user : Bool) → Tied b (setting_on t link with_user) → Tied (entered b (action.Write t.link link.outbox.unwritten)) (setting_on t (offered_of link) with_user)
+write_set_tied b t link with_user h =
+    let l = b.link t.link in
+    let line = offers link.outbox.unwritten in
+    tied_by (entered b (action.Write t.link link.outbox.unwritten)) (setting_on t (offered_of link) with_user) (noted l line) (mine_noted l t.link line) (record {
+      numbers = numbers_kept b _ _ (setting_on t link with_user) _ _ _ _ _ _ _ _ _ _ h.numbers;
+      others = others_kept b t.link line h.others;
+      life = h.life;
+      setup = setup_link (noted l line) t.info t.started link (offered_of link) with_user refl refl
+          (setup_on l l.asked l.up l.end l.taken link.outbox.unwritten l.rest l.heard t.info t.started (SettingUp link with_user) h.setup);
+      link = λ e. offered_tied (λ (p : ℕ). owner.Setup) l link (h.link refl);
+      names = h.names;
+      story = h.story;
+      tries = record { owners = h.tries.owners; shapes = h.tries.shapes; tried = h.tries.tried; untried = h.tries.untried };
+      lines = record { line = h.lines.line; queued = h.lines.queued; entries = h.lines.entries; packs = h.lines.packs; packed_in = h.lines.packed_in; there = h.lines.there };
+      told = λ e. h.told refl;
+      waits = setting_waits b.story t.requests link (offered_of link) with_user with_user t.fresh t.moved h.waits;
+      permits = h.permits;
+      late = h.late;
+    })
+
 -- it may stand, once all requests are moved
-write_may : (b : Book) (t : Inner) (link : LinkState) → Tied b (on_link t link) → IsMoved b → can_offer link.outbox ≡ true → MayWrite b t.link link.outbox.unwritten
-write_may b t link h moved can =
-    let may = offer_stands (owner_of t.requests) (b.link t.link) link h.life.1 can (h.link refl) in
+write_may : (b : Book) (t : Inner) (name : ℕ → Owner) (link : LinkState) → ((m : ℕ) → m ≢ t.link → IsUnknown (b.link m)) → (b.link t.link).up ≡ true → TiedLink name (b.link t.link) link → IsMoved b → can_offer link.outbox ≡ true → MayWrite b t.link link.outbox.unwritten
+write_may b t name link others alive tied moved can =
+    let may = offer_stands name (b.link t.link) link alive can tied in
     record {
       moved = moved;
       up = may.0;
       answered = may.1;
       all = may.2;
       some = may.3;
-      in_order = λ m less up. absurd (not_both (b.link m).up (h.others m (λ e. omega (arith, e))).up up);
+      in_order = λ m less up. absurd (not_both (b.link m).up (others m (λ e. omega (arith, e))).up up);
     }
 
 -- what may be offered is
@@ -69,9 +97,9 @@ all_offered_can o = none_of (length o.unwritten == 0)
     none_of true = refl
     none_of false = refl
 
--- a link that is up can't offer
+-- a link that is up can't offer, nor can one that is set up
 abbrev pub IsOfferedIn : Life → Type 0
-IsOfferedIn life = (link : LinkState) → life ≡ Ready link → can_offer link.outbox ≡ false
+IsOfferedIn life = can_offer (whole_link life).outbox ≡ false
 
 -- the write of a turn is shown
 pub record HasWritten (before : List Action) (f : Core) (w : Work) : Type 0 where
@@ -80,7 +108,7 @@ pub record HasWritten (before : List Action) (f : Core) (w : Work) : Type 0 wher
 
 -- all requests of a session are moved
 pub moved_book : (before : List Action) (f : Core) (w : Work) → HasMoved before f w → IsMoved (book (trace_of_acts before f w.acts))
-moved_book before f w h = is_moved (book (trace_of_acts before f w.acts)) (seen f w.acts w.conn [] h.started) h.holds.tied refl refl h.ended h.fit.link h.fit.none h.still.held h.still.full h.still.waiting h.still.none_waits
+moved_book before f w h = is_moved (book (trace_of_acts before f w.acts)) (seen f w.acts w.conn [] h.started) h.holds.tied refl refl h.ended h.fit.link h.fit.none h.still.held h.still.full h.still.waiting h.still.none_waits h.fit.setup h.still.setup
 
 -- the link of a life
 same_link : (link other : LinkState) → Ready link ≡ Ready other → link ≡ other
@@ -98,46 +126,93 @@ write_shown before f w link life can h =
     record {
       moved = record {
         started = h.started;
-        holds = holds_more before f w a (with_link w (offered_of link)).conn [] [] h.started h.holds (write_may b t link tied (moved_book before f w h) can) (write_tied b t link tied);
+        holds = holds_more before f w a (with_link w (offered_of link)).conn [] [] h.started h.holds (write_may b t (owner_of w.conn.requests) link tied.others tied.life.1 (tied.link refl) (moved_book before f w h) can) (write_tied b t link tied);
         ended = subst NoneEnds (sym (book_of_more before f w.acts a)) (none_ends_kept b f.single.link (offers link.outbox.unwritten) (λ l e. e) h.ended);
         fit = record {
+          setup = λ other u e. cc;
           link = λ other e. subst (IsFit w.conn.size w.conn.boundary) (same_link after other e) (record { sound = fit.sound; size_is = fit.size_is; bound_is = fit.bound_is; within = fit.within });
           none = λ none. absurd (none after refl);
         };
         still = record {
+          setup = λ other u e. cc;
           held = λ other e. subst (λ (x : LinkState). (x.queue ≡ []) ⊎ (holds_back x ≡ true)) (same_link after other e) (h.still.held link life);
           full = λ other e. subst (λ (x : LinkState). (w.conn.admitted ≡ []) ⊎ (is_full x ≡ true)) (same_link after other e) (h.still.full link life);
           waiting = λ other e. h.still.waiting link life;
           none_waits = λ e. cc;
         };
       };
-      offered = λ other e. subst (λ (x : LinkState). can_offer x.outbox ≡ false) (same_link (offered_of link) other e) (all_offered_can link.outbox);
+      offered = all_offered_can link.outbox;
     }
+
+-- the link of a life that is set up
+same_set : (link other : LinkState) (u v : Bool) → SettingUp link u ≡ SettingUp other v → link ≡ other
+same_set link other u v e = cc
+
+-- while the link is set up
+write_set_shown : (before : List Action) (f : Core) (w : Work) (link : LinkState) (with_user : Bool) → w.conn.life ≡ SettingUp link with_user → can_offer link.outbox ≡ true → HasMoved before f w
+    → HasWritten before f (acted (with_setup w (offered_of link) with_user) (act.Write link.outbox.unwritten))
+write_set_shown before f w link with_user life can h =
+    let b = book (trace_of_acts before f w.acts) in
+    let t = seen f w.acts w.conn [] h.started in
+    let a = act.Write link.outbox.unwritten in
+    let fit = h.fit.setup link with_user life in
+    let after = offered_of link in
+    let tied = subst (λ (x : Life). Tied b (record t { life = x })) life h.holds.tied in
+    record {
+      moved = record {
+        started = h.started;
+        holds = holds_more before f w a (with_setup w (offered_of link) with_user).conn [] [] h.started h.holds (write_may b t (λ (p : ℕ). owner.Setup) link tied.others tied.life.1 (tied.link refl) (moved_book before f w h) can) (write_set_tied b t link with_user tied);
+        ended = subst NoneEnds (sym (book_of_more before f w.acts a)) (none_ends_kept b f.single.link (offers link.outbox.unwritten) (λ l e. e) h.ended);
+        fit = record {
+          setup = λ other u e. subst (IsFit w.conn.size w.conn.boundary) (same_set after other with_user u e) (record { sound = fit.sound; size_is = fit.size_is; bound_is = fit.bound_is; within = fit.within });
+          link = λ other e. cc;
+          none = λ none. h.fit.none (λ other e. absurd (setting_not_ready w.conn.life link other with_user life e));
+        };
+        still = record {
+          setup = λ other u e. subst (λ (x : LinkState). (x.queue ≡ []) ⊎ (holds_back x ≡ true)) (same_set after other with_user u e) (h.still.setup link with_user life);
+          held = λ other e. cc;
+          full = λ other e. cc;
+          waiting = λ other e. cc;
+          none_waits = λ e. cc;
+        };
+      };
+      offered = all_offered_can link.outbox;
+    }
+  where
+    setting_not_ready : (life : Life) (link other : LinkState) (u : Bool) → life ≡ SettingUp link u → life ≡ Ready other → ⊥
+    setting_not_ready life link other u e r = let no : SettingUp link u ≡ Ready other = sym e ∙ r in cc
 
 -- the link's one write
 pub written_holds : (before : List Action) (f : Core) (w : Work) → HasMoved before f w → HasWritten before f (written w)
 written_holds before f w h = by_life w.conn.life refl
   where
+    can_not : (x : Life) → w.conn.life ≡ x → IsOfferedIn x → IsOfferedIn w.conn.life
+    can_not x e n = ap (λ (y : Life). can_offer (whole_link y).outbox) e ∙ n
+
     by_life : (life : Life) → w.conn.life ≡ life → HasWritten before f (written w)
-    by_life Dialing e = subst (λ (x : Life). HasWritten before f (written_at w x)) (sym e) (record { moved = h; offered = λ link x. (let no : Dialing ≡ Ready link = sym e ∙ x in cc) })
-    by_life (Ended y) e = subst (λ (x : Life). HasWritten before f (written_at w x)) (sym e) (record { moved = h; offered = λ link x. (let no : Ended y ≡ Ready link = sym e ∙ x in cc) })
+    by_life Dialing e = subst (λ (x : Life). HasWritten before f (written_at w x)) (sym e) (record { moved = h; offered = can_not Dialing e refl })
+    by_life (Ended y) e = subst (λ (x : Life). HasWritten before f (written_at w x)) (sym e) (record { moved = h; offered = can_not (Ended y) e refl })
+    by_life (SettingUp link with_user) e =
+        subst (λ (x : Life). HasWritten before f (written_at w x)) (sym e)
+        (chosen (HasWritten before f) (can_offer link.outbox) (acted (with_setup w (offered_of link) with_user) (act.Write link.outbox.unwritten)) w
+        (λ t. write_set_shown before f w link with_user e t h)
+        (λ n. record { moved = h; offered = can_not (SettingUp link with_user) e n }))
     by_life (Ready link) e =
         subst (λ (x : Life). HasWritten before f (written_at w x)) (sym e)
         (chosen (HasWritten before f) (can_offer link.outbox) (acted (with_link w (offered_of link)) (act.Write link.outbox.unwritten)) w
         (λ t. write_shown before f w link e t h)
-        (λ n. record { moved = h; offered = λ other x. subst (λ (y : LinkState). can_offer y.outbox ≡ false) (same_link link other (sym e ∙ x)) n }))
+        (λ n. record { moved = h; offered = can_not (Ready link) e n }))
 
 -- every link that is up is offered its bytes
 --
 up_offered : (b : Book) (t : Inner) → Tied b t → IsOfferedIn t.life → (b.link t.link).up ≡ true → IsOffered (b.link t.link)
-up_offered b t h offered up = by_life t.life refl
+up_offered b t h offered up = is_offered (carried t.life t.requests) (b.link t.link) (whole_link t.life) offered (h.link (alive t.life h.life))
   where
-    by_life : (life : Life) → t.life ≡ life → IsOffered (b.link t.link)
-    by_life Dialing e = absurd (not_both (b.link t.link).up (subst (λ (x : Life). TiedLife (b.link t.link) b.created x) e h.life).1 up)
-    by_life (Ended y) e = absurd (not_both (b.link t.link).up (subst (λ (x : Life). TiedLife (b.link t.link) b.created x) e h.life).0 up)
-    by_life (Ready link) e =
-        let tied = subst (λ (x : Life). TiedLink (owner_of t.requests) (b.link t.link) (link_in x)) e (h.link (ap has_ended e)) in
-        is_offered (owner_of t.requests) (b.link t.link) link (offered link e) tied
+    alive : (life : Life) → TiedLife (b.link t.link) b.created life → has_ended life ≡ false
+    alive Dialing k = refl
+    alive (SettingUp link with_user) k = refl
+    alive (Ready link) k = refl
+    alive (Ended y) k = absurd (not_both (b.link t.link).up k.0 up)
 
 -- so the book has all its writes
 pub is_written : (b : Book) (t : Inner) → Tied b t → IsMoved b → IsOfferedIn t.life → IsWritten b

@@ -18,7 +18,7 @@ session_tool --version  the version
 gen N and live CONFIG are not in this version: they answer 1
 
 A script, each line an example:
-config single url=redis://HOST:PORT lib=off
+config single url=redis://HOST:PORT
 submit cmd GET a                         a command
 submit noreply SET k 1                   a command whose reply nobody awaits
 submit pipe GET a ; GET b                a pipeline
@@ -38,6 +38,7 @@ timeout none                             or within any time
 shutdown                                 everything is closed
 end                                      the last line
 
+What the URL has of a user, a password, a database and a protocol is said to the server first, and which library speaks, unless lib=off stands there.
 The time of the connect is 1000 ms, or what connect=MS or connect=none says in the first line.
 The time of a request is 500 ms, or what response=MS or response=none says there; limit=COUNT sets how many permits there are.
 The queue of a link holds 50 messages, or what buffer=COUNT says there, and none starts while 8192 bytes or more, or what boundary=BYTES says, are unwritten.

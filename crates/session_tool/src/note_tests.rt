@@ -11,7 +11,7 @@ const CONFIG: &[u8] = b"config single url=redis://h:6379 connect=none response=n
 const FIRST_LINES: [(&[u8], &[u8]); 17] = [
     (
         b"end\n",
-        b"line 1: end: the first line is config single url=URL lib=off, with connect=MS, response=MS (MS or none), buffer=COUNT, limit=COUNT and boundary=BYTES where wanted\n",
+        b"line 1: end: the first line is config single url=URL, with connect=MS, response=MS (MS or none), buffer=COUNT, limit=COUNT, boundary=BYTES and lib=on or lib=off where wanted\n",
     ),
     (
         b"config manager url=redis://h:6379 connect=none response=none lib=off\n",
@@ -42,8 +42,8 @@ const FIRST_LINES: [(&[u8], &[u8]); 17] = [
         b"line 1: config single url=redis://h:6379 connect=none response=5s: response is a number of milliseconds, at most 18446744073709551615, or none\n",
     ),
     (
-        b"config single url=redis://h:6379 connect=none response=none lib=on\n",
-        b"line 1: .. single url=redis://h:6379 connect=none response=none lib=on: only off is supported yet\n",
+        b"config single url=redis://h:6379 connect=none lib=yes response=none\n",
+        b"line 1: config single url=redis://h:6379 connect=none lib=yes: lib is on or off\n",
     ),
     (
         b"config single url=redis://h:6379 conect=none response=none lib=off\n",
@@ -58,12 +58,12 @@ const FIRST_LINES: [(&[u8], &[u8]); 17] = [
         b"line 1: config single url=redis://h:6379 connect=none connect=none: each key stands once\n",
     ),
     (
-        b"config single url=redis://h:6379 connect=none response=5\n",
-        b"line 1: config single url=redis://h:6379 connect=none response=5: each of url and lib stands once\n",
+        b"config single url=redis://h:6379 lib=on lib=on\n",
+        b"line 1: config single url=redis://h:6379 lib=on lib=on: each key stands once\n",
     ),
     (
         b"config single connect=none response=none lib=off\n",
-        b"line 1: config single connect=none response=none lib=off: each of url and lib stands once\n",
+        b"line 1: config single connect=none response=none lib=off: url stands once\n",
     ),
     (
         b"config single url=redis://h:6379 ; connect=none response=none lib=off\n",
@@ -333,26 +333,18 @@ const BAD_EVENTS: [(&[u8], &[u8]); 15] = [
 ];
 
 /// URLs with more settings that are refused, and the notes on them.
-const REFUSED: [(&[u8], &[u8]); 7] = [
+const REFUSED: [(&[u8], &[u8]); 5] = [
     (
         b"http://h",
-        b"line 1: the URL is no address: it has the scheme redis or valkey, a host, and behind them no more than a port, a database and a protocol\n",
+        b"line 1: the URL is no address: it has the scheme redis or valkey and a host, and beside them no more than a user, a password, a port, a database and a protocol\n",
     ),
     (
         b"",
-        b"line 1: the URL is no address: it has the scheme redis or valkey, a host, and behind them no more than a port, a database and a protocol\n",
+        b"line 1: the URL is no address: it has the scheme redis or valkey and a host, and beside them no more than a user, a password, a port, a database and a protocol\n",
     ),
     (
-        b"redis://:pass@h",
-        b"line 1: this address asks for a password, a protocol or a database, which this version doesn't set up\n",
-    ),
-    (
-        b"redis://h/1",
-        b"line 1: this address asks for a password, a protocol or a database, which this version doesn't set up\n",
-    ),
-    (
-        b"redis://h?protocol=3",
-        b"line 1: this address asks for a password, a protocol or a database, which this version doesn't set up\n",
+        b"redis://:pass@h/1?protocol=3 limit=0",
+        b"line 1: a request holds at least 1 permit: limit=0 leaves none for any\n",
     ),
     (
         b"redis://h buffer=0",

@@ -29,11 +29,7 @@ const SPENT_NOTE: &[u8] = b"a number of 32 bits has run out: split the script\n"
 
 /// Where a URL is no address.
 const URL_WORDS: &[u8] =
-    b"the URL is no address: it has the scheme redis or valkey, a host, and behind them no more than a port, a database and a protocol";
-
-/// Where an address asks for what a session doesn't make yet.
-const KIND_WORDS: &[u8] =
-    b"this address asks for a password, a protocol or a database, which this version doesn't set up";
+    b"the URL is no address: it has the scheme redis or valkey and a host, and beside them no more than a user, a password, a port, a database and a protocol";
 
 /// Where there would be no permit.
 const LIMIT_WORDS: &[u8] = b"a request holds at least 1 permit: limit=0 leaves none for any";
@@ -83,7 +79,6 @@ fn config_words(alloc: Global, name: ConfigName) -> Result<Bytes, AllocError>
 {
     match name {
         ConfigName::Url => Bytes::from_slice(alloc, URL_WORDS),
-        ConfigName::Kind => Bytes::from_slice(alloc, KIND_WORDS),
         ConfigName::Limit => Bytes::from_slice(alloc, LIMIT_WORDS),
         ConfigName::Buffer => Bytes::from_slice(alloc, BUFFER_WORDS),
         _ => {

@@ -1,4 +1,5 @@
 ghost use Rattle.std.specs.Prelude.{◌≡◌, ◌==◌, ◌+◌, ℕ, List, IfSome};
+ghost use Rattle.connection_info.specs.declared.address.RedisConnectionInfo.{RedisConnectionInfo};
 ghost use Rattle.driver_model.specs.declared.action.Purpose.{Purpose};
 ghost use Rattle.driver_model.specs.News.{news_of, told};
 ghost use Rattle.legal_trace.specs.Book.{Book, blank_book, book, entered, entered_each, if_mine};
@@ -95,11 +96,11 @@ impl Offer {
         }
     }
 
-    /// After the connect of this link was asked for.
+    /// After the connect of this link was asked for, whatever is said to its server then.
     fn asking(self, link: u32) -> Offer
         ensures links { result.links ≡ self.links }
-        ensures first { (l : Ledger) → IsOfferIn self l
-            → IsOfferIn result (noted_each l (if_mine (link == 0) asks)) }
+        ensures first { (l : Ledger) (info : RedisConnectionInfo) → IsOfferIn self l
+            → IsOfferIn result (noted_each l (if_mine (link == 0) (asks info))) }
     {
         if link == FIRST_LINK {
             Offer {

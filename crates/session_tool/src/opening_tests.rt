@@ -126,14 +126,84 @@ end
     status: 3,
 };
 
-/// An address that asks for a setup.
-const WITH_SETUP: Row = Row {
-    script: b"config single url=redis://:secret@h response=none lib=off
-fired 7
+/// A password that the server refuses.
+const WRONG_PASSWORD: Row = Row {
+    script: b"config single url=redis://:pw@h:6379 connect=none response=none lib=off
+connected 0
+bytes 0 -WRONGPASS%20no%0D%0A
 end
 ",
-    output: b"config kind\n",
-    status: 3,
+    output: b"turn 0 config single url=redis://:pw@h:6379 connect=none response=none lib=off
+connect 0 h:6379
+turn 1 connected 0
+start 0 0 setup 1 22
+write 0 *2%0D%0A$4%0D%0AAUTH%0D%0A$2%0D%0Apw%0D%0A
+turn 2 bytes 0 -WRONGPASS%20no%0D%0A
+close 0
+created err auth-failed WRONGPASS%20no
+",
+    status: 0,
+};
+
+/// An address and nothing else: the server is told which library speaks.
+const DEFAULTS: Row = Row {
+    script: b"config single url=redis://127.0.0.1
+connected 0
+bytes 0 +OK%0D%0A
+bytes 0 +OK%0D%0A
+submit cmd SET greeting hello
+bytes 0 +OK%0D%0A
+end
+",
+    output: b"turn 0 config single url=redis://127.0.0.1
+connect 0 127.0.0.1:6379
+timer 0 1000 connect 0
+turn 1 connected 0
+start 0 0 setup 2 110
+write 0 *4%0D%0A$6%0D%0ACLIENT%0D%0A$7%0D%0ASETINFO%0D%0A$8%0D%0ALIB-NAME%0D%0A$8%0D%0Aredis-rs%0D%0A*4%0D%0A$6%0D%0ACLIENT%0D%0A$7%0D%0ASETINFO%0D%0A$7%0D%0ALIB-VER%0D%0A$5%0D%0A1.7.0%0D%0A
+turn 2 bytes 0 +OK%0D%0A
+turn 3 bytes 0 +OK%0D%0A
+created ok
+turn 4 submit cmd SET greeting hello
+timer 1 500 response s0.0
+start 0 1 s0.0 1 38
+turn 5 bytes 0 +OK%0D%0A
+outcome s0 ok +OK%0D%0A
+",
+    status: 0,
+};
+
+/// A request that waits for the setup, and a setup that says no user name the second time.
+const NO_USER_NAME: Row = Row {
+    script: b"config single url=redis://me:pw@h connect=none response=none lib=off
+submit cmd PING
+connected 0
+submit cmd PING
+bytes 0 -ERR%20wrong%20number%20of%20arguments%0D%0A
+wrote 0 30
+bytes 0 +OK%0D%0A
+end
+",
+    output: b"turn 0 config single url=redis://me:pw@h connect=none response=none lib=off
+connect 0 h:6379
+turn 1 submit cmd PING
+wait s0.0 connect
+turn 2 connected 0
+start 0 0 setup 1 30
+write 0 *3%0D%0A$4%0D%0AAUTH%0D%0A$2%0D%0Ame%0D%0A$2%0D%0Apw%0D%0A
+wait s0.0 setup
+turn 3 submit cmd PING
+wait s1.0 setup
+turn 4 bytes 0 -ERR%20wrong%20number%20of%20arguments%0D%0A
+start 0 1 setup 1 22
+turn 5 wrote 0 30
+write 0 *2%0D%0A$4%0D%0AAUTH%0D%0A$2%0D%0Apw%0D%0A
+turn 6 bytes 0 +OK%0D%0A
+created ok
+start 0 2 s0.0 1 14
+start 0 3 s1.0 1 14
+",
+    status: 0,
 };
 
 /// A queue that holds nothing.
@@ -149,6 +219,15 @@ end
 /// A limit of no permits, and a queue that holds nothing.
 const NO_PERMIT: Row = Row {
     script: b"config single url=redis://h:6379 limit=0 buffer=0 lib=off
+end
+",
+    output: b"config limit\n",
+    status: 3,
+};
+
+/// A limit of no permits, and nothing else but the address.
+const LIMIT_ALONE: Row = Row {
+    script: b"config single url=redis://h:6379 limit=0
 end
 ",
     output: b"config limit\n",
@@ -181,9 +260,12 @@ fn openings_may_fail(rt: HostRuntime) -> Result<(), Fail> {
         REFUSED,
         IN_TIME,
         NO_ADDRESS,
-        WITH_SETUP,
+        WRONG_PASSWORD,
+        DEFAULTS,
+        NO_USER_NAME,
         NO_QUEUE,
         NO_PERMIT,
+        LIMIT_ALONE,
         NOTHING_RIGHT,
         NO_SCRIPT,
     ] {

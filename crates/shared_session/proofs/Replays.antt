@@ -72,6 +72,7 @@ told_shown link (act.Close ∷ more) os t = told_shown link more os _
 told_shown link (act.Write bytes ∷ more) os t = told_shown link more os _
 told_shown link (act.Wait n kind ∷ more) os t = told_shown link more os _
 told_shown link (act.Start message n need len ∷ more) os t = told_shown link more os _
+told_shown link (act.SetUp message need len ∷ more) os t = told_shown link more os _
 
 -- the connect and its timer tell no outcome
 told_asked : (info : Option ConnectionInfo) (timeout : Option ℕ) → told_each [] (connect_asked info timeout) ≡ []
@@ -111,6 +112,7 @@ late_turns t (Some (Some p)) = refl
 fired_turns : (t : Turning) (slot : Option Purpose) → (fired_by t slot).core.turns ≡ t.core.turns
 fired_turns t None = refl
 fired_turns t (Some (purpose.Connect l)) = refl
+fired_turns t (Some (purpose.Response owner.Setup)) = refl
 fired_turns t (Some (purpose.Response (owner.Try n round))) = late_turns t (slice_get t.core.table n)
 
 requested_turns : (t : Turning) (kind : EventKind) → (requested t kind).core.turns ≡ t.core.turns

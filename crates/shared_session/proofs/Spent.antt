@@ -57,6 +57,7 @@ late_timers t (Some (Some p)) = refl
 fired_timers : (t : Turning) (slot : Option Purpose) → (fired_by t slot).core.timers ≡ t.core.timers
 fired_timers t None = refl
 fired_timers t (Some (purpose.Connect l)) = refl
+fired_timers t (Some (purpose.Response owner.Setup)) = refl
 fired_timers t (Some (purpose.Response (owner.Try n round))) = late_timers t (slice_get t.core.table n)
 
 left_timers : (t : Turning) (slot : Option (Option Pending)) → (left_by t slot).core.timers ≡ t.core.timers

@@ -8,13 +8,14 @@ use Rattle.driver_model.specs.declared.event.EventKind.{EventKind}
 use Rattle.driver_model.specs.declared.event.EventKind.TheVariants as event
 use Rattle.driver_model.specs.News.{News, silence, connected, refused, overdue, took, came, failed, shut, for_link, of_timer, news_of}
 use Rattle.mux_conn.specs.declared.life.Life.{Life}
-use Rattle.mux_conn.specs.declared.life.Life.TheVariants.{Dialing, Ready, Ended}
+use Rattle.mux_conn.specs.declared.life.Life.TheVariants.{Dialing, SettingUp, Ready, Ended}
 use Rattle.mux_conn.specs.Effects.{IsWithin, CanTake}
 use Rattle.shared_session.specs.declared.core_state.Core.{Core}
 use Rattle.shared_session.specs.Turn.{is_bad, is_no_link, exceeds_offer, IsKnown}
 
 can_take : (life : Life) (count : ℕ) → exceeds_offer life count ≡ false → CanTake life count
 can_take Dialing count f = tt
+can_take (SettingUp link with_user) count f = not_lt_from link.outbox.offered count f
 can_take (Ready link) count f = not_lt_from link.outbox.offered count f
 can_take (Ended e) count f = tt
 

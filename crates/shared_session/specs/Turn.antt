@@ -18,7 +18,7 @@ use Rattle.driver_model.specs.Request.{packed_bytes, shape_of, is_reply_awaited,
 use Rattle.mux_conn.specs.declared.act.LinkAct.{LinkAct}
 use Rattle.mux_conn.specs.declared.act.LinkAct.TheVariants as act
 use Rattle.mux_conn.specs.declared.life.Life.{Life}
-use Rattle.mux_conn.specs.declared.life.Life.TheVariants.{Dialing, Ready, Ended}
+use Rattle.mux_conn.specs.declared.life.Life.TheVariants.{Dialing, SettingUp, Ready, Ended}
 use Rattle.mux_conn.specs.declared.request.Pending.{Pending}
 use Rattle.mux_conn.specs.Connection.{Work, is_spent_in}
 use Rattle.mux_conn.specs.Requests.{asked}
@@ -105,6 +105,7 @@ late_by t (Some (Some p)) = with_work t (timed_out (work_of t) p.number)
 abbrev pub fired_by : Turning → Option Purpose → Turning
 fired_by t None = t
 fired_by t (Some (purpose.Connect l)) = t
+fired_by t (Some (purpose.Response owner.Setup)) = t
 fired_by t (Some (purpose.Response (owner.Try n round))) = late_by t (slice_get t.core.table n)
 
 -- what an event is to the submissions
@@ -143,6 +144,7 @@ abbrev pub timer_of : LinkAct → List Purpose
 timer_of (act.Timer n ms) = purpose.Response (owner.Try n 0) ∷ []
 timer_of (act.Took n count) = []
 timer_of (act.Created e) = []
+timer_of (act.SetUp message need len) = []
 timer_of act.Close = []
 timer_of (act.Write bytes) = []
 timer_of (act.Wait n kind) = []
@@ -167,6 +169,7 @@ abbrev pub shown : ℕ → ℕ → LinkAct → Action
 shown l t (act.Created e) = action.Created e
 shown l t (act.Took n count) = action.Took (owner.Try n 0) l count
 shown l t (act.Timer n ms) = action.Timer t ms (purpose.Response (owner.Try n 0))
+shown l t (act.SetUp message need len) = action.Start l message owner.Setup need len
 shown l t act.Close = action.Close l
 shown l t (act.Write bytes) = action.Write l bytes
 shown l t (act.Wait n kind) = action.Wait (owner.Try n 0) kind
@@ -193,6 +196,7 @@ IsFewer c = length c.single.connection.requests ≤ length c.table
 -- more bytes were taken than are offered
 abbrev pub exceeds_offer : Life → ℕ → Bool
 exceeds_offer Dialing count = nat_lt 0 count
+exceeds_offer (SettingUp link with_user) count = nat_lt link.outbox.offered count
 exceeds_offer (Ready link) count = nat_lt link.outbox.offered count
 exceeds_offer (Ended e) count = false
 

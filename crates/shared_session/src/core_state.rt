@@ -225,6 +225,9 @@ impl Core {
         match purpose {
             Purpose::Connect { link: _ } => Ok(()),
             Purpose::Response {
+                owner: Owner::Setup,
+            } => Ok(()),
+            Purpose::Response {
                 owner: Owner::Try {
                     submission,
                     round: _,
@@ -297,6 +300,7 @@ impl Core {
     {
         match &self.single.connection.life {
             Life::Dialing => count > 0,
+            Life::SettingUp { link, with_user: _ } => count > link.offered_len(),
             Life::Ready { link } => count > link.offered_len(),
             Life::Ended { error: _ } => false,
         }

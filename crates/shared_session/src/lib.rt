@@ -13,6 +13,8 @@ pub use session::{Failure, Session};
 pub use showing::Done;
 
 #[cfg(test)]
+mod setup_tests;
+#[cfg(test)]
 mod tests;
 #[cfg(test)]
 mod threads_tests;

@@ -2,14 +2,14 @@ ghost use Rattle.std.specs.Prelude.{◌≡◌, ◌⊎◌, ℕ, ◌<◌, ◌+◌,
 ghost use Rattle.std.specs.Prelude.{false, Some, OnOk, OnErr, IfOk, IsErrOf, option_copied};
 ghost use Rattle.shared_session.specs.Turn.{shown_each, timers_of};
 ghost use Rattle.shared_session.specs.Done.{done_each, put_each};
-ghost use Rattle.driver_model.specs.Config.{address, first_fault};
+ghost use Rattle.driver_model.specs.Config.{address, told_info, first_fault};
 ghost use Rattle.shared_session.specs.Replay.{first_link, opening_core, opening_actions, with_room};
 ghost use Rattle.shared_session.specs.Replay.{connect_timers, timer_asked, IsSound};
 
 use crate::core_state::{Core, Single};
 use crate::errors::{MakeError, StepError};
 use crate::showing::{Done, show_each};
-use connection_info::{ConnectionInfo, OpenError};
+use connection_info::{ConnectionInfo, OpenError, RedisConnectionInfo};
 use containers::{Queue, Seq};
 use driver_model::{Action, Cause, Config, Event, EventKind, Outcome, Purpose};
 use mux_conn::{ConnectionError, LinkAct, MultiplexedConnection};
@@ -86,8 +86,13 @@ fn opening_timers(alloc: Global, timeout: Option<u64>) -> Result<Seq<Purpose>, A
     Ok(timers)
 }
 
-/// The state after the opening.
-fn opened(alloc: Global, config: &Config) -> Result<Core, AllocError>
+/// The state after the opening, where this is what is said to the server.
+fn opened(
+    alloc: Global,
+    config: &Config,
+    info: RedisConnectionInfo,
+) -> Result<Core, AllocError>
+    requires { info ≡ told_info config.now }
     ensures { IfOk result (λ core. (word : ℕ) → core ≡ opening_core config.now word) }
 {
     let timers = opening_timers(alloc, config.connect_timeout())?;
@@ -105,6 +110,7 @@ fn opened(alloc: Global, config: &Config) -> Result<Core, AllocError>
                 config.buffer_size(),
                 config.boundary(),
                 config.limit,
+                info,
             ),
         },
     })
@@ -190,7 +196,8 @@ impl Session {
             Err(_) => return Err(MakeError::NoMemory),
         };
         let events = Seq::new(alloc);
-        let core = opened(alloc, &config)?;
+        let told = config.told_info(alloc, &info)?;
+        let core = opened(alloc, &config, told)?;
         show_opening(alloc, &config, info, word, out)?;
         Ok(Session {
             config,

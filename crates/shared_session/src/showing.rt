@@ -61,6 +61,13 @@ fn action_of(link: u32, timer: u64, act: LinkAct) -> Action
             need,
             len,
         },
+        LinkAct::SetUp { message, need, len } => Action::Start {
+            link,
+            message,
+            owner: Owner::Setup,
+            need,
+            len,
+        },
         LinkAct::Outcome { request, outcome } => Action::Outcome {
             submission: request,
             outcome,

@@ -43,6 +43,7 @@ pub(crate) fn config_of(
     let mut config = Config::new(Bytes::from_slice(alloc, url)?);
     config.connect = connect;
     config.response = UNBOUNDED;
+    config.lib = Some(false);
     Ok(config)
 }
 
@@ -173,6 +174,7 @@ fn fault_word(error: &RedisError) -> &'static str {
         RedisError::EmptyCommand => "empty",
         RedisError::Io { fault } => fault.name(),
         RedisError::Server(_) => "server",
+        RedisError::AuthFailed { text: _ } => "not authenticated",
         RedisError::Aborted { errors } => aborted_word(errors),
         _ => "fault",
     }
@@ -190,18 +192,21 @@ fn aborted_word(errors: &Aborts) -> &'static str {
     }
 }
 
-fn number_of(owner: &Owner) -> u32 {
+/// Whose message or wait it is: the number of the submission, or the setup.
+fn owner_text(alloc: Global, owner: &Owner) -> Result<String, AllocError> {
     match owner {
         Owner::Try {
             submission,
             round: _,
-        } => *submission,
+        } => format!(in alloc; "{submission}"),
+        Owner::Setup => format!(in alloc; "setup"),
     }
 }
 
 fn wait_word(wait: WaitKind) -> &'static str {
     match wait {
         WaitKind::Connect => "",
+        WaitKind::Setup => " setup",
         WaitKind::Permit => " permit",
         WaitKind::Place => " place",
         WaitKind::Room => " room",
@@ -224,7 +229,7 @@ fn show_timer(
     let line = match purpose {
         Purpose::Connect { link } => format!(in alloc; "timer {timer} {ms} connect {link}; ")?,
         Purpose::Response { owner } => {
-            format!(in alloc; "timer {timer} {ms} response {}; ", number_of(&owner))?
+            format!(in alloc; "timer {timer} {ms} response {}; ", owner_text(alloc, &owner)?)?
         }
     };
     log.extend_from_slice(line.as_bytes())
@@ -254,11 +259,11 @@ fn show(alloc: Global, action: &Action, log: &mut Vec<u8>) -> Result<(), AllocEr
             owner,
             link: _,
             count,
-        } => format!(in alloc; "took {} {count}; ", number_of(owner))?,
+        } => format!(in alloc; "took {} {count}; ", owner_text(alloc, owner)?)?,
         Action::Close { link } => format!(in alloc; "close {link}; ")?,
         Action::Write { link: _, bytes } => return write(bytes, log),
         Action::Wait { owner, wait } => {
-            format!(in alloc; "wait {}{}; ", number_of(owner), wait_word(*wait))?
+            format!(in alloc; "wait {}{}; ", owner_text(alloc, owner)?, wait_word(*wait))?
         }
         Action::Start {
             link: _,
@@ -266,7 +271,7 @@ fn show(alloc: Global, action: &Action, log: &mut Vec<u8>) -> Result<(), AllocEr
             owner,
             need,
             len,
-        } => { format!(in alloc; "start {message} {} {need} {len}; ", number_of(owner))? }
+        } => { format!(in alloc; "start {message} {} {need} {len}; ", owner_text(alloc, owner)?)? }
         Action::Created { error } => return show_creation(error, log),
         Action::Outcome {
             submission,
@@ -567,9 +572,9 @@ const ADDRESSES: [(&[u8], &str); 11] = [
     (b"redis://", "url"),
     (b"rediss://h", "url"),
     (b"redis://h\xFF", "url"),
-    (b"redis://:secret@h", "kind"),
-    (b"redis://h?protocol=3", "kind"),
-    (b"redis://h/1", "kind"),
+    (b"redis://:secret@h", "nothing"),
+    (b"redis://h?protocol=3", "nothing"),
+    (b"redis://h/1", "nothing"),
 ];
 
 #[test]

@@ -92,7 +92,8 @@ fn a_late_timer_changes_nothing(rt: HostRuntime) -> Result<(), AllocError> {
     ];
     let wanted = "turn 0; connect 0 6379; timer 0 1000 connect 0; turn 1; created; turn 2; \
 timer 1 500 response 0; start 0 0 1 20; write *2\r\n$3\r\nGET\r\n$1\r\na\r\n; turn 3; 0 okay; turn 4; ";
-    let config = Config::new(Bytes::from_slice(alloc, b"redis://h")?);
+    let mut config = Config::new(Bytes::from_slice(alloc, b"redis://h")?);
+    config.lib = Some(false);
     compare_with(&rt, alloc, config, list.as_slice(), wanted)
 }
 

@@ -14,12 +14,12 @@ use Rattle.driver_model.specs.Request.{is_single_nameless, has_no_form}
 use Rattle.redis_error.specs.declared.fault_kind.FaultKind.{FaultKind}
 use Rattle.redis_error.specs.declared.fault_kind.FaultKind.TheVariants as fault
 use Rattle.redis_error.specs.Names.{fault_name}
-use Rattle.script_text.specs.Numbers.{number, max_u32, max_u64, time_limit}
-use Rattle.script_text.specs.ConfigLine.{is_setting, keys, values, only, is_value, allows, given, config_of}
+use Rattle.script_text.specs.Numbers.{number, max_u32, max_u64, time_limit, switch}
+use Rattle.script_text.specs.ConfigLine.{is_setting, keys, values, only, allows, given, config_of}
 use Rattle.script_text.specs.EventLine.{by_first, commands, submissions, faults, fault_among, failed, others, event_of}
 use Rattle.script_text.specs.Words.{LineWords, all_of}
 use Rattle.legal_trace.specs.Legal.{event_causes}
-use Rattle.trace_text.specs.Show.{url, draw_words, connect_words, response_words, buffer_words, limit_words, boundary_words, times_words, numbers_words, later_words, config_words, time_word, first_of, behind_first, submission_words, submission_more, event_words, event_more}
+use Rattle.trace_text.specs.Show.{url, draw_words, connect_words, response_words, buffer_words, limit_words, boundary_words, lib_words, times_words, numbers_words, later_words, config_words, time_word, first_of, behind_first, submission_words, submission_more, event_words, event_more}
 use Rattle.containers.proofs.Choices.{chosen, eq_from}
 use Rattle.text_laws.specs.Fits.{FitsSubmission, FitsKind, FitsEvent, FitsLimit, FitsNumber, FitsConfig, FitsHistory, HasForm, HaveForms}
 use Rattle.text_laws.specs.History.{drawn, opening_in, drawing, event_in, script_with, history_in}
@@ -145,10 +145,15 @@ read_as found = record { allowed = is_some found; read = found }
 abbrev as_given : {A : Type 0} → Option A → Setting A
 as_given found = record { allowed = true; read = found }
 
--- the values that the words of a time give, and those of a number
+-- the values that the words of a time give, those of a switch, and those of a number
 abbrev times_in : Option (Option ℕ) → List (List ℕ)
 times_in None = []
 times_in (Some ms) = time_word ms ∷ []
+
+abbrev switches_in : Option Bool → List (List ℕ)
+switches_in None = []
+switches_in (Some true) = codes "on" ∷ []
+switches_in (Some false) = codes "off" ∷ []
 
 abbrev numbers_in : Option ℕ → List (List ℕ)
 numbers_in None = []
@@ -158,7 +163,7 @@ numbers_in (Some n) = decimal n ∷ []
 read_once : {A : Type 0} (read : List ℕ → Option A) (value : List ℕ) (a : A) → read value ≡ Some a → setting_of read (value ∷ []) ≡ as_given (Some a)
 read_once read value a is = ap read_as is
 
--- the settings of a time and of a number, each by its words alone
+-- the settings of a time, of a number and of a switch, each by its words alone
 abbrev time_given : Option (Option ℕ) → Setting (Option ℕ)
 time_given limit = setting_of time_limit (times_in limit ++ [])
 
@@ -167,6 +172,14 @@ small_given n = setting_of (number max_u32) (numbers_in n ++ [])
 
 abbrev long_given : Option ℕ → Setting ℕ
 long_given n = setting_of (number max_u64) (numbers_in n ++ [])
+
+abbrev lib_given : Option Bool → Setting Bool
+lib_given lib = setting_of switch (switches_in lib ++ [])
+
+lib_back : (lib : Option Bool) → lib_given lib ≡ as_given lib
+lib_back None = refl
+lib_back (Some true) = refl
+lib_back (Some false) = refl
 
 limit_back : (limit : Option (Option ℕ)) → FitsLimit limit → time_given limit ≡ as_given limit
 limit_back None fits = refl
@@ -219,6 +232,9 @@ with_limit limit f = record f { limit = numbers_in limit ++ f.limit }
 abbrev with_boundary : Option ℕ → Found → Found
 with_boundary boundary f = record f { boundary = numbers_in boundary ++ f.boundary }
 
+abbrev with_lib : Option Bool → Found → Found
+with_lib lib f = record f { lib = switches_in lib ++ f.lib }
+
 connect_found : (connect : Option (Option ℕ)) (words : List (List ℕ)) → found_in (connect_words connect ++ words) ≡ with_connect connect (found_in words)
 connect_found None words = refl
 connect_found (Some None) words = refl
@@ -241,21 +257,23 @@ boundary_found : (boundary : Option ℕ) (words : List (List ℕ)) → found_in 
 boundary_found None words = refl
 boundary_found (Some bytes) words = refl
 
--- the last word
-abbrev last_word : List (List ℕ)
-last_word = codes "lib=off" ∷ []
+-- nothing is behind it
+lib_found : (lib : Option Bool) → found_in (lib_words lib) ≡ with_lib lib (found_in [])
+lib_found None = refl
+lib_found (Some true) = refl
+lib_found (Some false) = refl
 
 -- what is found in the words behind the address
 abbrev found_of : Config → Found
-found_of c = with_connect c.connect (with_response c.response (with_buffer c.buffer (with_limit c.limit (with_boundary c.boundary (found_in last_word)))))
+found_of c = with_connect c.connect (with_response c.response (with_buffer c.buffer (with_limit c.limit (with_boundary c.boundary (with_lib c.lib (found_in []))))))
 
 -- the words behind the address, in a row
 abbrev in_a_row : Config → List (List ℕ)
-in_a_row c = connect_words c.connect ++ (response_words c.response ++ (buffer_words c.buffer ++ (limit_words c.limit ++ (boundary_words c.boundary ++ last_word))))
+in_a_row c = connect_words c.connect ++ (response_words c.response ++ (buffer_words c.buffer ++ (limit_words c.limit ++ (boundary_words c.boundary ++ lib_words c.lib))))
 
 row_found : (c : Config) → found_in (in_a_row c) ≡ found_of c
 row_found c =
-    let permits = limit_words c.limit ++ (boundary_words c.boundary ++ last_word) in
+    let permits = limit_words c.limit ++ (boundary_words c.boundary ++ lib_words c.lib) in
     let numbers = buffer_words c.buffer ++ permits in
     connect_found c.connect (response_words c.response ++ numbers)
     ∙ ap (with_connect c.connect)
@@ -263,26 +281,27 @@ row_found c =
     ∙ ap (with_response c.response)
     (buffer_found c.buffer permits
     ∙ ap (with_buffer c.buffer)
-    (limit_found c.limit (boundary_words c.boundary ++ last_word) ∙ ap (with_limit c.limit) (boundary_found c.boundary last_word))))
+    (limit_found c.limit (boundary_words c.boundary ++ lib_words c.lib)
+    ∙ ap (with_limit c.limit) (boundary_found c.boundary (lib_words c.lib) ∙ ap (with_boundary c.boundary) (lib_found c.lib)))))
 
 later_row : (c : Config) → later_words c ≡ in_a_row c
 later_row c =
-    append_assoc (times_words c) (numbers_words c) last_word
-    ∙ append_assoc (connect_words c.connect) (response_words c.response) (numbers_words c ++ last_word)
+    append_assoc (times_words c) (numbers_words c) (lib_words c.lib)
+    ∙ append_assoc (connect_words c.connect) (response_words c.response) (numbers_words c ++ lib_words c.lib)
     ∙ ap (λ t. connect_words c.connect ++ (response_words c.response ++ t))
-    (append_assoc (buffer_words c.buffer ++ limit_words c.limit) (boundary_words c.boundary) last_word
-    ∙ append_assoc (buffer_words c.buffer) (limit_words c.limit) (boundary_words c.boundary ++ last_word))
+    (append_assoc (buffer_words c.buffer ++ limit_words c.limit) (boundary_words c.boundary) (lib_words c.lib)
+    ∙ append_assoc (buffer_words c.buffer) (limit_words c.limit) (boundary_words c.boundary ++ lib_words c.lib))
 
 -- a configuration by what is read of its settings
-abbrev config_by : List ℕ → Setting (Option ℕ) → Setting (Option ℕ) → Setting ℕ → Setting ℕ → Setting ℕ → Option Config
-config_by address connect response limit buffer boundary =
-    if ((connect.allowed && response.allowed) && (limit.allowed && (buffer.allowed && boundary.allowed))) && true
-    then Some (record { url = address; connect = connect.read; response = response.read; limit = limit.read; buffer = buffer.read; boundary = boundary.read }) else None
+abbrev config_by : List ℕ → Setting (Option ℕ) → Setting (Option ℕ) → Setting ℕ → Setting ℕ → Setting ℕ → Setting Bool → Option Config
+config_by address connect response limit buffer boundary lib =
+    if ((connect.allowed && response.allowed) && (limit.allowed && (buffer.allowed && boundary.allowed))) && lib.allowed
+    then Some (record { url = address; connect = connect.read; response = response.read; limit = limit.read; buffer = buffer.read; boundary = boundary.read; lib = lib.read }) else None
 
 -- a configuration by what is found in the words behind its address
 abbrev config_found : List ℕ → Found → Option Config
 config_found address f =
-    if f.are && (((allows time_limit f.connect && allows time_limit f.response) && (allows (number max_u32) f.limit && (allows (number max_u32) f.buffer && allows (number max_u64) f.boundary))) && is_value (only f.lib) (codes "off"))
+    if f.are && (((allows time_limit f.connect && allows time_limit f.response) && (allows (number max_u32) f.limit && (allows (number max_u32) f.buffer && allows (number max_u64) f.boundary))) && allows switch f.lib)
     then option_map (λ text. record {
       url = text;
       connect = given time_limit f.connect;
@@ -290,17 +309,19 @@ config_found address f =
       limit = given (number max_u32) f.limit;
       buffer = given (number max_u32) f.buffer;
       boundary = given (number max_u64) f.boundary;
+      lib = given switch f.lib;
     }) (only (address ∷ f.url)) else None
 
 config_back : (c : Config) → FitsConfig c → config_of (record { words = config_words c; more = [] }) ≡ Some c
 unfolding url config_of
 config_back c fits =
     ap (config_found c.url) (ap found_in (later_row c) ∙ row_found c)
-    ∙ ap (λ s. config_by c.url s (time_given c.response) (small_given c.limit) (small_given c.buffer) (long_given c.boundary)) (limit_back c.connect fits.connect)
-    ∙ ap (λ s. config_by c.url (as_given c.connect) s (small_given c.limit) (small_given c.buffer) (long_given c.boundary)) (limit_back c.response fits.response)
-    ∙ ap (λ s. config_by c.url (as_given c.connect) (as_given c.response) s (small_given c.buffer) (long_given c.boundary)) (small_back c.limit fits.limit)
-    ∙ ap (λ s. config_by c.url (as_given c.connect) (as_given c.response) (as_given c.limit) s (long_given c.boundary)) (small_back c.buffer fits.buffer)
-    ∙ ap (λ s. config_by c.url (as_given c.connect) (as_given c.response) (as_given c.limit) (as_given c.buffer) s) (long_back c.boundary fits.boundary)
+    ∙ ap (λ s. config_by c.url s (time_given c.response) (small_given c.limit) (small_given c.buffer) (long_given c.boundary) (lib_given c.lib)) (limit_back c.connect fits.connect)
+    ∙ ap (λ s. config_by c.url (as_given c.connect) s (small_given c.limit) (small_given c.buffer) (long_given c.boundary) (lib_given c.lib)) (limit_back c.response fits.response)
+    ∙ ap (λ s. config_by c.url (as_given c.connect) (as_given c.response) s (small_given c.buffer) (long_given c.boundary) (lib_given c.lib)) (small_back c.limit fits.limit)
+    ∙ ap (λ s. config_by c.url (as_given c.connect) (as_given c.response) (as_given c.limit) s (long_given c.boundary) (lib_given c.lib)) (small_back c.buffer fits.buffer)
+    ∙ ap (λ s. config_by c.url (as_given c.connect) (as_given c.response) (as_given c.limit) (as_given c.buffer) s (lib_given c.lib)) (long_back c.boundary fits.boundary)
+    ∙ ap (λ s. config_by c.url (as_given c.connect) (as_given c.response) (as_given c.limit) (as_given c.buffer) (as_given c.boundary) s) (lib_back c.lib)
 
 config_undrawn : (config : Config) → IsUndrawn (config_words config)
 config_undrawn config = refl

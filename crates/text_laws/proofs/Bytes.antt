@@ -1,5 +1,5 @@
 -- The words of a cause are bytes, and its numbers are read back.
-use Rattle.std.proofs.Common.{◌≡◌, ℕ, zero, suc, ◌+◌, ◌/◌, ◌%◌, ◌^◌, ◌<◌, ◌≤◌, true, false, not, ◌&&◌, ◌||◌, ◌==◌, nat_lt, nat_le, List, [], ◌∷◌, ◌++◌, length, get_or, All, Option, Some, None, codes, decimal, bytes_eq, refl, ap, ◌∙◌, if◌then◌else◌, arith}
+use Rattle.std.proofs.Common.{◌≡◌, ℕ, zero, suc, ◌+◌, ◌/◌, ◌%◌, ◌^◌, ◌<◌, ◌≤◌, Bool, true, false, not, ◌&&◌, ◌||◌, ◌==◌, nat_lt, nat_le, List, [], ◌∷◌, ◌++◌, length, get_or, All, Option, Some, None, codes, decimal, bytes_eq, refl, ap, ◌∙◌, if◌then◌else◌, arith}
 use Rattle.std.specs.Fmt.{digits, digits_onto, digit_glyph}
 use Rattle.std.specs.List.{list_all}
 use Rattle.std.specs.Str.{all_ascii_digits}
@@ -20,7 +20,7 @@ use Rattle.redis_error.specs.declared.fault_kind.FaultKind.{FaultKind}
 use Rattle.redis_error.specs.declared.fault_kind.FaultKind.TheVariants as fault
 use Rattle.redis_error.specs.Names.{fault_name}
 use Rattle.script_text.specs.Numbers.{is_decimal, number}
-use Rattle.trace_text.specs.Show.{url, connect_words, response_words, buffer_words, limit_words, boundary_words, times_words, numbers_words, later_words, time_word, draw_words, config_words, first_of, behind_first, submission_words, submission_more, event_words, event_more, cause_words, cause_more}
+use Rattle.trace_text.specs.Show.{url, connect_words, response_words, buffer_words, limit_words, boundary_words, lib_words, times_words, numbers_words, later_words, time_word, draw_words, config_words, first_of, behind_first, submission_words, submission_more, event_words, event_more, cause_words, cause_more}
 use Rattle.containers.proofs.Choices.{chosen, lt_from, not_lt_from, le_test, ne_test}
 use Rattle.text_laws.specs.Fits.{IsByte, AreBytes, FitsSubmission, FitsKind, FitsEvent, FitsConfig}
 
@@ -201,6 +201,11 @@ boundary_bytes : (boundary : Option ℕ) → All AreBytes (boundary_words bounda
 boundary_bytes None = no_words
 boundary_bytes (Some bytes) = setting_bytes (codes "boundary=") (decimal bytes) (looked (codes "boundary=") refl) (decimal_bytes bytes)
 
+lib_bytes : (lib : Option Bool) → All AreBytes (lib_words lib)
+lib_bytes None = no_words
+lib_bytes (Some true) = word_and (codes "lib=on") [] (looked (codes "lib=on") refl) no_words
+lib_bytes (Some false) = word_and (codes "lib=off") [] (looked (codes "lib=off") refl) no_words
+
 times_bytes : (config : Config) → All AreBytes (times_words config)
 times_bytes config = All-append AreBytes (connect_words config.connect) (response_words config.response) (connect_bytes config.connect) (response_bytes config.response)
 
@@ -211,8 +216,8 @@ numbers_bytes config =
 
 later_bytes : (config : Config) → All AreBytes (later_words config)
 later_bytes config =
-    All-append AreBytes (times_words config ++ numbers_words config) (codes "lib=off" ∷ []) (All-append AreBytes (times_words config) (numbers_words config) (times_bytes config) (numbers_bytes config))
-    (word_and (codes "lib=off") [] (looked (codes "lib=off") refl) no_words)
+    All-append AreBytes (times_words config ++ numbers_words config) (lib_words config.lib)
+    (All-append AreBytes (times_words config) (numbers_words config) (times_bytes config) (numbers_bytes config)) (lib_bytes config.lib)
 
 config_bytes : (config : Config) → FitsConfig config → All AreBytes (config_words config)
 config_bytes config fits =

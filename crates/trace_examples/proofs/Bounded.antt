@@ -14,7 +14,7 @@ use Rattle.driver_model.specs.News.{News, refused, overdue, took, came, failed, 
 use Rattle.legal_trace.specs.Ledger.{Ledger, Line, asks, hears, ends, dials, with_news, noted, noted_each}
 use Rattle.legal_trace.specs.Story.{Story, is_open}
 use Rattle.legal_trace.proofs.Ledgers.{unasked_dials_not}
-use Rattle.legal_trace.specs.Book.{Book, blank_book, if_mine, lines_of, is_clock_of, after_event, story_after, submitted_by, entered, entered_each}
+use Rattle.legal_trace.specs.Book.{Book, blank_book, info_in, if_mine, lines_of, is_clock_of, after_event, story_after, submitted_by, entered, entered_each}
 
 -- no link but the first is connected
 abbrev pub connects_first : EventKind → Bool
@@ -99,7 +99,7 @@ event_idle l turn timers n (event.Cancel m) some first h = record { down = h.dow
 still_idle : (b : Book) (n : ℕ) (a : Action) → 0 < n → is_of_first a ≡ true → IsIdle (b.link n) → IsIdle (noted_each (b.link n) (lines_of b n a))
 still_idle b n (action.Turn k (cause.Opening config word)) some first h = h
 still_idle b n (action.Turn k (cause.Event e)) some first h = event_idle (b.link n) k b.timers n e.kind some first h
-still_idle b n (action.Connect l host port) some first h = mine_idle b n l asks some first h
+still_idle b n (action.Connect l host port) some first h = mine_idle b n l (asks (info_in b.config)) some first h
 still_idle b n (action.Timer t ms what) some first h = h
 still_idle b n (action.Took who l count) some first h = h
 still_idle b n (action.Close l) some first h = mine_idle b n l (ends (b.turns - 1)) some first h
@@ -132,11 +132,14 @@ event_absent b n event.Shutdown l h = h
 still_absent : (b : Book) (n : ℕ) (a : Action) → (entered b a).submissions ≤ n → ((m : ℕ) → b.submissions ≤ m → IsAbsent (b.story m)) → IsAbsent (story_after b n a)
 still_absent b n (action.Turn k (cause.Opening config word)) l h = h n l
 still_absent b n (action.Turn k (cause.Event e)) l h = event_absent b n e.kind l (h n (omega arith))
+still_absent b n (action.Start m k owner.Setup count len) l h = h n l
 still_absent b n (action.Start m k (owner.Try i round) count len) l h = chosen IsAbsent (i == n) _ _ (λ t. h n l) (λ t. h n l)
+still_absent b n (action.Wait owner.Setup kind) l h = h n l
 still_absent b n (action.Wait (owner.Try i round) kind) l h = chosen IsAbsent (i == n) _ _ (λ t. h n l) (λ t. h n l)
 still_absent b n (action.Outcome m o) l h = chosen IsAbsent (m == n) _ _ (λ t. h n l) (λ t. h n l)
 still_absent b n (action.Connect m host port) l h = h n l
 still_absent b n (action.Timer t ms what) l h = chosen IsAbsent (is_clock_of n (Some what)) _ _ (λ e. h n l) (λ e. h n l)
+still_absent b n (action.Took owner.Setup m count) l h = h n l
 still_absent b n (action.Took (owner.Try i round) m count) l h = chosen IsAbsent (i == n) _ _ (λ t. h n l) (λ t. h n l)
 still_absent b n (action.Close m) l h = h n l
 still_absent b n (action.Write m bytes) l h = h n l

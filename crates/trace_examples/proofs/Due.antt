@@ -19,16 +19,17 @@ use Rattle.driver_model.specs.Config.{address, connect_timeout, first_fault}
 use Rattle.connection_info.specs.declared.address.ConnectionInfo.{ConnectionInfo}
 use Rattle.redis_error.specs.declared.redis_error.RedisError.{RedisError}
 use Rattle.driver_model.specs.Shape.{need_of}
-use Rattle.legal_trace.specs.Ledger.{Ending, is_over, ending, failure_in, unwritten}
+use Rattle.legal_trace.specs.Ledger.{Ending, is_ready, setup_count, setup_due, setup_message, is_over, ending, failure_in, unwritten}
 use Rattle.legal_trace.specs.Story.{is_open, is_unstarted, bytes_of, shape}
 use Rattle.legal_trace.specs.Book.{Book, blank_book, book, current, entered, entered_each}
-use Rattle.legal_trace.specs.Steps.{takes, asks, tells, starts, next_step}
+use Rattle.legal_trace.specs.Steps.{is_held_back, takes, asks, tells, starts, next_step}
 use Rattle.legal_trace.specs.Owed.{owed}
 use Rattle.legal_trace.specs.Events.{is_bad_event}
-use Rattle.legal_trace.specs.Legal.{IsOpen, IsWaiting, link_of, MayTurn, MayConnect, MayTimeConnect, MayTime, MayTake, MayTimer, MayClose, MayBeCreated, MayFail, MayAnswer, MayTell, MayStart, MayWrite, MayWait, MayStand, AllStand, causes, event_causes, Legal}
+use Rattle.legal_trace.specs.Legal.{IsOpen, IsWaiting, link_of, MayTurn, MayConnect, MayTimeConnect, MayTime, MayTake, MayTimer, MayClose, MaySetUp, MayBeCreated, MayFail, MayAnswer, MayTell, MayStart, MayWrite, MayWait, MayStand, AllStand, causes, event_causes, Legal}
+use Rattle.legal_trace.proofs.Setups.{due_count}
 use Rattle.trace_examples.proofs.Bounded.{IsBounded, is_of_first, still_bounded, blank_bounded}
 use Rattle.trace_examples.proofs.Checks.{holds_if, held, is_empty, empty_from, filled_from, each_below, below, same_step, step_from, is_other_wait, other_wait}
-use Rattle.trace_examples.proofs.Settled.{is_quiet, quiet, all_quiet, none_is_owed, all_shown, verdicts_are_shown, none_ends, no_end, failure_shown, failures_are_shown, is_applied, applied, all_stay, none_before, is_moved, moved, is_written, written, wait_holds, holds, is_waiting, waiting, is_settled, settled}
+use Rattle.trace_examples.proofs.Settled.{is_quiet, quiet, all_quiet, none_is_owed, all_shown, verdicts_are_shown, none_ends, no_end, failure_shown, failures_are_shown, is_applied, applied, ready_shown, ready_is_shown, is_to_set_up, is_begun, has_begun, all_stay, none_before, is_moved, moved, is_written, written, wait_holds, holds, is_waiting, waiting, is_settled, settled}
 
 -- a turn
 abbrev pub turn_due : Book → ℕ → Cause → Bool
@@ -44,14 +45,14 @@ turn_stands b k (cause.Event e) bounded t = record {
 
 -- a close of the first link
 abbrev pub close_due : Book → ℕ → Bool
-close_due b l = (l == 0) && is_some (ending (b.link l)) && all_shown b
+close_due b l = (l == 0) && is_some (ending (b.link l)) && all_shown b && ready_shown b
 
 close_stands : (b : Book) (l : ℕ) → IsBounded b → close_due b l ≡ true → MayClose b l
 close_stands b l bounded e = of_ending (ending (b.link l)) refl (search (both_left, both_right))
   where
     of_ending : (x : Option Ending) → ending (b.link l) ≡ x → is_some x ≡ true → MayClose b l
     of_ending None same t = cc t
-    of_ending (Some why) same t = record { why = why; ends = same; in_order = λ m below. let first = eq_from l 0 (search (both_left, both_right)) in absurd (omega arith); answered = verdicts_are_shown b bounded (search (both_left, both_right)) }
+    of_ending (Some why) same t = record { why = why; ends = same; in_order = λ m below. let first = eq_from l 0 (search (both_left, both_right)) in absurd (omega arith); answered = verdicts_are_shown b bounded (search (both_left, both_right)); created = ready_is_shown b bounded (search (both_left, both_right)) }
 
 -- the bytes of the first link; which bytes they are is left to be said
 abbrev pub write_due : Book → ℕ → List ℕ → Bool
@@ -93,12 +94,12 @@ wait_stands b n kind bounded e = record {
 -- a message of the first try
 abbrev pub start_due : Book → ℕ → ℕ → ℕ → ℕ → ℕ → Bool
 start_due b l k n count len =
-    (is_applied b && is_unstarted (b.story n) && same_step (next_step b n) starts && all_stay b n) &&
+    (is_begun b && is_unstarted (b.story n) && same_step (next_step b n) starts && all_stay b n) &&
     ((l == (b.story n).link) && (k == length (b.link l).starts) && (count == need_of (shape (b.story n))) && (len == length (bytes_of (b.story n))))
 
 start_stands : (b : Book) (l k n count len : ℕ) → IsBounded b → start_due b l k n count len ≡ true → MayStart b l k n count len
 start_stands b l k n count len bounded e = record {
-  applied = applied b bounded (search (both_left, both_right));
+  begun = has_begun b bounded (search (both_left, both_right));
   unstarted = search (both_left, both_right);
   starts = step_from (next_step b n) starts (search (both_left, both_right));
   in_order = none_before b n (search (both_left, both_right));
@@ -110,12 +111,12 @@ start_stands b l k n count len bounded e = record {
 
 -- permits that are taken
 abbrev pub take_due : Book → ℕ → ℕ → ℕ → Bool
-take_due b n l count = is_applied b && is_unstarted (b.story n) && same_step (next_step b n) (takes count) && all_stay b n && (l == (b.story n).link)
+take_due b n l count = is_begun b && is_unstarted (b.story n) && same_step (next_step b n) (takes count) && all_stay b n && (l == (b.story n).link)
 
 -- what this says
 take_stands : (b : Book) (n l count : ℕ) → IsBounded b → take_due b n l count ≡ true → MayTake b n l count
 take_stands b n l count bounded e = record {
-  applied = applied b bounded (search (both_left, both_right));
+  begun = has_begun b bounded (search (both_left, both_right));
   unstarted = search (both_left, both_right);
   takes = step_from (next_step b n) (takes count) (search (both_left, both_right));
   in_order = none_before b n (search (both_left, both_right));
@@ -124,13 +125,13 @@ take_stands b n l count bounded e = record {
 
 -- the timer of a submission
 abbrev pub ask_due : Book → ℕ → ℕ → ℕ → Bool
-ask_due b t ms n = is_applied b && is_unstarted (b.story n) && same_step (next_step b n) (asks ms) && all_stay b n && (t == length b.timers)
+ask_due b t ms n = is_begun b && is_unstarted (b.story n) && same_step (next_step b n) (asks ms) && all_stay b n && (t == length b.timers)
 
 -- what this says
 ask_stands : (b : Book) (t ms n : ℕ) → IsBounded b → ask_due b t ms n ≡ true → MayTime b t ms (purpose.Response (owner.Try n 0))
 ask_stands b t ms n bounded e = record {
   n = n;
-  applied = applied b bounded (search (both_left, both_right));
+  begun = has_begun b bounded (search (both_left, both_right));
   unstarted = search (both_left, both_right);
   asks = step_from (next_step b n) (asks ms) (search (both_left, both_right));
   in_order = none_before b n (search (both_left, both_right));
@@ -141,6 +142,7 @@ ask_stands b t ms n bounded e = record {
 -- the timer of the opening, of which is left to be said for how long and for what; or that of a submission
 abbrev pub timer_due : Book → ℕ → ℕ → Purpose → Bool
 timer_due b t ms (purpose.Connect l) = not (b.links == 0) && is_empty b.timers && (t == length b.timers)
+timer_due b t ms (purpose.Response owner.Setup) = false
 timer_due b t ms (purpose.Response (owner.Try n round)) = (round == 0) && ask_due b t ms n
 
 -- that a connect may take so long, and is what the timer is for
@@ -175,6 +177,7 @@ connect_timer_stands b t ms l e said = of_cause b.running refl said
 -- and any timer
 timer_stands : (b : Book) (t ms : ℕ) (what : Purpose) → IsBounded b → timer_due b t ms what ≡ true → IsTimeOf b ms what → MayTimer b t ms what
 timer_stands b t ms (purpose.Connect l) bounded e said = inl (connect_timer_stands b t ms l e said)
+timer_stands b t ms (purpose.Response owner.Setup) bounded e said = cc e
 timer_stands b t ms (purpose.Response (owner.Try n round)) bounded e said =
     inr (subst (λ r. MayTime b t ms (purpose.Response (owner.Try n r))) (sym (eq_from round 0 (both_left (round == 0) (ask_due b t ms n) e))) (ask_stands b t ms n bounded (both_right (round == 0) (ask_due b t ms n) e)))
 
@@ -194,21 +197,48 @@ failure_stands b e bounded t fails = record {
 
 -- the creation
 abbrev pub created_due : Book → Bool
-created_due b = (b.link 0).up && (b.created == 0) && all_quiet b && none_ends b
+created_due b = is_ready (b.link 0) && (b.created == 0) && all_shown b
 
 created_stands : (b : Book) → IsBounded b → created_due b ≡ true → MayBeCreated b
 created_stands b bounded e = record {
   l = 0;
-  up = search (both_left, both_right);
-  once = eq_from b.created 0 (search (both_left, both_right));
-  answered = none_is_owed b bounded (search (both_left, both_right));
-  ended = no_end b bounded (search (both_left, both_right));
+  ready = both_left (is_ready (b.link 0)) ((b.created == 0) && all_shown b) e;
+  once = eq_from b.created 0 (both_left (b.created == 0) (all_shown b) (both_right (is_ready (b.link 0)) ((b.created == 0) && all_shown b) e));
+  answered = verdicts_are_shown b bounded (both_right (b.created == 0) (all_shown b) (both_right (is_ready (b.link 0)) ((b.created == 0) && all_shown b) e));
 }
+
+-- the setup of the first link, of that number
+abbrev pub set_up_due : Book → ℕ → ℕ → ℕ → ℕ → Bool
+set_up_due b l message count len =
+    is_applied b && (l == 0) && is_to_set_up b && (message == length (b.link l).starts) &&
+    ((count == need_of (setup_message (b.link l) (setup_count (b.link l).starts)).shape) && (len == length (setup_message (b.link l) (setup_count (b.link l).starts)).bytes))
+
+-- what this says
+set_up_stands : (b : Book) (l message count len : ℕ) → IsBounded b → set_up_due b l message count len ≡ true → MaySetUp b l message count len
+set_up_stands b l message count len bounded e =
+    of_due (setup_due (b.link 0)) refl (both_left (is_some (setup_due (b.link 0))) (not (is_held_back b (b.link 0))) (search (both_left, both_right)))
+  where
+    of_due : (o : Option ℕ) → setup_due (b.link 0) ≡ o → is_some o ≡ true → MaySetUp b l message count len
+    of_due None same t = cc t
+    of_due (Some k) same t =
+        let first : l ≡ 0 = eq_from l 0 (search (both_left, both_right)) in
+        let due : setup_due (b.link l) ≡ Some k = ap (λ j. setup_due (b.link j)) first ∙ same in
+        let number : setup_count (b.link l).starts ≡ k = due_count (b.link l) k due in
+        record {
+          applied = applied b bounded (search (both_left, both_right));
+          k = k;
+          due = due;
+          free = ap (λ j. is_held_back b (b.link j)) first ∙ not-true (is_held_back b (b.link 0)) (both_right (is_some (setup_due (b.link 0))) (not (is_held_back b (b.link 0))) (search (both_left, both_right)));
+          in_order = λ m i below. absurd (omega (arith, first, below));
+          next = eq_from message (length (b.link l).starts) (search (both_left, both_right));
+          needs_its_items = eq_from count (need_of (setup_message (b.link l) (setup_count (b.link l).starts)).shape) (search (both_left, both_right)) ∙ ap (λ n. need_of (setup_message (b.link l) n).shape) number;
+          long_as_its_bytes = eq_from len (length (setup_message (b.link l) (setup_count (b.link l).starts)).bytes) (search (both_left, both_right)) ∙ ap (λ n. length (setup_message (b.link l) n).bytes) number;
+        }
 
 -- an outcome: what is owed, or where nothing is, the Nil of a command whose reply nobody awaits; which it is is left to be said
 abbrev pub outcome_due : Book → ℕ → Option Outcome → Bool
 outcome_due b n (Some o) = each_below (λ m. is_quiet b m) n && holds_if (is_over (link_of b n)) (none_ends b && all_shown b && failure_shown b)
-outcome_due b n None = is_applied b && is_unstarted (b.story n) && same_step (next_step b n) tells && all_stay b n
+outcome_due b n None = is_begun b && is_unstarted (b.story n) && same_step (next_step b n) tells && all_stay b n
 
 -- what is said is what is owed, or Nil
 abbrev pub IsSaid : Outcome → Option Outcome → Type 0
@@ -234,7 +264,7 @@ outcome_stands b n o bounded e said = of_owed (owed b n) refl (both_right (is_op
           );
     })
     of_owed None same t s = inr (record {
-      applied = applied b bounded (search (both_left, both_right));
+      begun = has_begun b bounded (search (both_left, both_right));
       asked = open_still;
       unstarted = search (both_left, both_right);
       tells = step_from (next_step b n) tells (search (both_left, both_right));
@@ -247,10 +277,13 @@ abbrev pub due : Book → Action → Bool
 due b (action.Turn k c) = turn_due b k c
 due b (action.Connect l host port) = (b.links == 0) && (l == 0)
 due b (action.Timer t ms what) = timer_due b t ms what
+due b (action.Took owner.Setup l count) = false
 due b (action.Took (owner.Try n round) l count) = (round == 0) && take_due b n l count
 due b (action.Close l) = close_due b l
 due b (action.Write l bytes) = write_due b l bytes
+due b (action.Wait owner.Setup kind) = false
 due b (action.Wait (owner.Try n round) kind) = (round == 0) && wait_due b n kind
+due b (action.Start l k owner.Setup count len) = set_up_due b l k count len
 due b (action.Start l k (owner.Try n round) count len) = (round == 0) && start_due b l k n count len
 due b (action.Created None) = created_due b
 due b (action.Created (Some e)) = failure_due b
@@ -316,12 +349,15 @@ first_stands : (b : Book) (a : Action) (more : List Action) → IsBounded b → 
 first_stands b (action.Turn k c) more bounded e said = (turn_stands b k c bounded e, said)
 first_stands b (action.Connect l host port) more bounded e said = (connect_stands b l host port e said.0, said.1)
 first_stands b (action.Timer t ms what) more bounded e said = (timer_stands b t ms what bounded e said.0, said.1)
+first_stands b (action.Took owner.Setup l count) more bounded e said = absurd (cc e)
 first_stands b (action.Took (owner.Try n round) l count) more bounded e said =
     ((eq_from round 0 (both_left (round == 0) (take_due b n l count) e), take_stands b n l count bounded (both_right (round == 0) (take_due b n l count) e)), said)
 first_stands b (action.Close l) more bounded e said = (close_stands b l bounded e, said)
 first_stands b (action.Write l bytes) more bounded e said = (write_stands b l bytes bounded e said.0, said.1)
+first_stands b (action.Wait owner.Setup kind) more bounded e said = absurd (cc e)
 first_stands b (action.Wait (owner.Try n round) kind) more bounded e said =
     ((eq_from round 0 (both_left (round == 0) (wait_due b n kind) e), wait_stands b n kind bounded (both_right (round == 0) (wait_due b n kind) e)), said)
+first_stands b (action.Start l k owner.Setup count len) more bounded e said = (set_up_stands b l k count len bounded e, said)
 first_stands b (action.Start l k (owner.Try n round) count len) more bounded e said =
     ((eq_from round 0 (both_left (round == 0) (start_due b l k n count len) e), start_stands b l k n count len bounded (both_right (round == 0) (start_due b l k n count len) e)), said)
 first_stands b (action.Created None) more bounded e said = (created_stands b bounded e, said)

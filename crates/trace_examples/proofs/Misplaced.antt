@@ -88,7 +88,7 @@ unfolding digits
 told_before_the_creation config word events after h =
     elim (may_stand config word events (up_in_wait config word (unawaited 71)) after (action.Outcome 0 (outcome.One Nil)) h) [
       | inl answer ↦ cc answer.owes
-      | inr tell ↦ tell.applied.created.shown 0 refl refl
+      | inr tell ↦ tell.begun.applied.created.shown 0 refl refl
     ]
 
 -- a close by bytes that begin no value, before the outcome of the value in front of them

@@ -8,6 +8,8 @@ use Rattle.resp_read.specs.Values.{values, left_over, is_spoiled}
 use Rattle.resp_read.specs.Items.{items}
 use Rattle.redis_error.specs.declared.fault_kind.FaultKind.TheVariants.{TimedOut}
 use Rattle.redis_error.specs.declared.redis_error.RedisError.TheVariants as error
+use Rattle.std.specs.Str.Lossy.{utf8_lossy, utf8_valid_len}
+use Rattle.url.proofs.OnLiterals.{url_on_literals}
 use Rattle.driver_model.specs.declared.action.Action.TheVariants as action
 use Rattle.driver_model.specs.declared.action.Cause.{Cause}
 use Rattle.driver_model.specs.declared.action.Cause.TheVariants as cause
@@ -36,7 +38,7 @@ pub timed_out_and_replied : IsTraceIn one_permit
     (event.Connected 0 ∷ event.Submit (command 71) ∷ event.Wrote 0 11 ∷ event.Submit (command 72) ∷ event.Fired 0 ∷ event.Bytes 0 one_reply ∷ [])
     replied_late
     []
-unfolding digits is_bad_event items values left_over is_spoiled max_depth
+unfolding digits is_bad_event items values left_over is_spoiled max_depth url_on_literals utf8_lossy utf8_valid_len
 timed_out_and_replied word = legal one_permit word _ _ refl refl (at_limited 1 (Some 100) refl, (tt, (refl, (refl, (tt, (refl, tt))))))
 
 -- a pipeline of two takes two of three permits, the next one the one that is left, and a command waits
@@ -44,7 +46,7 @@ pub two_of_three : IsTraceIn (permits_alone 3)
     (event.Connected 0 ∷ event.Submit two_together ∷ event.Submit two_together ∷ event.Submit (command 73) ∷ [])
     two_taken
     (action.Took (owner.Try 1 0) 0 1 ∷ action.Start 0 1 (owner.Try 1 0) 2 22 ∷ turn 4 (event.Submit (command 73)) ∷ action.Wait (owner.Try 2 0) wait.Permit ∷ [])
-unfolding digits is_bad_event
+unfolding digits is_bad_event url_on_literals utf8_lossy utf8_valid_len
 two_of_three word = legal (permits_alone 3) word _ _ refl refl (at_limited 3 None refl, (refl, tt))
 
 -- a command that is told at its place gives its permit back, and the next one takes it in the same turn
@@ -52,7 +54,7 @@ pub given_back_by_nil : IsTraceIn (permits_alone 1)
     (event.Submit (unawaited 71) ∷ event.Submit (command 72) ∷ event.Connected 0 ∷ [])
     unawaited_first
     (action.Took (owner.Try 0 0) 0 1 ∷ action.Outcome 0 (outcome.One Nil) ∷ action.Start 0 0 (owner.Try 0 0) 1 11 ∷ action.Took (owner.Try 1 0) 0 1 ∷ action.Start 0 1 (owner.Try 1 0) 1 11 ∷ action.Write 0 (packed_bytes (unawaited 71) ++ packed_bytes (command 72)) ∷ [])
-unfolding digits is_bad_event
+unfolding digits is_bad_event url_on_literals utf8_lossy utf8_valid_len
 given_back_by_nil word = legal (permits_alone 1) word _ _ refl refl (at_limited 1 None refl, (refl, (refl, tt)))
 
 -- a command that may take any time has no timer
@@ -60,7 +62,7 @@ pub no_time : IsTraceIn one_permit
     (event.Connected 0 ∷ event.Timeout None ∷ event.Submit (command 71) ∷ [])
     came_up
     (turn 2 (event.Timeout None) ∷ turn 3 (event.Submit (command 71)) ∷ action.Took (owner.Try 0 0) 0 1 ∷ action.Start 0 0 (owner.Try 0 0) 1 11 ∷ action.Write 0 (packed_bytes (command 71)) ∷ [])
-unfolding digits is_bad_event
+unfolding digits is_bad_event url_on_literals utf8_lossy utf8_valid_len
 no_time word = legal one_permit word _ _ refl refl (at_limited 1 (Some 100) refl, (refl, tt))
 
 -- and one that came behind another time has a timer of that
@@ -68,7 +70,7 @@ pub another_time : IsTraceIn one_permit
     (event.Connected 0 ∷ event.Timeout (Some 7) ∷ event.Submit (command 71) ∷ [])
     came_up
     (turn 2 (event.Timeout (Some 7)) ∷ turn 3 (event.Submit (command 71)) ∷ action.Took (owner.Try 0 0) 0 1 ∷ action.Timer 0 7 (purpose.Response (owner.Try 0 0)) ∷ action.Start 0 0 (owner.Try 0 0) 1 11 ∷ action.Write 0 (packed_bytes (command 71)) ∷ [])
-unfolding digits is_bad_event
+unfolding digits is_bad_event url_on_literals utf8_lossy utf8_valid_len
 another_time word = legal one_permit word _ _ refl refl (at_limited 1 (Some 100) refl, (tt, (refl, tt)))
 
 -- a command that waited for the connect waits for a permit behind it
@@ -76,7 +78,7 @@ pub the_connect_and_then_a_permit : IsTraceIn (permits_alone 1)
     (event.Submit (command 71) ∷ event.Submit (command 72) ∷ event.Connected 0 ∷ [])
     connect_left_standing
     (action.Wait (owner.Try 1 0) wait.Permit ∷ [])
-unfolding digits is_bad_event
+unfolding digits is_bad_event url_on_literals utf8_lossy utf8_valid_len
 the_connect_and_then_a_permit word = legal (permits_alone 1) word _ _ refl refl (at_limited 1 None refl, (refl, tt))
 
 -- a permit is free once its holder leaves
@@ -84,7 +86,7 @@ pub a_permit_that_was_left : IsTraceIn one_permit
     (event.Connected 0 ∷ event.Submit (command 71) ∷ event.Wrote 0 11 ∷ event.Submit (command 72) ∷ event.Cancel 0 ∷ [])
     second_came
     (action.Wait (owner.Try 1 0) wait.Permit ∷ turn 5 (event.Cancel 0) ∷ action.Took (owner.Try 1 0) 0 1 ∷ action.Timer 1 100 (purpose.Response (owner.Try 1 0)) ∷ action.Start 0 1 (owner.Try 1 0) 1 11 ∷ action.Write 0 (packed_bytes (command 72)) ∷ [])
-unfolding digits is_bad_event
+unfolding digits is_bad_event url_on_literals utf8_lossy utf8_valid_len
 a_permit_that_was_left word = legal one_permit word _ _ refl refl (at_limited 1 (Some 100) refl, (tt, (refl, (tt, (refl, tt)))))
 
 -- a timer that fires once its owner was told is nothing
@@ -92,7 +94,7 @@ pub fired_behind_nil : IsTraceIn one_permit
     (event.Connected 0 ∷ event.Submit (unawaited 71) ∷ event.Fired 0 ∷ [])
     (λ config word. arrived config word (unawaited 71))
     (action.Took (owner.Try 0 0) 0 1 ∷ action.Timer 0 100 (purpose.Response (owner.Try 0 0)) ∷ action.Outcome 0 (outcome.One Nil) ∷ action.Start 0 0 (owner.Try 0 0) 1 11 ∷ action.Write 0 (packed_bytes (unawaited 71)) ∷ turn 3 (event.Fired 0) ∷ [])
-unfolding digits is_bad_event
+unfolding digits is_bad_event url_on_literals utf8_lossy utf8_valid_len
 fired_behind_nil word = legal one_permit word _ _ refl refl (at_limited 1 (Some 100) refl, (tt, (refl, (refl, tt))))
 
 -- where nothing is said, the connect has a timer of 1,000 milliseconds, and a command one of 500, which its reply makes nothing
@@ -100,7 +102,7 @@ pub where_nothing_is_said : IsTraceIn plain
     (event.Connected 0 ∷ event.Submit (command 71) ∷ event.Fired 0 ∷ event.Bytes 0 one_reply ∷ event.Fired 1 ∷ [])
     second_timer
     (action.Start 0 0 (owner.Try 0 0) 1 11 ∷ action.Write 0 (packed_bytes (command 71)) ∷ turn 3 (event.Fired 0) ∷ turn 4 (event.Bytes 0 one_reply) ∷ action.Outcome 0 (reply 120) ∷ turn 5 (event.Fired 1) ∷ [])
-unfolding digits is_bad_event items values left_over is_spoiled max_depth
+unfolding digits is_bad_event items values left_over is_spoiled max_depth url_on_literals utf8_lossy utf8_valid_len
 where_nothing_is_said word = legal plain word _ _ refl refl (at_plain, ((refl, refl), (tt, (refl, (refl, tt)))))
 
 -- commands that wait for room and for a place are answered once their time is over
@@ -108,7 +110,7 @@ pub timed_out_in_wait : IsTraceIn (held_for 100)
     (event.Connected 0 ∷ event.Submit (command 71) ∷ event.Submit (command 72) ∷ event.Submit (command 73) ∷ event.Fired 1 ∷ event.Fired 2 ∷ [])
     three_timers
     (turn 5 (event.Fired 1) ∷ action.Outcome 1 (outcome.Fault (error.Io TimedOut)) ∷ action.Wait (owner.Try 2 0) wait.Room ∷ turn 6 (event.Fired 2) ∷ action.Outcome 2 (outcome.Fault (error.Io TimedOut)) ∷ [])
-unfolding digits is_bad_event
+unfolding digits is_bad_event url_on_literals utf8_lossy utf8_valid_len
 timed_out_in_wait word = legal (held_for 100) word _ _ refl refl (at_held_for 100, (tt, (refl, (tt, (tt, (refl, (refl, tt)))))))
 
 -- these fronts stand

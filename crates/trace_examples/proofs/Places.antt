@@ -4,6 +4,8 @@ use Rattle.std.specs.Fmt.{digits}
 use Rattle.resp_value.specs.declared.value.Value.TheVariants.{Nil}
 use Rattle.redis_error.specs.declared.fault_kind.FaultKind.TheVariants.{Reset}
 use Rattle.redis_error.specs.declared.redis_error.RedisError.TheVariants as error
+use Rattle.std.specs.Str.Lossy.{utf8_lossy, utf8_valid_len}
+use Rattle.url.proofs.OnLiterals.{url_on_literals}
 use Rattle.driver_model.specs.declared.action.Action.TheVariants as action
 use Rattle.driver_model.specs.declared.action.Cause.{Cause}
 use Rattle.driver_model.specs.declared.action.Cause.TheVariants as cause
@@ -32,7 +34,7 @@ pub cut_off_in_wait : IsTraceIn narrow
     (event.Connected 0 ∷ event.Submit (command 71) ∷ event.Submit two_together ∷ event.Submit (command 72) ∷ event.ReadFault 0 Reset ∷ [])
     third_held
     (turn 5 (event.ReadFault 0 Reset) ∷ action.Close 0 ∷ action.Outcome 0 (outcome.Fault (error.Io Reset)) ∷ action.Outcome 1 (outcome.Fault error.Closed) ∷ action.Outcome 2 (outcome.Fault error.Closed) ∷ [])
-unfolding digits is_bad_event
+unfolding digits is_bad_event url_on_literals utf8_lossy utf8_valid_len
 cut_off_in_wait word = legal narrow word _ _ refl refl (at_held 30 50 refl, (refl, (refl, (refl, (refl, tt)))))
 
 -- and starts once fewer bytes are unwritten
@@ -40,7 +42,7 @@ pub started_later : IsTraceIn narrow
     (event.Connected 0 ∷ event.Submit (command 71) ∷ event.Submit two_together ∷ event.Submit (command 72) ∷ event.Wrote 0 11 ∷ [])
     third_held
     (turn 5 (event.Wrote 0 11) ∷ action.Start 0 2 (owner.Try 2 0) 1 11 ∷ action.Write 0 (packed_bytes two_together ++ packed_bytes (command 72)) ∷ [])
-unfolding digits is_bad_event
+unfolding digits is_bad_event url_on_literals utf8_lossy utf8_valid_len
 started_later word = legal narrow word _ _ refl refl (at_held 30 50 refl, (refl, (refl, tt)))
 
 -- a place is free once the message that had it starts, and then its owner waits for room
@@ -48,7 +50,7 @@ pub a_place_and_then_room : IsTraceIn one_at_a_time
     (event.Connected 0 ∷ event.Submit (command 71) ∷ event.Submit (command 72) ∷ event.Submit (command 73) ∷ event.Wrote 0 4 ∷ event.Wrote 0 7 ∷ [])
     (λ config word. queue_full config word (command 73))
     (turn 5 (event.Wrote 0 4) ∷ action.Write 0 (drop 4 (packed_bytes (command 71))) ∷ turn 6 (event.Wrote 0 7) ∷ action.Start 0 1 (owner.Try 1 0) 1 11 ∷ action.Write 0 (packed_bytes (command 72)) ∷ action.Wait (owner.Try 2 0) wait.Room ∷ [])
-unfolding digits is_bad_event
+unfolding digits is_bad_event url_on_literals utf8_lossy utf8_valid_len
 a_place_and_then_room word = legal one_at_a_time word _ _ refl refl (at_held 0 1 refl, (refl, (refl, (refl, tt))))
 
 -- and once its owner left
@@ -56,7 +58,7 @@ pub a_place_that_was_left : IsTraceIn one_at_a_time
     (event.Connected 0 ∷ event.Submit (command 71) ∷ event.Submit (command 72) ∷ event.Submit (command 73) ∷ event.Cancel 1 ∷ [])
     (λ config word. queue_full config word (command 73))
     (turn 5 (event.Cancel 1) ∷ action.Wait (owner.Try 2 0) wait.Room ∷ [])
-unfolding digits is_bad_event
+unfolding digits is_bad_event url_on_literals utf8_lossy utf8_valid_len
 a_place_that_was_left word = legal one_at_a_time word _ _ refl refl (at_held 0 1 refl, (refl, tt))
 
 -- a command that waited for the connect waits for room behind it
@@ -64,7 +66,7 @@ pub the_connect_and_then_room : IsTraceIn one_at_a_time
     (event.Submit (command 71) ∷ event.Submit (command 72) ∷ event.Connected 0 ∷ [])
     second_unshown
     (action.Wait (owner.Try 1 0) wait.Room ∷ [])
-unfolding digits is_bad_event
+unfolding digits is_bad_event url_on_literals utf8_lossy utf8_valid_len
 the_connect_and_then_room word = legal one_at_a_time word _ _ refl refl (at_held 0 1 refl, (refl, tt))
 
 -- where nobody awaits its reply, it is told once it has a place, and starts later
@@ -72,7 +74,7 @@ pub told_once_it_has_a_place : IsTraceIn one_at_a_time
     (event.Connected 0 ∷ event.Submit (command 71) ∷ event.Submit (command 72) ∷ event.Submit (unawaited 73) ∷ event.Wrote 0 11 ∷ event.Wrote 0 11 ∷ [])
     (λ config word. queue_full config word (unawaited 73))
     (turn 5 (event.Wrote 0 11) ∷ action.Start 0 1 (owner.Try 1 0) 1 11 ∷ action.Outcome 2 (outcome.One Nil) ∷ action.Write 0 (packed_bytes (command 72)) ∷ turn 6 (event.Wrote 0 11) ∷ action.Start 0 2 (owner.Try 2 0) 1 11 ∷ action.Write 0 (packed_bytes (unawaited 73)) ∷ [])
-unfolding digits is_bad_event
+unfolding digits is_bad_event url_on_literals utf8_lossy utf8_valid_len
 told_once_it_has_a_place word = legal one_at_a_time word _ _ refl refl (at_held 0 1 refl, (refl, (refl, (refl, (refl, tt)))))
 
 -- these fronts stand

@@ -9,12 +9,13 @@ use Rattle.driver_model.specs.declared.action.Cause.{Cause}
 use Rattle.driver_model.specs.declared.action.Cause.TheVariants as cause
 use Rattle.driver_model.specs.declared.action.WaitKind.{WaitKind}
 use Rattle.driver_model.specs.declared.event.Submission.{Submission}
-use Rattle.legal_trace.specs.Ledger.{Ledger, IsOffered, is_over, ending, failure_in, unwritten}
+use Rattle.legal_trace.specs.Ledger.{Ledger, IsOffered, is_over, ending, failure_in, unwritten, is_full, is_ready, is_set_up, setup_due}
 use Rattle.legal_trace.specs.Story.{Try, last_of, is_open, is_told, is_unstarted, is_awaited, is_no_error, awaited_in}
 use Rattle.legal_trace.specs.Book.{Book}
-use Rattle.legal_trace.specs.Steps.{waits, is_due, next_step}
-use Rattle.legal_trace.specs.Owed.{owed, is_full}
-use Rattle.legal_trace.specs.Legal.{IsOpen, link_of, NoneIsOwed, VerdictsAreShown, NoneEnds, FailuresAreShown, IsTimed, IsApplied, CanMove, IsMoved, IsWritten, WaitHolds, IsStarted, IsWaiting, IsSettled}
+use Rattle.legal_trace.specs.Steps.{waits, is_due, next_step, is_held_back}
+use Rattle.legal_trace.proofs.Setups.{due_is_up}
+use Rattle.legal_trace.specs.Owed.{owed}
+use Rattle.legal_trace.specs.Legal.{IsOpen, link_of, NoneIsOwed, VerdictsAreShown, NoneEnds, FailuresAreShown, IsTimed, IsApplied, CanMove, IsMoved, IsWritten, WaitHolds, IsStarted, IsWaiting, IsSettled, ReadyIsShown, IsBegun}
 use Rattle.trace_examples.proofs.Bounded.{IsBounded, IsIdle}
 use Rattle.trace_examples.proofs.Checks.{holds_if, held, none_from, is_empty, empty_from, filled_from, each_below, below, same_step, step_from}
 
@@ -117,9 +118,18 @@ timed b e config word opens bounded =
     some_from None n = absurd (n refl)
     some_from (Some x) n = refl
 
+-- where the link is ready, this was shown
+abbrev pub ready_shown : Book → Bool
+ready_shown b = holds_if (is_ready (b.link 0)) (not (b.created == 0))
+
+pub ready_is_shown : (b : Book) → IsBounded b → ready_shown b ≡ true → ReadyIsShown b
+ready_is_shown b bounded t l = first_and_idle b (λ m. is_ready (b.link m) ≡ true → b.created ≢ 0) l bounded
+    (λ ready. other_than_zero b.created (held (is_ready (b.link 0)) (not (b.created == 0)) t ready))
+    (λ idle ready. absurd (not_both (b.link l).up idle.down (both_left (b.link l).up (is_set_up (b.link l)) ready)))
+
 -- the event has had its own effect
 abbrev pub is_applied : Book → Bool
-is_applied b = all_quiet b && none_ends b && not (b.links == 0) && holds_if (b.link 0).up (not (b.created == 0)) && failure_shown b && is_timed b
+is_applied b = all_quiet b && none_ends b && not (b.links == 0) && ready_shown b && failure_shown b && is_timed b
 
 pub applied : (b : Book) → IsBounded b → is_applied b ≡ true → IsApplied b
 applied b bounded e = record {
@@ -127,10 +137,36 @@ applied b bounded e = record {
   ended = no_end b bounded (search (both_left, both_right));
   created = record {
     asked = other_than_zero b.links (search (both_left, both_right));
-    shown = λ l u. of_up b (λ m. b.created ≢ 0) l bounded (λ t. other_than_zero b.created (held (b.link 0).up (not (b.created == 0)) (search (both_left, both_right)) t)) u;
+    shown = ready_is_shown b bounded (search (both_left, both_right));
     failed = failures_are_shown b bounded (search (both_left, both_right));
   };
   timed = timed b (search (both_left, both_right));
+}
+
+-- the setup of the first link is to start
+abbrev pub is_to_set_up : Book → Bool
+is_to_set_up b = is_some (setup_due (b.link 0)) && not (is_held_back b (b.link 0))
+
+-- so no other is
+idle_undue : (l : Ledger) (k : ℕ) → IsIdle l → setup_due l ≡ Some k → ⊥
+idle_undue l k idle due = not_both l.up idle.down (due_is_up l k due)
+
+-- setups have started
+abbrev pub is_begun : Book → Bool
+is_begun b = is_applied b && not (is_to_set_up b)
+
+-- what doesn't hold with another
+second_fails : (p q : Bool) → (p && not q) ≡ false → p ≡ true → q ≡ true
+second_fails true true e t = refl
+second_fails true false e t = cc e
+second_fails false q e t = cc t
+
+pub has_begun : (b : Book) → IsBounded b → is_begun b ≡ true → IsBegun b
+has_begun b bounded e = record {
+  applied = applied b bounded (both_left (is_applied b) (not (is_to_set_up b)) e);
+  setups = λ l k. first_and_idle b (λ m. setup_due (b.link m) ≡ Some k → is_held_back b (b.link m) ≡ true) l bounded
+      (λ due. second_fails (is_some (setup_due (b.link 0))) (is_held_back b (b.link 0)) (not-true (is_to_set_up b) (both_right (is_applied b) (not (is_to_set_up b)) e)) (ap is_some due))
+      (λ idle due. absurd (idle_undue (b.link l) k idle due));
 }
 
 -- its message has not started, and it makes a step
@@ -169,12 +205,12 @@ absent_stays b n e can = elim (open_or_told (is_open (b.story n)) (is_told (b.st
 
 -- all steps that may be made were made
 abbrev pub is_moved : Book → Bool
-is_moved b = is_applied b && all_stay b b.submissions
+is_moved b = is_begun b && all_stay b b.submissions
 
 pub moved : (b : Book) → IsBounded b → is_moved b ≡ true → IsMoved b
 moved b bounded e = record {
-  applied = applied b bounded (both_left (is_applied b) (all_stay b b.submissions) e);
-  moved = λ n can. by_test (nat_lt n b.submissions) ⊥ (λ l. none_before b b.submissions (both_right (is_applied b) (all_stay b b.submissions) e) n (lt_from n b.submissions l) can)
+  begun = has_begun b bounded (both_left (is_begun b) (all_stay b b.submissions) e);
+  moved = λ n can. by_test (nat_lt n b.submissions) ⊥ (λ l. none_before b b.submissions (both_right (is_begun b) (all_stay b b.submissions) e) n (lt_from n b.submissions l) can)
       (λ l. absent_stays b n (bounded.absent n (not_lt_from n b.submissions l)) can);
 }
 

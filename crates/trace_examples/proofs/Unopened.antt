@@ -97,4 +97,4 @@ timer_left_out config number c bounded word events after h = of_cause c (may_sta
   where
     of_cause : (c : Cause) → MayTurn (book_of (opening config word)) number c → ⊥
     of_cause (cause.Opening other draws) m = cc m.is_for
-    of_cause (cause.Event e) m = m.is_for.1.written.moved.applied.timed config word refl bounded refl
+    of_cause (cause.Event e) m = m.is_for.1.written.moved.begun.applied.timed config word refl bounded refl

@@ -1,5 +1,5 @@
 -- What the traces are made of: configurations, turns, submissions, the bytes of replies, and outcomes. The commands have one word, G or H, of 11 bytes when packed.
-use Rattle.std.specs.Prelude.{ℕ, List, [], ◌∷◌, Option, Some, None, codes}
+use Rattle.std.specs.Prelude.{ℕ, false, List, [], ◌∷◌, Option, Some, None, codes}
 use Rattle.resp_value.specs.declared.server_error.ServerError.{ServerError}
 use Rattle.resp_value.specs.Data.{simple}
 use Rattle.resp_value.specs.View.{value_of}
@@ -14,9 +14,10 @@ use Rattle.driver_model.specs.declared.event.Submission.TheVariants as submissio
 use Rattle.driver_model.specs.declared.outcome.Outcome.{Outcome}
 use Rattle.driver_model.specs.declared.outcome.Outcome.TheVariants as outcome
 
--- the server at h:6379, and what is said of the time of a connect; a request may take any time, and permits aren't counted
+-- the server at h:6379, to which nothing is to be said, and what is said of the time of a connect; a request may take any time,
+-- and permits aren't counted
 abbrev pub at_server : Option (Option ℕ) → Config
-at_server connect = record { url = codes "redis://h:6379"; connect = connect; response = Some None; limit = None; buffer = None; boundary = None }
+at_server connect = record { url = codes "redis://h:6379"; connect = connect; response = Some None; limit = None; buffer = None; boundary = None; lib = Some false }
 
 -- a connect that may take any time, and one that may take what it may where nothing is said: 1,000 milliseconds
 abbrev pub unbounded : Config
@@ -28,21 +29,21 @@ bounded = at_server None
 -- a connect that may take any time, and a link whose queue holds that many messages, and on which none starts while bytes are
 -- unwritten and as many as that bound
 abbrev pub held_at : ℕ → ℕ → Config
-held_at bound size = record { url = codes "redis://h:6379"; connect = Some None; response = Some None; limit = None; buffer = Some size; boundary = Some bound }
+held_at bound size = record { url = codes "redis://h:6379"; connect = Some None; response = Some None; limit = None; buffer = Some size; boundary = Some bound; lib = Some false }
 
 -- a connect that may take any time, so many permits, and so many milliseconds within which a request is to be answered, if
 -- within any
 abbrev pub limited_to : ℕ → Option ℕ → Config
-limited_to limit ms = record { url = codes "redis://h:6379"; connect = Some None; response = Some ms; limit = Some limit; buffer = None; boundary = None }
+limited_to limit ms = record { url = codes "redis://h:6379"; connect = Some None; response = Some ms; limit = Some limit; buffer = None; boundary = None; lib = Some false }
 
 -- nothing said but the address: a connect may take 1,000 milliseconds, and a request 500
 abbrev pub plain : Config
-plain = record { url = codes "redis://h:6379"; connect = None; response = None; limit = None; buffer = None; boundary = None }
+plain = record { url = codes "redis://h:6379"; connect = None; response = None; limit = None; buffer = None; boundary = None; lib = Some false }
 
 -- a link whose queue holds one message, and on which none starts while bytes are unwritten, and so many milliseconds for a
 -- request
 abbrev pub held_for : ℕ → Config
-held_for ms = record { url = codes "redis://h:6379"; connect = Some None; response = Some (Some ms); limit = None; buffer = Some 1; boundary = Some 0 }
+held_for ms = record { url = codes "redis://h:6379"; connect = Some None; response = Some (Some ms); limit = None; buffer = Some 1; boundary = Some 0; lib = Some false }
 
 -- these events, one after another
 abbrev pub history : List EventKind → List Event

@@ -1,5 +1,5 @@
 -- The text of a trace: for each action the line of its words.
-use Rattle.std.specs.Prelude.{ℕ, ◌==◌, List, [], ◌∷◌, ◌++◌, Option, Some, None, codes, decimal, flat_map, if◌then◌else◌}
+use Rattle.std.specs.Prelude.{ℕ, Bool, true, false, ◌==◌, List, [], ◌∷◌, ◌++◌, Option, Some, None, codes, decimal, flat_map, if◌then◌else◌}
 use Rattle.std.specs.Str.{byte}
 use Rattle.resp_value.specs.Data.{array, items_of}
 use Rattle.redis_error.specs.Names.{fault_name}
@@ -11,7 +11,7 @@ use Rattle.driver_model.specs.declared.event.Submission.TheVariants as submissio
 use Rattle.driver_model.specs.declared.event.EventKind.{EventKind}
 use Rattle.driver_model.specs.declared.event.EventKind.TheVariants as event
 use Rattle.driver_model.specs.declared.action.Owner.{Owner}
-use Rattle.driver_model.specs.declared.action.Owner.TheVariants.{Try}
+use Rattle.driver_model.specs.declared.action.Owner.TheVariants.{Try, Setup}
 use Rattle.driver_model.specs.declared.action.WaitKind.{WaitKind}
 use Rattle.driver_model.specs.declared.action.WaitKind.TheVariants as wait
 use Rattle.driver_model.specs.declared.action.Purpose.{Purpose}
@@ -34,12 +34,14 @@ address host port = host ++ byte ":" ∷ decimal port
 abbrev pub submission_word : ℕ → List ℕ
 submission_word s = byte "s" ∷ decimal s
 
--- a try of a submission: its number and its round
+-- a try of a submission, its number and its round, or what is said to the server before the first request
 abbrev pub owner_word : Owner → List ℕ
 owner_word (Try s round) = submission_word s ++ byte "." ∷ decimal round
+owner_word Setup = codes "setup"
 
 abbrev pub wait_word : WaitKind → List ℕ
 wait_word wait.Connect = codes "connect"
+wait_word wait.Setup = codes "setup"
 wait_word wait.Permit = codes "permit"
 wait_word wait.Place = codes "place"
 wait_word wait.Room = codes "room"
@@ -79,6 +81,12 @@ abbrev pub boundary_words : Option ℕ → List (List ℕ)
 boundary_words None = []
 boundary_words (Some bytes) = (codes "boundary=" ++ decimal bytes) ∷ []
 
+-- whether the server is told which library speaks, where it is given
+abbrev pub lib_words : Option Bool → List (List ℕ)
+lib_words None = []
+lib_words (Some true) = codes "lib=on" ∷ []
+lib_words (Some false) = codes "lib=off" ∷ []
+
 -- what is given of the times
 abbrev pub times_words : Config → List (List ℕ)
 times_words c = connect_words c.connect ++ response_words c.response
@@ -87,9 +95,9 @@ times_words c = connect_words c.connect ++ response_words c.response
 abbrev pub numbers_words : Config → List (List ℕ)
 numbers_words c = buffer_words c.buffer ++ limit_words c.limit ++ boundary_words c.boundary
 
--- the settings behind the address: what is given of the times and of the numbers, and no library named to the server
+-- the settings behind the address: what is given of the times, of the numbers, and of the library
 abbrev pub later_words : Config → List (List ℕ)
-later_words c = times_words c ++ numbers_words c ++ codes "lib=off" ∷ []
+later_words c = times_words c ++ numbers_words c ++ lib_words c.lib
 
 -- the config line of one multiplexed connection
 abbrev pub config_words : Config → List (List ℕ)

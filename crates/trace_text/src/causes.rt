@@ -3,6 +3,7 @@ ghost use Rattle.redis_error.specs.Names.{fault_name};
 ghost use Rattle.trace_text.specs.Words.{following, separated};
 ghost use Rattle.trace_text.specs.Show.{behind_first, config_words, connect_words, first_of, url};
 ghost use Rattle.trace_text.specs.Show.{boundary_words, buffer_words, limit_words, response_words};
+ghost use Rattle.trace_text.specs.Show.{lib_words};
 ghost use Rattle.trace_text.specs.Show.{later_words, numbers_words, times_words, time_word};
 ghost use Rattle.trace_text.specs.Show.{cause_more, cause_words, event_more, event_words};
 ghost use Rattle.trace_text.specs.Show.{submission_more, submission_words};
@@ -106,6 +107,18 @@ impl Writer {
         }
     }
 
+    /// Whether the server is told which library speaks, where it is given.
+    fn lib(&mut self, lib: Option<bool>) -> Result<(), AllocError>
+        ensures before { self.new.before ≡ self.old.before }
+        ensures ok { OnOk result (AddedWords self.old self.new (lib_words lib)) }
+    {
+        match lib {
+            None => Ok(()),
+            Some(true) => self.word(b"lib=on"),
+            Some(false) => self.word(b"lib=off"),
+        }
+    }
+
     /// What is given of the times.
     fn time_settings(&mut self, alloc: Global, config: &Config) -> Result<(), AllocError>
         ensures before { self.new.before ≡ self.old.before }
@@ -132,7 +145,7 @@ impl Writer {
     {
         self.time_settings(alloc, config)?;
         self.number_settings(alloc, config)?;
-        self.word(b"lib=off")
+        self.lib(config.lib)
     }
 
     /// The words of a config line.

@@ -34,14 +34,18 @@ impl Writer {
         self.word(word.as_bytes())
     }
 
-    /// One more word: a try of a submission.
+    /// One more word: a try of a submission, or what is said to the server before the first request.
     pub fn owner(&mut self, alloc: Global, owner: Owner) -> Result<(), AllocError>
         ensures before { self.new.before ≡ self.old.before }
         ensures ok { OnOk result (AddedWords self.old self.new (owner_word owner ∷ [])) }
     {
-        let Owner::Try { submission, round } = owner;
-        let word = format!(in alloc; "s{submission}.{round}")?;
-        self.word(word.as_bytes())
+        match owner {
+            Owner::Try { submission, round } => {
+                let word = format!(in alloc; "s{submission}.{round}")?;
+                self.word(word.as_bytes())
+            }
+            Owner::Setup => self.word(b"setup"),
+        }
     }
 
     /// One more word: what is waited for.
@@ -51,6 +55,7 @@ impl Writer {
     {
         match wait {
             WaitKind::Connect => self.word(b"connect"),
+            WaitKind::Setup => self.word(b"setup"),
             WaitKind::Permit => self.word(b"permit"),
             WaitKind::Place => self.word(b"place"),
             WaitKind::Room => self.word(b"room"),

@@ -62,6 +62,7 @@ fn opening(
     let mut config = Config::new(bytes(alloc, url)?);
     config.connect = connect;
     config.response = Some(None);
+    config.lib = Some(false);
     let cause = Cause::Opening { config, word };
     Ok(Action::Turn { number: 0, cause })
 }
@@ -334,14 +335,15 @@ fn failed_openings_have_text(rt: HostRuntime) -> Result<(), AllocError> {
     Ok(())
 }
 
-/// What is given of the times, of the queue of a link and of its permits, and what requests wait for.
-const QUEUES: &[u8] = b"turn 0 config single url=a buffer=4294967295 limit=4294967295 lib=off
-turn 0 config single url=a connect=none response=none boundary=18446744073709551615 lib=off
+/// What is given of the times, of the queue of a link, of its permits and of the library, and what requests wait for.
+const QUEUES: &[u8] = b"turn 0 config single url=a buffer=4294967295 limit=4294967295
+turn 0 config single url=a connect=none response=none boundary=18446744073709551615 lib=on
 turn 0 config single url=a connect=5 response=0 buffer=0 limit=1 boundary=0 lib=off
 wait s0.0 connect
 wait s1.0 place
 wait s2.0 room
 wait s3.0 permit
+wait s4.0 setup
 ";
 
 /// An opening with these settings.
@@ -351,6 +353,7 @@ fn settings(
     buffer: Option<u32>,
     limit: Option<u32>,
     boundary: Option<u64>,
+    lib: Option<bool>,
 ) -> Result<Action, AllocError> {
     let (connect, response) = times;
     let url = bytes(alloc, b"a")?;
@@ -361,6 +364,7 @@ fn settings(
         limit,
         buffer,
         boundary,
+        lib,
     };
     let cause = Cause::Opening { config, word: 0 };
     Ok(Action::Turn { number: 0, cause })
@@ -379,13 +383,14 @@ fn queues(alloc: Global, actions: &mut Seq<Action>) -> Result<(), AllocError> {
     let none = (Some(None), Some(None));
     let some = (Some(Some(5)), Some(Some(0)));
     let most = Some(u32::MAX);
-    actions.push(settings(alloc, (None, None), most, most, None)?)?;
-    actions.push(settings(alloc, none, None, None, Some(u64::MAX))?)?;
-    actions.push(settings(alloc, some, Some(0), Some(1), Some(0))?)?;
+    actions.push(settings(alloc, (None, None), most, most, None, None)?)?;
+    actions.push(settings(alloc, none, None, None, Some(u64::MAX), Some(true))?)?;
+    actions.push(settings(alloc, some, Some(0), Some(1), Some(0), Some(false))?)?;
     actions.push(wait(0, WaitKind::Connect))?;
     actions.push(wait(1, WaitKind::Place))?;
     actions.push(wait(2, WaitKind::Room))?;
-    actions.push(wait(3, WaitKind::Permit))
+    actions.push(wait(3, WaitKind::Permit))?;
+    actions.push(wait(4, WaitKind::Setup))
 }
 
 #[test]
@@ -397,8 +402,9 @@ fn queues_and_waits_have_text(rt: HostRuntime) -> Result<(), AllocError> {
     Ok(())
 }
 
-/// Permits that are taken, times of requests, and the events that tell times.
-const TIMES: &[u8] = b"took s4.0 7 4294967295
+/// A setup that starts, permits that are taken, times of requests, and the events that tell times.
+const TIMES: &[u8] = b"start 7 0 setup 3 4294967296
+took s4.0 7 4294967295
 timer 3 0 response s4.1
 turn 1 timeout 18446744073709551615
 turn 2 timeout none
@@ -413,6 +419,13 @@ fn times(alloc: Global, actions: &mut Seq<Action>) -> Result<(), AllocError> {
         submission: 4,
         round: 1,
     };
+    actions.push(Action::Start {
+        link: 7,
+        message: 0,
+        owner: Owner::Setup,
+        need: 3,
+        len: 4_294_967_296,
+    })?;
     actions.push(Action::Took {
         owner,
         link: 7,
@@ -429,7 +442,7 @@ fn times(alloc: Global, actions: &mut Seq<Action>) -> Result<(), AllocError> {
 }
 
 #[test]
-fn permits_and_times_have_text(rt: HostRuntime) -> Result<(), AllocError> {
+fn setups_permits_and_times_have_text(rt: HostRuntime) -> Result<(), AllocError> {
     let alloc = rt.alloc();
     let mut actions = Seq::new(alloc);
     times(alloc, &mut actions)?;

@@ -1,0 +1,11 @@
+use Rattle.std.proofs.Common.{◌≡◌, length}
+use Rattle.mux_conn.specs.Passes.{set_up_each}
+use Rattle.mux_conn.proofs.connection.MultiplexedConnection.show_setups.Given as goal
+
+abbrev pub invariant-loop-start : goal.invariant-loop-start
+invariant-loop-start l = record {
+  work : set_up_each (record { conn = l.self; acts = l.out.items }) l.rest ≡ set_up_each (record { conn = l.self; acts = l.fn.out.items }) l.fn.starts.items;
+}
+
+abbrev pub decreases-loop-start : goal.decreases-loop-start
+decreases-loop-start l = length l.rest

@@ -1,0 +1,229 @@
+-- How far the setup of a link has come: what it stands on, and what it is to the end of the link.
+use Rattle.std.proofs.Common.{◌≡◌, ◌≢◌, inl, inr, ℕ, zero, suc, ◌==◌, Bool, true, false, ◌&&◌, not, if◌then◌else◌, List, [], ◌++◌, take, Option, None, Some, refl, sym, ap, ◌∙◌, subst}
+use Rattle.std.specs.List.{AllByRecursion}
+use Rattle.containers.proofs.Choices.{by_test, chosen, taken_if, left_if, if_false, both_left, both_right, eq_from, ne_from, not_both}
+use Rattle.redis_error.specs.declared.redis_error.RedisError.{RedisError}
+use Rattle.redis_error.specs.declared.redis_error.RedisError.TheVariants as error
+use Rattle.connection_info.specs.declared.address.RedisConnectionInfo.{RedisConnectionInfo}
+use Rattle.connection_setup.specs.declared.judgement.SetupResult.TheVariants.{Ready as Well, Failed}
+use Rattle.driver_model.specs.Setup.{says_nothing}
+use Rattle.driver_model.specs.declared.action.Owner.TheVariants as owner
+use Rattle.driver_model.specs.News.{News, silence, connected, refused, overdue, took, came, failed, shut}
+use Rattle.link_core.specs.declared.message.Entry.{Entry}
+use Rattle.link_core.specs.Link.{LinkState}
+use Rattle.link_laws.proofs.TiedLink.{TiedLink}
+use Rattle.mux_conn.specs.declared.life.Life.{Life}
+use Rattle.mux_conn.specs.declared.life.Life.TheVariants.{Dialing, SettingUp, Ready, Ended}
+use Rattle.mux_conn.specs.declared.request.Request.{Request}
+use Rattle.legal_trace.specs.Ledger.{Ledger, End, Ending, by_opening, hears, noted, is_over, dials, refused_in, bytes_came, ending, ending_up, ending_asked, ending_unready, ending_by, ending_alive, error_in, is_well, is_set_up, is_ready, last_result, setup_after, setup_count, setup_result, setup_steps}
+use Rattle.legal_trace.specs.Book.{Book}
+use Rattle.legal_trace.specs.Legal.{ReadyIsShown}
+use Rattle.session_laws.proofs.SetUp.{not_set_up}
+use Rattle.session_laws.proofs.Tied.{Inner, HasSaid, IsSettingUp, Tied, TiedLife, TiedSetup, carried, owner_of, whole_link}
+
+-- whose messages a link carries
+--
+-- they are the same where names are
+pub carried_same : (life : Life) (requests other : List Request) → owner_of requests ≡ owner_of other → carried life requests ≡ carried life other
+carried_same Dialing requests other e = λ i p. e i p
+carried_same (SettingUp link with_user) requests other e = λ i p. owner.Setup
+carried_same (Ready link) requests other e = λ i p. e i p
+carried_same (Ended x) requests other e = λ i p. e i p
+
+-- so the tie of a link is
+pub carried_tied : (life : Life) (requests other : List Request) (l : Ledger) → owner_of requests ≡ owner_of other → TiedLink (carried life requests) l (whole_link life) → TiedLink (carried life other) l (whole_link life)
+carried_tied life requests other l e h = subst (λ name. TiedLink name l (whole_link life)) (carried_same life requests other e) h
+
+-- what the setup stands on
+--
+-- a ledger with the same starts, the same items, and the same to be said
+abbrev pub retold : Ledger → Bool → Bool → Option End → List ℕ → List ℕ → List ℕ → News → Ledger
+retold l asked up end taken offer rest heard = record l { asked = asked; up = up; end = end; taken = taken; offer = offer; rest = rest; heard = heard }
+
+-- what is due next there
+pub after_on : (l : Ledger) (asked up : Bool) (end : Option End) (taken offer rest : List ℕ) (heard : News) (n : ℕ) → setup_after (retold l asked up end taken offer rest heard) n ≡ setup_after l n
+after_on l asked up end taken offer rest heard zero = refl
+after_on l asked up end taken offer rest heard (suc zero) = refl
+after_on l asked up end taken offer rest heard (suc (suc k)) = refl
+
+-- and what the last setup came to
+last_on : (l : Ledger) (asked up : Bool) (end : Option End) (taken offer rest : List ℕ) (heard : News) (n : ℕ) → last_result (retold l asked up end taken offer rest heard) n ≡ last_result l n
+last_on l asked up end taken offer rest heard zero = refl
+last_on l asked up end taken offer rest heard (suc k) = refl
+
+-- are the same
+pub result_on : (l : Ledger) (asked up : Bool) (end : Option End) (taken offer rest : List ℕ) (heard : News) → setup_result (retold l asked up end taken offer rest heard) ≡ setup_result l
+result_on l asked up end taken offer rest heard = λ i. if says_nothing (setup_steps l 0) then Some Well else last_on l asked up end taken offer rest heard (setup_count l.starts) i
+
+-- so is whether it is set up
+pub well_on : (l : Ledger) (asked up : Bool) (end : Option End) (taken offer rest : List ℕ) (heard : News) → is_set_up (retold l asked up end taken offer rest heard) ≡ is_set_up l
+well_on l asked up end taken offer rest heard = ap is_well (result_on l asked up end taken offer rest heard)
+
+-- and how far it has come
+pub said_on : (l : Ledger) (asked up : Bool) (end : Option End) (taken offer rest : List ℕ) (heard : News) (started : List ℕ) (life : Life) → HasSaid l started life → HasSaid (retold l asked up end taken offer rest heard) started life
+said_on l asked up end taken offer rest heard started Dialing h = h
+said_on l asked up end taken offer rest heard started (SettingUp link with_user) h = (h.0, record {
+  says = h.1.says;
+  stage = elim h.1.stage [
+    | inl d ↦ inl (record { due = after_on l asked up end taken offer rest heard (setup_count l.starts) ∙ d.due; user = d.user; queue = d.queue; row = d.row })
+    | inr s ↦ inr (record { k = s.k; few = s.few; count = s.count; user = s.user; queue = s.queue; earlier = s.earlier; open_is = s.open_is })
+  ];
+  awaited = h.1.awaited;
+})
+said_on l asked up end taken offer rest heard started (Ready link) h = record { well = well_on l asked up end taken offer rest heard ∙ h.well; none = h.none }
+said_on l asked up end taken offer rest heard started (Ended e) h = tt
+
+-- with all that is known of it
+pub setup_on : (l : Ledger) (asked up : Bool) (end : Option End) (taken offer rest : List ℕ) (heard : News) (info : RedisConnectionInfo) (started : List ℕ) (life : Life) → TiedSetup l info started life
+    → TiedSetup (retold l asked up end taken offer rest heard) info started life
+setup_on l asked up end taken offer rest heard info started life h = record { info_is = h.info_is; sent = h.sent; said = said_on l asked up end taken offer rest heard started life h.said }
+
+-- on a link with the same messages
+pub setup_link : (l : Ledger) (info : RedisConnectionInfo) (started : List ℕ) (link after : LinkState) (with_user : Bool) → after.queue ≡ link.queue → after.row ≡ link.row → TiedSetup l info started (SettingUp link with_user) → TiedSetup l info started (SettingUp after with_user)
+setup_link l info started link after with_user queue row h = record {
+  info_is = h.info_is;
+  sent = h.sent;
+  said = (h.said.0, record {
+    says = h.said.1.says;
+    stage = elim h.said.1.stage [
+      | inl d ↦ inl (record { due = d.due; user = d.user; queue = queue ∙ d.queue; row = row ∙ d.row })
+      | inr s ↦ inr (record { k = s.k; few = s.few; count = s.count; user = s.user; queue = queue ∙ s.queue; earlier = s.earlier; open_is = s.open_is })
+    ];
+    awaited = subst (AllByRecursion (λ (e : Entry). e.awaited ≡ true)) (sym row) h.said.1.awaited;
+  });
+}
+
+-- and on any that is set up
+pub setup_ready : (l : Ledger) (info : RedisConnectionInfo) (started : List ℕ) (link after : LinkState) → TiedSetup l info started (Ready link) → TiedSetup l info started (Ready after)
+setup_ready l info started link after h = record { info_is = h.info_is; sent = h.sent; said = record { well = h.said.well; none = h.said.none } }
+
+-- news that are no bytes leave it
+abbrev pub IsNoPiece : News → Type 0
+IsNoPiece (came piece) = ⊥
+IsNoPiece silence = Unit {0}
+IsNoPiece connected = Unit {0}
+IsNoPiece (refused f) = Unit {0}
+IsNoPiece overdue = Unit {0}
+IsNoPiece (took count) = Unit {0}
+IsNoPiece (failed f) = Unit {0}
+IsNoPiece shut = Unit {0}
+
+-- so it does
+pub setup_hears : (l : Ledger) (turn : ℕ) (n : News) (info : RedisConnectionInfo) (started : List ℕ) (life : Life) → IsNoPiece n → TiedSetup l info started life → TiedSetup (noted l (hears turn n)) info started life
+setup_hears l turn silence info started life k h = setup_on l l.asked l.up l.end l.taken l.offer l.rest silence info started life h
+setup_hears l turn connected info started life k h =
+    chosen (λ (x : Ledger). TiedSetup (record x { heard = connected }) info started life) (is_over l) l (record l { up = true })
+    (λ t. setup_on l l.asked l.up l.end l.taken l.offer l.rest connected info started life h)
+    (λ f. setup_on l l.asked true l.end l.taken l.offer l.rest connected info started life h)
+setup_hears l turn (refused f) info started life k h =
+    let m = refused_in l turn (error.Io f) in
+    chosen (λ (x : Ledger). TiedSetup (record x { heard = refused f }) info started life) (dials l) m l
+    (λ t. setup_on l l.asked l.up m.end l.taken l.offer l.rest (refused f) info started life h)
+    (λ n. setup_on l l.asked l.up l.end l.taken l.offer l.rest (refused f) info started life h)
+setup_hears l turn overdue info started life k h = setup_on l l.asked l.up l.end l.taken l.offer l.rest overdue info started life h
+setup_hears l turn (took count) info started life k h =
+    chosen (λ (x : Ledger). TiedSetup (record x { heard = took count }) info started life) l.up (record l { taken = l.taken ++ take count l.offer; offer = [] }) l
+    (λ t. setup_on l l.asked l.up l.end (l.taken ++ take count l.offer) [] l.rest (took count) info started life h)
+    (λ n. setup_on l l.asked l.up l.end l.taken l.offer l.rest (took count) info started life h)
+setup_hears l turn (came piece) info started life k h = absurd k
+setup_hears l turn (failed f) info started life k h = setup_on l l.asked l.up l.end l.taken l.offer l.rest (failed f) info started life h
+setup_hears l turn shut info started life k h = setup_on l l.asked l.up l.end l.taken l.offer l.rest shut info started life h
+
+-- and so do bytes, where the link isn't up
+pub setup_unheard : (l : Ledger) (turn : ℕ) (n : News) (info : RedisConnectionInfo) (started : List ℕ) (life : Life) → l.up ≡ false → TiedSetup l info started life → TiedSetup (noted l (hears turn n)) info started life
+setup_unheard l turn (came piece) info started life down h =
+    if_false (λ (x : Ledger). TiedSetup (record x { heard = came piece }) info started life) l.up (bytes_came l piece) l down (setup_on l l.asked l.up l.end l.taken l.offer l.rest (came piece) info started life h)
+setup_unheard l turn silence info started life down h = setup_hears l turn silence info started life tt h
+setup_unheard l turn connected info started life down h = setup_hears l turn connected info started life tt h
+setup_unheard l turn (refused f) info started life down h = setup_hears l turn (refused f) info started life tt h
+setup_unheard l turn overdue info started life down h = setup_hears l turn overdue info started life tt h
+setup_unheard l turn (took count) info started life down h = setup_hears l turn (took count) info started life tt h
+setup_unheard l turn (failed f) info started life down h = setup_hears l turn (failed f) info started life tt h
+setup_unheard l turn shut info started life down h = setup_hears l turn shut info started life tt h
+
+-- what ends a link
+--
+-- that is up and set up
+pub ending_ready : (l : Ledger) → l.up ≡ true → is_set_up l ≡ true → ending l ≡ ending_up l l.heard
+ending_ready l up well = taken_if l.up (ending_alive l) _ up ∙ taken_if (is_set_up l) (ending_up l l.heard) _ well
+
+-- that is set up still
+pub ending_setting : (l : Ledger) (link : LinkState) (with_user : Bool) → l.up ≡ true → IsSettingUp l link with_user → ending l ≡ ending_unready l l.heard
+ending_setting l link with_user up h =
+    let r = not_set_up l link with_user h in
+    taken_if l.up (ending_alive l) _ up ∙ left_if (is_set_up l) (ending_up l l.heard) _ r.unwell ∙ ap (λ x. ending_by x (ending_unready l l.heard)) r.no_error
+
+-- once it has heard something
+pub ready_heard : (l : Ledger) (n : News) → l.up ≡ true → is_set_up l ≡ true → ending (record l { heard = n }) ≡ ending_up (record l { heard = n }) n
+ready_heard l n up well = ending_ready (record l { heard = n }) up (well_on l l.asked l.up l.end l.taken l.offer l.rest n ∙ well)
+
+-- it is set up still once it has heard something
+pub setting_told : (l : Ledger) (n : News) (link : LinkState) (with_user : Bool) → IsSettingUp l link with_user → IsSettingUp (record l { heard = n }) link with_user
+setting_told l n link with_user s = let k = said_on l l.asked l.up l.end l.taken l.offer l.rest n [] (SettingUp link with_user) (refl, s) in k.1
+
+-- and is ended by what it has heard
+pub setting_heard : (l : Ledger) (n : News) (link : LinkState) (with_user : Bool) → l.up ≡ true → IsSettingUp l link with_user → ending (record l { heard = n }) ≡ ending_unready (record l { heard = n }) n
+setting_heard l n link with_user up s = ending_setting (record l { heard = n }) link with_user up (setting_told l n link with_user s)
+
+-- whose setup failed
+pub ending_failed : (l : Ledger) (e : RedisError) → l.up ≡ true → setup_result l ≡ Some (Failed e) → ending l ≡ Some (by_opening e)
+ending_failed l e up r =
+    taken_if l.up (ending_alive l) _ up ∙ left_if (is_set_up l) (ending_up l l.heard) _ (ap is_well r) ∙ ap (λ x. ending_by (error_in x) (ending_unready l l.heard)) r
+
+-- news that end nothing
+--
+-- an error is none where it ends none
+by_none : (x : Option RedisError) (y : Option Ending) → ending_by x y ≡ None → x ≡ None
+by_none None y e = refl
+by_none (Some z) y e = cc
+
+-- no setup has failed on a link that need not end
+none_failed : (l : Ledger) → ending l ≡ None → l.up ≡ true → is_set_up l ≡ false → error_in (setup_result l) ≡ None
+none_failed l none up unready =
+    by_none (error_in (setup_result l)) (ending_unready l l.heard)
+    (sym (taken_if l.up (ending_alive l) _ up ∙ left_if (is_set_up l) (ending_up l l.heard) (ending_by (error_in (setup_result l)) (ending_unready l l.heard)) unready) ∙ none)
+
+-- that nothing is heard, or that bytes were taken
+abbrev pub IsMild : News → Type 0
+IsMild silence = Unit {0}
+IsMild (took count) = Unit {0}
+IsMild _ = ⊥
+
+-- so a link that is up need not end then
+mild_up : (l : Ledger) (taken offer : List ℕ) (n : News) → (let m = record l { taken = taken; offer = offer; heard = n } in (ending_up m n ≡ None) × (ending_unready m n ≡ None)) → ending l ≡ None → l.up ≡ true → ending (record l { taken = taken; offer = offer; heard = n }) ≡ None
+mild_up l taken offer n mild none up =
+    let m = record l { taken = taken; offer = offer; heard = n } in
+    let same = well_on l l.asked l.up l.end taken offer l.rest n in
+    by_test (is_set_up l) _
+    (λ t. ending_ready m up (same ∙ t) ∙ mild.0)
+    (λ f.
+    taken_if l.up (ending_alive m) _ up ∙ left_if (is_set_up m) (ending_up m n) (ending_by (error_in (setup_result m)) (ending_unready m n)) (same ∙ f)
+    ∙ ap (λ x. ending_by (error_in x) (ending_unready m n)) (result_on l l.asked l.up l.end taken offer l.rest n)
+    ∙ ap (λ x. ending_by x (ending_unready m n)) (none_failed l none up f) ∙ mild.1)
+
+-- nor does one that isn't
+mild_down : (l : Ledger) (taken offer : List ℕ) (n : News) → ending_asked n ≡ None → l.up ≡ false → ending (record l { taken = taken; offer = offer; heard = n }) ≡ None
+mild_down l taken offer n mild down =
+    left_if l.up (ending_alive (record l { taken = taken; offer = offer; heard = n })) _ down
+    ∙ chosen (λ (x : Option Ending). x ≡ None) (l.asked && not (is_over l)) (ending_asked n) None (λ t. mild) (λ f. refl)
+
+-- whether it is up or not
+pub mild_end : (l : Ledger) (taken offer : List ℕ) (n : News) → IsMild n → ending l ≡ None → ending (record l { taken = taken; offer = offer; heard = n }) ≡ None
+mild_end l taken offer silence k none = by_test l.up _ (mild_up l taken offer silence (refl, refl) none) (mild_down l taken offer silence refl)
+mild_end l taken offer (took count) k none = by_test l.up _ (mild_up l taken offer (took count) (refl, refl) none) (mild_down l taken offer (took count) refl)
+mild_end l taken offer _ k none = absurd k
+
+-- where a link is ready
+--
+-- by how far it has come
+ready_by : (l : Ledger) (created : ℕ) (info : RedisConnectionInfo) (started : List ℕ) (life : Life) → TiedLife l created life → TiedSetup l info started life → is_ready l ≡ true → created ≢ 0
+ready_by l created info started Dialing h s r = absurd (not_both l.up h.1 (both_left l.up (is_set_up l) r))
+ready_by l created info started (SettingUp link with_user) h s r = absurd (not_both (is_set_up l) (not_set_up l link with_user s.said.1).unwell (both_right l.up (is_set_up l) r))
+ready_by l created info started (Ready link) h s r = h.3
+ready_by l created info started (Ended e) h s r = absurd (not_both l.up h.0 (both_left l.up (is_set_up l) r))
+
+-- the creation was shown
+pub ready_shown : (b : Book) (t : Inner) → Tied b t → ReadyIsShown b
+ready_shown b t h m ready = by_test (m == t.link) _
+    (λ same. ready_by (b.link t.link) b.created t.info t.started t.life h.life h.setup (subst (λ k. is_ready (b.link k) ≡ true) (eq_from m t.link same) ready))
+    (λ other. absurd (not_both (b.link m).up (h.others m (ne_from m t.link other)).up (both_left (b.link m).up (is_set_up (b.link m)) ready)))

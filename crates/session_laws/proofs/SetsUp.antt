@@ -1,0 +1,293 @@
+-- The setup of a link starts.
+use Rattle.std.proofs.Common.{Bool, List, None, Option, Some, [], ap, append_assoc, arith, false, inl, inr, length, refl, subst, suc, sym, true, zero, ℕ, ◌+◌, ◌++◌, ◌<◌, ◌≤◌, ◌∙◌, ◌∷◌, ◌≡◌, ◌⊎◌}
+use Rattle.std.proofs.lemmas.List.{append-nil, take-append-le}
+use Rattle.std.specs.Prelude.{if◌then◌else◌, nat_le, ◌==◌}
+use Rattle.containers.proofs.Choices.{by_test, left_if, not_both, taken_if}
+use Rattle.containers.proofs.Places.{get_within}
+use Rattle.driver_model.specs.Setup.{setup_shape}
+use Rattle.driver_model.specs.Shape.{need_of}
+use Rattle.driver_model.specs.declared.action.Action.{Action}
+use Rattle.driver_model.specs.declared.action.Action.TheVariants as action
+use Rattle.driver_model.specs.declared.action.Owner.{Owner}
+use Rattle.driver_model.specs.declared.action.Owner.TheVariants as owner
+use Rattle.link_core.specs.Link.{LinkState, entry_of, holds_back, started_each, started_one}
+use Rattle.link_core.specs.declared.message.Entry.{Entry}
+use Rattle.link_core.specs.declared.message.Queued.{Queued}
+use Rattle.link_core.specs.declared.message.Started.{Started}
+use Rattle.link_laws.proofs.TiedLink.{TiedLink, all_push, begun_tied, queue_tied}
+use Rattle.link_laws.specs.Starts.{begun}
+use Rattle.mux_conn.specs.Connection.{Work, acted, at_life, with_setup}
+use Rattle.mux_conn.specs.Effects.{setup_queued}
+use Rattle.mux_conn.specs.Passes.{set_up_each, sets_up_with, started_at}
+use Rattle.mux_conn.specs.declared.act.LinkAct.{LinkAct}
+use Rattle.mux_conn.specs.declared.act.LinkAct.TheVariants as act
+use Rattle.mux_conn.specs.declared.life.Life.{Life}
+use Rattle.mux_conn.specs.declared.life.Life.TheVariants.{SettingUp}
+use Rattle.mux_conn.specs.declared.request.Request.{Request}
+use Rattle.shared_session.specs.declared.core_state.Core.{Core}
+use Rattle.legal_trace.specs.Book.{Book, book, entered}
+use Rattle.legal_trace.specs.Ledger.{Ledger, Start, begins, is_full, noted, reach, repeats, result_of, setup_after, setup_count, setup_message, setup_steps}
+use Rattle.legal_trace.specs.Legal.{MaySetUp, NoneEnds}
+use Rattle.legal_trace.specs.Story.{Story}
+use Rattle.session_laws.proofs.Ahead.{held_by}
+use Rattle.session_laws.proofs.Entered.{shown_more}
+use Rattle.session_laws.proofs.Going.{IsGoing, applied_up, going_more, none_ends_mine}
+use Rattle.session_laws.proofs.Heard.{setting_waits}
+use Rattle.session_laws.proofs.Kept.{mine_noted, others_kept, tied_by}
+use Rattle.session_laws.proofs.LetIn.{quiet_timers}
+use Rattle.session_laws.proofs.Names.{get_more}
+use Rattle.session_laws.proofs.Said.{ending_setting}
+use Rattle.session_laws.proofs.SetUp.{begun_open, count_length, count_next, down_undue, ending_unready_same, setup_packed}
+use Rattle.session_laws.proofs.Settle.{seen, trace_of_acts}
+use Rattle.session_laws.proofs.Start.{owners-append, with_queue}
+use Rattle.session_laws.proofs.States.{IsFit}
+use Rattle.session_laws.proofs.Tied.{AreSetups, Inner, IsSettingUp, Tied, TiedTries, numbers_kept, owners_of, setup_owners}
+
+-- the acts of its starts
+--
+abbrev show_setup : Started → LinkAct
+show_setup s = act.SetUp s.msg s.need s.len
+
+abbrev shows_setups : List Started → List LinkAct
+shows_setups [] = []
+shows_setups (s ∷ ss) = show_setup s ∷ shows_setups ss
+
+-- what is shown of them
+set_up_is : (w : Work) (ss : List Started) → set_up_each w ss ≡ record w { acts = w.acts ++ shows_setups ss }
+set_up_is w [] = ap (λ (x : List LinkAct). record w { acts = x }) (sym (append-nil w.acts))
+set_up_is w (s ∷ ss) = set_up_is (acted w (show_setup s)) ss ∙ ap (λ (x : List LinkAct). record w { acts = x }) (append_assoc w.acts (show_setup s ∷ []) (shows_setups ss))
+
+-- which leaves the connection
+pub set_up_conn : (w : Work) (ss : List Started) → (set_up_each w ss).conn ≡ w.conn
+set_up_conn w ss = ap (λ (x : Work). x.conn) (set_up_is w ss)
+
+-- the setup that is due
+--
+-- it is one of two
+due_few : (l : Ledger) (n : ℕ) → setup_after l n ≡ Some n → n < 2
+due_few l zero e = omega arith
+due_few l (suc zero) e = omega arith
+due_few l (suc (suc n)) e = cc
+
+-- where the server counts other arguments, all replies to the first have come
+repeats_full : (l : Ledger) → repeats (result_of l 0) ≡ true → is_full l 0 ≡ true
+repeats_full l e = by_test (is_full l 0) _ (λ t. t) (λ f. absurd (not_both (repeats (result_of l 0)) (ap repeats (left_if (is_full l 0) _ None f)) e))
+
+-- so those before it are answered
+due_earlier : (l : Ledger) (n j : ℕ) → setup_after l n ≡ Some n → j < n → is_full l j ≡ true
+due_earlier l zero j e w = absurd (omega arith)
+due_earlier l (suc zero) zero e w = repeats_full l (by_test (repeats (result_of l 0)) _ (λ t. t) (λ f. absurd (let no : ◌≡◌ {A = Option ℕ} None (Some 1) = sym (left_if (repeats (result_of l 0)) (Some 1) None f) ∙ e in cc)))
+due_earlier l (suc zero) (suc j) e w = absurd (omega arith)
+due_earlier l (suc (suc n)) j e w = cc
+
+-- a message that has all its items has them when one more starts
+full_kept : (l : Ledger) (s : Start) (j : ℕ) → j < length l.starts → is_full (noted l (begins s)) j ≡ is_full l j
+full_kept l s j w = ap (λ (xs : List Start). nat_le (reach xs l.dealt) (length l.dealt)) (take-append-le (j + 1) l.starts (s ∷ []) (omega arith))
+
+-- one more setup
+setup_owners-push : (n : ℕ) → setup_owners n [] ++ owner.Setup ∷ [] ≡ setup_owners (suc n) []
+setup_owners-push zero = refl
+setup_owners-push (suc n) = ap (λ os. owner.Setup ∷ os) (setup_owners-push n)
+
+-- no request's message has started
+no_tries : (l : Ledger) (story : ℕ → Story) (requests : List Request) (link : ℕ) (started : List ℕ) → started ≡ [] → TiedTries l story requests link started → owners_of l.starts ≡ setup_owners (setup_count l.starts) []
+no_tries l story requests link [] none h = h.owners
+no_tries l story requests link (p ∷ ps) none h = cc
+
+-- nor has one when a setup has
+tries_set : (l : Ledger) (s : Start) (story : ℕ → Story) (requests : List Request) (link : ℕ) (started : List ℕ) → s.owner ≡ owner.Setup → started ≡ [] → TiedTries l story requests link started → TiedTries (noted l (begins s)) story requests link started
+tries_set l s story requests link [] mine none h = record {
+  owners = owners-append l.starts (s ∷ []) ∙ (λ i. h.owners i ++ mine i ∷ []) ∙ setup_owners-push (setup_count l.starts) ∙ ap (λ n. setup_owners n []) (sym (count_next l.starts (setup_count l.starts) s h.owners mine));
+  shapes = λ k p x i j. cc;
+  tried = λ k p i. cc;
+  untried = h.untried;
+}
+tries_set l s story requests link (p ∷ ps) mine none h = cc
+
+-- the message that is due on a link
+abbrev due_queued : Ledger → Bool → Queued
+due_queued l with_user = setup_queued (setup_steps l (setup_count l.starts)) with_user
+
+abbrev due_start : Ledger → Start
+due_start l = setup_message l (setup_count l.starts)
+
+-- the first starts are those of the setup still
+setups_next : (l : Ledger) → owners_of l.starts ≡ setup_owners (setup_count l.starts) [] → AreSetups l → AreSetups (noted l (begins (due_start l)))
+setups_next l all h k x less e =
+    let c = setup_count l.starts in
+    let long = count_length l.starts c all in
+    elim (get_more l.starts (due_start l) k x e) [
+      | inl i ↦ h k x (let w = get_within l.starts k x i in omega arith) i
+      | inr i ↦
+          let same : c ≡ k = (let at = i.0 in omega arith) in
+          subst (λ (y : Start). (y.owner ≡ owner.Setup) × (y.shape ≡ setup_shape (setup_steps l k))) i.1 (refl, ap (λ n. setup_shape (setup_steps l n)) same)
+    ]
+
+-- what is known of the setup once it has started
+setting_next : (l : Ledger) (link : LinkState) (with_user : Bool) → owners_of l.starts ≡ setup_owners (setup_count l.starts) [] → length l.dealt ≤ reach l.starts l.dealt → setup_after l (setup_count l.starts) ≡ Some (setup_count l.starts)
+    → with_user ≡ (setup_count l.starts == 0) → IsSettingUp l (with_queue link (due_queued l with_user ∷ [])) with_user → IsSettingUp (noted l (begins (due_start l))) (with_queue (begun link (due_queued l with_user)) []) with_user
+setting_next l link with_user all within due user h =
+    let c = setup_count l.starts in
+    let long = count_length l.starts c all in
+    record {
+      says = h.says;
+      stage = inr (record {
+        k = c;
+        few = due_few l c due;
+        count = count_next l.starts c (due_start l) all refl;
+        user = user;
+        queue = refl;
+        earlier = λ j w. full_kept l (due_start l) j (omega arith) ∙ due_earlier l c j due w;
+        open_is = begun_open l (due_start l) c (sym long) within;
+      });
+      awaited = all_push (λ (e : Entry). e.awaited ≡ true) link.row (entry_of (due_queued l with_user)) h.awaited refl;
+    }
+
+-- the session
+--
+-- whose link is set up, while nothing is to be answered
+abbrev pub setting_on : Inner → LinkState → Bool → Inner
+setting_on t link with_user = record t { life = SettingUp link with_user; pending = [] }
+
+-- what the start of the setup shows
+abbrev set_up_action : Inner → LinkState → Queued → Action
+set_up_action t link q = action.Start t.link link.started owner.Setup (need_of q.shape) (length q.packed)
+
+-- the setup that is due may start, where nothing holds it back
+set_up_may : (b : Book) (t : Inner) (link : LinkState) (with_user : Bool)
+    → (let q = due_queued (b.link t.link) with_user in
+    setup_after (b.link t.link) (setup_count (b.link t.link).starts) ≡ Some (setup_count (b.link t.link).starts) → IsFit t.size t.bound link → holds_back link ≡ false → Tied b (setting_on t (with_queue link (q ∷ [])) with_user) → NoneEnds b
+    → MaySetUp b t.link link.started (need_of q.shape) (length q.packed))
+set_up_may b t link with_user due fit free h ended =
+    let l = b.link t.link in
+    let c = setup_count l.starts in
+    let q = due_queued l with_user in
+    let was = setting_on t (with_queue link (q ∷ [])) with_user in
+    record {
+      applied = applied_up b was h refl refl ended;
+      k = c;
+      due = taken_if l.up (setup_after l c) None h.life.1 ∙ due;
+      free = held_by b was (λ (p : ℕ). owner.Setup) (with_queue link (q ∷ [])) h.numbers fit.bound_is (h.link refl) ∙ free;
+      in_order = λ m i less e. absurd (let no : ◌≡◌ {A = Option ℕ} None (Some i) = sym (down_undue (b.link m) (h.others m (λ same. absurd (omega arith))).up) ∙ e in cc);
+      next = (h.link refl).started;
+      needs_its_items = refl;
+      long_as_its_bytes = refl;
+    }
+
+-- the session is tied to the book with that start
+set_up_tied : (b : Book) (t : Inner) (link : LinkState) (with_user : Bool)
+    → (let q = due_queued (b.link t.link) with_user in
+    setup_after (b.link t.link) (setup_count (b.link t.link).starts) ≡ Some (setup_count (b.link t.link).starts) → with_user ≡ (setup_count (b.link t.link).starts == 0) → Tied b (setting_on t (with_queue link (q ∷ [])) with_user)
+    → Tied (entered b (set_up_action t link q)) (setting_on t (with_queue (begun link q) []) with_user))
+set_up_tied b t link with_user due user h =
+    let l = b.link t.link in
+    let q = due_queued l with_user in
+    let s = due_start l in
+    let was = setting_on t (with_queue link (q ∷ [])) with_user in
+    let now = setting_on t (with_queue (begun link q) []) with_user in
+    let name : ℕ → Owner = λ p. owner.Setup in
+    let tied : TiedLink name l (with_queue link (q ∷ [])) = h.link refl in
+    let said = h.setup.said in
+    let all = no_tries l b.story t.requests t.link t.started said.0 h.tries in
+    tied_by (entered b (set_up_action t link q)) now (noted l (begins s)) (mine_noted l t.link (begins s))
+    (record {
+      numbers = numbers_kept b _ _ was _ _ _ _ _ _ _ _ _ _ h.numbers;
+      others = others_kept b t.link (begins s) h.others;
+      life = h.life;
+      setup = record { info_is = h.setup.info_is; sent = setups_next l all h.setup.sent; said = (said.0, setting_next l link with_user all tied.within due user said.1) };
+      link = λ e. queue_tied name (noted l (begins s)) (begun (with_queue link (q ∷ [])) q) [] (begun_tied name l (with_queue link (q ∷ [])) q (setup_packed l (setup_count l.starts) said.1.says) tied);
+      names = h.names;
+      story = h.story;
+      tries = tries_set l s b.story t.requests t.link t.started refl said.0 h.tries;
+      lines = h.lines;
+      told = h.told;
+      waits = setting_waits b.story t.requests (with_queue link (q ∷ [])) (with_queue (begun link q) []) with_user with_user t.fresh t.moved h.waits;
+      permits = h.permits;
+      late = h.late;
+    })
+
+-- which ends no link
+set_up_ends_none : (b : Book) (t : Inner) (link : LinkState) (with_user : Bool)
+    → (let q = due_queued (b.link t.link) with_user in
+    setup_after (b.link t.link) (setup_count (b.link t.link).starts) ≡ Some (setup_count (b.link t.link).starts) → with_user ≡ (setup_count (b.link t.link).starts == 0) → Tied b (setting_on t (with_queue link (q ∷ [])) with_user) → NoneEnds b
+    → NoneEnds (entered b (set_up_action t link q)))
+set_up_ends_none b t link with_user due user h ended =
+    let l = b.link t.link in
+    let q = due_queued l with_user in
+    let s = due_start l in
+    let said = h.setup.said in
+    let all = no_tries l b.story t.requests t.link t.started said.0 h.tries in
+    let next = setting_next l link with_user all (h.link refl).within due user said.1 in
+    none_ends_mine b t.link (begins s)
+    (ending_setting (noted l (begins s)) (with_queue (begun link q) []) with_user h.life.1 next ∙ ending_unready_same l (l.starts ++ s ∷ []) l.heard ∙ sym (ending_setting l (with_queue link (q ∷ [])) with_user h.life.1 said.1) ∙ ended t.link)
+    ended
+
+-- so it goes on with it
+set_up_going : (trace : List Action) (t : Inner) (link : LinkState) (with_user : Bool)
+    → (let l = (book trace).link t.link in
+    let q = due_queued l with_user in
+    setup_after l (setup_count l.starts) ≡ Some (setup_count l.starts) → with_user ≡ (setup_count l.starts == 0) → IsFit t.size t.bound link → holds_back link ≡ false → IsGoing trace (setting_on t (with_queue link (q ∷ [])) with_user)
+    → IsGoing (trace ++ set_up_action t link q ∷ []) (setting_on t (with_queue (begun link q) []) with_user))
+set_up_going trace t link with_user due user fit free h =
+    let b = book trace in
+    let q = due_queued (b.link t.link) with_user in
+    going_more trace (set_up_action t link q) (setting_on t (with_queue (begun link q) []) with_user) h.sound.stands
+    (set_up_may b t link with_user due fit free h.sound.tied h.ended)
+    (set_up_tied b t link with_user due user h.sound.tied)
+    (set_up_ends_none b t link with_user due user h.sound.tied h.ended)
+
+-- the pass
+--
+-- a connection whose link is set up, and whose setup has started, or is held back
+pub record HasBegun (before : List Action) (f : Core) (w : Work) (started : List ℕ) (with_user : Bool) : Type 0 where
+  pub link : LinkState
+  pub life : w.conn.life ≡ SettingUp link with_user
+  pub fit : IsFit w.conn.size w.conn.boundary link
+  pub held : (link.queue ≡ []) ⊎ (holds_back link ≡ true)
+  pub going : IsGoing (trace_of_acts before f w.acts) (seen f w.acts w.conn [] started)
+  pub admitted : w.conn.admitted ≡ []
+
+-- where nothing starts, all stays
+none_set_up : (w : Work) (link : LinkState) (with_user : Bool) (queue : List Queued) → w.conn.life ≡ SettingUp link with_user → link.queue ≡ queue
+    → started_each (record { link = link; out = [] }) queue ≡ record { link = with_queue link queue; out = [] } → started_at w (SettingUp link with_user) ≡ w
+none_set_up w link with_user queue life same stays =
+    ap (λ (qs : List Queued). sets_up_with w with_user (started_each (record { link = link; out = [] }) qs)) same
+    ∙ ap (sets_up_with w with_user) stays
+    ∙ ap (λ (qs : List Queued). with_setup w (with_queue link qs) with_user) (sym same)
+    ∙ ap (at_life w) (sym life)
+
+-- the setup starts where nothing holds it back
+pub setting_begun : (before : List Action) (f : Core) (w : Work) (started : List ℕ) (link : LinkState) (with_user : Bool) → w.conn.life ≡ SettingUp link with_user → IsFit w.conn.size w.conn.boundary link → w.conn.admitted ≡ []
+    → IsGoing (trace_of_acts before f w.acts) (seen f w.acts w.conn [] started) → HasBegun before f (started_at w (SettingUp link with_user)) started with_user
+setting_begun before f w started link with_user life fit none h =
+    let t = seen f w.acts w.conn [] started in
+    let trace = trace_of_acts before f w.acts in
+    let l = (book trace).link f.single.link in
+    let here : IsGoing trace (setting_on t link with_user) = subst (λ (x : Life). IsGoing trace (record t { life = x })) life h in
+    let stays : (queue : List Queued) → link.queue ≡ queue → started_each (record { link = link; out = [] }) queue ≡ record { link = with_queue link queue; out = [] } → (link.queue ≡ []) ⊎ (holds_back link ≡ true)
+    → HasBegun before f (started_at w (SettingUp link with_user)) started with_user = λ queue same e held.
+    subst (λ (x : Work). HasBegun before f x started with_user) (sym (none_set_up w link with_user queue life same e)) (record { link = link; life = life; fit = fit; held = held; going = h; admitted = none }) in
+    elim here.sound.tied.setup.said.1.stage [
+      | inl d ↦
+          let q = due_queued l with_user in
+          by_test (holds_back link) _
+          (λ held. stays (q ∷ []) d.queue (taken_if (holds_back link) _ _ held) (inr held))
+          (λ free.
+          let at : IsGoing trace (setting_on t (with_queue link (q ∷ [])) with_user) = subst (λ (qs : List Queued). IsGoing trace (setting_on t (with_queue link qs) with_user)) d.queue here in
+          let going = set_up_going trace t link with_user d.due d.user fit free at in
+          let a = act.SetUp link.started (need_of q.shape) (length q.packed) in
+          let after = with_queue (begun link q) [] in
+          let is : started_at w (SettingUp link with_user) ≡ acted (with_setup w after with_user) a =
+          ap (λ (qs : List Queued). sets_up_with w with_user (started_each (record { link = link; out = [] }) qs)) d.queue
+          ∙ ap (sets_up_with w with_user) (left_if (holds_back link) (record { link = with_queue link (q ∷ []); out = [] }) (started_each (started_one (record { link = link; out = [] }) q) []) free) in
+          let there = subst (λ (x : List Action). IsGoing x (setting_on t after with_user)) (sym (shown_more before f.single.link (length f.timers) w.acts a)) going in
+          subst (λ (x : Work). HasBegun before f x started with_user) (sym is) (record {
+            link = after;
+            life = refl;
+            fit = record { sound = fit.sound; size_is = fit.size_is; bound_is = fit.bound_is; within = omega arith };
+            held = inl refl;
+            going = subst (λ ts. IsGoing (trace_of_acts before f (w.acts ++ a ∷ [])) (record (setting_on t after with_user) { timers = f.timers ++ ts })) (sym (quiet_timers w.acts a refl)) there;
+            admitted = none;
+          }))
+      | inr sent ↦ stays [] sent.queue refl (inl sent.queue)
+    ]
