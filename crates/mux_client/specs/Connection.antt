@@ -1,0 +1,51 @@
+-- A connection as its user sees it.
+use Rattle.std.specs.Prelude.{◌≡◌, ⊤, ℕ, ◌||◌, List, [], ◌∷◌, Option, Some, None, slice_get, if◌then◌else◌}
+use Rattle.redis_error.specs.declared.config_name.ConfigName.{ConfigName}
+use Rattle.redis_error.specs.declared.config_name.ConfigName.TheVariants as name
+use Rattle.connection_info.specs.declared.address.RedisConnectionInfo.{RedisConnectionInfo}
+use Rattle.connection_info.specs.declared.config.AsyncConnectionConfig.{AsyncConnectionConfig}
+use Rattle.connection_info.specs.declared.open_error.OpenError.{OpenError}
+use Rattle.connection_info.specs.declared.open_error.OpenError.TheVariants as error
+use Rattle.driver_model.specs.Config.{room_fault}
+use Rattle.driver_model.specs.declared.outcome.Outcome.{Outcome}
+use Rattle.mux_conn.specs.Turn.{dialing}
+use Rattle.mux_client.specs.declared.connection.MultiplexedConnection.{MultiplexedConnection}
+use Rattle.mux_client.specs.declared.act.ConnectionAct.{ConnectionAct}
+use Rattle.mux_client.specs.declared.act.ConnectionAct.TheVariants as act
+use Rattle.mux_client.specs.declared.act.ConnectionTimer.TheVariants as timer
+
+-- the outcome of the request of that number, if it has one
+abbrev pub if_placed : Option (Option Outcome) → Option Outcome
+if_placed None = None
+if_placed (Some o) = o
+
+abbrev pub outcome_of : MultiplexedConnection → ℕ → Option Outcome
+outcome_of c p = if_placed (slice_get c.outcomes p)
+
+-- the timer of a connect that is bounded
+abbrev pub connect_timer : Option ℕ → List ConnectionAct
+connect_timer None = []
+connect_timer (Some ms) = act.Timer timer.Connect ms ∷ []
+
+-- a connection whose connect isn't answered, without requests
+abbrev pub opened : RedisConnectionInfo → ℕ → AsyncConnectionConfig → MultiplexedConnection
+opened info link c = record {
+  link = link;
+  core = dialing c.pipeline_buffer_size c.write_backpressure_boundary c.concurrency_limit info;
+  timeout = c.response_timeout;
+  outcomes = [];
+  early = connect_timer c.connection_timeout;
+}
+
+-- what is refused first of a connection's configuration, if anything is: a sender of pushes and credentials that come while
+-- it lives, which aren't built yet; a limit of no permits; and a queue that holds nothing
+abbrev pub fault_of : AsyncConnectionConfig → Option ConfigName
+fault_of c =
+    if c.push_sender || c.credentials_provider then Some name.Kind
+    else room_fault c.concurrency_limit c.pipeline_buffer_size
+
+-- either memory was wanted, or this is refused first
+abbrev pub RefusesConnection : AsyncConnectionConfig → OpenError → Type 0
+RefusesConnection c (error.Config fault) = fault_of c ≡ Some fault
+RefusesConnection c error.Client = ⊥
+RefusesConnection c error.NoMemory = ⊤

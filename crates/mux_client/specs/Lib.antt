@@ -1,0 +1,5 @@
+pub mod Connection
+pub mod Shown
+pub mod Errors
+pub mod Calls
+pub mod Makers

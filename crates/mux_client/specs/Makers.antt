@@ -1,0 +1,60 @@
+-- The configuration of a session that a client makes.
+use Rattle.std.specs.Prelude.{◌≡◌, ⊤, ℕ, Bool, true, false, ◌||◌, Option, Some, None, nat_eq, if◌then◌else◌}
+use Rattle.redis_error.specs.declared.config_name.ConfigName.TheVariants as name
+use Rattle.connection_info.specs.declared.address.ConnectionInfo.{ConnectionInfo}
+use Rattle.connection_info.specs.declared.config.AsyncConnectionConfig.{AsyncConnectionConfig}
+use Rattle.connection_info.specs.declared.open_error.OpenError.{OpenError}
+use Rattle.connection_info.specs.declared.open_error.OpenError.TheVariants as error
+use Rattle.connection_info.specs.Config.{default_config}
+use Rattle.connection_info.specs.Written.{url_of, ReadsBack}
+use Rattle.driver_model.specs.declared.config.Config.{Config}
+use Rattle.driver_model.specs.Config.{address, connect_timeout, response_timeout, buffer_size, boundary, told_info}
+
+-- two times, or none
+abbrev pub is_same : Option ℕ → Option ℕ → Bool
+is_same None None = true
+is_same None (Some n) = false
+is_same (Some m) None = false
+is_same (Some m) (Some n) = nat_eq m n
+
+-- a time is given where it isn't the default
+abbrev pub time_given : Option ℕ → Option ℕ → Option (Option ℕ)
+time_given default value = if is_same value default then None else Some value
+
+-- a number is given where it isn't the default
+abbrev pub number_given : ℕ → ℕ → Option ℕ
+number_given default value = if nat_eq value default then None else Some value
+
+-- the library is left out where the address leaves it out
+abbrev pub library_given : Bool → Option Bool
+library_given skips = if skips then Some false else None
+
+-- the words of the configuration: the address as it is written, and what isn't the default
+abbrev pub config_of : ConnectionInfo → AsyncConnectionConfig → Config
+config_of info c = record {
+  url = url_of info;
+  connect = time_given default_config.connection_timeout c.connection_timeout;
+  response = time_given default_config.response_timeout c.response_timeout;
+  limit = c.concurrency_limit;
+  buffer = number_given default_config.pipeline_buffer_size c.pipeline_buffer_size;
+  boundary = number_given default_config.write_backpressure_boundary c.write_backpressure_boundary;
+  lib = library_given info.redis.skip_set_lib_name;
+}
+
+-- a session of these words connects to this address, says what it says to the server, and behaves by this configuration
+pub record Keeps (info : ConnectionInfo) (c : AsyncConnectionConfig) (words : Config) : Type 0 where
+  pub said : told_info words ≡ info.redis
+  pub connects : connect_timeout words ≡ c.connection_timeout
+  pub answers : response_timeout words ≡ c.response_timeout
+  pub permits : words.limit ≡ c.concurrency_limit
+  pub places : buffer_size words ≡ c.pipeline_buffer_size
+  pub room : boundary words ≡ c.write_backpressure_boundary
+
+-- either memory was wanted; or it wants a sender of pushes or credentials, which aren't built yet; or, where it doesn't, the
+-- address can't be read from the URL that is written for it
+abbrev pub RefusesMaking : ConnectionInfo → AsyncConnectionConfig → OpenError → Type 0
+RefusesMaking info c (error.Config name.Kind) = (c.push_sender || c.credentials_provider) ≡ true
+RefusesMaking info c (error.Config name.Url) = ReadsBack info → ⊥
+RefusesMaking info c (error.Config other) = ⊥
+RefusesMaking info c error.Client = ⊥
+RefusesMaking info c error.NoMemory = ⊤

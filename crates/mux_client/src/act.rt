@@ -1,0 +1,42 @@
+use containers::Bytes;
+use driver_model::WaitKind;
+use mux_conn::Pending;
+use redis_error::RedisError;
+
+/// What a timer of a connection is for.
+#[derive(Clone, Copy, PartialEq, Eq)]
+pub enum ConnectionTimer {
+    /// The link is to be connected and set up. When it fires, the next step is told `LinkNews::Overdue`.
+    Connect,
+    /// A request is to be answered. When it fires, `time_out` is called.
+    Response { request: Pending },
+}
+
+/// What a connection asks of the outside, or tells it.
+#[derive(Drop)]
+pub enum ConnectionAct {
+    /// The link is ready, or its opening failed with this error.
+    Created { error: Option<RedisError> },
+    /// A timer is to fire after so many milliseconds.
+    Timer { timer: ConnectionTimer, ms: u64 },
+    /// A request takes so many permits.
+    Took { request: Pending, count: u32 },
+    /// The link ended, or is to be closed.
+    Close,
+    /// All unwritten bytes of the link are offered.
+    Write { bytes: Bytes },
+    /// A request waits.
+    Wait { request: Pending, wait: WaitKind },
+    /// A request's message starts: the messages of the link are numbered from 0; how many items it takes, and how many bytes
+    /// it has.
+    Start {
+        message: u32,
+        request: Pending,
+        need: u64,
+        len: u64,
+    },
+    /// The setup starts: which message of the link it is, how many items it takes, and how many bytes it has.
+    SetUp { message: u32, need: u64, len: u64 },
+    /// A request is answered: `poll` gives its outcome.
+    Answered { request: Pending },
+}

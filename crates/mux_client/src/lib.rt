@@ -1,0 +1,19 @@
+//! A multiplexed connection as its user has it: many callers share one link, each request is sent, polled and, if need be,
+//! cancelled, and whoever owns the link hands in what happens to it.
+#![tactic(auto)]
+
+mod act;
+mod connection;
+mod errors;
+mod like;
+mod makers;
+mod sending;
+mod showing;
+mod stepping;
+
+pub use act::{ConnectionAct, ConnectionTimer};
+pub use connection::MultiplexedConnection;
+pub use errors::SendError;
+pub use like::{Connect, ConnectionLike};
+pub use makers::ConnectionGetters;
+pub use mux_conn::{ConnectionError, Pending};

@@ -1,0 +1,115 @@
+ghost use Rattle.std.specs.Prelude.{◌≡◌, ◌||◌, false, IfOk, IfErr, OnOk};
+ghost use Rattle.connection_info.specs.Config.{default_config};
+ghost use Rattle.connection_info.specs.Written.{ReadsBack};
+ghost use Rattle.mux_client.specs.Makers.{config_of, time_given, number_given, library_given};
+ghost use Rattle.mux_client.specs.Makers.{Keeps, RefusesMaking};
+
+use connection_info::{AsyncConnectionConfig, Client, ConnectionInfo, OpenError};
+use driver_model::Config;
+use redis_error::ConfigName;
+use std::alloc::Global;
+
+/// A time is given where it isn't the default.
+fn time(default: Option<u64>, value: Option<u64>) -> Option<Option<u64>>
+    ensures { result ≡ time_given default value }
+{
+    if value == default { None } else { Some(value) }
+}
+
+/// A number of places is given where it isn't the default.
+fn places(default: u32, value: u32) -> Option<u32>
+    ensures { result ≡ number_given default value }
+{
+    if value == default { None } else { Some(value) }
+}
+
+/// A number of bytes is given where it isn't the default.
+fn room(default: u64, value: u64) -> Option<u64>
+    ensures { result ≡ number_given default value }
+{
+    if value == default { None } else { Some(value) }
+}
+
+/// The library is left out where the address leaves it out.
+fn library(skips: bool) -> Option<bool>
+    ensures { result ≡ library_given skips }
+{
+    if skips { Some(false) } else { None }
+}
+
+/// The words of a session's configuration for this address.
+fn words(
+    alloc: Global,
+    info: &ConnectionInfo,
+    config: &AsyncConnectionConfig,
+) -> Result<Config, OpenError>
+    ensures value { IfOk result (λ words. words ≡ config_of info.now config.now) }
+    ensures read { OnOk result (ReadsBack info.now) }
+    ensures built { OnOk result ((config.now.push_sender || config.now.credentials_provider) ≡ false) }
+    ensures err { IfErr result (RefusesMaking info.now config.now) }
+{
+    if config.push_sender || config.credentials_provider {
+        return Err(OpenError::Config(ConfigName::Kind));
+    }
+    let default = AsyncConnectionConfig::new();
+    let url = info.to_url(alloc)?;
+    Ok(Config {
+        url,
+        connect: time(default.connection_timeout, config.connection_timeout),
+        response: time(default.response_timeout, config.response_timeout),
+        limit: config.concurrency_limit,
+        buffer: places(default.pipeline_buffer_size, config.pipeline_buffer_size),
+        boundary: room(
+            default.write_backpressure_boundary,
+            config.write_backpressure_boundary,
+        ),
+        lib: library(info.redis.skip_set_lib_name),
+    })
+}
+
+/// What makes the configuration of a session over one multiplexed connection.
+pub trait ConnectionGetters {
+    ghost use Rattle.connection_info.specs.declared.address.ConnectionInfo.{ConnectionInfo};
+
+    ghost info: { Self → ConnectionInfo };
+
+    /// The configuration of a session over one connection that behaves as `config` says: its words are the address as a URL
+    /// and what isn't the default. `Config(Kind)` comes exactly where `config` has a sender of pushes or credentials, which
+    /// aren't built yet, and else `Config(Url)` exactly where no URL says the address.
+    fn get_multiplexed_async_connection_with_config(
+        &self,
+        alloc: Global,
+        config: &AsyncConnectionConfig,
+    ) -> Result<Config, OpenError>
+        ensures value { IfOk result (λ words. words ≡ config_of (info self.now) config.now) }
+        ensures keeps { IfOk result (Keeps (info self.now) config.now) }
+        ensures read { OnOk result (ReadsBack (info self.now)) }
+        ensures err { IfErr result (RefusesMaking (info self.now) config.now) };
+
+    /// The same with the default configuration.
+    fn get_multiplexed_async_connection(&self, alloc: Global) -> Result<Config, OpenError>
+        ensures value { IfOk result (λ words. words ≡ config_of (info self.now) default_config) }
+        ensures keeps { IfOk result (Keeps (info self.now) default_config) }
+        ensures read { OnOk result (ReadsBack (info self.now)) }
+        ensures err { IfErr result (RefusesMaking (info self.now) default_config) };
+}
+
+impl ConnectionGetters for Client {
+    ghost info = { λ client. client };
+
+    fn get_multiplexed_async_connection_with_config(
+        &self,
+        alloc: Global,
+        config: &AsyncConnectionConfig,
+    ) -> Result<Config, OpenError> {
+        words(alloc, self.get_connection_info(), config)
+    }
+
+    fn get_multiplexed_async_connection(&self, alloc: Global) -> Result<Config, OpenError> {
+        words(
+            alloc,
+            self.get_connection_info(),
+            &AsyncConnectionConfig::new(),
+        )
+    }
+}

@@ -1,0 +1,188 @@
+ghost use Rattle.std.specs.Prelude.{◌≡◌, ◌≢◌, ◌⊎◌, ◌<◌, ◌+◌, ◌^◌, [], length, not, true, Some, None, OnOk, IfOk, IfErr};
+ghost use Rattle.resp_write.specs.Pack.{pack, pack_pipeline};
+ghost use Rattle.mux_conn.specs.Connection.{is_ready};
+ghost use Rattle.mux_client.specs.Calls.{shape_inside};
+
+use crate::act::{ConnectionAct, ConnectionTimer};
+use crate::connection::MultiplexedConnection;
+use crate::errors::SendError;
+use containers::Bytes;
+use driver_model::Shape;
+use mux_conn::Pending;
+use redis_error::RedisError;
+use resp_write::{Cmd, Pipeline};
+use std::alloc::{AllocError, Global};
+
+/// How an internal list of commands takes its items.
+fn shape_inside(count: usize) -> Shape
+    requires { count < 2 ^ 32 }
+    ensures { result ≡ shape_inside count }
+{
+    if count == 1 {
+        return Shape::Single;
+    }
+    Shape::Pipeline {
+        offset: 0,
+        count: count as u32,
+        transaction: false,
+    }
+}
+
+impl MultiplexedConnection {
+    ghost use Rattle.mux_client.specs.Calls.{next_number, sent, sent_inside, RefusesSend};
+
+    /// Whether a message of these bytes may be sent.
+    fn check(&self, packed: &Bytes) -> Result<(), SendError>
+        ensures failure { OnOk result (self.now.core.failure ≡ None) }
+        ensures room { OnOk result (next_number self.now + 1 < 2 ^ 32) }
+        ensures bytes { OnOk result (packed.now ≢ []) }
+        ensures err { IfErr result (RefusesSend self.now packed.now) }
+    {
+        if let Some(error) = self.core.failure {
+            return Err(SendError::from(error));
+        }
+        if packed.is_empty() {
+            return Err(SendError::Refused(RedisError::EmptyCommand));
+        }
+        if self.core.requests.len() as u64 >= u64::from(u32::MAX) {
+            return Err(SendError::Spent);
+        }
+        Ok(())
+    }
+
+    /// A message of these bytes, which takes items by this shape, and whose reply is awaited or not.
+    fn send(
+        &mut self,
+        packed: Bytes,
+        shape: Shape,
+        awaited: bool,
+    ) -> Result<Pending, SendError>
+        ensures sent { OnOk result (self.new ≡ sent self.old packed shape awaited) }
+        ensures number { IfOk result (λ p. p.number ≡ next_number self.old) }
+        ensures sound { OnOk result (self.old.core.failure ≡ None) }
+        ensures bytes { OnOk result (packed ≢ []) }
+        ensures err { IfErr result (RefusesSend self.old packed) }
+    {
+        self.check(&packed)?;
+        let number = self.core.requests.len() as u32;
+        match self.enter(number, packed, shape, awaited) {
+            Ok(request) => Ok(request),
+            Err(_) => Err(SendError::from(self.refuse_memory())),
+        }
+    }
+
+    /// One more request of the machine, with a place for its outcome.
+    fn enter(
+        &mut self,
+        number: u32,
+        packed: Bytes,
+        shape: Shape,
+        awaited: bool,
+    ) -> Result<Pending, AllocError>
+        requires { number ≡ next_number self.old }
+        ensures sent { OnOk result (self.new ≡ sent self.old packed shape awaited) }
+        ensures number { IfOk result (λ p. p.number ≡ number) }
+    {
+        self.outcomes.push(None)?;
+        self.core.ask(number, packed, shape, awaited, self.timeout)
+    }
+
+    /// Sends a command. A command marked with `set_no_response` has its outcome, `Nil`, once it has its place in the queue.
+    /// `Refused` comes exactly where it has no arguments, not even a name. The next step shows what comes of it.
+    pub fn send_packed_command(
+        &mut self,
+        alloc: Global,
+        command: &Cmd,
+    ) -> Result<Pending, SendError>
+        ensures sent { OnOk result (
+            self.new ≡ sent self.old (pack command.now.args) Shape.Single (not command.now.no_response)
+            ) }
+        ensures number { IfOk result (λ p. p.number ≡ next_number self.old) }
+        ensures sound { OnOk result (self.old.core.failure ≡ None) }
+        ensures bytes { OnOk result (pack command.now.args ≢ []) }
+        ensures err { IfErr result (RefusesSend self.old (pack command.now.args)) }
+    {
+        let packed = command.get_packed_command(alloc)?;
+        self.send(packed, Shape::Single, !command.is_no_response())
+    }
+
+    /// Sends a pipeline as one message: the replies behind the first `offset` are kept, `count` of them, and at least one is
+    /// awaited. `Refused` comes exactly where it packs to no bytes. The next step shows what comes of it.
+    pub fn send_packed_commands(
+        &mut self,
+        alloc: Global,
+        pipeline: &Pipeline,
+        offset: u32,
+        count: u32,
+    ) -> Result<Pending, SendError>
+        ensures sent { OnOk result (
+            self.new
+            ≡ sent self.old (pack_pipeline pipeline.now)
+            (Shape.Pipeline offset count pipeline.now.atomic) true
+            ) }
+        ensures number { IfOk result (λ p. p.number ≡ next_number self.old) }
+        ensures sound { OnOk result (self.old.core.failure ≡ None) }
+        ensures bytes { OnOk result (pack_pipeline pipeline.now ≢ []) }
+        ensures err { IfErr result (RefusesSend self.old (pack_pipeline pipeline.now)) }
+    {
+        let packed = pipeline.get_packed_pipeline(alloc)?;
+        let shape = Shape::Pipeline {
+            offset,
+            count,
+            transaction: pipeline.is_transaction(),
+        };
+        self.send(packed, shape, true)
+    }
+
+    /// One more request of the machine that needs no permit, with a place for its outcome and its timer.
+    fn enter_inside(
+        &mut self,
+        number: u32,
+        packed: Bytes,
+        shape: Shape,
+    ) -> Result<Pending, AllocError>
+        requires { number ≡ next_number self.old }
+        ensures sent { OnOk result (self.new ≡ sent_inside self.old packed shape) }
+        ensures number { IfOk result (λ p. p.number ≡ number) }
+    {
+        self.outcomes.push(None)?;
+        if let Some(ms) = self.timeout {
+            self.early.push(ConnectionAct::Timer {
+                timer: ConnectionTimer::Response {
+                    request: Pending { number },
+                },
+                ms,
+            })?;
+        }
+        self.core.ask_inside(number, packed, shape)
+    }
+
+    /// Sends what the driver itself says on a link that is set up. It takes no permit, is to be answered as any other request,
+    /// and takes one item for each command; one command counts as a single command.
+    pub fn send_internal(
+        &mut self,
+        alloc: Global,
+        pipeline: &Pipeline,
+    ) -> Result<Pending, SendError>
+        requires ready { is_ready self.old.core.life ≡ true }
+        requires few { length pipeline.now.commands < 2 ^ 32 }
+        ensures sent { OnOk result (
+            self.new
+            ≡ sent_inside self.old (pack_pipeline pipeline.now)
+            (shape_inside (length pipeline.now.commands))
+            ) }
+        ensures number { IfOk result (λ p. p.number ≡ next_number self.old) }
+        ensures sound { OnOk result (self.old.core.failure ≡ None) }
+        ensures bytes { OnOk result (pack_pipeline pipeline.now ≢ []) }
+        ensures err { IfErr result (RefusesSend self.old (pack_pipeline pipeline.now)) }
+    {
+        let packed = pipeline.get_packed_pipeline(alloc)?;
+        let shape = shape_inside(pipeline.len());
+        self.check(&packed)?;
+        let number = self.core.requests.len() as u32;
+        match self.enter_inside(number, packed, shape) {
+            Ok(request) => Ok(request),
+            Err(_) => Err(SendError::from(self.refuse_memory())),
+        }
+    }
+}
