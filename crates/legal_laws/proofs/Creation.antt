@@ -199,7 +199,7 @@ each_told b shown (a ∷ more) all h told =
     (each_told (entered b a) (shown ++ shown_by a) more all.1 (stays_sound b a all.0 h) (step_told b shown a all.0 h told))
 
 -- so what a front shows is told in its book
-told_behind : (front : List Action) → AllStand blank_book front → ToldIn (creations front) (book front)
+pub told_behind : (front : List Action) → AllStand blank_book front → ToldIn (creations front) (book front)
 unfolding book
 told_behind front all = each_told blank_book [] front all blank_is_sound (record { counted = refl; once = omega arith; linked = λ c. absurd (c refl); quiet = λ c. absurd (c refl); caused = λ e is. absurd (cc is) })
 
