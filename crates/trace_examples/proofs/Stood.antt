@@ -14,7 +14,7 @@ use Rattle.driver_model.specs.declared.event.Event.{Event}
 use Rattle.driver_model.specs.declared.event.EventKind.TheVariants as event
 use Rattle.driver_model.specs.declared.event.Submission.{Submission}
 use Rattle.driver_model.specs.declared.outcome.Outcome.{Outcome}
-use Rattle.legal_trace.specs.Ledger.{is_ready, is_well}
+use Rattle.legal_trace.specs.Ledger.{is_ready, is_set_up, is_well}
 use Rattle.legal_trace.specs.Story.{is_awaited}
 use Rattle.legal_trace.specs.Book.{Book, blank_book, entered_each}
 use Rattle.legal_trace.specs.Legal.{IsOpen, MayAnswer, MayStand, Legal}
@@ -55,6 +55,12 @@ other_letter x y apart e = ne_from x y apart (same_letter x y e)
 pub none_is_ready : (b : Book) (l : ℕ) → IsBounded b → (b.link 0).up ≡ false → is_ready (b.link l) ≡ true → ⊥
 none_is_ready b l bounded down = first_and_idle b (λ m. is_ready (b.link m) ≡ true → ⊥) l bounded
     (λ r. not_both (b.link 0).up down (ready_is_up (b.link 0) r))
+    (λ idle r. not_both (b.link l).up idle.down (ready_is_up (b.link l) r))
+
+-- nor where it isn't set up
+pub none_is_set : (b : Book) (l : ℕ) → IsBounded b → is_set_up (b.link 0) ≡ false → is_ready (b.link l) ≡ true → ⊥
+none_is_set b l bounded unset = first_and_idle b (λ m. is_ready (b.link m) ≡ true → ⊥) l bounded
+    (λ r. not_both (is_set_up (b.link 0)) unset (ready_is_set (b.link 0) r))
     (λ idle r. not_both (b.link l).up idle.down (ready_is_up (b.link l) r))
 
 -- where the creation is shown, the first link is ready
