@@ -326,7 +326,9 @@ AreSetups l = SetupsOf l.info l.starts
 take_push : (ss : List Start) (k : ℕ) (s : Start) → slice_get ss k ≡ Some s → take (k + 1) ss ≡ take k ss ++ s ∷ []
 take_push [] k s e = cc
 take_push (x ∷ ss) zero s e = cc
-take_push (x ∷ ss) (suc k) s e = ap (λ (xs : List Start). x ∷ xs) (take_push ss k s e)
+take_push (x ∷ ss) (suc k) s e =
+    let one : suc k + 1 ≡ suc (k + 1) = omega arith in
+    ap (λ n. take n (x ∷ ss)) one ∙ ap (λ (xs : List Start). x ∷ xs) (take_push ss k s e)
 
 -- a start that a count tells is there
 start_at : (ss : List Start) (k : ℕ) → k < length ss → (s : Start) × (slice_get ss k ≡ Some s)
