@@ -11,7 +11,6 @@ use Rattle.driver_model.specs.declared.config.Config.{Config}
 use Rattle.driver_model.specs.declared.event.Event.{Event}
 use Rattle.driver_model.specs.declared.outcome.Outcome.{Outcome}
 use Rattle.driver_model.specs.declared.outcome.Outcome.TheVariants as outcome
-use Rattle.driver_model.specs.News.{news_of}
 use Rattle.legal_trace.specs.Ledger.{Ledger, End, Ending, by_shutdown, by_fault, by_opening, begins, offers, ends, failure_of, failure_in, is_set_up, setup_due}
 use Rattle.legal_trace.specs.Story.{Try, bytes_of, last_of}
 use Rattle.legal_trace.specs.Book.{Book, blank_book, book, entered, entered_each, lines_of, message_of}
