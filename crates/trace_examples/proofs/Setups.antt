@@ -1,10 +1,9 @@
 -- Setups of links: traces that can be relied on, and actions that stand where they may not.
-use Rattle.std.proofs.Common.{◌≡◌, ◌≢◌, ℕ, suc, ◌==◌, Bool, true, false, List, [], ◌∷◌, ◌++◌, Option, Some, None, codes, pos, refl, sym, ap, ◌∙◌, inl, inr, arith}
+use Rattle.std.proofs.Common.{◌≡◌, ℕ, Bool, false, List, [], ◌∷◌, Option, Some, None, codes, pos, refl, ap}
 use Rattle.std.specs.Fmt.{digits}
 use Rattle.std.specs.Str.Lossy.{utf8_lossy, utf8_valid_len}
 use Rattle.url.proofs.OnLiterals.{url_on_literals}
 use Rattle.redis_error.specs.declared.fault_kind.FaultKind.TheVariants.{Reset, TimedOut}
-use Rattle.redis_error.specs.declared.redis_error.RedisError.{RedisError}
 use Rattle.redis_error.specs.declared.redis_error.RedisError.TheVariants as error
 use Rattle.resp_read.specs.Grammar.{max_depth}
 use Rattle.resp_read.specs.Values.{values, left_over, is_spoiled}
@@ -13,8 +12,6 @@ use Rattle.connection_info.specs.declared.address.ConnectionInfo.{ConnectionInfo
 use Rattle.connection_info.specs.declared.protocol.ProtocolVersion.TheVariants.{RESP2, RESP3}
 use Rattle.driver_model.specs.Config.{address, fault_in}
 use Rattle.driver_model.specs.declared.action.Action.TheVariants as action
-use Rattle.driver_model.specs.declared.action.Cause.{Cause}
-use Rattle.driver_model.specs.declared.action.Cause.TheVariants as cause
 use Rattle.driver_model.specs.declared.action.Owner.TheVariants as owner
 use Rattle.driver_model.specs.declared.action.WaitKind.TheVariants as wait
 use Rattle.driver_model.specs.declared.event.EventKind.TheVariants as event
@@ -22,7 +19,7 @@ use Rattle.driver_model.specs.declared.outcome.Outcome.TheVariants as outcome
 use Rattle.driver_model.specs.Request.{packed_bytes}
 use Rattle.legal_trace.specs.Events.{is_bad_event}
 use Rattle.trace_examples.specs.Parts.{turn, command, reply, one_reply, okay_line}
-use Rattle.trace_examples.specs.Setups.{told_at, secured, secured_in_time, of_a_user, of_a_library, of_all, password_line, wrong_password, refusal, other_arguments, unknown_command, all_well, set_up, closed_by_refusal, refusal_told, said_again, library_said, all_said, cut_off_during, shut_during, overdue_during, waited_for_both}
+use Rattle.trace_examples.specs.Setups.{told_at, secured, secured_in_time, of_a_user, of_a_library, of_all, wrong_password, refusal, other_arguments, unknown_command, all_well, set_up, refusal_told, said_again, library_said, all_said, cut_off_during, shut_during, overdue_during, waited_for_both}
 use Rattle.trace_examples.specs.Claims.{IsTraceIn}
 use Rattle.trace_examples.proofs.Due.{IsPlace, legal}
 
