@@ -28,12 +28,12 @@ use Rattle.legal_trace.specs.Legal.{MayTurn}
 use Rattle.legal_trace.specs.Steps.{waits}
 use Rattle.legal_trace.proofs.Setups.{due_count, set_is_undue, silent_is_set}
 use Rattle.trace_examples.specs.Fronts.{EachStands}
-use Rattle.trace_examples.specs.Setups.{secured, of_a_user, password_line, refusal, unsaid, setup_begun, secret_sent, came_during, answered_well, set_up, password_refused, closed_by_refusal, refusal_told, counted_otherwise, said_again, waited_for_both, setup_fronts}
+use Rattle.trace_examples.specs.Setups.{secured, of_a_user, of_a_held_user, counted_early, password_line, refusal, unsaid, setup_begun, secret_sent, came_during, answered_well, set_up, password_refused, closed_by_refusal, refusal_told, counted_otherwise, said_again, waited_for_both, setup_fronts}
 use Rattle.trace_examples.specs.Claims.{NoneBeginsIn}
 use Rattle.trace_examples.proofs.Bounded.{blank_bounded, bounded_behind}
 use Rattle.trace_examples.proofs.Due.{stands}
 use Rattle.trace_examples.proofs.Settled.{first_and_idle, failed_idle}
-use Rattle.trace_examples.proofs.Setups.{at_secured, at_users}
+use Rattle.trace_examples.proofs.Setups.{at_secured, at_users, at_held_users}
 use Rattle.trace_examples.proofs.Stood.{book_of, may_stand, answer, none_is_set, came_up_silent}
 
 -- these fronts stand
@@ -52,7 +52,8 @@ setup_fronts_stand word =
     let counted = stands (counted_otherwise of_a_user word) refl (at_users, (refl, tt)) in
     let again = stands (said_again of_a_user word) refl (at_users, (refl, (refl, tt))) in
     let both = stands (waited_for_both secured word) refl (at_secured (Some None), (refl, tt)) in
-    (up, (begun, (sent, (came, (well, (ready, (refused, (closed, (told, (counted, (again, (both, tt))))))))))))
+    let early = stands (counted_early of_a_held_user word) refl (at_held_users, (refl, tt)) in
+    (up, (begun, (sent, (came, (well, (ready, (refused, (closed, (told, (counted, (again, (both, (early, tt)))))))))))))
 
 -- a request that starts before the setup is answered
 pub started_during : (l k round count len : ℕ) → NoneBeginsIn secured came_during (action.Start l k (owner.Try 0 round) count len)
@@ -120,6 +121,13 @@ unfolding digits items values left_over max_depth url_on_literals utf8_lossy utf
 said_three_times k count len word events after h =
     let m = may_stand of_a_user word events (said_again of_a_user word) after (action.Start 0 k owner.Setup count len) h in
     cc m.due
+
+-- a second setup on a link that is held back
+pub said_again_too_early : (k count len : ℕ) → NoneBeginsIn of_a_held_user counted_early (action.Start 0 k owner.Setup count len)
+unfolding digits items values left_over max_depth url_on_literals utf8_lossy utf8_valid_len
+said_again_too_early k count len word events after h =
+    let m = may_stand of_a_held_user word events (counted_early of_a_held_user word) after (action.Start 0 k owner.Setup count len) h in
+    cc m.free
 
 -- a link that is closed where the setup is to start once more
 pub closed_when_counted : NoneBeginsIn of_a_user counted_otherwise (action.Close 0)

@@ -62,6 +62,8 @@ ghost use Rattle.trace_examples.specs.Setups.{secret_sent, came_during, answered
 ghost use Rattle.trace_examples.specs.Setups.{password_refused, closed_by_refusal, refusal_told};
 ghost use Rattle.trace_examples.specs.Setups.{counted_otherwise, said_again, library_said};
 ghost use Rattle.trace_examples.specs.Setups.{all_said, cut_off_during, shut_during};
+ghost use Rattle.trace_examples.specs.Setups.{by_default, of_a_held_user, counted_early};
+ghost use Rattle.trace_examples.specs.Setups.{said_later, named_in_time};
 ghost use Rattle.trace_examples.specs.Setups.{overdue_during, waited_for_both, setup_fronts};
 ghost use Rattle.trace_examples.specs.Traces.{opening};
 ghost use Rattle.trace_examples.specs.Claims.{IsTraceOf, IsTraceIn};
@@ -501,8 +503,9 @@ pub fn nor_are_these_permits()
 
 /// Does nothing. Its contract: these are legal too. What is to be said to a server is one message,
 /// the first of its link; a request waits until its replies are judged, and starts behind the
-/// creation; where the server counts other arguments the setup starts once more, without the user
-/// name; and an error about the library's name is none.
+/// creation, which is when its timer is asked for; where the server counts other arguments the
+/// setup starts once more, without the user name, once nothing holds the link back; and an error
+/// about the library's name is none.
 pub fn these_are_set_up()
     ensures starts_once_set_up { IsTraceIn secured
         (event.Connected 0 ∷ event.Submit (command 71) ∷ event.Wrote 0 22
@@ -516,6 +519,17 @@ pub fn these_are_set_up()
         (event.Connected 0 ∷ event.Wrote 0 29 ∷ event.Bytes 0 other_arguments
         ∷ event.Bytes 0 okay_line ∷ []) said_again
         (turn 4 (event.Bytes 0 okay_line) ∷ action.Created None ∷ []) }
+    ensures without_the_user_later { IsTraceIn of_a_held_user
+        (event.Connected 0 ∷ event.Bytes 0 other_arguments ∷ event.Wrote 0 29
+        ∷ event.Bytes 0 okay_line ∷ []) said_later
+        (turn 4 (event.Bytes 0 okay_line) ∷ action.Created None ∷ []) }
+    ensures by_the_address_alone { IsTraceIn by_default
+        (event.Connected 0 ∷ event.Bytes 0 okay_line ∷ event.Bytes 0 okay_line
+        ∷ event.Submit (command 71) ∷ event.Bytes 0 one_reply ∷ []) named_in_time
+        (turn 4 (event.Submit (command 71))
+        ∷ action.Timer 1 500 (purpose.Response (owner.Try 0 0))
+        ∷ action.Start 0 1 (owner.Try 0 0) 1 11 ∷ turn 5 (event.Bytes 0 one_reply)
+        ∷ action.Outcome 0 (reply 120) ∷ []) }
     ensures library_unknown { IsTraceIn of_a_library
         (event.Connected 0 ∷ event.Bytes 0 unknown_command ∷ event.Bytes 0 okay_line ∷ [])
         library_said (action.Created None ∷ []) }
@@ -548,8 +562,8 @@ pub fn so_do_these_setups_fail()
 {}
 
 /// Does nothing. Its contract: no trace that begins so is legal, whatever its events were and
-/// whatever comes after: a setup that starts twice, though it is well or refused, or a third time;
-/// with another need, length or bytes, or with the user name still; and a turn that begins where it
+/// whatever comes after: a setup that starts twice, though it is well or refused, while its link is
+/// held back, or a third time; with another need, length or bytes, or with the user name still; and a turn that begins where it
 /// is to start. Each action of the fronts stands where it may.
 pub fn nor_are_these_setups()
     ensures fronts { (word : ℕ) → EachStands (setup_fronts word) }
@@ -561,6 +575,8 @@ pub fn nor_are_these_setups()
         → NoneBeginsIn secured password_refused (action.Start 0 k owner.Setup count len) }
     ensures said_three_times { (k count len : ℕ)
         → NoneBeginsIn of_a_user said_again (action.Start 0 k owner.Setup count len) }
+    ensures said_again_too_early { (k count len : ℕ)
+        → NoneBeginsIn of_a_held_user counted_early (action.Start 0 k owner.Setup count len) }
     ensures of_another_need { (k count len : ℕ) → count ≢ 1
         → NoneBeginsIn secured unsaid (action.Start 0 k owner.Setup count len) }
     ensures of_another_length { (k count len : ℕ) → len ≢ 22
