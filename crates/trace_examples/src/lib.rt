@@ -563,8 +563,8 @@ pub fn so_do_these_setups_fail()
 
 /// Does nothing. Its contract: no trace that begins so is legal, whatever its events were and
 /// whatever comes after: a setup that starts twice, though it is well or refused, while its link is
-/// held back, or a third time; with another need, length or bytes, or with the user name still; and a turn that begins where it
-/// is to start. Each action of the fronts stands where it may.
+/// held back, or a third time; with another need, length or bytes, or with the user name still; and
+/// a turn that begins where it is to start. Each action of the fronts stands where it may.
 pub fn nor_are_these_setups()
     ensures fronts { (word : ℕ) → EachStands (setup_fronts word) }
     ensures said_twice { (k count len : ℕ)
