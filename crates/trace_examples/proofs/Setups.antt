@@ -1,10 +1,9 @@
 -- Setups of links: traces that can be relied on, and actions that stand where they may not.
-use Rattle.std.proofs.Common.{◌≡◌, ◌≢◌, ℕ, suc, ◌==◌, Bool, true, false, List, [], ◌∷◌, ◌++◌, Option, Some, None, codes, pos, refl, sym, ap, ◌∙◌, inl, inr, arith}
+use Rattle.std.proofs.Common.{◌≡◌, ℕ, Bool, false, List, [], ◌∷◌, Option, Some, None, codes, pos, refl, ap}
 use Rattle.std.specs.Fmt.{digits}
 use Rattle.std.specs.Str.Lossy.{utf8_lossy, utf8_valid_len}
 use Rattle.url.proofs.OnLiterals.{url_on_literals}
 use Rattle.redis_error.specs.declared.fault_kind.FaultKind.TheVariants.{Reset, TimedOut}
-use Rattle.redis_error.specs.declared.redis_error.RedisError.{RedisError}
 use Rattle.redis_error.specs.declared.redis_error.RedisError.TheVariants as error
 use Rattle.resp_read.specs.Grammar.{max_depth}
 use Rattle.resp_read.specs.Values.{values, left_over, is_spoiled}
@@ -13,16 +12,15 @@ use Rattle.connection_info.specs.declared.address.ConnectionInfo.{ConnectionInfo
 use Rattle.connection_info.specs.declared.protocol.ProtocolVersion.TheVariants.{RESP2, RESP3}
 use Rattle.driver_model.specs.Config.{address, fault_in}
 use Rattle.driver_model.specs.declared.action.Action.TheVariants as action
-use Rattle.driver_model.specs.declared.action.Cause.{Cause}
-use Rattle.driver_model.specs.declared.action.Cause.TheVariants as cause
 use Rattle.driver_model.specs.declared.action.Owner.TheVariants as owner
+use Rattle.driver_model.specs.declared.action.Purpose.TheVariants as purpose
 use Rattle.driver_model.specs.declared.action.WaitKind.TheVariants as wait
 use Rattle.driver_model.specs.declared.event.EventKind.TheVariants as event
 use Rattle.driver_model.specs.declared.outcome.Outcome.TheVariants as outcome
 use Rattle.driver_model.specs.Request.{packed_bytes}
 use Rattle.legal_trace.specs.Events.{is_bad_event}
 use Rattle.trace_examples.specs.Parts.{turn, command, reply, one_reply, okay_line}
-use Rattle.trace_examples.specs.Setups.{told_at, secured, secured_in_time, of_a_user, of_a_library, of_all, password_line, wrong_password, refusal, other_arguments, unknown_command, all_well, set_up, closed_by_refusal, refusal_told, said_again, library_said, all_said, cut_off_during, shut_during, overdue_during, waited_for_both}
+use Rattle.trace_examples.specs.Setups.{told_at, secured, secured_in_time, of_a_user, of_a_library, of_all, by_default, of_a_held_user, said_later, named_in_time, wrong_password, refusal, other_arguments, unknown_command, all_well, set_up, refusal_told, said_again, library_said, all_said, cut_off_during, shut_during, overdue_during, waited_for_both}
 use Rattle.trace_examples.specs.Claims.{IsTraceIn}
 use Rattle.trace_examples.proofs.Due.{IsPlace, legal}
 
@@ -75,6 +73,22 @@ is_open_one = refl
 at_open : IsPlace of_a_library (codes "h") 6379
 at_open = at_url (codes "redis://h:6379") (Some None) None open_server is_open_one
 
+-- also where nothing is said of times
+is_default : address by_default ≡ Some open_server
+unfolding url_on_literals utf8_lossy utf8_valid_len
+is_default = refl
+
+at_default : IsPlace by_default (codes "h") 6379
+at_default = record { sound = ap (λ a. fault_in a None 50) is_default; info = open_server; configured = is_default; is = (refl, refl) }
+
+-- and the one with a user, where nothing starts while bytes are unwritten
+is_held_users : address of_a_held_user ≡ Some users_server
+unfolding url_on_literals utf8_lossy utf8_valid_len
+is_held_users = refl
+
+pub at_held_users : IsPlace of_a_held_user (codes "h") 6379
+at_held_users = record { sound = ap (λ a. fault_in a None 50) is_held_users; info = users_server; configured = is_held_users; is = (refl, refl) }
+
 -- and the one to which all is said
 abbrev server_of_all : ConnectionInfo
 server_of_all = record {
@@ -121,6 +135,22 @@ pub without_the_user : IsTraceIn of_a_user
     (turn 4 (event.Bytes 0 okay_line) ∷ action.Created None ∷ [])
 unfolding digits is_bad_event items values left_over is_spoiled max_depth url_on_literals utf8_lossy utf8_valid_len
 without_the_user word = legal of_a_user word _ _ refl refl (at_users, (refl, (refl, tt)))
+
+-- it starts once nothing holds the link back
+pub without_the_user_later : IsTraceIn of_a_held_user
+    (event.Connected 0 ∷ event.Bytes 0 other_arguments ∷ event.Wrote 0 29 ∷ event.Bytes 0 okay_line ∷ [])
+    said_later
+    (turn 4 (event.Bytes 0 okay_line) ∷ action.Created None ∷ [])
+unfolding digits is_bad_event items values left_over is_spoiled max_depth url_on_literals utf8_lossy utf8_valid_len
+without_the_user_later word = legal of_a_held_user word _ _ refl refl (at_held_users, (refl, (refl, tt)))
+
+-- where nothing is said but the address the library is named, and a request has 500 milliseconds once this is well
+pub by_the_address_alone : IsTraceIn by_default
+    (event.Connected 0 ∷ event.Bytes 0 okay_line ∷ event.Bytes 0 okay_line ∷ event.Submit (command 71) ∷ event.Bytes 0 one_reply ∷ [])
+    named_in_time
+    (turn 4 (event.Submit (command 71)) ∷ action.Timer 1 500 (purpose.Response (owner.Try 0 0)) ∷ action.Start 0 1 (owner.Try 0 0) 1 11 ∷ turn 5 (event.Bytes 0 one_reply) ∷ action.Outcome 0 (reply 120) ∷ [])
+unfolding digits is_bad_event items values left_over is_spoiled max_depth url_on_literals utf8_lossy utf8_valid_len
+by_the_address_alone word = legal by_default word _ _ refl refl (at_default, ((refl, refl), (refl, (tt, (refl, tt)))))
 
 -- an error about the library's name is none, and the link is ready once both replies came
 pub library_unknown : IsTraceIn of_a_library

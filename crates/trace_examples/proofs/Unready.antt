@@ -1,5 +1,5 @@
 -- Actions around a setup that stand where they may not: whatever comes after these fronts, no trace that begins so is legal.
-use Rattle.std.proofs.Common.{◌≡◌, ◌≢◌, ℕ, List, length, Some, None, refl, sym, ap, ◌∙◌, inl, inr}
+use Rattle.std.proofs.Common.{◌≡◌, ◌≢◌, ℕ, true, false, List, length, Some, None, refl, sym, ap, ◌∙◌, inl, inr}
 use Rattle.std.specs.Fmt.{digits}
 use Rattle.std.specs.Str.Lossy.{utf8_lossy, utf8_valid_len}
 use Rattle.url.proofs.OnLiterals.{url_on_literals}
@@ -7,6 +7,11 @@ use Rattle.redis_error.specs.declared.redis_error.RedisError.TheVariants as erro
 use Rattle.resp_read.specs.Grammar.{max_depth}
 use Rattle.resp_read.specs.Values.{values, left_over, is_spoiled}
 use Rattle.resp_read.specs.Items.{items}
+use Rattle.containers.proofs.Choices.{not_both}
+use Rattle.connection_setup.specs.Setup.{setup}
+use Rattle.driver_model.specs.Config.{told_info}
+use Rattle.driver_model.specs.Setup.{says_nothing}
+use Rattle.driver_model.specs.declared.config.Config.{Config}
 use Rattle.driver_model.specs.declared.action.Action.TheVariants as action
 use Rattle.driver_model.specs.declared.action.Cause.{Cause}
 use Rattle.driver_model.specs.declared.action.Cause.TheVariants as cause
@@ -21,15 +26,15 @@ use Rattle.driver_model.specs.Shape.{need_of}
 use Rattle.legal_trace.specs.Ledger.{failure_in, setup_message}
 use Rattle.legal_trace.specs.Legal.{MayTurn}
 use Rattle.legal_trace.specs.Steps.{waits}
-use Rattle.legal_trace.proofs.Setups.{due_count}
+use Rattle.legal_trace.proofs.Setups.{due_count, set_is_undue, silent_is_set}
 use Rattle.trace_examples.specs.Fronts.{EachStands}
-use Rattle.trace_examples.specs.Setups.{secured, of_a_user, password_line, refusal, unsaid, setup_begun, secret_sent, came_during, answered_well, set_up, password_refused, closed_by_refusal, refusal_told, counted_otherwise, said_again, waited_for_both, setup_fronts}
+use Rattle.trace_examples.specs.Setups.{secured, of_a_user, of_a_held_user, counted_early, password_line, refusal, unsaid, setup_begun, secret_sent, came_during, answered_well, set_up, password_refused, closed_by_refusal, refusal_told, counted_otherwise, said_again, waited_for_both, setup_fronts}
 use Rattle.trace_examples.specs.Claims.{NoneBeginsIn}
 use Rattle.trace_examples.proofs.Bounded.{blank_bounded, bounded_behind}
 use Rattle.trace_examples.proofs.Due.{stands}
 use Rattle.trace_examples.proofs.Settled.{first_and_idle, failed_idle}
-use Rattle.trace_examples.proofs.Setups.{at_secured, at_users}
-use Rattle.trace_examples.proofs.Stood.{book_of, may_stand, answer, none_is_set}
+use Rattle.trace_examples.proofs.Setups.{at_secured, at_users, at_held_users}
+use Rattle.trace_examples.proofs.Stood.{book_of, may_stand, answer, none_is_set, came_up_silent}
 
 -- these fronts stand
 pub setup_fronts_stand : (word : ℕ) → EachStands (setup_fronts word)
@@ -47,7 +52,8 @@ setup_fronts_stand word =
     let counted = stands (counted_otherwise of_a_user word) refl (at_users, (refl, tt)) in
     let again = stands (said_again of_a_user word) refl (at_users, (refl, (refl, tt))) in
     let both = stands (waited_for_both secured word) refl (at_secured (Some None), (refl, tt)) in
-    (up, (begun, (sent, (came, (well, (ready, (refused, (closed, (told, (counted, (again, (both, tt))))))))))))
+    let early = stands (counted_early of_a_held_user word) refl (at_held_users, (refl, tt)) in
+    (up, (begun, (sent, (came, (well, (ready, (refused, (closed, (told, (counted, (again, (both, (early, tt)))))))))))))
 
 -- a request that starts before the setup is answered
 pub started_during : (l k round count len : ℕ) → NoneBeginsIn secured came_during (action.Start l k (owner.Try 0 round) count len)
@@ -70,12 +76,16 @@ created_during word events after h =
     let m = may_stand secured word events (secret_sent secured word) after (action.Created None) h in
     none_is_set (book_of (secret_sent secured word)) m.l (bounded_behind blank_book (secret_sent secured word) refl blank_bounded) refl m.ready
 
--- and before it starts
-pub created_unsaid : NoneBeginsIn secured unsaid (action.Created None)
-unfolding digits url_on_literals utf8_lossy utf8_valid_len
-created_unsaid word events after h =
-    let m = may_stand secured word events (unsaid secured word) after (action.Created None) h in
-    none_is_set (book_of (unsaid secured word)) m.l (bounded_behind blank_book (unsaid secured word) refl blank_bounded) refl m.ready
+-- and before it starts, with any configuration that has something said
+pub created_unsaid : (config : Config) → says_nothing (setup (told_info config) true) ≡ false → NoneBeginsIn config unsaid (action.Created None)
+created_unsaid config says word events after h = not_both (says_nothing (setup (told_info config) true)) says (came_up_silent config word events after h)
+
+-- a setup where nothing is to be said
+pub said_where_nothing_is : (config : Config) (k count len : ℕ) → says_nothing (setup (told_info config) true) ≡ true → NoneBeginsIn config unsaid (action.Start 0 k owner.Setup count len)
+said_where_nothing_is config k count len silent word events after h =
+    let m = may_stand config word events (unsaid config word) after (action.Start 0 k owner.Setup count len) h in
+    let l = (book_of (unsaid config word)).link 0 in
+    set_is_undue l m.k (silent_is_set l silent) m.due
 
 -- a creation although the password is refused
 pub created_though_refused : NoneBeginsIn secured password_refused (action.Created None)
@@ -111,6 +121,13 @@ unfolding digits items values left_over max_depth url_on_literals utf8_lossy utf
 said_three_times k count len word events after h =
     let m = may_stand of_a_user word events (said_again of_a_user word) after (action.Start 0 k owner.Setup count len) h in
     cc m.due
+
+-- a second setup on a link that is held back
+pub said_again_too_early : (k count len : ℕ) → NoneBeginsIn of_a_held_user counted_early (action.Start 0 k owner.Setup count len)
+unfolding digits items values left_over max_depth url_on_literals utf8_lossy utf8_valid_len
+said_again_too_early k count len word events after h =
+    let m = may_stand of_a_held_user word events (counted_early of_a_held_user word) after (action.Start 0 k owner.Setup count len) h in
+    cc m.free
 
 -- a link that is closed where the setup is to start once more
 pub closed_when_counted : NoneBeginsIn of_a_user counted_otherwise (action.Close 0)

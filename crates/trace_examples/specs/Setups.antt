@@ -32,6 +32,14 @@ of_a_user = told_at (codes "redis://u:pw@h:6379") (Some None) (Some false)
 abbrev pub of_a_library : Config
 of_a_library = told_at (codes "redis://h:6379") (Some None) None
 
+-- the same, and nothing is said of times either: a connect may take 1,000 milliseconds, and a request 500
+abbrev pub by_default : Config
+by_default = record { url = codes "redis://h:6379"; connect = None; response = None; limit = None; buffer = None; boundary = None; lib = None }
+
+-- the user u and the password pw, on a link on which nothing starts while bytes are unwritten
+abbrev pub of_a_held_user : Config
+of_a_held_user = record { url = codes "redis://u:pw@h:6379"; connect = Some None; response = Some None; limit = None; buffer = None; boundary = Some 0; lib = Some false }
+
 -- a password, a database, the third protocol, and the library's name
 abbrev pub of_all : Config
 of_all = told_at (codes "redis://:p@h:6379/2?protocol=3") (Some None) None
@@ -128,6 +136,24 @@ counted_otherwise config word =
 abbrev pub said_again : Config → ℕ → List Action
 said_again config word = counted_otherwise config word ++ action.Start 0 1 owner.Setup 1 22 ∷ action.Write 0 password_line ∷ []
 
+-- the server counts other arguments before the setup was taken
+abbrev pub counted_early : Config → ℕ → List Action
+counted_early config word = setup_sent config word 1 29 user_line ++ turn 2 (event.Bytes 0 other_arguments) ∷ []
+
+-- it was taken, and started again
+abbrev pub said_later : Config → ℕ → List Action
+said_later config word =
+    counted_early config word ++
+    turn 3 (event.Wrote 0 29) ∷ action.Start 0 1 owner.Setup 1 22 ∷ action.Write 0 password_line ∷ []
+
+-- the library's name and version were said while the time of the connect runs, and both are well
+abbrev pub named_in_time : Config → ℕ → List Action
+named_in_time config word =
+    opening config word ++
+    action.Timer 0 1000 (purpose.Connect 0) ∷ turn 1 (event.Connected 0) ∷
+    action.Start 0 0 owner.Setup 2 110 ∷ action.Write 0 library_lines ∷
+    turn 2 (event.Bytes 0 okay_line) ∷ turn 3 (event.Bytes 0 okay_line) ∷ action.Created None ∷ []
+
 -- the replies to the library's name and version came, one after another, the first of them an error
 abbrev pub library_said : Config → ℕ → List Action
 library_said config word =
@@ -164,4 +190,5 @@ abbrev pub setup_fronts : ℕ → List (List Action)
 setup_fronts word =
     unsaid secured word ∷ setup_begun secured word 1 22 ∷ secret_sent secured word ∷ came_during secured word ∷
     answered_well secured word ∷ set_up secured word ∷ password_refused secured word ∷ closed_by_refusal secured word ∷
-    refusal_told secured word ∷ counted_otherwise of_a_user word ∷ said_again of_a_user word ∷ waited_for_both secured word ∷ []
+    refusal_told secured word ∷ counted_otherwise of_a_user word ∷ said_again of_a_user word ∷ waited_for_both secured word ∷
+    counted_early of_a_held_user word ∷ []
