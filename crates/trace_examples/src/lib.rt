@@ -594,8 +594,9 @@ pub fn nor_are_these_setups()
 
 /// Does nothing. Its contract: the same of what is done beside a setup: a request that starts
 /// before it is answered, or before the creation; a creation before it is answered, or though it
-/// failed; a setup where nothing is to be said; a close where it is to start once more; its error not told, told late or as another one,
-/// or not given to who waited; and a wait for the connect in its place.
+/// failed; a setup where nothing is to be said; a close where it is to start once more; its error
+/// not told, told late or as another one, or not given to who waited; and a wait for the connect in
+/// its place.
 pub fn nor_are_these_beside_a_setup()
     ensures started_during { (l k round count len : ℕ)
         → NoneBeginsIn secured came_during (action.Start l k (owner.Try 0 round) count len) }
