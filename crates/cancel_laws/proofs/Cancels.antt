@@ -173,7 +173,7 @@ turns_on-append c [] ys = refl
 turns_on-append c (x ∷ xs) ys = ap (λ (zs : List Action). actions_of c x ++ zs) (turns_on-append (next_turn c x.kind).core xs ys) ∙ sym (append_assoc (actions_of c x) _ _)
 
 -- where a history leads that goes on
-state_split : (config : Config) (word : ℕ) (before after : List Event) → state_after config word (before ++ after) ≡ run_on (state_after config word before) after
+pub state_split : (config : Config) (word : ℕ) (before after : List Event) → state_after config word (before ++ after) ≡ run_on (state_after config word before) after
 unfolding state_after
 state_split config word before after = run_on-append (opening_core config word) before after
 
@@ -185,7 +185,7 @@ trace_split config word before after =
     ∙ sym (append_assoc (opening_actions config word) (turns_on (opening_core config word) before) _)
 
 -- what is true after each history
-ready_after : (config : Config) (word : ℕ) (before : List Event) → IsReady (state_after config word before)
+pub ready_after : (config : Config) (word : ℕ) (before : List Event) → IsReady (state_after config word before)
 unfolding state_after
 ready_after config word before = ready_on (opening_core config word) before (opening_ready config word)
 

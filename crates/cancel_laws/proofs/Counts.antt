@@ -1,5 +1,5 @@
 -- How many messages a link has, and what changes that.
-use Rattle.std.proofs.Common.{◌≡◌, ℕ, ◌+◌, ◌≤◌, nat_lt, Bool, true, false, List, [], ◌∷◌, ◌++◌, length, refl, sym, subst, arith, length-append}
+use Rattle.std.proofs.Common.{◌≡◌, ℕ, ◌+◌, ◌≤◌, nat_lt, List, [], ◌∷◌, ◌++◌, length, refl, sym, subst, arith, length-append}
 use Rattle.containers.proofs.Choices.{chosen}
 use Rattle.resp_value.specs.Data.{Data}
 use Rattle.resp_read.specs.Items.{items}

@@ -14,4 +14,5 @@ pub mod Ready
 pub mod Shown
 pub mod Outcomes
 pub mod Cancels
+pub mod Free
 pub mod Started

@@ -71,7 +71,7 @@ queue_starts s [] = inl refl
 queue_starts s (q ∷ qs) = chosen (λ (x : Starting). IsThrough x.link) (holds_back s.link) _ _ (λ t. inr t) (λ f. queue_starts (started_one s q) qs)
 
 -- what is shown changes no connection
-conn_shown : (w : Work) (ss : List Started) → (shown_each w ss).conn ≡ w.conn
+pub conn_shown : (w : Work) (ss : List Started) → (shown_each w ss).conn ≡ w.conn
 conn_shown w [] = refl
 conn_shown w (s ∷ ss) = conn_shown (acted w (act.Start s.msg (name_at w.conn.requests s.id) s.need s.len)) ss
 
@@ -264,14 +264,14 @@ none_starts l (q ∷ qs) e (inr held) =
     taken_if (holds_back l) _ _ held ∙ ap (λ (queue : List Queued). record { link = record l { queue = queue }; out = [] }) (sym e)
 
 -- on any link
-started_stays : (w : Work) (life : Life) → w.conn.life ≡ life → HasStartedAll life → started_at w life ≡ w
+pub started_stays : (w : Work) (life : Life) → w.conn.life ≡ life → HasStartedAll life → started_at w life ≡ w
 started_stays w (Ready l) e h = ap (starts_with w) (none_starts l l.queue refl h) ∙ ap (at_life w) (sym e)
 started_stays w (SettingUp l with_user) e h = ap (sets_up_with w with_user) (none_starts l l.queue refl h) ∙ ap (at_life w) (sym e)
 started_stays w Dialing e h = refl
 started_stays w (Ended x) e h = refl
 
 -- no request takes a place
-none_moved_up : (w : Work) (qs : List Waiting) → (has_room w.conn.life ≡ true → qs ≡ []) → moved_up_each w qs ≡ still_admitted w qs
+pub none_moved_up : (w : Work) (qs : List Waiting) → (has_room w.conn.life ≡ true → qs ≡ []) → moved_up_each w qs ≡ still_admitted w qs
 none_moved_up w [] h = refl
 none_moved_up w (q ∷ qs) h = left_if (has_room w.conn.life) _ _ (none_fits (has_room w.conn.life) (λ t. cc (h t)))
   where

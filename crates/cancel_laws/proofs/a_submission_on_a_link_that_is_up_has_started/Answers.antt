@@ -1,8 +1,10 @@
+use Rattle.cancel_laws.proofs.Free.{free_started}
 use Rattle.cancel_laws.proofs.Started.{any_started, command_started, pipeline_started, transaction_started}
 use Rattle.cancel_laws.proofs.a_submission_on_a_link_that_is_up_has_started.Goals as goal
 
 pub returns : goal.returns
 returns c = record {
+  free = λ s some awaited config word draw before free. free_started config word draw before s some awaited free;
   any = λ s some awaited config word draw later sound silent. any_started config word draw later s some awaited sound silent;
   command = λ name args config word draw later sound silent. command_started config word draw later name args sound silent;
   pipeline = λ name args more config word draw later sound silent. pipeline_started config word draw later name args more sound silent;
