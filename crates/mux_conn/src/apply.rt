@@ -233,7 +233,6 @@ impl MultiplexedConnection {
         let packed = setup_bytes(alloc, &self.info, with_user)?;
         let shape = setup_shape(&self.info, with_user);
         link.enqueue_beyond(alloc, setup_id(with_user), packed.as_slice(), shape)?;
-        self.refresh(alloc)?;
         self.life = Life::SettingUp { link, with_user };
         Ok(())
     }
@@ -250,6 +249,7 @@ impl MultiplexedConnection {
         if says_nothing(&self.info, true) {
             self.make_ready(alloc, link, out)?;
         } else {
+            self.refresh(alloc)?;
             self.set_up(alloc, link, true)?;
         }
         Ok(())

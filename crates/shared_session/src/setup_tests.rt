@@ -52,7 +52,7 @@ fn a_server_without_user_names_is_asked_again(rt: HostRuntime) -> Result<(), All
 write *3\r\n$4\r\nAUTH\r\n$1\r\nu\r\n$1\r\np\r\n\
 *2\r\n$6\r\nSELECT\r\n$1\r\n1\r\n; turn 2; wait 0 setup; turn 3; \
 turn 4; start 1 setup 2 44; write *2\r\n$4\r\nAUTH\r\n$1\r\np\r\n\
-*2\r\n$6\r\nSELECT\r\n$1\r\n1\r\n; wait 0 setup; turn 5; turn 6; created; start 2 0 1 20; write *2\r\n$3\r\nGET\r\n$1\r\na\r\n; ";
+*2\r\n$6\r\nSELECT\r\n$1\r\n1\r\n; turn 5; turn 6; created; start 2 0 1 20; write *2\r\n$3\r\nGET\r\n$1\r\na\r\n; ";
     compare_setup(&rt, rt.alloc(), list.as_slice(), wanted)
 }
 
