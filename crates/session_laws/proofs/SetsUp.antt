@@ -37,7 +37,8 @@ use Rattle.session_laws.proofs.Kept.{mine_noted, others_kept, tied_by}
 use Rattle.session_laws.proofs.LetIn.{quiet_timers}
 use Rattle.session_laws.proofs.Names.{get_more}
 use Rattle.session_laws.proofs.Said.{ending_setting}
-use Rattle.session_laws.proofs.SetUp.{begun_open, count_length, count_next, down_undue, ending_unready_same, setup_packed}
+use Rattle.legal_trace.proofs.Setups.{setup_packed}
+use Rattle.session_laws.proofs.SetUp.{begun_open, count_length, count_next, down_undue, ending_unready_same}
 use Rattle.session_laws.proofs.Settle.{seen, trace_of_acts}
 use Rattle.session_laws.proofs.Start.{owners-append, with_queue}
 use Rattle.session_laws.proofs.States.{IsFit}
