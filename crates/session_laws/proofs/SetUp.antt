@@ -10,7 +10,7 @@ use Rattle.connection_setup.specs.Setup.{setup}
 use Rattle.driver_model.specs.declared.action.Owner.TheVariants as owner
 use Rattle.driver_model.specs.Setup.{says_nothing}
 use Rattle.driver_model.specs.News.{News, silence, connected, refused, overdue, took, came, failed, shut}
-use Rattle.legal_trace.specs.Ledger.{Ledger, Start, begins, ending_unready, ending_up, is_full, is_of_setup, is_well, last_result, noted, reach, repeats, result_of, setup_after, setup_count, setup_due, setup_result, setup_steps}
+use Rattle.legal_trace.specs.Ledger.{Ledger, Start, begins, ending_up, is_full, is_of_setup, is_well, last_result, noted, reach, repeats, result_of, setup_after, setup_count, setup_due, setup_result, setup_steps}
 use Rattle.legal_trace.proofs.Ledgers.{reach_more, takes_one}
 use Rattle.legal_trace.proofs.Setups.{IsUndecided, count_more, count_within, set_begins, set_came}
 use Rattle.link_core.specs.Link.{LinkState}
@@ -140,14 +140,3 @@ ending_up_same l ss (took count) = refl
 ending_up_same l ss (came piece) = refl
 ending_up_same l ss (failed f) = refl
 ending_up_same l ss shut = refl
-
--- nor where it isn't set up
-pub ending_unready_same : (l : Ledger) (ss : List Start) (news : News) → ending_unready (record l { starts = ss }) news ≡ ending_unready l news
-ending_unready_same l ss silence = refl
-ending_unready_same l ss connected = refl
-ending_unready_same l ss (refused f) = refl
-ending_unready_same l ss overdue = refl
-ending_unready_same l ss (took count) = refl
-ending_unready_same l ss (came piece) = refl
-ending_unready_same l ss (failed f) = refl
-ending_unready_same l ss shut = refl
