@@ -1,4 +1,5 @@
--- A submission that is handed in after the link's connect has started, where the configuration is sound.
+-- A submission that is handed in after the link's connect has started, where the configuration is sound and nothing is to be
+-- said to the server before it.
 use Rattle.std.proofs.Common.{◌≡◌, ◌≢◌, ℕ, zero, suc, ◌<◌, ◌==◌, nat_le, not, Bool, true, false, List, [], ◌∷◌, length, Option, Some, None, slice_get, if◌then◌else◌, refl, sym, ap, ◌∙◌, subst, arith}
 use Rattle.containers.proofs.Choices.{chosen, not_le_test, ne_test, not_both}
 use Rattle.std.specs.Prelude.{unwrap_or}
@@ -9,25 +10,26 @@ use Rattle.driver_model.specs.declared.config.Config.{Config}
 use Rattle.driver_model.specs.declared.event.EventKind.TheVariants as event
 use Rattle.driver_model.specs.declared.event.Submission.{Submission}
 use Rattle.driver_model.specs.declared.event.Submission.TheVariants.{Cmd, Pipe, Multi}
-use Rattle.driver_model.specs.Config.{address, buffer_size, has_setup, buffer_fault, room_fault, fault_in}
+use Rattle.driver_model.specs.Config.{address, buffer_size, buffer_fault, room_fault, fault_in}
 use Rattle.driver_model.specs.Request.{packed_bytes, shape_of, is_reply_awaited}
 use Rattle.link_core.specs.Link.{LinkState, offered_of}
 use Rattle.link_core.specs.Outbox.{can_offer}
 use Rattle.link_core.specs.Waiting.{without}
 use Rattle.mux_conn.specs.declared.connection.MultiplexedConnection.{MultiplexedConnection}
 use Rattle.mux_conn.specs.declared.life.Life.{Life}
-use Rattle.mux_conn.specs.declared.life.Life.TheVariants.{Dialing, Ready, Ended}
+use Rattle.mux_conn.specs.declared.life.Life.TheVariants.{Dialing, SettingUp, Ready, Ended}
 use Rattle.mux_conn.specs.declared.request.Pending.{Pending}
 use Rattle.mux_conn.specs.declared.request.Progress.TheVariants as progress
 use Rattle.mux_conn.specs.declared.request.Request.{Request}
 use Rattle.mux_conn.specs.Connection.{Work, has_no_permit}
 use Rattle.mux_conn.specs.Requests.{waiting_of, asked}
+use Rattle.mux_conn.specs.Effects.{new_link, all_fresh, made_ready, sets_up}
 use Rattle.mux_conn.specs.Passes.{started, seated, moved_up_all, put_behind, seated_or_behind, permits_taken, holding, let_in, still_waiting, passed}
 use Rattle.mux_conn.specs.Turn.{written_at, written, flushed}
 use Rattle.shared_session.specs.declared.core_state.Core.{Core}
-use Rattle.shared_session.specs.Turn.{Turning, pending, work_of, heard, counted, moved_on, timed, next_turn}
+use Rattle.shared_session.specs.Turn.{Turning, pending, work_of, with_work, shut_by, heard, counted, moved_on, timed, next_turn}
 use Rattle.shared_session.specs.Replay.{opening_core, IsSound, state_after}
-use Rattle.cancel_laws.specs.Cancels.{connected_at, handed_in_after_connect, HasStarted}
+use Rattle.cancel_laws.specs.Cancels.{connected_at, handed_in_after_connect, SaysNothing, HasStarted}
 use Rattle.cancel_laws.proofs.Kept.{let_in_conn}
 use Rattle.cancel_laws.proofs.Rest.{waits_conn}
 
@@ -44,6 +46,10 @@ record IsStarted (p : ℕ) (c : MultiplexedConnection) : Type 0 where
 same_link : (k l : LinkState) → Ready k ≡ Ready l → k ≡ l
 same_link k l e = cc
 
+-- and not one that is set up
+not_both_lives : (k l : LinkState) (with_user : Bool) → Ready k ≡ SettingUp l with_user → ⊥
+not_both_lives k l with_user e = cc
+
 -- bytes are offered
 written_from : (p : ℕ) (w : Work) (life : Life) → w.conn.life ≡ life → IsStarted p w.conn → IsStarted p (written_at w life).conn
 written_from p w (Ready l) e h =
@@ -59,6 +65,7 @@ written_from p w (Ready l) e h =
     })
     (λ f. h)
 written_from p w Dialing e h = h
+written_from p w (SettingUp l with_user) e h = absurd (not_both_lives h.link l with_user (sym h.up ∙ e))
 written_from p w (Ended x) e h = h
 
 -- what a turn ends with leaves a started message as it is
@@ -101,14 +108,22 @@ room_permits (Some most) size e = (unless_refused (most == 0) name.Limit (buffer
 -- so that both are true of a configuration of which nothing is refused
 room_sound : (info : Option ConnectionInfo) (lim : Option ℕ) (size : ℕ) → fault_in info lim size ≡ None → room_fault lim size ≡ None
 room_sound None lim size e = cc
-room_sound (Some info) lim size e = (unless_refused (has_setup info.redis) name.Kind (room_fault lim size) e).1
+room_sound (Some info) lim size e = e
 
--- any submission that has bytes, and whose reply is awaited
-pub any_started : (config : Config) (word draw later : ℕ) (s : Submission) → packed_bytes s ≢ [] → is_reply_awaited s ≡ true → IsSound config
-    → HasStarted 0 (handed_in_after_connect config word draw later s)
-unfolding state_after next_turn
-any_started config word draw later s some awaited sound =
-    let c = (next_turn (opening_core config word) (connected_at draw).kind).core in
+-- where the connect leads: the link is ready where nothing is to be said, and else it is set up
+abbrev up_at : Config → ℕ → ℕ → Bool → Core
+up_at config word draw silent =
+    let t = counted (opening_core config word) in
+    let w = work_of t in
+    let kind = (connected_at draw).kind in
+    (timed (moved_on (with_work (record t { core = shut_by t.core kind }) (if silent then made_ready w (new_link w.conn) else sets_up (all_fresh w) (new_link w.conn) true)))).core
+
+-- on a link that is ready, any submission that has bytes, and whose reply is awaited
+ready_started : (config : Config) (word draw : ℕ) (s : Submission) → packed_bytes s ≢ [] → is_reply_awaited s ≡ true → IsSound config
+    → HasStarted 0 (next_turn (up_at config word draw true) (event.Submit s)).core
+unfolding next_turn
+ready_started config word draw s some awaited sound =
+    let c = up_at config word draw true in
     let t = heard (counted c) (event.Submit s) in
     let asks : Bool → Turning = λ b. record t {
       core = record t.core { table = Some (pending 0) ∷ []; single = record t.core.single { connection = asked t.core.single.connection 0 (packed_bytes s) (shape_of s) b t.core.timeout } };
@@ -136,14 +151,21 @@ any_started config word draw later s some awaited sound =
     (λ z. absurd (not_both (length (packed_bytes s) == 0) (no_bytes (packed_bytes s) some) z))
     (λ z. e)
 
+-- so it is where nothing is to be said
+pub any_started : (config : Config) (word draw later : ℕ) (s : Submission) → packed_bytes s ≢ [] → is_reply_awaited s ≡ true → IsSound config → SaysNothing config
+    → HasStarted 0 (handed_in_after_connect config word draw later s)
+unfolding state_after next_turn
+any_started config word draw later s some awaited sound silent =
+    subst (λ (b : Bool). HasStarted 0 (next_turn (up_at config word draw b) (event.Submit s)).core) (sym silent) (ready_started config word draw s some awaited sound)
+
 -- a command
-pub command_started : (config : Config) (word draw later : ℕ) (name : List ℕ) (args : List (List ℕ)) → IsSound config → HasStarted 0 (handed_in_after_connect config word draw later (Cmd (name ∷ args)))
-command_started config word draw later name args sound = any_started config word draw later (Cmd (name ∷ args)) (λ e. cc) refl sound
+pub command_started : (config : Config) (word draw later : ℕ) (name : List ℕ) (args : List (List ℕ)) → IsSound config → SaysNothing config → HasStarted 0 (handed_in_after_connect config word draw later (Cmd (name ∷ args)))
+command_started config word draw later name args sound silent = any_started config word draw later (Cmd (name ∷ args)) (λ e. cc) refl sound silent
 
 -- a pipeline whose first command has a name
-pub pipeline_started : (config : Config) (word draw later : ℕ) (name : List ℕ) (args : List (List ℕ)) (more : List (List (List ℕ))) → IsSound config → HasStarted 0 (handed_in_after_connect config word draw later (Pipe ((name ∷ args) ∷ more)))
-pipeline_started config word draw later name args more sound = any_started config word draw later (Pipe ((name ∷ args) ∷ more)) (λ e. cc) refl sound
+pub pipeline_started : (config : Config) (word draw later : ℕ) (name : List ℕ) (args : List (List ℕ)) (more : List (List (List ℕ))) → IsSound config → SaysNothing config → HasStarted 0 (handed_in_after_connect config word draw later (Pipe ((name ∷ args) ∷ more)))
+pipeline_started config word draw later name args more sound silent = any_started config word draw later (Pipe ((name ∷ args) ∷ more)) (λ e. cc) refl sound silent
 
 -- a transaction
-pub transaction_started : (config : Config) (word draw later : ℕ) (args : List (List ℕ)) (more : List (List (List ℕ))) → IsSound config → HasStarted 0 (handed_in_after_connect config word draw later (Multi (args ∷ more)))
-transaction_started config word draw later args more sound = any_started config word draw later (Multi (args ∷ more)) (λ e. cc) refl sound
+pub transaction_started : (config : Config) (word draw later : ℕ) (args : List (List ℕ)) (more : List (List (List ℕ))) → IsSound config → SaysNothing config → HasStarted 0 (handed_in_after_connect config word draw later (Multi (args ∷ more)))
+transaction_started config word draw later args more sound silent = any_started config word draw later (Multi (args ∷ more)) (λ e. cc) refl sound silent

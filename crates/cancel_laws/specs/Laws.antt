@@ -7,7 +7,7 @@ use Rattle.driver_model.specs.declared.outcome.Outcome.{Outcome}
 use Rattle.mux_conn.specs.declared.life.Life.{Life}
 use Rattle.shared_session.specs.Replay.{IsSound, state_after, trace_of, outcomes_in, outcome_at, is_bad_after}
 use Rattle.cancel_laws.specs.ButFor.{hushed_life}
-use Rattle.cancel_laws.specs.Cancels.{cancel_of, handed_in_after_connect, HasStarted, GoesOn}
+use Rattle.cancel_laws.specs.Cancels.{cancel_of, handed_in_after_connect, SaysNothing, HasStarted, GoesOn}
 
 -- what submission m has come to behind a history, if it has come to anything
 abbrev pub outcome_after : Config → ℕ → List Event → ℕ → Option Outcome
@@ -63,9 +63,9 @@ SameAreBad =
     → HasStarted n (state_after config word before)
     → is_bad_after config word (before ++ after) e ≡ is_bad_after config word (before ++ cancel_of draw n ∷ after) e
 
--- a submission has started where it is the first that is handed in, after the link's connect, and nothing of the
--- configuration is refused
+-- a submission has started where it is the first that is handed in, after the link's connect, nothing of the configuration
+-- is refused, and nothing is to be said to the server before it
 abbrev pub StartsWhereHandedIn : Submission → Type 0
 StartsWhereHandedIn s =
-    (config : Config) (word draw later : ℕ) → IsSound config
+    (config : Config) (word draw later : ℕ) → IsSound config → SaysNothing config
     → HasStarted 0 (handed_in_after_connect config word draw later s)

@@ -26,9 +26,9 @@ pub fn a_cancel_changes_one_outcome()
 {}
 
 /// Does nothing. Its contract: such submissions exist. Any that has bytes, and whose reply is
-/// awaited, has started where it is handed in after the link's connect, and nothing of the
-/// configuration is refused: so a command, a pipeline whose first command has a name, and a
-/// transaction.
+/// awaited, has started where it is handed in after the link's connect, nothing of the
+/// configuration is refused, and nothing is to be said to the server first: so a command, a
+/// pipeline whose first command has a name, and a transaction.
 pub fn a_submission_on_a_link_that_is_up_has_started()
     ensures any { (s : Submission) → packed_bytes s ≢ [] → is_reply_awaited s ≡ true
         → StartsWhereHandedIn s }
