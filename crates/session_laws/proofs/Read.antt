@@ -36,7 +36,7 @@ use Rattle.legal_trace.specs.Owed.{owed}
 use Rattle.session_laws.proofs.Numbers.{IsIn, Rising}
 use Rattle.session_laws.proofs.Tied.{inner, link_in, owner_of, queue_ids, IsEntry, TiedLife, TiedLines, TiedSetup, AreQueued, TiedWaits, has_ended}
 use Rattle.session_laws.proofs.SetUp.{set_up_hears}
-use Rattle.session_laws.proofs.Said.{ending_ready}
+use Rattle.legal_trace.proofs.Setups.{ends_where_set}
 use Rattle.session_laws.proofs.ReadSetup.{dealt_all, setup_read}
 use Rattle.session_laws.proofs.States.{IsFit, IsFitIn, Between, HasApplied}
 use Rattle.session_laws.proofs.InLine.{kept_ids, IsInLine}
@@ -87,7 +87,7 @@ read_in_line requests link piece admitted waiting r =
 read_ending : (name : ℕ → Owner) (l : Ledger) (link : LinkState) (piece : List ℕ) → l.up ≡ true → is_set_up (has_heard l piece) ≡ true → TiedLink name (has_heard l piece) (has_read link piece)
     → ending (has_heard l piece) ≡ (if (has_read link piece).broken then Some (by_fault fault.Parse) else None)
 read_ending name l link piece up well h =
-    ending_ready (has_heard l piece) up well
+    ends_where_set (has_heard l piece) up well
     ∙ ap (λ (b : Bool). if b then Some (by_fault fault.Parse) else None) (ap is_spoiled h.rest ∙ sym h.broken)
 
 -- a link that is not broken is fit

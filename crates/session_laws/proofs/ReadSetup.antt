@@ -55,7 +55,8 @@ use Rattle.legal_trace.specs.Book.{Book, book}
 use Rattle.session_laws.proofs.Tied.{AreSetups, IsSettingUp, IsSetupDue, IsSetupSent, IsSetUp, AreQueued, TiedLife, TiedLines, TiedSetup, TiedWaits, has_ended, inner, link_in, owner_of, owners_each, owners_of, setup_owners}
 use Rattle.session_laws.proofs.States.{IsFit, Between, HasApplied}
 use Rattle.session_laws.proofs.SetUp.{count_length, not_set_up}
-use Rattle.session_laws.proofs.Said.{after_on, ending_failed, ending_ready, ending_setting, retold}
+use Rattle.legal_trace.proofs.Setups.{ends_where_set}
+use Rattle.session_laws.proofs.Said.{after_on, ending_failed, ending_setting, retold}
 use Rattle.session_laws.proofs.Close.{ended_applied, ended_moved, waiting_leaves}
 use Rattle.session_laws.proofs.Announce.{turn_of, turned, IsNewsKind}
 use Rattle.session_laws.proofs.Heard.{heard_by, quiet_applied, setting_fit, setting_waits}
@@ -504,7 +505,7 @@ setup_read before c started word kind piece link with_user h good k is e = by_ou
         let made : IsMade after b.created c.single.connection.requests read = record { asked = s.asked; up = s.up; alive = s.alive; unshown = s.unshown; said = said; tied = owned; queue = a.queue; row = a.row } in
         let facts = subst (λ (y : Ledger). (y.info ≡ info) × AreSetups y × IsMade y b.created c.single.connection.requests read) (sym same) (h.sound.tied.setup.info_is, h.sound.tied.setup.sent, made) in
         let shown = makes_ready before c started word kind (came piece) read h good k is (ap link_in e) (ap is_ready e) (ap has_ended e) facts in
-        let up = ap ending same ∙ ending_ready after s.up well in
+        let up = ap ending same ∙ ends_where_set after s.up well in
         chosen applied read.broken (failed_at v fault.Parse v.conn.life) v
         (λ t.
         ended_applied front (turned c kind) (failed_at v fault.Parse v.conn.life) reason.Closed started (λ z. absurd (omega arith))

@@ -16,6 +16,7 @@ use Rattle.mux_conn.specs.declared.life.Life.{Life}
 use Rattle.mux_conn.specs.declared.life.Life.TheVariants.{Dialing, SettingUp, Ready, Ended}
 use Rattle.mux_conn.specs.declared.request.Request.{Request}
 use Rattle.legal_trace.specs.Ledger.{Ledger, End, Ending, by_opening, hears, noted, is_over, dials, refused_in, bytes_came, ending, ending_up, ending_asked, ending_unready, ending_by, ending_alive, error_in, is_well, is_set_up, is_ready, last_result, setup_after, setup_count, setup_result, setup_steps}
+use Rattle.legal_trace.proofs.Setups.{ends_where_set}
 use Rattle.legal_trace.specs.Book.{Book}
 use Rattle.legal_trace.specs.Legal.{ReadyIsShown}
 use Rattle.session_laws.proofs.SetUp.{not_set_up}
@@ -143,10 +144,6 @@ setup_unheard l turn shut info started life down h = setup_hears l turn shut inf
 
 -- what ends a link
 --
--- that is up and set up
-pub ending_ready : (l : Ledger) → l.up ≡ true → is_set_up l ≡ true → ending l ≡ ending_up l l.heard
-ending_ready l up well = taken_if l.up (ending_alive l) _ up ∙ taken_if (is_set_up l) (ending_up l l.heard) _ well
-
 -- that is set up still
 pub ending_setting : (l : Ledger) (link : LinkState) (with_user : Bool) → l.up ≡ true → IsSettingUp l link with_user → ending l ≡ ending_unready l l.heard
 ending_setting l link with_user up h =
@@ -155,7 +152,7 @@ ending_setting l link with_user up h =
 
 -- once it has heard something
 pub ready_heard : (l : Ledger) (n : News) → l.up ≡ true → is_set_up l ≡ true → ending (record l { heard = n }) ≡ ending_up (record l { heard = n }) n
-ready_heard l n up well = ending_ready (record l { heard = n }) up (well_on l l.asked l.up l.end l.taken l.offer l.rest n ∙ well)
+ready_heard l n up well = ends_where_set (record l { heard = n }) up (well_on l l.asked l.up l.end l.taken l.offer l.rest n ∙ well)
 
 -- it is set up still once it has heard something
 pub setting_told : (l : Ledger) (n : News) (link : LinkState) (with_user : Bool) → IsSettingUp l link with_user → IsSettingUp (record l { heard = n }) link with_user
@@ -195,7 +192,7 @@ mild_up l taken offer n mild none up =
     let m = record l { taken = taken; offer = offer; heard = n } in
     let same = well_on l l.asked l.up l.end taken offer l.rest n in
     by_test (is_set_up l) _
-    (λ t. ending_ready m up (same ∙ t) ∙ mild.0)
+    (λ t. ends_where_set m up (same ∙ t) ∙ mild.0)
     (λ f.
     taken_if l.up (ending_alive m) _ up ∙ left_if (is_set_up m) (ending_up m n) (ending_by (error_in (setup_result m)) (ending_unready m n)) (same ∙ f)
     ∙ ap (λ x. ending_by (error_in x) (ending_unready m n)) (result_on l l.asked l.up l.end taken offer l.rest n)

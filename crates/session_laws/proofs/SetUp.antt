@@ -10,9 +10,9 @@ use Rattle.connection_setup.specs.Setup.{setup}
 use Rattle.driver_model.specs.declared.action.Owner.TheVariants as owner
 use Rattle.driver_model.specs.Setup.{says_nothing}
 use Rattle.driver_model.specs.News.{News, silence, connected, refused, overdue, took, came, failed, shut}
-use Rattle.legal_trace.specs.Ledger.{Ledger, Start, begins, ending_unready, ending_up, is_full, is_of_setup, is_well, last_result, noted, reach, repeats, result_of, setup_after, setup_count, setup_due, setup_result, setup_steps}
+use Rattle.legal_trace.specs.Ledger.{Ledger, Start, begins, ending_up, is_full, is_of_setup, is_well, last_result, noted, reach, repeats, result_of, setup_after, setup_count, setup_due, setup_result, setup_steps}
 use Rattle.legal_trace.proofs.Ledgers.{reach_more, takes_one}
-use Rattle.legal_trace.proofs.Setups.{IsUndecided, count_more, count_within, set_begins, set_came}
+use Rattle.legal_trace.proofs.Setups.{IsUndecided, count_more, count_within, repeats_open, set_begins, set_came}
 use Rattle.link_core.specs.Link.{LinkState}
 use Rattle.link_laws.proofs.TiedLink.{has_heard}
 use Rattle.session_laws.proofs.Tied.{AreSetups, IsSetUp, IsSettingUp, IsSetupSent, owners_of, setup_owners}
@@ -27,20 +27,12 @@ well_is (Some result.RepeatWithoutUser) e = cc
 well_is (Some (result.Failed error)) e = cc
 well_is (Some result.NoMemory) e = cc
 
--- where the server counts other arguments nothing is over
-repeated_open : (x : Option SetupResult) → repeats x ≡ true → IsUndecided x
-repeated_open None e = cc
-repeated_open (Some result.Ready) e = cc
-repeated_open (Some result.RepeatWithoutUser) e = record { unwell = refl; no_error = refl }
-repeated_open (Some (result.Failed error)) e = cc
-repeated_open (Some result.NoMemory) e = cc
-
 -- where a setup is due, the last one is answered so, or there was none
 due_open : (l : Ledger) (n : ℕ) → setup_after l n ≡ Some n → IsUndecided (last_result l n)
 due_open l zero e = record { unwell = refl; no_error = refl }
 due_open l (suc zero) e =
     by_test (repeats (result_of l 0)) _
-    (λ t. repeated_open (result_of l 0) t)
+    (λ t. repeats_open (result_of l 0) t)
     (λ f. absurd (let no : ◌≡◌ {A = Option ℕ} None (Some 1) = sym (left_if (repeats (result_of l 0)) (Some 1) None f) ∙ e in cc))
 due_open l (suc (suc n)) e = cc
 
@@ -128,9 +120,7 @@ setups_begins l s other h k x less e = h k x (let same = count_more l.starts s o
     before (y ∷ ss) zero w e = e
     before (y ∷ ss) (suc k) w e = before ss k (omega arith) e
 
--- what must end a link
---
--- that is set up: it doesn't hang on what has started
+-- what must end a link that is set up doesn't hang on what has started
 pub ending_up_same : (l : Ledger) (ss : List Start) (news : News) → ending_up (record l { starts = ss }) news ≡ ending_up l news
 ending_up_same l ss silence = refl
 ending_up_same l ss connected = refl
@@ -140,14 +130,3 @@ ending_up_same l ss (took count) = refl
 ending_up_same l ss (came piece) = refl
 ending_up_same l ss (failed f) = refl
 ending_up_same l ss shut = refl
-
--- nor where it isn't set up
-pub ending_unready_same : (l : Ledger) (ss : List Start) (news : News) → ending_unready (record l { starts = ss }) news ≡ ending_unready l news
-ending_unready_same l ss silence = refl
-ending_unready_same l ss connected = refl
-ending_unready_same l ss (refused f) = refl
-ending_unready_same l ss overdue = refl
-ending_unready_same l ss (took count) = refl
-ending_unready_same l ss (came piece) = refl
-ending_unready_same l ss (failed f) = refl
-ending_unready_same l ss shut = refl
