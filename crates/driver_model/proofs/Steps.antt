@@ -1,5 +1,6 @@
 -- How many commands a setup has.
-use Rattle.std.proofs.Common.{◌≡◌, ℕ, ◌+◌, ◌==◌, List, [], ◌∷◌, ◌++◌, length, Option, Some, None, ℤ, pos, negsuc, zero, suc, ◌≢◌, length-append, refl, sym, ap, arith}
+use lib.Dec.{eqb-suc-zero}
+use Rattle.std.proofs.Common.{◌≡◌, ℕ, ◌+◌, ◌==◌, ◌∙◌, List, [], ◌∷◌, ◌++◌, length, Option, Some, None, ℤ, pos, negsuc, zero, suc, ◌≢◌, length-append, refl, sym, ap, arith}
 use Rattle.connection_info.specs.declared.protocol.ProtocolVersion.{ProtocolVersion}
 use Rattle.connection_info.specs.declared.protocol.ProtocolVersion.TheVariants.{RESP2, RESP3}
 use Rattle.connection_setup.specs.Setup.{Step, opening, selection}
@@ -42,4 +43,4 @@ all_of a b c l m n p q r = omega (arith, p, q, r, length-append b c, length-appe
 -- nothing is said where there is no command
 pub none_said : (steps : List Step) (n : ℕ) → n ≡ length steps → (n == 0) ≡ says_nothing steps
 none_said [] n e = ap (λ m. m == 0) e
-none_said (s ∷ steps) n e = ap (λ m. m == 0) e
+none_said (s ∷ steps) n e = ap (λ m. m == 0) e ∙ eqb-suc-zero (length steps)

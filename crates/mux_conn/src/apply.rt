@@ -12,8 +12,7 @@ use crate::request::{Pending, Waiting};
 use connection_info::RedisConnectionInfo;
 use connection_setup::{SetupResult, check_setup};
 use containers::Queue;
-use driver_model::{LinkFault, LinkNews, Outcome, Verdict};
-use driver_model::{says_nothing, setup_bytes, setup_shape};
+use driver_model::{LinkFault, LinkNews, Outcome, Verdict, says_nothing, setup_bytes, setup_shape};
 use link_core::{LinkCore, Settled};
 use redis_error::{FaultKind, RedisError};
 use resp_read::ReadError;
@@ -217,12 +216,7 @@ impl MultiplexedConnection {
     }
 
     /// The setup takes its place on this link, with the user name or without it.
-    fn set_up(
-        &mut self,
-        alloc: Global,
-        link: LinkCore,
-        with_user: bool,
-    ) -> Result<(), AllocError>
+    fn set_up(&mut self, alloc: Global, link: LinkCore, with_user: bool) -> Result<(), AllocError>
         ensures conn { OnOk result (
             self.new ≡ (sets_up (work_with self.old []) link with_user).conn
             ) }
@@ -233,7 +227,6 @@ impl MultiplexedConnection {
         let packed = setup_bytes(alloc, &self.info, with_user)?;
         let shape = setup_shape(&self.info, with_user);
         link.enqueue_beyond(alloc, setup_id(with_user), packed.as_slice(), shape)?;
-        self.refresh(alloc)?;
         self.life = Life::SettingUp { link, with_user };
         Ok(())
     }
@@ -250,6 +243,7 @@ impl MultiplexedConnection {
         if says_nothing(&self.info, true) {
             self.make_ready(alloc, link, out)?;
         } else {
+            self.refresh(alloc)?;
             self.set_up(alloc, link, true)?;
         }
         Ok(())

@@ -4,7 +4,7 @@ use Rattle.mux_conn.proofs.connection.MultiplexedConnection.show_setups.Given as
 
 abbrev pub invariant-loop-start : goal.invariant-loop-start
 invariant-loop-start l = record {
-  work : set_up_each (record { conn = l.self; acts = l.out.items }) l.rest ≡ set_up_each (record { conn = l.self; acts = l.fn.out.items }) l.fn.starts.items;
+  work : set_up_each (record { conn = l.fn.self; acts = l.out.items }) l.rest ≡ set_up_each (record { conn = l.self; acts = l.fn.out.items }) l.fn.starts.items;
 }
 
 abbrev pub decreases-loop-start : goal.decreases-loop-start
