@@ -376,16 +376,16 @@ reads_answered : (name : ℕ → Owner) (l : Ledger) (link : LinkState) (with_us
     → (deals link piece).out ≡ x ∷ xs → IsAnswered l link piece with_user x
 reads_answered name l link with_user piece x xs h owners sents alive tied is = elim h.stage [
   | inl d ↦ absurd (
-    let vs = items (link.rest ++ piece) in
-    let dropped = ap (λ row. dealt_each (record { row = row; out = [] }) vs) d.row ∙ dealt_none [] vs in
-    let no : x ∷ xs ≡ [] = sym is ∙ ap (λ (y : Dealing). y.out) dropped in
-    cc)
+      let vs = items (link.rest ++ piece) in
+      let dropped = ap (λ row. dealt_each (record { row = row; out = [] }) vs) d.row ∙ dealt_none [] vs in
+      let no : x ∷ xs ≡ [] = sym is ∙ ap (λ (y : Dealing). y.out) dropped in
+      cc)
   | inr s ↦ (
-    let after = has_heard l piece in
-    let last = sent_last l link with_user owners s in
-    let a = setup_answers name l link piece s.k x xs last sents alive tied is in
-    let rows = (read_tied name l link piece alive tied).row alive ∙ rows_full after.starts after.dealt (full_last after s.k last.long a.full) in
-    record { k = s.k; few = s.few; count = s.count; user = s.user; queue = s.queue; row = no_entries name (deals link piece).row rows; answers = a })
+      let after = has_heard l piece in
+      let last = sent_last l link with_user owners s in
+      let a = setup_answers name l link piece s.k x xs last sents alive tied is in
+      let rows = (read_tied name l link piece alive tied).row alive ∙ rows_full after.starts after.dealt (full_last after s.k last.long a.full) in
+      record { k = s.k; few = s.few; count = s.count; user = s.user; queue = s.queue; row = no_entries name (deals link piece).row rows; answers = a })
 ]
 
 -- what it comes to

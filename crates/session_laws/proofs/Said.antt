@@ -63,14 +63,17 @@ well_on l asked up end taken offer rest heard = ap is_well (result_on l asked up
 -- and how far it has come
 pub said_on : (l : Ledger) (asked up : Bool) (end : Option End) (taken offer rest : List ℕ) (heard : News) (started : List ℕ) (life : Life) → HasSaid l started life → HasSaid (retold l asked up end taken offer rest heard) started life
 said_on l asked up end taken offer rest heard started Dialing h = h
-said_on l asked up end taken offer rest heard started (SettingUp link with_user) h = (h.0, record {
-  says = h.1.says;
-  stage = elim h.1.stage [
-    | inl d ↦ inl (record { due = after_on l asked up end taken offer rest heard (setup_count l.starts) ∙ d.due; user = d.user; queue = d.queue; row = d.row })
-    | inr s ↦ inr (record { k = s.k; few = s.few; count = s.count; user = s.user; queue = s.queue; earlier = s.earlier; open_is = s.open_is })
-  ];
-  awaited = h.1.awaited;
-})
+said_on l asked up end taken offer rest heard started (SettingUp link with_user) h = (
+  h.0,
+  record {
+    says = h.1.says;
+    stage = elim h.1.stage [
+      | inl d ↦ inl (record { due = after_on l asked up end taken offer rest heard (setup_count l.starts) ∙ d.due; user = d.user; queue = d.queue; row = d.row })
+      | inr s ↦ inr (record { k = s.k; few = s.few; count = s.count; user = s.user; queue = s.queue; earlier = s.earlier; open_is = s.open_is })
+    ];
+    awaited = h.1.awaited;
+  },
+)
 said_on l asked up end taken offer rest heard started (Ready link) h = record { well = well_on l asked up end taken offer rest heard ∙ h.well; none = h.none }
 said_on l asked up end taken offer rest heard started (Ended e) h = tt
 
@@ -84,14 +87,17 @@ pub setup_link : (l : Ledger) (info : RedisConnectionInfo) (started : List ℕ) 
 setup_link l info started link after with_user queue row h = record {
   info_is = h.info_is;
   sent = h.sent;
-  said = (h.said.0, record {
-    says = h.said.1.says;
-    stage = elim h.said.1.stage [
-      | inl d ↦ inl (record { due = d.due; user = d.user; queue = queue ∙ d.queue; row = row ∙ d.row })
-      | inr s ↦ inr (record { k = s.k; few = s.few; count = s.count; user = s.user; queue = queue ∙ s.queue; earlier = s.earlier; open_is = s.open_is })
-    ];
-    awaited = subst (AllByRecursion (λ (e : Entry). e.awaited ≡ true)) (sym row) h.said.1.awaited;
-  });
+  said = (
+    h.said.0,
+    record {
+      says = h.said.1.says;
+      stage = elim h.said.1.stage [
+        | inl d ↦ inl (record { due = d.due; user = d.user; queue = queue ∙ d.queue; row = row ∙ d.row })
+        | inr s ↦ inr (record { k = s.k; few = s.few; count = s.count; user = s.user; queue = queue ∙ s.queue; earlier = s.earlier; open_is = s.open_is })
+      ];
+      awaited = subst (AllByRecursion (λ (e : Entry). e.awaited ≡ true)) (sym row) h.said.1.awaited;
+    },
+  );
 }
 
 -- and on any that is set up
