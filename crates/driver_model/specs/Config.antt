@@ -1,5 +1,5 @@
 -- What the words of a configuration mean.
-use Rattle.std.specs.Prelude.{◌≡◌, ⊤, ℕ, pos, ◌==◌, Bool, true, not, Option, Some, None, option_map, unwrap_or, if◌then◌else◌}
+use Rattle.std.specs.Prelude.{◌≡◌, ⊤, ℕ, pos, ◌==◌, true, not, Option, Some, None, option_map, unwrap_or, if◌then◌else◌}
 use Rattle.std.specs.Str.{is_utf8}
 use Rattle.redis_error.specs.declared.config_name.ConfigName.{ConfigName}
 use Rattle.redis_error.specs.declared.config_name.ConfigName.TheVariants as name

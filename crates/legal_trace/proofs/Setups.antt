@@ -229,7 +229,7 @@ pub record IsUndecided (x : Option SetupResult) : Type 0 where
   pub no_error : error_in x ≡ None
 
 -- what is repeated is so
-repeats_open : (x : Option SetupResult) → repeats x ≡ true → IsUndecided x
+pub repeats_open : (x : Option SetupResult) → repeats x ≡ true → IsUndecided x
 repeats_open None r = cc
 repeats_open (Some result.Ready) r = cc
 repeats_open (Some result.RepeatWithoutUser) r = record { unwell = refl; no_error = refl }
