@@ -27,15 +27,15 @@ use Rattle.mux_conn.specs.declared.act.LinkAct.{LinkAct}
 use Rattle.mux_conn.specs.declared.act.LinkAct.TheVariants as act
 use Rattle.mux_conn.specs.declared.connection.MultiplexedConnection.{MultiplexedConnection}
 use Rattle.mux_conn.specs.declared.life.Life.{Life}
-use Rattle.mux_conn.specs.declared.life.Life.TheVariants.{Dialing, Ready, Ended}
+use Rattle.mux_conn.specs.declared.life.Life.TheVariants.{Dialing, SettingUp, Ready, Ended}
 use Rattle.mux_conn.specs.declared.request.Progress.TheVariants as progress
 use Rattle.mux_conn.specs.declared.request.Request.{Request}
 use Rattle.mux_conn.specs.declared.request.Waiting.{Waiting}
-use Rattle.mux_conn.specs.Connection.{Work, acted, at_life, with_link, awaits_connect, has_no_permit, admits_none_at, admits_none, has_room, first_queued}
+use Rattle.mux_conn.specs.Connection.{Work, acted, at_life, with_link, with_setup, has_no_permit, admits_none_at, admits_none, has_room, first_queued}
 use Rattle.mux_conn.specs.Requests.{is_open, is_waiting, is_admitted, is_placed, is_open_at, is_waiting_at, is_admitted_at, is_placed_at, name_at, permits_at, with_permits, given_back, closed, answered, waiting_of, asked}
-use Rattle.mux_conn.specs.Effects.{new_link, settled_each, failed_each, nobody_waits, waiting_failed, ended, opening_failed, connected_at, refused_at, overdue_at, taken_at, failed_at, broken_at, read_to, read_at, shut_at, all_fresh, applied, cancelled_in, left, timed_out}
+use Rattle.mux_conn.specs.Effects.{settled_each, failed_each, nobody_waits, waiting_failed, ended, opening_failed, connected_at, refused_at, overdue_at, taken_at, failed_at, broken_at, read_to, read_at, shut_at, applied, cancelled_in, left, timed_out}
 use Rattle.mux_conn.specs.Passes.{shown_each, starts_with, started_at, started, message_of, placed_at, told_at_place, seated, still_admitted, moved_up, moved_up_each, moved_up_all, put_behind, seated_or_behind, permits_taken, holding, took_shown, took as holds, timer_asked, let_in, admitted_at, admitted, still_waiting, admitted_each, admitted_all, passed}
-use Rattle.mux_conn.specs.Turn.{written_at, written, is_from, moved_wait, fresh_wait, wait_shown, moved_each_shown, moved_shown, fresh_each_shown, fresh_shown, waits_shown, flushed}
+use Rattle.mux_conn.specs.Turn.{written_at, written, is_from, moved_wait, early_wait, fresh_wait, wait_shown, moved_each_shown, moved_shown, fresh_each_shown, fresh_shown, waits_shown, flushed}
 use Rattle.cancel_laws.specs.ButFor.{hushed_link, hushed_life}
 use Rattle.cancel_laws.proofs.Requests.{names, name_stays, progress_twice, progress_apart, progress_push, progress_count, permits_other, permits_own, permits_push, goes_apart, own_closed, closed_set, test_other, same_test, other_test}
 use Rattle.cancel_laws.proofs.Names.{IsOwn, own_name, other_name}
@@ -224,36 +224,44 @@ bare_opening n p w e h =
     let g : At (There (IsGone n p)) (acted (at_life w (Ended e)) a) = over_kept (gone_kept n p) w e a (λ m. refl) h in
     bare_waiting n p (acted (at_life w (Ended e)) a) e g ∙ ap (λ (x : Work). waiting_failed x e) (bare_acted n p (at_life w (Ended e)) a (λ m. refl))
 
+-- the end of one whose link is closed
+bare_given_up : (n p : ℕ) (w : Work) (e : RedisError) → At (There (IsGone n p)) w → bare n p (opening_failed (acted w act.Close) e) ≡ opening_failed (acted (bare n p w) act.Close) e
+bare_given_up n p w e h = bare_opening n p (acted w act.Close) e h ∙ ap (λ (x : Work). opening_failed x e) (bare_acted n p w act.Close (λ m. refl))
+
 -- news
 --
 -- a fault of the link
 bare_failed : (n p : ℕ) (w : Work) (f : LinkFault) (life : Life) → At (There (IsGone n p)) w → bare n p (failed_at w f life) ≡ failed_at (bare n p w) f (hushed_life p life)
 bare_failed n p w f (Ready l) h = bare_ended n p w _ _ h (fault_alike p f l (hushed_link p l) [] [] (alike_hushed p l) refl).out
 bare_failed n p w f Dialing h = refl
+bare_failed n p w f (SettingUp l with_user) h = bare_given_up n p w error.Closed h
 bare_failed n p w f (Ended e) h = refl
 
 -- the connect
-bare_connected : (n p : ℕ) (w : Work) (life : Life) → bare n p (connected_at w life) ≡ connected_at (bare n p w) (hushed_life p life)
-bare_connected n p w Dialing = bare_acted n p (with_link (all_fresh w) (new_link w.conn)) (act.Created None) (λ m. refl)
-bare_connected n p w (Ready l) = refl
-bare_connected n p w (Ended e) = refl
+bare_connected : (n p : ℕ) (w : Work) (life : Life) → NoneQueued p life → bare n p (connected_at w life) ≡ connected_at (bare n p w) (hushed_life p life)
+bare_connected n p w Dialing none = absurd none
+bare_connected n p w (SettingUp l with_user) none = absurd none
+bare_connected n p w (Ready l) none = refl
+bare_connected n p w (Ended e) none = refl
 
 -- the connect is refused
 bare_refused : (n p : ℕ) (w : Work) (f : FaultKind) (life : Life) → At (There (IsGone n p)) w → bare n p (refused_at w f life) ≡ refused_at (bare n p w) f (hushed_life p life)
 bare_refused n p w f Dialing h = bare_opening n p w (error.Io f) h
+bare_refused n p w f (SettingUp l with_user) h = refl
 bare_refused n p w f (Ready l) h = refl
 bare_refused n p w f (Ended e) h = refl
 
 -- the time to connect is over
 bare_overdue : (n p : ℕ) (w : Work) (life : Life) → At (There (IsGone n p)) w → bare n p (overdue_at w life) ≡ overdue_at (bare n p w) (hushed_life p life)
-bare_overdue n p w Dialing h =
-    bare_opening n p (acted w act.Close) (error.Io kinds.TimedOut) h ∙ ap (λ (x : Work). opening_failed x (error.Io kinds.TimedOut)) (bare_acted n p w act.Close (λ m. refl))
+bare_overdue n p w Dialing h = bare_given_up n p w (error.Io kinds.TimedOut) h
+bare_overdue n p w (SettingUp l with_user) h = bare_given_up n p w (error.Io kinds.TimedOut) h
 bare_overdue n p w (Ready l) h = refl
 bare_overdue n p w (Ended e) h = refl
 
 -- bytes were taken
 bare_taken : (n p : ℕ) (w : Work) (count : ℕ) (life : Life) → bare n p (taken_at w count life) ≡ taken_at (bare n p w) count (hushed_life p life)
 bare_taken n p w count Dialing = refl
+bare_taken n p w count (SettingUp l with_user) = refl
 bare_taken n p w count (Ready l) = refl
 bare_taken n p w count (Ended e) = refl
 
@@ -275,18 +283,20 @@ bare_came n p w piece (Ready l) h =
     bare_read n p w (piece_dealt (record { link = l; out = [] }) piece) (piece_dealt (record { link = hushed_link p l; out = [] }) piece) ((gone_kept n p).come w.conn.limit w.conn.requests l w.conn.moved w.acts piece h)
     (hushed_came p l piece) (bytes_alike p l (hushed_link p l) [] [] piece (alike_hushed p l) refl).out
 bare_came n p w piece Dialing h = refl
+bare_came n p w piece (SettingUp l with_user) h = absurd h.none
 bare_came n p w piece (Ended e) h = refl
 
 -- the shutdown
 bare_shut : (n p : ℕ) (w : Work) (life : Life) → At (There (IsGone n p)) w → bare n p (shut_at w life) ≡ shut_at (bare n p w) (hushed_life p life)
 bare_shut n p w (Ready l) h = bare_ended n p w _ _ h (close_alike p l (hushed_link p l) [] [] (alike_hushed p l) refl).out
 bare_shut n p w Dialing h = bare_ended n p w [] [] h refl
+bare_shut n p w (SettingUp l with_user) h = bare_ended n p w [] [] h refl
 bare_shut n p w (Ended e) h = refl
 
 -- all news
 pub bare_applied : (n p : ℕ) (w : Work) (what : News) → At (There (IsGone n p)) w → bare n p (applied w what) ≡ applied (bare n p w) what
 bare_applied n p w silence h = refl
-bare_applied n p w connected h = bare_connected n p w w.conn.life
+bare_applied n p w connected h = bare_connected n p w w.conn.life h.none
 bare_applied n p w (refused f) h = bare_refused n p w f w.conn.life h
 bare_applied n p w overdue h = bare_overdue n p w w.conn.life h
 bare_applied n p w (took count) h = bare_taken n p w count w.conn.life
@@ -309,6 +319,7 @@ bare_asked p c name packed shape awaited timeout l =
 -- the cancel of request p itself
 own_life : (p : ℕ) (life : Life) → NoneQueued p life → hushed_life p (cancelled_in life p) ≡ hushed_life p life
 own_life p Dialing h = refl
+own_life p (SettingUp l with_user) h = refl
 own_life p (Ready l) h = ap Ready (own_cancelled p l (none_leaves p l.queue h))
 own_life p (Ended e) h = refl
 
@@ -327,6 +338,7 @@ own_left p c none =
 -- the cancel of another request, on the link
 other_life : (p q : ℕ) (life : Life) → hushed_life p (cancelled_in life q) ≡ cancelled_in (hushed_life p life) q
 other_life p q Dialing = refl
+other_life p q (SettingUp l with_user) = refl
 other_life p q (Ready l) = ap Ready (hushed_cancelled p q l)
 other_life p q (Ended e) = refl
 
@@ -407,6 +419,7 @@ bare_started_at n p w (Ready l) none =
     let out = (start_alike p l (hushed_link p l) [] (alike_hushed p l)).out in
     bare_shown n p (with_link w s.link) s.out ∙ (λ i. starts_with (bare n p w) (record { link = link i; out = out i }))
 bare_started_at n p w Dialing none = refl
+bare_started_at n p w (SettingUp l with_user) none = absurd none
 bare_started_at n p w (Ended e) none = refl
 
 -- on the link that the connection has
@@ -436,6 +449,7 @@ bare_seated_at n p w q (Ready l) t g h =
     bare_started n p (told_at_place d q) (told_kept (gone_kept n p) d q k) ∙ ap started (bare_told n p d q k)
     ∙ ap (λ (x : Work). started (told_at_place x q)) (bare_placed n p w q l (other_test is_admitted w.conn.requests q.number p t g.seated))
 bare_seated_at n p w q Dialing t g h = bare_started n p (told_at_place w q) (told_kept (gone_kept n p) w q h) ∙ ap started (bare_told n p w q h)
+bare_seated_at n p w q (SettingUp l with_user) t g h = bare_started n p (told_at_place w q) (told_kept (gone_kept n p) w q h) ∙ ap started (bare_told n p w q h)
 bare_seated_at n p w q (Ended e) t g h = bare_started n p (told_at_place w q) (told_kept (gone_kept n p) w q h) ∙ ap started (bare_told n p w q h)
 
 -- on the link that the connection has
@@ -453,6 +467,7 @@ bare_moved_up n p w q h =
 -- whether the queue has room doesn't depend on the row
 room_same : (p : ℕ) (life : Life) → has_room life ≡ has_room (hushed_life p life)
 room_same p Dialing = refl
+room_same p (SettingUp l with_user) = refl
 room_same p (Ready l) = refl
 room_same p (Ended e) = refl
 
@@ -530,6 +545,7 @@ bare_admitted_at n p w q (Ready l) t none h =
     ∙ ap (λ (x : Work). seated_or_behind x q) (bare_let_in n p w q none (other_test is_waiting w.conn.requests q.number p t h.past))
 bare_admitted_at n p w q (Ended e) t none h = bare_answered n p w q.number (outcome.Fault e) h
 bare_admitted_at n p w q Dialing t none h = refl
+bare_admitted_at n p w q (SettingUp l with_user) t none h = refl
 
 -- and any other stays
 bare_admitted : (n p : ℕ) (w : Work) (q : Waiting) → w.conn.limit ≡ None → At (There (IsGone n p)) w → bare n p (admitted w q) ≡ admitted (bare n p w) q
@@ -542,6 +558,7 @@ bare_admitted n p w q none h =
 -- where permits aren't counted, whether requests can be moved at all depends neither on the row nor on permits
 stuck_same : (p : ℕ) (life : Life) (lim : Option ℕ) (j k : ℕ) → lim ≡ None → admits_none_at life (has_no_permit lim j) ≡ admits_none_at (hushed_life p life) (has_no_permit lim k)
 stuck_same p Dialing lim j k none = refl
+stuck_same p (SettingUp l with_user) lim j k none = refl
 stuck_same p (Ready l) None j k none = refl
 stuck_same p (Ready l) (Some most) j k none = cc
 stuck_same p (Ended e) lim j k none = refl
@@ -570,14 +587,17 @@ bare_passed n p w none h =
 bare_written_at : (n p : ℕ) (w : Work) (life : Life) → bare n p (written_at w life) ≡ written_at (bare n p w) (hushed_life p life)
 bare_written_at n p w (Ready l) =
     either (bare n p) (can_offer l.outbox) _ w _ (bare n p w) (λ t. bare_acted n p (with_link w (offered_of l)) (act.Write l.outbox.unwritten) (λ m. refl)) (λ f. refl)
+bare_written_at n p w (SettingUp l with_user) =
+    either (bare n p) (can_offer l.outbox) _ w _ (bare n p w) (λ t. bare_acted n p (with_setup w (offered_of l) with_user) (act.Write l.outbox.unwritten) (λ m. refl)) (λ f. refl)
 bare_written_at n p w Dialing = refl
 bare_written_at n p w (Ended e) = refl
 
--- nor does it whether the connect is answered
-dialing_same : (p : ℕ) (life : Life) → awaits_connect life ≡ awaits_connect (hushed_life p life)
-dialing_same p Dialing = refl
-dialing_same p (Ready l) = refl
-dialing_same p (Ended e) = refl
+-- nor does it what a request waits for that waits for the connection
+early_same : (p : ℕ) (life : Life) → early_wait life ≡ early_wait (hushed_life p life)
+early_same p Dialing = refl
+early_same p (SettingUp l with_user) = refl
+early_same p (Ready l) = refl
+early_same p (Ended e) = refl
 
 -- a wait is shown
 bare_wait : (n p : ℕ) (w : Work) (q : ℕ) (kind : Option WaitKind) → bare n p (wait_shown w q kind) ≡ wait_shown (bare n p w) q kind
@@ -589,6 +609,7 @@ bare_wait n p w q (Some kind) =
 -- nor does who is the first of the queue depend on the row
 first_same : (p : ℕ) (life : Life) → first_queued life ≡ first_queued (hushed_life p life)
 first_same p Dialing = refl
+first_same p (SettingUp l with_user) = refl
 first_same p (Ready l) = refl
 first_same p (Ended e) = refl
 
@@ -604,8 +625,8 @@ moved_wait_same n p c q o h =
 fresh_wait_same : (n p : ℕ) (c : MultiplexedConnection) (q : ℕ) → IsGone n p c.requests c.life → fresh_wait c q ≡ fresh_wait (bare_conn p c) q
 fresh_wait_same n p c q h =
     let a = same_test is_waiting c.requests p q refl h.past in
-    let d = dialing_same p c.life in
-    λ i. if a i then Some (if d i then wait.Connect else wait.Permit) else None
+    let d = early_same p c.life in
+    λ i. if a i then Some (d i) else None
 
 -- all waits of those that were moved
 bare_moved_each_shown : (n p : ℕ) (w : Work) (qs : List ℕ) → NoneIs p qs → At (There (IsGone n p)) w → bare n p (moved_each_shown w qs) ≡ moved_each_shown (bare n p w) qs

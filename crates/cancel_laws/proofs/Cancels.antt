@@ -14,7 +14,7 @@ use Rattle.driver_model.specs.declared.event.EventKind.TheVariants as event
 use Rattle.driver_model.specs.declared.outcome.Outcome.{Outcome}
 use Rattle.mux_conn.specs.declared.connection.MultiplexedConnection.{MultiplexedConnection}
 use Rattle.mux_conn.specs.declared.life.Life.{Life}
-use Rattle.mux_conn.specs.declared.life.Life.TheVariants.{Dialing, Ready, Ended}
+use Rattle.mux_conn.specs.declared.life.Life.TheVariants.{Dialing, SettingUp, Ready, Ended}
 use Rattle.mux_conn.specs.declared.request.Pending.{Pending}
 use Rattle.mux_conn.specs.Requests.{if_there, is_open, is_waiting, is_admitted, is_open_at}
 use Rattle.mux_conn.specs.Connection.{Work}
@@ -173,7 +173,7 @@ turns_on-append c [] ys = refl
 turns_on-append c (x ∷ xs) ys = ap (λ (zs : List Action). actions_of c x ++ zs) (turns_on-append (next_turn c x.kind).core xs ys) ∙ sym (append_assoc (actions_of c x) _ _)
 
 -- where a history leads that goes on
-state_split : (config : Config) (word : ℕ) (before after : List Event) → state_after config word (before ++ after) ≡ run_on (state_after config word before) after
+pub state_split : (config : Config) (word : ℕ) (before after : List Event) → state_after config word (before ++ after) ≡ run_on (state_after config word before) after
 unfolding state_after
 state_split config word before after = run_on-append (opening_core config word) before after
 
@@ -185,7 +185,7 @@ trace_split config word before after =
     ∙ sym (append_assoc (opening_actions config word) (turns_on (opening_core config word) before) _)
 
 -- what is true after each history
-ready_after : (config : Config) (word : ℕ) (before : List Event) → IsReady (state_after config word before)
+pub ready_after : (config : Config) (word : ℕ) (before : List Event) → IsReady (state_after config word before)
 unfolding state_after
 ready_after config word before = ready_on (opening_core config word) before (opening_ready config word)
 
@@ -293,6 +293,7 @@ same_items config word draw n before after free h =
 -- how many bytes are offered doesn't depend on the row
 too_much_same : (p count : ℕ) (life : Life) → exceeds_offer life count ≡ exceeds_offer (hushed_life p life) count
 too_much_same p count Dialing = refl
+too_much_same p count (SettingUp l with_user) = refl
 too_much_same p count (Ready l) = refl
 too_much_same p count (Ended e) = refl
 

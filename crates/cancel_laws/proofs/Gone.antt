@@ -4,7 +4,7 @@ use Rattle.containers.proofs.Choices.{ne_test}
 use Rattle.link_core.specs.declared.message.Entry.{Entry}
 use Rattle.mux_conn.specs.declared.act.LinkAct.{LinkAct}
 use Rattle.mux_conn.specs.declared.life.Life.{Life}
-use Rattle.mux_conn.specs.declared.life.Life.TheVariants.{Dialing, Ready, Ended}
+use Rattle.mux_conn.specs.declared.life.Life.TheVariants.{Dialing, SettingUp, Ready, Ended}
 use Rattle.mux_conn.specs.declared.request.Progress.{Progress}
 use Rattle.mux_conn.specs.declared.request.Progress.TheVariants as progress
 use Rattle.mux_conn.specs.declared.request.Request.{Request}
@@ -17,19 +17,22 @@ use Rattle.cancel_laws.proofs.Names.{IsOwn, own_push}
 use Rattle.cancel_laws.proofs.Links.{NoneOf, NoneWanted, none_push, none_without, none_started, none_came, quiet_starts, quiet_came, quiet_silenced, quiet_stays}
 use Rattle.cancel_laws.proofs.Kept.{IsKept, IsKeptThere, There, kept_there, CanAsk}
 
--- nobody awaits message p in the queue of a link that is up
+-- the link has been set up, and nobody awaits message p in its queue
 abbrev pub NoneQueued : ℕ → Life → Type 0
-NoneQueued p Dialing = Unit {0}
+NoneQueued p Dialing = ⊥
+NoneQueued p (SettingUp l with_user) = ⊥
 NoneQueued p (Ready l) = NoneOf p l.queue
 NoneQueued p (Ended e) = Unit {0}
 
 -- nor in its row
 abbrev pub NoneInRow : ℕ → Life → Type 0
 NoneInRow p Dialing = Unit {0}
+NoneInRow p (SettingUp l with_user) = Unit {0}
 NoneInRow p (Ready l) = NoneWanted p l.row
 NoneInRow p (Ended e) = Unit {0}
 
--- request p has the name n, waits neither for the connection nor for a place, and isn't in the queue
+-- request p has the name n, waits neither for the connection nor for a place, and isn't in the queue of its link, which has
+-- been set up
 pub record IsGone (n p : ℕ) (r : List Request) (life : Life) : Type 0 where
   pub there : p < length r
   pub own : IsOwn n p (names r)
@@ -50,6 +53,7 @@ within_kept r p q now count l = omega (arith, progress_count r q now count)
 -- a cancel puts nothing into the queue
 none_cancelled : (p q : ℕ) (life : Life) → NoneQueued p life → NoneQueued p (cancelled_in life q)
 none_cancelled p q Dialing h = h
+none_cancelled p q (SettingUp l with_user) h = h
 none_cancelled p q (Ready l) h = none_without p q l.queue h
 none_cancelled p q (Ended e) h = h
 
@@ -68,7 +72,11 @@ gone_there n p = record {
     none = h.none;
   };
   hush = λ r life q h. record { there = h.there; own = h.own; past = h.past; seated = h.seated; none = none_cancelled p q life h.none };
-  connect = λ r size bound h. record { there = h.there; own = h.own; past = h.past; seated = h.seated; none = tt };
+  connect = λ r size bound h. absurd h.none;
+  set_up = λ r size bound q with_user h. absurd h.none;
+  go_on = λ r l k with_user few h. absurd h.none;
+  repeat = λ r l k q with_user few h. absurd h.none;
+  ready = λ r l k with_user few h. absurd h.none;
   admit = λ r life q count t h. record {
     there = within_kept r p q progress.Admitted count h.there;
     own = own_kept n p r q progress.Admitted count h.own;
@@ -129,7 +137,11 @@ away_kept n p = record {
   answer = λ lim r life ms xs q o t h. record { gone = (gone_there n p).answer r life q h.gone; unmoved = h.unmoved };
   cancel = λ lim r life ms xs q t h. record { gone = (gone_kept n p).cancel lim r life ms xs q t h.gone; unmoved = h.unmoved };
   hush = λ lim r life ms xs q h. record { gone = (gone_there n p).hush r life q h.gone; unmoved = h.unmoved };
-  connect = λ lim r size bound ms xs h. record { gone = (gone_there n p).connect r size bound h.gone; unmoved = h.unmoved };
+  connect = λ lim r size bound ms xs h. absurd h.gone.none;
+  set_up = λ lim r size bound ms xs q with_user h. absurd h.gone.none;
+  go_on = λ lim r l k with_user ms xs few h. absurd h.gone.none;
+  repeat = λ lim r l k q with_user ms xs few h. absurd h.gone.none;
+  ready = λ lim r l k with_user ms xs few h. absurd h.gone.none;
   admit = λ lim r life ms xs q count t h. record { gone = (gone_there n p).admit r life q count t h.gone; unmoved = h.unmoved };
   note = λ lim r life ms xs q t h. record { gone = h.gone; unmoved = none_is_push p ms q (other_test is_admitted r q p t h.gone.seated) h.unmoved };
   place = λ lim r l ms xs q t h. record { gone = (gone_there n p).place r l q t h.gone; unmoved = h.unmoved };
@@ -159,6 +171,7 @@ pub record IsHushed (n p : ℕ) (r : List Request) (life : Life) : Type 0 where
 -- a cancel makes nobody await a message
 quiet_cancelled : (p q : ℕ) (life : Life) → NoneInRow p life → NoneInRow p (cancelled_in life q)
 quiet_cancelled p q Dialing h = h
+quiet_cancelled p q (SettingUp l with_user) h = h
 quiet_cancelled p q (Ready l) h = quiet_silenced p q l.row h
 quiet_cancelled p q (Ended e) h = h
 
@@ -167,7 +180,11 @@ hushed_there : (n p : ℕ) → IsKeptThere (IsHushed n p)
 hushed_there n p = record {
   answer = λ r life q h. record { gone = (gone_there n p).answer r life q h.gone; quiet = h.quiet };
   hush = λ r life q h. record { gone = (gone_there n p).hush r life q h.gone; quiet = quiet_cancelled p q life h.quiet };
-  connect = λ r size bound h. record { gone = (gone_there n p).connect r size bound h.gone; quiet = tt };
+  connect = λ r size bound h. absurd h.gone.none;
+  set_up = λ r size bound q with_user h. absurd h.gone.none;
+  go_on = λ r l k with_user few h. absurd h.gone.none;
+  repeat = λ r l k q with_user few h. absurd h.gone.none;
+  ready = λ r l k with_user few h. absurd h.gone.none;
   admit = λ r life q count t h. record { gone = (gone_there n p).admit r life q count t h.gone; quiet = h.quiet };
   place = λ r l q t h. record { gone = (gone_there n p).place r l q t h.gone; quiet = h.quiet };
   start = λ r l h. record { gone = (gone_there n p).start r l h.gone; quiet = quiet_starts p (record { link = l; out = [] }) l.queue h.gone.none h.quiet };
@@ -188,5 +205,6 @@ hushed_asks n p m o = record { ask = λ lim r life ms xs h. record { gone = gone
 -- where nobody awaits it, its verdict is not wanted
 pub quiet_life : (p : ℕ) (life : Life) → NoneInRow p life → hushed_life p life ≡ life
 quiet_life p Dialing h = refl
+quiet_life p (SettingUp l with_user) h = refl
 quiet_life p (Ready l) h = ap (λ (row : List Entry). Ready (record l { row = row })) (quiet_stays p l.row h)
 quiet_life p (Ended e) h = refl

@@ -1,11 +1,13 @@
 -- What each part of a turn keeps: a fact of the limit of permits, of the requests, of the link's life, of those that were moved, and of what the turn has shown.
-use Rattle.std.proofs.Common.{◌≡◌, ℕ, ◌==◌, true, List, [], ◌∷◌, ◌++◌, length, Option, Some, None, slice_get, if◌then◌else◌, refl, ap, ◌∙◌}
+use Rattle.std.proofs.Common.{◌≡◌, ℕ, ◌+◌, ◌≤◌, ◌==◌, true, false, Bool, List, [], ◌∷◌, ◌++◌, length, Option, Some, None, slice_get, if◌then◌else◌, refl, ap, ◌∙◌, arith}
 use Rattle.containers.proofs.Choices.{chosen}
 use Rattle.redis_error.specs.declared.redis_error.RedisError.TheVariants as error
 use Rattle.redis_error.specs.declared.fault_kind.FaultKind.TheVariants as kinds
 use Rattle.redis_error.specs.declared.fault_kind.FaultKind.{FaultKind}
 use Rattle.redis_error.specs.declared.redis_error.RedisError.{RedisError}
 use Rattle.resp_value.specs.declared.value.Value.TheVariants.{Nil}
+use Rattle.connection_setup.specs.declared.judgement.SetupResult.{SetupResult}
+use Rattle.connection_setup.specs.declared.judgement.SetupResult.TheVariants as result
 use Rattle.driver_model.specs.declared.action.Owner.TheVariants as owner
 use Rattle.driver_model.specs.declared.action.Purpose.{Purpose}
 use Rattle.driver_model.specs.declared.action.Purpose.TheVariants as purpose
@@ -20,7 +22,9 @@ use Rattle.driver_model.specs.declared.outcome.Outcome.TheVariants as outcome
 use Rattle.driver_model.specs.News.{News, news_of, silence, connected, took, failed, shut, refused, overdue}
 use Rattle.driver_model.specs.News.{came}
 use Rattle.driver_model.specs.Request.{packed_bytes}
+use Rattle.driver_model.specs.Setup.{says_nothing}
 use Rattle.driver_model.specs.Shape.{outcome_of}
+use Rattle.link_core.specs.declared.message.Queued.{Queued}
 use Rattle.link_core.specs.declared.message.Settled.{Settled}
 use Rattle.link_core.specs.declared.message.Started.{Started}
 use Rattle.link_core.specs.Link.{LinkState, Settling, fresh, enqueued, started_all, offered_of, wrote_of, piece_dealt, faulted, closed_all}
@@ -29,18 +33,19 @@ use Rattle.mux_conn.specs.declared.act.LinkAct.{LinkAct}
 use Rattle.mux_conn.specs.declared.act.LinkAct.TheVariants as act
 use Rattle.mux_conn.specs.declared.connection.MultiplexedConnection.{MultiplexedConnection}
 use Rattle.mux_conn.specs.declared.life.Life.{Life}
-use Rattle.mux_conn.specs.declared.life.Life.TheVariants.{Dialing, Ready, Ended}
+use Rattle.mux_conn.specs.declared.life.Life.TheVariants.{Dialing, SettingUp, Ready, Ended}
 use Rattle.mux_conn.specs.declared.request.Pending.{Pending}
 use Rattle.mux_conn.specs.declared.request.Progress.TheVariants as progress
 use Rattle.mux_conn.specs.declared.request.Request.{Request}
 use Rattle.mux_conn.specs.declared.request.Waiting.{Waiting}
-use Rattle.mux_conn.specs.Connection.{Work, acted, at_life, with_link, has_room, admits_none}
+use Rattle.mux_conn.specs.Connection.{Work, acted, at_life, with_link, with_setup, has_room, admits_none}
 use Rattle.mux_conn.specs.Requests.{is_open_at, is_waiting_at, is_admitted_at, name_at, with_permits, at_progress, answered}
-use Rattle.mux_conn.specs.Effects.{new_link, settled_each, failed_each, nobody_waits, waiting_failed, ended, opening_failed, connected_at, refused_at, overdue_at, taken_at, failed_at, read_to, read_at, shut_at, applied, cancelled_in, left, timed_out}
-use Rattle.mux_conn.specs.Passes.{shown_each, started_at, started, message_of, placed_at, told_at_place, seated, still_admitted, moved_up, moved_up_each, moved_up_all, put_behind, seated_or_behind, permits_taken, holding, took_shown, took as holds, timer_asked, let_in, admitted_at, admitted, still_waiting, admitted_each, passed}
+use Rattle.mux_conn.specs.Effects.{new_link, settled_each, failed_each, nobody_waits, waiting_failed, ended, opening_failed, connected_at, refused_at, overdue_at, taken_at, failed_at, broken_at, read_to, read_at, shut_at, all_fresh, made_ready, steps_of, setup_queued, sets_up, judged_by, set_up_by, answered_setup, applied, cancelled_in, left, timed_out}
+use Rattle.mux_conn.specs.Passes.{shown_each, set_up_each, started_at, started, message_of, placed_at, told_at_place, seated, still_admitted, moved_up, moved_up_each, moved_up_all, put_behind, seated_or_behind, permits_taken, holding, took_shown, took as holds, timer_asked, let_in, admitted_at, admitted, still_waiting, admitted_each, passed}
 use Rattle.mux_conn.specs.Turn.{written_at, written, moved_wait, fresh_wait, wait_shown, moved_each_shown, moved_shown, fresh_each_shown, flushed}
 use Rattle.shared_session.specs.declared.core_state.Core.{Core}
 use Rattle.shared_session.specs.Turn.{Turning, work_of, heard, counted, submitted, left_by, late_by, fired_by, requested, effect, next_turn}
+use Rattle.cancel_laws.proofs.Counts.{count_on, count_started, count_came}
 use Rattle.cancel_laws.proofs.Requests.{admitted_now}
 
 -- what an act shows, if it is not the outcome of submission n
@@ -52,6 +57,7 @@ other_act n act.Close = act.Close ∷ []
 other_act n (act.Write bytes) = act.Write bytes ∷ []
 other_act n (act.Wait m kind) = act.Wait m kind ∷ []
 other_act n (act.Start message m need len) = act.Start message m need len ∷ []
+other_act n (act.SetUp message need len) = act.SetUp message need len ∷ []
 other_act n (act.Outcome m o) = if m == n then [] else act.Outcome m o ∷ []
 
 -- an act that answers nobody
@@ -64,6 +70,10 @@ pub record IsKept (P : Option ℕ → List Request → Life → List ℕ → Lis
   pub cancel : (lim : Option ℕ) (r : List Request) (life : Life) (ms : List ℕ) (xs : List LinkAct) (q : ℕ) → is_open_at r q ≡ true → P lim r life ms xs → P lim (with_permits r q progress.Closed 0) (cancelled_in life q) ms xs
   pub hush : (lim : Option ℕ) (r : List Request) (life : Life) (ms : List ℕ) (xs : List LinkAct) (q : ℕ) → P lim r life ms xs → P lim r (cancelled_in life q) ms xs
   pub connect : (lim : Option ℕ) (r : List Request) (size bound : ℕ) (ms : List ℕ) (xs : List LinkAct) → P lim r Dialing ms xs → P lim r (Ready (fresh size bound)) ms xs
+  pub set_up : (lim : Option ℕ) (r : List Request) (size bound : ℕ) (ms : List ℕ) (xs : List LinkAct) (q : Queued) (with_user : Bool) → P lim r Dialing ms xs → P lim r (SettingUp (enqueued (fresh size bound) q) with_user) ms xs
+  pub go_on : (lim : Option ℕ) (r : List Request) (l k : LinkState) (with_user : Bool) (ms : List ℕ) (xs : List LinkAct) → count_on k ≤ count_on l → P lim r (SettingUp l with_user) ms xs → P lim r (SettingUp k with_user) ms xs
+  pub repeat : (lim : Option ℕ) (r : List Request) (l k : LinkState) (q : Queued) (with_user : Bool) (ms : List ℕ) (xs : List LinkAct) → count_on k + 1 ≤ count_on l → P lim r (SettingUp l with_user) ms xs → P lim r (SettingUp (enqueued k q) false) ms xs
+  pub ready : (lim : Option ℕ) (r : List Request) (l k : LinkState) (with_user : Bool) (ms : List ℕ) (xs : List LinkAct) → count_on k + 1 ≤ count_on l → P lim r (SettingUp l with_user) ms xs → P lim r (Ready k) ms xs
   pub admit : (lim : Option ℕ) (r : List Request) (life : Life) (ms : List ℕ) (xs : List LinkAct) (q count : ℕ) → is_waiting_at r q ≡ true → P lim r life ms xs → P lim (with_permits r q progress.Admitted count) life ms xs
   pub note : (lim : Option ℕ) (r : List Request) (life : Life) (ms : List ℕ) (xs : List LinkAct) (q : ℕ) → is_admitted_at r q ≡ true → P lim r life ms xs → P lim r life (ms ++ q ∷ []) xs
   pub place : (lim : Option ℕ) (r : List Request) (l : LinkState) (ms : List ℕ) (xs : List LinkAct) (q : Waiting) → is_admitted_at r q.number ≡ true → P lim r (Ready l) ms xs → P lim (at_progress r q.number progress.Placed) (Ready (enqueued l (message_of q))) ms xs
@@ -80,6 +90,10 @@ pub record IsKeptThere (P : List Request → Life → Type 0) : Type 0 where
   pub answer : (r : List Request) (life : Life) (q : ℕ) → P r life → P (with_permits r q progress.Closed 0) life
   pub hush : (r : List Request) (life : Life) (q : ℕ) → P r life → P r (cancelled_in life q)
   pub connect : (r : List Request) (size bound : ℕ) → P r Dialing → P r (Ready (fresh size bound))
+  pub set_up : (r : List Request) (size bound : ℕ) (q : Queued) (with_user : Bool) → P r Dialing → P r (SettingUp (enqueued (fresh size bound) q) with_user)
+  pub go_on : (r : List Request) (l k : LinkState) (with_user : Bool) → count_on k ≤ count_on l → P r (SettingUp l with_user) → P r (SettingUp k with_user)
+  pub repeat : (r : List Request) (l k : LinkState) (q : Queued) (with_user : Bool) → count_on k + 1 ≤ count_on l → P r (SettingUp l with_user) → P r (SettingUp (enqueued k q) false)
+  pub ready : (r : List Request) (l k : LinkState) (with_user : Bool) → count_on k + 1 ≤ count_on l → P r (SettingUp l with_user) → P r (Ready k)
   pub admit : (r : List Request) (life : Life) (q count : ℕ) → is_waiting_at r q ≡ true → P r life → P (with_permits r q progress.Admitted count) life
   pub place : (r : List Request) (l : LinkState) (q : Waiting) → is_admitted_at r q.number ≡ true → P r (Ready l) → P (at_progress r q.number progress.Placed) (Ready (enqueued l (message_of q)))
   pub start : (r : List Request) (l : LinkState) → P r (Ready l) → P r (Ready (started_all (record { link = l; out = [] })).link)
@@ -99,6 +113,10 @@ kept_there k = record {
   cancel = λ lim r life ms xs q t h. k.answer r (cancelled_in life q) q (k.hush r life q h);
   hush = λ lim r life ms xs q h. k.hush r life q h;
   connect = λ lim r size bound ms xs h. k.connect r size bound h;
+  set_up = λ lim r size bound ms xs q with_user h. k.set_up r size bound q with_user h;
+  go_on = λ lim r l m with_user ms xs few h. k.go_on r l m with_user few h;
+  repeat = λ lim r l m q with_user ms xs few h. k.repeat r l m q with_user few h;
+  ready = λ lim r l m with_user ms xs few h. k.ready r l m with_user few h;
   admit = λ lim r life ms xs q count t h. k.admit r life q count t h;
   note = λ lim r life ms xs q t h. h;
   place = λ lim r l ms xs q t h. k.place r l q t h;
@@ -122,6 +140,10 @@ unlimited_kept = record {
   cancel = λ lim r life ms xs q t h. h;
   hush = λ lim r life ms xs q h. h;
   connect = λ lim r size bound ms xs h. h;
+  set_up = λ lim r size bound ms xs q with_user h. h;
+  go_on = λ lim r l k with_user ms xs few h. h;
+  repeat = λ lim r l k q with_user ms xs few h. h;
+  ready = λ lim r l k with_user ms xs few h. h;
   admit = λ lim r life ms xs q count t h. h;
   note = λ lim r life ms xs q t h. h;
   place = λ lim r l ms xs q t h. h;
@@ -172,23 +194,33 @@ ended_kept k w out h =
 opening_kept : {P : Option ℕ → List Request → Life → List ℕ → List LinkAct → Type 0} → IsKept P → (w : Work) (e : RedisError) → At P w → At P (opening_failed w e)
 opening_kept k w e h = waiting_kept k (acted (at_life w (Ended e)) (act.Created (Some e))) e (over_kept k w e (act.Created (Some e)) (λ n. refl) h)
 
+-- the end of one whose link is closed
+given_up_kept : {P : Option ℕ → List Request → Life → List ℕ → List LinkAct → Type 0} → IsKept P → (w : Work) (e : RedisError) → At P w → At P (opening_failed (acted w act.Close) e)
+given_up_kept k w e h = opening_kept k (acted w act.Close) e (k.show w.conn.limit w.conn.requests w.conn.life w.conn.moved w.acts act.Close (λ n. refl) h)
+
 -- news
 --
 -- a function of the life that a connection has is looked at with any life of which the fact is true
 connected_kept : {P : Option ℕ → List Request → Life → List ℕ → List LinkAct → Type 0} → IsKept P → (w : Work) (life : Life) → P w.conn.limit w.conn.requests life w.conn.moved w.acts → At P w → At P (connected_at w life)
-connected_kept k w Dialing g h = k.show w.conn.limit w.conn.requests (Ready (new_link w.conn)) w.conn.moved w.acts (act.Created None) (λ n. refl) (k.connect w.conn.limit w.conn.requests w.conn.size w.conn.boundary w.conn.moved w.acts g)
+connected_kept {P = P} k w Dialing g h =
+    chosen (At P) (says_nothing (steps_of w.conn true)) (made_ready w (new_link w.conn)) (sets_up (all_fresh w) (new_link w.conn) true)
+    (λ t. k.show w.conn.limit w.conn.requests (Ready (new_link w.conn)) w.conn.moved w.acts (act.Created None) (λ n. refl) (k.connect w.conn.limit w.conn.requests w.conn.size w.conn.boundary w.conn.moved w.acts g))
+    (λ f. k.set_up w.conn.limit w.conn.requests w.conn.size w.conn.boundary w.conn.moved w.acts (setup_queued (steps_of w.conn true) true) true g)
+connected_kept k w (SettingUp l with_user) g h = h
 connected_kept k w (Ready l) g h = h
 connected_kept k w (Ended e) g h = h
 
 -- the connect is refused
 refused_kept : {P : Option ℕ → List Request → Life → List ℕ → List LinkAct → Type 0} → IsKept P → (w : Work) (f : FaultKind) (life : Life) → At P w → At P (refused_at w f life)
 refused_kept k w f Dialing h = opening_kept k w (error.Io f) h
+refused_kept k w f (SettingUp l with_user) h = h
 refused_kept k w f (Ready l) h = h
 refused_kept k w f (Ended e) h = h
 
 -- the time to connect is over
 overdue_kept : {P : Option ℕ → List Request → Life → List ℕ → List LinkAct → Type 0} → IsKept P → (w : Work) (life : Life) → At P w → At P (overdue_at w life)
-overdue_kept k w Dialing h = opening_kept k (acted w act.Close) (error.Io kinds.TimedOut) (k.show w.conn.limit w.conn.requests w.conn.life w.conn.moved w.acts act.Close (λ n. refl) h)
+overdue_kept k w Dialing h = given_up_kept k w (error.Io kinds.TimedOut) h
+overdue_kept k w (SettingUp l with_user) h = given_up_kept k w (error.Io kinds.TimedOut) h
 overdue_kept k w (Ready l) h = h
 overdue_kept k w (Ended e) h = h
 
@@ -196,31 +228,50 @@ overdue_kept k w (Ended e) h = h
 taken_kept : {P : Option ℕ → List Request → Life → List ℕ → List LinkAct → Type 0} → IsKept P → (w : Work) (count : ℕ) (life : Life) → P w.conn.limit w.conn.requests life w.conn.moved w.acts → At P w → At P (taken_at w count life)
 taken_kept k w count (Ready l) g h = k.write w.conn.limit w.conn.requests l w.conn.moved w.acts count g
 taken_kept k w count Dialing g h = h
+taken_kept k w count (SettingUp l with_user) g h = k.go_on w.conn.limit w.conn.requests l (wrote_of l count) with_user w.conn.moved w.acts (omega arith) g
 taken_kept k w count (Ended e) g h = h
 
 -- a fault
 failed_kept : {P : Option ℕ → List Request → Life → List ℕ → List LinkAct → Type 0} → IsKept P → (w : Work) (f : LinkFault) (life : Life) → At P w → At P (failed_at w f life)
 failed_kept k w f (Ready l) h = ended_kept k w (faulted (record { link = l; out = [] }) f).out h
 failed_kept k w f Dialing h = h
+failed_kept k w f (SettingUp l with_user) h = given_up_kept k w error.Closed h
 failed_kept k w f (Ended e) h = h
+
+-- bytes that begin no value
+broken_kept : {P : Option ℕ → List Request → Life → List ℕ → List LinkAct → Type 0} → IsKept P → (b : Bool) (w : Work) → At P w → At P (broken_at b w)
+broken_kept {P = P} k b w h = chosen (At P) b (failed_at w fault.Parse w.conn.life) w (λ t. failed_kept k w fault.Parse w.conn.life h) (λ f. h)
 
 -- what the link settled by bytes
 read_kept : {P : Option ℕ → List Request → Life → List ℕ → List LinkAct → Type 0} → IsKept P → (w : Work) (s : Settling) → P w.conn.limit w.conn.requests (Ready s.link) w.conn.moved w.acts → At P (read_to w s)
-read_kept {P = P} k w s h =
-    let e = settled_each (with_link w s.link) s.out in
-    let g = settled_kept k (with_link w s.link) s.out h in
-    chosen (At P) s.link.broken (failed_at e fault.Parse e.conn.life) e (λ t. failed_kept k e fault.Parse e.conn.life g) (λ f. g)
+read_kept k w s h = broken_kept k s.link.broken (settled_each (with_link w s.link) s.out) (settled_kept k (with_link w s.link) s.out h)
+
+-- the setup is answered
+set_up_by_kept : {P : Option ℕ → List Request → Life → List ℕ → List LinkAct → Type 0} → IsKept P → (w : Work) (l m : LinkState) (with_user : Bool) (what : SetupResult) → count_on m + 1 ≤ count_on l → P w.conn.limit w.conn.requests (SettingUp l with_user) w.conn.moved w.acts → At P w → At P (set_up_by w m what)
+set_up_by_kept k w l m with_user result.Ready few g h = k.show w.conn.limit w.conn.requests (Ready m) w.conn.moved w.acts (act.Created None) (λ n. refl) (k.ready w.conn.limit w.conn.requests l m with_user w.conn.moved w.acts few g)
+set_up_by_kept k w l m with_user result.RepeatWithoutUser few g h = k.repeat w.conn.limit w.conn.requests l m (setup_queued (steps_of w.conn false) false) with_user w.conn.moved w.acts few g
+set_up_by_kept k w l m with_user (result.Failed e) few g h = given_up_kept k w e h
+set_up_by_kept k w l m with_user result.NoMemory few g h = h
+
+-- if it is
+answered_setup_kept : {P : Option ℕ → List Request → Life → List ℕ → List LinkAct → Type 0} → IsKept P → (w : Work) (l m : LinkState) (with_user : Bool) (out : List Settled) → count_on m + length out ≤ count_on l → P w.conn.limit w.conn.requests (SettingUp l with_user) w.conn.moved w.acts → At P w → At P (answered_setup w m with_user out)
+answered_setup_kept k w l m with_user [] few g h = k.go_on w.conn.limit w.conn.requests l m with_user w.conn.moved w.acts (omega (arith, few)) g
+answered_setup_kept k w l m with_user (s ∷ ss) few g h = set_up_by_kept k w l m with_user (judged_by (steps_of w.conn with_user) s.verdict) (omega (arith, few)) g h
 
 -- bytes come
 came_kept : {P : Option ℕ → List Request → Life → List ℕ → List LinkAct → Type 0} → IsKept P → (w : Work) (piece : List ℕ) (life : Life) → P w.conn.limit w.conn.requests life w.conn.moved w.acts → At P w → At P (read_at w piece life)
 came_kept k w piece (Ready l) g h = read_kept k w (piece_dealt (record { link = l; out = [] }) piece) (k.come w.conn.limit w.conn.requests l w.conn.moved w.acts piece g)
 came_kept k w piece Dialing g h = h
+came_kept k w piece (SettingUp l with_user) g h =
+    let s = piece_dealt (record { link = l; out = [] }) piece in
+    broken_kept k s.link.broken (answered_setup w s.link with_user s.out) (answered_setup_kept k w l s.link with_user s.out (count_came l piece) g h)
 came_kept k w piece (Ended e) g h = h
 
 -- the shutdown
 shut_kept : {P : Option ℕ → List Request → Life → List ℕ → List LinkAct → Type 0} → IsKept P → (w : Work) (life : Life) → At P w → At P (shut_at w life)
 shut_kept k w (Ready l) h = ended_kept k w (closed_all (record { link = l; out = [] })).out h
 shut_kept k w Dialing h = ended_kept k w [] h
+shut_kept k w (SettingUp l with_user) h = ended_kept k w [] h
 shut_kept k w (Ended e) h = h
 
 -- all news
@@ -243,11 +294,21 @@ shown_kept k w (s ∷ ss) h =
     let a = act.Start s.msg (name_at w.conn.requests s.id) s.need s.len in
     shown_kept k (acted w a) ss (k.show w.conn.limit w.conn.requests w.conn.life w.conn.moved w.acts a (λ n. refl) h)
 
+-- and so is that of a setup
+set_up_each_kept : {P : Option ℕ → List Request → Life → List ℕ → List LinkAct → Type 0} → IsKept P → (w : Work) (ss : List Started) → At P w → At P (set_up_each w ss)
+set_up_each_kept k w [] h = h
+set_up_each_kept k w (s ∷ ss) h =
+    let a = act.SetUp s.msg s.need s.len in
+    set_up_each_kept k (acted w a) ss (k.show w.conn.limit w.conn.requests w.conn.life w.conn.moved w.acts a (λ n. refl) h)
+
 -- messages start
 started_at_kept : {P : Option ℕ → List Request → Life → List ℕ → List LinkAct → Type 0} → IsKept P → (w : Work) (life : Life) → P w.conn.limit w.conn.requests life w.conn.moved w.acts → At P w → At P (started_at w life)
 started_at_kept k w (Ready l) g h =
     let s = started_all (record { link = l; out = [] }) in
     shown_kept k (with_link w s.link) s.out (k.start w.conn.limit w.conn.requests l w.conn.moved w.acts g)
+started_at_kept k w (SettingUp l with_user) g h =
+    let s = started_all (record { link = l; out = [] }) in
+    set_up_each_kept k (with_setup w s.link with_user) s.out (k.go_on w.conn.limit w.conn.requests l s.link with_user w.conn.moved w.acts (count_started l) g)
 started_at_kept k w Dialing g h = h
 started_at_kept k w (Ended e) g h = h
 
@@ -268,6 +329,7 @@ seated_at_kept k w q (Ready l) t g h =
     let ms = w.conn.moved in
     started_kept k (told_at_place d q) (told_kept k d q (k.place lim r l (ms ++ q.number ∷ []) w.acts q t (k.note lim r (Ready l) ms w.acts q.number t g)))
 seated_at_kept k w q Dialing t g h = started_kept k (told_at_place w q) (told_kept k w q h)
+seated_at_kept k w q (SettingUp l with_user) t g h = started_kept k (told_at_place w q) (told_kept k w q h)
 seated_at_kept k w q (Ended e) t g h = started_kept k (told_at_place w q) (told_kept k w q h)
 
 -- on the link that the connection has
@@ -339,6 +401,7 @@ admitted_at_kept k w q (Ready l) t h =
     seated_or_behind_kept k (let_in w q) q (let_in_admitted w q t) (let_in_kept k w q t h)
 admitted_at_kept k w q (Ended e) t h = answered_kept k w q.number (outcome.Fault e) h
 admitted_at_kept k w q Dialing t h = h
+admitted_at_kept k w q (SettingUp l with_user) t h = h
 
 -- and any other stays
 pub admitted_kept : {P : Option ℕ → List Request → Life → List ℕ → List LinkAct → Type 0} → IsKept P → (w : Work) (q : Waiting) → At P w → At P (admitted w q)
@@ -363,6 +426,10 @@ written_at_kept : {P : Option ℕ → List Request → Life → List ℕ → Lis
 written_at_kept {P = P} k w (Ready l) g h =
     chosen (At P) (can_offer l.outbox) _ w
     (λ t. k.show w.conn.limit w.conn.requests (Ready (offered_of l)) w.conn.moved w.acts (act.Write l.outbox.unwritten) (λ n. refl) (k.offer w.conn.limit w.conn.requests l w.conn.moved w.acts g))
+    (λ f. h)
+written_at_kept {P = P} k w (SettingUp l with_user) g h =
+    chosen (At P) (can_offer l.outbox) _ w
+    (λ t. k.show w.conn.limit w.conn.requests (SettingUp (offered_of l) with_user) w.conn.moved w.acts (act.Write l.outbox.unwritten) (λ n. refl) (k.go_on w.conn.limit w.conn.requests l (offered_of l) with_user w.conn.moved w.acts (omega arith) g))
     (λ f. h)
 written_at_kept k w Dialing g h = h
 written_at_kept k w (Ended e) g h = h
@@ -434,6 +501,7 @@ late_kept k t (Some (Some p)) h = timed_out_kept k (work_of t) p.number h
 pub fired_kept : {P : Option ℕ → List Request → Life → List ℕ → List LinkAct → Type 0} → IsKept P → (t : Turning) (what : Option Purpose) → At P (work_of t) → At P (work_of (fired_by t what))
 fired_kept k t None h = h
 fired_kept k t (Some (purpose.Connect l)) h = h
+fired_kept k t (Some (purpose.Response owner.Setup)) h = h
 fired_kept k t (Some (purpose.Response (owner.Try n round))) h = late_kept k t (slice_get t.core.table n) h
 
 -- a submission is handed in

@@ -1,3 +1,4 @@
+pub mod Counts
 pub mod Lists
 pub mod Requests
 pub mod Names
@@ -13,4 +14,5 @@ pub mod Ready
 pub mod Shown
 pub mod Outcomes
 pub mod Cancels
+pub mod Free
 pub mod Started

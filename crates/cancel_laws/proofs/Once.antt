@@ -12,13 +12,14 @@ use Rattle.link_core.specs.Link.{LinkState, Starting, Settling, entry_of, holds_
 use Rattle.link_core.specs.Row.{silenced}
 use Rattle.link_core.specs.Waiting.{is_wanted, without}
 use Rattle.mux_conn.specs.declared.life.Life.{Life}
-use Rattle.mux_conn.specs.declared.life.Life.TheVariants.{Dialing, Ready, Ended}
+use Rattle.mux_conn.specs.declared.life.Life.TheVariants.{Dialing, SettingUp, Ready, Ended}
 use Rattle.mux_conn.specs.declared.request.Progress.{Progress}
 use Rattle.mux_conn.specs.declared.request.Progress.TheVariants as progress
 use Rattle.mux_conn.specs.declared.request.Request.{Request}
 use Rattle.mux_conn.specs.Requests.{is_waiting, is_admitted, is_waiting_at, is_admitted_at, permits_at, with_permits, at_progress}
 use Rattle.mux_conn.specs.Effects.{cancelled_in}
 use Rattle.mux_conn.specs.Passes.{message_of}
+use Rattle.cancel_laws.proofs.Counts.{count_on, count_push}
 use Rattle.cancel_laws.proofs.Links.{NoneWanted}
 use Rattle.cancel_laws.proofs.Kept.{IsKept, IsKeptThere, There, kept_there, CanAsk}
 
@@ -43,6 +44,7 @@ places p (q ∷ qs) = one p q.id + places p qs
 -- and on a link
 abbrev pub all_of : ℕ → Life → ℕ
 all_of p Dialing = 0
+all_of p (SettingUp l with_user) = 0
 all_of p (Ready l) = times p l.row + places p l.queue
 all_of p (Ended e) = 0
 
@@ -62,9 +64,17 @@ share_of (Some r) = share_by r.progress
 abbrev pub share : List Request → ℕ → ℕ
 share r p = share_of (slice_get r p)
 
+-- a link that is set up has one message at most, that of the setup
+abbrev pub HasOne : Life → Type 0
+HasOne Dialing = Unit {0}
+HasOne (SettingUp l with_user) = count_on l ≤ 1
+HasOne (Ready l) = Unit {0}
+HasOne (Ended e) = Unit {0}
+
 -- request p has no more messages on its link than it may have
 pub record IsOnce (p : ℕ) (r : List Request) (life : Life) : Type 0 where
   pub within : all_of p life ≤ share r p
+  pub alone : HasOne life
 
 -- progress
 --
@@ -160,8 +170,26 @@ starts_same p s (q ∷ qs) =
 -- a cancel brings no message
 cancelled_once : (p q : ℕ) (life : Life) → all_of p (cancelled_in life q) ≤ all_of p life
 cancelled_once p q Dialing = omega arith
+cancelled_once p q (SettingUp l with_user) = omega arith
 cancelled_once p q (Ready l) = omega (arith, times_silenced p q l.row, places_without p q l.queue)
 cancelled_once p q (Ended e) = omega arith
+
+-- it changes nothing of a setup
+cancelled_alone : (q : ℕ) (life : Life) → HasOne life → HasOne (cancelled_in life q)
+cancelled_alone q Dialing h = h
+cancelled_alone q (SettingUp l with_user) h = h
+cancelled_alone q (Ready l) h = tt
+cancelled_alone q (Ended e) h = h
+
+-- no message stands in a row more often than the row is long
+times_count : (p : ℕ) (row : List Entry) → times p row ≤ length row
+times_count p [] = omega arith
+times_count p (e ∷ es) = omega (arith, times_count p es, one_at_most p e.id)
+
+-- nor in a queue
+places_count : (p : ℕ) (queue : List Queued) → places p queue ≤ length queue
+places_count p [] = omega arith
+places_count p (q ∷ qs) = omega (arith, places_count p qs, one_at_most p q.id)
 
 -- a request that takes its place brings one, and may have it
 placed_once : (p q : ℕ) (r : List Request) (before : ℕ) → is_admitted_at r q ≡ true → before ≤ share r p → before + one p q ≤ share (at_progress r q progress.Placed) p
@@ -176,17 +204,21 @@ placed_once p q r before t l =
 -- each single change keeps that
 once_there : (p : ℕ) → IsKeptThere (IsOnce p)
 once_there p = record {
-  answer = λ r life q h. record { within = omega (arith, h.within, share_set r p q progress.Closed 0 refl) };
-  hush = λ r life q h. record { within = omega (arith, h.within, cancelled_once p q life) };
-  connect = λ r size bound h. record { within = omega arith };
-  admit = λ r life q count t h. record { within = omega (arith, h.within, share_admit r p q count t) };
-  place = λ r l q t h. record { within = omega (arith, placed_once p q.number r (all_of p (Ready l)) t h.within, places_push p l.queue (message_of q)) };
-  start = λ r l h. record { within = omega (arith, h.within, starts_same p (record { link = l; out = [] }) l.queue) };
-  offer = λ r l h. record { within = h.within };
-  write = λ r l k h. record { within = h.within };
+  answer = λ r life q h. record { within = omega (arith, h.within, share_set r p q progress.Closed 0 refl); alone = h.alone };
+  hush = λ r life q h. record { within = omega (arith, h.within, cancelled_once p q life); alone = cancelled_alone q life h.alone };
+  connect = λ r size bound h. record { within = omega arith; alone = tt };
+  set_up = λ r size bound q with_user h. record { within = omega arith; alone = omega arith };
+  go_on = λ r l k with_user few h. record { within = omega arith; alone = omega (arith, few, h.alone) };
+  repeat = λ r l k q with_user few h. record { within = omega arith; alone = omega (arith, few, h.alone, count_push k q) };
+  ready = λ r l k with_user few h. record { within = omega (arith, few, h.alone, times_count p k.row, places_count p k.queue); alone = tt };
+  admit = λ r life q count t h. record { within = omega (arith, h.within, share_admit r p q count t); alone = h.alone };
+  place = λ r l q t h. record { within = omega (arith, placed_once p q.number r (all_of p (Ready l)) t h.within, places_push p l.queue (message_of q)); alone = tt };
+  start = λ r l h. record { within = omega (arith, h.within, starts_same p (record { link = l; out = [] }) l.queue); alone = tt };
+  offer = λ r l h. record { within = h.within; alone = tt };
+  write = λ r l k h. record { within = h.within; alone = tt };
   come = λ r l piece h. chosen (λ (x : Settling). IsOnce p r (Ready x.link)) l.broken _ _ (λ t. h)
-      (λ f. record { within = omega (arith, h.within, times_dealt p (record { row = l.row; out = [] }) (items (l.rest ++ piece))) });
-  end = λ r life e h. record { within = omega arith };
+      (λ f. record { within = omega (arith, h.within, times_dealt p (record { row = l.row; out = [] }) (items (l.rest ++ piece))); alone = tt });
+  end = λ r life e h. record { within = omega arith; alone = tt };
 }
 
 -- so each part of a turn does
@@ -196,7 +228,7 @@ once_kept p = kept_there (once_there p)
 -- and one more submission does
 pub once_asks : (p m : ℕ) → CanAsk (There (IsOnce p)) m
 once_asks p m = record {
-  ask = λ lim r life ms xs h. record { within = omega (arith, h.within, share_push r p (record { name = m; progress = progress.Waiting; permits = 0 })) };
+  ask = λ lim r life ms xs h. record { within = omega (arith, h.within, share_push r p (record { name = m; progress = progress.Waiting; permits = 0 })); alone = h.alone };
   refuse = λ lim r life ms xs o h. h;
 }
 

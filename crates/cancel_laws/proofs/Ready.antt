@@ -37,6 +37,10 @@ names_there ns = record {
   answer = λ r life q h. names_stay r q progress.Closed 0 ∙ h;
   hush = λ r life q h. h;
   connect = λ r size bound h. h;
+  set_up = λ r size bound q with_user h. h;
+  go_on = λ r l k with_user few h. h;
+  repeat = λ r l k q with_user few h. h;
+  ready = λ r l k with_user few h. h;
   admit = λ r life q count t h. names_stay r q progress.Admitted count ∙ h;
   place = λ r l q t h. names_stay r q.number progress.Placed (permits_at r q.number) ∙ h;
   start = λ r l h. h;
@@ -82,6 +86,7 @@ table_late t (Some (Some p)) = refl
 table_fired : (t : Turning) (what : Option Purpose) → (fired_by t what).core.table ≡ t.core.table
 table_fired t None = refl
 table_fired t (Some (purpose.Connect l)) = refl
+table_fired t (Some (purpose.Response owner.Setup)) = refl
 table_fired t (Some (purpose.Response (owner.Try n round))) = table_late t (slice_get t.core.table n)
 
 -- so both do
@@ -146,7 +151,7 @@ opening_ready config word = record {
     calm = refl;
     fresh = refl;
   };
-  once = λ p. record { within = omega arith };
+  once = λ p. record { within = omega arith; alone = tt };
   named = record { to = λ n p e. cc; back = λ q n e. cc };
 }
 

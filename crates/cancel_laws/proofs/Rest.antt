@@ -11,12 +11,12 @@ use Rattle.link_core.specs.Outbox.{can_offer}
 use Rattle.mux_conn.specs.declared.act.LinkAct.TheVariants as act
 use Rattle.mux_conn.specs.declared.connection.MultiplexedConnection.{MultiplexedConnection}
 use Rattle.mux_conn.specs.declared.life.Life.{Life}
-use Rattle.mux_conn.specs.declared.life.Life.TheVariants.{Dialing, Ready, Ended}
+use Rattle.mux_conn.specs.declared.life.Life.TheVariants.{Dialing, SettingUp, Ready, Ended}
 use Rattle.mux_conn.specs.declared.request.Waiting.{Waiting}
-use Rattle.mux_conn.specs.Connection.{Work, acted, at_life, with_link, has_no_permit, admits_none_at, admits_none, has_room}
+use Rattle.mux_conn.specs.Connection.{Work, acted, at_life, with_link, with_setup, has_no_permit, admits_none_at, admits_none, has_room}
 use Rattle.mux_conn.specs.Requests.{is_open_at, is_waiting_at, is_admitted_at, name_at, closed, answered}
 use Rattle.mux_conn.specs.Effects.{cancelled_in, left}
-use Rattle.mux_conn.specs.Passes.{shown_each, starts_with, started_at, started, placed_at, told_at_place, seated, still_admitted, moved_up, moved_up_each, moved_up_all, put_behind, seated_or_behind, let_in, admitted_at, admitted, still_waiting, admitted_each, admitted_all, passed}
+use Rattle.mux_conn.specs.Passes.{shown_each, starts_with, set_up_each, sets_up_with, started_at, started, placed_at, told_at_place, seated, still_admitted, moved_up, moved_up_each, moved_up_all, put_behind, seated_or_behind, let_in, admitted_at, admitted, still_waiting, admitted_each, admitted_all, passed}
 use Rattle.mux_conn.specs.Turn.{written_at, written, moved_wait, fresh_wait, wait_shown, moved_each_shown, moved_shown, fresh_each_shown, fresh_shown, waits_shown, flushed}
 use Rattle.cancel_laws.proofs.Links.{none_leaves}
 use Rattle.cancel_laws.proofs.Kept.{let_in_conn}
@@ -24,15 +24,21 @@ use Rattle.cancel_laws.proofs.Gone.{NoneQueued}
 
 -- nothing left to do
 --
--- the queue of a link that is up is empty, or it is held back
+-- the queue of a link is empty, or it is held back
+abbrev pub IsThrough : LinkState → Type 0
+IsThrough l = (l.queue ≡ []) ⊎ (holds_back l ≡ true)
+
+-- so is a link that is up
 abbrev pub HasStartedAll : Life → Type 0
 HasStartedAll Dialing = Unit {0}
-HasStartedAll (Ready l) = (l.queue ≡ []) ⊎ (holds_back l ≡ true)
+HasStartedAll (SettingUp l with_user) = IsThrough l
+HasStartedAll (Ready l) = IsThrough l
 HasStartedAll (Ended e) = Unit {0}
 
 -- all its bytes are offered, or an offer is unanswered
 abbrev pub HasOffered : Life → Type 0
 HasOffered Dialing = Unit {0}
+HasOffered (SettingUp l with_user) = can_offer l.outbox ≡ false
 HasOffered (Ready l) = can_offer l.outbox ≡ false
 HasOffered (Ended e) = Unit {0}
 
@@ -60,20 +66,28 @@ pub record IsIdle (c : MultiplexedConnection) : Type 0 where
 -- how a turn comes to that
 --
 -- messages start until the queue is empty or the link is held back
-queue_starts : (s : Starting) (queue : List Queued) → HasStartedAll (Ready (started_each s queue).link)
+queue_starts : (s : Starting) (queue : List Queued) → IsThrough (started_each s queue).link
 queue_starts s [] = inl refl
-queue_starts s (q ∷ qs) = chosen (λ (x : Starting). HasStartedAll (Ready x.link)) (holds_back s.link) _ _ (λ t. inr t) (λ f. queue_starts (started_one s q) qs)
+queue_starts s (q ∷ qs) = chosen (λ (x : Starting). IsThrough x.link) (holds_back s.link) _ _ (λ t. inr t) (λ f. queue_starts (started_one s q) qs)
 
 -- what is shown changes no connection
-conn_shown : (w : Work) (ss : List Started) → (shown_each w ss).conn ≡ w.conn
+pub conn_shown : (w : Work) (ss : List Started) → (shown_each w ss).conn ≡ w.conn
 conn_shown w [] = refl
 conn_shown w (s ∷ ss) = conn_shown (acted w (act.Start s.msg (name_at w.conn.requests s.id) s.need s.len)) ss
+
+-- nor does the start of a setup
+setup_shown : (w : Work) (ss : List Started) → (set_up_each w ss).conn ≡ w.conn
+setup_shown w [] = refl
+setup_shown w (s ∷ ss) = setup_shown (acted w (act.SetUp s.msg s.need s.len)) ss
 
 -- a function of the life that a connection has is looked at with a life that is known to be it
 started_from : (w : Work) (life : Life) → w.conn.life ≡ life → HasStartedAll (started_at w life).conn.life
 started_from w (Ready l) e =
     let s = started_all (record { link = l; out = [] }) in
     subst (λ (c : MultiplexedConnection). HasStartedAll c.life) (sym (conn_shown (with_link w s.link) s.out)) (queue_starts (record { link = l; out = [] }) l.queue)
+started_from w (SettingUp l with_user) e =
+    let s = started_all (record { link = l; out = [] }) in
+    subst (λ (c : MultiplexedConnection). HasStartedAll c.life) (sym (setup_shown (with_setup w s.link with_user) s.out)) (queue_starts (record { link = l; out = [] }) l.queue)
 started_from w Dialing e = subst HasStartedAll (sym e) tt
 started_from w (Ended x) e = subst HasStartedAll (sym e) tt
 
@@ -86,12 +100,16 @@ admitted_started : (w : Work) (life : Life) → (started_at w life).conn.admitte
 admitted_started w (Ready l) =
     let s = started_all (record { link = l; out = [] }) in
     ap (λ (c : MultiplexedConnection). c.admitted) (conn_shown (with_link w s.link) s.out)
+admitted_started w (SettingUp l with_user) =
+    let s = started_all (record { link = l; out = [] }) in
+    ap (λ (c : MultiplexedConnection). c.admitted) (setup_shown (with_setup w s.link with_user) s.out)
 admitted_started w Dialing = refl
 admitted_started w (Ended e) = refl
 
 -- and so does a request that takes its place
 admitted_placed : (w : Work) (q : Waiting) (life : Life) → (placed_at w q life).conn.admitted ≡ w.conn.admitted
 admitted_placed w q (Ready l) = refl
+admitted_placed w q (SettingUp l with_user) = refl
 admitted_placed w q Dialing = refl
 admitted_placed w q (Ended e) = refl
 
@@ -136,6 +154,7 @@ one_admitted_at : (w : Work) (q : Waiting) (life : Life) → IsSeated w.conn →
 one_admitted_at w q (Ready l) h = one_or_behind (let_in w q) q (subst IsSeated (sym (let_in_conn w q)) (record { queue = h.queue; admitted = h.admitted }))
 one_admitted_at w q (Ended e) h =
     chosen (λ (x : Work). IsSeated x.conn) (is_open_at w.conn.requests q.number) _ w (λ t. record { queue = h.queue; admitted = h.admitted }) (λ f. h)
+one_admitted_at w q (SettingUp l with_user) h = h
 one_admitted_at w q Dialing h = h
 
 -- and any other stays
@@ -163,22 +182,33 @@ offered_none : (b : Bool) → (not b && b) ≡ false
 offered_none true = refl
 offered_none false = refl
 
+-- nor to start, where there was nothing to start
+queue_offered : (l : LinkState) → IsThrough l → IsThrough (offered_of l)
+queue_offered l (inl none) = inl none
+queue_offered l (inr held) = inr held
+
 -- bytes are offered
 written_from : (w : Work) (life : Life) → w.conn.life ≡ life → IsMoved w.conn → IsWritten (written_at w life).conn
 written_from w (Ready l) e h =
     chosen (λ (x : Work). IsWritten x.conn) (can_offer l.outbox) _ w
     (λ t. record {
       moved = record {
-        seated = record { queue = queue_offered (subst HasStartedAll e h.seated.queue); admitted = λ u. h.seated.admitted (ap has_room e ∙ u) };
+        seated = record { queue = queue_offered l (subst HasStartedAll e h.seated.queue); admitted = λ u. h.seated.admitted (ap has_room e ∙ u) };
         waiting = λ f. h.waiting (ap (λ (x : Life). admits_none_at x (has_no_permit w.conn.limit w.conn.free)) e ∙ f);
       };
       offered = offered_none (length l.outbox.unwritten == 0);
     })
     (λ f. record { moved = h; offered = subst HasOffered (sym e) f })
-  where
-    queue_offered : HasStartedAll (Ready l) → HasStartedAll (Ready (offered_of l))
-    queue_offered (inl none) = inl none
-    queue_offered (inr held) = inr held
+written_from w (SettingUp l with_user) e h =
+    chosen (λ (x : Work). IsWritten x.conn) (can_offer l.outbox) _ w
+    (λ t. record {
+      moved = record {
+        seated = record { queue = queue_offered l (subst HasStartedAll e h.seated.queue); admitted = λ u. h.seated.admitted (ap has_room e ∙ u) };
+        waiting = λ f. h.waiting (ap (λ (x : Life). admits_none_at x (has_no_permit w.conn.limit w.conn.free)) e ∙ f);
+      };
+      offered = offered_none (length l.outbox.unwritten == 0);
+    })
+    (λ f. record { moved = h; offered = subst HasOffered (sym e) f })
 written_from w Dialing e h = record { moved = h; offered = subst HasOffered (sym e) tt }
 written_from w (Ended x) e h = record { moved = h; offered = subst HasOffered (sym e) tt }
 
@@ -227,20 +257,21 @@ moves_idle w =
 -- what stays where nothing is left to do
 --
 -- no message starts
-none_starts : (l : LinkState) (queue : List Queued) → l.queue ≡ queue → HasStartedAll (Ready l) → started_each (record { link = l; out = [] }) queue ≡ record { link = l; out = [] }
+none_starts : (l : LinkState) (queue : List Queued) → l.queue ≡ queue → IsThrough l → started_each (record { link = l; out = [] }) queue ≡ record { link = l; out = [] }
 none_starts l [] e h = ap (λ (queue : List Queued). record { link = record l { queue = queue }; out = [] }) (sym e)
 none_starts l (q ∷ qs) e (inl none) = cc
 none_starts l (q ∷ qs) e (inr held) =
     taken_if (holds_back l) _ _ held ∙ ap (λ (queue : List Queued). record { link = record l { queue = queue }; out = [] }) (sym e)
 
 -- on any link
-started_stays : (w : Work) (life : Life) → w.conn.life ≡ life → HasStartedAll life → started_at w life ≡ w
+pub started_stays : (w : Work) (life : Life) → w.conn.life ≡ life → HasStartedAll life → started_at w life ≡ w
 started_stays w (Ready l) e h = ap (starts_with w) (none_starts l l.queue refl h) ∙ ap (at_life w) (sym e)
+started_stays w (SettingUp l with_user) e h = ap (sets_up_with w with_user) (none_starts l l.queue refl h) ∙ ap (at_life w) (sym e)
 started_stays w Dialing e h = refl
 started_stays w (Ended x) e h = refl
 
 -- no request takes a place
-none_moved_up : (w : Work) (qs : List Waiting) → (has_room w.conn.life ≡ true → qs ≡ []) → moved_up_each w qs ≡ still_admitted w qs
+pub none_moved_up : (w : Work) (qs : List Waiting) → (has_room w.conn.life ≡ true → qs ≡ []) → moved_up_each w qs ≡ still_admitted w qs
 none_moved_up w [] h = refl
 none_moved_up w (q ∷ qs) h = left_if (has_room w.conn.life) _ _ (none_fits (has_room w.conn.life) (λ t. cc (h t)))
   where
@@ -266,6 +297,7 @@ passed_stays w h =
 -- no bytes are offered
 written_stays : (w : Work) (life : Life) → HasOffered life → written_at w life ≡ w
 written_stays w (Ready l) h = left_if (can_offer l.outbox) _ w h
+written_stays w (SettingUp l with_user) h = left_if (can_offer l.outbox) _ w h
 written_stays w Dialing h = refl
 written_stays w (Ended e) h = refl
 
@@ -304,22 +336,26 @@ left_idle c p unlimited none h =
   where
     queue_left : (life : Life) → NoneQueued p life → HasStartedAll life → HasStartedAll (cancelled_in life p)
     queue_left Dialing n e = e
+    queue_left (SettingUp l with_user) n e = e
     queue_left (Ready l) n (inl e) = inl (none_leaves p l.queue n ∙ e)
     queue_left (Ready l) n (inr held) = inr held
     queue_left (Ended x) n e = e
 
     room_left : (life : Life) → NoneQueued p life → has_room (cancelled_in life p) ≡ has_room life
     room_left Dialing n = refl
+    room_left (SettingUp l with_user) n = refl
     room_left (Ready l) n = ap (λ (queue : List Queued). has_room (Ready (record l { queue = queue }))) (none_leaves p l.queue n)
     room_left (Ended x) n = refl
 
     stuck_left : (life : Life) (lim : Option ℕ) (j k : ℕ) → lim ≡ None → admits_none_at life (has_no_permit lim j) ≡ admits_none_at (cancelled_in life p) (has_no_permit lim k)
     stuck_left Dialing lim j k e = refl
+    stuck_left (SettingUp l with_user) lim j k e = refl
     stuck_left (Ready l) None j k e = refl
     stuck_left (Ready l) (Some most) j k e = cc
     stuck_left (Ended x) lim j k e = refl
 
     offered_left : (life : Life) → HasOffered life → HasOffered (cancelled_in life p)
     offered_left Dialing e = e
+    offered_left (SettingUp l with_user) e = e
     offered_left (Ready l) e = e
     offered_left (Ended x) e = e

@@ -47,6 +47,7 @@ but_for_shown n l count (act.Close ∷ xs) = ap (λ (ys : List Action). action.C
 but_for_shown n l count (act.Write bytes ∷ xs) = ap (λ (ys : List Action). action.Write l bytes ∷ ys) (but_for_shown n l (count + 0) xs)
 but_for_shown n l count (act.Wait m kind ∷ xs) = ap (λ (ys : List Action). shown l count (act.Wait m kind) ∷ ys) (but_for_shown n l (count + 0) xs)
 but_for_shown n l count (act.Start message m need len ∷ xs) = ap (λ (ys : List Action). shown l count (act.Start message m need len) ∷ ys) (but_for_shown n l (count + 0) xs)
+but_for_shown n l count (act.SetUp message need len ∷ xs) = ap (λ (ys : List Action). shown l count (act.SetUp message need len) ∷ ys) (but_for_shown n l (count + 0) xs)
 but_for_shown n l count (act.Outcome m o ∷ xs) = outcome_shown n l count m o xs (m == n) (but_for_shown n l (count + 0) xs)
 
 -- no act shows the number of a turn
@@ -64,6 +65,7 @@ numberless l count (a ∷ xs) =
     one_numberless (act.Write bytes) = refl
     one_numberless (act.Wait m kind) = refl
     one_numberless (act.Start message m need len) = refl
+    one_numberless (act.SetUp message need len) = refl
     one_numberless (act.Outcome m o) = refl
 
 -- alike sessions show the same

@@ -85,6 +85,7 @@ bare_late_by n p t (Some (Some q)) h = ap (with_work (bare_turning n p t)) (bare
 bare_fired : (n p : ℕ) (t : Turning) (what : Option Purpose) → At (IsAway n p) (work_of t) → bare_turning n p (fired_by t what) ≡ fired_by (bare_turning n p t) what
 bare_fired n p t None h = refl
 bare_fired n p t (Some (purpose.Connect l)) h = refl
+bare_fired n p t (Some (purpose.Response owner.Setup)) h = refl
 bare_fired n p t (Some (purpose.Response (owner.Try m round))) h = bare_late_by n p t (slice_get t.core.table m) h
 
 -- what an event is to the submissions
@@ -122,6 +123,7 @@ no_timer n act.Close more = refl
 no_timer n (act.Write bytes) more = refl
 no_timer n (act.Wait m kind) more = refl
 no_timer n (act.Start message m need len) more = refl
+no_timer n (act.SetUp message need len) more = refl
 no_timer n (act.Outcome m o) more = chosen (λ (xs : List LinkAct). timers_of (xs ++ more) ≡ timers_of more) (m == n) [] (act.Outcome m o ∷ []) (λ t. refl) (λ f. refl)
 
 -- so the timers of a turn are those of all other acts
@@ -174,6 +176,7 @@ more_requested n t (event.Fired m) l = more_fired (slice_get t.core.timers m)
     more_fired : (what : Option Purpose) → n < length (fired_by t what).core.table
     more_fired None = l
     more_fired (Some (purpose.Connect k)) = l
+    more_fired (Some (purpose.Response owner.Setup)) = l
     more_fired (Some (purpose.Response (owner.Try k round))) = more_late (slice_get t.core.table k)
 more_requested n t (event.Timeout ms) l = l
 more_requested n t (event.Wrote m count) l = l

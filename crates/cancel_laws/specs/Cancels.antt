@@ -1,5 +1,8 @@
 -- A history, and the same history with the cancel of a started request in it.
-use Rattle.std.specs.Prelude.{◌≡◌, ℕ, ◌+◌, List, [], ◌∷◌, ◌++◌, length, Some, slice_get}
+use Rattle.std.specs.Prelude.{◌≡◌, ℕ, ◌+◌, List, [], ◌∷◌, ◌++◌, length, true, false, Some, slice_get}
+use Rattle.connection_setup.specs.Setup.{setup}
+use Rattle.driver_model.specs.Config.{told_info}
+use Rattle.driver_model.specs.Setup.{says_nothing}
 use Rattle.driver_model.specs.declared.action.Action.{Action}
 use Rattle.driver_model.specs.declared.action.Action.TheVariants as action
 use Rattle.driver_model.specs.declared.action.Cause.TheVariants as cause
@@ -7,9 +10,10 @@ use Rattle.driver_model.specs.declared.config.Config.{Config}
 use Rattle.driver_model.specs.declared.event.Event.{Event}
 use Rattle.driver_model.specs.declared.event.EventKind.TheVariants as event
 use Rattle.driver_model.specs.declared.event.Submission.{Submission}
-use Rattle.link_core.specs.Link.{LinkState}
+use Rattle.link_core.specs.Link.{LinkState, is_full, holds_back}
 use Rattle.link_core.specs.Waiting.{without}
 use Rattle.mux_conn.specs.declared.life.Life.TheVariants.{Ready}
+use Rattle.mux_conn.specs.Connection.{has_no_permit}
 use Rattle.mux_conn.specs.declared.request.Pending.{Pending}
 use Rattle.mux_conn.specs.declared.request.Progress.TheVariants as progress
 use Rattle.mux_conn.specs.declared.request.Request.{Request}
@@ -29,9 +33,22 @@ connected_at word = record { word = word; kind = event.Connected first_link }
 abbrev pub handed_in_at : ℕ → Submission → Event
 handed_in_at word s = record { word = word; kind = event.Submit s }
 
+-- nothing is to be said to the server before the first request
+abbrev pub SaysNothing : Config → Type 0
+SaysNothing config = says_nothing (setup (told_info config) true) ≡ true
+
 -- where a session is in which the link's connect succeeded, and this submission was handed in after it
 abbrev pub handed_in_after_connect : Config → ℕ → ℕ → ℕ → Submission → Core
 handed_in_after_connect config word draw later s = state_after config word (connected_at draw ∷ handed_in_at later s ∷ [])
+
+-- the link is ready, nothing holds it back, its queue has room, a permit is free, and nothing was shut down
+pub record IsFree (core : Core) : Type 0 where
+  pub link : LinkState
+  pub ready : core.single.connection.life ≡ Ready link
+  pub goes : holds_back link ≡ false
+  pub room : is_full link ≡ false
+  pub permit : has_no_permit core.single.connection.limit core.single.connection.free ≡ false
+  pub unshut : core.shut ≡ false
 
 -- submission n is a request that is neither answered nor cancelled; it has had its place, and its message has left the
 -- queue of the link, which is up

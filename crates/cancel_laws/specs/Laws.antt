@@ -1,5 +1,5 @@
 -- The laws of cancels, each as one statement. They speak of a history behind which submission n has started and is open.
-use Rattle.std.specs.Prelude.{◌≡◌, ◌≢◌, ℕ, false, List, ◌∷◌, ◌++◌, Option, None}
+use Rattle.std.specs.Prelude.{◌≡◌, ◌≢◌, ℕ, false, List, [], ◌∷◌, ◌++◌, length, Option, None}
 use Rattle.driver_model.specs.declared.config.Config.{Config}
 use Rattle.driver_model.specs.declared.event.Event.{Event}
 use Rattle.driver_model.specs.declared.event.Submission.{Submission}
@@ -7,7 +7,7 @@ use Rattle.driver_model.specs.declared.outcome.Outcome.{Outcome}
 use Rattle.mux_conn.specs.declared.life.Life.{Life}
 use Rattle.shared_session.specs.Replay.{IsSound, state_after, trace_of, outcomes_in, outcome_at, is_bad_after}
 use Rattle.cancel_laws.specs.ButFor.{hushed_life}
-use Rattle.cancel_laws.specs.Cancels.{cancel_of, handed_in_after_connect, HasStarted, GoesOn}
+use Rattle.cancel_laws.specs.Cancels.{cancel_of, handed_in_at, handed_in_after_connect, SaysNothing, IsFree, HasStarted, GoesOn}
 
 -- what submission m has come to behind a history, if it has come to anything
 abbrev pub outcome_after : Config → ℕ → List Event → ℕ → Option Outcome
@@ -63,9 +63,16 @@ SameAreBad =
     → HasStarted n (state_after config word before)
     → is_bad_after config word (before ++ after) e ≡ is_bad_after config word (before ++ cancel_of draw n ∷ after) e
 
--- a submission has started where it is the first that is handed in, after the link's connect, and nothing of the
--- configuration is refused
+-- a submission has started where it is handed in on a link that is ready, which nothing holds back, has room, and has a
+-- permit for it, whatever came before
+abbrev pub StartsOnFreeLink : Submission → Type 0
+StartsOnFreeLink s =
+    (config : Config) (word draw : ℕ) (before : List Event) → IsFree (state_after config word before)
+    → HasStarted (length (state_after config word before).table) (state_after config word (before ++ handed_in_at draw s ∷ []))
+
+-- a submission has started where it is the first that is handed in, after the link's connect, nothing of the configuration
+-- is refused, and nothing is to be said to the server before it
 abbrev pub StartsWhereHandedIn : Submission → Type 0
 StartsWhereHandedIn s =
-    (config : Config) (word draw later : ℕ) → IsSound config
+    (config : Config) (word draw later : ℕ) → IsSound config → SaysNothing config
     → HasStarted 0 (handed_in_after_connect config word draw later s)

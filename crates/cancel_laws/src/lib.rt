@@ -8,7 +8,7 @@ ghost use Rattle.driver_model.specs.declared.event.Submission.TheVariants.{Cmd, 
 ghost use Rattle.driver_model.specs.Request.{packed_bytes, is_reply_awaited};
 ghost use Rattle.cancel_laws.specs.Laws.{CancelIsGood, OthersKeepOutcomes, CancelledGetsNone};
 ghost use Rattle.cancel_laws.specs.Laws.{TurnsGoOn, ItemsGoTheSameWay, SameAreBad};
-ghost use Rattle.cancel_laws.specs.Laws.{StartsWhereHandedIn};
+ghost use Rattle.cancel_laws.specs.Laws.{StartsOnFreeLink, StartsWhereHandedIn};
 
 /// Does nothing. Its contract: where submission n has started and is open after a history, its
 /// cancel there is not bad, and n never gets an outcome. Where the configuration has no limit, the
@@ -26,10 +26,13 @@ pub fn a_cancel_changes_one_outcome()
 {}
 
 /// Does nothing. Its contract: such submissions exist. Any that has bytes, and whose reply is
-/// awaited, has started where it is handed in after the link's connect, and nothing of the
-/// configuration is refused: so a command, a pipeline whose first command has a name, and a
-/// transaction.
+/// awaited, has started where it is handed in on a link that is ready, which nothing holds back,
+/// whose queue has room, and which has a free permit. So it is after the link's connect, where
+/// nothing of the configuration is refused, and nothing is to be said to the server first: so a
+/// command, a pipeline whose first command has a name, and a transaction.
 pub fn a_submission_on_a_link_that_is_up_has_started()
+    ensures free { (s : Submission) → packed_bytes s ≢ [] → is_reply_awaited s ≡ true
+        → StartsOnFreeLink s }
     ensures any { (s : Submission) → packed_bytes s ≢ [] → is_reply_awaited s ≡ true
         → StartsWhereHandedIn s }
     ensures command { (name : List ℕ) (args : List (List ℕ))

@@ -11,7 +11,6 @@ use Rattle.driver_model.specs.declared.config.Config.{Config}
 use Rattle.driver_model.specs.declared.event.Event.{Event}
 use Rattle.driver_model.specs.declared.outcome.Outcome.{Outcome}
 use Rattle.driver_model.specs.declared.outcome.Outcome.TheVariants as outcome
-use Rattle.driver_model.specs.News.{news_of}
 use Rattle.legal_trace.specs.Ledger.{Ledger, End, Ending, by_shutdown, by_fault, by_opening, begins, offers, ends, failure_of, failure_in, is_set_up, setup_due}
 use Rattle.legal_trace.specs.Story.{Try, bytes_of, last_of}
 use Rattle.legal_trace.specs.Book.{Book, blank_book, book, entered, entered_each, lines_of, message_of}
@@ -199,7 +198,7 @@ each_told b shown (a ∷ more) all h told =
     (each_told (entered b a) (shown ++ shown_by a) more all.1 (stays_sound b a all.0 h) (step_told b shown a all.0 h told))
 
 -- so what a front shows is told in its book
-told_behind : (front : List Action) → AllStand blank_book front → ToldIn (creations front) (book front)
+pub told_behind : (front : List Action) → AllStand blank_book front → ToldIn (creations front) (book front)
 unfolding book
 told_behind front all = each_told blank_book [] front all blank_is_sound (record { counted = refl; once = omega arith; linked = λ c. absurd (c refl); quiet = λ c. absurd (c refl); caused = λ e is. absurd (cc is) })
 

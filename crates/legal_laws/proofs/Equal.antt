@@ -3,6 +3,7 @@ use Rattle.std.proofs.Common.{◌≡◌, ◌⊎◌, inl, inr, ℕ, ◌<◌, List
 use Rattle.driver_model.specs.declared.action.Action.{Action}
 use Rattle.driver_model.specs.declared.action.Action.TheVariants as action
 use Rattle.driver_model.specs.declared.action.Cause.{Cause}
+use Rattle.driver_model.specs.declared.action.Owner.TheVariants as owner
 use Rattle.driver_model.specs.declared.action.Purpose.{Purpose}
 use Rattle.driver_model.specs.declared.config.Config.{Config}
 use Rattle.driver_model.specs.declared.event.Event.{Event}
@@ -59,6 +60,8 @@ below_the_next b (action.Turn k c) t may e = absurd (is_some_cause c (causes t) 
 below_the_next b (action.Outcome n o) t may e = outcome_below b n o may
 below_the_next b (action.Timer u ms what) t may e = timer_below b u ms what may
 below_the_next b (action.Created x) t may e = let i = creation_first x in omega arith
+below_the_next b (action.Start l k owner.Setup count len) t may e = omega arith
+below_the_next b (action.Start l k (owner.Try n round) count len) t may e = omega arith
 below_the_next b _ t may e = omega arith
 
 -- where a turn is settled, nothing but a turn may stand

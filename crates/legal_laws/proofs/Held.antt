@@ -1,5 +1,5 @@
 -- What is done stays done while messages start, are written and wait.
-use Rattle.std.proofs.Common.{◌≡◌, ◌≢◌, ℕ, ◌==◌, true, List, [], ◌∷◌, Option, Some, None, refl, sym, ◌∙◌, ap, subst}
+use Rattle.std.proofs.Common.{◌≡◌, ◌≢◌, ℕ, ◌==◌, true, false, List, [], ◌∷◌, ◌++◌, Option, Some, None, refl, sym, ◌∙◌, ap, subst}
 use Rattle.containers.proofs.Choices.{chosen, eq_from, eq_test, if_true, not_both}
 use Rattle.driver_model.specs.declared.action.Action.{Action}
 use Rattle.driver_model.specs.declared.action.Action.TheVariants as action
@@ -38,7 +38,7 @@ new_message b l k n round count len may h =
     (new_is_owed_nothing (b.link l) (message_of b l (owner.Try n round)) k (shape (b.story n)) (h.few l) (h.up l up) may.next)
 
 -- its link is ready
-starts_ready : (b : Book) (l k n count len : ℕ) → MayStart b l k n count len → is_ready (b.link l) ≡ true
+pub starts_ready : (b : Book) (l k n count len : ℕ) → MayStart b l k n count len → is_ready (b.link l) ≡ true
 starts_ready b l k n count len may = subst (λ j. is_ready (b.link j) ≡ true) (sym may.on_its_link) (mover_is_ready b n (starter_moves b l k n count len may))
 
 -- so is the submission whose message starts

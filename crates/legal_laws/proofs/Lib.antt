@@ -27,3 +27,4 @@ pub mod Timers
 pub mod Rising
 pub mod Leaving
 pub mod Fired
+pub mod Opened

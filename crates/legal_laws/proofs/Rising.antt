@@ -6,7 +6,7 @@ use Rattle.driver_model.specs.declared.action.Action.TheVariants as action
 use Rattle.driver_model.specs.declared.action.Owner.TheVariants as owner
 use Rattle.driver_model.specs.declared.config.Config.{Config}
 use Rattle.driver_model.specs.declared.event.Event.{Event}
-use Rattle.legal_trace.specs.Ledger.{dials}
+use Rattle.legal_trace.specs.Ledger.{dials, is_ready}
 use Rattle.legal_trace.specs.Story.{is_told, is_unstarted, tried}
 use Rattle.legal_trace.specs.Book.{Book, blank_book, book, entered, entered_each}
 use Rattle.legal_trace.specs.Steps.{queue_size, is_held_back, permits_in, is_let_in, line_before, is_outside, is_due, next_step}

@@ -10,7 +10,7 @@ use Rattle.driver_model.specs.declared.event.EventKind.{EventKind}
 use Rattle.driver_model.specs.declared.event.EventKind.TheVariants as event
 use Rattle.driver_model.specs.declared.outcome.Outcome.{Outcome}
 use Rattle.driver_model.specs.Config.{buffer_size}
-use Rattle.legal_trace.specs.Ledger.{dials}
+use Rattle.legal_trace.specs.Ledger.{dials, is_ready}
 use Rattle.legal_trace.specs.Story.{Story, is_open, is_told, is_awaited, is_no_error, is_unstarted, handed_in, left, holds, clocked, fires, tried, waits, answered}
 use Rattle.legal_trace.specs.Book.{Book, blank_book, book, entered, entered_each, current, is_clock_of, after_event}
 use Rattle.legal_trace.specs.Steps.{configured, queue_size, permits_in, free_permits, is_let_in, is_in_line, line_before, is_outside}

@@ -1,6 +1,5 @@
 -- The setups that started on a link take what their commands are answered with.
-use Rattle.std.proofs.Common.{◌≡◌, ℕ, ◌-◌, ◌<◌, ◌==◌, Bool, true, false, List, [], ◌∷◌, ◌++◌, take, Some, None, refl, sym, ap, ◌∙◌, subst, arith}
-use Rattle.std.specs.Prelude.{slice_get}
+use Rattle.std.proofs.Common.{◌≡◌, ℕ, ◌-◌, ◌==◌, true, false, [], ◌++◌, take, refl, sym, ◌∙◌, subst, arith}
 use Rattle.containers.proofs.Choices.{chosen, eq_from, not_both}
 use Rattle.redis_error.specs.declared.redis_error.RedisError.TheVariants as error
 use Rattle.connection_info.specs.declared.address.RedisConnectionInfo.{RedisConnectionInfo}
@@ -9,7 +8,7 @@ use Rattle.driver_model.specs.declared.action.Action.TheVariants as action
 use Rattle.driver_model.specs.declared.action.Cause.TheVariants as cause
 use Rattle.driver_model.specs.declared.action.Owner.TheVariants as owner
 use Rattle.driver_model.specs.News.{News, silence, connected, refused, overdue, took, came, failed, shut, news_of}
-use Rattle.legal_trace.specs.Ledger.{Ledger, Start, asks, hears, begins, offers, ends, noted, with_news, refused_in, bytes_came, is_over, dials, setup_count}
+use Rattle.legal_trace.specs.Ledger.{Ledger, asks, hears, begins, offers, ends, noted, with_news, refused_in, bytes_came, is_over, dials}
 use Rattle.legal_trace.specs.Book.{Book, entered, info_in, message_of}
 use Rattle.legal_trace.specs.Legal.{MayStand}
 use Rattle.legal_trace.proofs.Ledgers.{mine_keeps, hears_past}

@@ -1,5 +1,5 @@
 -- What news make of a link whose opening is over.
-use Rattle.std.proofs.Common.{◌≡◌, ℕ, ◌≤◌, nat_le, true, false, List, Option, Some, None, refl, sym, ap, ◌∙◌}
+use Rattle.std.proofs.Common.{◌≡◌, ℕ, nat_le, List, Option, Some, None, sym, ap, ◌∙◌}
 use Rattle.containers.proofs.Choices.{by_test, le_from, not_le_from, not_both}
 use Rattle.redis_error.specs.declared.redis_error.RedisError.{RedisError}
 use Rattle.driver_model.specs.declared.action.Action.TheVariants as action

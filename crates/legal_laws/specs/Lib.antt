@@ -4,5 +4,6 @@ pub mod Next
 pub mod Segments
 pub mod Creation
 pub mod Starts
+pub mod Opened
 pub mod Permits
 pub mod Laws

@@ -9,6 +9,7 @@ ghost use Rattle.legal_laws.specs.Answers.{AnswersOnce, AnswersAll};
 ghost use Rattle.legal_laws.specs.Next.{OneIsNextBehind};
 ghost use Rattle.legal_laws.specs.Creation.{TellsOfOpening};
 ghost use Rattle.legal_laws.specs.Starts.{StartsRise, LeftStartNoMore};
+ghost use Rattle.legal_laws.specs.Opened.{StartsOpened};
 ghost use Rattle.legal_laws.specs.Laws.{OfEachLegal, LinksTakeInOrder, OneIsLegal, TurnsAreInOrder};
 ghost use Rattle.legal_laws.specs.Permits.{TimedOutStartNoMore, FiredStartNoMore};
 ghost use Rattle.legal_laws.specs.Laws.{EachStaysWithin, EachKeepsPermits, EachAsksTimers};
@@ -61,6 +62,13 @@ pub fn a_turn_has_five_segments()
 /// any shutdown; and none of these is left open.
 pub fn a_failed_opening_is_told()
     ensures { OfEachLegal TellsOfOpening }
+{}
+
+/// Does nothing. Its contract: in a legal trace no message of a submission starts on a link before
+/// the link is set up, which is once the replies to its setup are there and are well, where anything
+/// is to be said to the server; and by then the creation is shown, once, and without an error.
+pub fn nothing_starts_before_the_setup()
+    ensures { OfEachLegal StartsOpened }
 {}
 
 /// Does nothing. Its contract: in a legal trace a message starts only where no bytes of its link

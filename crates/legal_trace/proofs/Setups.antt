@@ -1,5 +1,5 @@
 -- Links that are set up: what makes them so, and that they stay so.
-use Rattle.std.proofs.Common.{◌≡◌, ◌≢◌, ◌⊎◌, inl, inr, ℕ, zero, suc, ◌+◌, ◌-◌, ◌<◌, ◌≤◌, ◌==◌, nat_le, min, if◌then◌else◌, Bool, true, false, ◌&&◌, not, List, [], ◌∷◌, ◌++◌, length, take, drop, Option, Some, None, refl, sym, ap, ◌∙◌, subst, arith, length-append, slice_get}
+use Rattle.std.proofs.Common.{◌≡◌, ◌≢◌, ◌⊎◌, inl, inr, ℕ, zero, suc, ◌+◌, ◌-◌, ◌<◌, ◌≤◌, ◌==◌, nat_le, if◌then◌else◌, Bool, true, false, ◌&&◌, not, List, [], ◌∷◌, ◌++◌, length, take, drop, Option, Some, None, refl, sym, ap, ◌∙◌, subst, arith, length-append, slice_get}
 use Rattle.std.proofs.lemmas.List.{take-append-le, drop-append-le, take_all, length_push}
 use Rattle.std.specs.Prelude.{ℤ, pos, negsuc}
 use Rattle.containers.proofs.Choices.{by_test, chosen, taken_if, left_if, le_from, le_test, not_le_test, not_both}
@@ -18,7 +18,6 @@ use Rattle.connection_setup.specs.Judgement.{judged}
 use Rattle.driver_model.specs.Config.{bare_info}
 use Rattle.driver_model.specs.Setup.{says_nothing, setup_bytes, setup_shape}
 use Rattle.driver_model.specs.News.{News, silence, connected, refused, overdue, took, came, failed, shut}
-use Rattle.driver_model.specs.declared.outcome.Shape.{Shape}
 use Rattle.driver_model.specs.Shape.{need_of}
 use Rattle.legal_trace.specs.Ledger.{Ledger, Start, Ending, is_over, reach, reached, cut, bytes_came, is_full, is_of_setup, setup_count, setup_steps, result_of, last_result, setup_result, is_well, is_set_up, error_in, repeats, setup_after, setup_due, setup_message, ending, ending_up, ending_by, ending_unready, ending_alive, ending_asked}
 use Rattle.legal_trace.proofs.Ledgers.{reach_alike, reach_more, takes_one}
@@ -230,7 +229,7 @@ pub record IsUndecided (x : Option SetupResult) : Type 0 where
   pub no_error : error_in x ≡ None
 
 -- what is repeated is so
-repeats_open : (x : Option SetupResult) → repeats x ≡ true → IsUndecided x
+pub repeats_open : (x : Option SetupResult) → repeats x ≡ true → IsUndecided x
 repeats_open None r = cc
 repeats_open (Some result.Ready) r = cc
 repeats_open (Some result.RepeatWithoutUser) r = record { unwell = refl; no_error = refl }
@@ -326,7 +325,9 @@ AreSetups l = SetupsOf l.info l.starts
 take_push : (ss : List Start) (k : ℕ) (s : Start) → slice_get ss k ≡ Some s → take (k + 1) ss ≡ take k ss ++ s ∷ []
 take_push [] k s e = cc
 take_push (x ∷ ss) zero s e = cc
-take_push (x ∷ ss) (suc k) s e = ap (λ (xs : List Start). x ∷ xs) (take_push ss k s e)
+take_push (x ∷ ss) (suc k) s e =
+    let one : suc k + 1 ≡ suc (k + 1) = omega arith in
+    ap (λ n. take n (x ∷ ss)) one ∙ ap (λ (xs : List Start). x ∷ xs) (take_push ss k s e)
 
 -- a start that a count tells is there
 start_at : (ss : List Start) (k : ℕ) → k < length ss → (s : Start) × (slice_get ss k ≡ Some s)
@@ -401,13 +402,13 @@ setups_setup l h k x i stands =
     let s : Start = setup_message l (setup_count l.starts) in
     elim (start_behind l.starts s x k stands) [
       | inl old ↦ h k x (elim (count_push l.starts s refl) [
-          | inl same ↦ omega (arith, i, same)
-          | inr more ↦ omega (arith, more.1, start_within l.starts k x old)
-        ]) old
+        | inl same ↦ omega (arith, i, same)
+        | inr more ↦ omega (arith, more.1, start_within l.starts k x old)
+      ]) old
       | inr new ↦ elim (count_push l.starts s refl) [
-          | inl same ↦ absurd (omega (arith, i, same, count_within l.starts, new.0))
-          | inr more ↦
-              let placed : k ≡ setup_count l.starts = omega (arith, new.0, more.1) in
-              sym (ap (λ (y : Start). y.shape) new.1) ∙ ap (λ n. setup_shape (setup l.info (n == 0))) (sym placed)
-        ]
+        | inl same ↦ absurd (omega (arith, i, same, count_within l.starts, new.0))
+        | inr more ↦
+            let placed : k ≡ setup_count l.starts = omega (arith, new.0, more.1) in
+            sym (ap (λ (y : Start). y.shape) new.1) ∙ ap (λ n. setup_shape (setup l.info (n == 0))) (sym placed)
+      ]
     ]

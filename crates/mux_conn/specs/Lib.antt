@@ -1,5 +1,6 @@
 pub mod Connection
 pub mod Requests
+pub mod Internal
 pub mod Effects
 pub mod Passes
 pub mod Places

@@ -45,11 +45,7 @@ impl MultiplexedConnection {
     }
 
     /// Each start of a setup is shown.
-    fn show_setups(
-        &self,
-        starts: Vec<Started>,
-        out: &mut Vec<LinkAct>,
-    ) -> Result<(), AllocError>
+    fn show_setups(&self, starts: Vec<Started>, out: &mut Vec<LinkAct>) -> Result<(), AllocError>
         ensures { OnOk result (
             work_with self.now out.new.items
             ≡ set_up_each (work_with self.now out.old.items) starts.items

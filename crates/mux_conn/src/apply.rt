@@ -12,8 +12,7 @@ use crate::request::{Pending, Waiting};
 use connection_info::RedisConnectionInfo;
 use connection_setup::{SetupResult, check_setup};
 use containers::Queue;
-use driver_model::{LinkFault, LinkNews, Outcome, Verdict};
-use driver_model::{says_nothing, setup_bytes, setup_shape};
+use driver_model::{LinkFault, LinkNews, Outcome, Verdict, says_nothing, setup_bytes, setup_shape};
 use link_core::{LinkCore, Settled};
 use redis_error::{FaultKind, RedisError};
 use resp_read::ReadError;
@@ -217,12 +216,7 @@ impl MultiplexedConnection {
     }
 
     /// The setup takes its place on this link, with the user name or without it.
-    fn set_up(
-        &mut self,
-        alloc: Global,
-        link: LinkCore,
-        with_user: bool,
-    ) -> Result<(), AllocError>
+    fn set_up(&mut self, alloc: Global, link: LinkCore, with_user: bool) -> Result<(), AllocError>
         ensures conn { OnOk result (
             self.new ≡ (sets_up (work_with self.old []) link with_user).conn
             ) }

@@ -8,6 +8,7 @@ mod apply;
 mod connection;
 mod errors;
 mod flush;
+mod internal;
 mod life;
 mod request;
 mod step;

@@ -178,11 +178,7 @@ fn describe_act(alloc: Global, act: &LinkAct, log: &mut Vec<u8>) -> Result<(), A
             need: _,
             len,
         } => describe_start(alloc, *message, *request, *len, log),
-        LinkAct::SetUp {
-            message,
-            need,
-            len,
-        } => describe_setup(alloc, *message, *need, *len, log),
+        LinkAct::SetUp { message, need, len } => describe_setup(alloc, *message, *need, *len, log),
         LinkAct::Outcome { request, outcome } => describe_answer(alloc, *request, outcome, log),
     }
 }

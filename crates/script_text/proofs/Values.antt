@@ -1,5 +1,5 @@
 -- The values that words give a key.
-use Rattle.std.proofs.Common.{◌≡◌, ℕ, Bool, true, false, not, ◌&&◌, ◌==◌, List, [], ◌∷◌, length, Option, Some, None, option_map, refl, ap, if◌then◌else◌, arith}
+use Rattle.std.proofs.Common.{◌≡◌, ℕ, Bool, true, false, not, ◌&&◌, ◌==◌, List, [], ◌∷◌, length, Option, Some, None, option_map, refl, sym, ap, ◌∙◌, if◌then◌else◌, arith}
 use Rattle.std.specs.Prelude.{is_some, is_none}
 use Rattle.containers.proofs.Choices.{ne_test}
 use Rattle.script_text.specs.ConfigLine.{only, allows}
@@ -20,6 +20,12 @@ allowed_never read (v ∷ next ∷ more) none = ap (λ b. not (not b)) (ne_test 
 pub none_mapped : {A B : Type 0} (f : A → B) (x : Option A) → is_none (option_map f x) ≡ is_none x
 none_mapped f None = refl
 none_mapped f (Some a) = refl
+
+-- both of two tests hold, and what is found tells
+pub both_told : {A B : Type 0} (a b found : Bool) (f : A → B) (x : Option A) → false ≡ not a → false ≡ not b → found ≡ is_none x → found ≡ is_none (if a && b then option_map f x else None)
+both_told true true found f x first second tells = tells ∙ sym (none_mapped f x)
+both_told true false found f x first second tells = cc
+both_told false b found f x first second tells = cc
 
 -- the second of two tests fails, so that nothing is read
 pub none_allowed : {A : Type 0} (a b : Bool) (x : Option A) → true ≡ not b → true ≡ is_none (if a && b then x else None)

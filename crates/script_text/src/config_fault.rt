@@ -179,7 +179,7 @@ fn url_fault(words: &[Bytes]) -> Option<Fault>
 }
 
 /// What is wrong with the settings of one connection.
-#[tactic(auto, using(crate::proofs::Values::none_mapped, crate::proofs::Values::none_allowed))]
+#[tactic(auto, using(crate::proofs::Values::both_told, crate::proofs::Values::none_allowed))]
 fn single_fault(words: &[Bytes]) -> Option<Fault>
     ensures { FindsFault result (single words.now) }
 {

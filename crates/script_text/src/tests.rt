@@ -67,7 +67,7 @@ const FIRST_LINES: [(&[u8], u32); 29] = [
     ),
     (
         b"config single url=redis://h:6379 connect=none response=none\nend\n",
-        1,
+        0,
     ),
     (
         b"config single url=redis://h:6379 connect=none connect=none response=none lib=off\nend\n",

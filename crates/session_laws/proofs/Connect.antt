@@ -37,7 +37,8 @@ use Rattle.legal_trace.specs.Book.{Book, blank_book, book, entered}
 use Rattle.legal_trace.specs.Story.{Story}
 use Rattle.legal_trace.specs.Legal.{AllStand, MayBeCreated}
 use Rattle.session_laws.proofs.Tied.{AreSetups, HasSaid, IsEntry, IsQueued, IsSettingUp, IsSetupDue, IsSetUp, Inner, inner, queue_ids, shown_wait, waiting_ids, no_link, link_in, carried, whole_link, owner_of, TiedLife, TiedLines, AreQueued, TiedWaits, Tied, has_ended}
-use Rattle.session_laws.proofs.Said.{IsNoPiece, ending_ready, ending_setting, ready_heard, setting_heard, setup_hears}
+use Rattle.legal_trace.proofs.Setups.{ends_where_set}
+use Rattle.session_laws.proofs.Said.{IsNoPiece, ending_setting, ready_heard, setting_heard, setup_hears}
 use Rattle.session_laws.proofs.Failing.{IsFailing, failing_applied}
 use Rattle.session_laws.proofs.States.{IsFit, Between, HasApplied}
 use Rattle.session_laws.proofs.Entered.{all_stand-append, book_more, sound_more, shown_more}
@@ -318,7 +319,7 @@ connected_ready before c started word kind h good k is e nothing =
     } in
     let made : IsMade l (book before).created conn.requests (new_link conn) = record { asked = u.asked; up = u.up; alive = u.alive; unshown = u.unshown; said = said; tied = new_tied before c started h e; queue = refl; row = refl } in
     ready_applied (before ++ turn_of c word kind ∷ []) (turned c kind) conn (new_link conn) l started (λ z. absurd (omega arith)) h.moved
-    (record { sound = refl; size_is = refl; bound_is = refl; within = omega arith }) (ending_ready l u.up said.well)
+    (record { sound = refl; size_is = refl; bound_is = refl; within = omega arith }) (ends_where_set l u.up said.well)
     (makes_ready before c started word kind connected (new_link conn) h good k is (ap link_in e) (ap is_ready e) (ap has_ended e) (u.info_is, u.sent, made))
 
 -- or its setup is to start

@@ -241,7 +241,7 @@ over_moved before f w e started over h =
     })
   where
     over_setting : (link : LinkState) (with_user : Bool) → Ended e ≡ SettingUp link with_user → ⊥
-    over_setting link with_user no = cc
+    over_setting link with_user same = cc
 
 -- all requests are moved
 pub passed_moved : (before : List Action) (f : Core) (w : Work) (started : List ℕ) → IsReady before f w started → HasMoved before f (passed w)

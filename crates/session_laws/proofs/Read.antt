@@ -1,5 +1,5 @@
 -- Bytes come: what they settle is answered, and bytes that begin no value end the link.
-use Rattle.std.proofs.Common.{◌≡◌, inl, inr, ℕ, nat_lt, Bool, true, false, List, [], ◌∷◌, ◌++◌, length, Some, None, if◌then◌else◌, refl, sym, ap, ◌∙◌, subst, append_assoc, arith}
+use Rattle.std.proofs.Common.{◌≡◌, inl, inr, ℕ, Bool, true, false, List, [], ◌∷◌, ◌++◌, length, Some, None, if◌then◌else◌, refl, sym, ap, ◌∙◌, subst, append_assoc, arith}
 use Rattle.std.specs.List.{AllByRecursion}
 use Rattle.std.proofs.lemmas.List.{append-nil}
 use Rattle.containers.proofs.Choices.{chosen, taken_if, left_if}
@@ -12,9 +12,7 @@ use Rattle.driver_model.specs.declared.action.Owner.{Owner}
 use Rattle.driver_model.specs.declared.event.EventKind.{EventKind}
 use Rattle.driver_model.specs.declared.news.LinkFault.TheVariants as fault
 use Rattle.driver_model.specs.News.{came, news_of}
-use Rattle.driver_model.specs.Shape.{need_of}
-use Rattle.link_core.specs.declared.message.Entry.{Entry}
-use Rattle.link_core.specs.Dealing.{Dealing, with_item, dealt_to, dealt, dealt_each}
+use Rattle.link_core.specs.Dealing.{Dealing, dealt_each}
 use Rattle.link_core.specs.Link.{LinkState, Settling}
 use Rattle.link_core.specs.Ends.{row_hit, queue_closed}
 use Rattle.link_laws.specs.Settles.{settled_ids, wanted, awaited_ids, IsOwed}
@@ -38,8 +36,8 @@ use Rattle.legal_trace.specs.Owed.{owed}
 use Rattle.session_laws.proofs.Numbers.{IsIn, Rising}
 use Rattle.session_laws.proofs.Tied.{inner, link_in, owner_of, queue_ids, IsEntry, TiedLife, TiedLines, TiedSetup, AreQueued, TiedWaits, has_ended}
 use Rattle.session_laws.proofs.SetUp.{set_up_hears}
-use Rattle.session_laws.proofs.Said.{ending_ready}
-use Rattle.session_laws.proofs.ReadSetup.{setup_read}
+use Rattle.legal_trace.proofs.Setups.{ends_where_set}
+use Rattle.session_laws.proofs.ReadSetup.{dealt_all, setup_read}
 use Rattle.session_laws.proofs.States.{IsFit, IsFitIn, Between, HasApplied}
 use Rattle.session_laws.proofs.InLine.{kept_ids, IsInLine}
 use Rattle.session_laws.proofs.Owes.{in_line}
@@ -51,18 +49,8 @@ use Rattle.session_laws.proofs.End.{up_tied, fault_ends}
 use Rattle.session_laws.proofs.Took.{queue_waits}
 
 -- items that are dealt leave entries as they are, but for what they got
-item_entries : (requests : List Request) (d : Dealing) (item : Data) (row : List Entry) → AllByRecursion (IsEntry requests) row → AllByRecursion (IsEntry requests) d.row → AllByRecursion (IsEntry requests) (dealt_to d item row).row
-item_entries requests d item [] all whole = whole
-item_entries requests d item (e ∷ es) all whole =
-    let f = with_item e item in
-    chosen (λ (x : Dealing). AllByRecursion (IsEntry requests) x.row) (nat_lt (length f.got) (need_of e.shape)) _ _
-    (λ t. (record { below = all.0.below; placed_at = all.0.placed_at }, all.1))
-    (λ n. all.1)
-
--- many items too
 dealt_entries : (requests : List Request) (d : Dealing) (vs : List Data) → AllByRecursion (IsEntry requests) d.row → AllByRecursion (IsEntry requests) (dealt_each d vs).row
-dealt_entries requests d [] all = all
-dealt_entries requests d (v ∷ vs) all = dealt_entries requests (dealt d v) vs (item_entries requests d v d.row all all)
+dealt_entries requests d vs all = dealt_all (IsEntry requests) (λ e item h. record { below = h.below; placed_at = h.placed_at }) d vs all
 
 -- those that bytes settle, and those still wanted, are those wanted before
 read_wanted : (link : LinkState) (piece : List ℕ) → settled_ids (deals link piece).out ++ wanted (deals link piece).row ≡ wanted link.row
@@ -99,7 +87,7 @@ read_in_line requests link piece admitted waiting r =
 read_ending : (name : ℕ → Owner) (l : Ledger) (link : LinkState) (piece : List ℕ) → l.up ≡ true → is_set_up (has_heard l piece) ≡ true → TiedLink name (has_heard l piece) (has_read link piece)
     → ending (has_heard l piece) ≡ (if (has_read link piece).broken then Some (by_fault fault.Parse) else None)
 read_ending name l link piece up well h =
-    ending_ready (has_heard l piece) up well
+    ends_where_set (has_heard l piece) up well
     ∙ ap (λ (b : Bool). if b then Some (by_fault fault.Parse) else None) (ap is_spoiled h.rest ∙ sym h.broken)
 
 -- a link that is not broken is fit

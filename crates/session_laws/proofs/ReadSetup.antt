@@ -37,7 +37,7 @@ use Rattle.link_core.specs.Dealing.{Dealing, with_item, dealt_to, dealt, dealt_e
 use Rattle.link_core.specs.Ends.{row_hit, queue_closed}
 use Rattle.link_core.specs.Link.{LinkState, enqueued}
 use Rattle.link_laws.specs.Settles.{settled_ids, wanted}
-use Rattle.link_laws.proofs.Dealt.{AreCuts, IsCutOf, cut_at, items_with, row_dealt}
+use Rattle.link_laws.proofs.Dealt.{all_append, AreCuts, IsCutOf, cut_at, items_with, row_dealt}
 use Rattle.link_laws.proofs.Once.{items_keep}
 use Rattle.link_laws.proofs.Rows.{open_list, open_rows, none_open as no_rows}
 use Rattle.link_laws.proofs.Settles.{is_full_from}
@@ -45,7 +45,7 @@ use Rattle.link_laws.proofs.TiedLink.{TiedLink, SameNames, deals, dealt_alike, h
 use Rattle.legal_trace.proofs.Ledgers.{reach_alike}
 use Rattle.mux_conn.specs.declared.act.LinkAct.TheVariants as act
 use Rattle.mux_conn.specs.declared.life.Life.{Life}
-use Rattle.mux_conn.specs.declared.life.Life.TheVariants.{SettingUp, Ready, Ended}
+use Rattle.mux_conn.specs.declared.life.Life.TheVariants.{SettingUp, Ended}
 use Rattle.mux_conn.specs.Connection.{Work, acted, at_life, is_ready, with_setup}
 use Rattle.mux_conn.specs.Effects.{answered_setup, broken_at, failed_at, judged_by, made_ready, opening_failed, read_setup, set_up_by, sets_up, setup_queued, steps_of}
 use Rattle.shared_session.specs.declared.core_state.Core.{Core}
@@ -55,7 +55,8 @@ use Rattle.legal_trace.specs.Book.{Book, book}
 use Rattle.session_laws.proofs.Tied.{AreSetups, IsSettingUp, IsSetupDue, IsSetupSent, IsSetUp, AreQueued, TiedLife, TiedLines, TiedSetup, TiedWaits, has_ended, inner, link_in, owner_of, owners_each, owners_of, setup_owners}
 use Rattle.session_laws.proofs.States.{IsFit, Between, HasApplied}
 use Rattle.session_laws.proofs.SetUp.{count_length, not_set_up}
-use Rattle.session_laws.proofs.Said.{after_on, ending_failed, ending_ready, ending_setting, retold}
+use Rattle.legal_trace.proofs.Setups.{ends_where_set}
+use Rattle.session_laws.proofs.Said.{after_on, ending_failed, ending_setting, retold}
 use Rattle.session_laws.proofs.Close.{ended_applied, ended_moved, waiting_leaves}
 use Rattle.session_laws.proofs.Announce.{turn_of, turned, IsNewsKind}
 use Rattle.session_laws.proofs.Heard.{heard_by, quiet_applied, setting_fit, setting_waits}
@@ -77,17 +78,18 @@ reply_memory : (m : Meaning) (d : Data) → judged_reply m d ≢ result.NoMemory
 reply_memory m (error e) = error_memory m e
 reply_memory m _ = λ same. cc
 
+-- what one reply and those behind it come to
+first_or_rest : (other x rest : SetupResult) → x ≢ other → rest ≢ other → unless_ready x rest ≢ other
+first_or_rest other result.Ready rest one more = more
+first_or_rest other result.RepeatWithoutUser rest one more = one
+first_or_rest other (result.Failed e) rest one more = one
+first_or_rest other result.NoMemory rest one more = one
+
 -- of no replies
 judged_memory : (steps : List Step) (replies : List Data) → judged steps replies ≢ result.NoMemory
 judged_memory [] replies = λ same. cc
 judged_memory (s ∷ steps) [] = λ same. cc
-judged_memory (s ∷ steps) (d ∷ replies) = by_first (judged_reply s.meaning d) (reply_memory s.meaning d)
-  where
-    by_first : (x : SetupResult) → x ≢ result.NoMemory → unless_ready x (judged steps replies) ≢ result.NoMemory
-    by_first result.Ready some = judged_memory steps replies
-    by_first result.RepeatWithoutUser some = λ same. cc
-    by_first (result.Failed e) some = λ same. cc
-    by_first result.NoMemory some = λ same. some refl
+judged_memory (s ∷ steps) (d ∷ replies) = first_or_rest result.NoMemory (judged_reply s.meaning d) (judged steps replies) (reply_memory s.meaning d) (judged_memory steps replies)
 
 -- and to be repeated without the user name only where it has one
 abbrev HasNoUser : Step → Type 0
@@ -95,10 +97,10 @@ HasNoUser s = s.meaning ≢ meaning.User
 
 -- the reply to any other command
 error_repeats : (m : Meaning) (e : ServerError) → m ≢ meaning.User → judged_error m e ≢ result.RepeatWithoutUser
-error_repeats meaning.User e no = absurd (no refl)
-error_repeats meaning.Password e no = λ same. cc
-error_repeats meaning.Choice e no = λ same. cc
-error_repeats meaning.Library e no = λ same. cc
+error_repeats meaning.User e other = absurd (other refl)
+error_repeats meaning.Password e other = λ same. cc
+error_repeats meaning.Choice e other = λ same. cc
+error_repeats meaning.Library e other = λ same. cc
 
 -- whatever it is
 reply_repeats : (m : Meaning) (d : Data) → m ≢ meaning.User → judged_reply m d ≢ result.RepeatWithoutUser
@@ -109,13 +111,7 @@ reply_repeats m _ other = λ same. cc
 judged_repeats : (steps : List Step) (replies : List Data) → AllByRecursion HasNoUser steps → judged steps replies ≢ result.RepeatWithoutUser
 judged_repeats [] replies all = λ same. cc
 judged_repeats (s ∷ steps) [] all = λ same. cc
-judged_repeats (s ∷ steps) (d ∷ replies) all = by_first (judged_reply s.meaning d) (reply_repeats s.meaning d all.0)
-  where
-    by_first : (x : SetupResult) → x ≢ result.RepeatWithoutUser → unless_ready x (judged steps replies) ≢ result.RepeatWithoutUser
-    by_first result.Ready some = judged_repeats steps replies all.1
-    by_first result.RepeatWithoutUser some = λ same. some refl
-    by_first (result.Failed e) some = λ same. cc
-    by_first result.NoMemory some = λ same. cc
+judged_repeats (s ∷ steps) (d ∷ replies) all = first_or_rest result.RepeatWithoutUser (judged_reply s.meaning d) (judged steps replies) (reply_repeats s.meaning d all.0) (judged_repeats steps replies all.1)
 
 -- the commands of a setup without the user name
 opening_no_user : (protocol : ProtocolVersion) (password : Option (List ℕ)) → AllByRecursion HasNoUser (opening protocol None password)
@@ -124,14 +120,11 @@ opening_no_user RESP2 (Some password) = ((λ same. cc), tt)
 opening_no_user RESP3 None = ((λ same. cc), tt)
 opening_no_user RESP3 (Some password) = ((λ same. cc), tt)
 
--- the commands behind the first
-all_steps : (xs ys : List Step) → AllByRecursion HasNoUser xs → AllByRecursion HasNoUser ys → AllByRecursion HasNoUser (xs ++ ys)
-all_steps [] ys h k = k
-all_steps (x ∷ xs) ys h k = (h.0, all_steps xs ys h.1 k)
-
 -- all of them
 setup_no_user : (info : RedisConnectionInfo) → AllByRecursion HasNoUser (setup info false)
-setup_no_user info = all_steps (opening info.protocol None info.password) (choices info) (opening_no_user info.protocol info.password) (all_steps (selection info.db) (library info.skip_set_lib_name) (chosen_base info.db) (library_facts info.skip_set_lib_name))
+setup_no_user info =
+    all_append HasNoUser (opening info.protocol None info.password) (choices info) (opening_no_user info.protocol info.password)
+    (all_append HasNoUser (selection info.db) (library info.skip_set_lib_name) (chosen_base info.db) (library_facts info.skip_set_lib_name))
   where
     chosen_base : (db : ℤ) → AllByRecursion HasNoUser (selection db)
     chosen_base (pos zero) = tt
@@ -140,7 +133,7 @@ setup_no_user info = all_steps (opening info.protocol None info.password) (choic
 
     library_facts : (skip : Bool) → AllByRecursion HasNoUser (library skip)
     library_facts true = tt
-    library_facts false = ((λ same. cc), (λ same. cc), tt)
+    library_facts false = ((λ same. cc), ((λ same. cc), tt))
 
 -- items that are dealt
 --
@@ -149,23 +142,27 @@ dealt_none : (out : List Settled) (vs : List Data) → dealt_each (record { row 
 dealt_none out [] = refl
 dealt_none out (v ∷ vs) = dealt_none out vs
 
--- those that are awaited are so
-abbrev AreAwaited : List Entry → Type 0
-AreAwaited row = AllByRecursion (λ (e : Entry). e.awaited ≡ true) row
-
--- they stay so when an item is dealt
-item_awaited : (d : Dealing) (item : Data) (row : List Entry) → AreAwaited row → AreAwaited d.row → AreAwaited (dealt_to d item row).row
-item_awaited d item [] all whole = whole
-item_awaited d item (e ∷ es) all whole =
+-- what holds of each entry of a row does so when an item is dealt
+item_all : (P : Entry → Type 0) → ((e : Entry) (item : Data) → P e → P (with_item e item)) → (d : Dealing) (item : Data) (row : List Entry) → AllByRecursion P row → AllByRecursion P d.row → AllByRecursion P (dealt_to d item row).row
+item_all P one d item [] all whole = whole
+item_all P one d item (e ∷ es) all whole =
     let f = with_item e item in
-    chosen (λ (x : Dealing). AreAwaited x.row) (nat_lt (length f.got) (need_of e.shape)) _ _
-    (λ t. (all.0, all.1))
+    chosen (λ (x : Dealing). AllByRecursion P x.row) (nat_lt (length f.got) (need_of e.shape)) _ _
+    (λ t. (one e item all.0, all.1))
     (λ n. all.1)
 
 -- or many are
-dealt_awaited : (d : Dealing) (vs : List Data) → AreAwaited d.row → AreAwaited (dealt_each d vs).row
-dealt_awaited d [] all = all
-dealt_awaited d (v ∷ vs) all = dealt_awaited (dealt d v) vs (item_awaited d v d.row all all)
+pub dealt_all : (P : Entry → Type 0) → ((e : Entry) (item : Data) → P e → P (with_item e item)) → (d : Dealing) (vs : List Data) → AllByRecursion P d.row → AllByRecursion P (dealt_each d vs).row
+dealt_all P one d [] all = all
+dealt_all P one d (v ∷ vs) all = dealt_all P one (dealt d v) vs (item_all P one d v d.row all all)
+
+-- its verdict is wanted
+abbrev IsAwaited : Entry → Type 0
+IsAwaited e = e.awaited ≡ true
+
+-- so it is of each
+abbrev AreAwaited : List Entry → Type 0
+AreAwaited row = AllByRecursion IsAwaited row
 
 -- an awaited message of a row is wanted
 awaited_wanted : (row : List Entry) → AreAwaited row → wanted row ≡ [] → row ≡ []
@@ -228,7 +225,24 @@ second_starts (a ∷ []) e = absurd (omega arith)
 second_starts (a ∷ b ∷ []) e = (a, b, refl)
 second_starts (a ∷ b ∷ c ∷ ss) e = absurd (omega arith)
 
--- of the second of two starts
+-- of the second of two starts, by the items behind those of the first
+second_cut : (name : ℕ → Owner) (a b : Start) (all later : List Data) (x : Settled) → need_of a.shape ≤ length all → drop (need_of a.shape) all ≡ later → IsCutOf name (b ∷ []) later x
+    → (reach (a ∷ b ∷ []) all ≤ length all) × (x.verdict ≡ verdict_of b.shape (cut_at (a ∷ b ∷ []) all 1 b.shape))
+second_cut name a b all later x first behind c =
+    let n = need_of a.shape in
+    let number = first_alone (b ∷ []) c.cut.number c.cut.place.start refl c.cut.place.stands in
+    let here : slice_get (b ∷ []) 0 ≡ Some c.cut.place.start = ap (slice_get (b ∷ [])) (sym number) ∙ c.cut.place.stands in
+    let same : b ≡ c.cut.place.start = cc in
+    let shaped : c.of_shape ≡ b.shape = sym c.cut.place.shaped ∙ ap (λ (s : Start). s.shape) (sym same) in
+    let full : reach (take (suc 0) (b ∷ [])) later ≤ length later = subst (λ m. reach (take (suc m) (b ∷ [])) later ≤ length later) number c.cut.full in
+    let long : length (drop n all) ≡ length later = ap length behind in
+    let cut_off = length-drop n all in
+    let zero_more : n + 0 ≡ n = omega arith in
+    let got : c.got ≡ cut_at (b ∷ []) later 0 b.shape = c.cut.cut_is ∙ (λ i. cut_at (b ∷ []) later (number i) (shaped i)) in
+    let got_there : c.got ≡ cut_at (a ∷ b ∷ []) all 1 b.shape = got ∙ ap (take (need_of b.shape)) (sym behind ∙ ap (λ m. drop m all) (sym zero_more)) in
+    (omega arith, c.verdict_is ∙ (λ i. verdict_of (shaped i) (got_there i)))
+
+-- by those that come
 answers_second : (name : ℕ → Owner) (a b : Start) (vs more : List Data) (row : List Entry) (x : Settled) (xs : List Settled) → need_of a.shape ≤ length vs → length vs ≤ reach (a ∷ b ∷ []) vs → open_list name row ≡ open_rows (a ∷ b ∷ []) vs
     → (dealt_each (record { row = row; out = [] }) more).out ≡ x ∷ xs
     → (let all = items_with (reach (a ∷ b ∷ []) vs) vs more in (reach (a ∷ b ∷ []) all ≤ length all) × (x.verdict ≡ verdict_of b.shape (cut_at (a ∷ b ∷ []) all 1 b.shape)))
@@ -238,25 +252,12 @@ answers_second name a b vs more row x xs first within rows is =
     let left = length-drop n vs in
     let tail : open_list name row ≡ open_rows (b ∷ []) rest = rows ∙ taken_if (nat_le n (length vs)) (open_rows (b ∷ []) rest) _ (le_test n (length vs) first) in
     let d = row_dealt name (b ∷ []) rest row more tail (omega arith) in
-    let c = (subst (AreCuts name (b ∷ []) (items_with (reach (b ∷ []) rest) rest more)) is d.cuts).0 in
-    let number = first_alone (b ∷ []) c.cut.number c.cut.place.start refl c.cut.place.stands in
-    let here : slice_get (b ∷ []) 0 ≡ Some c.cut.place.start = ap (slice_get (b ∷ [])) (sym number) ∙ c.cut.place.stands in
-    let same : b ≡ c.cut.place.start = cc in
-    let shaped : c.of_shape ≡ b.shape = sym c.cut.place.shaped ∙ ap (λ (s : Start). s.shape) (sym same) in
+    let later = items_with (reach (b ∷ []) rest) rest more in
     let some : reach (a ∷ b ∷ []) vs - length vs ≡ reach (b ∷ []) rest - length rest = omega arith in
     let all = items_with (reach (a ∷ b ∷ []) vs) vs more in
-    let later = items_with (reach (b ∷ []) rest) rest more in
     let behind : drop n all ≡ later = drop-append-le n vs (take (reach (a ∷ b ∷ []) vs - length vs) more) first ∙ ap (λ m. rest ++ take m more) some in
-    let full : reach (take (suc 0) (b ∷ [])) later ≤ length later = subst (λ m. reach (take (suc m) (b ∷ [])) later ≤ length later) number c.cut.full in
-    let long : length (drop n all) ≡ length later = ap length behind in
-    let cut_off = length-drop n all in
-    let more_all = length-append vs (take (reach (a ∷ b ∷ []) vs - length vs) more) in
-    let zero_more : n + 0 ≡ n = omega arith in
-    (
-      omega arith,
-      c.verdict_is ∙ (λ i. verdict_of (shaped i) c.got)
-          ∙ ap (verdict_of b.shape) (c.cut.cut_is ∙ (λ i. cut_at (b ∷ []) later (number i) (shaped i)) ∙ ap (take (need_of b.shape)) (sym behind ∙ ap (λ m. drop m all) (sym zero_more))),
-    )
+    let long = length-append vs (take (reach (a ∷ b ∷ []) vs - length vs) more) in
+    second_cut name a b all later x (omega arith) behind (subst (AreCuts name (b ∷ []) later) is d.cuts).0
 
 -- the last setup of a link that isn't answered yet
 pub record IsLast (l : Ledger) (k : ℕ) : Type 0 where
@@ -317,7 +318,7 @@ reads_still : (name : ℕ → Owner) (l : Ledger) (link : LinkState) (with_user 
 reads_still name l link with_user piece h owners alive tied none = record {
   says = h.says;
   stage = elim h.stage [ inl d ↦ inl (due d) | inr s ↦ inr (sent s) ];
-  awaited = dealt_awaited (record { row = link.row; out = [] }) (items (link.rest ++ piece)) h.awaited;
+  awaited = dealt_all IsAwaited (λ e item wanted_one. wanted_one) (record { row = link.row; out = [] }) (items (link.rest ++ piece)) h.awaited;
 }
   where
     after : Ledger
@@ -375,16 +376,16 @@ reads_answered : (name : ℕ → Owner) (l : Ledger) (link : LinkState) (with_us
     → (deals link piece).out ≡ x ∷ xs → IsAnswered l link piece with_user x
 reads_answered name l link with_user piece x xs h owners sents alive tied is = elim h.stage [
   | inl d ↦ absurd (
-    let vs = items (link.rest ++ piece) in
-    let dropped = ap (λ row. dealt_each (record { row = row; out = [] }) vs) d.row ∙ dealt_none [] vs in
-    let no : x ∷ xs ≡ [] = sym is ∙ ap (λ (y : Dealing). y.out) dropped in
-    cc)
+      let vs = items (link.rest ++ piece) in
+      let dropped = ap (λ row. dealt_each (record { row = row; out = [] }) vs) d.row ∙ dealt_none [] vs in
+      let no : x ∷ xs ≡ [] = sym is ∙ ap (λ (y : Dealing). y.out) dropped in
+      cc)
   | inr s ↦ (
-    let after = has_heard l piece in
-    let last = sent_last l link with_user owners s in
-    let a = setup_answers name l link piece s.k x xs last sents alive tied is in
-    let rows = (read_tied name l link piece alive tied).row alive ∙ rows_full after.starts after.dealt (full_last after s.k last.long a.full) in
-    record { k = s.k; few = s.few; count = s.count; user = s.user; queue = s.queue; row = no_entries name (deals link piece).row rows; answers = a })
+      let after = has_heard l piece in
+      let last = sent_last l link with_user owners s in
+      let a = setup_answers name l link piece s.k x xs last sents alive tied is in
+      let rows = (read_tied name l link piece alive tied).row alive ∙ rows_full after.starts after.dealt (full_last after s.k last.long a.full) in
+      record { k = s.k; few = s.few; count = s.count; user = s.user; queue = s.queue; row = no_entries name (deals link piece).row rows; answers = a })
 ]
 
 -- what it comes to
@@ -504,7 +505,7 @@ setup_read before c started word kind piece link with_user h good k is e = by_ou
         let made : IsMade after b.created c.single.connection.requests read = record { asked = s.asked; up = s.up; alive = s.alive; unshown = s.unshown; said = said; tied = owned; queue = a.queue; row = a.row } in
         let facts = subst (λ (y : Ledger). (y.info ≡ info) × AreSetups y × IsMade y b.created c.single.connection.requests read) (sym same) (h.sound.tied.setup.info_is, h.sound.tied.setup.sent, made) in
         let shown = makes_ready before c started word kind (came piece) read h good k is (ap link_in e) (ap is_ready e) (ap has_ended e) facts in
-        let up = ap ending same ∙ ending_ready after s.up well in
+        let up = ap ending same ∙ ends_where_set after s.up well in
         chosen applied read.broken (failed_at v fault.Parse v.conn.life) v
         (λ t.
         ended_applied front (turned c kind) (failed_at v fault.Parse v.conn.life) reason.Closed started (λ z. absurd (omega arith))

@@ -16,6 +16,7 @@ use Rattle.mux_conn.specs.declared.life.Life.{Life}
 use Rattle.mux_conn.specs.declared.life.Life.TheVariants.{Dialing, SettingUp, Ready, Ended}
 use Rattle.mux_conn.specs.declared.request.Request.{Request}
 use Rattle.legal_trace.specs.Ledger.{Ledger, End, Ending, by_opening, hears, noted, is_over, dials, refused_in, bytes_came, ending, ending_up, ending_asked, ending_unready, ending_by, ending_alive, error_in, is_well, is_set_up, is_ready, last_result, setup_after, setup_count, setup_result, setup_steps}
+use Rattle.legal_trace.proofs.Setups.{ends_where_set}
 use Rattle.legal_trace.specs.Book.{Book}
 use Rattle.legal_trace.specs.Legal.{ReadyIsShown}
 use Rattle.session_laws.proofs.SetUp.{not_set_up}
@@ -62,14 +63,17 @@ well_on l asked up end taken offer rest heard = ap is_well (result_on l asked up
 -- and how far it has come
 pub said_on : (l : Ledger) (asked up : Bool) (end : Option End) (taken offer rest : List ℕ) (heard : News) (started : List ℕ) (life : Life) → HasSaid l started life → HasSaid (retold l asked up end taken offer rest heard) started life
 said_on l asked up end taken offer rest heard started Dialing h = h
-said_on l asked up end taken offer rest heard started (SettingUp link with_user) h = (h.0, record {
-  says = h.1.says;
-  stage = elim h.1.stage [
-    | inl d ↦ inl (record { due = after_on l asked up end taken offer rest heard (setup_count l.starts) ∙ d.due; user = d.user; queue = d.queue; row = d.row })
-    | inr s ↦ inr (record { k = s.k; few = s.few; count = s.count; user = s.user; queue = s.queue; earlier = s.earlier; open_is = s.open_is })
-  ];
-  awaited = h.1.awaited;
-})
+said_on l asked up end taken offer rest heard started (SettingUp link with_user) h = (
+  h.0,
+  record {
+    says = h.1.says;
+    stage = elim h.1.stage [
+      | inl d ↦ inl (record { due = after_on l asked up end taken offer rest heard (setup_count l.starts) ∙ d.due; user = d.user; queue = d.queue; row = d.row })
+      | inr s ↦ inr (record { k = s.k; few = s.few; count = s.count; user = s.user; queue = s.queue; earlier = s.earlier; open_is = s.open_is })
+    ];
+    awaited = h.1.awaited;
+  },
+)
 said_on l asked up end taken offer rest heard started (Ready link) h = record { well = well_on l asked up end taken offer rest heard ∙ h.well; none = h.none }
 said_on l asked up end taken offer rest heard started (Ended e) h = tt
 
@@ -83,14 +87,17 @@ pub setup_link : (l : Ledger) (info : RedisConnectionInfo) (started : List ℕ) 
 setup_link l info started link after with_user queue row h = record {
   info_is = h.info_is;
   sent = h.sent;
-  said = (h.said.0, record {
-    says = h.said.1.says;
-    stage = elim h.said.1.stage [
-      | inl d ↦ inl (record { due = d.due; user = d.user; queue = queue ∙ d.queue; row = row ∙ d.row })
-      | inr s ↦ inr (record { k = s.k; few = s.few; count = s.count; user = s.user; queue = queue ∙ s.queue; earlier = s.earlier; open_is = s.open_is })
-    ];
-    awaited = subst (AllByRecursion (λ (e : Entry). e.awaited ≡ true)) (sym row) h.said.1.awaited;
-  });
+  said = (
+    h.said.0,
+    record {
+      says = h.said.1.says;
+      stage = elim h.said.1.stage [
+        | inl d ↦ inl (record { due = d.due; user = d.user; queue = queue ∙ d.queue; row = row ∙ d.row })
+        | inr s ↦ inr (record { k = s.k; few = s.few; count = s.count; user = s.user; queue = queue ∙ s.queue; earlier = s.earlier; open_is = s.open_is })
+      ];
+      awaited = subst (AllByRecursion (λ (e : Entry). e.awaited ≡ true)) (sym row) h.said.1.awaited;
+    },
+  );
 }
 
 -- and on any that is set up
@@ -143,10 +150,6 @@ setup_unheard l turn shut info started life down h = setup_hears l turn shut inf
 
 -- what ends a link
 --
--- that is up and set up
-pub ending_ready : (l : Ledger) → l.up ≡ true → is_set_up l ≡ true → ending l ≡ ending_up l l.heard
-ending_ready l up well = taken_if l.up (ending_alive l) _ up ∙ taken_if (is_set_up l) (ending_up l l.heard) _ well
-
 -- that is set up still
 pub ending_setting : (l : Ledger) (link : LinkState) (with_user : Bool) → l.up ≡ true → IsSettingUp l link with_user → ending l ≡ ending_unready l l.heard
 ending_setting l link with_user up h =
@@ -155,7 +158,7 @@ ending_setting l link with_user up h =
 
 -- once it has heard something
 pub ready_heard : (l : Ledger) (n : News) → l.up ≡ true → is_set_up l ≡ true → ending (record l { heard = n }) ≡ ending_up (record l { heard = n }) n
-ready_heard l n up well = ending_ready (record l { heard = n }) up (well_on l l.asked l.up l.end l.taken l.offer l.rest n ∙ well)
+ready_heard l n up well = ends_where_set (record l { heard = n }) up (well_on l l.asked l.up l.end l.taken l.offer l.rest n ∙ well)
 
 -- it is set up still once it has heard something
 pub setting_told : (l : Ledger) (n : News) (link : LinkState) (with_user : Bool) → IsSettingUp l link with_user → IsSettingUp (record l { heard = n }) link with_user
@@ -195,7 +198,7 @@ mild_up l taken offer n mild none up =
     let m = record l { taken = taken; offer = offer; heard = n } in
     let same = well_on l l.asked l.up l.end taken offer l.rest n in
     by_test (is_set_up l) _
-    (λ t. ending_ready m up (same ∙ t) ∙ mild.0)
+    (λ t. ends_where_set m up (same ∙ t) ∙ mild.0)
     (λ f.
     taken_if l.up (ending_alive m) _ up ∙ left_if (is_set_up m) (ending_up m n) (ending_by (error_in (setup_result m)) (ending_unready m n)) (same ∙ f)
     ∙ ap (λ x. ending_by (error_in x) (ending_unready m n)) (result_on l l.asked l.up l.end taken offer l.rest n)

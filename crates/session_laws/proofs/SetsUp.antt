@@ -1,7 +1,7 @@
 -- The setup of a link starts.
 use Rattle.std.proofs.Common.{Bool, List, None, Option, Some, [], ap, append_assoc, arith, false, inl, inr, length, refl, subst, suc, sym, true, zero, ℕ, ◌+◌, ◌++◌, ◌<◌, ◌≤◌, ◌∙◌, ◌∷◌, ◌≡◌, ◌⊎◌}
 use Rattle.std.proofs.lemmas.List.{append-nil, take-append-le}
-use Rattle.std.specs.Prelude.{if◌then◌else◌, nat_le, ◌==◌}
+use Rattle.std.specs.Prelude.{nat_le, ◌==◌}
 use Rattle.containers.proofs.Choices.{by_test, left_if, not_both, taken_if}
 use Rattle.containers.proofs.Places.{get_within}
 use Rattle.driver_model.specs.Setup.{setup_shape}
@@ -29,6 +29,7 @@ use Rattle.legal_trace.specs.Book.{Book, book, entered}
 use Rattle.legal_trace.specs.Ledger.{Ledger, Start, begins, is_full, noted, reach, repeats, result_of, setup_after, setup_count, setup_message, setup_steps}
 use Rattle.legal_trace.specs.Legal.{MaySetUp, NoneEnds}
 use Rattle.legal_trace.specs.Story.{Story}
+use Rattle.legal_trace.proofs.Setups.{setup_packed, setup_stays}
 use Rattle.session_laws.proofs.Ahead.{held_by}
 use Rattle.session_laws.proofs.Entered.{shown_more}
 use Rattle.session_laws.proofs.Going.{IsGoing, applied_up, going_more, none_ends_mine}
@@ -36,8 +37,7 @@ use Rattle.session_laws.proofs.Heard.{setting_waits}
 use Rattle.session_laws.proofs.Kept.{mine_noted, others_kept, tied_by}
 use Rattle.session_laws.proofs.LetIn.{quiet_timers}
 use Rattle.session_laws.proofs.Names.{get_more}
-use Rattle.session_laws.proofs.Said.{ending_setting}
-use Rattle.session_laws.proofs.SetUp.{begun_open, count_length, count_next, down_undue, ending_unready_same, setup_packed}
+use Rattle.session_laws.proofs.SetUp.{begun_open, count_length, count_next, down_undue}
 use Rattle.session_laws.proofs.Settle.{seen, trace_of_acts}
 use Rattle.session_laws.proofs.Start.{owners-append, with_queue}
 use Rattle.session_laws.proofs.States.{IsFit}
@@ -209,18 +209,12 @@ set_up_tied b t link with_user due user h =
 -- which ends no link
 set_up_ends_none : (b : Book) (t : Inner) (link : LinkState) (with_user : Bool)
     → (let q = due_queued (b.link t.link) with_user in
-    setup_after (b.link t.link) (setup_count (b.link t.link).starts) ≡ Some (setup_count (b.link t.link).starts) → with_user ≡ (setup_count (b.link t.link).starts == 0) → Tied b (setting_on t (with_queue link (q ∷ [])) with_user) → NoneEnds b
+    setup_after (b.link t.link) (setup_count (b.link t.link).starts) ≡ Some (setup_count (b.link t.link).starts) → Tied b (setting_on t (with_queue link (q ∷ [])) with_user) → NoneEnds b
     → NoneEnds (entered b (set_up_action t link q)))
-set_up_ends_none b t link with_user due user h ended =
+set_up_ends_none b t link with_user due h ended =
     let l = b.link t.link in
-    let q = due_queued l with_user in
-    let s = due_start l in
-    let said = h.setup.said in
-    let all = no_tries l b.story t.requests t.link t.started said.0 h.tries in
-    let next = setting_next l link with_user all (h.link refl).within due user said.1 in
-    none_ends_mine b t.link (begins s)
-    (ending_setting (noted l (begins s)) (with_queue (begun link q) []) with_user h.life.1 next ∙ ending_unready_same l (l.starts ++ s ∷ []) l.heard ∙ sym (ending_setting l (with_queue link (q ∷ [])) with_user h.life.1 said.1) ∙ ended t.link)
-    ended
+    let c = setup_count l.starts in
+    none_ends_mine b t.link (begins (due_start l)) (setup_stays l (due_start l) c refl (taken_if l.up (setup_after l c) None h.life.1 ∙ due) (h.link refl).within (ended t.link)) ended
 
 -- so it goes on with it
 set_up_going : (trace : List Action) (t : Inner) (link : LinkState) (with_user : Bool)
@@ -234,7 +228,7 @@ set_up_going trace t link with_user due user fit free h =
     going_more trace (set_up_action t link q) (setting_on t (with_queue (begun link q) []) with_user) h.sound.stands
     (set_up_may b t link with_user due fit free h.sound.tied h.ended)
     (set_up_tied b t link with_user due user h.sound.tied)
-    (set_up_ends_none b t link with_user due user h.sound.tied h.ended)
+    (set_up_ends_none b t link with_user due h.sound.tied h.ended)
 
 -- the pass
 --

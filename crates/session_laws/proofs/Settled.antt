@@ -1,6 +1,6 @@
 -- The waits of a turn are shown, and the turn is settled.
 use Rattle.mux_conn.specs.Turn.{written}
-use Rattle.std.proofs.Common.{Bool, List, None, Option, Some, [], ap, false, inl, inr, length, refl, subst, suc, sym, true, ℕ, ◌++◌, ◌<◌, ◌∙◌, ◌∷◌, ◌≡◌, ◌≢◌, ◌⊎◌, arith}
+use Rattle.std.proofs.Common.{Bool, List, None, Option, Some, [], ap, false, inl, inr, length, refl, subst, suc, sym, true, ℕ, ◌++◌, ◌+◌, ◌<◌, ◌∙◌, ◌∷◌, ◌≡◌, ◌≢◌, ◌⊎◌, arith}
 use Rattle.std.specs.Prelude.{if◌then◌else◌, ◌&&◌}
 use Rattle.containers.proofs.Choices.{by_test, both_left, both_right, chosen, le_test, left_if, not_both}
 use Rattle.driver_model.specs.declared.action.Action.{Action}
@@ -22,6 +22,7 @@ use Rattle.mux_conn.specs.declared.life.Life.TheVariants.{Dialing, Ended, Ready,
 use Rattle.shared_session.specs.Turn.{Turning, moved_on, timed, with_work, work_of}
 use Rattle.shared_session.specs.declared.core_state.Core.{Core}
 use Rattle.legal_trace.specs.Book.{Book, book}
+use Rattle.legal_trace.specs.Ledger.{setup_count}
 use Rattle.legal_trace.specs.Legal.{IsMoved, IsSettled, IsStarted, IsWaiting, IsWritten, NoneEnds, WaitHolds}
 use Rattle.legal_trace.specs.Story.{last_of}
 use Rattle.session_laws.proofs.Ahead.{dialing_step, placed_open, setup_step, waiting_open, admitted_open}
@@ -437,7 +438,7 @@ row_goes b t n h written link life r i =
     let up : l.up ≡ true = (subst (λ (x : Life). TiedLife l b.created x) life h.life).1 in
     record {
       try = record { link = t.link; message = w.number };
-      last = ap (λ m. last_of (b.story m).tries) (sym r.named) ∙ ap last_of (h.tries.tried stands.0 r.number stands.2 ∙ ap (λ m. record { link = t.link; message = m } ∷ []) (sym stands.1));
+      last = ap (λ m. last_of (b.story m).tries) (sym r.named) ∙ ap last_of (h.tries.tried stands.0 r.number stands.2 ∙ ap (λ m. record { link = t.link; message = m } ∷ []) {x = setup_count l.starts + stands.0} (sym {b = setup_count l.starts + stands.0} stands.1));
       up = up;
       takes_more = w.open_as.takes_more;
       offered = written.offered t.link up;

@@ -31,7 +31,8 @@ use Rattle.session_laws.proofs.Names.{get_more, get_some, name_of_some, open_wit
 use Rattle.session_laws.proofs.Numbers.{IsIn, Rising, in_left, in_right, rising_apart, rising_in, rising_left, rising_right}
 use Rattle.session_laws.proofs.Owes.{get_in, request_story}
 use Rattle.session_laws.proofs.Permits.{IsHolding, holding_same, permits_same}
-use Rattle.session_laws.proofs.SetUp.{count_same, set_up_begins, setups_begins}
+use Rattle.legal_trace.proofs.Setups.{count_more}
+use Rattle.session_laws.proofs.SetUp.{set_up_begins, setups_begins}
 use Rattle.session_laws.proofs.Tied.{AreQueued, Inner, IsEntry, IsQueued, IsRequest, Tied, TiedLines, TiedTries, TiedWaits, link_in, owner_of, owners_each, owners_of, queue_ids, setup_owners, shown_wait, numbers_kept}
 
 -- the action that its start shows
@@ -138,7 +139,7 @@ tries_started : (l : Ledger) (story : ℕ → Story) (requests : List Request) (
 tries_started l story requests link k started s p new one owned shaped counted none h =
     let n = name_at requests p in
     let c = setup_count l.starts in
-    let same : setup_count (l.starts ++ s ∷ []) ≡ c = count_same l.starts s (ap is_of_setup owned) in
+    let same : setup_count (l.starts ++ s ∷ []) ≡ c = count_more l.starts s (ap is_of_setup owned) in
     let long : length l.starts ≡ c + length started = owners_length l.starts requests started c h.owners in
     record {
       owners = owners-append l.starts (s ∷ []) ∙ (λ i. h.owners i ++ owned i ∷ []) ∙ setup_owners-append c (owners_each requests started) (owner_of requests p ∷ [])

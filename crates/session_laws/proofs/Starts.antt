@@ -24,7 +24,7 @@ use Rattle.session_laws.proofs.Ahead.{IsRunning, queue_step, queue_unstarted, qu
 use Rattle.session_laws.proofs.Entered.{shown_more, timers_of-append}
 use Rattle.session_laws.proofs.Going.{IsGoing, begun_up, first_in_queue, going_more, none_ends_mine}
 use Rattle.session_laws.proofs.Owes.{request_story}
-use Rattle.session_laws.proofs.Said.{ending_ready}
+use Rattle.legal_trace.proofs.Setups.{ends_where_set}
 use Rattle.session_laws.proofs.SetUp.{ending_up_same, set_up_begins}
 use Rattle.session_laws.proofs.Start.{after_start, on_link, start_action, start_tied, with_queue}
 use Rattle.session_laws.proofs.States.{IsFit}
@@ -55,7 +55,7 @@ start_may b t link q qs fit free h ended =
 
 -- the start of a request's message ends no link
 begins_ends_none : (l : Ledger) (s : Start) → l.up ≡ true → is_of_setup s.owner ≡ false → IsSetUp l → ending l ≡ None → ending (noted l (begins s)) ≡ None
-begins_ends_none l s up other h e = ending_ready (noted l (begins s)) up (set_up_begins l s other h).well ∙ ending_up_same l (l.starts ++ s ∷ []) l.heard ∙ sym (ending_ready l up h.well) ∙ e
+begins_ends_none l s up other h e = ends_where_set (noted l (begins s)) up (set_up_begins l s other h).well ∙ ending_up_same l (l.starts ++ s ∷ []) l.heard ∙ sym (ends_where_set l up h.well) ∙ e
 
 -- it starts
 start_going : (trace : List Action) (t : Inner) (link : LinkState) (q : Queued) (qs : List Queued) → IsFit t.size t.bound (with_queue link (q ∷ qs)) → holds_back link ≡ false → IsGoing trace (on_link t (with_queue link (q ∷ qs)))

@@ -87,11 +87,7 @@ fn opening_timers(alloc: Global, timeout: Option<u64>) -> Result<Seq<Purpose>, A
 }
 
 /// The state after the opening, where this is what is said to the server.
-fn opened(
-    alloc: Global,
-    config: &Config,
-    info: RedisConnectionInfo,
-) -> Result<Core, AllocError>
+fn opened(alloc: Global, config: &Config, info: RedisConnectionInfo) -> Result<Core, AllocError>
     requires { info ≡ told_info config.now }
     ensures { IfOk result (λ core. (word : ℕ) → core ≡ opening_core config.now word) }
 {

@@ -93,7 +93,9 @@ turn 3; close 0; created not authenticated; 0 not authenticated; turn 4; 1 not a
 }
 
 #[test]
-fn a_link_that_ends_while_it_is_set_up_fails_the_opening(rt: HostRuntime) -> Result<(), AllocError> {
+fn a_link_that_ends_while_it_is_set_up_fails_the_opening(
+    rt: HostRuntime,
+) -> Result<(), AllocError> {
     let list = [Told::Connected(0), Told::Get("a"), Told::Ended(0)];
     let wanted = "turn 0; connect 0 6379; turn 1; start 0 setup 2 51; \
 write *3\r\n$4\r\nAUTH\r\n$1\r\nu\r\n$1\r\np\r\n\
@@ -184,7 +186,10 @@ write *4\r\n$6\r\nCLIENT\r\n$7\r\nSETINFO\r\n$8\r\nLIB-NAME\r\n$8\r\nredis-rs\r\
 #[test]
 fn a_setup_of_one_command_is_judged_by_its_reply(rt: HostRuntime) -> Result<(), AllocError> {
     let alloc = rt.alloc();
-    let list = [Told::Connected(0), Told::Bytes(0, "-ERR unknown command\r\n")];
+    let list = [
+        Told::Connected(0),
+        Told::Bytes(0, "-ERR unknown command\r\n"),
+    ];
     let wanted = "turn 0; connect 0 6379; turn 1; start 0 setup 1 22; \
 write *2\r\n$5\r\nHELLO\r\n$1\r\n3\r\n; turn 2; close 0; created server; ";
     let config = config_of(alloc, b"redis://h?protocol=3", UNBOUNDED)?;

@@ -229,7 +229,10 @@ fn show_timer(
     let line = match purpose {
         Purpose::Connect { link } => format!(in alloc; "timer {timer} {ms} connect {link}; ")?,
         Purpose::Response { owner } => {
-            format!(in alloc; "timer {timer} {ms} response {}; ", owner_text(alloc, &owner)?)?
+            format!(in alloc;
+                "timer {timer} {ms} response {}; ",
+                owner_text(alloc, &owner)?
+            )?
         }
     };
     log.extend_from_slice(line.as_bytes())
@@ -271,7 +274,12 @@ fn show(alloc: Global, action: &Action, log: &mut Vec<u8>) -> Result<(), AllocEr
             owner,
             need,
             len,
-        } => { format!(in alloc; "start {message} {} {need} {len}; ", owner_text(alloc, owner)?)? }
+        } => {
+            format!(in alloc;
+                "start {message} {} {need} {len}; ",
+                owner_text(alloc, owner)?
+            )?
+        }
         Action::Created { error } => return show_creation(error, log),
         Action::Outcome {
             submission,

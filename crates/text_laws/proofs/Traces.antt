@@ -34,6 +34,7 @@ no_causes l t (act.Timer n ms ∷ more) = no_causes l (t + 1) more
 no_causes l t (act.Close ∷ more) = no_causes l (t + 0) more
 no_causes l t (act.Write bytes ∷ more) = no_causes l (t + 0) more
 no_causes l t (act.Wait n kind ∷ more) = no_causes l (t + 0) more
+no_causes l t (act.SetUp message need len ∷ more) = no_causes l (t + 0) more
 no_causes l t (act.Start message n need len ∷ more) = no_causes l (t + 0) more
 no_causes l t (act.Outcome n o ∷ more) = no_causes l (t + 0) more
 

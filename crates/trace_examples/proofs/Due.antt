@@ -1,5 +1,5 @@
 -- A trace whose steps are tested one by one is legal: each action stands where it may, since it is the next that is due.
-use Rattle.std.proofs.Common.{◌≡◌, ◌⊎◌, ℕ, ◌==◌, Bool, true, ◌&&◌, not, List, [], ◌∷◌, length, Option, Some, None, is_some, refl, sym, ap, subst, ◌∙◌, inl, inr, arith}
+use Rattle.std.proofs.Common.{◌≡◌, ◌⊎◌, ℕ, ◌==◌, Bool, true, false, ◌&&◌, not, List, [], ◌∷◌, length, Option, Some, None, is_some, refl, sym, ap, subst, ◌∙◌, inl, inr, arith}
 use Rattle.std.proofs.lemmas.Bool.{not-true}
 use Rattle.containers.proofs.Choices.{eq_from, ne_from, both_left, both_right}
 use Rattle.resp_value.specs.declared.value.Value.TheVariants.{Nil}
@@ -29,7 +29,7 @@ use Rattle.legal_trace.specs.Legal.{IsOpen, IsWaiting, link_of, MayTurn, MayConn
 use Rattle.legal_trace.proofs.Setups.{due_count}
 use Rattle.trace_examples.proofs.Bounded.{IsBounded, is_of_first, still_bounded, blank_bounded}
 use Rattle.trace_examples.proofs.Checks.{holds_if, held, is_empty, empty_from, filled_from, each_below, below, same_step, step_from, is_other_wait, other_wait}
-use Rattle.trace_examples.proofs.Settled.{is_quiet, quiet, all_quiet, none_is_owed, all_shown, verdicts_are_shown, none_ends, no_end, failure_shown, failures_are_shown, is_applied, applied, ready_shown, ready_is_shown, is_to_set_up, is_begun, has_begun, all_stay, none_before, is_moved, moved, is_written, written, wait_holds, holds, is_waiting, waiting, is_settled, settled}
+use Rattle.trace_examples.proofs.Settled.{is_quiet, quiet, all_shown, verdicts_are_shown, none_ends, no_end, failure_shown, failures_are_shown, is_applied, applied, ready_shown, ready_is_shown, is_to_set_up, is_begun, has_begun, all_stay, none_before, is_moved, moved, is_written, written, wait_holds, holds, is_waiting, waiting, is_settled, settled}
 
 -- a turn
 abbrev pub turn_due : Book → ℕ → Cause → Bool
@@ -202,9 +202,9 @@ created_due b = is_ready (b.link 0) && (b.created == 0) && all_shown b
 created_stands : (b : Book) → IsBounded b → created_due b ≡ true → MayBeCreated b
 created_stands b bounded e = record {
   l = 0;
-  ready = both_left (is_ready (b.link 0)) ((b.created == 0) && all_shown b) e;
-  once = eq_from b.created 0 (both_left (b.created == 0) (all_shown b) (both_right (is_ready (b.link 0)) ((b.created == 0) && all_shown b) e));
-  answered = verdicts_are_shown b bounded (both_right (b.created == 0) (all_shown b) (both_right (is_ready (b.link 0)) ((b.created == 0) && all_shown b) e));
+  ready = search (both_left, both_right);
+  once = eq_from b.created 0 (search (both_left, both_right));
+  answered = verdicts_are_shown b bounded (search (both_left, both_right));
 }
 
 -- the setup of the first link, of that number

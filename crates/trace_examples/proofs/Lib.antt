@@ -13,3 +13,5 @@ pub mod LeftOut
 pub mod Fronts
 pub mod Places
 pub mod Permits
+pub mod Setups
+pub mod Unready

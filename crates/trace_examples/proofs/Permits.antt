@@ -115,7 +115,7 @@ timed_out_in_wait word = legal (held_for 100) word _ _ refl refl (at_held_for 10
 
 -- these fronts stand
 pub permit_fronts_stand : (word : ℕ) → EachStands (permit_fronts word)
-unfolding digits is_bad_event items values left_over is_spoiled max_depth
+unfolding digits is_bad_event items values left_over is_spoiled max_depth url_on_literals utf8_lossy utf8_valid_len
 permit_fronts_stand word =
     let came = stands (arrived one_permit word (command 71)) refl (at_limited 1 (Some 100) refl, tt) in
     let uncounted = stands (arrived unbounded word (command 71)) refl (at_h (Some None), tt) in
@@ -132,35 +132,35 @@ permit_fronts_stand word =
 
 -- a start before its permit was taken
 pub started_without_a_permit : NoneBeginsIn one_permit (λ config word. arrived config word (command 71)) (action.Start 0 0 (owner.Try 0 0) 1 11)
-unfolding digits
+unfolding digits url_on_literals utf8_lossy utf8_valid_len
 started_without_a_permit word events after h =
     let m = may_stand one_permit word events (arrived one_permit word (command 71)) after (action.Start 0 0 (owner.Try 0 0) 1 11) h in
     cc m.1.starts
 
 -- and before its timer was asked for
 pub started_without_its_timer : NoneBeginsIn one_permit permit_taken (action.Start 0 0 (owner.Try 0 0) 1 11)
-unfolding digits
+unfolding digits url_on_literals utf8_lossy utf8_valid_len
 started_without_its_timer word events after h =
     let m = may_stand one_permit word events (permit_taken one_permit word) after (action.Start 0 0 (owner.Try 0 0) 1 11) h in
     cc m.1.starts
 
 -- a permit that is taken where they aren't counted
 pub taken_uncounted : NoneBeginsIn unbounded (λ config word. arrived config word (command 71)) (action.Took (owner.Try 0 0) 0 1)
-unfolding digits
+unfolding digits url_on_literals utf8_lossy utf8_valid_len
 taken_uncounted word events after h =
     let m = may_stand unbounded word events (arrived unbounded word (command 71)) after (action.Took (owner.Try 0 0) 0 1) h in
     cc m.1.takes
 
 -- more permits than are free
 pub more_than_are_free : NoneBeginsIn (permits_alone 3) two_taken (action.Took (owner.Try 1 0) 0 2)
-unfolding digits
+unfolding digits url_on_literals utf8_lossy utf8_valid_len
 more_than_are_free word events after h =
     let m = may_stand (permits_alone 3) word events (two_taken (permits_alone 3) word) after (action.Took (owner.Try 1 0) 0 2) h in
     cc m.1.takes
 
 -- the permit of the second, before that of the first
 pub taken_out_of_order : NoneBeginsIn (permits_alone 2) (λ config word. both_in_wait config word (command 72)) (action.Took (owner.Try 1 0) 0 1)
-unfolding digits
+unfolding digits url_on_literals utf8_lossy utf8_valid_len
 taken_out_of_order word events after h =
     let m = may_stand (permits_alone 2) word events (both_in_wait (permits_alone 2) word (command 72)) after (action.Took (owner.Try 1 0) 0 1) h in
     m.1.in_order 0 (omega arith) (record { unstarted = refl; due = refl })
@@ -178,14 +178,14 @@ asked_by_the_first b t ms (inr may) = subst (λ n. next_step b n ≡ asks ms) (t
 
 -- a timer before the permit
 pub timer_before_the_permit : NoneBeginsIn one_permit (λ config word. arrived config word (command 71)) (action.Timer 0 100 (purpose.Response (owner.Try 0 0)))
-unfolding digits
+unfolding digits url_on_literals utf8_lossy utf8_valid_len
 timer_before_the_permit word events after h =
     let m = may_stand one_permit word events (arrived one_permit word (command 71)) after (action.Timer 0 100 (purpose.Response (owner.Try 0 0))) h in
     cc (asked_by_the_first (book_of (arrived one_permit word (command 71))) 0 100 m)
 
 -- a second timer of a submission
 pub a_second_timer : NoneBeginsIn one_permit timer_asked (action.Timer 1 100 (purpose.Response (owner.Try 0 0)))
-unfolding digits
+unfolding digits url_on_literals utf8_lossy utf8_valid_len
 a_second_timer word events after h =
     let m = may_stand one_permit word events (timer_asked one_permit word) after (action.Timer 1 100 (purpose.Response (owner.Try 0 0))) h in
     cc (asked_by_the_first (book_of (timer_asked one_permit word)) 1 100 m)
@@ -196,29 +196,29 @@ same_time m n e = cc e
 
 -- a timer of another time than the one in force
 pub timer_of_another_time : NoneBeginsIn one_permit permit_taken (action.Timer 0 99 (purpose.Response (owner.Try 0 0)))
-unfolding digits
+unfolding digits url_on_literals utf8_lossy utf8_valid_len
 timer_of_another_time word events after h =
     let m = may_stand one_permit word events (permit_taken one_permit word) after (action.Timer 0 99 (purpose.Response (owner.Try 0 0))) h in
     ne_from 100 99 refl (same_time 100 99 (asked_by_the_first (book_of (permit_taken one_permit word)) 0 99 m))
 
 -- a submission whose time is over, answered with the closed connection
 pub closed_when_over : NoneBeginsIn one_permit time_is_over (action.Outcome 0 (outcome.Fault error.Closed))
-unfolding digits
+unfolding digits url_on_literals utf8_lossy utf8_valid_len
 closed_when_over word events after h = cc (answer one_permit word events (time_is_over one_permit word) after 0 (outcome.Fault error.Closed) refl h).owes
 
 -- the reply to it, given to the next one
 pub reply_of_the_first : NoneBeginsIn one_permit replied_late (action.Outcome 1 (reply 120))
-unfolding digits items values left_over is_spoiled max_depth
+unfolding digits items values left_over is_spoiled max_depth url_on_literals utf8_lossy utf8_valid_len
 reply_of_the_first word events after h = cc (answer one_permit word events (replied_late one_permit word) after 1 (reply 120) refl h).owes
 
 -- or to the first, behind its outcome
 pub answered_when_over : NoneBeginsIn one_permit replied_late (action.Outcome 0 (reply 120))
-unfolding digits items values left_over is_spoiled max_depth
+unfolding digits items values left_over is_spoiled max_depth url_on_literals utf8_lossy utf8_valid_len
 answered_when_over word events after h = cc (still_open one_permit word events (replied_late one_permit word) after 0 (reply 120) h)
 
 -- the wait for a permit, where one is free
 pub waits_though_one_is_free : NoneBeginsIn (limited_to 2 (Some 100)) second_came (action.Wait (owner.Try 1 0) wait.Permit)
-unfolding digits
+unfolding digits url_on_literals utf8_lossy utf8_valid_len
 waits_though_one_is_free word events after h =
     let m = may_stand (limited_to 2 (Some 100)) word events (second_came (limited_to 2 (Some 100)) word) after (action.Wait (owner.Try 1 0) wait.Permit) h in
     cc m.1.holds
@@ -229,7 +229,7 @@ two_kinds kind e f = cc (e, f)
 
 -- a turn that begins while the wait for the connect stands behind it, and that for a permit is true
 pub connect_was_shown : (number : ℕ) (c : Cause) → NoneBeginsIn (permits_alone 1) connect_left_standing (action.Turn number c)
-unfolding digits
+unfolding digits url_on_literals utf8_lossy utf8_valid_len
 connect_was_shown number c word events after h = of_cause c (may_stand (permits_alone 1) word events (connect_left_standing (permits_alone 1) word) after (action.Turn number c) h)
   where
     of_cause : (c : Cause) → MayTurn (book_of (connect_left_standing (permits_alone 1) word)) number c → ⊥
@@ -238,7 +238,7 @@ connect_was_shown number c word events after h = of_cause c (may_stand (permits_
 
 -- a turn that begins while a permit is free, and one waits for it
 pub permit_is_kept : (number : ℕ) (c : Cause) → NoneBeginsIn one_permit permit_is_free (action.Turn number c)
-unfolding digits
+unfolding digits url_on_literals utf8_lossy utf8_valid_len
 permit_is_kept number c word events after h = of_cause c (may_stand one_permit word events (permit_is_free one_permit word) after (action.Turn number c) h)
   where
     of_cause : (c : Cause) → MayTurn (book_of (permit_is_free one_permit word)) number c → ⊥

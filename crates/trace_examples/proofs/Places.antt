@@ -19,6 +19,7 @@ use Rattle.driver_model.specs.Request.{packed_bytes}
 use Rattle.legal_trace.specs.Events.{is_bad_event}
 use Rattle.legal_trace.specs.Steps.{waits, line_before}
 use Rattle.legal_trace.specs.Legal.{MayTurn}
+use Rattle.legal_trace.proofs.Moves.{starts_mean}
 use Rattle.trace_examples.specs.Parts.{turn, command, unawaited, two_together}
 use Rattle.trace_examples.specs.Traces.{held_back, both_in_wait}
 use Rattle.trace_examples.specs.Places.{narrow, one_at_a_time, third_held, third_came, queue_full, second_unshown, place_fronts}
@@ -79,7 +80,7 @@ told_once_it_has_a_place word = legal one_at_a_time word _ _ refl refl (at_held 
 
 -- these fronts stand
 pub place_fronts_stand : (word : ℕ) → EachStands (place_fronts word)
-unfolding digits is_bad_event
+unfolding digits is_bad_event url_on_literals utf8_lossy utf8_valid_len
 place_fronts_stand word =
     let held = stands (held_back one_at_a_time word) refl (at_held 0 1 refl, (refl, tt)) in
     let free = stands (held_back narrow word) refl (at_held 30 50 refl, (refl, tt)) in
@@ -91,14 +92,14 @@ place_fronts_stand word =
 
 -- a start while the link is held back
 pub started_while_held_back : NoneBeginsIn one_at_a_time held_back (action.Start 0 1 (owner.Try 1 0) 1 11)
-unfolding digits
+unfolding digits url_on_literals utf8_lossy utf8_valid_len
 started_while_held_back word events after h =
     let m = may_stand one_at_a_time word events (held_back one_at_a_time word) after (action.Start 0 1 (owner.Try 1 0) 1 11) h in
     cc m.1.starts
 
 -- a Nil that is told while the queue is full
 pub told_while_the_queue_is_full : NoneBeginsIn one_at_a_time (λ config word. third_came config word (unawaited 73)) (action.Outcome 2 (outcome.One Nil))
-unfolding digits
+unfolding digits url_on_literals utf8_lossy utf8_valid_len
 told_while_the_queue_is_full word events after h =
     elim (may_stand one_at_a_time word events (third_came one_at_a_time word (unawaited 73)) after (action.Outcome 2 (outcome.One Nil)) h) [
       | inl answer ↦ cc answer.owes
@@ -107,28 +108,28 @@ told_while_the_queue_is_full word events after h =
 
 -- a start while the queue is full
 pub started_without_a_place : NoneBeginsIn one_at_a_time (λ config word. third_came config word (command 73)) (action.Start 0 1 (owner.Try 2 0) 1 11)
-unfolding digits
+unfolding digits url_on_literals utf8_lossy utf8_valid_len
 started_without_a_place word events after h =
     let m = may_stand one_at_a_time word events (third_came one_at_a_time word (command 73)) after (action.Start 0 1 (owner.Try 2 0) 1 11) h in
     cc m.1.starts
 
 -- the wait for a place, shown of one that has it
 pub place_where_it_has_one : NoneBeginsIn one_at_a_time held_back (action.Wait (owner.Try 1 0) wait.Place)
-unfolding digits
+unfolding digits url_on_literals utf8_lossy utf8_valid_len
 place_where_it_has_one word events after h =
     let m = may_stand one_at_a_time word events (held_back one_at_a_time word) after (action.Wait (owner.Try 1 0) wait.Place) h in
     cc m.1.holds
 
 -- the wait for room, shown where the link isn't held back
 pub room_where_there_is_room : NoneBeginsIn narrow held_back (action.Wait (owner.Try 1 0) wait.Room)
-unfolding digits
+unfolding digits url_on_literals utf8_lossy utf8_valid_len
 room_where_there_is_room word events after h =
     let m = may_stand narrow word events (held_back narrow word) after (action.Wait (owner.Try 1 0) wait.Room) h in
     cc m.1.holds
 
 -- and shown of one that has no place
 pub room_without_a_place : NoneBeginsIn one_at_a_time (λ config word. third_came config word (command 73)) (action.Wait (owner.Try 2 0) wait.Room)
-unfolding digits
+unfolding digits url_on_literals utf8_lossy utf8_valid_len
 room_without_a_place word events after h =
     let m = may_stand one_at_a_time word events (third_came one_at_a_time word (command 73)) after (action.Wait (owner.Try 2 0) wait.Room) h in
     cc m.1.holds
@@ -139,7 +140,7 @@ two_kinds kind e f = cc (e, f)
 
 -- a turn that begins while the wait that is true isn't shown: another one was, which isn't true any more
 pub another_wait_was_shown : (number : ℕ) (c : Cause) → NoneBeginsIn one_at_a_time second_unshown (action.Turn number c)
-unfolding digits
+unfolding digits url_on_literals utf8_lossy utf8_valid_len
 another_wait_was_shown number c word events after h = of_cause c (may_stand one_at_a_time word events (second_unshown one_at_a_time word) after (action.Turn number c) h)
   where
     of_cause : (c : Cause) → MayTurn (book_of (second_unshown one_at_a_time word)) number c → ⊥
@@ -152,4 +153,4 @@ second_before_the_first config word events after h =
     let b = book_of (both_in_wait config word (command 72)) in
     let m = may_stand config word events (both_in_wait config word (command 72)) after (action.Start 0 0 (owner.Try 1 0) 1 11) h in
     let s = starts_uncounted b 1 refl refl m.1.starts in
-    m.1.in_order 0 (omega arith) (record { unstarted = refl; due = first_is_due b refl refl refl refl s.0 (room_for_one (buffer_size config) (line_before config.limit b.story 0 1) s.1) })
+    m.1.in_order 0 (omega arith) (record { unstarted = refl; due = first_is_due b refl (starts_mean b 1 m.1.starts).1 refl refl s.0 (room_for_one (buffer_size config) (line_before config.limit b.story 0 1) s.1) })

@@ -1,17 +1,29 @@
 -- What the parts of a legal trace say of one action in it.
-use Rattle.std.proofs.Common.{◌≡◌, ℕ, ◌==◌, true, false, List, ◌∷◌, ◌++◌, Some, inl, inr}
+use Rattle.std.proofs.Common.{◌≡◌, ℕ, ◌==◌, Bool, true, false, List, [], ◌∷◌, ◌++◌, if◌then◌else◌, Some, None, inl, inr, refl}
 use Rattle.containers.proofs.Choices.{ne_from, not_both}
+use Rattle.connection_setup.specs.Setup.{setup}
+use Rattle.connection_setup.specs.declared.judgement.SetupResult.TheVariants as result
 use Rattle.driver_model.specs.declared.action.Action.{Action}
 use Rattle.driver_model.specs.declared.action.Action.TheVariants as action
+use Rattle.driver_model.specs.declared.action.Owner.TheVariants as owner
+use Rattle.driver_model.specs.declared.action.WaitKind.TheVariants as wait
 use Rattle.driver_model.specs.declared.config.Config.{Config}
+use Rattle.driver_model.specs.Config.{told_info}
+use Rattle.driver_model.specs.Setup.{says_nothing}
 use Rattle.driver_model.specs.declared.event.Event.{Event}
+use Rattle.driver_model.specs.declared.event.EventKind.TheVariants as event
+use Rattle.driver_model.specs.declared.event.Submission.{Submission}
 use Rattle.driver_model.specs.declared.outcome.Outcome.{Outcome}
+use Rattle.legal_trace.specs.Ledger.{is_ready, is_set_up, is_well}
 use Rattle.legal_trace.specs.Story.{is_awaited}
 use Rattle.legal_trace.specs.Book.{Book, blank_book, entered_each}
 use Rattle.legal_trace.specs.Legal.{IsOpen, MayAnswer, MayStand, Legal}
 use Rattle.legal_trace.proofs.Books.{stand_behind}
-use Rattle.legal_trace.proofs.Moves.{tells_mean}
-use Rattle.trace_examples.specs.Parts.{reply}
+use Rattle.legal_trace.proofs.Moves.{tells_mean, ready_is_up, ready_is_set}
+use Rattle.trace_examples.specs.Parts.{turn, command, reply}
+use Rattle.trace_examples.specs.Traces.{opening, came_up, in_wait, both_in_wait}
+use Rattle.trace_examples.proofs.Bounded.{IsBounded, blank_bounded, bounded_behind}
+use Rattle.trace_examples.proofs.Settled.{first_and_idle}
 
 -- the book of a front
 abbrev pub book_of : List Action → Book
@@ -38,3 +50,46 @@ other_letter x y apart e = ne_from x y apart (same_letter x y e)
   where
     same_letter : (x y : ℕ) → Some (reply x) ≡ Some (reply y) → x ≡ y
     same_letter x y e = cc e
+
+-- where the first link isn't up, none is ready
+pub none_is_ready : (b : Book) (l : ℕ) → IsBounded b → (b.link 0).up ≡ false → is_ready (b.link l) ≡ true → ⊥
+none_is_ready b l bounded down = first_and_idle b (λ m. is_ready (b.link m) ≡ true → ⊥) l bounded
+    (λ r. not_both (b.link 0).up down (ready_is_up (b.link 0) r))
+    (λ idle r. not_both (b.link l).up idle.down (ready_is_up (b.link l) r))
+
+-- nor where it isn't set up
+pub none_is_set : (b : Book) (l : ℕ) → IsBounded b → is_set_up (b.link 0) ≡ false → is_ready (b.link l) ≡ true → ⊥
+none_is_set b l bounded unset = first_and_idle b (λ m. is_ready (b.link m) ≡ true → ⊥) l bounded
+    (λ r. not_both (is_set_up (b.link 0)) unset (ready_is_set (b.link 0) r))
+    (λ idle r. not_both (b.link l).up idle.down (ready_is_up (b.link l) r))
+
+-- where the creation is shown, the first link is ready
+created_ready : (config : Config) (word : ℕ) (events : List Event) (front after : List Action) → IsBounded (book_of front) → Legal config word events (front ++ action.Created None ∷ after) → is_ready ((book_of front).link 0) ≡ true
+created_ready config word events front after bounded h =
+    let m = may_stand config word events front after (action.Created None) h in
+    let b = book_of front in
+    first_and_idle b (λ l. is_ready (b.link l) ≡ true → is_ready (b.link 0) ≡ true) m.l bounded (λ r. r)
+    (λ idle r. absurd (not_both (b.link m.l).up idle.down (ready_is_up (b.link m.l) r))) m.ready
+
+-- where no setup started, and a link is set up, nothing is to be said
+silent_from : (says : Bool) → is_well (if says then Some result.Ready else None) ≡ true → says ≡ true
+silent_from true e = refl
+silent_from false e = cc e
+
+-- nothing is to be said to the server of this configuration
+abbrev pub IsSilent : Config → Type 0
+IsSilent config = says_nothing (setup (told_info config) (0 == 0)) ≡ true
+
+-- where the link is created once it is up, it is so
+pub came_up_silent : (config : Config) (word : ℕ) (events : List Event) (after : List Action) → Legal config word events (came_up config word ++ after) → IsSilent config
+came_up_silent config word events after h =
+    let front = opening config word ++ turn 1 (event.Connected 0) ∷ [] in
+    let ready = created_ready config word events front after (bounded_behind blank_book front refl blank_bounded) h in
+    silent_from (says_nothing (setup (told_info config) (0 == 0))) (ready_is_set ((book_of front).link 0) ready)
+
+-- also where two requests wait
+pub both_up_silent : (config : Config) (word : ℕ) (events : List Event) (s : Submission) (after : List Action) → Legal config word events (both_in_wait config word s ++ after) → IsSilent config
+both_up_silent config word events s after h =
+    let front = in_wait config word (command 71) ++ turn 2 (event.Submit s) ∷ action.Wait (owner.Try 1 0) wait.Connect ∷ turn 3 (event.Connected 0) ∷ [] in
+    let ready = created_ready config word events front after (bounded_behind blank_book front refl blank_bounded) h in
+    silent_from (says_nothing (setup (told_info config) (0 == 0))) (ready_is_set ((book_of front).link 0) ready)

@@ -1,6 +1,6 @@
 -- Actions around an opening that fails, where they may not stand: whatever comes after these fronts, no trace that begins so
 -- is legal.
-use Rattle.std.proofs.Common.{◌≡◌, ◌≢◌, ℕ, Option, Some, None, true, refl, inl, inr, sym, ◌∙◌, ap, arith}
+use Rattle.std.proofs.Common.{◌≡◌, ◌≢◌, ℕ, Option, Some, None, refl, inl, inr, sym, ◌∙◌, ap, arith}
 use Rattle.std.specs.Fmt.{digits}
 use Rattle.redis_error.specs.declared.fault_kind.FaultKind.TheVariants.{Reset}
 use Rattle.redis_error.specs.declared.redis_error.RedisError.{RedisError}
@@ -22,7 +22,7 @@ use Rattle.trace_examples.specs.Claims.{NoneBegins, NoneBeginsIn}
 use Rattle.trace_examples.proofs.Bounded.{IsBounded, blank_bounded, bounded_behind}
 use Rattle.trace_examples.proofs.Misplaced.{same_config}
 use Rattle.trace_examples.proofs.Settled.{first_and_idle, failed_idle}
-use Rattle.trace_examples.proofs.Stood.{book_of, may_stand, answer}
+use Rattle.trace_examples.proofs.Stood.{book_of, may_stand, answer, none_is_ready}
 
 -- a command that waited, answered with the closed connection
 pub closed_in_place : NoneBegins timed_out (action.Outcome 0 (outcome.Fault error.Closed))
@@ -56,7 +56,7 @@ pub failed_before_the_close : (e : Option RedisError) → NoneBegins overdue (ac
 failed_before_the_close e config word events after h = of_error e (may_stand config word events (overdue config word) after (action.Created e) h)
   where
     of_error : (e : Option RedisError) → MayShowCreation (book_of (overdue config word)) e → ⊥
-    of_error None m = cc (m.ended 0)
+    of_error None m = none_is_ready (book_of (overdue config word)) m.l (bounded_behind blank_book (overdue config word) refl blank_bounded) refl m.ready
     of_error (Some x) m = cc (m.ended 0)
 
 -- a failed connect has one link
@@ -67,8 +67,7 @@ refused_is_bounded config word = bounded_behind blank_book (connect_refused conf
 pub created_when_refused : NoneBegins connect_refused (action.Created None)
 created_when_refused config word events after h =
     let m = may_stand config word events (connect_refused config word) after (action.Created None) h in
-    let b = book_of (connect_refused config word) in
-    first_and_idle b (λ l. (b.link l).up ≡ true → ⊥) m.l (refused_is_bounded config word) (λ up. cc up) (λ idle up. cc (sym idle.down ∙ up)) m.up
+    none_is_ready (book_of (connect_refused config word)) m.l (refused_is_bounded config word) refl m.ready
 
 -- or with another error
 pub another_error : NoneBegins connect_refused (action.Created (Some error.Closed))

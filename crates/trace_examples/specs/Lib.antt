@@ -5,3 +5,4 @@ pub mod Places
 pub mod Fronts
 pub mod Claims
 pub mod Permits
+pub mod Setups

@@ -36,7 +36,7 @@ held_at bound size = record { url = codes "redis://h:6379"; connect = Some None;
 abbrev pub limited_to : ℕ → Option ℕ → Config
 limited_to limit ms = record { url = codes "redis://h:6379"; connect = Some None; response = Some ms; limit = Some limit; buffer = None; boundary = None; lib = Some false }
 
--- nothing said but the address: a connect may take 1,000 milliseconds, and a request 500
+-- nothing said but the address, and that the library isn't named: a connect may take 1,000 milliseconds, and a request 500
 abbrev pub plain : Config
 plain = record { url = codes "redis://h:6379"; connect = None; response = None; limit = None; buffer = None; boundary = None; lib = Some false }
 

@@ -2,7 +2,7 @@
 #![tactic(auto)]
 
 ghost use Rattle.std.specs.Prelude.{◌≡◌, ◌≢◌, ◌<◌, ℕ, List, [], ◌∷◌, ◌++◌, Option, Some, None};
-ghost use Rattle.std.specs.Prelude.{drop, pos};
+ghost use Rattle.std.specs.Prelude.{drop, pos, true, false};
 ghost use Rattle.redis_error.specs.declared.fault_kind.FaultKind.{FaultKind};
 ghost use Rattle.redis_error.specs.declared.fault_kind.FaultKind.TheVariants.{Reset, TimedOut};
 ghost use Rattle.redis_error.specs.declared.redis_error.RedisError.{RedisError};
@@ -13,7 +13,9 @@ ghost use Rattle.resp_value.specs.Data.{Data, array, int, items_of};
 ghost use Rattle.driver_model.specs.declared.action.Action.TheVariants as action;
 ghost use Rattle.driver_model.specs.declared.action.Cause.{Cause};
 ghost use Rattle.driver_model.specs.declared.action.Owner.TheVariants as owner;
-ghost use Rattle.driver_model.specs.Config.{connect_timeout, boundary};
+ghost use Rattle.connection_setup.specs.Setup.{setup};
+ghost use Rattle.driver_model.specs.Config.{connect_timeout, boundary, told_info};
+ghost use Rattle.driver_model.specs.Setup.{says_nothing};
 ghost use Rattle.driver_model.specs.declared.action.Purpose.{Purpose};
 ghost use Rattle.driver_model.specs.declared.action.Purpose.TheVariants as purpose;
 ghost use Rattle.driver_model.specs.declared.action.WaitKind.{WaitKind};
@@ -52,6 +54,17 @@ ghost use Rattle.trace_examples.specs.Permits.{timer_asked, second_came, time_is
 ghost use Rattle.trace_examples.specs.Permits.{permit_is_free, replied_late, two_taken};
 ghost use Rattle.trace_examples.specs.Permits.{unawaited_first, second_timer, three_timers};
 ghost use Rattle.trace_examples.specs.Permits.{connect_left_standing, permit_fronts};
+ghost use Rattle.trace_examples.specs.Setups.{secured, secured_in_time, of_a_user};
+ghost use Rattle.trace_examples.specs.Setups.{of_a_library, of_all, password_line};
+ghost use Rattle.trace_examples.specs.Setups.{wrong_password, refusal, other_arguments};
+ghost use Rattle.trace_examples.specs.Setups.{unknown_command, all_well, unsaid, setup_begun};
+ghost use Rattle.trace_examples.specs.Setups.{secret_sent, came_during, answered_well, set_up};
+ghost use Rattle.trace_examples.specs.Setups.{password_refused, closed_by_refusal, refusal_told};
+ghost use Rattle.trace_examples.specs.Setups.{counted_otherwise, said_again, library_said};
+ghost use Rattle.trace_examples.specs.Setups.{all_said, cut_off_during, shut_during};
+ghost use Rattle.trace_examples.specs.Setups.{by_default, of_a_held_user, counted_early};
+ghost use Rattle.trace_examples.specs.Setups.{said_later, named_in_time};
+ghost use Rattle.trace_examples.specs.Setups.{overdue_during, waited_for_both, setup_fronts};
 ghost use Rattle.trace_examples.specs.Traces.{opening};
 ghost use Rattle.trace_examples.specs.Claims.{IsTraceOf, IsTraceIn};
 ghost use Rattle.trace_examples.specs.Claims.{NoneBegins, NoneBeginsIn, NoneIs};
@@ -486,4 +499,128 @@ pub fn nor_are_these_permits()
         → NoneBeginsIn (permits_alone 1) connect_left_standing (action.Turn number c) }
     ensures permit_is_kept { (number : ℕ) (c : Cause)
         → NoneBeginsIn one_permit permit_is_free (action.Turn number c) }
+{}
+
+/// Does nothing. Its contract: these are legal too. What is to be said to a server is one message,
+/// the first of its link; a request waits until its replies are judged, and starts behind the
+/// creation, which is when its timer is asked for; where the server counts other arguments the
+/// setup starts once more, without the user name, once nothing holds the link back; and an error
+/// about the library's name is none.
+pub fn these_are_set_up()
+    ensures starts_once_set_up { IsTraceIn secured
+        (event.Connected 0 ∷ event.Submit (command 71) ∷ event.Wrote 0 22
+        ∷ event.Bytes 0 okay_line ∷ event.Bytes 0 one_reply ∷ []) set_up
+        (action.Start 0 1 (owner.Try 0 0) 1 11 ∷ action.Write 0 (packed_bytes (command 71))
+        ∷ turn 5 (event.Bytes 0 one_reply) ∷ action.Outcome 0 (reply 120) ∷ []) }
+    ensures the_connect_and_then_the_setup { IsTraceIn secured
+        (event.Submit (command 71) ∷ event.Connected 0 ∷ []) waited_for_both
+        (action.Wait (owner.Try 0 0) wait.Setup ∷ []) }
+    ensures without_the_user { IsTraceIn of_a_user
+        (event.Connected 0 ∷ event.Wrote 0 29 ∷ event.Bytes 0 other_arguments
+        ∷ event.Bytes 0 okay_line ∷ []) said_again
+        (turn 4 (event.Bytes 0 okay_line) ∷ action.Created None ∷ []) }
+    ensures without_the_user_later { IsTraceIn of_a_held_user
+        (event.Connected 0 ∷ event.Bytes 0 other_arguments ∷ event.Wrote 0 29
+        ∷ event.Bytes 0 okay_line ∷ []) said_later
+        (turn 4 (event.Bytes 0 okay_line) ∷ action.Created None ∷ []) }
+    ensures by_the_address_alone { IsTraceIn by_default
+        (event.Connected 0 ∷ event.Bytes 0 okay_line ∷ event.Bytes 0 okay_line
+        ∷ event.Submit (command 71) ∷ event.Bytes 0 one_reply ∷ []) named_in_time
+        (turn 4 (event.Submit (command 71))
+        ∷ action.Timer 1 500 (purpose.Response (owner.Try 0 0))
+        ∷ action.Start 0 1 (owner.Try 0 0) 1 11 ∷ turn 5 (event.Bytes 0 one_reply)
+        ∷ action.Outcome 0 (reply 120) ∷ []) }
+    ensures library_unknown { IsTraceIn of_a_library
+        (event.Connected 0 ∷ event.Bytes 0 unknown_command ∷ event.Bytes 0 okay_line ∷ [])
+        library_said (action.Created None ∷ []) }
+    ensures all_in_order { IsTraceIn of_all
+        (event.Connected 0 ∷ event.Bytes 0 all_well ∷ []) all_said
+        (action.Created None ∷ []) }
+{}
+
+/// Does nothing. Its contract: these are legal too. Where the password is refused the link is
+/// closed, this is shown, and who waits gets the error; so it does with the closed connection where
+/// the link fails while it is set up, and where the time of its connect is over; and the shutdown
+/// closes it.
+pub fn so_do_these_setups_fail()
+    ensures password_is_refused { IsTraceIn secured
+        (event.Connected 0 ∷ event.Submit (command 71) ∷ event.Bytes 0 wrong_password
+        ∷ event.Submit (command 72) ∷ []) refusal_told
+        (action.Outcome 0 (outcome.Fault refusal) ∷ turn 4 (event.Submit (command 72))
+        ∷ action.Outcome 1 (outcome.Fault refusal) ∷ []) }
+    ensures cut_off_in_setup { IsTraceIn secured
+        (event.Connected 0 ∷ event.Submit (command 71) ∷ event.ReadFault 0 Reset ∷ [])
+        cut_off_during
+        (action.Close 0 ∷ action.Created (Some error.Closed)
+        ∷ action.Outcome 0 (outcome.Fault error.Closed) ∷ []) }
+    ensures timed_out_in_setup { IsTraceIn secured_in_time
+        (event.Connected 0 ∷ event.Fired 0 ∷ []) overdue_during
+        (action.Close 0 ∷ action.Created (Some (error.Io TimedOut)) ∷ []) }
+    ensures shut_down_in_setup { IsTraceIn secured
+        (event.Connected 0 ∷ event.Submit (command 71) ∷ event.Shutdown ∷ []) shut_during
+        (action.Close 0 ∷ action.Outcome 0 (outcome.Fault error.Closed) ∷ []) }
+{}
+
+/// Does nothing. Its contract: no trace that begins so is legal, whatever its events were and
+/// whatever comes after: a setup that starts twice, though it is well or refused, while its link is
+/// held back, or a third time; with another need, length or bytes, or with the user name still; and
+/// a turn that begins where it is to start. Each action of the fronts stands where it may.
+pub fn nor_are_these_setups()
+    ensures fronts { (word : ℕ) → EachStands (setup_fronts word) }
+    ensures said_twice { (k count len : ℕ)
+        → NoneBeginsIn secured secret_sent (action.Start 0 k owner.Setup count len) }
+    ensures said_again_when_well { (k count len : ℕ)
+        → NoneBeginsIn secured set_up (action.Start 0 k owner.Setup count len) }
+    ensures said_again_when_refused { (k count len : ℕ)
+        → NoneBeginsIn secured password_refused (action.Start 0 k owner.Setup count len) }
+    ensures said_three_times { (k count len : ℕ)
+        → NoneBeginsIn of_a_user said_again (action.Start 0 k owner.Setup count len) }
+    ensures said_again_too_early { (k count len : ℕ)
+        → NoneBeginsIn of_a_held_user counted_early (action.Start 0 k owner.Setup count len) }
+    ensures of_another_need { (k count len : ℕ) → count ≢ 1
+        → NoneBeginsIn secured unsaid (action.Start 0 k owner.Setup count len) }
+    ensures of_another_length { (k count len : ℕ) → len ≢ 22
+        → NoneBeginsIn secured unsaid (action.Start 0 k owner.Setup count len) }
+    ensures with_the_user_still { (k count len : ℕ) → len ≢ 22
+        → NoneBeginsIn of_a_user counted_otherwise (action.Start 0 k owner.Setup count len) }
+    ensures other_words { (bytes : List ℕ) → bytes ≢ password_line
+        → NoneBeginsIn secured (λ config word. setup_begun config word 1 22)
+        (action.Write 0 bytes) }
+    ensures unsaid_in_its_turn { (number : ℕ) (c : Cause)
+        → NoneBeginsIn secured unsaid (action.Turn number c) }
+    ensures unsaid_again { (number : ℕ) (c : Cause)
+        → NoneBeginsIn of_a_user counted_otherwise (action.Turn number c) }
+{}
+
+/// Does nothing. Its contract: the same of what is done beside a setup: a request that starts
+/// before it is answered, or before the creation; a creation before it is answered, or though it
+/// failed; a setup where nothing is to be said; a close where it is to start once more; its error
+/// not told, told late or as another one, or not given to who waited; and a wait for the connect in
+/// its place.
+pub fn nor_are_these_beside_a_setup()
+    ensures started_during { (l k round count len : ℕ)
+        → NoneBeginsIn secured came_during (action.Start l k (owner.Try 0 round) count len) }
+    ensures started_before_the_creation { (l k round count len : ℕ)
+        → NoneBeginsIn secured answered_well (action.Start l k (owner.Try 0 round) count len) }
+    ensures created_unsaid { (config : Config)
+        → says_nothing (setup (told_info config) true) ≡ false
+        → NoneBeginsIn config unsaid (action.Created None) }
+    ensures said_where_nothing_is { (config : Config) (k count len : ℕ)
+        → says_nothing (setup (told_info config) true) ≡ true
+        → NoneBeginsIn config unsaid (action.Start 0 k owner.Setup count len) }
+    ensures created_during { NoneBeginsIn secured secret_sent (action.Created None) }
+    ensures created_though_refused { NoneBeginsIn secured password_refused (action.Created None) }
+    ensures closed_when_counted { NoneBeginsIn of_a_user counted_otherwise (action.Close 0) }
+    ensures error_untold { (number : ℕ) (c : Cause)
+        → NoneBeginsIn secured closed_by_refusal (action.Turn number c) }
+    ensures answered_before_the_error { (o : Outcome)
+        → NoneBeginsIn secured closed_by_refusal (action.Outcome 0 o) }
+    ensures by_another_error { NoneBeginsIn secured closed_by_refusal
+        (action.Created (Some error.Closed)) }
+    ensures closed_in_place_of_the_error { NoneBeginsIn secured refusal_told
+        (action.Outcome 0 (outcome.Fault error.Closed)) }
+    ensures connect_during { NoneBeginsIn secured came_during
+        (action.Wait (owner.Try 0 0) wait.Connect) }
+    ensures connect_stands { (number : ℕ) (c : Cause)
+        → NoneBeginsIn secured waited_for_both (action.Turn number c) }
 {}

@@ -1,10 +1,12 @@
+use Rattle.cancel_laws.proofs.Free.{free_started}
 use Rattle.cancel_laws.proofs.Started.{any_started, command_started, pipeline_started, transaction_started}
 use Rattle.cancel_laws.proofs.a_submission_on_a_link_that_is_up_has_started.Goals as goal
 
 pub returns : goal.returns
 returns c = record {
-  any = λ s some awaited config word draw later sound. any_started config word draw later s some awaited sound;
-  command = λ name args config word draw later sound. command_started config word draw later name args sound;
-  pipeline = λ name args more config word draw later sound. pipeline_started config word draw later name args more sound;
-  transaction = λ args more config word draw later sound. transaction_started config word draw later args more sound;
+  free = λ s some awaited config word draw before free. free_started config word draw before s some awaited free;
+  any = λ s some awaited config word draw later sound silent. any_started config word draw later s some awaited sound silent;
+  command = λ name args config word draw later sound silent. command_started config word draw later name args sound silent;
+  pipeline = λ name args more config word draw later sound silent. pipeline_started config word draw later name args more sound silent;
+  transaction = λ args more config word draw later sound silent. transaction_started config word draw later args more sound silent;
 }

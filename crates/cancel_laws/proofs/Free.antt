@@ -1,0 +1,187 @@
+-- A submission that is handed in on a link that is ready, and which nothing holds back, has started.
+use Rattle.std.proofs.Common.{◌≡◌, ◌≢◌, ℕ, ◌==◌, not, ◌||◌, Bool, true, false, List, [], ◌∷◌, ◌++◌, length, Option, Some, slice_get, if◌then◌else◌, refl, sym, ap, ◌∙◌, subst, arith, inl, inr}
+use Rattle.std.proofs.Math.Bool.{or-false}
+use Rattle.containers.proofs.Choices.{chosen, if_true, if_false, ne_test, not_both}
+use Rattle.containers.proofs.Places.{get_set_same, get_within}
+use Rattle.link_laws.proofs.Lists.{get_last}
+use Rattle.driver_model.specs.declared.config.Config.{Config}
+use Rattle.driver_model.specs.declared.event.Event.{Event}
+use Rattle.driver_model.specs.declared.event.EventKind.TheVariants as event
+use Rattle.driver_model.specs.declared.event.Submission.{Submission}
+use Rattle.driver_model.specs.declared.outcome.Outcome.TheVariants as outcome
+use Rattle.driver_model.specs.declared.outcome.Shape.{Shape}
+use Rattle.driver_model.specs.Request.{packed_bytes, shape_of, is_reply_awaited}
+use Rattle.resp_value.specs.declared.value.Value.TheVariants.{Nil}
+use Rattle.link_core.specs.declared.message.Queued.{Queued}
+use Rattle.link_core.specs.Link.{LinkState, Starting, enqueued, is_full, holds_back, offered_of, started_one, started_each, started_all}
+use Rattle.link_core.specs.Outbox.{can_offer}
+use Rattle.link_core.specs.Waiting.{without}
+use Rattle.mux_conn.specs.declared.connection.MultiplexedConnection.{MultiplexedConnection}
+use Rattle.mux_conn.specs.declared.life.Life.{Life}
+use Rattle.mux_conn.specs.declared.life.Life.TheVariants.{Dialing, SettingUp, Ready, Ended}
+use Rattle.mux_conn.specs.declared.request.Pending.{Pending}
+use Rattle.mux_conn.specs.declared.request.Progress.TheVariants as progress
+use Rattle.mux_conn.specs.declared.request.Request.{Request}
+use Rattle.mux_conn.specs.declared.request.Waiting.{Waiting}
+use Rattle.mux_conn.specs.Connection.{Work, with_link, has_no_permit, admits_none_at, admits_none, has_room}
+use Rattle.mux_conn.specs.Requests.{if_there, is_waiting, is_waiting_at, name_at, permits_at, answered, waiting_of, asked}
+use Rattle.mux_conn.specs.Passes.{started, message_of, placed_at, told_at_place, seated, moved_up_all, put_behind, seated_or_behind, permits_taken, holding, let_in, admitted_at, admitted, still_waiting, still_admitted, admitted_each, admitted_all, passed}
+use Rattle.mux_conn.specs.Turn.{written_at, written, flushed}
+use Rattle.shared_session.specs.declared.core_state.Core.{Core}
+use Rattle.shared_session.specs.Turn.{Turning, pending, work_of, heard, counted, moved_on, timed, next_turn}
+use Rattle.shared_session.specs.Replay.{state_after}
+use Rattle.cancel_laws.specs.Cancels.{handed_in_at, IsFree, HasStarted}
+use Rattle.cancel_laws.proofs.Kept.{let_in_conn}
+use Rattle.cancel_laws.proofs.Rest.{IsThrough, HasStartedAll, IsIdle, conn_shown, started_stays, none_moved_up, waits_conn}
+use Rattle.cancel_laws.proofs.Ready.{IsReady}
+use Rattle.cancel_laws.proofs.Cancels.{state_split, ready_after}
+
+-- request p has had its place, and its message has left the queue of the link, which is up
+record IsStarted (p : ℕ) (c : MultiplexedConnection) : Type 0 where
+  pub request : Request
+  pub known : slice_get c.requests p ≡ Some request
+  pub placed : request.progress ≡ progress.Placed
+  pub link : LinkState
+  pub up : c.life ≡ Ready link
+  pub gone : without link.queue p ≡ link.queue
+
+-- a link that is up is one
+same_link : (k l : LinkState) → Ready k ≡ Ready l → k ≡ l
+same_link k l e = cc
+
+-- and not one that is set up
+not_set_up : (k l : LinkState) (with_user : Bool) → Ready k ≡ SettingUp l with_user → ⊥
+not_set_up k l with_user e = cc
+
+-- bytes are offered
+written_from : (p : ℕ) (w : Work) (life : Life) → w.conn.life ≡ life → IsStarted p w.conn → IsStarted p (written_at w life).conn
+written_from p w (Ready l) e h =
+    let same = same_link h.link l (sym h.up ∙ e) in
+    chosen (λ (x : Work). IsStarted p x.conn) (can_offer l.outbox) _ w
+    (λ t. record {
+      request = h.request;
+      known = h.known;
+      placed = h.placed;
+      link = offered_of l;
+      up = refl;
+      gone = subst (λ (x : LinkState). without x.queue p ≡ x.queue) same h.gone;
+    })
+    (λ f. h)
+written_from p w Dialing e h = h
+written_from p w (SettingUp l with_user) e h = absurd (not_set_up h.link l with_user (sym h.up ∙ e))
+written_from p w (Ended x) e h = h
+
+-- what a turn ends with leaves a started message as it is
+all_flushed : (p : ℕ) (w : Work) → IsStarted p w.conn → IsStarted p (flushed w).conn
+all_flushed p w h =
+    let d = written w in
+    let g = written_from p w w.conn.life refl h in
+    subst (IsStarted p) (sym (waits_conn d))
+    (record { request = g.request; known = g.known; placed = g.placed; link = g.link; up = g.up; gone = g.gone })
+
+-- so has its submission
+has_started : (n : ℕ) (c : Core) (p : Pending) → slice_get c.table n ≡ Some (Some p) → IsStarted p.number c.single.connection → HasStarted n c
+has_started n c p there h = record { pending = p; there = there; request = h.request; known = h.known; placed = h.placed; link = h.link; up = h.up; gone = h.gone }
+
+-- a list with items has some
+no_bytes : (xs : List ℕ) → xs ≢ [] → (length xs == 0) ≡ false
+no_bytes [] some = absurd (some refl)
+no_bytes (x ∷ xs) some = ne_test (length (x ∷ xs)) 0 (λ e. omega arith)
+
+-- its place
+--
+-- the one message of a queue starts where nothing holds the link back, and none is left
+all_gone : (l : LinkState) (q : Queued) → l.queue ≡ [] → holds_back l ≡ false → (started_all (record { link = enqueued l q; out = [] })).link.queue ≡ []
+all_gone l q none goes =
+    subst (λ (qs : List Queued). (started_each (record { link = enqueued l q; out = [] }) (qs ++ q ∷ [])).link.queue ≡ []) (sym none)
+    (if_false (λ (x : Starting). x.link.queue ≡ []) (holds_back l) _ (started_each (started_one (record { link = enqueued l q; out = [] }) q) []) goes refl)
+
+-- so a request that is known has started where it takes its place
+place_starts : (w : Work) (q : Waiting) (l : LinkState) (x : Request) → slice_get w.conn.requests q.number ≡ Some x → w.conn.life ≡ Ready l → l.queue ≡ [] → holds_back l ≡ false → q.awaited ≡ true
+    → IsStarted q.number (seated w q).conn
+place_starts w q l x known up none goes awaited =
+    let p = q.number in
+    let r = w.conn.requests in
+    let d = placed_at w q (Ready l) in
+    let s = started_all (record { link = enqueued l (message_of q); out = [] }) in
+    let y : Request = record { name = name_at r p; progress = progress.Placed; permits = permits_at r p } in
+    let empty = all_gone l (message_of q) none goes in
+    let done : IsStarted p (with_link d s.link).conn =
+    record {
+      request = y;
+      known = get_set_same r p y (get_within r p x known);
+      placed = refl;
+      link = s.link;
+      up = refl;
+      gone = subst (λ (qs : List Queued). without qs p ≡ qs) (sym empty) refl;
+    } in
+    let shows : IsStarted p (started d).conn = subst (IsStarted p) (sym (conn_shown (with_link d s.link) s.out)) done in
+    let told : IsStarted p (started (told_at_place d q)).conn = if_true (λ (z : Work). IsStarted p (started z).conn) q.awaited d (answered d p (outcome.One Nil)) awaited shows in
+    subst (λ (life : Life). IsStarted p (started (told_at_place (placed_at w q life) q)).conn) (sym up) told
+
+-- a request that waits is let in, and takes its place
+admitted_starts : (w : Work) (q : Waiting) (l : LinkState) (x : Request) → slice_get w.conn.requests q.number ≡ Some x → w.conn.life ≡ Ready l → l.queue ≡ [] → holds_back l ≡ false → is_full l ≡ false → q.awaited ≡ true
+    → IsStarted q.number (admitted_at w q w.conn.life).conn
+admitted_starts w q l x known up none goes room awaited =
+    let p = q.number in
+    let count = permits_taken w.conn.limit w.conn.free q.shape in
+    let d = let_in w q in
+    let same : d.conn ≡ holding w.conn p count = let_in_conn w q in
+    let y : Request = record { name = name_at w.conn.requests p; progress = progress.Admitted; permits = count } in
+    let life : d.conn.life ≡ Ready l = ap (λ (c : MultiplexedConnection). c.life) same ∙ up in
+    let there : slice_get d.conn.requests p ≡ Some y = ap (λ (c : MultiplexedConnection). slice_get c.requests p) same ∙ get_set_same w.conn.requests p y (get_within w.conn.requests p x known) in
+    let fits : has_room d.conn.life ≡ true = ap has_room life ∙ ap not room in
+    let sits : IsStarted p (seated_or_behind d q).conn = if_true (λ (z : Work). IsStarted p z.conn) (has_room d.conn.life) (seated d q) (put_behind d q) fits (place_starts d q l y there life none goes awaited) in
+    subst (λ (life : Life). IsStarted p (admitted_at w q life).conn) (sym up) sits
+
+-- so has one that comes where nobody waits
+asked_starts : (c : MultiplexedConnection) (name : ℕ) (packed : List ℕ) (shape : Shape) (timeout : Option ℕ) (l : LinkState) → IsIdle c → c.life ≡ Ready l → holds_back l ≡ false → is_full l ≡ false → has_no_permit c.limit c.free ≡ false
+    → IsStarted (length c.requests) (passed (record { conn = asked c name packed shape true timeout; acts = [] })).conn
+asked_starts c name packed shape timeout l idle up goes room permit =
+    let p = length c.requests in
+    let x : Request = record { name = name; progress = progress.Waiting; permits = 0 } in
+    let q = waiting_of p packed shape true timeout in
+    let w : Work = record { conn = asked c name packed shape true timeout; acts = [] } in
+    let v = still_waiting w [] in
+    let m = idle.written.moved in
+    let known : slice_get w.conn.requests p ≡ Some x = get_last c.requests x in
+    let through : IsThrough l = subst HasStartedAll up m.seated.queue in
+    let none : l.queue ≡ [] = queue_empty l through goes in
+    let moves : admits_none c ≡ false = ap (λ (life : Life). admits_none_at life (has_no_permit c.limit c.free)) up ∙ permit in
+    let alone : IsStarted p (admitted v q).conn =
+    if_true (λ (z : Work). IsStarted p z.conn) (is_waiting_at w.conn.requests p) (admitted_at v q v.conn.life) v (ap (if_there is_waiting) known) (admitted_starts v q l x known up none goes room refl) in
+    let last : IsStarted p (still_waiting (admitted v q) []).conn = record { request = alone.request; known = alone.known; placed = alone.placed; link = alone.link; up = alone.up; gone = alone.gone } in
+    let one : IsStarted p (admitted_each v (q ∷ [])).conn = if_false (λ (z : Work). IsStarted p z.conn) (admits_none c) (still_waiting v (q ∷ [])) (still_waiting (admitted v q) []) moves last in
+    let all : IsStarted p (admitted_all w).conn = subst (λ (qs : List Waiting). IsStarted p (admitted_each v (qs ++ q ∷ [])).conn) (sym (m.waiting moves)) one in
+    subst (λ (z : Work). IsStarted p z.conn)
+    (sym (ap (λ (z : Work). admitted_all (moved_up_all z)) (started_stays w c.life refl m.seated.queue) ∙ ap admitted_all (none_moved_up (still_admitted w []) c.admitted m.seated.admitted))) all
+  where
+    queue_empty : (l : LinkState) → IsThrough l → holds_back l ≡ false → l.queue ≡ []
+    queue_empty l (inl e) f = e
+    queue_empty l (inr t) f = absurd (not_both (holds_back l) f t)
+
+-- and its submission
+turn_starts : (c : Core) (s : Submission) → packed_bytes s ≢ [] → is_reply_awaited s ≡ true → IsReady c → IsFree c → HasStarted (length c.table) (next_turn c (event.Submit s)).core
+unfolding next_turn
+turn_starts c s some awaited ready free =
+    let n = length c.table in
+    let conn = c.single.connection in
+    let p = length conn.requests in
+    let t = heard (counted c) (event.Submit s) in
+    let asks : Bool → Turning = λ b. record t {
+      core = record t.core { table = c.table ++ Some (pending p) ∷ []; single = record c.single { connection = asked conn n (packed_bytes s) (shape_of s) b c.timeout } };
+    } in
+    let sits : IsStarted p (passed (work_of (asks true))).conn =
+    asked_starts conn n (packed_bytes s) (shape_of s) c.timeout free.link ready.idle free.ready free.goes free.room free.permit in
+    let done : HasStarted n (timed (moved_on (asks true))).core =
+    has_started n (timed (moved_on (asks true))).core (pending p) (get_last c.table (Some (pending p))) (all_flushed p (passed (work_of (asks true))) sits) in
+    let own : HasStarted n (timed (moved_on (asks (is_reply_awaited s)))).core = subst (λ (b : Bool). HasStarted n (timed (moved_on (asks b))).core) (sym awaited) done in
+    if_false (λ (x : Turning). HasStarted n (timed (moved_on x)).core) (c.shut || false) _ (if length (packed_bytes s) == 0 then _ else asks (is_reply_awaited s)) (or-false c.shut ∙ free.unshut)
+    (if_false (λ (x : Turning). HasStarted n (timed (moved_on x)).core) (length (packed_bytes s) == 0) _ (asks (is_reply_awaited s)) (no_bytes (packed_bytes s) some) own)
+
+-- whatever came before
+pub free_started : (config : Config) (word draw : ℕ) (before : List Event) (s : Submission) → packed_bytes s ≢ [] → is_reply_awaited s ≡ true → IsFree (state_after config word before)
+    → HasStarted (length (state_after config word before).table) (state_after config word (before ++ handed_in_at draw s ∷ []))
+free_started config word draw before s some awaited free =
+    let c = state_after config word before in
+    subst (HasStarted (length c.table)) (sym (state_split config word before (handed_in_at draw s ∷ []))) (turn_starts c s some awaited (ready_after config word before) free)
