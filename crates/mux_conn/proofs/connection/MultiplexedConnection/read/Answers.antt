@@ -11,4 +11,4 @@ returns-clause-work c =
     let link = c.in-SettingUp.link in
     let with_user = c.in-SettingUp.with_user in
     let is : c.args.self.now.life ≡ SettingUp link with_user = search rules in
-    read_back w v link with_user c.args.piece.now is c.in_ok-read_setup-in-SettingUp.ensures.work
+    read_back w v c.replace-life.new.dest link with_user c.args.piece.now is c.in_ok-read_setup-in-SettingUp.ensures.work
