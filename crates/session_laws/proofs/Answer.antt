@@ -35,7 +35,8 @@ use Rattle.session_laws.proofs.Owes.{request_story, open_request, answered_close
 
 -- where it may stand
 --
--- an open request of its link is owed that; none before it is owed anything; and on a link that is over nothing is due before
+-- an open request of its link is owed that; none before it is owed anything; and on a link that is over nothing is
+-- due before
 pub may_answer : (b : Book) (t : Inner) (p : ℕ) (o : Outcome) → Tied b t → is_open_at t.requests p ≡ true → owed b (name_at t.requests p) ≡ Some o
     → ((q : ℕ) → q < p → is_open_at t.requests q ≡ true → owed b (name_at t.requests q) ≡ None)
     → (is_over (b.link t.link) ≡ true → NoneEnds b × VerdictsAreShown b × FailuresAreShown b) → MayAnswer b (name_at t.requests p) o

@@ -215,8 +215,8 @@ pub shown_longer : (table : List (Option Pending)) (story after : ℕ → Story)
     → shown_wait after more p ≡ shown_wait story requests p
 shown_longer table story after requests more p names same longer l = ap (λ (s : Story). s.waiting) (story_at table story after requests more p names same longer l)
 
--- a request more waits for the connection, and is the one of this turn; nothing is shown of its wait, it holds no permits and
--- has no timer, and its time isn't over
+-- a request more waits for the connection, and is the one of this turn; nothing is shown of its wait, it holds no
+-- permits and has no timer, and its time isn't over
 pub record IsNext (after : ℕ → Story) (requests more : List Request) (later : List ℕ) : Type 0 where
   pub newer : Rising 0 later (length more)
   pub only : (p : ℕ) → IsIn p later → length requests ≤ p

@@ -327,8 +327,8 @@ first_early b t q rest h r still full first n before m =
       ]
     ]
 
--- a connection that is up, whose next is to be let in: what is in its queue is held back, and those that wait for a place find
--- it full
+-- a connection that is up, whose next is to be let in: what is in its queue is held back, and those that wait for a
+-- place find it full
 pub record IsOpening (t : Inner) (link : LinkState) (q : Waiting) (qs : List Waiting) : Type 0 where
   pub life : t.life ≡ Ready link
   pub settled : t.pending ≡ []

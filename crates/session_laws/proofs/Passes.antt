@@ -50,9 +50,9 @@ moving f acts conn admitted waiting started = seen f acts (record conn { admitte
 abbrev pub letting_in : Core → List LinkAct → MultiplexedConnection → List Waiting → List Waiting → List ℕ → List ℕ → Inner
 letting_in f acts conn admitted waiting letting started = record (moving f acts conn admitted waiting started) { letting = letting }
 
--- a connection that is up, between two moves: what is in its queue is held back, if anything is; these wait still for a place
--- and for the connection, and this one is being let in; and those that are still to be moved are above all that were in this
--- turn
+-- a connection that is up, between two moves: what is in its queue is held back, if anything is; these wait still for
+-- a place and for the connection, and this one is being let in; and those that are still to be moved are above all
+-- that were in this turn
 pub record IsUp (before : List Action) (f : Core) (w : Work) (admitted waiting : List Waiting) (letting next : List ℕ) : Type 0 where
   pub link : LinkState
   pub life : w.conn.life ≡ Ready link

@@ -438,7 +438,7 @@ row_goes b t n h written link life r i =
     let up : l.up ≡ true = (subst (λ (x : Life). TiedLife l b.created x) life h.life).1 in
     record {
       try = record { link = t.link; message = w.number };
-      last = ap (λ m. last_of (b.story m).tries) (sym r.named) ∙ ap last_of (h.tries.tried stands.0 r.number stands.2 ∙ ap (λ m. record { link = t.link; message = m } ∷ []) {x = setup_count l.starts + stands.0} (sym stands.1));
+      last = ap (λ m. last_of (b.story m).tries) (sym r.named) ∙ ap last_of (h.tries.tried stands.0 r.number stands.2 ∙ ap (λ m. record { link = t.link; message = m } ∷ []) {x = setup_count l.starts + stands.0} (sym {b = setup_count l.starts + stands.0} stands.1));
       up = up;
       takes_more = w.open_as.takes_more;
       offered = written.offered t.link up;

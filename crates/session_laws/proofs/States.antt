@@ -24,8 +24,8 @@ pub record IsFitIn (c : MultiplexedConnection) : Type 0 where
   pub link : (link : LinkState) → c.life ≡ Ready link → IsFit c.size c.boundary link
   pub none : ((link : LinkState) → c.life ≡ Ready link → ⊥) → c.admitted ≡ []
 
--- nothing moves: what is in the queue is held back, also a setup; those that wait for a place find the queue full; once the connect is
--- answered, those that wait find no permit free, and on a link that has ended none waits
+-- nothing moves: what is in the queue is held back, also a setup; those that wait for a place find the queue full;
+-- once the connect is answered, those that wait find no permit free, and on a link that has ended none waits
 pub record IsStill (c : MultiplexedConnection) : Type 0 where
   pub setup : (link : LinkState) (with_user : Bool) → c.life ≡ SettingUp link with_user → (link.queue ≡ []) ⊎ (holds_back link ≡ true)
   pub held : (link : LinkState) → c.life ≡ Ready link → (link.queue ≡ []) ⊎ (holds_back link ≡ true)

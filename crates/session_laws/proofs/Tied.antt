@@ -41,13 +41,14 @@ use Rattle.legal_trace.specs.Legal.{AllStand, IsTimed}
 use Rattle.legal_trace.specs.Owed.{owed_unstarted}
 use Rattle.session_laws.proofs.Numbers.{IsIn, Rising}
 
--- what counts of a session in the middle of a turn: how many turns it has begun, how many links it has asked for and which
--- of them is its connection's, what each timer was asked for, whether everything was shut down, the request of each
--- submission, and within how many milliseconds one that comes now is to be answered; how many messages the queue of its
--- connection's link holds, at how many unwritten bytes none starts, how many permits there are, if they are counted, and how
--- many are free; what is said to the server before the first request; its connection's life and requests, those that wait for the connection, those that wait for a place, those
--- that came in this turn and those that were moved in it, whose waits aren't shown yet; the one that is being let in; the
--- requests that are settled and not answered yet; and the requests whose messages started, in order
+-- what counts of a session in the middle of a turn: how many turns it has begun, how many links it has asked for and
+-- which of them is its connection's, what each timer was asked for, whether everything was shut down, the request of
+-- each submission, and within how many milliseconds one that comes now is to be answered; how many messages the queue
+-- of its connection's link holds, at how many unwritten bytes none starts, how many permits there are, if they are
+-- counted, and how many are free; what is said to the server before the first request; its connection's life and
+-- requests, those that wait for the connection, those that wait for a place, those that came in this turn and those
+-- that were moved in it, whose waits aren't shown yet; the one that is being let in; the requests that are settled
+-- and not answered yet; and the requests whose messages started, in order
 pub record Inner : Type 0 where
   pub turns : ℕ
   pub links : ℕ
@@ -307,9 +308,10 @@ AreQueued story requests link = (n : ℕ) → is_told (story n) ≡ true → (st
 abbrev pub shown_wait : (ℕ → Story) → List Request → ℕ → Option WaitKind
 shown_wait story requests p = (story (name_at requests p)).waiting
 
--- a request that waits for the connection, or for a permit, has shown nothing or one of these; the first while the connect
--- isn't answered, the second while the link is set up, and the third while it is up, where its wait isn't to be shown yet; one that waits for a place, or has
--- one in the queue, was moved in this turn and its wait isn't shown yet, or has shown it
+-- a request that waits for the connection, or for a permit, has shown nothing or one of these; the first while the
+-- connect isn't answered, the second while the link is set up, and the third while it is up, where its wait isn't to
+-- be shown yet; one that waits for a place, or has one in the queue, was moved in this turn and its wait isn't shown
+-- yet, or has shown it
 pub record TiedWaits (story : ℕ → Story) (requests : List Request) (life : Life) (fresh moved : List ℕ) : Type 0 where
   pub early : (p : ℕ) → is_waiting_at requests p ≡ true → (shown_wait story requests p ≡ None) ⊎ ((shown_wait story requests p ≡ Some wait.Connect) ⊎ ((shown_wait story requests p ≡ Some wait.Setup) ⊎ (shown_wait story requests p ≡ Some wait.Permit)))
   pub connect : (p : ℕ) → is_waiting_at requests p ≡ true → life ≡ Dialing → IsIn p fresh ⊎ (shown_wait story requests p ≡ Some wait.Connect)
@@ -325,8 +327,9 @@ pub record TiedWaits (story : ℕ → Story) (requests : List Request) (life : L
   pub no_place : (p : ℕ) → IsIn p moved → is_admitted_at requests p ≡ true → shown_wait story requests p ≢ Some wait.Place
   pub no_room : (p : ℕ) → IsIn p moved → IsIn p (awaited_ids (link_in life).queue) → shown_wait story requests p ≢ Some wait.Room
 
--- where permits are counted, those that submissions hold and those that are free are all; who waits for the connection, or for
--- a permit, holds none and has no timer, but for the one that is being let in; and who waits for a place or has one was let in
+-- where permits are counted, those that submissions hold and those that are free are all; who waits for the
+-- connection, or for a permit, holds none and has no timer, but for the one that is being let in; and who waits for a
+-- place or has one was let in
 pub record TiedPermits (story : ℕ → Story) (submissions : ℕ) (requests : List Request) (link : ℕ) (limit : Option ℕ) (free : ℕ) (letting : List ℕ) : Type 0 where
   pub counted : (k : ℕ) → limit ≡ Some k → permits_held story link submissions + free ≡ k
   pub none : (p : ℕ) → is_waiting_at requests p ≡ true → (IsIn p letting → ⊥) → (permits_at requests p ≡ 0) × ((story (name_at requests p)).clock ≡ None)
