@@ -16,7 +16,7 @@ use Rattle.link_core.specs.declared.message.Settled.{Settled}
 use Rattle.link_core.specs.Link.{LinkState, Settling, settling_with, piece_dealt}
 use Rattle.mux_conn.specs.declared.act.LinkAct.TheVariants as act
 use Rattle.mux_conn.specs.declared.life.Life.{Life}
-use Rattle.mux_conn.specs.declared.life.Life.TheVariants.{Dialing, SettingUp}
+use Rattle.mux_conn.specs.declared.life.Life.TheVariants.{SettingUp}
 use Rattle.mux_conn.specs.Connection.{Work, acted, at_life}
 use Rattle.mux_conn.specs.Effects.{judged_by, steps_of, made_ready, sets_up, opening_failed, set_up_by, answered_setup, broken_at, read_setup, read_at}
 
@@ -73,10 +73,10 @@ answered_anew w life link with_user (s ∷ ss) =
     set_up_anew w life link (judged_by steps s.verdict) (verdict_told steps s.verdict)
 
 -- bytes that are read while the link is out of its connection are read as if it were there
-pub read_back : (w v : Work) (link : LinkState) (with_user : Bool) (piece : List ℕ) → w.conn.life ≡ SettingUp link with_user → v ≡ read_setup (at_life w Dialing) with_user (piece_dealt (settling_with link []) piece) → v ≡ read_at w piece w.conn.life
-read_back w v link with_user piece is h =
+pub read_back : (w v : Work) (life : Life) (link : LinkState) (with_user : Bool) (piece : List ℕ) → w.conn.life ≡ SettingUp link with_user → v ≡ read_setup (at_life w life) with_user (piece_dealt (settling_with link []) piece) → v ≡ read_at w piece w.conn.life
+read_back w v life link with_user piece is h =
     let s = piece_dealt (settling_with link []) piece in
-    h ∙ ap (broken_at s.link.broken) (answered_anew w Dialing s.link with_user s.out) ∙ ap (read_at w piece) (sym is)
+    h ∙ ap (broken_at s.link.broken) (answered_anew w life s.link with_user s.out) ∙ ap (read_at w piece) (sym is)
 
 -- a setup that is well makes the link ready
 pub ready_by : (w v : Work) (link : LinkState) (expected found : SetupResult) → Tells expected found → found ≡ result.Ready → v ≡ made_ready w link → v ≡ set_up_by w link expected

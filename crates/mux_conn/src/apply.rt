@@ -411,7 +411,6 @@ impl MultiplexedConnection {
     }
 
     /// Bytes came: the messages that they fill are answered, and bytes that begin no value end the link.
-    #[tactic(auto, using(crate::proofs::Judged::read_back))]
     fn read(
         &mut self,
         alloc: Global,

@@ -1,4 +1,4 @@
-use Rattle.std.proofs.Common.{◌≡◌, List, [], ◌∷◌, ◌++◌, codes, decimal, sym, ◌∙◌, append-nil}
+use Rattle.std.proofs.Common.{[], ◌∷◌, ◌++◌, codes, decimal, sym, ◌∙◌, append-nil}
 use Rattle.std.proofs.lemmas.Result.{on_ok_weaker}
 use Rattle.redis_error.specs.Names.{fault_name}
 use Rattle.trace_text.specs.Words.{following}
