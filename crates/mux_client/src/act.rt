@@ -16,17 +16,30 @@ pub enum ConnectionTimer {
 #[derive(Drop)]
 pub enum ConnectionAct {
     /// The link is ready, or its opening failed with this error.
-    Created { error: Option<RedisError> },
+    Created {
+        error: Option<RedisError>,
+    },
     /// A timer is to fire after so many milliseconds.
-    Timer { timer: ConnectionTimer, ms: u64 },
+    Timer {
+        timer: ConnectionTimer,
+        ms: u64,
+    },
     /// A request takes so many permits.
-    Took { request: Pending, count: u32 },
+    Took {
+        request: Pending,
+        count: u32,
+    },
     /// The link ended, or is to be closed.
     Close,
     /// All unwritten bytes of the link are offered.
-    Write { bytes: Bytes },
+    Write {
+        bytes: Bytes,
+    },
     /// A request waits.
-    Wait { request: Pending, wait: WaitKind },
+    Wait {
+        request: Pending,
+        wait: WaitKind,
+    },
     /// A request's message starts: the messages of the link are numbered from 0; how many items it takes, and how many bytes
     /// it has.
     Start {
@@ -36,7 +49,13 @@ pub enum ConnectionAct {
         len: u64,
     },
     /// The setup starts: which message of the link it is, how many items it takes, and how many bytes it has.
-    SetUp { message: u32, need: u64, len: u64 },
+    SetUp {
+        message: u32,
+        need: u64,
+        len: u64,
+    },
     /// A request is answered: `poll` gives its outcome.
-    Answered { request: Pending },
+    Answered {
+        request: Pending,
+    },
 }

@@ -1,7 +1,6 @@
 ghost use Rattle.std.specs.Prelude.{◌≡◌, Some, None, OnOk, IfOk, IfErr};
 ghost use Rattle.std.specs.Prelude.{option_copied, IsTrue, ◌↔◌};
 ghost use Rattle.mux_client.specs.Connection.{opened, fault_of, outcome_of, connect_timer, RefusesConnection};
-
 ghost use Rattle.mux_client.specs.Calls.{cancelled};
 ghost use Rattle.mux_conn.specs.Connection.{is_ready};
 ghost use Rattle.mux_conn.specs.Effects.{CanTake};

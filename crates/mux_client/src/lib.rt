@@ -10,6 +10,8 @@ mod makers;
 mod sending;
 mod showing;
 mod stepping;
+#[cfg(test)]
+mod tests;
 
 pub use act::{ConnectionAct, ConnectionTimer};
 pub use connection::MultiplexedConnection;

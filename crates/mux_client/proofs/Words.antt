@@ -1,0 +1,68 @@
+-- The words that a client makes keep what its address and its configuration say.
+use Rattle.std.proofs.Common.{◌≡◌, ℕ, Bool, true, false, not, List, Option, Some, None, Result, Ok, Err, IfOk, OnOk, nat_eq, refl, sym, ap, subst, ◌∙◌, if◌then◌else◌}
+use Rattle.std.specs.Prelude.{unwrap_or, option_map}
+use Rattle.std.specs.Str.{is_utf8}
+use Rattle.std.proofs.lemmas.Str.{is_utf8-from_IsUtf8}
+use Rattle.std.proofs.lemmas.Bool.{eqb-true}
+use Rattle.connection_info.specs.declared.address.ConnectionInfo.{ConnectionInfo}
+use Rattle.connection_info.specs.declared.address.RedisConnectionInfo.{RedisConnectionInfo}
+use Rattle.connection_info.specs.declared.config.AsyncConnectionConfig.{AsyncConnectionConfig}
+use Rattle.connection_info.specs.Address.{address_of}
+use Rattle.connection_info.specs.Written.{url_of, with_library, ReadsBack}
+use Rattle.driver_model.specs.declared.config.Config.{Config}
+use Rattle.driver_model.specs.Config.{address, told_of, told_info, bare_info}
+use Rattle.mux_client.specs.Makers.{is_same, time_given, number_given, library_given, config_of, Keeps}
+
+number_if : (default value : ℕ) (b : Bool) → nat_eq value default ≡ b → unwrap_or (if b then None else Some value) default ≡ value
+number_if default value true e = sym (eqb-true value default e)
+number_if default value false e = refl
+
+-- a number is what is given, or else the default
+number_kept : (default value : ℕ) → unwrap_or (number_given default value) default ≡ value
+number_kept default value = number_if default value (nat_eq value default) refl
+
+time_if : (default value : ℕ) (b : Bool) → nat_eq value default ≡ b → unwrap_or (if b then None else Some (Some value)) (Some default) ≡ Some value
+time_if default value true e = ap (λ (n : ℕ). Some n) (sym (eqb-true value default e))
+time_if default value false e = refl
+
+-- and so is a time
+time_kept : (default value : Option ℕ) → unwrap_or (time_given default value) default ≡ value
+time_kept None None = refl
+time_kept (Some n) None = refl
+time_kept None (Some m) = refl
+time_kept (Some n) (Some m) = time_if n m (nat_eq m n) refl
+
+-- the library is left out where the address leaves it out
+skips_kept : (skips : Bool) → not (unwrap_or (library_given skips) true) ≡ skips
+skips_kept true = refl
+skips_kept false = refl
+
+-- the URL is one of the address
+address_kept : (info : ConnectionInfo) (c : AsyncConnectionConfig) → ReadsBack info → address (config_of info c) ≡ Some (with_library info)
+address_kept info c (is, reads) =
+    ap (λ (b : Bool). if b then address_of (url_of info) else None) (is_utf8-from_IsUtf8 (url_of info) is) ∙ reads
+
+-- and what is said to its server is what the address says
+said_kept : (info : ConnectionInfo) (c : AsyncConnectionConfig) → ReadsBack info → told_info (config_of info c) ≡ info.redis
+said_kept info c back =
+    ap (λ (found : Option ConnectionInfo). unwrap_or (option_map (told_of (config_of info c)) found) bare_info) (address_kept info c back)
+    ∙ ap (λ (skips : Bool). record info.redis { skip_set_lib_name = skips }) (skips_kept info.redis.skip_set_lib_name)
+
+words_keep : (info : ConnectionInfo) (c : AsyncConnectionConfig) → ReadsBack info → Keeps info c (config_of info c)
+words_keep info c back = record {
+  said = said_kept info c back;
+  connects = time_kept _ c.connection_timeout;
+  answers = time_kept _ c.response_timeout;
+  permits = refl;
+  places = number_kept _ c.pipeline_buffer_size;
+  room = number_kept _ c.write_backpressure_boundary;
+}
+
+-- so any words keep it that are these
+kept_by : (info : ConnectionInfo) (c : AsyncConnectionConfig) (words : Config) → words ≡ config_of info c → ReadsBack info → Keeps info c words
+kept_by info c words e back = subst (λ (found : Config). Keeps info c found) (sym e) (words_keep info c back)
+
+-- and so does what is made
+pub all_keep : {E : Type 0} (info : ConnectionInfo) (c : AsyncConnectionConfig) (r : Result Config E) → OnOk r (ReadsBack info) → IfOk r (λ words. words ≡ config_of info c) → IfOk r (Keeps info c)
+all_keep info c (Ok words) back e = kept_by info c words e back
+all_keep info c (Err x) back e = tt

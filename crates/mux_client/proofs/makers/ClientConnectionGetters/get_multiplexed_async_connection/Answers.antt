@@ -1,0 +1,13 @@
+use Rattle.std.proofs.Common.{IfOk, subst}
+use Rattle.connection_info.specs.declared.address.ConnectionInfo.{ConnectionInfo}
+use Rattle.connection_info.specs.declared.config.AsyncConnectionConfig.{AsyncConnectionConfig}
+use Rattle.mux_client.specs.Makers.{Keeps}
+use Rattle.mux_client.proofs.Words.{all_keep}
+use Rattle.mux_client.proofs.makers.ClientConnectionGetters.get_multiplexed_async_connection.Goals as goal
+
+pub returns-clause-keeps : goal.returns-clause-keeps
+returns-clause-keeps c =
+    let info = c.get_connection_info.result.now in
+    subst (λ (said : ConnectionInfo). IfOk c.words.result (Keeps said _)) c.get_connection_info.ensures
+    (subst (λ (config : AsyncConnectionConfig). IfOk c.words.result (Keeps info config)) c.new.ensures
+    (all_keep info c.new.result c.words.result c.words.ensures.read c.words.ensures.value))
