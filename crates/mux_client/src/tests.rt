@@ -135,7 +135,7 @@ fn replies_go_to_their_callers(rt: HostRuntime) -> Result<(), AllocError> {
     let second = send(&rt, alloc, &mut conn, b"B")?;
     let third = send(&rt, alloc, &mut conn, b"C")?;
     let log = turn(&rt, alloc, &mut conn, LinkNews::Silence)?;
-    assert!(rt; log.as_slice() == b"timer start timer start timer start write ");
+    assert!(rt; log.as_slice() == b"timer start timer start timer start write ".as_slice());
     conn.cancel(second);
     turn(
         &rt,
@@ -145,9 +145,9 @@ fn replies_go_to_their_callers(rt: HostRuntime) -> Result<(), AllocError> {
             piece: b"+1\r\n+2\r\n+3\r\n",
         },
     )?;
-    assert!(rt; outcome(&conn, &first) == b"1");
-    assert!(rt; outcome(&conn, &second) == b"pending");
-    assert!(rt; outcome(&conn, &third) == b"3");
+    assert!(rt; outcome(&conn, &first) == b"1".as_slice());
+    assert!(rt; outcome(&conn, &second) == b"pending".as_slice());
+    assert!(rt; outcome(&conn, &third) == b"3".as_slice());
     Ok(())
 }
 
@@ -160,7 +160,7 @@ fn the_time_of_a_request_is_over(rt: HostRuntime) -> Result<(), AllocError> {
     let next = send(&rt, alloc, &mut conn, b"B")?;
     turn(&rt, alloc, &mut conn, LinkNews::Silence)?;
     assert!(rt; matches!(conn.time_out(alloc, late), Ok(())));
-    assert!(rt; outcome(&conn, &late) == b"timed out");
+    assert!(rt; outcome(&conn, &late) == b"timed out".as_slice());
     let log = turn(
         &rt,
         alloc,
@@ -169,8 +169,8 @@ fn the_time_of_a_request_is_over(rt: HostRuntime) -> Result<(), AllocError> {
             piece: b"+1\r\n+2\r\n",
         },
     )?;
-    assert!(rt; log.as_slice() == b"answered answered ");
-    assert!(rt; outcome(&conn, &next) == b"2");
+    assert!(rt; log.as_slice() == b"answered answered ".as_slice());
+    assert!(rt; outcome(&conn, &next) == b"2".as_slice());
     Ok(())
 }
 
@@ -189,7 +189,7 @@ fn what_is_internal_takes_no_permit(rt: HostRuntime) -> Result<(), AllocError> {
     }
     assert!(rt; matches!(conn.send_internal(alloc, &pipeline), Ok(_)));
     let log = turn(&rt, alloc, &mut conn, LinkNews::Silence)?;
-    assert!(rt; log.as_slice() == b"timer start ");
+    assert!(rt; log.as_slice() == b"timer start ".as_slice());
     turn(
         &rt,
         alloc,
@@ -245,7 +245,7 @@ fn a_client_makes_the_words_of_a_session(rt: HostRuntime) -> Result<(), AllocErr
     let Ok(plain) = client.get_multiplexed_async_connection(alloc) else {
         return Err(AllocError);
     };
-    assert!(rt; plain.url.as_slice() == b"redis://h:6379/4");
+    assert!(rt; plain.url.as_slice() == b"redis://h:6379/4".as_slice());
     assert!(rt; plain.response == None);
     let config = AsyncConnectionConfig::new().set_response_timeout(None);
     let Ok(made) = client.get_multiplexed_async_connection_with_config(alloc, &config) else {
