@@ -94,7 +94,7 @@ impl SlotParts {
                 return self.join(k, index);
             }
         }
-        let mut indices = KeyIndices::from_vec(Vec::new(alloc));
+        let mut indices = KeyIndices::new(alloc);
         indices.push(index)?;
         self.push(Route { slot, addr }, indices)
     }

@@ -1,3 +1,4 @@
+use containers::Seq;
 use slot_hash::NodeAddress;
 use std::alloc::{AllocError, Global};
 use std::marker::Model;
@@ -34,53 +35,8 @@ pub enum ResponsePolicy {
     Special,
 }
 
-/// Places of keys among the keys of a command, counted from 0. Contracts see the list of them.
-#[derive(Drop)]
-pub struct KeyIndices {
-    items: Vec<u32>,
-}
-
-impl Model for KeyIndices {
-    ghost use Rattle.std.specs.Prelude.{List, ℕ};
-
-    ghost Value = { List ℕ };
-
-    ghost view = { λ k. k.items.items };
-}
-
-impl KeyIndices {
-    ghost use Rattle.std.specs.Prelude.{◌≡◌, ◌∷◌, ◌++◌, [], length, OnOk, OnErr, IfOk};
-
-    /// The places of a vector, not copied.
-    pub fn from_vec(items: Vec<u32>) -> KeyIndices
-        ensures { result ≡ items.items }
-    {
-        KeyIndices { items }
-    }
-
-    pub fn as_slice(&self) -> &[u32]
-        ensures { result.now ≡ self.now }
-    {
-        self.items.as_slice()
-    }
-
-    /// One more place at the end. An error leaves the places as they were.
-    pub fn push(&mut self, index: u32) -> Result<(), AllocError>
-        ensures ok { OnOk result (self.new ≡ self.old ++ index ∷ []) }
-        ensures err { OnErr result (self.new ≡ self.old) }
-    {
-        self.items.push(index)?;
-        Ok(())
-    }
-
-    /// An equal value of its own.
-    pub fn clone(&self, alloc: Global) -> Result<KeyIndices, AllocError>
-        ensures { IfOk result (λ k. k ≡ self.now) }
-    {
-        let items = Vec::from_slice(alloc, self.items.as_slice())?;
-        Ok(KeyIndices { items })
-    }
-}
+/// Places of keys among the keys of a command, counted from 0.
+pub type KeyIndices = Seq<u32>;
 
 /// The routes of a command with keys in several slots, each with the places of its keys. Contracts see the list of
 /// them.
@@ -99,7 +55,7 @@ impl Model for SlotParts {
 }
 
 impl SlotParts {
-    ghost use Rattle.std.specs.Prelude.{◌≡◌, ◌∷◌, ◌++◌, [], length, ◌<◌, OnOk, OnErr, IfOk};
+    ghost use Rattle.std.specs.Prelude.{◌≡◌, ◌∷◌, ◌++◌, [], length, ◌<◌, OnOk, OnErr};
     ghost use Rattle.command_table.specs.Parts.{joined, slot_at};
 
     /// No parts. Takes no memory.

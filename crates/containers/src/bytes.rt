@@ -1,5 +1,6 @@
 ghost use Rattle.std.specs.Prelude.{◌≡◌, ◌↔◌, ◌==◌, ◌≤◌, [], ◌∷◌, ◌++◌, IsTrue, bytes_eq, length, take, drop, OnOk, IfOk, OnErr};
 
+use crate::try_clone::TryClone;
 use std::alloc::{AllocError, Global};
 use std::fmt;
 use std::marker::Model;
@@ -112,6 +113,12 @@ impl Bytes {
         ensures { IfOk result (λ b. b ≡ self.now) }
     {
         Bytes::from_slice(alloc, self.as_slice())
+    }
+}
+
+impl TryClone for Bytes {
+    fn try_clone(&self, alloc: Global) -> Result<Bytes, AllocError> {
+        self.clone(alloc)
     }
 }
 

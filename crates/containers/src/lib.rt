@@ -1,4 +1,4 @@
-//! Lists that contracts see as the list of their items: byte strings, sequences, queues and names.
+//! Lists that contracts see as the list of their items: byte strings, sequences, queues and names. Copies that take memory.
 #![tactic(auto)]
 
 mod bytes;
@@ -7,8 +7,10 @@ mod queue;
 mod seq;
 #[cfg(test)]
 mod tests;
+mod try_clone;
 
 pub use bytes::Bytes;
 pub use names::Names;
 pub use queue::Queue;
 pub use seq::Seq;
+pub use try_clone::TryClone;

@@ -1,5 +1,6 @@
-ghost use Rattle.std.specs.Prelude.{◌≡◌, ◌==◌, ◌<◌, [], ◌∷◌, ◌++◌, length, take, OnOk, OnErr, Some, slice_get, slice_set};
+ghost use Rattle.std.specs.Prelude.{◌≡◌, ◌==◌, ◌<◌, [], ◌∷◌, ◌++◌, length, take, OnOk, OnErr, IfOk, Some, slice_get, slice_set};
 
+use crate::try_clone::TryClone;
 use std::alloc::{AllocError, Global};
 use std::marker::Model;
 
@@ -112,5 +113,32 @@ impl<T: Drop> Seq<T> {
         ensures kept { OnErr result (self.new ≡ self.old) }
     {
         out.append(&mut self.items)
+    }
+}
+
+impl<T: TryClone> Seq<T> {
+    /// A copy of each of these items, in their order.
+    pub fn from_clones(alloc: Global, items: &[T]) -> Result<Seq<T>, AllocError>
+        ensures { IfOk result (λ copies. copies ≡ items.now) }
+    {
+        let mut copies = Seq::new(alloc);
+        for item in items {
+            let copy = item.try_clone(alloc)?;
+            copies.push(copy)?;
+        }
+        Ok(copies)
+    }
+
+    /// An equal value of its own.
+    pub fn clone(&self, alloc: Global) -> Result<Seq<T>, AllocError>
+        ensures { IfOk result (λ copy. copy ≡ self.now) }
+    {
+        Seq::from_clones(alloc, self.as_slice())
+    }
+}
+
+impl<T: TryClone> TryClone for Seq<T> {
+    fn try_clone(&self, alloc: Global) -> Result<Seq<T>, AllocError> {
+        self.clone(alloc)
     }
 }

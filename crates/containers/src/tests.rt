@@ -117,3 +117,15 @@ fn names_are_made_of_slices(rt: HostRuntime) -> Result<(), Fail> {
     assert_eq!(rt; names.at(2).as_slice(), b"a".as_slice());
     Ok(())
 }
+
+#[test]
+fn sequences_of_pairs_are_copied(rt: HostRuntime) -> Result<(), Fail> {
+    let alloc = rt.alloc();
+    let mut items = Seq::new(alloc);
+    items.push((3u32, Bytes::from_slice(alloc, b"a")?))?;
+    let copy = items.clone(alloc)?;
+    assert_eq!(rt; copy.len(), 1);
+    assert_eq!(rt; copy.at(0).0, 3);
+    assert_eq!(rt; copy.at(0).1.as_slice(), b"a".as_slice());
+    Ok(())
+}

@@ -1,6 +1,6 @@
 ghost use Rattle.std.specs.Prelude.{◌≡◌, ◌==◌, ◌<◌, ◌≤◌, [], ◌∷◌, ◌++◌, length, OnOk, OnErr, IfOk};
 
-use containers::Names;
+use containers::{Names, Seq};
 use std::alloc::{AllocError, Global};
 use std::marker::Model;
 
@@ -10,7 +10,7 @@ const MAX_COMMANDS: usize = 4_294_967_294;
 /// Commands in order, each its name and its arguments: fewer than 2^32 - 1. Contracts see the list of them.
 #[derive(Drop)]
 pub struct Commands {
-    items: Vec<Names>,
+    items: Seq<Names>,
 }
 
 impl Model for Commands {
@@ -18,9 +18,9 @@ impl Model for Commands {
 
     ghost Value = { List (List (List ℕ)) };
 
-    ghost view = { λ c. c.items.items };
+    ghost view = { λ c. c.items };
 
-    ghost invariant = { λ c. length c.items.items ≤ 4_294_967_294 };
+    ghost invariant = { λ c. length c.items ≤ 4_294_967_294 };
 }
 
 impl Commands {
@@ -29,7 +29,7 @@ impl Commands {
         ensures { result ≡ [] }
     {
         Commands {
-            items: Vec::new(alloc),
+            items: Seq::new(alloc),
         }
     }
 
@@ -69,11 +69,7 @@ impl Commands {
     pub fn clone(&self, alloc: Global) -> Result<Commands, AllocError>
         ensures { IfOk result (λ c. c ≡ self.now) }
     {
-        let mut commands = Commands::new(alloc);
-        for command in &self.items {
-            let copy = command.clone(alloc)?;
-            commands.push(copy)?;
-        }
-        Ok(commands)
+        let items = self.items.clone(alloc)?;
+        Ok(Commands { items })
     }
 }

@@ -6,18 +6,6 @@ use redis_error::FaultKind;
 use resp_write::Cmd;
 use std::alloc::{AllocError, Global};
 
-/// Copies of arguments.
-fn copied_args(alloc: Global, args: &[Bytes]) -> Result<Names, AllocError>
-    ensures { IfOk result (λ names. names ≡ args.now) }
-{
-    let mut names = Names::new(alloc);
-    for arg in args {
-        let copy = arg.clone(alloc)?;
-        names.push(copy)?;
-    }
-    Ok(names)
-}
-
 impl Submission {
     /// A command as it is: one whose reply is left out is one whose reply nobody awaits.
     pub fn from_cmd(alloc: Global, cmd: &Cmd) -> Result<Submission, AllocError>
@@ -26,7 +14,7 @@ impl Submission {
             then Submission.NoReply cmd.now.args
             else Submission.Cmd cmd.now.args)) }
     {
-        let args = copied_args(alloc, cmd.args())?;
+        let args = Names::from_clones(alloc, cmd.args())?;
         if cmd.is_no_response() {
             return Ok(Submission::NoReply { args });
         }

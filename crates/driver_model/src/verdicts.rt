@@ -144,7 +144,7 @@ fn note_error(
     match value {
         Value::ServerError(error) => {
             let error = error.clone(alloc)?;
-            errors.push(position, error)
+            errors.push((position, error))
         }
         _ => Ok(()),
     }
@@ -154,7 +154,7 @@ fn note_error(
 fn unless_aborted(errors: Aborts, kept: Values) -> Verdict
     ensures { result ≡ kept_unless_aborted errors kept }
 {
-    if errors.len() == 0 {
+    if errors.is_empty() {
         Verdict::Many(kept)
     } else {
         Verdict::Fault(RedisError::Aborted { errors })

@@ -1,7 +1,7 @@
 //! RESP: values, reading, and writing. It gives on the items of the crates that have them.
 #![tactic(auto)]
 
-pub use containers::{Bytes, Names};
+pub use containers::{Bytes, Names, Seq};
 pub use redis_error::{ConfigName, ErrorKind, FaultKind, RedisError, RouteNumbers};
 pub use resp_convert::{ConvertError, FromRedisValue, KeyValues, written_numbers_are_read_back};
 pub use resp_read::{Limits, ReadError, Reader};

@@ -1,6 +1,6 @@
 ghost use Rattle.std.specs.Prelude.{◌≡◌, IfOk};
 
-use containers::Seq;
+use containers::{Seq, TryClone};
 use slot_hash::NodeAddress;
 use std::alloc::{AllocError, Global};
 
@@ -41,10 +41,7 @@ impl SlotRow {
         ensures { IfOk result (λ r. r ≡ self.now) }
     {
         let primary = self.primary.clone(alloc)?;
-        let mut replicas = Seq::new(alloc);
-        for replica in self.replicas.as_slice() {
-            replicas.push(replica.clone(alloc)?)?;
-        }
+        let replicas = self.replicas.clone(alloc)?;
         Ok(SlotRow {
             start: self.start,
             end: self.end,
@@ -54,13 +51,8 @@ impl SlotRow {
     }
 }
 
-/// Copies of rows.
-pub fn copies_of(alloc: Global, rows: &[SlotRow]) -> Result<SlotRows, AllocError>
-    ensures { IfOk result (λ copies. copies ≡ rows.now) }
-{
-    let mut copies = Seq::new(alloc);
-    for row in rows {
-        copies.push(row.clone(alloc)?)?;
+impl TryClone for SlotRow {
+    fn try_clone(&self, alloc: Global) -> Result<SlotRow, AllocError> {
+        self.clone(alloc)
     }
-    Ok(copies)
 }

@@ -1,6 +1,6 @@
 use crate::addresses::addresses;
 use crate::entries::entries_of;
-use crate::rows::{SlotRows, copies_of};
+use crate::rows::SlotRows;
 use crate::shard::{ShardNodes, first_numbers, leading, node_in, numbered, shards_of};
 use crate::strategy::ReadRoutingStrategy;
 use command_table::{Route, SlotAddr};
@@ -49,7 +49,7 @@ impl SlotMap {
         ensures is { IfOk result (λ m. m ≡ rows.now) }
         ensures order { IfOk result (λ m. in_order (addresses m) ≡ true) }
     {
-        let copies = copies_of(alloc, rows.as_slice())?;
+        let copies = rows.clone(alloc)?;
         let nodes = addresses(alloc, rows.as_slice())?;
         let shards = shards_of(alloc, nodes.as_slice(), rows.as_slice())?;
         let entries = entries_of(alloc, rows.as_slice())?;

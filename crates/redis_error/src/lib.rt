@@ -7,10 +7,8 @@ mod fault_kind;
 mod redis_error;
 #[cfg(test)]
 mod redis_error_tests;
-mod route_numbers;
 
 pub use config_name::ConfigName;
 pub use error_kind::ErrorKind;
 pub use fault_kind::FaultKind;
-pub use redis_error::RedisError;
-pub use route_numbers::RouteNumbers;
+pub use redis_error::{RedisError, RouteNumbers};

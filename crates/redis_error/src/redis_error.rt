@@ -6,12 +6,14 @@ ghost use Rattle.redis_error.specs.Redirected.{IsRedirected, IsNotRedirected};
 use crate::config_name::ConfigName;
 use crate::error_kind::ErrorKind;
 use crate::fault_kind::FaultKind;
-use crate::route_numbers::RouteNumbers;
-use containers::Bytes;
+use containers::{Bytes, Seq};
 use resp_value::{Aborts, Redirection, RetryMethod, ServerError, ServerErrorKind, Value};
 use std::alloc::{AllocError, Global};
 use std::fmt;
 use thiserror::Error;
+
+/// The numbers of routes, counted from 0.
+pub type RouteNumbers = Seq<u32>;
 
 /// Why a request has no reply.
 #[derive(Drop, Error)]

@@ -328,7 +328,7 @@ fn errors_with_texts_are_told_apart(rt: HostRuntime) -> Result<(), Fail> {
     );
     assert!(rt; holds(alloc, RedisError::Convert { value }, row)?);
     let mut errors = Aborts::new(alloc);
-    errors.push(1, server_error(alloc, b"ERR")?)?;
+    errors.push((1, server_error(alloc, b"ERR")?))?;
     let kind = ErrorKind::Server(ServerErrorKind::ExecAbort);
     let aborted = "the transaction is aborted: command 1 was refused: ERR 7 h:1";
     let row = plain(kind, RetryMethod::NoRetry, aborted);

@@ -1,7 +1,6 @@
 //! Values of RESP, with the equal copies that contracts speak of.
 #![tactic(auto)]
 
-mod aborts;
 mod error_kind;
 #[cfg(test)]
 mod error_tests;
@@ -22,10 +21,9 @@ mod tests;
 mod threads_tests;
 mod value;
 
-pub use aborts::Aborts;
 pub use error_kind::ServerErrorKind;
 pub use push_kind::PushKind;
 pub use redirect::Redirection;
 pub use retry_method::RetryMethod;
-pub use server_error::ServerError;
+pub use server_error::{Aborts, ServerError};
 pub use value::{Inner, Pairs, Value, Values};

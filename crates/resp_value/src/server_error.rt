@@ -6,7 +6,7 @@ use crate::error_kind::ServerErrorKind;
 use crate::redirect::{Redirection, read_redirection};
 use crate::retry_method::RetryMethod;
 use crate::server_code;
-use containers::Bytes;
+use containers::{Bytes, Seq, TryClone};
 use std::alloc::{AllocError, Global};
 use std::fmt;
 use thiserror::Error;
@@ -18,6 +18,9 @@ pub struct ServerError {
     pub code: Bytes,
     pub detail: Option<Bytes>,
 }
+
+/// The errors of an aborted transaction, each with the position of its command, counted from 0.
+pub type Aborts = Seq<(u32, ServerError)>;
 
 /// The detail of an error as people see it, behind a space.
 #[derive(Clone, Copy)]
@@ -68,5 +71,11 @@ impl ServerError {
             (λ r. IsRedirect self.now r.slot r.address.now r.ask) }
     {
         read_redirection(self)
+    }
+}
+
+impl TryClone for ServerError {
+    fn try_clone(&self, alloc: Global) -> Result<ServerError, AllocError> {
+        self.clone(alloc)
     }
 }

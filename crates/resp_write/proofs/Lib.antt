@@ -1,2 +1,3 @@
 mod Children
 mod Framed
+mod Written

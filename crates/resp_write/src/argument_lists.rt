@@ -1,4 +1,4 @@
-ghost use Rattle.std.specs.Prelude.{◌++◌, flat_map};
+ghost use Rattle.resp_write.specs.Arguments.{and_then, of_each, of_part};
 
 use crate::arguments::ToRedisArgs;
 use crate::command::Cmd;
@@ -10,7 +10,7 @@ pub trait SliceElement: ToRedisArgs {}
 
 /// The arguments of each element, in order.
 impl<'a, T: SliceElement> ToRedisArgs for &'a [T] {
-    ghost args_of = { λ items. flat_map T.args_of items.now };
+    ghost args_of = { of_part (λ items. items.now) (of_each T.args_of) };
 
     fn write_redis_args(&self, alloc: Global, cmd: &mut Cmd) -> Result<(), AllocError> {
         let mut more = Cmd::new(alloc);
@@ -23,7 +23,7 @@ impl<'a, T: SliceElement> ToRedisArgs for &'a [T] {
 
 /// The arguments of each element, in order.
 impl<T: SliceElement> ToRedisArgs for Vec<T> {
-    ghost args_of = { λ items. flat_map T.args_of items.items };
+    ghost args_of = { of_part (λ items. items.items) (of_each T.args_of) };
 
     fn write_redis_args(&self, alloc: Global, cmd: &mut Cmd) -> Result<(), AllocError> {
         self.as_slice().write_redis_args(alloc, cmd)
@@ -32,7 +32,7 @@ impl<T: SliceElement> ToRedisArgs for Vec<T> {
 
 /// The arguments of each, in order.
 impl<A: ToRedisArgs, B: ToRedisArgs> ToRedisArgs for (A, B) {
-    ghost args_of = { λ t. A.args_of t.0 ++ B.args_of t.1 };
+    ghost args_of = { and_then (of_part (λ t. t.0) A.args_of) (of_part (λ t. t.1) B.args_of) };
 
     fn write_redis_args(&self, alloc: Global, cmd: &mut Cmd) -> Result<(), AllocError> {
         let mut more = Cmd::new(alloc);
@@ -46,7 +46,7 @@ impl<A: ToRedisArgs, B: ToRedisArgs> SliceElement for (A, B) {}
 
 /// The arguments of each, in order.
 impl<A: ToRedisArgs, B: ToRedisArgs, C: ToRedisArgs> ToRedisArgs for (A, B, C) {
-    ghost args_of = { λ t. A.args_of t.0 ++ B.args_of t.1 ++ C.args_of t.2 };
+    ghost args_of = { and_then (and_then (of_part (λ t. t.0) A.args_of) (of_part (λ t. t.1) B.args_of)) (of_part (λ t. t.2) C.args_of) };
 
     fn write_redis_args(&self, alloc: Global, cmd: &mut Cmd) -> Result<(), AllocError> {
         let mut more = Cmd::new(alloc);
@@ -61,7 +61,7 @@ impl<A: ToRedisArgs, B: ToRedisArgs, C: ToRedisArgs> SliceElement for (A, B, C) 
 
 /// The arguments of each, in order.
 impl<A: ToRedisArgs, B: ToRedisArgs, C: ToRedisArgs, D: ToRedisArgs> ToRedisArgs for (A, B, C, D) {
-    ghost args_of = { λ t. A.args_of t.0 ++ B.args_of t.1 ++ C.args_of t.2 ++ D.args_of t.3 };
+    ghost args_of = { and_then (and_then (and_then (of_part (λ t. t.0) A.args_of) (of_part (λ t. t.1) B.args_of)) (of_part (λ t. t.2) C.args_of)) (of_part (λ t. t.3) D.args_of) };
 
     fn write_redis_args(&self, alloc: Global, cmd: &mut Cmd) -> Result<(), AllocError> {
         let mut more = Cmd::new(alloc);
@@ -79,7 +79,7 @@ impl<A: ToRedisArgs, B: ToRedisArgs, C: ToRedisArgs, D: ToRedisArgs> SliceElemen
 /// The arguments of each, in order.
 impl<A: ToRedisArgs, B: ToRedisArgs, C: ToRedisArgs, D: ToRedisArgs, E: ToRedisArgs> ToRedisArgs
     for (A, B, C, D, E) {
-    ghost args_of = { λ t. A.args_of t.0 ++ B.args_of t.1 ++ C.args_of t.2 ++ D.args_of t.3 ++ E.args_of t.4 };
+    ghost args_of = { and_then (and_then (and_then (and_then (of_part (λ t. t.0) A.args_of) (of_part (λ t. t.1) B.args_of)) (of_part (λ t. t.2) C.args_of)) (of_part (λ t. t.3) D.args_of)) (of_part (λ t. t.4) E.args_of) };
 
     fn write_redis_args(&self, alloc: Global, cmd: &mut Cmd) -> Result<(), AllocError> {
         let mut more = Cmd::new(alloc);
@@ -104,7 +104,7 @@ impl<
     E: ToRedisArgs,
     F: ToRedisArgs,
 > ToRedisArgs for (A, B, C, D, E, F) {
-    ghost args_of = { λ t. A.args_of t.0 ++ B.args_of t.1 ++ C.args_of t.2 ++ D.args_of t.3 ++ E.args_of t.4 ++ F.args_of t.5 };
+    ghost args_of = { and_then (and_then (and_then (and_then (and_then (of_part (λ t. t.0) A.args_of) (of_part (λ t. t.1) B.args_of)) (of_part (λ t. t.2) C.args_of)) (of_part (λ t. t.3) D.args_of)) (of_part (λ t. t.4) E.args_of)) (of_part (λ t. t.5) F.args_of) };
 
     fn write_redis_args(&self, alloc: Global, cmd: &mut Cmd) -> Result<(), AllocError> {
         let mut more = Cmd::new(alloc);
@@ -146,6 +146,8 @@ impl SliceElement for Vec<u8> {}
 impl SliceElement for String {}
 
 impl SliceElement for bool {}
+
+impl SliceElement for f64 {}
 
 impl SliceElement for i8 {}
 

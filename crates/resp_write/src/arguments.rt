@@ -1,26 +1,25 @@
-ghost use Rattle.std.specs.Prelude.{◌≡◌, ◌∷◌, [], ℕ, List, OnOk, OnErr, codes, decimal, string_bytes, if◌then◌else◌};
-ghost use Rattle.std.specs.Option.{option_map_or};
+ghost use Rattle.std.specs.Prelude.{◌≡◌, ◌∷◌, [], OnOk, OnErr, codes, decimal, string_bytes, if◌then◌else◌};
 ghost use Rattle.std.specs.Fmt.{signed_decimal};
-ghost use Rattle.resp_write.specs.Command.{with_args};
+ghost use Rattle.resp_write.specs.Arguments.{Arguments, IsFloatArgument, IsWritten, among, exactly, of_option};
 
 use crate::command::Cmd;
 use containers::{Bytes, Names};
 use itoa::Buffer;
 use std::alloc::{AllocError, Global};
 
-/// What becomes arguments of a command.
+/// What becomes arguments of a command: exactly those that the value determines, or some among those that stand for it.
 pub trait ToRedisArgs {
-    ghost args_of: { Self → List (List ℕ) };
+    ghost args_of: { Arguments Self };
 
     /// Appends the arguments. An error leaves the command as it was.
     fn write_redis_args(&self, alloc: Global, cmd: &mut Cmd) -> Result<(), AllocError>
-        ensures ok { OnOk result (cmd.new ≡ with_args cmd.old (args_of self.now)) }
+        ensures ok { OnOk result (IsWritten args_of self.now cmd.old cmd.new) }
         ensures err { OnErr result (cmd.new ≡ cmd.old) };
 }
 
 /// The bytes are one argument.
 impl<'a> ToRedisArgs for &'a [u8] {
-    ghost args_of = { λ bytes. bytes.now ∷ [] };
+    ghost args_of = { exactly (λ bytes. bytes.now ∷ []) };
 
     fn write_redis_args(&self, alloc: Global, cmd: &mut Cmd) -> Result<(), AllocError> {
         cmd.arg(alloc, self)
@@ -29,7 +28,7 @@ impl<'a> ToRedisArgs for &'a [u8] {
 
 /// The text is one argument.
 impl<'a> ToRedisArgs for &'a str {
-    ghost args_of = { λ text. text.now ∷ [] };
+    ghost args_of = { exactly (λ text. text.now ∷ []) };
 
     fn write_redis_args(&self, alloc: Global, cmd: &mut Cmd) -> Result<(), AllocError> {
         cmd.arg(alloc, self.as_bytes())
@@ -38,7 +37,7 @@ impl<'a> ToRedisArgs for &'a str {
 
 /// The bytes are one argument.
 impl ToRedisArgs for Bytes {
-    ghost args_of = { λ bytes. bytes ∷ [] };
+    ghost args_of = { exactly (λ bytes. bytes ∷ []) };
 
     fn write_redis_args(&self, alloc: Global, cmd: &mut Cmd) -> Result<(), AllocError> {
         cmd.arg(alloc, self.as_slice())
@@ -47,7 +46,7 @@ impl ToRedisArgs for Bytes {
 
 /// The bytes are one argument.
 impl ToRedisArgs for Vec<u8> {
-    ghost args_of = { λ bytes. bytes.items ∷ [] };
+    ghost args_of = { exactly (λ bytes. bytes.items ∷ []) };
 
     fn write_redis_args(&self, alloc: Global, cmd: &mut Cmd) -> Result<(), AllocError> {
         cmd.arg(alloc, self.as_slice())
@@ -56,7 +55,7 @@ impl ToRedisArgs for Vec<u8> {
 
 /// The text is one argument.
 impl ToRedisArgs for String {
-    ghost args_of = { λ text. string_bytes text ∷ [] };
+    ghost args_of = { exactly (λ text. string_bytes text ∷ []) };
 
     fn write_redis_args(&self, alloc: Global, cmd: &mut Cmd) -> Result<(), AllocError> {
         cmd.arg(alloc, self.as_bytes())
@@ -65,7 +64,7 @@ impl ToRedisArgs for String {
 
 /// A truth value is one argument, `1` or `0`.
 impl ToRedisArgs for bool {
-    ghost args_of = { λ on. (if on then codes "1" else codes "0") ∷ [] };
+    ghost args_of = { exactly (λ on. (if on then codes "1" else codes "0") ∷ []) };
 
     fn write_redis_args(&self, alloc: Global, cmd: &mut Cmd) -> Result<(), AllocError> {
         if *self {
@@ -78,7 +77,7 @@ impl ToRedisArgs for bool {
 
 /// None is no argument.
 impl<T: ToRedisArgs> ToRedisArgs for Option<T> {
-    ghost args_of = { λ value. option_map_or T.args_of value [] };
+    ghost args_of = { of_option T.args_of };
 
     fn write_redis_args(&self, alloc: Global, cmd: &mut Cmd) -> Result<(), AllocError> {
         match self {
@@ -90,7 +89,7 @@ impl<T: ToRedisArgs> ToRedisArgs for Option<T> {
 
 /// A number is one argument, its decimal digits, with a sign where it is below 0.
 impl ToRedisArgs for i8 {
-    ghost args_of = { λ number. signed_decimal number ∷ [] };
+    ghost args_of = { exactly (λ number. signed_decimal number ∷ []) };
 
     fn write_redis_args(&self, alloc: Global, cmd: &mut Cmd) -> Result<(), AllocError> {
         let mut digits = Buffer::new();
@@ -100,7 +99,7 @@ impl ToRedisArgs for i8 {
 
 /// A number is one argument, its decimal digits, with a sign where it is below 0.
 impl ToRedisArgs for i16 {
-    ghost args_of = { λ number. signed_decimal number ∷ [] };
+    ghost args_of = { exactly (λ number. signed_decimal number ∷ []) };
 
     fn write_redis_args(&self, alloc: Global, cmd: &mut Cmd) -> Result<(), AllocError> {
         let mut digits = Buffer::new();
@@ -110,7 +109,7 @@ impl ToRedisArgs for i16 {
 
 /// A number is one argument, its decimal digits, with a sign where it is below 0.
 impl ToRedisArgs for i32 {
-    ghost args_of = { λ number. signed_decimal number ∷ [] };
+    ghost args_of = { exactly (λ number. signed_decimal number ∷ []) };
 
     fn write_redis_args(&self, alloc: Global, cmd: &mut Cmd) -> Result<(), AllocError> {
         let mut digits = Buffer::new();
@@ -120,7 +119,7 @@ impl ToRedisArgs for i32 {
 
 /// A number is one argument, its decimal digits, with a sign where it is below 0.
 impl ToRedisArgs for i64 {
-    ghost args_of = { λ number. signed_decimal number ∷ [] };
+    ghost args_of = { exactly (λ number. signed_decimal number ∷ []) };
 
     fn write_redis_args(&self, alloc: Global, cmd: &mut Cmd) -> Result<(), AllocError> {
         let mut digits = Buffer::new();
@@ -130,7 +129,7 @@ impl ToRedisArgs for i64 {
 
 /// A number is one argument, its decimal digits, with a sign where it is below 0.
 impl ToRedisArgs for isize {
-    ghost args_of = { λ number. signed_decimal number ∷ [] };
+    ghost args_of = { exactly (λ number. signed_decimal number ∷ []) };
 
     fn write_redis_args(&self, alloc: Global, cmd: &mut Cmd) -> Result<(), AllocError> {
         let mut digits = Buffer::new();
@@ -140,7 +139,7 @@ impl ToRedisArgs for isize {
 
 /// A number is one argument, its decimal digits.
 impl ToRedisArgs for u8 {
-    ghost args_of = { λ number. decimal number ∷ [] };
+    ghost args_of = { exactly (λ number. decimal number ∷ []) };
 
     fn write_redis_args(&self, alloc: Global, cmd: &mut Cmd) -> Result<(), AllocError> {
         let mut digits = Buffer::new();
@@ -150,7 +149,7 @@ impl ToRedisArgs for u8 {
 
 /// A number is one argument, its decimal digits.
 impl ToRedisArgs for u16 {
-    ghost args_of = { λ number. decimal number ∷ [] };
+    ghost args_of = { exactly (λ number. decimal number ∷ []) };
 
     fn write_redis_args(&self, alloc: Global, cmd: &mut Cmd) -> Result<(), AllocError> {
         let mut digits = Buffer::new();
@@ -160,7 +159,7 @@ impl ToRedisArgs for u16 {
 
 /// A number is one argument, its decimal digits.
 impl ToRedisArgs for u32 {
-    ghost args_of = { λ number. decimal number ∷ [] };
+    ghost args_of = { exactly (λ number. decimal number ∷ []) };
 
     fn write_redis_args(&self, alloc: Global, cmd: &mut Cmd) -> Result<(), AllocError> {
         let mut digits = Buffer::new();
@@ -170,7 +169,7 @@ impl ToRedisArgs for u32 {
 
 /// A number is one argument, its decimal digits.
 impl ToRedisArgs for u64 {
-    ghost args_of = { λ number. decimal number ∷ [] };
+    ghost args_of = { exactly (λ number. decimal number ∷ []) };
 
     fn write_redis_args(&self, alloc: Global, cmd: &mut Cmd) -> Result<(), AllocError> {
         let mut digits = Buffer::new();
@@ -180,7 +179,7 @@ impl ToRedisArgs for u64 {
 
 /// A number is one argument, its decimal digits.
 impl ToRedisArgs for usize {
-    ghost args_of = { λ number. decimal number ∷ [] };
+    ghost args_of = { exactly (λ number. decimal number ∷ []) };
 
     fn write_redis_args(&self, alloc: Global, cmd: &mut Cmd) -> Result<(), AllocError> {
         let mut digits = Buffer::new();
@@ -188,9 +187,19 @@ impl ToRedisArgs for usize {
     }
 }
 
+/// A float is one argument, a short text that reads back as it, or `inf`, `-inf` or `NaN`.
+impl ToRedisArgs for f64 {
+    ghost args_of = { among IsFloatArgument };
+
+    fn write_redis_args(&self, alloc: Global, cmd: &mut Cmd) -> Result<(), AllocError> {
+        let mut digits = ryu::Buffer::new();
+        cmd.arg(alloc, digits.format(*self).as_bytes())
+    }
+}
+
 /// Each name is an argument, in order.
 impl ToRedisArgs for Names {
-    ghost args_of = { λ names. names };
+    ghost args_of = { exactly (λ names. names) };
 
     fn write_redis_args(&self, alloc: Global, cmd: &mut Cmd) -> Result<(), AllocError> {
         cmd.append_args(alloc, self.as_slice())

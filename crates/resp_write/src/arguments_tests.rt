@@ -64,6 +64,40 @@ const U64: [(u64, &[&[u8]]); 1] = [(18_446_744_073_709_551_615, &[b"184467440737
 
 const USIZE: [(usize, &[&[u8]]); 2] = [(0, &[b"0"]), (100, &[b"100"])];
 
+const FLOATS: [(f64, &[&[u8]]); 10] = [
+    (1.5, &[b"1.5"]),
+    (0.1, &[b"0.1"]),
+    (-0.0, &[b"-0.0"]),
+    (100.0, &[b"100.0"]),
+    (0.30000000000000004, &[b"0.30000000000000004"]),
+    (1e21, &[b"1e21"]),
+    (-2.5e-300, &[b"-2.5e-300"]),
+    (f64::INFINITY, &[b"inf"]),
+    (f64::NEG_INFINITY, &[b"-inf"]),
+    (f64::NAN, &[b"NaN"]),
+];
+
+const SCORES: [(&[(f64, &str)], &[&[u8]]); 1] = [(
+    &[(1.5, "a"), (-2.0, "b")],
+    &[b"1.5", b"a", b"-2.0", b"b"],
+)];
+
+#[test]
+fn floats_become_short_texts(rt: HostRuntime) -> Result<(), AllocError> {
+    let alloc = rt.alloc();
+    let floats = are_written(alloc, &FLOATS)?;
+    assert!(rt; floats);
+    let scores = are_written(alloc, &SCORES)?;
+    assert!(rt; scores);
+    let vector = is_written(
+        alloc,
+        &Vec::from_slice(alloc, &[0.5, 2.0])?,
+        &[b"0.5", b"2.0"],
+    )?;
+    assert!(rt; vector);
+    Ok(())
+}
+
 #[test]
 fn numbers_become_their_digits(rt: HostRuntime) -> Result<(), AllocError> {
     let alloc = rt.alloc();

@@ -4,7 +4,7 @@ ghost use Rattle.resp_write.specs.Command.{with_args};
 ghost use Rattle.resp_write.specs.Pack.{pack};
 
 use crate::pack::push_command;
-use containers::{Bytes, Seq};
+use containers::{Bytes, Names};
 use std::alloc::{AllocError, Global};
 use std::marker::Model;
 use std::slice::Iter;
@@ -12,7 +12,7 @@ use std::slice::Iter;
 /// A command: its name and its arguments, and whether its reply is left out.
 #[derive(Drop)]
 pub struct Cmd {
-    args: Seq<Bytes>,
+    args: Names,
     no_response: bool,
 }
 
@@ -24,25 +24,13 @@ impl Model for Cmd {
     ghost view = { λ c. record { args = c.args; no_response = c.no_response } };
 }
 
-/// Copies of arguments.
-fn copies(alloc: Global, args: &[Bytes]) -> Result<Seq<Bytes>, AllocError>
-    ensures { IfOk result (λ copies. copies ≡ args.now) }
-{
-    let mut copies = Seq::new(alloc);
-    for arg in args {
-        let copy = arg.clone(alloc)?;
-        copies.push(copy)?;
-    }
-    Ok(copies)
-}
-
 impl Cmd {
     /// No name and no arguments. Takes no memory.
     pub fn new(alloc: Global) -> Cmd
         ensures { result ≡ record { args = []; no_response = false } }
     {
         Cmd {
-            args: Seq::new(alloc),
+            args: Names::new(alloc),
             no_response: false,
         }
     }
@@ -62,7 +50,7 @@ impl Cmd {
         ensures ok { OnOk result (self.new ≡ with_args self.old args.now) }
         ensures err { OnErr result (self.new ≡ self.old) }
     {
-        let mut more = copies(alloc, args)?;
+        let mut more = Names::from_clones(alloc, args)?;
         self.args.append(&mut more)
     }
 
@@ -123,7 +111,7 @@ impl Cmd {
     pub fn clone(&self, alloc: Global) -> Result<Cmd, AllocError>
         ensures { IfOk result (λ c. c ≡ self.now) }
     {
-        let args = copies(alloc, self.args.as_slice())?;
+        let args = self.args.clone(alloc)?;
         Ok(Cmd {
             args,
             no_response: self.no_response,

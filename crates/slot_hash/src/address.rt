@@ -2,7 +2,7 @@ ghost use Rattle.std.specs.Prelude.{◌≡◌, IfOk, IsErrOf, Some, None};
 ghost use Rattle.slot_hash.specs.Address.{address_of};
 
 use crate::reading::{bare, end_of_last, is_text, port};
-use containers::Bytes;
+use containers::{Bytes, TryClone};
 use std::alloc::{AllocError, Global};
 
 /// Where a node is reached.
@@ -61,5 +61,11 @@ impl NodeAddress {
             host,
             port: self.port,
         })
+    }
+}
+
+impl TryClone for NodeAddress {
+    fn try_clone(&self, alloc: Global) -> Result<NodeAddress, AllocError> {
+        self.clone(alloc)
     }
 }

@@ -106,9 +106,9 @@ fn server_errors_have_words(rt: HostRuntime) -> Result<(), AllocError> {
         assert!(rt; same);
     }
     let mut errors = Aborts::new(alloc);
-    errors.push(0, server(alloc, b"ERR", Some(b"no"))?)?;
-    errors.push(2, server(alloc, b"X", None)?)?;
-    errors.push(3, server(alloc, b"", Some(b""))?)?;
+    errors.push((0, server(alloc, b"ERR", Some(b"no"))?))?;
+    errors.push((2, server(alloc, b"X", None)?))?;
+    errors.push((3, server(alloc, b"", Some(b""))?))?;
     let words = "aborted 0:ERR%20no 2:X 3:%20";
     assert!(rt; shows(alloc, RedisError::Aborted { errors }, words)?);
     Ok(())

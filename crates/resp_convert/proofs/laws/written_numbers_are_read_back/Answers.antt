@@ -1,4 +1,5 @@
-use Rattle.std.proofs.Common.{sym, ◌∙◌}
+use Rattle.std.proofs.Common.{◌≡◌, Option, Some, sym, ◌∙◌}
+use Rattle.std.specs.Float.{Float}
 use Rattle.resp_convert.proofs.Numbers.{integer_read, natural_read}
 use Rattle.resp_convert.proofs.laws.written_numbers_are_read_back.Goals as goal
 
@@ -13,3 +14,12 @@ returns-clause-unsigned c n small = (small, natural_read n small)
 
 pub returns-clause-no_other_natural : goal.returns-clause-no_other_natural
 returns-clause-no_other_natural c n m small is = is.1.1 ∙ sym (natural_read n small).1
+
+pub returns-clause-float : goal.returns-clause-float
+returns-clause-float c x text is = is.reads_back
+
+same_float : (x y : Float) (o : Option Float) → o ≡ Some x → o ≡ Some y → y ≡ x
+same_float x y o is other = cc
+
+pub returns-clause-no_other_float : goal.returns-clause-no_other_float
+returns-clause-no_other_float c x y text is other = same_float x y _ is.reads_back other

@@ -1,6 +1,7 @@
-use Rattle.std.proofs.Common.{◌≡◌, ◌++◌, drop, flat_map}
+use Rattle.std.proofs.Common.{drop}
+use Rattle.resp_write.proofs.Written.{Leads, empty}
 use Rattle.resp_write.proofs.argument_lists.RefSliceToRedisArgs.write_redis_args.Given as goal
 
--- the arguments of the elements passed, and those of the elements left, are the whole
+-- what the elements left become is all that is wanting
 abbrev pub invariant-loop-item : goal.invariant-loop-item
-invariant-loop-item g l = l.more.args ++ flat_map g.T.ToRedisArgs.args_of (drop l.item-index l.item-items) ≡ flat_map g.T.ToRedisArgs.args_of l.item-items
+invariant-loop-item g l = Leads g.T.ToRedisArgs.args_of l.item-items (drop l.item-index l.item-items) empty l.more
