@@ -6,7 +6,9 @@ use crate::{
     Connect, ConnectionAct, ConnectionGetters, ConnectionLike, ConnectionTimer,
     MultiplexedConnection, Pending, SendError,
 };
-use connection_info::{AsyncConnectionConfig, Client, OpenError, RedisConnectionInfo};
+use connection_info::{
+    AsyncConnectionConfig, Client, ConnectionInfo, OpenError, RedisConnectionInfo,
+};
 use driver_model::{LinkEvent, LinkNews, Outcome};
 use redis_error::{ConfigName, FaultKind, RedisError};
 use resp_value::Value;
@@ -22,15 +24,21 @@ fn client(rt: &impl Abort, alloc: Global, url: &str) -> Client {
     client
 }
 
+/// The address of that server.
+fn address(rt: &impl Abort, alloc: Global) -> Result<ConnectionInfo, AllocError> {
+    let client = client(rt, alloc, "redis://h");
+    let mut info = client.get_connection_info().clone(alloc)?;
+    info.redis.skip_set_lib_name = true;
+    Ok(info)
+}
+
 /// A connection to that server, made with this configuration.
 fn connected(
     rt: &impl Abort,
     alloc: Global,
     config: &AsyncConnectionConfig,
 ) -> Result<MultiplexedConnection, AllocError> {
-    let client = client(rt, alloc, "redis://h");
-    let mut info = client.get_connection_info().clone(alloc)?;
-    info.redis.skip_set_lib_name = true;
+    let info = address(rt, alloc)?;
     let Ok(mut conn) = MultiplexedConnection::connect_with_config(alloc, &info, config, 3) else {
         panic!(rt; "a connection");
     };
@@ -148,6 +156,32 @@ fn replies_go_to_their_callers(rt: HostRuntime) -> Result<(), AllocError> {
     assert!(rt; outcome(&conn, &first) == b"1".as_slice());
     assert!(rt; outcome(&conn, &second) == b"pending".as_slice());
     assert!(rt; outcome(&conn, &third) == b"3".as_slice());
+    Ok(())
+}
+
+#[test]
+fn a_connection_of_defaults_answers(rt: HostRuntime) -> Result<(), AllocError> {
+    let alloc = rt.alloc();
+    let info = address(&rt, alloc)?;
+    let Ok(mut conn) = MultiplexedConnection::new(alloc, &info.redis, 0) else {
+        panic!(rt; "a connection");
+    };
+    let log = turn(&rt, alloc, &mut conn, LinkNews::Connected)?;
+    assert!(rt; log.as_slice() == b"connect-timer created ".as_slice());
+    let Ok(request) = conn.req_packed_command(alloc, &cmd(alloc, b"PING")?) else {
+        panic!(rt; "a request");
+    };
+    let log = turn(&rt, alloc, &mut conn, LinkNews::Silence)?;
+    assert!(rt; log.as_slice() == b"timer start write ".as_slice());
+    turn(
+        &rt,
+        alloc,
+        &mut conn,
+        LinkNews::Came {
+            piece: b"+PONG\r\n",
+        },
+    )?;
+    assert!(rt; outcome(&conn, &request) == b"PONG".as_slice());
     Ok(())
 }
 
