@@ -205,6 +205,27 @@ impl Session {
         })
     }
 
+    /// What it was made from. Takes no memory.
+    pub fn config(&self) -> &Config
+        ensures { result.now ≡ self.now.config }
+    {
+        &self.config
+    }
+
+    /// The word of the draws of its opening. Takes no memory.
+    pub fn word(&self) -> u64
+        ensures { result ≡ self.now.word }
+    {
+        self.word
+    }
+
+    /// The events that it has taken, in order. Takes no memory.
+    pub fn events(&self) -> &[Event]
+        ensures { result.now ≡ self.now.events }
+    {
+        self.events.as_slice()
+    }
+
     /// How many events the session has taken. Takes no memory.
     pub fn events_taken(&self) -> u32
         ensures { result ≡ length self.now.events }
