@@ -75,14 +75,14 @@ told_map fits_key fits_value keys values d ps is Unfit none = λ xs each.
 told_map fits_key fits_value keys values d ps is Untold told = tt
 
 -- What is told of the items or pairs is told of what is made of them.
-pub told_vec : {S Z : Type 0} (fits : Data → Type 0) (reads : Data → S → Type 0) (d : Data) (look : Look) → IsTold (FitsList fits) (IsList reads) d look → IsTold (FitsList fits) (λ d (xs : Vec S Z). IsList reads d xs.items) d look
-told_vec {S} {Z} fits reads d look told = told_of (FitsList fits) (IsList reads) (λ d (xs : Vec S Z). IsList reads d xs.items) d (λ xs is. (xs.items, is)) look told
+pub told_vec : {S : Type 0} (Z : Type 0) (fits : Data → Type 0) (reads : Data → S → Type 0) (d : Data) (look : Look) → IsTold (FitsList fits) (IsList reads) d look → IsTold (FitsList fits) (λ d (xs : Vec S Z). IsList reads d xs.items) d look
+told_vec {S} Z fits reads d look told = told_of (FitsList fits) (IsList reads) (λ d (xs : Vec S Z). IsList reads d xs.items) d (λ xs is. (xs.items, is)) look told
 
 pub told_ordered_set : {K : Type 0} (cmp : K → K → Ordering) (fits : Data → Type 0) (reads : Data → K → Type 0) (d : Data) (look : Look) → IsTold (FitsList fits) (IsList reads) d look → IsTold (FitsList fits) (IsOrderedSet cmp reads) d look
 told_ordered_set cmp fits reads d look told = told_of (FitsList fits) (IsList reads) (IsOrderedSet cmp reads) d (λ s is. (is.0, is.1)) look told
 
-pub told_hash_set : {K S : Type 0} (eq : K → K → Bool) (fits : Data → Type 0) (reads : Data → K → Type 0) (d : Data) (look : Look) → IsTold (FitsList fits) (IsList reads) d look → IsTold (FitsList fits) (IsHashSet {S = S} eq reads) d look
-told_hash_set {K} {S} eq fits reads d look told = told_of (FitsList fits) (IsList reads) (IsHashSet {S = S} eq reads) d (λ s is. (is.0, is.1)) look told
+pub told_hash_set : {K : Type 0} (S : Type 0) (eq : K → K → Bool) (fits : Data → Type 0) (reads : Data → K → Type 0) (d : Data) (look : Look) → IsTold (FitsList fits) (IsList reads) d look → IsTold (FitsList fits) (IsHashSet {S = S} eq reads) d look
+told_hash_set {K} S eq fits reads d look told = told_of (FitsList fits) (IsList reads) (IsHashSet {S = S} eq reads) d (λ s is. (is.0, is.1)) look told
 
 module _ {K V : Type 0} (fits_key fits_value : Data → Type 0) (keys : Data → K → Type 0) (values : Data → V → Type 0) (d : Data) (look : Look) (told : IsTold (FitsPairs fits_key fits_value) (IsPairs keys values) d look) where
   pub told_key_values : IsTold (FitsPairs fits_key fits_value) (λ d (xs : KeyValues K V). IsPairs keys values d xs.pairs.items) d look
@@ -91,5 +91,5 @@ module _ {K V : Type 0} (fits_key fits_value : Data → Type 0) (keys : Data →
   pub told_map_of : (cmp : K → K → Ordering) → IsTold (FitsPairs fits_key fits_value) (IsMap cmp keys values) d look
   told_map_of cmp = told_of (FitsPairs fits_key fits_value) (IsPairs keys values) (IsMap cmp keys values) d (λ m is. (is.0, is.1)) look told
 
-  pub told_hash_map_of : {S : Type 0} (eq : K → K → Bool) → IsTold (FitsPairs fits_key fits_value) (IsHashMap {S = S} eq keys values) d look
-  told_hash_map_of {S} eq = told_of (FitsPairs fits_key fits_value) (IsPairs keys values) (IsHashMap {S = S} eq keys values) d (λ m is. (is.0, is.1)) look told
+  pub told_hash_map_of : (S : Type 0) (eq : K → K → Bool) → IsTold (FitsPairs fits_key fits_value) (IsHashMap {S = S} eq keys values) d look
+  told_hash_map_of S eq = told_of (FitsPairs fits_key fits_value) (IsPairs keys values) (IsHashMap {S = S} eq keys values) d (λ m is. (is.0, is.1)) look told

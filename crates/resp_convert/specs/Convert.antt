@@ -14,6 +14,10 @@ use Rattle.resp_convert.specs.declared.convert.Look.TheVariants.{Fits, Unfit, Un
 abbrev pub IsNone : {A S : Type 0} → (A → S → Type 0) → A → Type 0
 IsNone {A} {S} reads d = (x : S) → reads d x → ⊥
 
+-- it is something of the type
+abbrev pub IsOfType : {A S : Type 0} → (A → S → Type 0) → A → Type 0
+IsOfType {A} {S} reads d = (x : S) × reads d x
+
 -- what it is of the type, or that it is nothing of the type
 abbrev pub IsRead : {A S : Type 0} → (A → S → Type 0) → A → Option S → Type 0
 IsRead reads d (Some x) = reads d x

@@ -228,6 +228,20 @@ fn look_at_pairs<K: FromRedisValue, V: FromRedisValue>(value: &Value) -> Look
     }
 }
 
+/// A key and its value, each moved.
+fn take_pair<K: FromRedisValue + Drop, V: FromRedisValue + Drop>(
+    alloc: Global,
+    key: Value,
+    value: Value,
+) -> Result<(K, V), AllocError>
+    requires { FitsPair K.fits V.fits (data_of key, data_of value) }
+    ensures { IfOk result (λ taken. IsPair K.reads V.reads (data_of key, data_of value) taken) }
+{
+    let key = K::take_value(alloc, key)?;
+    let value = V::take_value(alloc, value)?;
+    Ok((key, value))
+}
+
 /// The keys and values of a map, each moved.
 fn take_members<K: FromRedisValue + Drop, V: FromRedisValue + Drop>(
     alloc: Global,
@@ -239,9 +253,7 @@ fn take_members<K: FromRedisValue + Drop, V: FromRedisValue + Drop>(
     let mut taken = Vec::new(alloc);
     let mut rest = Queue::from_vec(members.into_vec());
     while let Some((key, value)) = rest.pop_front() {
-        let key = K::take_value(alloc, key)?;
-        let value = V::take_value(alloc, value)?;
-        taken.push((key, value))?;
+        taken.push(take_pair(alloc, key, value)?)?;
     }
     Ok(taken)
 }

@@ -76,7 +76,7 @@ pub enum Look {
 pub trait FromRedisValue: Sized {
     ghost reads: { Data → Self → Type 0 };
 
-    ghost fits: { Data → Type 0 } = { λ d. (x : Self) × reads d x };
+    ghost fits: { Data → Type 0 };
 
     /// What a value is as one of the type, if it is of the type.
     fn read_value(alloc: Global, value: &Value) -> Result<Option<Self>, AllocError>

@@ -1,5 +1,6 @@
 ghost use Rattle.std.specs.Prelude.{◌≡◌, IfOk};
 ghost use Rattle.resp_value.specs.View.{data_of};
+ghost use Rattle.resp_convert.specs.Convert.{IsOfType};
 ghost use Rattle.resp_convert.specs.Types.{IsDone, IsTruth, bare};
 
 use crate::convert::{FromRedisValue, Look};
@@ -35,6 +36,8 @@ impl FromRedisValue for Value {
 impl FromRedisValue for bool {
     ghost reads = { λ d on. IsTruth (bare d) on };
 
+    ghost fits = { IsOfType (λ d on. IsTruth (bare d) on) };
+
     fn read_value(_alloc: Global, value: &Value) -> Result<Option<bool>, AllocError> {
         match parts::bare(value) {
             Value::Boolean(on) => Ok(Some(*on)),
@@ -48,6 +51,8 @@ impl FromRedisValue for bool {
 /// Anything but a server error.
 impl FromRedisValue for () {
     ghost reads = { λ d done. IsDone (bare d) };
+
+    ghost fits = { λ d. IsDone (bare d) };
 
     fn read_value(_alloc: Global, value: &Value) -> Result<Option<()>, AllocError> {
         match parts::bare(value) {

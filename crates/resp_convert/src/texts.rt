@@ -1,6 +1,7 @@
 ghost use Rattle.std.specs.Prelude.{IfOk};
 ghost use Rattle.std.specs.String.{string_bytes};
 ghost use Rattle.resp_value.specs.View.{data_of};
+ghost use Rattle.resp_convert.specs.Convert.{IsOfType};
 ghost use Rattle.resp_convert.specs.Types.{IsText, IsUnicode};
 
 use crate::convert::{FromRedisValue, Look};
@@ -12,11 +13,9 @@ use std::str;
 
 /// A text. That of a byte string, a simple string or a verbatim string is moved, not copied.
 impl FromRedisValue for Bytes {
-    ghost use Rattle.std.specs.Prelude.{List, ℕ};
-
     ghost reads = { IsText };
 
-    ghost fits = { λ d. (bytes : List ℕ) × IsText d bytes };
+    ghost fits = { IsOfType IsText };
 
     fn read_value(alloc: Global, value: &Value) -> Result<Option<Bytes>, AllocError> {
         let Some(text) = text(bare(value)) else {
@@ -47,11 +46,9 @@ impl FromRedisValue for Bytes {
 
 /// A text in UTF-8. That of a byte string, a simple string or a verbatim string is moved, not copied.
 impl FromRedisValue for String {
-    ghost use Rattle.std.specs.Prelude.{List, ℕ};
-
     ghost reads = { λ d s. IsUnicode d (string_bytes s) };
 
-    ghost fits = { λ d. (bytes : List ℕ) × IsUnicode d bytes };
+    ghost fits = { IsOfType IsUnicode };
 
     fn read_value(alloc: Global, value: &Value) -> Result<Option<String>, AllocError> {
         let Some(text) = text(bare(value)) else {
