@@ -3,7 +3,9 @@
 
 pub use containers::{Bytes, Names, Seq};
 pub use redis_error::{ConfigName, ErrorKind, FaultKind, RedisError, RouteNumbers};
-pub use resp_convert::{ConvertError, FromRedisValue, KeyValues, written_numbers_are_read_back};
+pub use resp_convert::{
+    ConvertError, FromRedisValue, KeyValues, Look, written_numbers_are_read_back,
+};
 pub use resp_read::{Limits, ReadError, Reader};
 pub use resp_value::{
     Aborts, Inner, Pairs, PushKind, Redirection, RetryMethod, ServerError, ServerErrorKind, Value,

@@ -1,6 +1,7 @@
 -- Keys and values that are read of a list by twos.
-use Rattle.std.proofs.Common.{rules, ◌≡◌, ◌==◌, true, false, ◌-◌, ◌<◌, ◌≤◌, List, [], ◌∷◌, ◌++◌, length, get_or, take, drop, Option, Some, None, option_map, refl, sym, ap, subst, arith}
+use Rattle.std.proofs.Common.{rules, ◌≡◌, ◌==◌, true, false, ◌-◌, ◌<◌, ◌≤◌, List, [], ◌∷◌, ◌++◌, length, map, get_or, take, drop, Option, Some, None, option_map, refl, sym, ap, subst, arith}
 use Rattle.std.proofs.lemmas.List.{take_rest}
+use Rattle.std.specs.List.{AllByRecursion}
 use Rattle.resp_value.specs.declared.value.Value.{Value}
 use Rattle.resp_value.specs.Data.{Data}
 use Rattle.resp_value.specs.View.{data_of, list_view}
@@ -51,6 +52,12 @@ module _ {A S : Type 0} (reads : A → S → Type 0) where
 
   pub odd : (read : List S) (all : Option (List A)) → IsReadSoFar read None all → (zs : List S) → IsEachOf reads all zs → ⊥
   odd read all so_far zs each = (so_far.1 zs each).1
+
+-- the value at the front was taken: what was taken and what is left are the whole, and what is left fits
+pub one_taken : {V A S : Type 0} (view : V → A) (fits : A → Type 0) (reads : A → S → Type 0) (taken more : List S) (rest left : List V) (v : V) (x : S) (all : Option (List A)) → rest ≡ v ∷ left → more ≡ taken ++ x ∷ [] → IsReadSoFar reads taken (Some (map view rest)) all × AllByRecursion fits (map view rest) → reads (view v) x → IsReadSoFar reads more (Some (map view left)) all × AllByRecursion fits (map view left)
+one_taken view fits reads taken more rest left v x all front made so_far is =
+    let now = subst (λ vs. IsReadSoFar reads taken (Some (map view vs)) all × AllByRecursion fits (map view vs)) front so_far in
+    (subst (λ ys. IsReadSoFar reads ys (Some (map view left)) all) (sym made) (one_more reads taken (Some (map view left)) all (view v) x now.0 is), now.1.1)
 
 -- the two at the front, and the pairs of what follows them
 two_at_front : (vs : List Value) (k v : Value) → 2 ≤ length vs → k ≡ get_or vs 0 k → v ≡ get_or vs 1 v → paired (list_view vs) ≡ option_map (λ ds. (data_of k, data_of v) ∷ ds) (paired (list_view (take (length vs - 2) (drop 2 vs))))

@@ -52,28 +52,15 @@ module _ {A V S : Type 0} (view : V → A) (reads : A → S → Type 0) where
   pub none_at : (vs : List V) (i : ℕ) (v : V) → i < length vs → v ≡ get_or vs i v → ((x : S) → reads (view v) x → ⊥) → (xs : List S) → IsEach reads (map view vs) xs → ⊥
   none_at vs i v h at none = none_there vs i v h (subst (λ u. (x : S) → reads (view u) x → ⊥) at none)
 
-module _ (P : Data → Type 0) where
-  all_push : (ds : List Data) (d : Data) → AllByRecursion P ds → P d → AllByRecursion P (ds ++ d ∷ [])
+module _ {A V : Type 0} (view : V → A) (P : A → Type 0) where
+  all_push : (ds : List A) (d : A) → AllByRecursion P ds → P d → AllByRecursion P (ds ++ d ∷ [])
   all_push [] d all is = (is, tt)
   all_push (e ∷ es) d all is = (all.0, all_push es d all.1 is)
 
   -- it is true of one value more
-  pub all_more : (vs : List Value) (i : ℕ) (v : Value) → i < length vs → v ≡ get_or vs i v → AllByRecursion P (list_view (take i vs)) → P (data_of v) → AllByRecursion P (list_view (take (i + 1) vs))
+  pub all_more : (vs : List V) (i : ℕ) (v : V) → i < length vs → v ≡ get_or vs i v → AllByRecursion P (map view (take i vs)) → P (view v) → AllByRecursion P (map view (take (i + 1) vs))
   all_more vs i v h at all is =
       let w = get_or vs i v in
-      subst (λ us. AllByRecursion P (list_view us)) (sym (take_more vs i v h)) (
-      subst (AllByRecursion P) (sym (view_push data_of (λ d (u : Data). P d) (take i vs) w)) (
-      all_push (list_view (take i vs)) (data_of w) all (subst (λ u. P (data_of u)) at is)))
-
-  -- what is true of each value is true of the one at a place
-  pub one_of_all : (vs : List Value) (i : ℕ) (v : Value) → i < length vs → v ≡ get_or vs i v → AllByRecursion P (list_view vs) → P (data_of v)
-  one_of_all [] i v h at all = absurd (omega arith)
-  one_of_all (w ∷ vs) zero v h at all = subst (λ u. P (data_of u)) (sym at) all.0
-  one_of_all (w ∷ vs) (suc i) v h at all = one_of_all vs i v (omega arith) at all.1
-
--- what holds of each value that is read holds of all
-pub all_of_each : {S : Type 0} (reads : Data → S → Type 0) (P : Data → Type 0) → ((d : Data) (x : S) → reads d x → P d) → (ds : List Data) (xs : List S) → IsEach reads ds xs → AllByRecursion P ds
-all_of_each reads P held [] [] each = tt
-all_of_each reads P held [] (x ∷ xs) each = absurd each
-all_of_each reads P held (d ∷ ds) [] each = absurd each
-all_of_each reads P held (d ∷ ds) (x ∷ xs) each = (held d x each.0, all_of_each reads P held ds xs each.1)
+      subst (λ us. AllByRecursion P (map view us)) (sym (take_more vs i v h)) (
+      subst (AllByRecursion P) (sym (view_push view (λ d (u : A). P d) (take i vs) w)) (
+      all_push (map view (take i vs)) (view w) all (subst (λ u. P (view u)) at is)))

@@ -1,4 +1,5 @@
 mod ByTwos
 mod Each
+mod Fit
 mod Fronts
 mod Numbers

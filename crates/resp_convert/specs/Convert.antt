@@ -7,10 +7,16 @@ use Rattle.resp_value.specs.declared.value.Value.{Value}
 use Rattle.resp_convert.specs.Types.{IsEach, IsEachOf, bare}
 use Rattle.resp_convert.specs.declared.convert.ConvertError.{ConvertError}
 use Rattle.resp_convert.specs.declared.convert.ConvertError.TheVariants.{Convert, NoMemory}
+use Rattle.resp_convert.specs.declared.convert.Look.{Look}
+use Rattle.resp_convert.specs.declared.convert.Look.TheVariants.{Fits, Unfit, Untold}
 
 -- it is nothing of the type
 abbrev pub IsNone : {A S : Type 0} → (A → S → Type 0) → A → Type 0
 IsNone {A} {S} reads d = (x : S) → reads d x → ⊥
+
+-- it is something of the type
+abbrev pub IsOfType : {A S : Type 0} → (A → S → Type 0) → A → Type 0
+IsOfType {A} {S} reads d = (x : S) × reads d x
 
 -- what it is of the type, or that it is nothing of the type
 abbrev pub IsRead : {A S : Type 0} → (A → S → Type 0) → A → Option S → Type 0
@@ -27,6 +33,12 @@ abbrev pub IsConverted : {S : Type 0} → (Data → S → Type 0) → Value → 
 IsConverted reads value (Ok x) = reads (data_of value) x
 IsConverted reads value (Err (Convert given)) = (given ≡ value) × IsNone reads (data_of value)
 IsConverted reads value (Err NoMemory) = Unit {0}
+
+-- what a look at it told: that it fits the type, that it is nothing of the type, or nothing
+abbrev pub IsTold : {A S : Type 0} → (A → Type 0) → (A → S → Type 0) → A → Look → Type 0
+IsTold fits reads d Fits = fits d
+IsTold fits reads d Unfit = IsNone reads d
+IsTold fits reads d Untold = Unit {0}
 
 -- the items that were read
 abbrev pub items_read : {S Z E : Type 0} → Result (Vec S Z) E → Result (List S) E

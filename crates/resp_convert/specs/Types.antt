@@ -2,6 +2,7 @@
 use Rattle.std.specs.Prelude.{◌≡◌, ℕ, ◌<◌, ◌^◌, ℤ, pos, Bool, List, [], ◌∷◌, Option, Some, None, option_map, fold, codes, if◌then◌else◌}
 use mir.Syntax.{Width}
 use mir.Val.{SFits}
+use Rattle.std.specs.List.{AllByRecursion}
 use Rattle.std.specs.Str.{IsUtf8}
 use Rattle.std.specs.Str.Parse.{IsNumeral, without_leading_plus, without_leading_sign, digits_value, signed_digits_value}
 use Rattle.std.specs.declared.cmp.Ordering.{Ordering}
@@ -191,6 +192,33 @@ AreThere are (Some ds) x = are ds x
 -- an array or a set, behind any attributes, whose items are as `are` says
 abbrev pub HasItems : {S : Type 0} → (List Data → S → Type 0) → Data → S → Type 0
 HasItems are d x = AreThere are (items_in (bare d)) x
+
+-- Which values can be moved: nil into an option, and what can be moved into its own type.
+abbrev pub FitsOption : (Data → Type 0) → Data → Type 0
+FitsOption fits nil = Unit {0}
+FitsOption fits d = fits d
+
+-- what is there, and can all be moved
+abbrev pub AllFit : {A : Type 0} → (A → Type 0) → Option (List A) → Type 0
+AllFit fits None = ⊥
+AllFit fits (Some ds) = AllByRecursion fits ds
+
+-- an array or a set of such values
+abbrev pub FitsList : (Data → Type 0) → Data → Type 0
+FitsList fits d = AllFit fits (items_in (bare d))
+
+-- such a key and such a value
+abbrev pub FitsPair : (Data → Type 0) → (Data → Type 0) → Data × Data → Type 0
+FitsPair keys values p = keys p.0 × values p.1
+
+-- the keys and values of a map
+abbrev pub members_in : Data → Option (List (Data × Data))
+members_in (dict ms) = Some (pairs_of ms)
+members_in _ = None
+
+-- a map of such keys and values
+abbrev pub FitsPairs : (Data → Type 0) → (Data → Type 0) → Data → Type 0
+FitsPairs keys values d = AllFit (FitsPair keys values) (members_in (bare d))
 
 -- a number, or a text of one: the float that is nearest to it
 abbrev pub IsFloat : Data → Float → Type 0

@@ -1,13 +1,14 @@
 ghost use Rattle.std.specs.Prelude.{◌≡◌, IfOk, Some};
 ghost use Rattle.std.specs.HashMap as hashed;
+ghost use Rattle.std.specs.List.{AllByRecursion};
 ghost use Rattle.resp_value.specs.View.{data_of, list_view, pairs_view};
-ghost use Rattle.resp_convert.specs.Convert.{IsConverted, IsRead, IsReadEach, items_read};
-ghost use Rattle.resp_convert.specs.Types.{IsHashMap, IsList, IsMap, IsOptional, IsPair, IsPairs, bare, entries_of, items_in, paired, pairs_in};
+ghost use Rattle.resp_convert.specs.Convert.{IsRead, IsReadEach, IsTold};
+ghost use Rattle.resp_convert.specs.Types.{FitsList, FitsOption, FitsPair, FitsPairs, IsEach, IsHashMap, IsList, IsMap, IsOptional, IsPair, IsPairs, bare, entries_of, items_in, paired, pairs_in};
 
-use crate::convert::{ConvertError, FromRedisValue};
+use crate::convert::{ConvertError, FromRedisValue, Look};
 use crate::parts;
 use containers::Queue;
-use resp_value::Value;
+use resp_value::{Pairs, Value};
 use std::alloc::{AllocError, Global};
 use std::collections::{BTreeMap, HashMap};
 use std::hash::Hash;
@@ -16,6 +17,8 @@ use std::hash::Hash;
 impl<T: FromRedisValue> FromRedisValue for Option<T> {
     ghost reads = { λ d o. IsOptional T.reads d o };
 
+    ghost fits = { FitsOption T.fits };
+
     fn read_value(alloc: Global, value: &Value) -> Result<Option<Option<T>>, AllocError> {
         match value {
             Value::Nil => Ok(Some(None)),
@@ -23,6 +26,20 @@ impl<T: FromRedisValue> FromRedisValue for Option<T> {
                 Some(read) => Ok(Some(Some(read))),
                 None => Ok(None),
             },
+        }
+    }
+
+    fn look(value: &Value) -> Look {
+        match value {
+            Value::Nil => Look::Fits,
+            _ => T::look(value),
+        }
+    }
+
+    fn take_value(alloc: Global, value: Value) -> Result<Option<T>, AllocError> {
+        match value {
+            Value::Nil => Ok(None),
+            other => Ok(Some(T::take_value(alloc, other)?)),
         }
     }
 
@@ -50,52 +67,45 @@ pub fn read_items<T: FromRedisValue + Drop>(
     }
 }
 
-/// The items of an array or a set, moved where the type moves them.
-#[tactic(auto, using(crate::proofs::Each::same_items))]
-pub fn take_items<T: FromRedisValue + Drop>(
-    alloc: Global,
-    value: Value,
-) -> Result<Vec<T>, ConvertError>
-    ensures { IsConverted (IsList T.reads) value (items_read result) }
+/// Whether the items of an array or a set can be moved.
+pub fn look_at_items<T: FromRedisValue>(value: &Value) -> Look
+    ensures { IsTold (FitsList T.fits) (IsList T.reads) (data_of value.now) result }
 {
-    match value {
-        Value::Array(items) => match T::from_redis_values(alloc, items) {
-            Ok(Ok(taken)) => Ok(taken),
-            Ok(Err(items)) => Err(ConvertError::Convert {
-                value: Value::Array(items),
-            }),
-            Err(_) => Err(ConvertError::NoMemory),
-        },
-        Value::Set(items) => match T::from_redis_values(alloc, items) {
-            Ok(Ok(taken)) => Ok(taken),
-            Ok(Err(items)) => Err(ConvertError::Convert {
-                value: Value::Set(items),
-            }),
-            Err(_) => Err(ConvertError::NoMemory),
-        },
-        other => match read_items(alloc, &other) {
-            Ok(Some(read)) => {
-                drop(other);
-                Ok(read)
-            }
-            Ok(None) => Err(ConvertError::Convert { value: other }),
-            Err(_) => {
-                drop(other);
-                Err(ConvertError::NoMemory)
-            }
-        },
+    match parts::items(parts::bare(value)) {
+        Some(items) => T::look_at_values(items),
+        None => Look::Unfit,
     }
 }
 
-/// An array or a set. Its items are moved where their type moves them: values, bytes and texts.
+/// The items of an array or a set, each moved.
+pub fn take_items<T: FromRedisValue + Drop>(
+    alloc: Global,
+    value: Value,
+) -> Result<Vec<T>, AllocError>
+    requires { FitsList T.fits (data_of value) }
+    ensures { IfOk result (λ taken. IsList T.reads (data_of value) taken.items) }
+{
+    match parts::into_items(parts::into_bare(value)) {
+        Some(items) => T::take_values(alloc, items),
+        None => unreachable!(),
+    }
+}
+
+/// An array or a set. Its items are moved where their type moves them.
 impl<T: FromRedisValue + Drop> FromRedisValue for Vec<T> {
     ghost reads = { λ d xs. IsList T.reads d xs.items };
+
+    ghost fits = { FitsList T.fits };
 
     fn read_value(alloc: Global, value: &Value) -> Result<Option<Vec<T>>, AllocError> {
         read_items(alloc, value)
     }
 
-    fn from_redis_value(alloc: Global, value: Value) -> Result<Vec<T>, ConvertError> {
+    fn look(value: &Value) -> Look {
+        look_at_items::<T>(value)
+    }
+
+    fn take_value(alloc: Global, value: Value) -> Result<Vec<T>, AllocError> {
         take_items(alloc, value)
     }
 }
@@ -181,15 +191,109 @@ fn read_pairs<K: FromRedisValue + Drop, V: FromRedisValue + Drop>(
     }
 }
 
-/// A map, or an array of even length: keys and values in turn.
+/// Whether a key and its value can be moved.
+fn look_at_pair<K: FromRedisValue, V: FromRedisValue>(key: &Value, value: &Value) -> Look
+    ensures { IsTold (FitsPair K.fits V.fits) (IsPair K.reads V.reads)
+        (data_of key.now, data_of value.now) result }
+{
+    match K::look(key) {
+        Look::Fits => V::look(value),
+        Look::Unfit => Look::Unfit,
+        Look::Untold => Look::Untold,
+    }
+}
+
+/// Whether the keys and values of a map can be moved.
+fn look_at_members<K: FromRedisValue, V: FromRedisValue>(members: &[(Value, Value)]) -> Look
+    ensures { IsTold (AllByRecursion (FitsPair K.fits V.fits)) (IsEach (IsPair K.reads V.reads))
+        (pairs_view members.now) result }
+{
+    for member in members {
+        match look_at_pair::<K, V>(&member.0, &member.1) {
+            Look::Fits => {}
+            Look::Unfit => return Look::Unfit,
+            Look::Untold => return Look::Untold,
+        }
+    }
+    Look::Fits
+}
+
+/// The same of a value that is a map. An array of keys and values is read.
+fn look_at_pairs<K: FromRedisValue, V: FromRedisValue>(value: &Value) -> Look
+    ensures { IsTold (FitsPairs K.fits V.fits) (IsPairs K.reads V.reads)
+        (data_of value.now) result }
+{
+    match parts::bare(value) {
+        Value::Map(pairs) => look_at_members::<K, V>(pairs.as_slice()),
+        _ => Look::Untold,
+    }
+}
+
+/// A key and its value, each moved.
+fn take_pair<K: FromRedisValue + Drop, V: FromRedisValue + Drop>(
+    alloc: Global,
+    key: Value,
+    value: Value,
+) -> Result<(K, V), AllocError>
+    requires { FitsPair K.fits V.fits (data_of key, data_of value) }
+    ensures { IfOk result (λ taken. IsPair K.reads V.reads (data_of key, data_of value) taken) }
+{
+    let key = K::take_value(alloc, key)?;
+    let value = V::take_value(alloc, value)?;
+    Ok((key, value))
+}
+
+/// The keys and values of a map, each moved.
+fn take_members<K: FromRedisValue + Drop, V: FromRedisValue + Drop>(
+    alloc: Global,
+    members: Pairs,
+) -> Result<Vec<(K, V)>, AllocError>
+    requires { AllByRecursion (FitsPair K.fits V.fits) members }
+    ensures { IfOk result (λ taken. IsEach (IsPair K.reads V.reads) members taken.items) }
+{
+    let mut taken = Vec::new(alloc);
+    let mut rest = Queue::from_vec(members.into_vec());
+    while let Some((key, value)) = rest.pop_front() {
+        taken.push(take_pair(alloc, key, value)?)?;
+    }
+    Ok(taken)
+}
+
+/// The same of a value that is a map.
+fn take_pairs<K: FromRedisValue + Drop, V: FromRedisValue + Drop>(
+    alloc: Global,
+    value: Value,
+) -> Result<Vec<(K, V)>, AllocError>
+    requires { FitsPairs K.fits V.fits (data_of value) }
+    ensures { IfOk result (λ taken. IsPairs K.reads V.reads (data_of value) taken.items) }
+{
+    match parts::into_members(parts::into_bare(value)) {
+        Some(members) => take_members(alloc, members),
+        None => unreachable!(),
+    }
+}
+
+/// A map, or an array of even length: keys and values in turn. Those of a map are moved where their types move them.
 impl<K: FromRedisValue + Drop, V: FromRedisValue + Drop> FromRedisValue for KeyValues<K, V> {
     ghost reads = { λ d xs. IsPairs K.reads V.reads d xs.pairs.items };
+
+    ghost fits = { FitsPairs K.fits V.fits };
 
     fn read_value(alloc: Global, value: &Value) -> Result<Option<KeyValues<K, V>>, AllocError> {
         match read_pairs(alloc, parts::bare(value))? {
             Some(pairs) => Ok(Some(KeyValues { pairs })),
             None => Ok(None),
         }
+    }
+
+    fn look(value: &Value) -> Look {
+        look_at_pairs::<K, V>(value)
+    }
+
+    fn take_value(alloc: Global, value: Value) -> Result<KeyValues<K, V>, AllocError> {
+        Ok(KeyValues {
+            pairs: take_pairs(alloc, value)?,
+        })
     }
 }
 
@@ -212,11 +316,21 @@ fn map_of<K: Ord + Drop, V: Drop>(
 impl<K: FromRedisValue + Ord + Drop, V: FromRedisValue + Drop> FromRedisValue for BTreeMap<K, V> {
     ghost reads = { IsMap K.cmp K.reads V.reads };
 
+    ghost fits = { FitsPairs K.fits V.fits };
+
     fn read_value(alloc: Global, value: &Value) -> Result<Option<BTreeMap<K, V>>, AllocError> {
         match read_pairs(alloc, parts::bare(value))? {
             Some(pairs) => Ok(Some(map_of(alloc, pairs)?)),
             None => Ok(None),
         }
+    }
+
+    fn look(value: &Value) -> Look {
+        look_at_pairs::<K, V>(value)
+    }
+
+    fn take_value(alloc: Global, value: Value) -> Result<BTreeMap<K, V>, AllocError> {
+        map_of(alloc, take_pairs(alloc, value)?)
     }
 }
 
@@ -235,10 +349,20 @@ impl<K: FromRedisValue + Eq + Hash + Drop, V: FromRedisValue + Drop> FromRedisVa
     for HashMap<K, V> {
     ghost reads = { IsHashMap K.eq K.reads V.reads };
 
+    ghost fits = { FitsPairs K.fits V.fits };
+
     fn read_value(alloc: Global, value: &Value) -> Result<Option<HashMap<K, V>>, AllocError> {
         match read_pairs(alloc, parts::bare(value))? {
             Some(pairs) => Ok(Some(hash_map_of(alloc, pairs)?)),
             None => Ok(None),
         }
+    }
+
+    fn look(value: &Value) -> Look {
+        look_at_pairs::<K, V>(value)
+    }
+
+    fn take_value(alloc: Global, value: Value) -> Result<HashMap<K, V>, AllocError> {
+        hash_map_of(alloc, take_pairs(alloc, value)?)
     }
 }

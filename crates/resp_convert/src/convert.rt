@@ -1,10 +1,13 @@
 ghost use Rattle.std.specs.Prelude.{◌≡◌, IfOk, None, Some, MatchOption};
+ghost use Rattle.std.specs.List.{AllByRecursion};
 ghost use Rattle.resp_value.specs.Data.{Data};
 ghost use Rattle.resp_value.specs.View.{data_of, list_view};
-ghost use Rattle.resp_convert.specs.Convert.{AreConverted, IsConverted, IsRead, IsReadEach, told_by};
+ghost use Rattle.resp_convert.specs.Convert.{AreConverted, IsConverted, IsRead, IsReadEach, IsTold, told_by};
+ghost use Rattle.resp_convert.specs.Types.{IsEach};
 ghost use Rattle.resp_convert.specs.declared.convert.ConvertError.TheVariants.{NoMemory};
 
 use crate::parts::bare;
+use containers::Queue;
 use resp_value::{ServerError, Value, Values};
 use std::alloc::{AllocError, Global};
 use std::fmt;
@@ -58,9 +61,22 @@ impl From<AllocError> for ConvertError {
     }
 }
 
-/// A type that values are read as.
+/// What a look at a value tells of a type.
+#[derive(Clone, Copy)]
+pub enum Look {
+    /// The value can be moved into one of the type.
+    Fits,
+    /// It is nothing of the type.
+    Unfit,
+    /// Nothing: values are read as one of the type, and none is moved.
+    Untold,
+}
+
+/// A type that values are read as, or moved into: `reads` says which values are what of it, and `fits` which can be moved.
 pub trait FromRedisValue: Sized {
     ghost reads: { Data → Self → Type 0 };
+
+    ghost fits: { Data → Type 0 };
 
     /// What a value is as one of the type, if it is of the type.
     fn read_value(alloc: Global, value: &Value) -> Result<Option<Self>, AllocError>
@@ -82,10 +98,69 @@ pub trait FromRedisValue: Sized {
         Ok(Some(read))
     }
 
+    /// Whether a value can be moved into one of the type.
+    fn look(value: &Value) -> Look
+        ensures { IsTold fits reads (data_of value.now) result }
+    {
+        Look::Untold
+    }
+
+    /// Whether each of some values can.
+    fn look_at_values(values: &[Value]) -> Look
+        ensures { IsTold (AllByRecursion fits) (IsEach reads) (list_view values.now) result }
+    {
+        for value in values {
+            match Self::look(value) {
+                Look::Fits => {}
+                Look::Unfit => return Look::Unfit,
+                Look::Untold => return Look::Untold,
+            }
+        }
+        Look::Fits
+    }
+
+    /// The value, moved into one of the type.
+    fn take_value(alloc: Global, value: Value) -> Result<Self, AllocError>
+        requires { fits (data_of value) }
+        ensures { IfOk result (λ taken. reads (data_of value) taken) }
+    {
+        let read = Self::read_value(alloc, &value)?;
+        drop(value);
+        match read {
+            Some(read) => Ok(read),
+            None => Err(AllocError),
+        }
+    }
+
+    /// The values, each moved into one of the type, in order.
+    fn take_values(alloc: Global, values: Values) -> Result<Vec<Self>, AllocError>
+    where
+        Self: Drop,
+        requires { AllByRecursion fits values }
+        ensures { IfOk result (λ taken. IsEach reads values taken.items) }
+    {
+        let mut taken = Vec::new(alloc);
+        let mut rest = Queue::from_vec(values.into_vec());
+        while let Some(value) = rest.pop_front() {
+            taken.push(Self::take_value(alloc, value)?)?;
+        }
+        Ok(taken)
+    }
+
     /// The value as one of the type. A value that isn't of the type is given back.
     fn from_redis_value(alloc: Global, value: Value) -> Result<Self, ConvertError>
         ensures { IsConverted reads value result }
     {
+        match Self::look(&value) {
+            Look::Fits => {
+                return match Self::take_value(alloc, value) {
+                    Ok(taken) => Ok(taken),
+                    Err(_) => Err(ConvertError::NoMemory),
+                };
+            }
+            Look::Unfit => return Err(ConvertError::Convert { value }),
+            Look::Untold => {}
+        }
         match Self::read_value(alloc, &value) {
             Ok(Some(read)) => {
                 drop(value);
@@ -108,6 +183,11 @@ pub trait FromRedisValue: Sized {
         Self: Drop,
         ensures { IfOk result (λ made. AreConverted reads values made) }
     {
+        match Self::look_at_values(values.as_slice()) {
+            Look::Fits => return Ok(Ok(Self::take_values(alloc, values)?)),
+            Look::Unfit => return Ok(Err(values)),
+            Look::Untold => {}
+        }
         match Self::read_values(alloc, values.as_slice())? {
             Some(read) => {
                 drop(values);

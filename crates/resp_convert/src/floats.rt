@@ -1,6 +1,7 @@
 ghost use Rattle.std.specs.Prelude.{◌≡◌, MatchOption, None, Some};
 ghost use Rattle.std.specs.Float.{binary64};
 ghost use Rattle.std.specs.Float.Parse.{parse_float};
+ghost use Rattle.resp_convert.specs.Convert.{IsOfType};
 ghost use Rattle.resp_convert.specs.Types.{IsFloat, bare};
 
 use crate::convert::FromRedisValue;
@@ -22,6 +23,8 @@ fn float(text: &[u8]) -> Option<f64>
 /// in either case.
 impl FromRedisValue for f64 {
     ghost reads = { λ d x. IsFloat (bare d) x };
+
+    ghost fits = { IsOfType (λ d x. IsFloat (bare d) x) };
 
     fn read_value(_alloc: Global, value: &Value) -> Result<Option<f64>, AllocError> {
         match parts::bare(value) {

@@ -2,6 +2,7 @@ ghost use Rattle.std.specs.Prelude.{◌<◌, ◌^◌, ℕ, ℤ, MatchOption};
 ghost use mir.Syntax.{w8, w16, w32, w64};
 ghost use mir.Val.{SFits};
 ghost use Rattle.resp_value.specs.View.{data_of};
+ghost use Rattle.resp_convert.specs.Convert.{IsOfType};
 ghost use Rattle.resp_convert.specs.Types.{IsCount, IsDecimal, IsInteger, IsNatural, IsNumber, IsPlainDecimal};
 
 use crate::convert::FromRedisValue;
@@ -61,6 +62,8 @@ fn number(value: &Value) -> Option<i64>
 impl FromRedisValue for i8 {
     ghost reads = { IsInteger w8 };
 
+    ghost fits = { IsOfType (IsInteger w8) };
+
     fn read_value(_alloc: Global, value: &Value) -> Result<Option<i8>, AllocError> {
         match number(bare(value)) {
             Some(number) => Ok(i8::try_from(number).ok()),
@@ -72,6 +75,8 @@ impl FromRedisValue for i8 {
 /// A number of 16 bits, or a text that is one in decimal.
 impl FromRedisValue for i16 {
     ghost reads = { IsInteger w16 };
+
+    ghost fits = { IsOfType (IsInteger w16) };
 
     fn read_value(_alloc: Global, value: &Value) -> Result<Option<i16>, AllocError> {
         match number(bare(value)) {
@@ -85,6 +90,8 @@ impl FromRedisValue for i16 {
 impl FromRedisValue for i32 {
     ghost reads = { IsInteger w32 };
 
+    ghost fits = { IsOfType (IsInteger w32) };
+
     fn read_value(_alloc: Global, value: &Value) -> Result<Option<i32>, AllocError> {
         match number(bare(value)) {
             Some(number) => Ok(i32::try_from(number).ok()),
@@ -97,6 +104,8 @@ impl FromRedisValue for i32 {
 impl FromRedisValue for i64 {
     ghost reads = { IsInteger w64 };
 
+    ghost fits = { IsOfType (IsInteger w64) };
+
     fn read_value(_alloc: Global, value: &Value) -> Result<Option<i64>, AllocError> {
         Ok(number(bare(value)))
     }
@@ -105,6 +114,8 @@ impl FromRedisValue for i64 {
 /// A number of 64 bits, or a text that is one in decimal.
 impl FromRedisValue for isize {
     ghost reads = { IsInteger w64 };
+
+    ghost fits = { IsOfType (IsInteger w64) };
 
     fn read_value(_alloc: Global, value: &Value) -> Result<Option<isize>, AllocError> {
         match number(bare(value)) {
@@ -118,6 +129,8 @@ impl FromRedisValue for isize {
 impl FromRedisValue for u8 {
     ghost reads = { IsNatural 8 };
 
+    ghost fits = { IsOfType (IsNatural 8) };
+
     fn read_value(_alloc: Global, value: &Value) -> Result<Option<u8>, AllocError> {
         match count(bare(value)) {
             Some(number) => Ok(u8::try_from(number).ok()),
@@ -129,6 +142,8 @@ impl FromRedisValue for u8 {
 /// A number of 16 bits that is not below 0, or a text that is one in decimal.
 impl FromRedisValue for u16 {
     ghost reads = { IsNatural 16 };
+
+    ghost fits = { IsOfType (IsNatural 16) };
 
     fn read_value(_alloc: Global, value: &Value) -> Result<Option<u16>, AllocError> {
         match count(bare(value)) {
@@ -142,6 +157,8 @@ impl FromRedisValue for u16 {
 impl FromRedisValue for u32 {
     ghost reads = { IsNatural 32 };
 
+    ghost fits = { IsOfType (IsNatural 32) };
+
     fn read_value(_alloc: Global, value: &Value) -> Result<Option<u32>, AllocError> {
         match count(bare(value)) {
             Some(number) => Ok(u32::try_from(number).ok()),
@@ -154,6 +171,8 @@ impl FromRedisValue for u32 {
 impl FromRedisValue for u64 {
     ghost reads = { IsNatural 64 };
 
+    ghost fits = { IsOfType (IsNatural 64) };
+
     fn read_value(_alloc: Global, value: &Value) -> Result<Option<u64>, AllocError> {
         Ok(count(bare(value)))
     }
@@ -162,6 +181,8 @@ impl FromRedisValue for u64 {
 /// A number of 64 bits that is not below 0, or a text that is one in decimal.
 impl FromRedisValue for usize {
     ghost reads = { IsNatural 64 };
+
+    ghost fits = { IsOfType (IsNatural 64) };
 
     fn read_value(_alloc: Global, value: &Value) -> Result<Option<usize>, AllocError> {
         match count(bare(value)) {

@@ -9,12 +9,11 @@ mod laws;
 mod parts;
 mod scalars;
 mod sets;
-mod text_values;
 mod texts;
 mod tuples;
 
 pub use aggregates::KeyValues;
-pub use convert::{ConvertError, FromRedisValue};
+pub use convert::{ConvertError, FromRedisValue, Look};
 pub use laws::written_numbers_are_read_back;
 
 #[cfg(test)]

@@ -1,4 +1,4 @@
-use crate::{ConvertError, FromRedisValue};
+use crate::{ConvertError, FromRedisValue, KeyValues};
 use containers::Bytes;
 use resp_value::{Inner, Pairs, Value, Values};
 use std::alloc::{AllocError, Global};
@@ -155,5 +155,102 @@ fn strings_of_each_form_are_taken(rt: HostRuntime) -> Result<(), AllocError> {
     assert!(rt; is_string(alloc, value, "e"));
     let value = verbatim(alloc, b"\xc3")?;
     assert!(rt; !is_string(alloc, value, "\u{c3}"));
+    Ok(())
+}
+
+/// Whether optional texts are those above, with none behind them.
+fn are_optional(read: &Vec<Option<String>>) -> bool {
+    if read.len() != TEXTS.len() + 1 {
+        return false;
+    }
+    for (text, wanted) in read.iter().zip(TEXTS) {
+        match text {
+            Some(text) if text.as_str() == wanted => {}
+            _ => return false,
+        }
+    }
+    read[TEXTS.len()].is_none()
+}
+
+#[test]
+fn lists_of_options_are_taken(rt: HostRuntime) -> Result<(), AllocError> {
+    let alloc = rt.alloc();
+    let mut items = texts(alloc)?;
+    items.push(Value::Nil)?;
+    match Vec::<Option<String>>::from_redis_value(alloc, Value::Array(items)) {
+        Ok(read) => assert!(rt; are_optional(&read)),
+        Err(_) => assert!(rt; false),
+    }
+    let given_back = gives_back::<Vec<Option<String>>>(alloc, Value::Int(1))?;
+    assert!(rt; given_back);
+    Ok(())
+}
+
+/// A list of two lists of the texts, the second one behind an attribute.
+fn nested(alloc: Global) -> Result<Values, AllocError> {
+    let mut lists = Values::new(alloc);
+    lists.push(Value::Array(texts(alloc)?))?;
+    let inner = Inner::new(alloc, Value::Set(texts(alloc)?))?;
+    let attributes = Pairs::new(alloc);
+    lists.push(Value::Attribute { inner, attributes })?;
+    Ok(lists)
+}
+
+#[test]
+fn nested_lists_are_taken(rt: HostRuntime) -> Result<(), AllocError> {
+    let alloc = rt.alloc();
+    match Vec::<Vec<String>>::from_redis_value(alloc, Value::Array(nested(alloc)?)) {
+        Ok(read) => assert!(rt; read.len() == 2 && are_strings(&read[1])),
+        Err(_) => assert!(rt; false),
+    }
+    Ok(())
+}
+
+/// A map of the texts, each beside itself, and of one key more.
+fn map(alloc: Global, last: Value) -> Result<Value, AllocError> {
+    let mut pairs = Pairs::new(alloc);
+    for text in TEXTS {
+        let key = bulk(alloc, text.as_bytes())?;
+        let value = behind_attribute(alloc, text.as_bytes())?;
+        pairs.push(key, value)?;
+    }
+    pairs.push(Value::Okay, last)?;
+    Ok(Value::Map(pairs))
+}
+
+/// Whether keys and values are those texts, and none.
+fn are_pairs(read: &KeyValues<String, Option<Bytes>>) -> bool {
+    if read.pairs.len() != TEXTS.len() + 1 {
+        return false;
+    }
+    for (pair, wanted) in read.pairs.iter().zip(TEXTS) {
+        match &pair.1 {
+            Some(value) if value.as_slice() == wanted.as_bytes() => {}
+            _ => return false,
+        }
+        if pair.0.as_str() != wanted {
+            return false;
+        }
+    }
+    read.pairs[TEXTS.len()].1.is_none()
+}
+
+#[test]
+fn maps_of_texts_are_taken(rt: HostRuntime) -> Result<(), AllocError> {
+    let alloc = rt.alloc();
+    let value = map(alloc, Value::Nil)?;
+    match KeyValues::<String, Option<Bytes>>::from_redis_value(alloc, value) {
+        Ok(read) => assert!(rt; are_pairs(&read)),
+        Err(_) => assert!(rt; false),
+    }
+    let value = map(alloc, Value::Int(1))?;
+    match KeyValues::<String, Bytes>::from_redis_value(alloc, value) {
+        Err(
+            ConvertError::Convert {
+                value: Value::Map(pairs),
+            },
+        ) => assert!(rt; pairs.len() == TEXTS.len() + 1),
+        _ => assert!(rt; false),
+    }
     Ok(())
 }

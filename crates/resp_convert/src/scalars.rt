@@ -1,8 +1,9 @@
 ghost use Rattle.std.specs.Prelude.{◌≡◌, IfOk};
 ghost use Rattle.resp_value.specs.View.{data_of};
+ghost use Rattle.resp_convert.specs.Convert.{IsOfType};
 ghost use Rattle.resp_convert.specs.Types.{IsDone, IsTruth, bare};
 
-use crate::convert::{ConvertError, FromRedisValue};
+use crate::convert::{FromRedisValue, Look};
 use crate::parts;
 use resp_value::{Value, Values};
 use std::alloc::{AllocError, Global};
@@ -11,26 +12,31 @@ use std::alloc::{AllocError, Global};
 impl FromRedisValue for Value {
     ghost reads = { λ d value. data_of value ≡ d };
 
+    ghost fits = { λ _. Unit {0} };
+
     fn read_value(alloc: Global, value: &Value) -> Result<Option<Value>, AllocError> {
         Ok(Some(value.clone(alloc)?))
     }
 
-    fn from_redis_value(_alloc: Global, value: Value) -> Result<Value, ConvertError> {
+    fn look(value: &Value) -> Look {
+        Look::Fits
+    }
+
+    fn take_value(_alloc: Global, value: Value) -> Result<Value, AllocError> {
         Ok(value)
     }
 
     #[tactic(auto, using(crate::proofs::Each::each_itself))]
-    fn from_redis_values(
-        _alloc: Global,
-        values: Values,
-    ) -> Result<Result<Vec<Value>, Values>, AllocError> {
-        Ok(Ok(values.into_vec()))
+    fn take_values(_alloc: Global, values: Values) -> Result<Vec<Value>, AllocError> {
+        Ok(values.into_vec())
     }
 }
 
 /// A truth value, or the number 0 or 1.
 impl FromRedisValue for bool {
     ghost reads = { λ d on. IsTruth (bare d) on };
+
+    ghost fits = { IsOfType (λ d on. IsTruth (bare d) on) };
 
     fn read_value(_alloc: Global, value: &Value) -> Result<Option<bool>, AllocError> {
         match parts::bare(value) {
@@ -45,6 +51,8 @@ impl FromRedisValue for bool {
 /// Anything but a server error.
 impl FromRedisValue for () {
     ghost reads = { λ d done. IsDone (bare d) };
+
+    ghost fits = { λ d. IsDone (bare d) };
 
     fn read_value(_alloc: Global, value: &Value) -> Result<Option<()>, AllocError> {
         match parts::bare(value) {

@@ -1,10 +1,10 @@
 ghost use Rattle.std.specs.Prelude.{IfOk};
 ghost use Rattle.std.specs.BTreeSet as ordered;
 ghost use Rattle.std.specs.HashSet as hashed;
-ghost use Rattle.resp_convert.specs.Types.{IsHashSet, IsOrderedSet};
+ghost use Rattle.resp_convert.specs.Types.{FitsList, IsHashSet, IsOrderedSet};
 
-use crate::aggregates::{read_items, take_items};
-use crate::convert::{ConvertError, FromRedisValue};
+use crate::aggregates::{look_at_items, read_items, take_items};
+use crate::convert::{FromRedisValue, Look};
 use resp_value::Value;
 use std::alloc::{AllocError, Global};
 use std::collections::{BTreeSet, HashSet};
@@ -28,6 +28,8 @@ fn hash_set<T: Eq + Hash + Drop>(alloc: Global, items: Vec<T>) -> Result<HashSet
 impl<T: FromRedisValue + Ord + Drop> FromRedisValue for BTreeSet<T> {
     ghost reads = { IsOrderedSet T.cmp T.reads };
 
+    ghost fits = { FitsList T.fits };
+
     fn read_value(alloc: Global, value: &Value) -> Result<Option<BTreeSet<T>>, AllocError> {
         match read_items::<T>(alloc, value)? {
             Some(items) => Ok(Some(ordered_set(alloc, items)?)),
@@ -35,20 +37,20 @@ impl<T: FromRedisValue + Ord + Drop> FromRedisValue for BTreeSet<T> {
         }
     }
 
-    fn from_redis_value(alloc: Global, value: Value) -> Result<BTreeSet<T>, ConvertError> {
-        match take_items::<T>(alloc, value) {
-            Ok(items) => match ordered_set(alloc, items) {
-                Ok(set) => Ok(set),
-                Err(_) => Err(ConvertError::NoMemory),
-            },
-            Err(error) => Err(error),
-        }
+    fn look(value: &Value) -> Look {
+        look_at_items::<T>(value)
+    }
+
+    fn take_value(alloc: Global, value: Value) -> Result<BTreeSet<T>, AllocError> {
+        ordered_set(alloc, take_items(alloc, value)?)
     }
 }
 
 /// An array or a set. Items that are equal are one.
 impl<T: FromRedisValue + Eq + Hash + Drop> FromRedisValue for HashSet<T> {
     ghost reads = { IsHashSet T.eq T.reads };
+
+    ghost fits = { FitsList T.fits };
 
     fn read_value(alloc: Global, value: &Value) -> Result<Option<HashSet<T>>, AllocError> {
         match read_items::<T>(alloc, value)? {
@@ -57,13 +59,11 @@ impl<T: FromRedisValue + Eq + Hash + Drop> FromRedisValue for HashSet<T> {
         }
     }
 
-    fn from_redis_value(alloc: Global, value: Value) -> Result<HashSet<T>, ConvertError> {
-        match take_items::<T>(alloc, value) {
-            Ok(items) => match hash_set(alloc, items) {
-                Ok(set) => Ok(set),
-                Err(_) => Err(ConvertError::NoMemory),
-            },
-            Err(error) => Err(error),
-        }
+    fn look(value: &Value) -> Look {
+        look_at_items::<T>(value)
+    }
+
+    fn take_value(alloc: Global, value: Value) -> Result<HashSet<T>, AllocError> {
+        hash_set(alloc, take_items(alloc, value)?)
     }
 }

@@ -1,19 +1,21 @@
 ghost use Rattle.std.specs.Prelude.{IfOk};
 ghost use Rattle.std.specs.String.{string_bytes};
 ghost use Rattle.resp_value.specs.View.{data_of};
+ghost use Rattle.resp_convert.specs.Convert.{IsOfType};
 ghost use Rattle.resp_convert.specs.Types.{IsText, IsUnicode};
 
-use crate::convert::{ConvertError, FromRedisValue};
-use crate::parts::{bare, text};
-use crate::text_values::{take_text, take_texts};
+use crate::convert::{FromRedisValue, Look};
+use crate::parts::{bare, into_bare, text};
 use containers::Bytes;
-use resp_value::{Value, Values};
+use resp_value::Value;
 use std::alloc::{AllocError, Global};
 use std::str;
 
 /// A text. That of a byte string, a simple string or a verbatim string is moved, not copied.
 impl FromRedisValue for Bytes {
     ghost reads = { IsText };
+
+    ghost fits = { IsOfType IsText };
 
     fn read_value(alloc: Global, value: &Value) -> Result<Option<Bytes>, AllocError> {
         let Some(text) = text(bare(value)) else {
@@ -22,21 +24,31 @@ impl FromRedisValue for Bytes {
         Ok(Some(Bytes::from_slice(alloc, text)?))
     }
 
-    fn from_redis_value(alloc: Global, value: Value) -> Result<Bytes, ConvertError> {
-        take_text(alloc, value)
+    fn look(value: &Value) -> Look {
+        match text(bare(value)) {
+            Some(_) => Look::Fits,
+            None => Look::Unfit,
+        }
     }
 
-    fn from_redis_values(
-        alloc: Global,
-        values: Values,
-    ) -> Result<Result<Vec<Bytes>, Values>, AllocError> {
-        take_texts(alloc, values)
+    fn take_value(alloc: Global, value: Value) -> Result<Bytes, AllocError> {
+        match into_bare(value) {
+            Value::BulkString(text) => Ok(text),
+            Value::SimpleString(text) => Ok(text),
+            Value::VerbatimString { format, text } => {
+                drop(format);
+                Ok(text)
+            }
+            other => Bytes::from_slice(alloc, text(&other).unwrap()),
+        }
     }
 }
 
 /// A text in UTF-8. That of a byte string, a simple string or a verbatim string is moved, not copied.
 impl FromRedisValue for String {
     ghost reads = { λ d s. IsUnicode d (string_bytes s) };
+
+    ghost fits = { IsOfType IsUnicode };
 
     fn read_value(alloc: Global, value: &Value) -> Result<Option<String>, AllocError> {
         let Some(text) = text(bare(value)) else {
@@ -48,14 +60,18 @@ impl FromRedisValue for String {
         }
     }
 
-    fn from_redis_value(alloc: Global, value: Value) -> Result<String, ConvertError> {
-        take_text(alloc, value)
+    fn look(value: &Value) -> Look {
+        match text(bare(value)) {
+            Some(text) => match str::from_utf8(text) {
+                Ok(_) => Look::Fits,
+                Err(_) => Look::Unfit,
+            },
+            None => Look::Unfit,
+        }
     }
 
-    fn from_redis_values(
-        alloc: Global,
-        values: Values,
-    ) -> Result<Result<Vec<String>, Values>, AllocError> {
-        take_texts(alloc, values)
+    fn take_value(alloc: Global, value: Value) -> Result<String, AllocError> {
+        let text = Bytes::take_value(alloc, value)?;
+        Ok(String::from_utf8(text.into_vec()).unwrap())
     }
 }

@@ -1,6 +1,6 @@
 ghost use Rattle.std.specs.Prelude.{IfOk};
 ghost use Rattle.resp_value.specs.View.{list_view};
-ghost use Rattle.resp_convert.specs.Convert.{IsRead};
+ghost use Rattle.resp_convert.specs.Convert.{IsOfType, IsRead};
 ghost use Rattle.resp_convert.specs.Types.{AreFive, AreFour, AreOne, AreSix, AreThree, AreTwo, HasItems};
 
 use crate::convert::FromRedisValue;
@@ -134,6 +134,8 @@ fn read_six<
 impl<A: FromRedisValue + Drop, B: FromRedisValue + Drop> FromRedisValue for (A, B) {
     ghost reads = { HasItems (AreTwo A.reads B.reads) };
 
+    ghost fits = { IsOfType (HasItems (AreTwo A.reads B.reads)) };
+
     fn read_value(alloc: Global, value: &Value) -> Result<Option<(A, B)>, AllocError> {
         match parts::items(parts::bare(value)) {
             Some(items) => read_two(alloc, items),
@@ -146,6 +148,8 @@ impl<A: FromRedisValue + Drop, B: FromRedisValue + Drop> FromRedisValue for (A, 
 impl<A: FromRedisValue + Drop, B: FromRedisValue + Drop, C: FromRedisValue + Drop> FromRedisValue
     for (A, B, C) {
     ghost reads = { HasItems (AreThree A.reads B.reads C.reads) };
+
+    ghost fits = { IsOfType (HasItems (AreThree A.reads B.reads C.reads)) };
 
     fn read_value(alloc: Global, value: &Value) -> Result<Option<(A, B, C)>, AllocError> {
         match parts::items(parts::bare(value)) {
@@ -163,6 +167,8 @@ impl<
     D: FromRedisValue + Drop,
 > FromRedisValue for (A, B, C, D) {
     ghost reads = { HasItems (AreFour A.reads B.reads C.reads D.reads) };
+
+    ghost fits = { IsOfType (HasItems (AreFour A.reads B.reads C.reads D.reads)) };
 
     fn read_value(alloc: Global, value: &Value) -> Result<Option<(A, B, C, D)>, AllocError> {
         match parts::items(parts::bare(value)) {
@@ -182,6 +188,8 @@ impl<
 > FromRedisValue for (A, B, C, D, E) {
     ghost reads = { HasItems (AreFive A.reads B.reads C.reads D.reads E.reads) };
 
+    ghost fits = { IsOfType (HasItems (AreFive A.reads B.reads C.reads D.reads E.reads)) };
+
     fn read_value(alloc: Global, value: &Value) -> Result<Option<(A, B, C, D, E)>, AllocError> {
         match parts::items(parts::bare(value)) {
             Some(items) => read_five(alloc, items),
@@ -200,6 +208,8 @@ impl<
     F: FromRedisValue + Drop,
 > FromRedisValue for (A, B, C, D, E, F) {
     ghost reads = { HasItems (AreSix A.reads B.reads C.reads D.reads E.reads F.reads) };
+
+    ghost fits = { IsOfType (HasItems (AreSix A.reads B.reads C.reads D.reads E.reads F.reads)) };
 
     fn read_value(alloc: Global, value: &Value) -> Result<Option<(A, B, C, D, E, F)>, AllocError> {
         match parts::items(parts::bare(value)) {
