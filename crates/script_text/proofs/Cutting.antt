@@ -3,7 +3,7 @@ use Rattle.std.proofs.Common.{◌≡◌, ℕ, ◌<◌, Bool, true, false, cond, 
 use Rattle.std.specs.Prelude.{◌==◌, map, option_and_then}
 use Rattle.std.specs.List.{onto_first, slice_split}
 use Rattle.std.proofs.lemmas.List.Splits.{length-slice_split}
-use Rattle.script_text.specs.Words.{LineWords, parts, cut_at, is_separator, unescaped, all_of, group_of, line_words, words_of_line}
+use Rattle.script_text.specs.Words.{LineWords, parts, cut_at, is_separator, unescaped, all_of, group_of, line_words, words_of_parts, words_of_line}
 use Rattle.script_text.specs.Pieces.{joined, one_word, separator, piece_of}
 use Rattle.script_text.proofs.Glue.{joined_nothing, joined_twice}
 
@@ -36,10 +36,7 @@ parts_whole b xs h = parts_cut b xs ∙ ap (by_cut b xs) h
 pub parts_first : (b : ℕ) (xs front rest : List ℕ) → cut_at b xs ≡ Some (front, rest) → parts b xs ≡ front ∷ parts b rest
 parts_first b xs front rest h = parts_cut b xs ∙ ap (by_cut b xs) h
 
-abbrev groups : List (List ℕ) → Option LineWords
-groups raws = option_and_then line_words (all_of (map group_of (slice_split is_separator raws)))
-
-words_are : (line : List ℕ) → words_of_line line ≡ groups (parts 32 line)
+words_are : (line : List ℕ) → words_of_line line ≡ words_of_parts (parts 32 line)
 unfolding words_of_line
 words_are line = refl
 
@@ -92,29 +89,39 @@ piece_by true raw ps h = after_separator ps h
 piece_by false raw ps h = after_word raw ps h
 
 -- the first part between spaces is the first piece
-first_piece : (raw : List ℕ) (raws : List (List ℕ)) → groups (raw ∷ raws) ≡ joined_both (piece_of raw) (groups raws)
+first_piece : (raw : List ℕ) (raws : List (List ℕ)) → words_of_parts (raw ∷ raws) ≡ joined_both (piece_of raw) (words_of_parts raws)
 first_piece raw raws = piece_by (is_separator raw) raw (slice_split is_separator raws) (omega (arith, length-slice_split is_separator raws))
 
-only_piece : (o : Option LineWords) → joined_both o (groups []) ≡ o
+only_piece : (o : Option LineWords) → joined_both o (words_of_parts []) ≡ o
 only_piece None = refl
 only_piece (Some piece) = ap Some (joined_nothing piece)
 
 cut_words : (line raw rest : List ℕ) → cut_at 32 line ≡ Some (raw, rest) → words_of_line line ≡ joined_both (piece_of raw) (words_of_line rest)
 cut_words line raw rest h =
-    words_are line ∙ ap groups (parts_first 32 line raw rest h) ∙ first_piece raw (parts 32 rest) ∙ ap (joined_both (piece_of raw)) (sym (words_are rest))
+    words_are line ∙ ap words_of_parts (parts_first 32 line raw rest h) ∙ first_piece raw (parts 32 rest) ∙ ap (joined_both (piece_of raw)) (sym (words_are rest))
 
 one_piece : (line : List ℕ) → cut_at 32 line ≡ None → words_of_line line ≡ piece_of line
-one_piece line h = words_are line ∙ ap groups (parts_whole 32 line h) ∙ first_piece line [] ∙ only_piece (piece_of line)
+one_piece line h = words_are line ∙ ap words_of_parts (parts_whole 32 line h) ∙ first_piece line [] ∙ only_piece (piece_of line)
+
+-- more behind what is read of a line
+behind : (words : LineWords) (piece o : Option LineWords) → option_map (joined words) (joined_both piece o) ≡ joined_both (option_map (joined words) piece) o
+behind words None o = refl
+behind words (Some piece) None = refl
+behind words (Some piece) (Some rest) = ap Some (sym (joined_twice words piece rest))
 
 module _ (line : List ℕ) (words : LineWords) (left : List ℕ) (so_far : words_of_line line ≡ option_map (joined words) (words_of_line left)) where
-  behind : (piece : Option LineWords) (o : Option LineWords) → option_map (joined words) (joined_both piece o) ≡ joined_both (option_map (joined words) piece) o
-  behind None o = refl
-  behind (Some piece) None = refl
-  behind (Some piece) (Some rest) = ap Some (sym (joined_twice words piece rest))
-
   pub part_read : (raw rest : List ℕ) (more : Option LineWords) → cut_at 32 left ≡ Some (raw, rest) → more ≡ option_map (joined words) (piece_of raw) → words_of_line line ≡ joined_both more (words_of_line rest)
   part_read raw rest more h is =
-      so_far ∙ ap (option_map (joined words)) (cut_words left raw rest h) ∙ behind (piece_of raw) (words_of_line rest) ∙ ap (λ o. joined_both o (words_of_line rest)) (sym is)
+      so_far ∙ ap (option_map (joined words)) (cut_words left raw rest h) ∙ behind words (piece_of raw) (words_of_line rest) ∙ ap (λ o. joined_both o (words_of_line rest)) (sym is)
 
   pub last_read : (all : Option LineWords) → cut_at 32 left ≡ None → all ≡ option_map (joined words) (piece_of left) → all ≡ words_of_line line
   last_read all h is = is ∙ sym (so_far ∙ ap (option_map (joined words)) (one_piece left h))
+
+-- the same of a line that is given as its parts
+pub piece_read : (whole : Option LineWords) (words : LineWords) (raw : List ℕ) (raws : List (List ℕ)) (more : Option LineWords)
+    → whole ≡ option_map (joined words) (words_of_parts (raw ∷ raws)) → more ≡ option_map (joined words) (piece_of raw) → whole ≡ joined_both more (words_of_parts raws)
+piece_read whole words raw raws more so_far is =
+    so_far ∙ ap (option_map (joined words)) (first_piece raw raws) ∙ behind words (piece_of raw) (words_of_parts raws) ∙ ap (λ o. joined_both o (words_of_parts raws)) (sym is)
+
+pub pieces_read : (words : LineWords) → option_map (joined words) (words_of_parts []) ≡ Some words
+pieces_read words = ap Some (joined_nothing words)

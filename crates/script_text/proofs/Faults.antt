@@ -3,16 +3,10 @@ use Rattle.std.proofs.Common.{◌≡◌, ℕ, Bool, true, false, List, [], ◌�
 use Rattle.std.specs.Prelude.{is_some, is_none}
 use Rattle.driver_model.specs.declared.event.EventKind.TheVariants.{Submit}
 use Rattle.script_text.specs.declared.fault.Fault.{Fault}
-use Rattle.script_text.specs.EventLine.{by_first, submissions, others, events, event_of}
+use Rattle.script_text.specs.EventLine.{by_first, submissions, others, events}
 use Rattle.script_text.specs.Faults.{FindsFault}
-use Rattle.script_text.specs.Words.{LineWords}
 use Rattle.script_text.proofs.Forms.{event_refused}
 use Rattle.script_text.proofs.Values.{none_mapped}
-
--- a fault of the words of an event is one of the event
-pub finds_event : (line : LineWords) (found : Option Fault) → FindsFault found (by_first events line.words line.more) → FindsFault found (event_of line)
-unfolding event_of
-finds_event line found finds = finds ∙ sym (none_mapped (λ kind. record { word = 0; kind = kind }) (by_first events line.words line.more))
 
 -- a fault of what is submitted is one of the words behind `submit`
 pub finds_submit : (name : List ℕ) (rest : List (List ℕ)) (more : List (List (List ℕ))) (found : Option Fault) → bytes_eq name (codes "submit") ≡ true → FindsFault found (by_first submissions rest more) → FindsFault found (by_first events (name ∷ rest) more)

@@ -9,7 +9,7 @@ use Rattle.driver_model.specs.declared.config.Config.{Config}
 use Rattle.driver_model.specs.declared.event.Event.{Event}
 use Rattle.script_text.specs.Words.{LineWords, parts, words_of_line}
 use Rattle.script_text.specs.EventLine.{event_of}
-use Rattle.script_text.specs.ConfigLine.{config_of}
+use Rattle.script_text.specs.ConfigLine.{opening_of}
 use Rattle.script_text.specs.Script.{max_lines, max_line, max_text, line_at, is_end, is_nothing, event_then, line_then, events_from, config_then, script_from, script_of}
 use Rattle.script_text.specs.Limits.{lines_begun, is_short, keeps_limits}
 use Rattle.script_text.proofs.Cutting.{some_parts}
@@ -17,7 +17,7 @@ use Rattle.script_text.proofs.Lines.{within, ended}
 use Rattle.script_text.proofs.Glued.{glue, parts_append}
 
 -- how many bytes the parts have with the LFs between them
-abbrev total : List (List ℕ) → ℕ
+abbrev pub total : List (List ℕ) → ℕ
 total [] = 0
 total (last ∷ []) = length last
 total (line ∷ next ∷ rest) = length line + 1 + total (next ∷ rest)
@@ -28,15 +28,15 @@ total_by true x (p ∷ ps) h = omega arith
 total_by false x (p ∷ []) h = refl
 total_by false x (p ∷ r ∷ ps) h = omega arith
 
-total_parts : (b : ℕ) (xs : List ℕ) → total (parts b xs) ≡ length xs
+pub total_parts : (b : ℕ) (xs : List ℕ) → total (parts b xs) ≡ length xs
 total_parts b [] = refl
 total_parts b (x ∷ xs) = total_by (x == b) x (parts b xs) (some_parts b xs) ∙ ap suc (total_parts b xs)
 
 -- no byte stands beyond a limit, where the first of the parts has this number and room
-record Keeps (number room : ℕ) (ps : List (List ℕ)) : Type 0 where
-  bytes : total ps ≤ room
-  lines : list_all is_short ps ≡ true
-  count : lines_begun ps ≤ max_lines + 1 - number
+pub record Keeps (number room : ℕ) (ps : List (List ℕ)) : Type 0 where
+  pub bytes : total ps ≤ room
+  pub lines : list_all is_short ps ≡ true
+  pub count : lines_begun ps ≤ max_lines + 1 - number
 
 -- where the first part is a line, those behind it don't keep them either
 rest_late : (number room : ℕ) (line next : List ℕ) (rest : List (List ℕ)) → within number room line ≡ true → (Keeps number room (line ∷ next ∷ rest) → ⊥) → Keeps (number + 1) (room - (length line + 1)) (next ∷ rest) → ⊥
@@ -75,9 +75,9 @@ after_line : (number n : ℕ) (o : Option LineWords) → (k : ℕ) × ((rest : R
 after_line number n None = (number, λ rest h. refl)
 after_line number n (Some words) = after_end number n (is_end words) (event_of words)
 
-after_config : (n : ℕ) (o : Option Config) → (k : ℕ) × ((rest : Result (List Event) ℕ) → rest ≡ Err n → config_then o rest ≡ Err k)
+after_config : (n : ℕ) (o : Option (Config × ℕ)) → (k : ℕ) × ((rest : Result (List Event) ℕ) → rest ≡ Err n → config_then o rest ≡ Err k)
 after_config n None = (1, λ rest h. refl)
-after_config n (Some config) = (n, λ rest h. ap (result_map_both (λ events. record { config = config; word = 0; events = events }) (λ k. k)) h)
+after_config n (Some opening) = (n, λ rest h. ap (result_map_both (λ events. record { config = opening.0; word = opening.1; events = events }) (λ k. k)) h)
 
 refused : (number room : ℕ) (line : List ℕ) (behind : List (List ℕ)) → line_at number room (line ∷ behind) ≡ None → events_from number room (line ∷ behind) ≡ Err number
 refused number room line behind h = ap (λ o. line_then number (option_and_then words_of_line o) (is_nothing behind) (events_from (number + 1) (room - (length line + 1)) behind)) h
@@ -86,7 +86,7 @@ no_line : (number room : ℕ) (line : List ℕ) (behind : List (List ℕ)) → w
 no_line number room line [] h = refl
 no_line number room line (p ∷ ps) h = ap (λ b. cond b (Some line) None) h
 
-a_line : (number room : ℕ) (line : List ℕ) (behind : List (List ℕ)) → 0 < length behind → within number room line ≡ true → line_at number room (line ∷ behind) ≡ Some line
+pub a_line : (number room : ℕ) (line : List ℕ) (behind : List (List ℕ)) → 0 < length behind → within number room line ≡ true → line_at number room (line ∷ behind) ≡ Some line
 a_line number room line behind k h = ended number room line behind k ∙ ap (λ b. cond b (Some line) None) h
 
 -- the last part keeps no limit with more bytes
@@ -136,14 +136,14 @@ module _ (number room : ℕ) (line next : List ℕ) (rest : List (List ℕ)) (la
   faulty false here more = (number, λ qs k. refused number room line (glue (next ∷ rest) qs) (no_line number room line (glue (next ∷ rest) qs) here))
 
   script_late : within number room line ≡ true → (n : ℕ) × ((qs : List (List ℕ)) → 0 < length qs → events_from (number + 1) (room - (length line + 1)) (glue (next ∷ rest) qs) ≡ Err n)
-      → (n : ℕ) × ((qs : List (List ℕ)) → 0 < length qs → config_then (option_and_then config_of (option_and_then words_of_line (line_at number room (line ∷ glue (next ∷ rest) qs)))) (events_from (number + 1) (room - (length line + 1)) (glue (next ∷ rest) qs)) ≡ Err n)
+      → (n : ℕ) × ((qs : List (List ℕ)) → 0 < length qs → config_then (option_and_then opening_of (option_and_then words_of_line (line_at number room (line ∷ glue (next ∷ rest) qs)))) (events_from (number + 1) (room - (length line + 1)) (glue (next ∷ rest) qs)) ≡ Err n)
   script_late here more =
-      let after = after_config more.0 (option_and_then config_of (words_of_line line)) in (
+      let after = after_config more.0 (option_and_then opening_of (words_of_line line)) in (
         after.0,
         λ qs k.
             let behind = glue (next ∷ rest) qs in
             let left = events_from (number + 1) (room - (length line + 1)) behind in
-            ap (λ o. config_then (option_and_then config_of (option_and_then words_of_line o)) left) (a_line number room line behind (glued_more (next ∷ rest) qs (omega arith) k) here)
+            ap (λ o. config_then (option_and_then opening_of (option_and_then words_of_line o)) left) (a_line number room line behind (glued_more (next ∷ rest) qs (omega arith) k) here)
             ∙ after.1 left (more.1 qs k),
       )
 
@@ -161,7 +161,7 @@ abbrev Refused : List (List ℕ) → Type 0
 Refused ps = (n : ℕ) × ((qs : List (List ℕ)) → 0 < length qs → script_from (glue ps qs) ≡ Err n)
 
 first_refused : (line : List ℕ) (behind : List (List ℕ)) → line_at 1 max_text (line ∷ behind) ≡ None → script_from (line ∷ behind) ≡ Err 1
-first_refused line behind h = ap (λ o. config_then (option_and_then config_of (option_and_then words_of_line o)) (events_from 2 (max_text - (length line + 1)) behind)) h
+first_refused line behind h = ap (λ o. config_then (option_and_then opening_of (option_and_then words_of_line o)) (events_from 2 (max_text - (length line + 1)) behind)) h
 
 late_parts : (ps : List (List ℕ)) → (Keeps 1 max_text ps → ⊥) → Refused ps
 late_parts [] late = absurd (late (record { bytes = omega arith; lines = refl; count = omega arith }))

@@ -5,6 +5,7 @@ pub mod Faults
 pub mod Forms
 pub mod Glue
 pub mod Glued
+pub mod Kept
 pub mod Late
 pub mod Limited
 pub mod Lines

@@ -4,6 +4,7 @@ use Rattle.std.specs.Option.{option_to_list}
 use Rattle.std.specs.List.{list_all, list_any}
 use Rattle.driver_model.specs.declared.config.Config.{Config}
 use Rattle.script_text.specs.Words.{LineWords, cut_at}
+use Rattle.script_text.specs.Draws.{drawn}
 use Rattle.script_text.specs.Numbers.{number, max_u32, max_u64, time_limit, switch}
 use Rattle.script_text.specs.EventLine.{Forms, by_first, whole}
 
@@ -86,6 +87,10 @@ single words =
 abbrev pub kinds : Forms Config
 kinds = (codes "single", whole single) ∷ []
 
--- a configuration; its word is 0
+-- a configuration
 unfoldable pub config_of : LineWords → Option Config
 config_of line = by_first ((codes "config", by_first kinds) ∷ []) line.words line.more
+
+-- a configuration, behind the word of its draws, and that word
+abbrev pub opening_of : LineWords → Option (Config × ℕ)
+opening_of line = option_and_then (λ d. option_map (λ config. (config, d.0)) (config_of (record { words = d.1; more = line.more }))) (drawn line.words)

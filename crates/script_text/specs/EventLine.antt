@@ -8,6 +8,7 @@ use Rattle.driver_model.specs.declared.event.Submission.TheVariants.{Cmd, NoRepl
 use Rattle.redis_error.specs.declared.fault_kind.FaultKind.{FaultKind}
 use Rattle.redis_error.specs.declared.fault_kind.FaultKind.TheVariants as fault
 use Rattle.redis_error.specs.Names.{fault_name}
+use Rattle.script_text.specs.Draws.{drawn}
 use Rattle.script_text.specs.Numbers.{number, max_u32, max_u64, time_limit}
 use Rattle.script_text.specs.Words.{LineWords}
 
@@ -105,6 +106,10 @@ others =
 abbrev pub events : Forms EventKind
 events = (codes "submit", λ words more. option_map Submit (by_first submissions words more)) ∷ others
 
--- an event; its word is 0
+-- an event with this word
+abbrev pub drawing : ℕ → EventKind → Event
+drawing word kind = record { word = word; kind = kind }
+
+-- an event, behind the word of its draws
 unfoldable pub event_of : LineWords → Option Event
-event_of line = option_map (λ kind. record { word = 0; kind = kind }) (by_first events line.words line.more)
+event_of line = option_and_then (λ d. option_map (drawing d.0) (by_first events d.1 line.more)) (drawn line.words)

@@ -1,8 +1,10 @@
 pub mod ConfigLine
 pub mod Cursor
+pub mod Draws
 pub mod EventLine
 pub mod Faults
 pub mod Limits
+pub mod Lines
 pub mod Numbers
 pub mod Pieces
 pub mod Script

@@ -6,7 +6,7 @@ use Rattle.driver_model.specs.declared.event.Event.{Event}
 use Rattle.script_text.specs.declared.script.Script.{Script}
 use Rattle.script_text.specs.Words.{LineWords, parts, words_of_line}
 use Rattle.script_text.specs.EventLine.{event_of}
-use Rattle.script_text.specs.ConfigLine.{config_of}
+use Rattle.script_text.specs.ConfigLine.{opening_of}
 
 -- the lines of a text
 abbrev pub max_lines : ℕ
@@ -63,16 +63,16 @@ events_from number room [] = Err number
 events_from number room (line ∷ rest) =
     line_then number (words_at number room (line ∷ rest)) (is_nothing rest) (events_from (number + 1) (room - (length line + 1)) rest)
 
--- a first line that is this configuration, or none, before the events behind it
-abbrev pub config_then : Option Config → Result (List Event) ℕ → Result Script ℕ
+-- a first line that is this configuration with this word, or none, before the events behind it
+abbrev pub config_then : Option (Config × ℕ) → Result (List Event) ℕ → Result Script ℕ
 config_then None rest = Err 1
-config_then (Some config) rest = result_map_both (λ events. record { config = config; word = 0; events = events }) (λ n. n) rest
+config_then (Some opening) rest = result_map_both (λ events. record { config = opening.0; word = opening.1; events = events }) (λ n. n) rest
 
 -- the configuration in the first line, and the events behind it
 abbrev pub script_from : List (List ℕ) → Result Script ℕ
 script_from [] = Err 1
 script_from (first ∷ rest) =
-    config_then (option_and_then config_of (words_at 1 max_text (first ∷ rest))) (events_from 2 (max_text - (length first + 1)) rest)
+    config_then (option_and_then opening_of (words_at 1 max_text (first ∷ rest))) (events_from 2 (max_text - (length first + 1)) rest)
 
 -- the script that a text is, or the number of its first line at fault
 unfoldable pub script_of : List ℕ → Result Script ℕ

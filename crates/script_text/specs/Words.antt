@@ -55,6 +55,10 @@ line_words (words ∷ more) = Some (record { words = words; more = more })
 abbrev pub group_of : List (List ℕ) → Option (List (List ℕ))
 group_of raws = all_of (map unescaped raws)
 
--- the words of a line: its parts between spaces
+-- the words of a line with these parts between its spaces
+abbrev pub words_of_parts : List (List ℕ) → Option LineWords
+words_of_parts raws = option_and_then line_words (all_of (map group_of (slice_split is_separator raws)))
+
+-- the words of a line
 unfoldable pub words_of_line : List ℕ → Option LineWords
-words_of_line line = option_and_then line_words (all_of (map group_of (slice_split is_separator (parts 32 line))))
+words_of_line line = words_of_parts (parts 32 line)

@@ -3,7 +3,7 @@ ghost use Rattle.std.specs.List.{list_all};
 ghost use Rattle.script_text.specs.ConfigLine.{keys, is_setting, values, only};
 ghost use Rattle.script_text.specs.ConfigLine.{allows, allows_times, allows_queue};
 ghost use Rattle.script_text.specs.ConfigLine.{allows_numbers, allows_optional, are_allowed};
-ghost use Rattle.script_text.specs.ConfigLine.{single, config_of};
+ghost use Rattle.script_text.specs.ConfigLine.{single, config_of, opening_of};
 ghost use Rattle.script_text.specs.Faults.{FindsFault, values_reason};
 ghost use Rattle.script_text.specs.Numbers.{number, max_u32, max_u64, time_limit, switch};
 
@@ -11,11 +11,12 @@ use crate::config_line::{
     allows_large_number, allows_lib, allows_number, allows_time, has_value, is_known_setting,
     only_value, value,
 };
+use crate::draw::{draw_fault, drawn, fault_behind};
 use crate::fault::Fault;
 use crate::line::Line;
 use crate::reason::{ConfigReason, LineReason, Reason};
 use crate::words::cut;
-use containers::Bytes;
+use containers::{Bytes, Names};
 
 /// Before the settings stand the words `config single`.
 const BEFORE: usize = 2;
@@ -192,16 +193,16 @@ fn single_fault(words: &[Bytes]) -> Option<Fault>
     url_fault(words)
 }
 
-/// What is wrong with the words of a line as a configuration.
+/// What is wrong with words, and those behind separators, as a configuration.
 #[tactic(auto, unfolding(crate::specs::ConfigLine::config_of))]
-pub fn config_fault(line: &Line) -> Option<Fault>
-    ensures { FindsFault result (config_of line.now) }
+fn config_fault(words: &[Bytes], more: &[Names]) -> Option<Fault>
+    ensures { FindsFault result (config_of (record { words = words.now; more = more.now })) }
 {
     let name = Fault {
         reason: Reason::Config(ConfigReason::Name),
         part: 0,
     };
-    let [first, rest @ ..] = line.words() else {
+    let [first, rest @ ..] = words else {
         return Some(name);
     };
     if first.as_slice() != b"config".as_slice() {
@@ -217,11 +218,22 @@ pub fn config_fault(line: &Line) -> Option<Fault>
     if second.as_slice() != b"single".as_slice() {
         return Some(kind);
     }
-    match line.more() {
+    match more {
         [] => single_fault(settings),
         _ => Some(Fault {
             reason: Reason::Line(LineReason::Separator),
-            part: line.words().len(),
+            part: words.len(),
         }),
     }
+}
+
+/// What is wrong with the words of a line as a configuration behind the word of its draws.
+pub fn opening_fault(line: &Line) -> Option<Fault>
+    ensures { FindsFault result (opening_of line.now) }
+{
+    let Some((_, words)) = drawn(line.words()) else {
+        return draw_fault();
+    };
+    let before = line.words().len().saturating_sub(words.len());
+    fault_behind(config_fault(words, line.more()), before)
 }

@@ -4,13 +4,14 @@ ghost use Rattle.std.specs.List.{list_all};
 ghost use Rattle.script_text.specs.ConfigLine.{keys, is_setting, value_of, values, only};
 ghost use Rattle.script_text.specs.ConfigLine.{allows, given, allows_times, allows_queue};
 ghost use Rattle.script_text.specs.ConfigLine.{allows_numbers, allows_optional, are_allowed};
-ghost use Rattle.script_text.specs.ConfigLine.{config_with, single, config_of};
+ghost use Rattle.script_text.specs.ConfigLine.{config_with, single, config_of, opening_of};
 ghost use Rattle.script_text.specs.Numbers.{number, max_u32, max_u64, time_limit, switch};
 
+use crate::draw::drawn;
 use crate::line::Line;
 use crate::number::{number_u32, number_u64, switch, time_limit};
 use crate::words::cut;
-use containers::Bytes;
+use containers::{Bytes, Names};
 use driver_model::Config;
 use std::alloc::{AllocError, Global};
 
@@ -217,16 +218,29 @@ fn read_single(alloc: Global, words: &[Bytes]) -> Result<Option<Config>, AllocEr
     Ok(Some(config_with(words, url)))
 }
 
-/// The configuration that the words of a line are.
+/// The configuration that words are, and those behind separators.
 #[tactic(auto, unfolding(crate::specs::ConfigLine::config_of))]
-pub fn config(alloc: Global, line: &Line) -> Result<Option<Config>, AllocError>
-    ensures { IfOk result (λ c. c ≡ config_of line.now) }
+pub fn config(alloc: Global, words: &[Bytes], more: &[Names]) -> Result<Option<Config>, AllocError>
+    ensures { IfOk result (λ c. c ≡ config_of (record { words = words.now; more = more.now })) }
 {
-    let ([name, kind, settings @ ..], []) = (line.words(), line.more()) else {
+    let ([name, kind, settings @ ..], []) = (words, more) else {
         return Ok(None);
     };
     if name.as_slice() != b"config".as_slice() || kind.as_slice() != b"single".as_slice() {
         return Ok(None);
     }
     read_single(alloc, settings)
+}
+
+/// The configuration that the words of a line are, and the word of its draws.
+pub fn opening(alloc: Global, line: &Line) -> Result<Option<(Config, u64)>, AllocError>
+    ensures { IfOk result (λ o. o ≡ opening_of line.now) }
+{
+    let Some((word, words)) = drawn(line.words()) else {
+        return Ok(None);
+    };
+    match config(alloc, words, line.more())? {
+        Some(config) => Ok(Some((config, word))),
+        None => Ok(None),
+    }
 }

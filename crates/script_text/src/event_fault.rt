@@ -7,6 +7,7 @@ ghost use Rattle.script_text.specs.EventLine.{faults, fault_among, packed, submi
 ghost use Rattle.script_text.specs.EventLine.{events, event_of};
 ghost use Rattle.script_text.specs.Faults.{FindsFault, at};
 
+use crate::draw::{draw_fault, drawn, fault_behind};
 use crate::event_line::fault;
 use crate::fault::{Fault, large_number_at, number_at};
 use crate::line::Line;
@@ -217,12 +218,12 @@ fn named_fault(name: &[u8], words: &[Bytes], more: &[Names]) -> Option<Fault>
     }
 }
 
-/// What is wrong with the words of a line as what happens.
-fn happening_fault(line: &Line) -> Option<Fault>
-    ensures { FindsFault result (by_first events line.now.words line.now.more) }
+/// What is wrong with words, and those behind separators, as what happens.
+fn happening_fault(words: &[Bytes], more: &[Names]) -> Option<Fault>
+    ensures { FindsFault result (by_first events words.now more.now) }
 {
-    match line.words() {
-        [name, words @ ..] => named_fault(name.as_slice(), words, line.more()),
+    match words {
+        [name, words @ ..] => named_fault(name.as_slice(), words, more),
         [] => Some(Fault {
             reason: Reason::Event(EventReason::Name),
             part: 0,
@@ -230,10 +231,14 @@ fn happening_fault(line: &Line) -> Option<Fault>
     }
 }
 
-/// What is wrong with the words of a line as an event.
-#[tactic(auto, using(crate::proofs::Faults::finds_event))]
+/// What is wrong with the words of a line as an event behind the word of its draws.
+#[tactic(auto, unfolding(crate::specs::EventLine::event_of))]
 pub fn event_fault(line: &Line) -> Option<Fault>
     ensures { FindsFault result (event_of line.now) }
 {
-    happening_fault(line)
+    let Some((_, words)) = drawn(line.words()) else {
+        return draw_fault();
+    };
+    let before = line.words().len().saturating_sub(words.len());
+    fault_behind(happening_fault(words, line.more()), before)
 }

@@ -358,11 +358,14 @@ fn kind(alloc: Global, line: Line) -> Result<Option<EventKind>, AllocError>
 
 /// The event that the words of a line are.
 #[tactic(auto, unfolding(crate::specs::EventLine::event_of))]
-pub fn event(alloc: Global, line: Line) -> Result<Option<Event>, AllocError>
+pub fn event(alloc: Global, mut line: Line) -> Result<Option<Event>, AllocError>
     ensures { IfOk result (λ e. e ≡ event_of line) }
 {
+    let Some(word) = line.take_draw() else {
+        return Ok(None);
+    };
     match kind(alloc, line)? {
-        Some(kind) => Ok(Some(Event { word: 0, kind })),
+        Some(kind) => Ok(Some(Event { word, kind })),
         None => Ok(None),
     }
 }

@@ -1,12 +1,12 @@
 ghost use Rattle.std.specs.Prelude.{◌≡◌, ◌++◌, [], flat_map, take, length, is_some, is_none};
 ghost use Rattle.std.specs.Prelude.{option_and_then, bytes_eq, if◌then◌else◌, OnOk, IfOk, IfSome};
-ghost use Rattle.script_text.specs.ConfigLine.{config_of};
+ghost use Rattle.script_text.specs.ConfigLine.{opening_of};
 ghost use Rattle.script_text.specs.EventLine.{event_of};
 ghost use Rattle.script_text.specs.Faults.{FindsFault, IsVisible, ends_in_return, is_visible, visible_byte};
 ghost use Rattle.script_text.specs.Pieces.{piece_of};
 ghost use Rattle.script_text.specs.Words.{words_of_line};
 
-use crate::config_fault::config_fault;
+use crate::config_fault::opening_fault;
 use crate::event_fault::event_fault;
 use crate::fault::Fault;
 use crate::reason::{LineReason, Reason, TextReason};
@@ -69,10 +69,10 @@ fn part_fault(line: &[u8]) -> Fault {
 /// What is wrong with a first line.
 fn first_line_fault(alloc: Global, line: &[u8]) -> Result<Option<Fault>, AllocError>
     ensures { IfOk result (λ fault.
-        FindsFault fault (option_and_then config_of (words_of_line line.now))) }
+        FindsFault fault (option_and_then opening_of (words_of_line line.now))) }
 {
     match words(alloc, line)? {
-        Some(words) => Ok(config_fault(&words)),
+        Some(words) => Ok(opening_fault(&words)),
         None => Ok(Some(part_fault(line))),
     }
 }

@@ -6,6 +6,7 @@
 
 mod config_fault;
 mod config_line;
+mod draw;
 mod event_fault;
 mod event_line;
 mod explain;
@@ -15,11 +16,13 @@ mod line;
 mod number;
 mod reason;
 mod script;
+mod submissions;
 mod words;
 
 pub use explain::explain_line;
 pub use intake::Intake;
 pub use script::{Script, ScriptError, read_script};
+pub use submissions::{read_config, read_lines};
 
 #[cfg(test)]
 mod submission_tests;

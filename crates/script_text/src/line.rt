@@ -1,6 +1,9 @@
-ghost use Rattle.std.specs.Prelude.{◌≡◌, [], OnOk, IfOk, option_map};
+ghost use Rattle.std.specs.Prelude.{◌≡◌, [], OnOk, IfOk, option_map, MatchOption, Some, None};
+ghost use Rattle.script_text.specs.Draws.{drawn};
 ghost use Rattle.script_text.specs.Pieces.{joined, one_word, separator, piece_of};
 
+use crate::draw::behind_at;
+use crate::number::number_u64;
 use crate::words::word;
 use containers::{Bytes, Names};
 use std::alloc::{AllocError, Global};
@@ -52,6 +55,23 @@ impl Line {
         ensures more { result.1.items ≡ self.more }
     {
         (self.words, self.more)
+    }
+
+    /// The word of the draws, taken out: 0 where no `@` says it.
+    pub fn take_draw(&mut self) -> Option<u64>
+        ensures { MatchOption result (drawn self.old.words ≡ None)
+            (λ word. (drawn self.old.words ≡ Some (word, self.new.words))
+            × (self.new.more ≡ self.old.more)) }
+    {
+        let [first, ..] = self.words.as_slice() else {
+            return Some(0);
+        };
+        let Some(digits) = behind_at(first.as_slice()) else {
+            return Some(0);
+        };
+        let word = number_u64(digits)?;
+        self.words.remove(0);
+        Some(word)
     }
 
     /// One more word.

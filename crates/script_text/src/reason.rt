@@ -36,6 +36,8 @@ pub enum LineReason {
     Escape,
     /// A `;` where there is no list of commands.
     Separator,
+    /// No number of 64 bits behind `@`.
+    Draw,
 }
 
 /// Why the words of a line are no configuration.
@@ -136,6 +138,9 @@ impl LineReason {
             }
             LineReason::Separator => {
                 b"; separates commands in pipe, multi and packed alone, and %3B is an argument ;"
+            }
+            LineReason::Draw => {
+                b"behind @ stands a number, digits alone without a leading zero, at most 18446744073709551615"
             }
         }
     }

@@ -1,9 +1,9 @@
 ghost use Rattle.std.specs.Prelude.{◌≡◌, ◌<◌, length, MatchOption, Some, None, Ok, IfOk, IfErr, option_and_then};
-ghost use Rattle.script_text.specs.ConfigLine.{config_of};
+ghost use Rattle.script_text.specs.ConfigLine.{opening_of};
 ghost use Rattle.script_text.specs.Cursor.{line_left, words_left, events_left, Passes, Goes, Continues, Refuses, Tells};
 ghost use Rattle.script_text.specs.Script.{is_end, script_of};
 
-use crate::config_line::config;
+use crate::config_line::opening;
 use crate::event_line::event;
 use crate::line::Line;
 use crate::words::{cut, words};
@@ -49,10 +49,10 @@ impl From<AllocError> for ScriptError {
 
 /// What is left of a text: its bytes, the number of the line that they begin with, and how many of them there may be.
 #[derive(Drop)]
-struct Cursor<'a> {
-    left: &'a [u8],
-    number: u32,
-    room: usize,
+pub struct Cursor<'a> {
+    pub left: &'a [u8],
+    pub number: u32,
+    pub room: usize,
 }
 
 /// The next line, if an LF ends it and it keeps the limits.
@@ -72,7 +72,7 @@ fn next_line<'a>(cursor: &mut Cursor<'a>) -> Option<&'a [u8]>
 }
 
 /// The words of the next line.
-fn line_words(alloc: Global, cursor: &mut Cursor<'_>) -> Result<Line, ScriptError>
+pub fn line_words(alloc: Global, cursor: &mut Cursor<'_>) -> Result<Line, ScriptError>
     ensures words { IfOk result (λ words. words_left cursor.old ≡ Some words) }
     ensures passed { IfOk result (λ _. Goes cursor.old cursor.new) }
     ensures fault { IfErr result (λ e. Refuses e cursor.old.number (words_left cursor.old)) }
@@ -137,20 +137,21 @@ fn all_events(alloc: Global, cursor: &mut Cursor<'_>) -> Result<Seq<Event>, Scri
     }
 }
 
-/// The configuration that the next line is.
-fn config_line(alloc: Global, cursor: &mut Cursor<'_>) -> Result<Config, ScriptError>
-    ensures config { IfOk result (λ c. option_and_then config_of (words_left cursor.old) ≡ Some c) }
+/// The configuration that the next line is, and the word of its draws.
+fn config_line(alloc: Global, cursor: &mut Cursor<'_>) -> Result<(Config, u64), ScriptError>
+    ensures config { IfOk result (λ o.
+        option_and_then opening_of (words_left cursor.old) ≡ Some o) }
     ensures passed { IfOk result (λ _. Goes cursor.old cursor.new) }
     ensures fault { IfErr result (λ e.
-        Refuses e cursor.old.number (option_and_then config_of (words_left cursor.old))) }
+        Refuses e cursor.old.number (option_and_then opening_of (words_left cursor.old))) }
 {
     let number = cursor.number;
     let words = match line_words(alloc, cursor) {
         Ok(words) => words,
         Err(error) => return Err(error),
     };
-    match config(alloc, &words)? {
-        Some(config) => Ok(config),
+    match opening(alloc, &words)? {
+        Some(opening) => Ok(opening),
         None => Err(ScriptError::Line(number)),
     }
 }
@@ -166,14 +167,14 @@ pub fn read_script(alloc: Global, text: &[u8]) -> Result<Script, ScriptError>
         number: 1,
         room: MAX_TEXT,
     };
-    let config = match config_line(alloc, &mut cursor) {
-        Ok(config) => config,
+    let (config, word) = match config_line(alloc, &mut cursor) {
+        Ok(opening) => opening,
         Err(error) => return Err(error),
     };
     match all_events(alloc, &mut cursor) {
         Ok(events) => Ok(Script {
             config,
-            word: 0,
+            word,
             events,
         }),
         Err(error) => Err(error),

@@ -1,4 +1,5 @@
 use crate::script::{ScriptError, read_script};
+use crate::submissions::{read_config, read_lines};
 use containers::{Bytes, Names};
 use driver_model::{Commands, Event, EventKind, Submission};
 use std::alloc::{AllocError, Global};
@@ -205,6 +206,62 @@ fn lines_refused(rt: HostRuntime) -> Result<(), Fail> {
             Err(ScriptError::Line(2))
         );
         assert!(rt; is_refused);
+    }
+    Ok(())
+}
+
+/// Lines that are submitted, each text with its line at fault, or 0.
+const LINES: [(&[u8], u32); 7] = [
+    (b"end\n", 0),
+    (b"@7 submit cmd GET a\nsubmit multi\nend\n", 0),
+    (b"submit cmd GET a\nconnected 0\nend\n", 2),
+    (b"submit cmd GET a\n", 2),
+    (b"end\nsubmit cmd\n", 2),
+    (b"@x submit cmd\nend\n", 1),
+    (b"config single url=redis://h:6379\nend\n", 1),
+];
+
+fn fault_of_lines(alloc: Global, text: &[u8]) -> Result<u32, AllocError> {
+    match read_lines(alloc, text) {
+        Ok(_) => Ok(0),
+        Err(ScriptError::Line(line)) => Ok(line),
+        Err(ScriptError::NoMemory) => Err(AllocError),
+    }
+}
+
+#[test]
+fn lines_alone(rt: HostRuntime) -> Result<(), Fail> {
+    for (text, line) in LINES {
+        let found = fault_of_lines(rt.alloc(), text)?;
+        assert_eq!(rt; found, line);
+    }
+    Ok(())
+}
+
+/// The words behind `config`, and whether they are a configuration.
+const CONFIGS: [(&[&str], bool); 5] = [
+    (&["single", "url=redis://h:6379"], true),
+    (&["single", "lib=off", "url=%72edis://h:6379"], true),
+    (&["single"], false),
+    (&["url=redis://h:6379"], false),
+    (&["single", "url=redis://h:6379", "url=redis://h:6379"], false),
+];
+
+fn is_config(alloc: Global, words: &[&str]) -> Result<bool, AllocError> {
+    let mut texts = Vec::new(alloc);
+    for word in words {
+        let text = String::from_str(alloc, word)?;
+        texts.push(text)?;
+    }
+    let config = read_config(alloc, texts.as_slice())?;
+    Ok(config.is_some())
+}
+
+#[test]
+fn configs_alone(rt: HostRuntime) -> Result<(), Fail> {
+    for (words, want) in CONFIGS {
+        let found = is_config(rt.alloc(), words)?;
+        assert_eq!(rt; found, want);
     }
     Ok(())
 }

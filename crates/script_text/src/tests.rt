@@ -183,7 +183,7 @@ fn first_lines(rt: HostRuntime) -> Result<(), Fail> {
 }
 
 /// Texts behind a configuration, each with its line at fault, or 0.
-const LATER_LINES: [(&[u8], u32); 63] = [
+const LATER_LINES: [(&[u8], u32); 71] = [
     (
         b"connected 0\nsubmit cmd GET a\nwrote 0 20\nbytes 0 +x%0D%0A\nend\n",
         0,
@@ -253,7 +253,15 @@ const LATER_LINES: [(&[u8], u32); 63] = [
     (b"timeout 5 5\nend\n", 2),
     (b"timeout None\nend\n", 2),
     (b"timeout 5 ; 5\nend\n", 2),
-    (b"@0 shutdown\nend\n", 2),
+    (b"@0 shutdown\nend\n", 0),
+    (b"@18446744073709551615 submit cmd GET a\nend\n", 0),
+    (b"@18446744073709551616 shutdown\nend\n", 2),
+    (b"@01 shutdown\nend\n", 2),
+    (b"@ shutdown\nend\n", 2),
+    (b"@1 @2 shutdown\nend\n", 2),
+    (b"@1\nend\n", 2),
+    (b"shutdown @1\nend\n", 2),
+    (b"@1 end\n", 2),
     (b"shutdown 0\nend\n", 2),
     (b"config single\nend\n", 2),
 ];

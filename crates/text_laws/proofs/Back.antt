@@ -15,14 +15,15 @@ use Rattle.redis_error.specs.declared.fault_kind.FaultKind.{FaultKind}
 use Rattle.redis_error.specs.declared.fault_kind.FaultKind.TheVariants as fault
 use Rattle.redis_error.specs.Names.{fault_name}
 use Rattle.script_text.specs.Numbers.{number, max_u32, max_u64, time_limit, switch}
-use Rattle.script_text.specs.ConfigLine.{is_setting, keys, values, only, allows, given, config_of}
-use Rattle.script_text.specs.EventLine.{by_first, commands, submissions, faults, fault_among, failed, others, event_of}
+use Rattle.script_text.specs.ConfigLine.{is_setting, keys, values, only, allows, given, config_of, opening_of}
+use Rattle.script_text.specs.Draws.{drawn}
+use Rattle.script_text.specs.EventLine.{by_first, commands, submissions, faults, fault_among, failed, others, events, drawing, event_of}
 use Rattle.script_text.specs.Words.{LineWords, all_of}
 use Rattle.legal_trace.specs.Legal.{event_causes}
 use Rattle.trace_text.specs.Show.{url, draw_words, connect_words, response_words, buffer_words, limit_words, boundary_words, lib_words, times_words, numbers_words, later_words, config_words, time_word, first_of, behind_first, submission_words, submission_more, event_words, event_more}
 use Rattle.containers.proofs.Choices.{chosen, eq_from}
 use Rattle.text_laws.specs.Fits.{FitsSubmission, FitsKind, FitsEvent, FitsLimit, FitsNumber, FitsConfig, FitsHistory, HasForm, HaveForms}
-use Rattle.text_laws.specs.History.{drawn, opening_in, drawing, event_in, script_with, history_in}
+use Rattle.text_laws.specs.History.{script_with, history_in}
 use Rattle.text_laws.proofs.Bytes.{number_back, decimal_is_no_none}
 use Rattle.text_laws.proofs.Turns.{cause_line}
 
@@ -31,9 +32,6 @@ small_number n fits = number_back max_u32 n (omega arith) (omega arith)
 
 long_number : (n : ℕ) → n < 2 ^ 64 → number max_u64 (decimal n) ≡ Some n
 long_number n fits = number_back max_u64 n (omega arith) fits
-
-undrawn : EventKind → Event
-undrawn kind = record { word = 0; kind = kind }
 
 -- a list of commands that is no single nameless one
 commands_back : (all : List (List (List ℕ))) → is_single_nameless all ≡ false → commands (first_of all) (behind_first all) ≡ all
@@ -77,25 +75,22 @@ time_word_back : (ms : Option ℕ) → FitsNumber (2 ^ 64) ms → time_limit (ti
 time_word_back None fits = refl
 time_word_back (Some ms) fits = time_back ms fits
 
--- an event's own words
-abbrev kind_line : EventKind → LineWords
-kind_line kind = record { words = event_words kind; more = event_more kind }
-
-kind_back : (kind : EventKind) → FitsKind kind → HasForm kind → event_of (kind_line kind) ≡ Some (record { word = 0; kind = kind })
-unfolding event_of others undrawn
-kind_back (event.Submit s) fits form = ap (λ o. option_map undrawn (option_map event.Submit o)) (submission_back s fits form)
-kind_back (event.Cancel s) fits form = ap (λ o. option_map undrawn (option_map event.Cancel o)) (small_number s fits)
-kind_back (event.Connected link) fits form = ap (λ o. option_map undrawn (option_map event.Connected o)) (small_number link fits)
-kind_back (event.Refused link kind) fits form = ap (option_map undrawn) (failed_back event.Refused link kind fits)
+-- what happens is read back from its words
+kind_back : (kind : EventKind) → FitsKind kind → HasForm kind → by_first events (event_words kind) (event_more kind) ≡ Some kind
+unfolding others
+kind_back (event.Submit s) fits form = ap (option_map event.Submit) (submission_back s fits form)
+kind_back (event.Cancel s) fits form = ap (option_map event.Cancel) (small_number s fits)
+kind_back (event.Connected link) fits form = ap (option_map event.Connected) (small_number link fits)
+kind_back (event.Refused link kind) fits form = failed_back event.Refused link kind fits
 kind_back (event.Wrote link count) fits form =
-    ap (λ o. option_map undrawn (option_and_then (λ l. option_map (event.Wrote l) (number max_u64 (decimal count))) o)) (small_number link fits.0)
-    ∙ ap (λ o. option_map undrawn (option_map (event.Wrote link) o)) (long_number count fits.1)
-kind_back (event.Bytes link piece) fits form = ap (λ o. option_map undrawn (option_map (λ l. event.Bytes l piece) o)) (small_number link fits.0)
-kind_back (event.Ended link) fits form = ap (λ o. option_map undrawn (option_map event.Ended o)) (small_number link fits)
-kind_back (event.ReadFault link kind) fits form = ap (option_map undrawn) (failed_back event.ReadFault link kind fits)
-kind_back (event.WriteFault link kind) fits form = ap (option_map undrawn) (failed_back event.WriteFault link kind fits)
-kind_back (event.Fired timer) fits form = ap (λ o. option_map undrawn (option_map event.Fired o)) (small_number timer fits)
-kind_back (event.Timeout ms) fits form = ap (λ o. option_map undrawn (option_map event.Timeout o)) (time_word_back ms fits)
+    ap (option_and_then (λ l. option_map (event.Wrote l) (number max_u64 (decimal count)))) (small_number link fits.0)
+    ∙ ap (option_map (event.Wrote link)) (long_number count fits.1)
+kind_back (event.Bytes link piece) fits form = ap (option_map (λ l. event.Bytes l piece)) (small_number link fits.0)
+kind_back (event.Ended link) fits form = ap (option_map event.Ended) (small_number link fits)
+kind_back (event.ReadFault link kind) fits form = failed_back event.ReadFault link kind fits
+kind_back (event.WriteFault link kind) fits form = failed_back event.WriteFault link kind fits
+kind_back (event.Fired timer) fits form = ap (option_map event.Fired) (small_number timer fits)
+kind_back (event.Timeout ms) fits form = ap (option_map event.Timeout) (time_word_back ms fits)
 kind_back event.Shutdown fits form = refl
 
 -- words that begin with no draw
@@ -123,9 +118,10 @@ drawn_back w words small none =
     (λ t. none ∙ ap (λ n. Some (n, words)) (sym (eq_from w 0 t)))
     (λ f. ap (option_map (λ n. (n, words))) (long_number w small))
 
-event_back : (e : Event) → FitsEvent e → HasForm e.kind → event_in (cause_line (cause.Event e)) ≡ Some e
+pub event_back : (e : Event) → FitsEvent e → HasForm e.kind → event_of (cause_line (cause.Event e)) ≡ Some e
+unfolding event_of
 event_back e fits form =
-    ap (option_and_then (λ d. option_map (drawing d.0) (event_of (record { words = d.1; more = event_more e.kind })))) (drawn_back e.word (event_words e.kind) fits.word (kind_undrawn e.kind))
+    ap (option_and_then (λ d. option_map (drawing d.0) (by_first events d.1 (event_more e.kind)))) (drawn_back e.word (event_words e.kind) fits.word (kind_undrawn e.kind))
     ∙ ap (option_map (drawing e.word)) (kind_back e.kind fits.kind form)
 
 -- whether a setting is allowed, and what is read of it
@@ -326,7 +322,7 @@ config_back c fits =
 config_undrawn : (config : Config) → IsUndrawn (config_words config)
 config_undrawn config = refl
 
-opening_back : (config : Config) (word : ℕ) → FitsConfig config → word < 2 ^ 64 → opening_in (cause_line (cause.Opening config word)) ≡ Some (config, word)
+pub opening_back : (config : Config) (word : ℕ) → FitsConfig config → word < 2 ^ 64 → opening_of (cause_line (cause.Opening config word)) ≡ Some (config, word)
 opening_back config word fits small =
     ap (option_and_then (λ d. option_map (λ c. (c, d.0)) (config_of (record { words = d.1; more = [] })))) (drawn_back word (config_words config) small (config_undrawn config))
     ∙ ap (option_map (λ c. (c, word))) (config_back config fits)
@@ -334,15 +330,15 @@ opening_back config word fits small =
 abbrev WithForm : Event → Type 0
 WithForm e = HasForm e.kind
 
-events_back : (events : List Event) → All FitsEvent events → HaveForms events → all_of (map event_in (map cause_line (event_causes events))) ≡ Some events
+events_back : (events : List Event) → All FitsEvent events → HaveForms events → all_of (map event_of (map cause_line (event_causes events))) ≡ Some events
 events_back [] fits forms = refl
 events_back (e ∷ es) fits forms =
-    ap (λ o. all_of (o ∷ map event_in (map cause_line (event_causes es)))) (event_back e (All-head FitsEvent e es fits) (All-head WithForm e es forms))
+    ap (λ o. all_of (o ∷ map event_of (map cause_line (event_causes es)))) (event_back e (All-head FitsEvent e es fits) (All-head WithForm e es forms))
     ∙ ap (option_map (λ xs. e ∷ xs)) (events_back es (All-tail FitsEvent e es fits) (All-tail WithForm e es forms))
 
 -- a history is read back from what the text says of its causes
 pub causes_back : (config : Config) (word : ℕ) (events : List Event) → FitsHistory config word events → HaveForms events
     → history_in (map cause_line (cause.Opening config word ∷ event_causes events)) ≡ Some (record { config = config; word = word; events = events })
 causes_back config word events fits forms =
-    ap (option_and_then (λ opening. option_map (script_with opening) (all_of (map event_in (map cause_line (event_causes events)))))) (opening_back config word fits.config fits.word)
+    ap (option_and_then (λ opening. option_map (script_with opening) (all_of (map event_of (map cause_line (event_causes events)))))) (opening_back config word fits.config fits.word)
     ∙ ap (option_map (script_with (config, word))) (events_back events fits.events forms)

@@ -4,6 +4,7 @@ pub mod Escapes
 pub mod Held
 pub mod Lines
 pub mod OneTrace
+pub mod Records
 pub mod ScriptConfigs
 pub mod ScriptEvents
 pub mod Scripts

@@ -3,13 +3,15 @@ use Rattle.std.proofs.Common.{ℕ, ◌^◌, ◌<◌, ◌≤◌, ◌==◌, List, 
 use Rattle.std.specs.Option.{option_to_list}
 use Rattle.std.proofs.lemmas.List.Elements.{All-nil, All-cons, All-head, All-tail, All-append}
 use Rattle.containers.proofs.Choices.{chosen}
+use Rattle.driver_model.specs.declared.config.Config.{Config}
 use Rattle.script_text.specs.Words.{LineWords, cut_at}
 use Rattle.script_text.specs.Numbers.{number, max_u32, max_u64, time_limit}
+use Rattle.script_text.specs.Draws.{drawn}
 use Rattle.script_text.specs.EventLine.{by_first}
-use Rattle.script_text.specs.ConfigLine.{value_of, values, only, config_with, single, kinds, config_of}
+use Rattle.script_text.specs.ConfigLine.{value_of, values, only, config_with, single, kinds, config_of, opening_of}
 use Rattle.text_laws.specs.Fits.{IsByte, AreBytes, FitsLimit, FitsNumber, FitsConfig}
 use Rattle.text_laws.proofs.Held.{mapped, then_read, if_read, number_within}
-use Rattle.text_laws.proofs.ScriptEvents.{IsByteLine, by_form, whole_fits, time_fits}
+use Rattle.text_laws.proofs.ScriptEvents.{IsByteLine, FitsDrawn, drawn_fits, by_form, whole_fits, time_fits}
 
 -- the second of two texts is bytes
 abbrev SecondBytes : List ℕ × List ℕ → Type 0
@@ -73,3 +75,14 @@ pub config_fits : (line : LineWords) → IsByteLine line → IfSome (config_of l
 unfolding config_of
 config_fits line small =
     by_form FitsConfig ((codes "config", by_first kinds) ∷ []) (by_form FitsConfig kinds (whole_fits FitsConfig single single_fits, tt), tt) line.words line.more small.words small.more
+
+-- a configuration that its type holds, and a word of draws of 64 bits
+abbrev pub FitsOpening : Config × ℕ → Type 0
+FitsOpening opening = FitsConfig opening.0 × (opening.1 < 2 ^ 64)
+
+pub opening_fits : (line : LineWords) → IsByteLine line → IfSome (opening_of line) FitsOpening
+opening_fits line small =
+    then_read FitsDrawn FitsOpening (λ d. option_map (λ config. (config, d.0)) (config_of (record { words = d.1; more = line.more })))
+    (λ d held. mapped FitsConfig FitsOpening (λ config. (config, d.0)) (λ config fits. (fits, held.0)) (config_of (record { words = d.1; more = line.more }))
+    (config_fits (record { words = d.1; more = line.more }) (record { words = held.1; more = small.more })))
+    (drawn line.words) (drawn_fits line.words small.words)

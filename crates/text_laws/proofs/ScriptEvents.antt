@@ -1,5 +1,5 @@
 -- The events of scripts are events that their types hold, and their submissions have forms.
-use Rattle.std.proofs.Common.{◌≡◌, ℕ, ◌<◌, ◌≤◌, ◌^◌, false, List, [], ◌∷◌, All, Option, Some, None, IfSome, bytes_eq, codes, option_map, refl, arith}
+use Rattle.std.proofs.Common.{◌≡◌, ℕ, ◌<◌, ◌≤◌, ◌^◌, false, List, [], ◌∷◌, All, Option, Some, None, IfSome, bytes_eq, codes, drop, option_map, refl, arith}
 use Rattle.std.proofs.lemmas.List.Elements.{All-cons, All-head, All-tail}
 use Rattle.driver_model.specs.declared.event.Event.{Event}
 use Rattle.driver_model.specs.declared.event.EventKind.{EventKind}
@@ -10,7 +10,8 @@ use Rattle.driver_model.specs.Request.{is_single_nameless, has_no_form}
 use Rattle.redis_error.specs.declared.fault_kind.FaultKind.{FaultKind}
 use Rattle.script_text.specs.Numbers.{number, max_u32, max_u64, time_limit}
 use Rattle.script_text.specs.Words.{LineWords}
-use Rattle.script_text.specs.EventLine.{Forms, by_first, whole, numbered, wrote, came, timed, alone, faults, fault_among, failed, commands, packed, submissions, others, events, event_of}
+use Rattle.script_text.specs.Draws.{is_draw, drawn}
+use Rattle.script_text.specs.EventLine.{Forms, by_first, whole, numbered, wrote, came, timed, alone, faults, fault_among, failed, commands, packed, submissions, others, events, drawing, event_of}
 use Rattle.containers.proofs.Choices.{chosen}
 use Rattle.text_laws.specs.Fits.{AreBytes, FitsCommands, FitsSubmission, FitsNumber, FitsLimit, FitsKind, FitsEvent, HasForm}
 use Rattle.text_laws.proofs.Held.{mapped, then_read, any_read, number_within}
@@ -161,8 +162,22 @@ others_fit = (
   ),
 )
 
+-- a word of draws of 64 bits, and words that are bytes
+abbrev pub FitsDrawn : ℕ × List (List ℕ) → Type 0
+FitsDrawn d = (d.0 < 2 ^ 64) × All AreBytes d.1
+
+pub drawn_fits : (words : List (List ℕ)) → All AreBytes words → IfSome (drawn words) FitsDrawn
+drawn_fits [] small = (omega arith, small)
+drawn_fits (word ∷ words) small =
+    let read = number max_u64 (drop 1 word) in
+    chosen (λ o. IfSome o FitsDrawn) (is_draw word) (option_map (λ n. (n, words)) read) (Some (0, word ∷ words))
+    (λ t. mapped (λ n. n ≤ max_u64) FitsDrawn (λ n. (n, words)) (λ n within. (omega (arith, within), All-tail AreBytes word words small)) read (number_within max_u64 (drop 1 word)))
+    (λ f. (omega arith, small))
+
 pub event_fits : (line : LineWords) → IsByteLine line → IfSome (event_of line) SaidEvent
 unfolding event_of
 event_fits line small =
-    mapped SaidKind SaidEvent (λ kind. record { word = 0; kind = kind }) (λ kind fits. (record { word = omega arith; kind = fits.0 }, fits.1)) (by_first events line.words line.more)
-    (by_form SaidKind events (submitted_fits, others_fit) line.words line.more small.words small.more)
+    then_read FitsDrawn SaidEvent (λ d. option_map (drawing d.0) (by_first events d.1 line.more))
+    (λ d held. mapped SaidKind SaidEvent (drawing d.0) (λ kind fits. (record { word = held.0; kind = fits.0 }, fits.1)) (by_first events d.1 line.more)
+    (by_form SaidKind events (submitted_fits, others_fit) d.1 line.more held.1 small.more))
+    (drawn line.words) (drawn_fits line.words small.words)

@@ -11,13 +11,13 @@ use Rattle.driver_model.specs.declared.event.Event.{Event}
 use Rattle.script_text.specs.declared.script.Script.{Script}
 use Rattle.script_text.specs.Words.{LineWords, parts, is_well_escaped, unescaped, is_separator, all_of, group_of, line_words, words_of_line}
 use Rattle.script_text.specs.EventLine.{event_of}
-use Rattle.script_text.specs.ConfigLine.{config_of}
+use Rattle.script_text.specs.ConfigLine.{opening_of}
 use Rattle.script_text.specs.Script.{max_lines, max_line, max_text, line_at, words_at, is_end, is_nothing, event_then, line_then, events_from, config_then, script_from, script_of}
 use Rattle.containers.proofs.Choices.{chosen}
 use Rattle.text_laws.specs.Fits.{IsByte, AreBytes, FitsConfig, FitsEvent, FitsHistory, HasForm, HaveForms}
 use Rattle.text_laws.proofs.Held.{then_read, if_read, all_read}
 use Rattle.text_laws.proofs.ScriptEvents.{IsByteLine, SaidEvent, event_fits}
-use Rattle.text_laws.proofs.ScriptConfigs.{config_fits}
+use Rattle.text_laws.proofs.ScriptConfigs.{FitsOpening, opening_fits}
 
 abbrev AllBytes : List (List ℕ) → Type 0
 AllBytes = All AreBytes
@@ -100,20 +100,20 @@ events_fit number room (line ∷ rest) each =
 abbrev FitsScript : Script → Type 0
 FitsScript s = FitsHistory s.config s.word s.events × HaveForms s.events
 
-with_config : (config : Config) → FitsConfig config → (rest : Result (List Event) ℕ) → IfOk rest AllFit → IfOk (config_then (Some config) rest) FitsScript
-with_config config fits (Ok es) each =
-    (record { config = fits; word = omega arith; events = All-weaker SaidEvent FitsEvent (λ e said. said.0) es each }, All-weaker SaidEvent (λ e. HasForm e.kind) (λ e said. said.1) es each)
-with_config config fits (Err n) each = tt
+with_opening : (opening : Config × ℕ) → FitsOpening opening → (rest : Result (List Event) ℕ) → IfOk rest AllFit → IfOk (config_then (Some opening) rest) FitsScript
+with_opening opening fits (Ok es) each =
+    (record { config = fits.0; word = fits.1; events = All-weaker SaidEvent FitsEvent (λ e said. said.0) es each }, All-weaker SaidEvent (λ e. HasForm e.kind) (λ e said. said.1) es each)
+with_opening opening fits (Err n) each = tt
 
-config_then_fits : (o : Option Config) → IfSome o FitsConfig → (rest : Result (List Event) ℕ) → IfOk rest AllFit → IfOk (config_then o rest) FitsScript
+config_then_fits : (o : Option (Config × ℕ)) → IfSome o FitsOpening → (rest : Result (List Event) ℕ) → IfOk rest AllFit → IfOk (config_then o rest) FitsScript
 config_then_fits None fits rest each = tt
-config_then_fits (Some config) fits rest each = with_config config fits rest each
+config_then_fits (Some opening) fits rest each = with_opening opening fits rest each
 
 lines_fit : (lines : List (List ℕ)) → AllBytes lines → IfOk (script_from lines) FitsScript
 lines_fit [] each = tt
 lines_fit (first ∷ rest) each =
-    config_then_fits (option_and_then config_of (words_at 1 max_text (first ∷ rest)))
-    (then_read IsByteLine FitsConfig config_of config_fits (words_at 1 max_text (first ∷ rest)) (words_bytes 1 max_text (first ∷ rest) each))
+    config_then_fits (option_and_then opening_of (words_at 1 max_text (first ∷ rest)))
+    (then_read IsByteLine FitsOpening opening_of opening_fits (words_at 1 max_text (first ∷ rest)) (words_bytes 1 max_text (first ∷ rest) each))
     (events_from 2 (max_text - (length first + 1)) rest) (events_fit 2 (max_text - (length first + 1)) rest (All-tail AreBytes first rest each))
 
 text_fits : (text : List ℕ) → AreBytes text → IfOk (script_of text) FitsScript

@@ -1,3 +1,4 @@
 pub mod Fits
 pub mod History
 pub mod Laws
+pub mod Records

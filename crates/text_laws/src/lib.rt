@@ -4,6 +4,7 @@
 
 ghost use Rattle.text_laws.specs.Fits.{AreBytes};
 ghost use Rattle.text_laws.specs.Laws.{GoodAreTold, AllWithFormsAreTold};
+ghost use Rattle.text_laws.specs.Records.{RecordsAreTold};
 ghost use Rattle.text_laws.specs.Laws.{OneTextOfGood, OneTextWithForms, OneTextOfScripts, OneScript};
 
 /// Does nothing. Its contract: the history that a replay is of is read back from the text of its
@@ -28,4 +29,11 @@ pub fn one_text_has_one_trace()
 /// Does nothing. Its contract: what a slice of bytes has are bytes.
 pub fn a_slice_has_bytes(slice: &[u8])
     ensures { AreBytes slice.now }
+{}
+
+/// Does nothing. Its contract: the text that a history has as a script is read as that history where
+/// it keeps the limits of scripts, and else it is no script, for each history that the types hold
+/// and in which no submission is without a form.
+pub fn a_record_tells_its_history()
+    ensures { RecordsAreTold }
 {}

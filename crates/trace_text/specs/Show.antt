@@ -160,6 +160,10 @@ abbrev pub cause_more : Cause → List (List (List ℕ))
 cause_more (Opening config w) = []
 cause_more (Event e) = event_more e.kind
 
+-- the line of a script that tells a cause: the config line, or that of an event
+abbrev pub script_line : Cause → List ℕ
+script_line c = line_of (cause_words c) (cause_more c)
+
 abbrev pub outcome_words : Outcome → List (List ℕ)
 outcome_words (One value) = codes "ok" ∷ canonical (data_of value) ∷ []
 outcome_words (Many values) = codes "many" ∷ canonical (array (items_of values)) ∷ []

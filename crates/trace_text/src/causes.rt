@@ -11,7 +11,7 @@ ghost use Rattle.trace_text.specs.Writer.{Added, AddedWords, AddedParts};
 
 use crate::writer::Writer;
 use containers::{Bytes, Names};
-use driver_model::{Cause, Config, EventKind, Submission};
+use driver_model::{Cause, Config, Event, EventKind, Submission};
 use redis_error::FaultKind;
 use std::alloc::{AllocError, Global};
 
@@ -302,6 +302,28 @@ impl Writer {
         }
     }
 
+    /// The words of an opening: those of its config line, behind the word of its draws.
+    pub fn opening(&mut self, alloc: Global, config: &Config, word: u64) -> Result<(), AllocError>
+        ensures before { self.new.before ≡ self.old.before }
+        ensures ok { OnOk result
+            (AddedParts self.old self.new (cause_words (Cause.Opening config.now word))
+            (cause_more (Cause.Opening config.now word))) }
+    {
+        self.draw(alloc, word)?;
+        self.config(alloc, config)
+    }
+
+    /// The words of an event, behind the word of its draws.
+    pub fn drawn_event(&mut self, alloc: Global, event: &Event) -> Result<(), AllocError>
+        ensures before { self.new.before ≡ self.old.before }
+        ensures ok { OnOk result
+            (AddedParts self.old self.new (cause_words (Cause.Event event.now))
+            (cause_more (Cause.Event event.now))) }
+    {
+        self.draw(alloc, event.word)?;
+        self.event(&event.kind)
+    }
+
     /// The words of what a turn is the turn of.
     pub fn cause(&mut self, alloc: Global, cause: &Cause) -> Result<(), AllocError>
         ensures before { self.new.before ≡ self.old.before }
@@ -309,14 +331,8 @@ impl Writer {
             (AddedParts self.old self.new (cause_words cause.now) (cause_more cause.now)) }
     {
         match cause {
-            Cause::Opening { config, word } => {
-                self.draw(alloc, *word)?;
-                self.config(alloc, config)
-            }
-            Cause::Event { event } => {
-                self.draw(alloc, event.word)?;
-                self.event(&event.kind)
-            }
+            Cause::Opening { config, word } => self.opening(alloc, config, *word),
+            Cause::Event { event } => self.drawn_event(alloc, event),
         }
     }
 }

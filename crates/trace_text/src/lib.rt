@@ -8,10 +8,12 @@ mod error_tests;
 mod errors;
 mod names;
 mod outcomes;
+mod scripts;
 mod words;
 mod writer;
 
 pub use actions::{append_action, show};
+pub use scripts::{append_config, append_event};
 
 #[cfg(test)]
 mod tests;

@@ -1,0 +1,105 @@
+ghost use Rattle.std.specs.Prelude.{◌≡◌, ◌<◌, length, Ok, IfOk, IfErr};
+ghost use Rattle.script_text.specs.Cursor.{Tells};
+ghost use Rattle.script_text.specs.Lines.{submitted, submissions_left, lines_of, PutsBefore};
+ghost use Rattle.script_text.specs.Lines.{config_of_parts, texts};
+
+use crate::config_line::config;
+use crate::event_line::event;
+use crate::line::Line;
+use crate::script::{Cursor, MAX_TEXT, ScriptError, is_end_line, line_words};
+use containers::Seq;
+use driver_model::{Config, Event, EventKind, Submission};
+use std::alloc::{AllocError, Global};
+
+/// What is submitted, with its word, if that is what happens.
+fn submitted(event: Event) -> Option<(Submission, u64)>
+    ensures { result ≡ submitted event }
+{
+    let Event { word, kind } = event;
+    match kind {
+        EventKind::Submit { submission } => Some((submission, word)),
+        _ => None,
+    }
+}
+
+/// The submission that the next line is, or none where it is the last line.
+#[tactic(auto, using(crate::proofs::Lines::nothing_left))]
+fn next_submission(
+    alloc: Global,
+    cursor: &mut Cursor<'_>,
+) -> Result<Option<(Submission, u64)>, ScriptError>
+    ensures line { IfOk result (λ line.
+        PutsBefore line (submissions_left cursor.old) (submissions_left cursor.new)) }
+    ensures less { IfOk result (λ _. length cursor.new.left.now < length cursor.old.left.now) }
+    ensures fault { IfErr result (λ e. Tells e (submissions_left cursor.old)) }
+{
+    let number = cursor.number;
+    let words = match line_words(alloc, cursor) {
+        Ok(words) => words,
+        Err(error) => return Err(error),
+    };
+    if is_end_line(&words) {
+        if cursor.left.is_empty() {
+            return Ok(None);
+        }
+        return Err(ScriptError::Line(cursor.number));
+    }
+    let Some(event) = event(alloc, words)? else {
+        return Err(ScriptError::Line(number));
+    };
+    match submitted(event) {
+        Some(line) => Ok(Some(line)),
+        None => Err(ScriptError::Line(number)),
+    }
+}
+
+/// The submissions up to the last line.
+fn all_submissions(
+    alloc: Global,
+    cursor: &mut Cursor<'_>,
+) -> Result<Seq<(Submission, u64)>, ScriptError>
+    ensures lines { IfOk result (λ lines. submissions_left cursor.old ≡ Ok lines) }
+    ensures fault { IfErr result (λ e. Tells e (submissions_left cursor.old)) }
+{
+    let mut lines = Seq::new(alloc);
+    loop {
+        match next_submission(alloc, cursor) {
+            Ok(Some(line)) => lines.push(line)?,
+            Ok(None) => return Ok(lines),
+            Err(error) => return Err(error),
+        }
+    }
+}
+
+/// Reads lines `submit ..`, the last one `end`: what each submits, with its word.
+#[tactic(auto, unfolding(crate::specs::Lines::lines_of))]
+pub fn read_lines(alloc: Global, text: &[u8]) -> Result<Vec<(Submission, u64)>, ScriptError>
+    ensures lines { IfOk result (λ lines. lines_of text.now ≡ Ok lines.items) }
+    ensures fault { IfErr result (λ error. Tells error (lines_of text.now)) }
+{
+    let mut cursor = Cursor {
+        left: text,
+        number: 1,
+        room: MAX_TEXT,
+    };
+    match all_submissions(alloc, &mut cursor) {
+        Ok(lines) => Ok(lines.into_vec()),
+        Err(error) => Err(error),
+    }
+}
+
+/// The configuration that a line with the word `config` and these words behind it is.
+pub fn read_config(alloc: Global, words: &[String]) -> Result<Option<Config>, AllocError>
+    ensures { IfOk result (λ config. config ≡ config_of_parts (texts words.now)) }
+{
+    let Some(mut line) = Line::new(alloc).with(alloc, b"config")? else {
+        return Ok(None);
+    };
+    for word in words {
+        let Some(more) = line.with(alloc, word.as_bytes())? else {
+            return Ok(None);
+        };
+        line = more;
+    }
+    config(alloc, line.words(), line.more())
+}
