@@ -80,8 +80,7 @@ fn config_fits(config: &Config)
 /// Does nothing. Its contract: so is a word of draws.
 fn word_fits(word: u64)
     ensures { word < 2 ^ 64 }
-{
-}
+{}
 
 /// Does nothing. Its contract: so are events.
 fn events_fit(events: &[Event])

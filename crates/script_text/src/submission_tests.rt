@@ -244,7 +244,10 @@ const CONFIGS: [(&[&str], bool); 5] = [
     (&["single", "lib=off", "url=%72edis://h:6379"], true),
     (&["single"], false),
     (&["url=redis://h:6379"], false),
-    (&["single", "url=redis://h:6379", "url=redis://h:6379"], false),
+    (
+        &["single", "url=redis://h:6379", "url=redis://h:6379"],
+        false,
+    ),
 ];
 
 fn is_config(alloc: Global, words: &[&str]) -> Result<bool, AllocError> {
