@@ -5,4 +5,4 @@ use Rattle.script_text.specs.Words.{words_of_parts}
 use Rattle.script_text.proofs.submissions.read_config.Given as goal
 
 abbrev pub invariant-loop-word : goal.invariant-loop-word
-invariant-loop-word l = words_of_parts (codes "config" ∷ texts l.words.now) ≡ option_map (joined l.line) (words_of_parts (texts (drop l.word-index l.words.now)))
+invariant-loop-word l = words_of_parts (codes "config" ∷ texts l.words) ≡ option_map (joined l.line) (words_of_parts (texts (drop l.word-index l.words)))
