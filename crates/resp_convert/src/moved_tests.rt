@@ -243,14 +243,26 @@ fn maps_of_texts_are_taken(rt: HostRuntime) -> Result<(), AllocError> {
         Ok(read) => assert!(rt; are_pairs(&read)),
         Err(_) => assert!(rt; false),
     }
+    Ok(())
+}
+
+/// How many pairs a refusal gives back.
+fn pairs_given_back(error: &ConvertError) -> usize {
+    match error {
+        ConvertError::Convert {
+            value: Value::Map(pairs),
+        } => pairs.len(),
+        _ => 0,
+    }
+}
+
+#[test]
+fn refused_maps_are_given_back(rt: HostRuntime) -> Result<(), AllocError> {
+    let alloc = rt.alloc();
     let value = map(alloc, Value::Int(1))?;
     match KeyValues::<String, Bytes>::from_redis_value(alloc, value) {
-        Err(
-            ConvertError::Convert {
-                value: Value::Map(pairs),
-            },
-        ) => assert!(rt; pairs.len() == TEXTS.len() + 1),
-        _ => assert!(rt; false),
+        Ok(_) => assert!(rt; false),
+        Err(error) => assert!(rt; pairs_given_back(&error) == TEXTS.len() + 1),
     }
     Ok(())
 }
