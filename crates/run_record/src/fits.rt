@@ -1,4 +1,4 @@
-ghost use Rattle.std.specs.Prelude.{All, ⊥, ◌<◌, ◌^◌};
+ghost use Rattle.std.specs.Prelude.{All, ◌<◌, ◌^◌};
 ghost use Rattle.std.specs.Bool.{MatchBool};
 ghost use Rattle.text_laws.specs.Fits.{AreBytes, FitsCommands, FitsSubmission, FitsKind, FitsEvent};
 ghost use Rattle.text_laws.specs.Fits.{FitsConfig, FitsHistory, HasForm, HaveForms};
@@ -80,7 +80,8 @@ fn config_fits(config: &Config)
 /// Does nothing. Its contract: so is a word of draws.
 fn word_fits(word: u64)
     ensures { word < 2 ^ 64 }
-{}
+{
+}
 
 /// Does nothing. Its contract: so are events.
 fn events_fit(events: &[Event])
@@ -105,7 +106,7 @@ fn has_form(kind: &EventKind) -> bool
     ensures { MatchBool result (HasForm kind.now) (HasForm kind.now → ⊥) }
 {
     match kind {
-        EventKind::Submit { submission } => !submission.has_no_form(),
+        EventKind::Submit { submission } => !submission.is_formless(),
         EventKind::Cancel { submission: _ } => true,
         EventKind::Connected { link: _ } => true,
         EventKind::Refused { link: _, fault: _ } => true,
