@@ -44,6 +44,7 @@ timeout none                             or within any time
 shutdown                                 everything is closed
 end                                      the last line
 
+A line may begin with @ and a number: the word that its random draws come from.
 What the URL has of a user, a password, a database and a protocol is said to the server first, and which library speaks, unless lib=off stands there.
 The time of the connect is 1000 ms, or what connect=MS or connect=none says in the first line.
 The time of a request is 500 ms, or what response=MS or response=none says there; limit=COUNT sets how many permits there are.
