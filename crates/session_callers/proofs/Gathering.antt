@@ -20,7 +20,7 @@ use Rattle.session_callers.proofs.Whole.{closes}
 use Rattle.std.proofs.lemmas.Bool.Decides.{nat_tests}
 use Rattle.std.proofs.Common.{Bool, true, false, true≢false}
 use Rattle.std.specs.Prelude.{nat_le, nat_lt, ◌||◌}
-use Rattle.session_callers.specs.Closes.{are_above, knows_more, do_know_more}
+use Rattle.session_callers.specs.Closes.{are_above, knows_more, do_know_more, IsShared}
 
 each_left : {A : Type 0} (P : A → Type 0) (xs ys : List A) → Each P (xs ++ ys) → Each P xs
 each_left P [] ys h = tt
@@ -37,6 +37,7 @@ gathers_one z m c of idle single ended = record {
   made_ended = subst (Each (λ (e : Ended). e.made ≤ m)) (sym ended) tt;
   begins = λ log fronts seen. (seen, tt);
   mine = λ p. let e : total (λ (e : Ended). times p e.mine) c.view.ended ≡ 0 = ap (total (λ (e : Ended). times p e.mine)) ended in omega arith;
+  config = λ config word each. each.0;
 }
 
 pub gathers_more : (z : TableId) (m : ℕ) (cs : List Known) (v : View) (c : Known) (k : ℕ) → Gathered m cs v → IsOf z m c → c.view.number ≡ k ∷ [] → c.view.ended ≡ [] → Gathered m (c ∷ cs) (joined v c.view)
@@ -55,6 +56,7 @@ gathers_more z m cs v c k g of one ended =
       begins = λ log fronts seen. (fronts.1.0, g.begins log (each_left (λ (x : List Event). IsPrefix x log) v.fronts w.fronts fronts.1.1) fronts.0);
       mine = λ p. let a = g.mine p in let b : total (λ (e : Ended). times p e.mine) (joined v w).ended ≡ total (λ (e : Ended). times p e.mine) v.ended + times p w.mine
           = ap (λ l. total (λ (e : Ended). times p e.mine) (v.ended ++ l)) added ∙ total_append (λ (e : Ended). times p e.mine) v.ended (new ∷ []) ∙ omega arith in omega arith;
+      config = λ config word each. g.config config word each.1;
     }
 
 pub each_split : {A : Type 0} (P : A → Type 0) (xs : List A) (x : A) → Each P (xs ++ x ∷ []) → Each P xs × P x
@@ -73,15 +75,19 @@ some_home : {A : Type 0} (x y : A) → Some x ≡ Some y → x ≡ y
 some_home x y e = ap (λ o. get_home x o) e
 
 pub closed : (m : ℕ) (cs : List Known) (v : View) → Gathered m cs v → 1 ≤ m → m ≤ length cs → (id : ℕ) (ws : List ℕ) (xs : List (Option Home)) (h : Home) → Final (Seen Ruled id v) ws xs → get_elem? xs 0 ≡ some (Some h)
-    → Each (λ (c : Known). IsPrefix c.view.seen h.session.events) cs × ((p : ℕ) → total (λ (c : Known). times p c.view.mine) cs ≡ below p (length h.session.events))
+    → Each (λ (c : Known). IsPrefix c.view.seen h.session.events) cs × ((p : ℕ) → total (λ (c : Known). times p c.view.mine) cs ≡ below p (length h.session.events)) × IsShared cs h.session.config h.session.word
 closed m cs v g some_caller enough id ws xs h final taken =
     let s = final.0 in
     let seen = final.1 in
     let all : m ≤ callers v = let a = g.count in omega arith in
     let end = closes s seen.0 id v seen.1 g.idle m all (each_append (λ (n : ℕ). n < m) v.number (map (λ (e : Ended). e.number) v.ended) g.low (each_map m v.ended g.low_ended)) some_caller g.made g.made_ended in
     let same_home : end.0 ≡ h = some_home end.0 h (some-injective (Some end.0) (Some h) (sym (final.4 0 (Some end.0) (ap (λ l. get_elem? l 0) end.1)) ∙ taken)) in
-    subst (λ (h : Home). Each (λ (c : Known). IsPrefix c.view.seen h.session.events) cs × ((p : ℕ) → total (λ (c : Known). times p c.view.mine) cs ≡ below p (length h.session.events))) same_home
-    (g.begins end.0.session.events end.3 end.2, (λ p. sym (g.mine p) ∙ end.4 p))
+    let own = end.5 (omega (arith, g.single)) in
+    subst (λ (h : Home). Each (λ (c : Known). IsPrefix c.view.seen h.session.events) cs × ((p : ℕ) → total (λ (c : Known). times p c.view.mine) cs ≡ below p (length h.session.events)) × IsShared cs h.session.config h.session.word) same_home (
+      g.begins end.0.session.events end.3 end.2,
+      (λ p. sym (g.mine p) ∙ end.4 p),
+      (λ config word each. let of = g.config config word each in (own.0 ∙ of.0, own.1 ∙ of.1)),
+    )
 
 -- where all callers were taken in, the session is at home
 pub not_away : (m : ℕ) (cs : List Known) (v : View) → Gathered m cs v → 1 ≤ m → m ≤ length cs → (id : ℕ) (ws : List ℕ) (xs : List (Option Home)) → Final (Seen Ruled id v) ws xs → get_elem? xs 0 ≡ some None → ⊥

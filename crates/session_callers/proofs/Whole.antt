@@ -179,6 +179,7 @@ module _ (s : State (Option Home) View) (r : Ruled s) (id : ℕ) (v : View) (at 
           let i = other_has_none j u apart e n (omega arith) in absurd (omega arith)
 
   pub closes : (h : Home) × (s.homes ≡ some (Some h) ∷ []) × IsPrefix v.seen h.session.events × Each (λ (x : List Event). IsPrefix x h.session.events) v.fronts × ((p : ℕ) → owns p v ≡ below p (length h.session.events))
+      × (1 ≤ length v.number → (h.session.config ≡ v.config) × (h.session.word ≡ v.word))
   closes = ⊎_elim
       (λ p. let events : h_events p.0 ≡ r.now.log = ap (λ s. s.events) p.2 in (
         p.0,
@@ -186,6 +187,7 @@ module _ (s : State (Option Home) View) (r : Ruled s) (id : ℕ) (v : View) (at 
         subst (IsPrefix v.seen) (sym events) (r.each id v at).seen,
         subst (λ l. Each (λ (x : List Event). IsPrefix x l) v.fronts) (sym events) (r.each id v at).fronts,
         (λ q. sym (total_only (owns q) s.views id v at (owns_none q)) ∙ r.counted.positions q ∙ ap (λ l. below q (length l)) (sym events)),
+        (λ one. let of = (r.each id v at).config one in (ap (λ s. s.config) p.2 ∙ sym of.0, ap (λ s. s.word) p.2 ∙ sym of.1)),
       ))
       (λ p. let a = total_none (λ (v : View). out v.stage) s.views none_out in let b = p.1 in absurd (omega arith))
       r.place

@@ -1,5 +1,6 @@
 -- What the calls say of a seat.
 use Rattle.std.specs.Prelude.{◌≡◌, ℕ, ◌+◌, ◌-◌, ◌^◌, ◌<◌, ◌≤◌, List, [], ◌∷◌, ◌++◌, Option, Some, length, false}
+use Rattle.driver_model.specs.declared.config.Config.{Config}
 use Rattle.driver_model.specs.declared.event.Event.{Event}
 use Rattle.driver_model.specs.declared.event.EventKind.TheVariants.{Submit}
 use Rattle.driver_model.specs.declared.event.Submission.{Submission}
@@ -125,3 +126,4 @@ pub record Gathered (m : ℕ) (cs : List Known) (w : View) : Type 0 where
   pub made_ended : Each (λ (e : Ended). e.made ≤ m) w.ended
   pub begins : (log : List Event) → Each (λ (x : List Event). IsPrefix x log) w.fronts → IsPrefix w.seen log → Each (λ (c : Known). IsPrefix c.view.seen log) cs
   pub mine : (p : ℕ) → owns p w ≡ total (λ (c : Known). times p c.view.mine) cs
+  pub config : (config : Config) (word : ℕ) → Each (λ (c : Known). (c.view.config ≡ config) × (c.view.word ≡ word)) cs → (w.config ≡ config) × (w.word ≡ word)

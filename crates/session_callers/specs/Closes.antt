@@ -1,6 +1,8 @@
 -- Whether all callers were handed in.
 use Rattle.std.specs.Prelude.{◌≡◌, ◌⊎◌, ℕ, nat_le, nat_lt, Bool, true, false, ◌||◌, List, [], ◌∷◌, length}
+use Rattle.driver_model.specs.declared.config.Config.{Config}
 use Rattle.session_callers.specs.Calls.{Known}
+use Rattle.session_callers.specs.Rule.{Each}
 use Rattle.session_callers.specs.declared.session.SharedSession.{SharedSession}
 use Rattle.session_callers.specs.declared.closing.CloseError.{CloseError}
 use Rattle.session_callers.specs.declared.closing.CloseError.TheVariants.{Missing}
@@ -25,3 +27,11 @@ AreFewer cs = (length cs ≡ 0) ⊎ (do_know_more (length cs) cs ≡ true)
 -- all are handed back, since some are missing
 abbrev pub IsMissing : CloseError → SharedSession → List Known → Type 0
 IsMissing (Missing shared callers) was cs = (shared ≡ was) × (callers.items ≡ cs) × AreFewer cs
+
+-- the callers share a session of this configuration and word
+abbrev pub AreOf : Config → ℕ → List Known → Type 0
+AreOf config word cs = Each (λ (c : Known). (c.view.config ≡ config) × (c.view.word ≡ word)) cs
+
+-- where callers share a session of some configuration and word, these are they
+abbrev pub IsShared : List Known → Config → ℕ → Type 0
+IsShared cs its_config its_word = (config : Config) (word : ℕ) → AreOf config word cs → (its_config ≡ config) × (its_word ≡ word)

@@ -2,7 +2,7 @@ ghost use Rattle.std.specs.Prelude.{◌≡◌, ℕ, ◌≤◌, IfOk, IfErr, OnOk
 ghost use mathlib.Core.List.{IsPrefix};
 ghost use Rattle.session_callers.specs.Rule.{Each, total, times, below};
 ghost use Rattle.session_callers.specs.Calls.{IsOf};
-ghost use Rattle.session_callers.specs.Closes.{knows_more, do_know_more, IsMissing};
+ghost use Rattle.session_callers.specs.Closes.{knows_more, do_know_more, IsMissing, IsShared};
 
 use crate::board::Home;
 use crate::caller::Caller;
@@ -50,6 +50,7 @@ impl SharedSession {
         ensures mine { (p : ℕ) →
             total (λ caller. times p caller.view.mine) callers.items
             ≡ below p (length result.events) }
+        ensures shared { IsShared callers.items result.config result.word }
     {
         let Some(last) = callers.pop() else {
             unreachable!()
@@ -82,7 +83,8 @@ impl SharedSession {
     }
 
     /// Ends the sharing, and answers the session. Its history begins with what each of the callers had seen, and each
-    /// place of it is one caller's own. `Missing` comes exactly where fewer callers were handed in than were made.
+    /// place of it is one caller's own. It has the configuration and the word that they know. `Missing` comes exactly where
+    /// fewer callers were handed in than were made.
     pub fn close(self, callers: Vec<Caller>) -> Result<Session, CloseError>
         requires { Each (λ caller. caller.table ≡ self.table.shared.table_id) callers.items }
         ensures begins { IfOk result (λ session.
@@ -91,6 +93,9 @@ impl SharedSession {
         ensures mine { IfOk result (λ session.
             (p : ℕ) → total (λ caller. times p caller.view.mine) callers.items
             ≡ below p (length session.events)
+            ) }
+        ensures shared { IfOk result (λ session.
+            IsShared callers.items session.config session.word
             ) }
         ensures all { OnOk result (
             do_know_more (length callers.items) callers.items ≡ false

@@ -5,13 +5,14 @@ use Rattle.outside.specs.Ends.{Gained, GainedPart}
 use Rattle.script_text.specs.Script.{script_of}
 use Rattle.session_tool.specs.declared.command.Command.{Command}
 use Rattle.session_tool.specs.declared.command.Command.TheVariants.{Replay, Help, Version, Unknown}
-use Rattle.session_tool.specs.declared.status.Status.{Status}
-use Rattle.session_tool.specs.declared.status.Status.TheVariants as status
+use Rattle.program_ends.specs.declared.status.Status.{Status}
+use Rattle.program_ends.specs.declared.status.Status.TheVariants as status
 use Rattle.session_tool.specs.Does.{Does, EndsWell, EndsRefused}
 use Rattle.session_tool.specs.Headline.{Headline}
-use Rattle.session_tool.specs.Lines.{read_fault_line, usage_line, help_text, version_line}
+use Rattle.program_ends.specs.Lines.{read_fault_line, usage_line}
+use Rattle.session_tool.specs.Lines.{help_text, version_line}
 use Rattle.session_tool.specs.Runs.{IsReplay, IsRefusal, IsConfigRun, IsBadRun, IsSpentRun, IsWholeRun, IsCutRun}
-use Rattle.session_tool.specs.Sides.{Side, Fails, IfTold}
+use Rattle.program_ends.specs.Sides.{Side, Fails, IfTold}
 use Rattle.session_tool.proofs.Sound.{not_bad, not_spent, not_fault, not_unsound, not_sound, no_fault_in}
 
 -- what a replay comes to, status by status

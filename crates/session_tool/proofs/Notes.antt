@@ -5,10 +5,10 @@ use Rattle.redis_error.specs.declared.config_name.ConfigName.{ConfigName}
 use Rattle.driver_model.specs.Config.{first_fault}
 use Rattle.script_text.specs.Script.{script_of}
 use Rattle.script_text.specs.declared.script.Script.{Script}
-use Rattle.session_tool.specs.declared.status.Status.TheVariants as status
+use Rattle.program_ends.specs.declared.status.Status.TheVariants as status
 use Rattle.session_tool.specs.Notes.{IsOwn, IsLineNote, IsBadNoteOf, IsCountNote, open_count, open_note, config_words, line_note}
 use Rattle.session_tool.specs.Reading.{Decides}
-use Rattle.session_tool.specs.Sides.{Side}
+use Rattle.program_ends.specs.Sides.{Side}
 
 -- the note of what is open
 pub own_done : (source : Side) (left : Option (List ℕ)) (kept : List ℕ) (script : Script) (count : Option ℕ) (own : List ℕ) → Decides source.bytes left kept → script_of kept ≡ Ok script

@@ -9,11 +9,11 @@ use Rattle.shared_session.specs.Replay.{trace_of, AreGood, AreUnspent, IsSound}
 use Rattle.text_laws.specs.Fits.{AreBytes}
 use Rattle.trace_text.specs.Show.{show}
 use Rattle.session_tool.specs.declared.command.Command.TheVariants.{Replay}
-use Rattle.session_tool.specs.declared.status.Status.TheVariants as status
+use Rattle.program_ends.specs.declared.status.Status.TheVariants as status
 use Rattle.session_tool.specs.Does.{Does}
-use Rattle.session_tool.specs.Lines.{numbered_line, read_fault_line}
+use Rattle.program_ends.specs.Lines.{numbered_line, read_fault_line}
 use Rattle.session_tool.specs.Reading.{Decides}
-use Rattle.session_tool.specs.Sides.{Side, Fails, side}
+use Rattle.program_ends.specs.Sides.{Side, Fails, side}
 use Rattle.session_tool.specs.Stops.{IsToldRefused, IsToldBad, IsToldSpent}
 use Rattle.session_tool.proofs.Does.{replay_does}
 use Rattle.session_tool.proofs.Headlines.{headline, legal_up_to}

@@ -17,62 +17,16 @@ use Rattle.shared_session.specs.Turn.{actions_of}
 use Rattle.shared_session.specs.Stops.{IsSpentAt, IsSpentBy}
 use Rattle.shared_session.proofs.Replays.{Kept, kept_none, kept_more, taken_count, spent_stops, trace_of-none, trace_of-more}
 use Rattle.trace_text.specs.Show.{action_line, show}
-use Rattle.session_tool.specs.Streaming.{Sent}
+use Rattle.program_ends.specs.Streaming.{Sent}
+use Rattle.program_ends.proofs.Sent.{gained_more, gained_none, sent_none, sent_all, sent_more, sent_end, sent_end_more, sent_part}
 use Rattle.session_tool.specs.declared.replaying.Stop.{Stop}
 use Rattle.session_tool.specs.declared.replaying.Stop.TheVariants as stop
 use Rattle.session_tool.specs.Stops.{AreTaken, AreTurns, IsFirstBad, IsFirstSpent, EndsAt, EndsBadly, EndsSpent, EndsRefused, IsToldRefused, IsNotOpened, ToldAt, SentTurns, GainedTurns, GainedFront, Ends, Told, IsReplayText, EndsWith, turns_before, event_line, stop_line}
-use Rattle.session_tool.specs.Lines.{numbered_line, config_line}
+use Rattle.program_ends.specs.Lines.{numbered_line, config_line}
 
 -- the text of two lists of actions
 pub show-append : (xs ys : List Action) → show (xs ++ ys) ≡ show xs ++ show ys
 show-append xs ys = flat_map-append action_line xs ys
-
--- a sink that gained one text and then another
-gained_more : {old mid new : Option (List ℕ)} (first second : List ℕ) → Gained old mid first → Gained mid new second → Gained old new (first ++ second)
-gained_more {old} {mid} {new} first second one two = record {
-  held = λ held told. two.held (held ++ first) (one.held held told) ∙ ap (λ (xs : List ℕ). Some xs) (append_assoc held first second);
-}
-
--- and one that gained nothing
-pub gained_none : {held : Option (List ℕ)} → Gained held held []
-gained_none {held} = record { held = λ bytes told. told ∙ ap (λ (xs : List ℕ). Some xs) (sym (append-nil bytes)) }
-
--- nothing is written yet
-pub sent_none : {held : Option (List ℕ)} (rest text : List ℕ) → rest ≡ text → Sent held held rest text
-sent_none {held} rest text is = record { front = []; gained = gained_none; whole = is }
-
--- all is written
-pub sent_all : {old new : Option (List ℕ)} (rest text : List ℕ) → rest ≡ [] → Gained old new text → Sent old new rest text
-sent_all {old} {new} rest text none gained = record { front = text; gained = gained; whole = ap (λ (xs : List ℕ). text ++ xs) none ∙ append-nil text }
-
--- more text, of which some is written
-pub sent_more : {old mid new : Option (List ℕ)} (before between after text more : List ℕ) → Sent old mid before text → between ≡ before ++ more → Sent mid new after between → Sent old new after (text ++ more)
-sent_more {old} {mid} {new} before between after text more one grown two = record {
-  front = one.front ++ two.front;
-  gained = gained_more one.front two.front one.gained two.gained;
-  whole = append_assoc one.front two.front after ∙ ap (λ (xs : List ℕ). one.front ++ xs) (two.whole ∙ grown) ∙ sym (append_assoc one.front before more)
-      ∙ ap (λ (xs : List ℕ). xs ++ more) one.whole;
-}
-
--- the rest is written too, and more
-pub sent_end_more : {old mid new : Option (List ℕ)} (rest text more : List ℕ) → Sent old mid rest text → Gained mid new (rest ++ more) → Gained old new (text ++ more)
-sent_end_more {old} {mid} {new} rest text more one last =
-    subst (λ (xs : List ℕ). Gained old new xs) (sym (append_assoc one.front rest more) ∙ ap (λ (xs : List ℕ). xs ++ more) one.whole) (gained_more one.front (rest ++ more) one.gained last)
-
--- the rest is written too
-pub sent_end : {old mid new : Option (List ℕ)} (rest text : List ℕ) → Sent old mid rest text → Gained mid new rest → Gained old new text
-sent_end {old} {mid} {new} rest text one last = subst (λ (xs : List ℕ). Gained old new xs) one.whole (gained_more one.front rest one.gained last)
-
--- the front of the rest is written, and more
-pub sent_part : {old mid new : Option (List ℕ)} (rest text more : List ℕ) → Sent old mid rest text → GainedPart mid new (rest ++ more) → GainedPart old new (text ++ more)
-sent_part {old} {mid} {new} rest text more one last =
-    let whole : one.front ++ (rest ++ more) ≡ text ++ more = sym (append_assoc one.front rest more) ∙ ap (λ (xs : List ℕ). xs ++ more) one.whole in
-    record {
-      count = length one.front + last.count;
-      within = omega (arith, last.within, length-append one.front (rest ++ more), ap length whole);
-      gained = subst (λ (xs : List ℕ). Gained old new xs) (sym (take-append-add one.front (rest ++ more) last.count) ∙ ap (λ (xs : List ℕ). take (length one.front + last.count) xs) whole)
-          (gained_more one.front (take last.count (rest ++ more)) one.gained last.gained);
-    }
 
 -- what a replay into a sink keeps from event to event: the session has taken these events, and the sink and the rest have their trace
 pub record Streams (config : Config) (word : ℕ) (taken : List Event) (s : History) (old new : Option (List ℕ)) (rest : List ℕ) : Type 0 where

@@ -3,12 +3,13 @@ use Rattle.std.specs.Prelude.{◌≡◌, ◌⊎◌, ℕ, List}
 use Rattle.outside.specs.Ends.{Gained, GainedPart}
 use Rattle.session_tool.specs.declared.command.Command.{Command}
 use Rattle.session_tool.specs.declared.command.Command.TheVariants.{Replay, Help, Version, Unknown}
-use Rattle.session_tool.specs.declared.status.Status.{Status}
-use Rattle.session_tool.specs.declared.status.Status.TheVariants as status
+use Rattle.program_ends.specs.declared.status.Status.{Status}
+use Rattle.program_ends.specs.declared.status.Status.TheVariants as status
 use Rattle.session_tool.specs.Headline.{Headline}
-use Rattle.session_tool.specs.Lines.{read_fault_line, usage_line, help_text, version_line}
+use Rattle.program_ends.specs.Lines.{read_fault_line, usage_line}
+use Rattle.session_tool.specs.Lines.{help_text, version_line}
 use Rattle.session_tool.specs.Runs.{IsReplay, IsRefusal, IsConfigRun, IsBadRun, IsSpentRun, IsWholeRun, IsCutRun, HasRefusedConfig, IsSoundScript}
-use Rattle.session_tool.specs.Sides.{Side, Fails, IfTold}
+use Rattle.program_ends.specs.Sides.{Side, Fails, IfTold}
 
 -- the sink gained the front of what the command writes; of a replay this is said where the source tells its bytes
 abbrev pub IsCut : Command → Side → Side → Side → Side → Type 0
@@ -28,12 +29,6 @@ EndsWell bytes s source source' sink sink' =
 abbrev pub EndsRefused : List ℕ → Status → Side → Side → Side → Side → Type 0
 EndsRefused bytes s source source' sink sink' =
     HasRefusedConfig bytes → (Fails source source' → ⊥) → (Fails sink sink' → ⊥) → (s ≡ status.Config) ⊎ (s ≡ status.NoMemory)
-
--- a line was written, with which a command ends with its status; or its front, and the sink failed
-abbrev pub Prints : Status → List ℕ → Status → Side → Side → Type 0
-Prints its line s sink sink' =
-    ((s ≡ its) × Gained sink.bytes sink'.bytes line)
-    ⊎ ((s ≡ status.WriteFault) × GainedPart sink.bytes sink'.bytes line × Fails sink sink')
 
 -- What a command does that ends with this status, from its source and its sink as they were to what they come to.
 pub record Does (command : Command) (s : Status) (source source' sink sink' : Side) : Type 0 where

@@ -5,8 +5,5 @@ pub mod Offers
 pub mod Reading
 pub mod Runs
 pub mod Stops
-pub mod Streaming
 pub mod Words
 pub mod Does
-pub mod Sides
-pub mod Status

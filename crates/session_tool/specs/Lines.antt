@@ -1,35 +1,20 @@
--- The last lines of a run.
-use Rattle.std.specs.Prelude.{ℕ, List, [], ◌∷◌, ◌++◌, decimal, codes}
-use Rattle.redis_error.specs.Names.{config_name}
-use Rattle.redis_error.specs.declared.config_name.ConfigName.{ConfigName}
-
--- words, a space and a number as a line
-unfoldable pub numbered_line : List ℕ → ℕ → List ℕ
-numbered_line words number = words ++ 32 ∷ decimal number ++ 10 ∷ []
-
--- the line where a configuration is refused, for what it says of this name
-unfoldable pub config_line : ConfigName → List ℕ
-config_line name = codes "config " ++ config_name name ++ 10 ∷ []
-
--- the line where the words are no command
-abbrev pub usage_line : List ℕ
-usage_line = codes "usage: session_tool replay or gen N or live CONFIG" ++ 10 ∷ []
+-- What the program says of itself.
+use Rattle.std.specs.Prelude.{ℕ, List, [], ◌∷◌, ◌++◌, codes}
 
 -- the program's name and version as a line
 abbrev pub version_line : List ℕ
 version_line = codes "session_tool 0.1.0" ++ 10 ∷ []
 
--- the line where the source failed
-abbrev pub read_fault_line : List ℕ
-read_fault_line = codes "read fault" ++ 10 ∷ []
-
 -- what the program says of itself: its words, and each line of a script with an example
 unfoldable pub help_text : List ℕ
 help_text =
     codes "session_tool replay     reads a script from standard input, and writes the trace of its session\n"
+    ++ codes "session_tool live WORDS hands the lines of standard input to a server, and writes the outcome of each\n"
     ++ codes "session_tool --help     this text\n"
     ++ codes "session_tool --version  the version\n"
-    ++ codes "gen N and live CONFIG are not in this version: they answer 1\n"
+    ++ codes "gen N is not in this version: it answers 1\n"
+    ++ codes "\n"
+    ++ codes "The WORDS of live are callers=K, K from 1 to 8, or nothing, and then those behind `config` in a script; each line is a line `submit ..`, and the last one `end`.\n"
     ++ codes "\n"
     ++ codes "A script, each line an example:\n"
     ++ codes "config single url=redis://HOST:PORT\n"

@@ -17,10 +17,10 @@ use Rattle.script_text.specs.declared.script.Script.{Script}
 use Rattle.shared_session.specs.Replay.{trace_of, outcomes_in, outcome_at}
 use Rattle.session_tool.specs.declared.bad.BadReason.{BadReason}
 use Rattle.session_tool.specs.declared.bad.BadReason.TheVariants.{NoName, NoSubmission, NoLink, NoTimer, OnlyOffered}
-use Rattle.session_tool.specs.declared.status.Status.{Status}
-use Rattle.session_tool.specs.declared.status.Status.TheVariants as status
+use Rattle.program_ends.specs.declared.status.Status.{Status}
+use Rattle.program_ends.specs.declared.status.Status.TheVariants as status
 use Rattle.session_tool.specs.Runs.{HasRefusedConfig}
-use Rattle.session_tool.specs.Sides.{Side, Fails, IfTold}
+use Rattle.program_ends.specs.Sides.{Side, Fails, IfTold}
 use Rattle.session_tool.specs.Stops.{IsFirstBad}
 
 -- of a line of the script: its number, and why
@@ -158,7 +158,7 @@ pub record IsOpenNote (bytes text : List ℕ) : Type 0 where
 -- what is said of a status whatever the script is; of 0, 2, 3 and 4 nothing
 abbrev pub fixed_note : Status → List ℕ
 fixed_note status.Done = []
-fixed_note status.Usage = codes "this version has the words replay, --help and --version: gen and live are not in it" ++ codes "\n"
+fixed_note status.Usage = codes "this version has the words replay, live, --help and --version: gen is not in it" ++ codes "\n"
 fixed_note status.Script = []
 fixed_note status.Config = []
 fixed_note status.BadEvent = []
@@ -196,3 +196,15 @@ pub record Notes (s : Status) (source notes notes' : Side) : Type 0 where
   pub text : List ℕ
   pub note : IsNote s source text
   pub written : IsWritten text notes notes'
+
+-- what is said on the side of a live run, by its status
+abbrev pub live_note : Status → List ℕ
+live_note status.Done = []
+live_note status.Usage = codes "live is followed by callers=K, K from 1 to 8, or nothing, and then by single url=redis://HOST:PORT and its settings" ++ codes "\n"
+live_note status.Script = codes "each line is a line `submit ..` of a script, and the last one is `end`: nothing was dialled" ++ codes "\n"
+live_note status.Config = codes "what standard output names is refused of the configuration: nothing was dialled" ++ codes "\n"
+live_note status.BadEvent = []
+live_note status.NoMemory = codes "memory was refused: standard output has a front of the outcomes" ++ codes "\n"
+live_note status.ReadFault = codes "standard input could not be read to its end" ++ codes "\n"
+live_note status.WriteFault = codes "standard output took no more: what it has is a front of the output" ++ codes "\n"
+live_note status.Spent = codes "a number of 32 bits has run out: hand in fewer lines" ++ codes "\n"

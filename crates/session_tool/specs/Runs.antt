@@ -7,9 +7,9 @@ use Rattle.driver_model.specs.Config.{first_fault}
 use Rattle.shared_session.specs.Replay.{trace_of, AreGood, AreUnspent, IsSound}
 use Rattle.trace_text.specs.Show.{show}
 use Rattle.outside.specs.Ends.{Gained, GainedPart}
-use Rattle.session_tool.specs.Lines.{numbered_line, config_line, read_fault_line}
+use Rattle.program_ends.specs.Lines.{numbered_line, config_line, read_fault_line}
 use Rattle.session_tool.specs.Headline.{IsLegalUpTo}
-use Rattle.session_tool.specs.Sides.{Side, Fails}
+use Rattle.program_ends.specs.Sides.{Side, Fails}
 use Rattle.session_tool.specs.Stops.{IsToldBad, IsToldSpent, AreTurns, IsReplayText}
 
 -- the bytes are a script of which nothing is refused, without a bad event or a spent step, they were read to their end, and

@@ -10,8 +10,8 @@ use Rattle.trace_text.specs.Show.{show}
 use Rattle.outside.specs.Ends.{Gained, GainedPart}
 use Rattle.session_tool.specs.declared.replaying.Stop.{Stop}
 use Rattle.session_tool.specs.declared.replaying.Stop.TheVariants as stop
-use Rattle.session_tool.specs.Lines.{numbered_line, config_line}
-use Rattle.session_tool.specs.Streaming.{Sent}
+use Rattle.program_ends.specs.Lines.{numbered_line, config_line}
+use Rattle.program_ends.specs.Streaming.{Sent}
 
 -- nothing of the configuration is refused, no event before this index is bad, and none of their steps is spent
 pub record AreTaken (config : Config) (word : ℕ) (events : List Event) (index : ℕ) : Type 0 where

@@ -1,5 +1,6 @@
 -- What the words after the program's name ask for.
-use Rattle.std.specs.Prelude.{ℕ, List, [], ◌∷◌, String, string_bytes, bytes_eq, codes, if◌then◌else◌}
+use Rattle.std.specs.Prelude.{ℕ, Bool, false, List, [], ◌∷◌, String, string_bytes, bytes_eq, codes, if◌then◌else◌}
+use Rattle.script_text.specs.Lines.{texts}
 use Rattle.session_tool.specs.declared.command.Command.{Command}
 use Rattle.session_tool.specs.declared.command.Command.TheVariants.{Replay, Help, Version, Unknown}
 
@@ -11,3 +12,13 @@ word_command word = if bytes_eq word (codes "replay") then Replay else (if bytes
 abbrev pub command_of : {A : Type 0} → List (String A) → Command
 command_of (word ∷ []) = word_command (string_bytes word)
 command_of _ = Unknown
+
+-- the first word is `live`
+abbrev pub is_live : {A : Type 0} → List (String A) → Bool
+is_live [] = false
+is_live (word ∷ rest) = bytes_eq (string_bytes word) (codes "live")
+
+-- the words behind the first
+abbrev pub words_behind : {A : Type 0} → List (String A) → List (List ℕ)
+words_behind [] = []
+words_behind (word ∷ rest) = texts rest

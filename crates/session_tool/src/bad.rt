@@ -9,10 +9,11 @@ ghost use Rattle.session_tool.specs.Notes.{IsBadNoteOf, bad_event_words, bad_wor
 ghost use Rattle.session_tool.specs.Notes.{line_note};
 ghost use Rattle.session_tool.specs.Offers.{IsOfferOf};
 
-use crate::lines::{push_number, reason_line};
+use crate::lines::reason_line;
 use crate::offer::Offer;
 use containers::Bytes;
 use driver_model::{Config, Event, EventKind};
+use program_ends::push_number;
 use script_text::Script;
 use shared_session::{Session, StepError};
 use std::alloc::{AllocError, Global};

@@ -3,10 +3,10 @@ ghost use Rattle.std.specs.Prelude.{Some};
 
 use super::rows::ANSWERED;
 use super::running::run_alone;
-use super::status::Status;
 use super::tests::{numbers, strings};
 use containers::Bytes;
 use outside::{Got, MemSink, MemSource, Put, Sink, Source, SureSink};
+use program_ends::Status;
 use std::alloc::{AllocError, Global};
 use std::process::ExitCode;
 use std::test::Fail;

@@ -2,9 +2,9 @@ ghost use Rattle.std.specs.Prelude.{◌≡◌, ◌⊎◌, [], IfOk, IfSome, OnOk
 ghost use Rattle.shared_session.specs.Replay.{trace_of, outcomes_in};
 ghost use Rattle.session_tool.specs.Notes.{kept_by, kept_each, open_from, open_note, IsCountNote};
 
-use crate::lines::push_number;
 use containers::{Bytes, Seq};
 use driver_model::{Event, EventKind};
+use program_ends::push_number;
 use shared_session::Session;
 use std::alloc::{AllocError, Global};
 

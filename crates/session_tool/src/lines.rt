@@ -1,21 +1,20 @@
-ghost use Rattle.std.specs.Prelude.{◌≡◌, ◌++◌, decimal, OnOk, OnErr, IfOk};
-ghost use Rattle.session_tool.specs.Lines.{config_line, help_text, numbered_line};
+ghost use Rattle.std.specs.Prelude.{◌≡◌, IfOk};
+ghost use Rattle.session_tool.specs.Lines.{help_text};
 ghost use Rattle.session_tool.specs.Notes.{line_note};
 
 use containers::Bytes;
-use itoa::Buffer;
-use redis_error::ConfigName;
+use program_ends::push_number;
 use std::alloc::{AllocError, Global};
-
-/// The line where the words are no command.
-pub const USAGE: &[u8] = b"usage: session_tool replay or gen N or live CONFIG\n";
 
 /// What the program says of itself.
 const HELP: &[u8] =
     b"session_tool replay     reads a script from standard input, and writes the trace of its session
+session_tool live WORDS hands the lines of standard input to a server, and writes the outcome of each
 session_tool --help     this text
 session_tool --version  the version
-gen N and live CONFIG are not in this version: they answer 1
+gen N is not in this version: it answers 1
+
+The WORDS of live are callers=K, K from 1 to 8, or nothing, and then those behind `config` in a script; each line is a line `submit ..`, and the last one `end`.
 
 A script, each line an example:
 config single url=redis://HOST:PORT
@@ -50,36 +49,12 @@ Status: 0 done, 1 no command, 2 no script, 3 refused configuration, 4 bad event,
 /// The program's version.
 pub const VERSION: &[u8] = b"session_tool 0.1.0\n";
 
-/// The line where the source failed.
-pub const READ_FAULT: &[u8] = b"read fault\n";
-
 /// What the program says of itself: its words, and each line of a script with an example.
 #[tactic(auto, unfolding(crate::specs::Lines::help_text))]
 pub fn help_text() -> &'static [u8]
     ensures { result.now ≡ help_text }
 {
     HELP
-}
-
-/// Words, a space and a number as a line.
-#[tactic(auto, unfolding(crate::specs::Lines::numbered_line))]
-fn numbered_line(alloc: Global, words: &[u8], number: u64) -> Result<Bytes, AllocError>
-    ensures { IfOk result (λ line. line ≡ numbered_line words.now number) }
-{
-    let mut digits = Buffer::new();
-    let mut line = Bytes::from_slice(alloc, words)?;
-    line.push(b' ')?;
-    line.extend_from_slice(digits.format(number).as_bytes())?;
-    line.push(b'\n')?;
-    Ok(line)
-}
-
-/// Appends a number.
-pub fn push_number(text: &mut Bytes, number: u64) -> Result<(), AllocError>
-    ensures { OnOk result (text.new ≡ text.old ++ decimal number) }
-{
-    let mut digits = Buffer::new();
-    text.extend_from_slice(digits.format(number).as_bytes())
 }
 
 /// The note of a line of a script: its number, and why.
@@ -92,38 +67,4 @@ pub fn reason_line(alloc: Global, line: u64, why: &[u8]) -> Result<Bytes, AllocE
     note.extend_from_slice(why)?;
     note.extend_from_slice(b"\n")?;
     Ok(note)
-}
-
-/// Appends a line of a word or two, a space and a number. An error leaves the text as it was.
-pub fn push_line(
-    alloc: Global,
-    text: &mut Bytes,
-    words: &[u8],
-    number: u64,
-) -> Result<(), AllocError>
-    ensures ok { OnOk result (text.new ≡ text.old ++ numbered_line words.now number) }
-    ensures err { OnErr result (text.new ≡ text.old) }
-{
-    let line = numbered_line(alloc, words, number)?;
-    text.extend_from_slice(line.as_slice())
-}
-
-/// The line of a configuration that is refused for what it says of this name.
-#[tactic(auto, unfolding(crate::specs::Lines::config_line))]
-fn config_line(alloc: Global, name: ConfigName) -> Result<Bytes, AllocError>
-    ensures { IfOk result (λ line. line ≡ config_line name) }
-{
-    let mut line = Bytes::from_slice(alloc, b"config ")?;
-    line.extend_from_slice(name.name().as_bytes())?;
-    line.push(b'\n')?;
-    Ok(line)
-}
-
-/// Appends that line. An error leaves the text as it was.
-pub fn push_config_line(alloc: Global, text: &mut Bytes, name: ConfigName) -> Result<(), AllocError>
-    ensures ok { OnOk result (text.new ≡ text.old ++ config_line name) }
-    ensures err { OnErr result (text.new ≡ text.old) }
-{
-    let line = config_line(alloc, name)?;
-    text.extend_from_slice(line.as_slice())
 }

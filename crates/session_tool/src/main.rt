@@ -1,4 +1,4 @@
-//! Replays a script of events for one multiplexed connection, and writes the trace.
+//! Replays a script of events for one multiplexed connection, and writes the trace; or makes a live run, and writes the outcomes.
 #![tactic(auto)]
 
 mod bad;
@@ -18,14 +18,13 @@ mod replaying;
 #[cfg(test)]
 mod rows;
 mod running;
-mod status;
 mod streaming;
 #[cfg(test)]
 mod tests;
 
 use crate::running::run;
-use crate::status::Status;
-use outside::{MemWorld, StdSink, WorldScript, standard_input, standard_output};
+use outside::{NetWorld, StdSink, standard_input, standard_output};
+use program_ends::Status;
 use std::alloc::{AllocError, Global};
 use std::env::Args;
 use std::io::ErrorKind;
@@ -59,7 +58,7 @@ fn main(rt: HostRuntime) -> ExitCode {
     let mut source = standard_input(&rt);
     let mut sink = standard_output(&rt);
     let mut notes = StdSink::new(rt.stderr());
-    let mut world = MemWorld::new(alloc, WorldScript::new(alloc));
+    let mut world = NetWorld::new(&rt, alloc);
     let status = run(
         &rt,
         alloc,

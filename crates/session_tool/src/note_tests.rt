@@ -514,7 +514,7 @@ const FAILING: [Failing; 8] = [
         None,
         None,
         1,
-        b"this version has the words replay, --help and --version: gen and live are not in it\n",
+        b"this version has the words replay, live, --help and --version: gen is not in it\n",
     ),
     ("--help", None, None, None, 0, b""),
     ("--version", None, None, None, 0, b""),

@@ -1,19 +1,19 @@
 ghost use Rattle.std.specs.Prelude.{◌≡◌, ◌⊎◌, [], IfOk};
 ghost use Rattle.session_tool.specs.Notes.{IsLineNote, IsNote, IsOwn, IsWritten, config_words};
-ghost use Rattle.session_tool.specs.Notes.{fixed_note, line_note};
-ghost use Rattle.session_tool.specs.Sides.{Side, side};
+ghost use Rattle.session_tool.specs.Notes.{fixed_note, line_note, live_note};
+ghost use Rattle.program_ends.specs.Sides.{Side, side};
 
 use crate::lines::reason_line;
-use crate::status::Status;
 use containers::Bytes;
 use outside::{Sink, write_all};
+use program_ends::Status;
 use redis_error::ConfigName;
 use script_text::explain_line;
 use std::alloc::{AllocError, Global};
 
 /// Where the words are no command.
 const USAGE_NOTE: &[u8] =
-    b"this version has the words replay, --help and --version: gen and live are not in it\n";
+    b"this version has the words replay, live, --help and --version: gen is not in it\n";
 
 /// Where memory was refused.
 const MEMORY_NOTE: &[u8] = b"memory was refused: standard output has whole turns at most\n";
@@ -26,6 +26,24 @@ const WRITE_NOTE: &[u8] = b"standard output took no more: what it has is a front
 
 /// Where a number has run out.
 const SPENT_NOTE: &[u8] = b"a number of 32 bits has run out: split the script\n";
+
+/// Where the words behind `live` are no plan.
+const PLAN_NOTE: &[u8] =
+    b"live is followed by callers=K, K from 1 to 8, or nothing, and then by single url=redis://HOST:PORT and its settings\n";
+
+/// Where a line of a live run is at fault.
+const LINES_NOTE: &[u8] =
+    b"each line is a line `submit ..` of a script, and the last one is `end`: nothing was dialled\n";
+
+/// Where the configuration of a live run is refused.
+const REFUSED_NOTE: &[u8] =
+    b"what standard output names is refused of the configuration: nothing was dialled\n";
+
+/// Where memory was refused to a live run.
+const OUTCOMES_NOTE: &[u8] = b"memory was refused: standard output has a front of the outcomes\n";
+
+/// Where a number has run out in a live run.
+const LIVE_SPENT_NOTE: &[u8] = b"a number of 32 bits has run out: hand in fewer lines\n";
 
 /// Where a URL is no address.
 const URL_WORDS: &[u8] =
@@ -52,6 +70,23 @@ fn fixed_note(status: Status) -> &'static [u8]
         Status::ReadFault => READ_NOTE,
         Status::WriteFault => WRITE_NOTE,
         Status::Spent => SPENT_NOTE,
+    }
+}
+
+/// The sentence of a live run that ends with this status.
+pub fn live_note(status: Status) -> &'static [u8]
+    ensures { result.now ≡ live_note status }
+{
+    match status {
+        Status::Done => b"",
+        Status::Usage => PLAN_NOTE,
+        Status::Script => LINES_NOTE,
+        Status::Config => REFUSED_NOTE,
+        Status::BadEvent => b"",
+        Status::NoMemory => OUTCOMES_NOTE,
+        Status::ReadFault => READ_NOTE,
+        Status::WriteFault => WRITE_NOTE,
+        Status::Spent => LIVE_SPENT_NOTE,
     }
 }
 

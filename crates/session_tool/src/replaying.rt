@@ -7,15 +7,16 @@ ghost use Rattle.shared_session.specs.Turn.{actions_of};
 ghost use Rattle.shared_session.specs.declared.session.Failure.TheVariants.{Sound, Spent};
 ghost use Rattle.shared_session.specs.Stops.{IsSpentBy};
 ghost use Rattle.trace_text.specs.Show.{show};
-ghost use Rattle.session_tool.specs.Streaming.{Sent};
+ghost use Rattle.program_ends.specs.Streaming.{Sent};
 ghost use Rattle.session_tool.specs.Notes.{open_count};
 ghost use Rattle.session_tool.specs.Stops.{Ends, IsNotOpened};
 
 use crate::counting::open_after;
-use crate::streaming::{show_turn, write_large};
+use crate::streaming::show_turn;
 use containers::Bytes;
 use driver_model::{Config, Event};
 use outside::Sink;
+use program_ends::write_large;
 use redis_error::ConfigName;
 use shared_session::{MakeError, Session, StepError};
 use std::alloc::{AllocError, Global};

@@ -3,92 +3,33 @@ ghost use Rattle.std.specs.Prelude.{OnOk, IfOk, IfErr, IfSome, IsErrOf};
 ghost use Rattle.outside.specs.Ends.{Rose, Gained, GainedPart};
 ghost use Rattle.shared_session.specs.Replay.{trace_of, AreGood, AreUnspent, IsSound};
 ghost use Rattle.trace_text.specs.Show.{show};
-ghost use Rattle.session_tool.specs.Does.{Does, Prints};
-ghost use Rattle.session_tool.specs.Lines.{numbered_line};
-ghost use Rattle.session_tool.specs.Notes.{IsOwn, Notes, open_count};
-ghost use Rattle.session_tool.specs.Sides.{side};
+ghost use Rattle.session_tool.specs.Does.{Does};
+ghost use Rattle.program_ends.specs.Lines.{usage_line};
+ghost use Rattle.session_tool.specs.Notes.{IsOwn, IsWritten, Notes, live_note, open_count};
+ghost use Rattle.program_ends.specs.Sides.{side};
 ghost use Rattle.session_tool.specs.Stops.{Told, stop_line};
-ghost use Rattle.session_tool.specs.Words.{command_of};
+ghost use Rattle.live_lines.specs.Does.{DoesLive};
+ghost use Rattle.script_text.specs.Lines.{texts};
+ghost use Rattle.session_tool.specs.Words.{command_of, is_live, words_behind};
 
 use crate::bad::bad_note;
 use crate::command::{Command, command_of};
 use crate::counting::done_note;
-use crate::lines::{READ_FAULT, USAGE, VERSION, help_text, push_config_line, push_line};
-use crate::noting::{config_note, note_of, script_note, write_note};
+use crate::lines::{VERSION, help_text};
+use crate::noting::{config_note, live_note, note_of, script_note, write_note};
 use crate::reading::{ReadError, read_text};
 use crate::replaying::{Stop, replay_into};
-use crate::status::Status;
 use containers::Bytes;
-use outside::{Sink, Source, World, write_all};
+use live_lines::live;
+use outside::{Sink, Source, World};
+use program_ends::{
+    PutError, READ_FAULT, Status, USAGE, print, push_config_line, push_line, put, refuse_script,
+};
 use script_text::{Script, ScriptError, read_script};
 use std::alloc::{AllocError, Global};
 use std::sync::Wait;
 use std::thread::Threads;
 use text_laws::a_slice_has_bytes;
-
-/// Why a line was not written.
-#[derive(Clone, Copy, Debug, PartialEq, Eq)]
-enum PutError {
-    NoMemory,
-    /// The sink failed.
-    WriteFault,
-}
-
-impl From<AllocError> for PutError {
-    ghost use Rattle.std.specs.Prelude.{◌≡◌};
-    ghost use Rattle.session_tool.specs.declared.running.PutError.TheVariants.{NoMemory};
-
-    ghost from_gives = { λ _ e. e ≡ NoMemory };
-
-    fn from(_error: AllocError) -> Self {
-        PutError::NoMemory
-    }
-}
-
-/// Writes a text. `false`: the sink failed.
-fn put<K: Sink>(text: &Bytes, sink: &mut K) -> bool
-    ensures all { result ≡ true → Gained (K.held sink.old) (K.held sink.new) text.now }
-    ensures part { GainedPart (K.held sink.old) (K.held sink.new) text.now }
-    ensures later { K.fault_count sink.old ≤ K.fault_count sink.new }
-    ensures cause { result ≡ false → Rose (K.fault_count sink.old) (K.fault_count sink.new) }
-{
-    write_all(sink, text.as_slice())
-}
-
-/// Writes a line, and ends with this status, or for the sink's fault.
-fn print<K: Sink>(line: &[u8], its: Status, sink: &mut K) -> Status
-    ensures { Prints its line.now result
-        (side (K.held sink.old) (K.fault_count sink.old))
-        (side (K.held sink.new) (K.fault_count sink.new)) }
-{
-    if write_all(sink, line) {
-        its
-    } else {
-        Status::WriteFault
-    }
-}
-
-/// Writes the line of a script that is at fault.
-fn refuse_script<K: Sink>(alloc: Global, line: u32, sink: &mut K) -> Result<(), PutError>
-    ensures told { OnOk result (
-        Gained (K.held sink.old) (K.held sink.new) (numbered_line (codes "script line") line)
-        ) }
-    ensures none { IsErrOf result PutError.NoMemory
-        → Gained (K.held sink.old) (K.held sink.new) [] }
-    ensures cut { IsErrOf result PutError.WriteFault
-        → GainedPart (K.held sink.old) (K.held sink.new)
-        (numbered_line (codes "script line") line) }
-    ensures cause { IsErrOf result PutError.WriteFault
-        → Rose (K.fault_count sink.old) (K.fault_count sink.new) }
-{
-    let mut text = Bytes::new(alloc);
-    push_line(alloc, &mut text, b"script line", u64::from(line))?;
-    if put(&text, sink) {
-        Ok(())
-    } else {
-        Err(PutError::WriteFault)
-    }
-}
 
 /// Appends the line of why a replay stopped. Where memory is refused it stopped for that.
 fn push_stop(alloc: Global, text: &mut Bytes, stop: Stop) -> Stop
@@ -134,7 +75,7 @@ fn end_early<K: Sink>(alloc: Global, stop: Stop, text: &mut Bytes, sink: &mut K)
 }
 
 /// Replays a script, and writes its trace.
-#[tactic(auto, using(crate::proofs::Traces::sent_end))]
+#[tactic(auto, using(program_ends::proofs::Sent::sent_end))]
 fn replay_script<K: Sink>(alloc: Global, script: &Script, sink: &mut K) -> Result<Option<u64>, Stop>
     ensures trace { OnOk result (
         Gained (K.held sink.old) (K.held sink.new)
@@ -257,25 +198,61 @@ pub fn run_alone<S: Source, K: Sink, N: Sink>(
     ending.0
 }
 
-/// All that the program does, which is what one alone does. It needs neither threads nor the world yet.
+/// Whether the first word is `live`.
+fn is_live(words: &[String]) -> bool
+    ensures { result ≡ is_live words.now }
+{
+    match words {
+        [word, ..] => word.as_bytes() == b"live".as_slice(),
+        [] => false,
+    }
+}
+
+/// The words behind the first.
+fn words_behind(words: &[String]) -> &[String]
+    ensures { texts result.now ≡ words_behind words.now }
+{
+    match words {
+        [_, rest @ ..] => rest,
+        [] => words,
+    }
+}
+
+/// All that the program does: a live run where the first word is `live`, and else what one alone does.
 pub fn run<R: Threads + Wait + Sync, S: Source, K: Sink, N: Sink, W: World>(
-    _rt: &R,
+    rt: &R,
     alloc: Global,
     words: &[String],
     source: &mut S,
     sink: &mut K,
     notes: &mut N,
-    _world: &mut W,
+    world: &mut W,
 ) -> Status
-    ensures does { Does (command_of words.now) result
+    ensures does { is_live words.now ≡ false → Does (command_of words.now) result
         (side (S.left source.old) (S.fault_count source.old))
         (side (S.left source.new) (S.fault_count source.new))
         (side (K.held sink.old) (K.fault_count sink.old))
         (side (K.held sink.new) (K.fault_count sink.new)) }
-    ensures notes { Notes result
+    ensures notes { is_live words.now ≡ false → Notes result
         (side (S.left source.old) (S.fault_count source.old))
         (side (N.held notes.old) (N.fault_count notes.old))
         (side (N.held notes.new) (N.fault_count notes.new)) }
+    ensures live { is_live words.now ≡ true
+        → DoesLive usage_line (words_behind words.now) result
+        (side (S.left source.old) (S.fault_count source.old))
+        (side (S.left source.new) (S.fault_count source.new))
+        (side (K.held sink.old) (K.fault_count sink.old))
+        (side (K.held sink.new) (K.fault_count sink.new))
+        (W.told world.old) (W.told world.new) }
+    ensures live_notes { is_live words.now ≡ true
+        → IsWritten (live_note result)
+        (side (N.held notes.old) (N.fault_count notes.old))
+        (side (N.held notes.new) (N.fault_count notes.new)) }
 {
-    run_alone(alloc, words, source, sink, notes)
+    if !is_live(words) {
+        return run_alone(alloc, words, source, sink, notes);
+    }
+    let status = live(rt, alloc, words_behind(words), USAGE, source, sink, world);
+    write_note(live_note(status), notes);
+    status
 }

@@ -10,18 +10,21 @@ use super::rows::{
     PUSHED, READ_FAULT, Row, SHUT_DOWN, TIMES, TOO_LONG, WITHOUT_END, WRITE_FAULT,
 };
 use super::running::{run, run_alone};
-use super::status::Status;
 use containers::{Bytes, Seq};
 use outside::{MemSink, MemSource, MemWorld, Source, SureSink, SureSource, WorldScript};
+use program_ends::Status;
 use std::alloc::{AllocError, Global};
 use std::test::Fail;
 
 /// What `--help` writes.
 const HELP: &[u8] =
     b"session_tool replay     reads a script from standard input, and writes the trace of its session
+session_tool live WORDS hands the lines of standard input to a server, and writes the outcome of each
 session_tool --help     this text
 session_tool --version  the version
-gen N and live CONFIG are not in this version: they answer 1
+gen N is not in this version: it answers 1
+
+The WORDS of live are callers=K, K from 1 to 8, or nothing, and then those behind `config` in a script; each line is a line `submit ..`, and the last one `end`.
 
 A script, each line an example:
 config single url=redis://HOST:PORT

@@ -35,7 +35,7 @@ module _ {A : Type 0} (P : A → Type 0) where
       chosen (All (All P)) (is x) ([] ∷ slice_split is xs) (onto_first x (slice_split is xs)) (λ t. All-cons (All P) [] (slice_split is xs) (All-nil P) rest)
       (λ f. onto_each x (slice_split is xs) (All-head P x xs each) rest)
 
-parts_bytes : (b : ℕ) (text : List ℕ) → AreBytes text → AllBytes (parts b text)
+pub parts_bytes : (b : ℕ) (text : List ℕ) → AreBytes text → AllBytes (parts b text)
 parts_bytes b text small = split_each IsByte (λ x. x == b) text small
 
 -- the words of a line of bytes
@@ -68,7 +68,7 @@ line_bytes number room (last ∷ []) each = tt
 line_bytes number room (line ∷ next ∷ rest) each =
     if_read AreBytes (nat_le number max_lines && nat_le (length line) max_line && nat_lt (length line) room) (Some line) (λ t. All-head AreBytes line (next ∷ rest) each)
 
-words_bytes : (number room : ℕ) (lines : List (List ℕ)) → AllBytes lines → IfSome (words_at number room lines) IsByteLine
+pub words_bytes : (number room : ℕ) (lines : List (List ℕ)) → AllBytes lines → IfSome (words_at number room lines) IsByteLine
 words_bytes number room lines each = then_read AreBytes IsByteLine words_of_line byte_line (line_at number room lines) (line_bytes number room lines each)
 
 abbrev AllFit : List Event → Type 0

@@ -2,7 +2,7 @@ use Rattle.std.proofs.Common.{◌≡◌, ℕ, List, subst}
 use Rattle.std.specs.Prelude.{Ok}
 use Rattle.script_text.specs.Script.{script_of}
 use Rattle.text_laws.specs.Fits.{AreBytes}
-use Rattle.session_tool.specs.Sides.{side}
+use Rattle.program_ends.specs.Sides.{side}
 use Rattle.session_tool.proofs.Notes.{own_done, own_config, own_bad}
 use Rattle.session_tool.proofs.Outcomes.{done_does, refused_does, bad_does, spent_does}
 use Rattle.session_tool.proofs.running.replay_source.Goals as goal

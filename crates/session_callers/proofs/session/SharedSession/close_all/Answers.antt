@@ -4,6 +4,7 @@ use Rattle.std.proofs.lemmas.List.{append_assoc}
 use mathlib.Core.List.{IsPrefix}
 use Rattle.session_callers.specs.Rule.{joined, total, times, below}
 use Rattle.session_callers.specs.Calls.{Known, IsOf, Gathered}
+use Rattle.session_callers.specs.Closes.{IsShared}
 use Rattle.session_callers.proofs.Gathering.{gathers_more, each_split, closed, not_away}
 use Rattle.session_callers.proofs.session.SharedSession.close_all.Goals as goal
 
@@ -48,6 +49,17 @@ returns-clause-mine c =
     let got = c.take-home.ensures.value ∙ ap some c.in-Some-home.is in
     subst (λ l. (p : ℕ) → total (λ (k : Known). times p k.view.mine) l ≡ below p (length c.in-Some-home.field-0.session.events)) all
     (closed c.args.made i.2.0 c.loop-next.seat.me.0 i.2.2 need.0 enough _ _ _ c.in-Some-home.field-0 c.close_with-closed.ensures.values.2 got).1
+
+pub returns-clause-shared : goal.returns-clause-shared
+returns-clause-shared c =
+    let i = c.loop-next.invariant in
+    let none_left : c.loop-next.callers.items ≡ [] = search rules in
+    let all : i.2.0 ≡ c.args.callers.items = ap (λ l. l ++ i.2.0) (sym none_left) ∙ i.2.1 in
+    let need = c.requires.all in
+    let enough = subst (λ l. c.args.made ≤ length l) (sym all) need.1 in
+    let got = c.take-home.ensures.value ∙ ap some c.in-Some-home.is in
+    subst (λ l. IsShared l c.in-Some-home.field-0.session.config c.in-Some-home.field-0.session.word) all
+    (closed c.args.made i.2.0 c.loop-next.seat.me.0 i.2.2 need.0 enough _ _ _ c.in-Some-home.field-0 c.close_with-closed.ensures.values.2 got).2
 
 pub unreachable-requires-in-None : goal.unreachable-requires-in-None
 unreachable-requires-in-None c =

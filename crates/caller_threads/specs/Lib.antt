@@ -1,0 +1,4 @@
+pub mod Each
+pub mod Lines
+pub mod Submits
+pub mod Jobs

@@ -1,0 +1,221 @@
+-- What a live run does, by what it comes to and what is written.
+use Rattle.std.proofs.Math.Seq.{take-length}
+use Rattle.std.proofs.lemmas.Bool.Decides.{nat_tests}
+use Rattle.std.specs.Prelude.{take, ◌==◌}
+use Rattle.std.proofs.Math.Nat.{le_refl}
+use Rattle.program_ends.specs.Status.{number}
+use Rattle.std.proofs.Common.{arith, length, ◌≤◌, ◌≡◌, ◌⊎◌, inl, inr, ℕ, ◌+◌, Bool, true, false, true≢false, List, [], Option, Some, None, Ok, Err, codes, refl, sym, ap, ◌∙◌, subst}
+use Rattle.outside.specs.Ends.{Gained, GainedPart}
+use Rattle.outside.specs.declared.world.Call.{Call}
+use Rattle.caller_threads.specs.Submits.{Line}
+use Rattle.std.specs.Prelude.{Result}
+use Rattle.redis_error.specs.declared.config_name.ConfigName.{ConfigName}
+use Rattle.driver_model.specs.Config.{first_fault}
+use Rattle.driver_model.specs.declared.config.Config.{Config}
+use Rattle.program_ends.specs.Lines.{numbered_line, config_line, read_fault_line}
+use Rattle.program_ends.specs.Sides.{Side, Fails, IfTold}
+use Rattle.program_ends.specs.declared.status.Status.{Status}
+use Rattle.program_ends.specs.declared.status.Status.TheVariants as status
+use Rattle.script_text.specs.Lines.{lines_of}
+use Rattle.shared_session.specs.Replay.{IsSound}
+use Rattle.live_lines.specs.Does.{IsLiveRun, IsLineRun, IsConfigRun, IsSpentRun, IsOutput, IsCutRun, EndsWell, DoesLive}
+use Rattle.live_lines.specs.Live.{IsAsked, IsLive, IsPlan, IsRefused, IsRefusedConfig, Writes, flight_text, refusal_line, refusal_status}
+use Rattle.live_lines.specs.Plans.{plan_of}
+use Rattle.live_lines.specs.declared.flying.Flight.{Flight}
+use Rattle.live_lines.specs.declared.planning.Plan.{Plan}
+use Rattle.live_lines.specs.declared.reading.Refusal.{Refusal}
+use Rattle.live_lines.specs.declared.reading.Refusal.TheVariants as refusal
+
+-- two statuses of other numbers
+apart : (a b : Status) → (number a == number b) ≡ false → a ≡ b → ⊥
+apart a b differ e = let same : number a ≡ number b = ap number e in grind (arith, nat_tests)
+
+-- a status that some text may be cut short with
+abbrev is_cut : Status → Bool
+is_cut status.NoMemory = true
+is_cut status.WriteFault = true
+is_cut _ = false
+
+-- a run that ends with another status wrote its whole text
+wrote : (its t s : Status) (text : List ℕ) (sink sink' : Side) → is_cut t ≡ false → Writes its text s sink sink' → s ≡ t → (its ≡ t) × Gained sink.bytes sink'.bytes text
+wrote its t s text sink sink' whole (inl w) is = (sym w.0 ∙ is, w.1)
+wrote its t s text sink sink' whole (inr (inl w)) is = absurd (true≢false (sym (ap is_cut (sym is ∙ w.0)) ∙ whole))
+wrote its t s text sink sink' whole (inr (inr w)) is = absurd (true≢false (sym (ap is_cut (sym is ∙ w.0)) ∙ whole))
+
+-- and any run wrote the front of it
+part_by : (its s : Status) (text : List ℕ) (sink sink' : Side) → Writes its text s sink sink' → (Gained sink.bytes sink'.bytes text → GainedPart sink.bytes sink'.bytes text) → GainedPart sink.bytes sink'.bytes text
+part_by its s text sink sink' (inl w) all = all w.1
+part_by its s text sink sink' (inr (inl w)) all = w.1
+part_by its s text sink sink' (inr (inr w)) all = w.1
+
+-- a sink that failed
+failed : (its s : Status) (text : List ℕ) (sink sink' : Side) → (its ≡ status.WriteFault → ⊥) → Writes its text s sink sink' → s ≡ status.WriteFault → Fails sink sink'
+failed its s text sink sink' other (inl w) is = absurd (other (sym w.0 ∙ is))
+failed its s text sink sink' other (inr (inl w)) is = w.2
+failed its s text sink sink' other (inr (inr w)) is = absurd (apart status.NoMemory status.WriteFault refl (sym w.0 ∙ is))
+
+-- how a run may end that writes this
+ended : (its s : Status) (text : List ℕ) (sink sink' : Side) → Writes its text s sink sink' → (s ≡ its) ⊎ (s ≡ status.WriteFault) ⊎ (s ≡ status.NoMemory)
+ended its s text sink sink' (inl w) = inl w.0
+ended its s text sink sink' (inr (inl w)) = inr (inl w.0)
+ended its s text sink sink' (inr (inr w)) = inr (inr w.0)
+
+-- words that are a plan
+plan_not_none : (words : List (List ℕ)) → IsPlan words → plan_of words ≡ None → ⊥
+plan_not_none words p e = some_none p.plan (sym p.plans ∙ e)
+  where
+    some_none : (plan : Plan) → Some plan ≡ None → ⊥
+    some_none plan e = cc
+
+-- a whole text is a front of itself
+whole_part : {old new : Option (List ℕ)} (text : List ℕ) → Gained old new text → GainedPart old new text
+whole_part {old} {new} text gained = record { count = length text; within = le_refl (length text); gained = subst (λ (xs : List ℕ). Gained old new xs) (sym (take-length text)) gained }
+
+part_of : (its s : Status) (text : List ℕ) (sink sink' : Side) → Writes its text s sink sink' → GainedPart sink.bytes sink'.bytes text
+part_of its s text sink sink' w = part_by its s text sink sink' w (whole_part text)
+
+-- where the sink didn't fail
+well_by : (its s : Status) (text : List ℕ) (sink sink' : Side) → (Fails sink sink' → ⊥) → Writes its text s sink sink' → (s ≡ its) ⊎ (s ≡ status.NoMemory)
+well_by its s text sink sink' well (inl w) = inl w.0
+well_by its s text sink sink' well (inr (inl w)) = absurd (well w.2)
+well_by its s text sink sink' well (inr (inr w)) = inr w.0
+
+-- a live run that came to its end
+module _ (usage : List ℕ) (words : List (List ℕ)) (s : Status) (source source' sink sink' : Side) (old new : Option (List Call)) where
+  pub flown : (f : Flight) → IfTold source (λ bytes. IsLive words bytes source'.bytes old new f) → IsPlan words → Writes status.Done (flight_text f) s sink sink'
+      → DoesLive usage words s source source' sink sink' old new
+  flown f live plan w =
+      let text = flight_text f in
+      let other : (t : Status) → is_cut t ≡ false → (number status.Done == number t) ≡ false → s ≡ t → ⊥ = λ t whole differ is. apart status.Done t differ (wrote status.Done t s text sink sink' whole w is).0 in
+      record {
+        done = λ is bytes told. record { flight = f; live = live bytes told; output = (wrote status.Done status.Done s text sink sink' refl w is).1 };
+        no_plan = λ is. absurd (other status.Usage refl refl is);
+        unknown = λ none. absurd (plan_not_none words plan none);
+        told = λ is. absurd (other status.Usage refl refl is);
+        lines = λ is bytes told. absurd (other status.Script refl refl is);
+        refused = λ is bytes told. absurd (other status.Config refl refl is);
+        bad = λ is. other status.BadEvent refl refl is;
+        cut = λ why bytes told. record { text = text; output = inl (f, live bytes told, refl); part = part_of status.Done s text sink sink' w };
+        write = λ is. failed status.Done s text sink sink' (λ e. apart status.Done status.WriteFault refl e) w is;
+        read = λ is. absurd (other status.ReadFault refl refl is);
+        fault = λ is. absurd (other status.ReadFault refl refl is);
+        spent = λ is bytes told. absurd (other status.Spent refl refl is);
+        complete = λ bytes told asked sound reads writes. well_done (well_by status.Done s text sink sink' writes w);
+      }
+    where
+      well_done : (s ≡ status.Done) ⊎ (s ≡ status.NoMemory) → (s ≡ status.Done) ⊎ (s ≡ status.NoMemory) ⊎ (s ≡ status.Spent)
+      well_done (inl is) = inl is
+      well_done (inr is) = inr (inl is)
+
+  -- what a refusal of some status is
+  usage_by : (r : Refusal) → IsRefused r words source source' → refusal_status r ≡ status.Usage → (plan_of words ≡ None) × (refusal_line usage r ≡ usage)
+  usage_by refusal.Usage h e = (h, refl)
+  usage_by (refusal.Line n) h e = absurd (apart status.Script status.Usage refl e)
+  usage_by (refusal.Config name) h e = absurd (apart status.Config status.Usage refl e)
+  usage_by (refusal.Spent events) h e = absurd (apart status.Spent status.Usage refl e)
+  usage_by refusal.ReadFault h e = absurd (apart status.ReadFault status.Usage refl e)
+  usage_by refusal.NoMemory h e = absurd (apart status.NoMemory status.Usage refl e)
+
+  line_by : (r : Refusal) → IsRefused r words source source' → refusal_status r ≡ status.Script → Gained sink.bytes sink'.bytes (refusal_line usage r) → IfTold source (λ bytes. IsLineRun bytes sink sink')
+  line_by refusal.Usage h e gained = absurd (apart status.Usage status.Script refl e)
+  line_by (refusal.Line n) h e gained = λ bytes told. record { line = n; fault = h.1 bytes told; told = gained }
+  line_by (refusal.Config name) h e gained = absurd (apart status.Config status.Script refl e)
+  line_by (refusal.Spent events) h e gained = absurd (apart status.Spent status.Script refl e)
+  line_by refusal.ReadFault h e gained = absurd (apart status.ReadFault status.Script refl e)
+  line_by refusal.NoMemory h e gained = absurd (apart status.NoMemory status.Script refl e)
+
+  config_by : (r : Refusal) → IsRefused r words source source' → refusal_status r ≡ status.Config → Gained sink.bytes sink'.bytes (refusal_line usage r) → IfTold source (λ bytes. IsConfigRun words bytes sink sink')
+  config_by refusal.Usage h e gained = absurd (apart status.Usage status.Config refl e)
+  config_by (refusal.Line n) h e gained = absurd (apart status.Script status.Config refl e)
+  config_by (refusal.Config name) h e gained = λ bytes told. record { name = name; refused = h.1 bytes told; told = gained }
+  config_by (refusal.Spent events) h e gained = absurd (apart status.Spent status.Config refl e)
+  config_by refusal.ReadFault h e gained = absurd (apart status.ReadFault status.Config refl e)
+  config_by refusal.NoMemory h e gained = absurd (apart status.NoMemory status.Config refl e)
+
+  fault_by : (r : Refusal) → IsRefused r words source source' → refusal_status r ≡ status.ReadFault → Fails source source' × (refusal_line usage r ≡ read_fault_line)
+  fault_by refusal.Usage h e = absurd (apart status.Usage status.ReadFault refl e)
+  fault_by (refusal.Line n) h e = absurd (apart status.Script status.ReadFault refl e)
+  fault_by (refusal.Config name) h e = absurd (apart status.Config status.ReadFault refl e)
+  fault_by (refusal.Spent events) h e = absurd (apart status.Spent status.ReadFault refl e)
+  fault_by refusal.ReadFault h e = (h.1, refl)
+  fault_by refusal.NoMemory h e = absurd (apart status.NoMemory status.ReadFault refl e)
+
+  spent_by : (r : Refusal) → IsRefused r words source source' → refusal_status r ≡ status.Spent → Gained sink.bytes sink'.bytes (refusal_line usage r) → IfTold source (λ bytes. IsSpentRun words bytes sink sink')
+  spent_by refusal.Usage h e gained = absurd (apart status.Usage status.Spent refl e)
+  spent_by (refusal.Line n) h e gained = absurd (apart status.Script status.Spent refl e)
+  spent_by (refusal.Config name) h e gained = absurd (apart status.Config status.Spent refl e)
+  spent_by (refusal.Spent events) h e gained = λ bytes told. record { asked = h.1 bytes told; events = events; told = gained }
+  spent_by refusal.ReadFault h e gained = absurd (apart status.ReadFault status.Spent refl e)
+  spent_by refusal.NoMemory h e gained = absurd (apart status.NoMemory status.Spent refl e)
+
+  -- a refusal is none of a run that came to its end or met a bad event, and none that a failed sink tells
+  never : (r : Refusal) → (refusal_status r ≡ status.Done → ⊥) × (refusal_status r ≡ status.BadEvent → ⊥) × (refusal_status r ≡ status.WriteFault → ⊥)
+  never refusal.Usage = (apart status.Usage status.Done refl, apart status.Usage status.BadEvent refl, apart status.Usage status.WriteFault refl)
+  never (refusal.Line n) = (apart status.Script status.Done refl, apart status.Script status.BadEvent refl, apart status.Script status.WriteFault refl)
+  never (refusal.Config name) = (apart status.Config status.Done refl, apart status.Config status.BadEvent refl, apart status.Config status.WriteFault refl)
+  never (refusal.Spent events) = (apart status.Spent status.Done refl, apart status.Spent status.BadEvent refl, apart status.Spent status.WriteFault refl)
+  never refusal.ReadFault = (apart status.ReadFault status.Done refl, apart status.ReadFault status.BadEvent refl, apart status.ReadFault status.WriteFault refl)
+  never refusal.NoMemory = (apart status.NoMemory status.Done refl, apart status.NoMemory status.BadEvent refl, apart status.NoMemory status.WriteFault refl)
+
+  -- words that are no plan are refused for that
+  unknown_by : (r : Refusal) → IsRefused r words source source' → plan_of words ≡ None → (refusal_status r ≡ status.Usage) ⊎ (refusal_status r ≡ status.NoMemory)
+  unknown_by refusal.Usage h none = inl refl
+  unknown_by (refusal.Line n) h none = absurd (plan_not_none words h.0 none)
+  unknown_by (refusal.Config name) h none = absurd (plan_not_none words h.0 none)
+  unknown_by (refusal.Spent events) h none = absurd (plan_not_none words h.0 none)
+  unknown_by refusal.ReadFault h none = absurd (plan_not_none words h.0 none)
+  unknown_by refusal.NoMemory h none = inr refl
+
+  -- where all is well but numbers or memory, it is refused for one of these
+  well_refused : (r : Refusal) (bytes : List ℕ) → IsRefused r words source source' → source.bytes ≡ Some bytes → (asked : IsAsked words bytes) → IsSound asked.plan.config → (Fails source source' → ⊥)
+      → (refusal_status r ≡ status.Spent) ⊎ (refusal_status r ≡ status.NoMemory)
+  well_refused refusal.Usage bytes h told asked sound reads = absurd (plan_not_none words (record { plan = asked.plan; plans = asked.plans }) h)
+  well_refused (refusal.Line n) bytes h told asked sound reads = absurd (ok_not_err (lines_of bytes) asked.lines n asked.reads (h.1 bytes told))
+    where
+      ok_not_err : (r : Result (List Line) ℕ) (lines : List Line) (n : ℕ) → r ≡ Ok lines → r ≡ Err n → ⊥
+      ok_not_err r lines n is not = cc
+  well_refused (refusal.Config name) bytes h told asked sound reads =
+      let r = h.1 bytes told in
+      let same : asked.plan ≡ r.asked.plan = same_plan asked.plan r.asked.plan (sym asked.plans ∙ r.asked.plans) in
+      absurd (none_some name (sym sound ∙ ap (λ (plan : Plan). first_fault plan.config) same ∙ r.refused))
+    where
+      same_plan : (a b : Plan) → Some a ≡ Some b → a ≡ b
+      same_plan a b e = cc
+
+      none_some : (name : ConfigName) → None ≡ Some name → ⊥
+      none_some name e = cc
+  well_refused (refusal.Spent events) bytes h told asked sound reads = inl refl
+  well_refused refusal.ReadFault bytes h told asked sound reads = absurd (reads h.1)
+  well_refused refusal.NoMemory bytes h told asked sound reads = inr refl
+
+  -- a live run that was refused
+  pub not_flown : (r : Refusal) → IsRefused r words source source' → Writes (refusal_status r) (refusal_line usage r) s sink sink' → DoesLive usage words s source source' sink sink' old new
+  not_flown r h w =
+      let its = refusal_status r in
+      let text = refusal_line usage r in
+      record {
+        done = λ is bytes told. absurd ((never r).0 (wrote its status.Done s text sink sink' refl w is).0);
+        no_plan = λ is. (usage_by r h (wrote its status.Usage s text sink sink' refl w is).0).0;
+        unknown = λ none. unknown_then (unknown_by r h none) (ended its s text sink sink' w);
+        told = λ is. let t = wrote its status.Usage s text sink sink' refl w is in subst (λ (xs : List ℕ). Gained sink.bytes sink'.bytes xs) (usage_by r h t.0).1 t.1;
+        lines = λ is. let t = wrote its status.Script s text sink sink' refl w is in line_by r h t.0 t.1;
+        refused = λ is. let t = wrote its status.Config s text sink sink' refl w is in config_by r h t.0 t.1;
+        bad = λ is. (never r).1 (wrote its status.BadEvent s text sink sink' refl w is).0;
+        cut = λ why bytes told. record { text = text; output = inr (r, h, refl); part = part_of its s text sink sink' w };
+        write = λ is. failed its s text sink sink' (never r).2 w is;
+        read = λ is. (fault_by r h (wrote its status.ReadFault s text sink sink' refl w is).0).0;
+        fault = λ is. let t = wrote its status.ReadFault s text sink sink' refl w is in subst (λ (xs : List ℕ). Gained sink.bytes sink'.bytes xs) (fault_by r h t.0).1 t.1;
+        spent = λ is. let t = wrote its status.Spent s text sink sink' refl w is in spent_by r h t.0 t.1;
+        complete = λ bytes told asked sound reads writes. well_then (well_refused r bytes h told asked sound reads) (well_by its s text sink sink' writes w);
+      }
+    where
+      unknown_then : (refusal_status r ≡ status.Usage) ⊎ (refusal_status r ≡ status.NoMemory) → (s ≡ refusal_status r) ⊎ (s ≡ status.WriteFault) ⊎ (s ≡ status.NoMemory)
+          → (s ≡ status.Usage) ⊎ (s ≡ status.WriteFault) ⊎ (s ≡ status.NoMemory)
+      unknown_then (inl u) (inl is) = inl (is ∙ u)
+      unknown_then (inr n) (inl is) = inr (inr (is ∙ n))
+      unknown_then any (inr other) = inr other
+
+      well_then : (refusal_status r ≡ status.Spent) ⊎ (refusal_status r ≡ status.NoMemory) → (s ≡ refusal_status r) ⊎ (s ≡ status.NoMemory) → (s ≡ status.Done) ⊎ (s ≡ status.NoMemory) ⊎ (s ≡ status.Spent)
+      well_then (inl u) (inl is) = inr (inr (is ∙ u))
+      well_then (inr n) (inl is) = inr (inl (is ∙ n))
+      well_then any (inr none) = inr (inl none)

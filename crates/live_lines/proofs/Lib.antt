@@ -1,0 +1,6 @@
+mod Allowed
+mod Dealt
+mod Does
+mod Sources
+mod Submitted
+mod Writing

@@ -1,0 +1,21 @@
+use Rattle.std.proofs.Common.{◌≡◌, ◌∙◌, sym, ap}
+use Rattle.std.specs.Prelude.{Some, Option}
+use Rattle.live_lines.specs.declared.planning.Plan.{Plan}
+use Rattle.live_lines.proofs.reading.flight_of.Goals as goal
+
+pub returns-in-Ok-fly-clause-flight : goal.returns-in-Ok-fly-clause-flight
+returns-in-Ok-fly-clause-flight g c = λ bytes told. record {
+  asked = record { plan = c.in-Ok-Some.plan; plans = sym c.in-Ok-Some.ensures ∙ c.in-Ok-Some.field-0-is; lines = c.in-Ok.lines.items; reads = c.in-Ok.ensures.lines.read bytes told };
+  ended = c.in-Ok.ensures.lines.ended bytes told;
+  flight = c.in-Ok-fly.ensures.flight;
+}
+
+pub returns-in-Err-Config-clause-refused : goal.returns-in-Err-Config-clause-refused
+returns-in-Err-Config-clause-refused g c =
+    let plans = sym c.in-Ok-Some.ensures ∙ c.in-Ok-Some.field-0-is in (
+      record { plan = c.in-Ok-Some.plan; plans = plans },
+      (λ bytes told. record {
+        asked = record { plan = c.in-Ok-Some.plan; plans = plans; lines = c.in-Ok.lines.items; reads = c.in-Ok.ensures.lines.read bytes told };
+        refused = rw c.in-Err-Config.field-0-is at c.in-Err-Config.ensures.err;
+      }),
+    )

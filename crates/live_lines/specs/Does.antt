@@ -1,0 +1,84 @@
+-- What a live run does, and the status that it ends with.
+use Rattle.std.specs.Prelude.{◌≡◌, ◌⊎◌, ℕ, ◌+◌, List, Option, Some, None, Err, codes}
+use Rattle.outside.specs.Ends.{Gained, GainedPart}
+use Rattle.outside.specs.declared.world.Call.{Call}
+use Rattle.program_ends.specs.Lines.{numbered_line, config_line, read_fault_line}
+use Rattle.program_ends.specs.Sides.{Side, Fails, IfTold}
+use Rattle.program_ends.specs.declared.status.Status.{Status}
+use Rattle.program_ends.specs.declared.status.Status.TheVariants as status
+use Rattle.redis_error.specs.declared.config_name.ConfigName.{ConfigName}
+use Rattle.script_text.specs.Lines.{lines_of}
+use Rattle.shared_session.specs.Replay.{IsSound}
+use Rattle.live_lines.specs.Live.{IsAsked, IsLive, IsRefused, IsRefusedConfig, flight_text, refusal_line}
+use Rattle.live_lines.specs.Plans.{plan_of}
+use Rattle.live_lines.specs.declared.flying.Flight.{Flight}
+use Rattle.live_lines.specs.declared.reading.Refusal.{Refusal}
+
+-- the live run of these words and bytes came to its end, and the sink gained the outcome of each line, in the order of lines
+pub record IsLiveRun (words : List (List ℕ)) (bytes : List ℕ) (left : Option (List ℕ)) (old new : Option (List Call)) (sink sink' : Side) : Type 0 where
+  pub flight : Flight
+  pub live : IsLive words bytes left old new flight
+  pub output : Gained sink.bytes sink'.bytes (flight_text flight)
+
+-- a line of the bytes is the first at fault, and the sink gained its number
+pub record IsLineRun (bytes : List ℕ) (sink sink' : Side) : Type 0 where
+  pub line : ℕ
+  pub fault : lines_of bytes ≡ Err line
+  pub told : Gained sink.bytes sink'.bytes (numbered_line (codes "script line") line)
+
+-- the configuration is refused, and the sink gained the name of what is refused first
+pub record IsConfigRun (words : List (List ℕ)) (bytes : List ℕ) (sink sink' : Side) : Type 0 where
+  pub name : ConfigName
+  pub refused : IsRefusedConfig words bytes name
+  pub told : Gained sink.bytes sink'.bytes (config_line name)
+
+-- numbers ran out at an event, and the sink gained its number, counted from 1
+pub record IsSpentRun (words : List (List ℕ)) (bytes : List ℕ) (sink sink' : Side) : Type 0 where
+  pub asked : IsAsked words bytes
+  pub events : ℕ
+  pub told : Gained sink.bytes sink'.bytes (numbered_line (codes "spent event") (events + 1))
+
+-- all that a live run may write: the outcome of each line, or the line that tells why there was none
+abbrev pub IsOutput : List ℕ → List (List ℕ) → List ℕ → Side → Side → Option (List Call) → Option (List Call) → List ℕ → Type 0
+IsOutput usage words bytes source source' old new text =
+    ((f : Flight) × IsLive words bytes source'.bytes old new f × (text ≡ flight_text f))
+    ⊎ ((r : Refusal) × IsRefused r words source source' × (text ≡ refusal_line usage r))
+
+-- the sink gained the front of it
+pub record IsCutRun (usage : List ℕ) (words : List (List ℕ)) (bytes : List ℕ) (source source' sink sink' : Side) (old new : Option (List Call)) : Type 0 where
+  pub text : List ℕ
+  pub output : IsOutput usage words bytes source source' old new text
+  pub part : GainedPart sink.bytes sink'.bytes text
+
+-- where the words are a plan of which nothing is refused, the bytes are lines, and no count of faults rose, the run comes to
+-- its end, or numbers run out, or memory is refused
+abbrev pub EndsWell : List (List ℕ) → List ℕ → Status → Side → Side → Side → Side → Type 0
+EndsWell words bytes s source source' sink sink' =
+    (asked : IsAsked words bytes) → IsSound asked.plan.config → (Fails source source' → ⊥) → (Fails sink sink' → ⊥)
+    → (s ≡ status.Done) ⊎ (s ≡ status.NoMemory) ⊎ (s ≡ status.Spent)
+
+-- What a live run does that ends with this status, where this line tells words that are no plan: from its source, its sink and
+-- what its world tells as they were to what they come to.
+pub record DoesLive (usage : List ℕ) (words : List (List ℕ)) (s : Status) (source source' sink sink' : Side) (old new : Option (List Call)) : Type 0 where
+  -- 0
+  pub done : s ≡ status.Done → IfTold source (λ bytes. IsLiveRun words bytes source'.bytes old new sink sink')
+  -- 1
+  pub no_plan : s ≡ status.Usage → plan_of words ≡ None
+  pub unknown : plan_of words ≡ None → (s ≡ status.Usage) ⊎ (s ≡ status.WriteFault) ⊎ (s ≡ status.NoMemory)
+  pub told : s ≡ status.Usage → Gained sink.bytes sink'.bytes usage
+  -- 2
+  pub lines : s ≡ status.Script → IfTold source (λ bytes. IsLineRun bytes sink sink')
+  -- 3
+  pub refused : s ≡ status.Config → IfTold source (λ bytes. IsConfigRun words bytes sink sink')
+  -- 4
+  pub bad : s ≡ status.BadEvent → ⊥
+  -- 5 and 7
+  pub cut : (s ≡ status.NoMemory) ⊎ (s ≡ status.WriteFault) → IfTold source (λ bytes. IsCutRun usage words bytes source source' sink sink' old new)
+  pub write : s ≡ status.WriteFault → Fails sink sink'
+  -- 6
+  pub read : s ≡ status.ReadFault → Fails source source'
+  pub fault : s ≡ status.ReadFault → Gained sink.bytes sink'.bytes read_fault_line
+  -- 8
+  pub spent : s ≡ status.Spent → IfTold source (λ bytes. IsSpentRun words bytes sink sink')
+  -- 0, 5 or 8
+  pub complete : IfTold source (λ bytes. EndsWell words bytes s source source' sink sink')

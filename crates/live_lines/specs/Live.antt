@@ -1,0 +1,86 @@
+-- What is written of a live run, and why there is none.
+use Rattle.std.specs.Prelude.{◌≡◌, ⊤, ◌⊎◌, ℕ, ◌+◌, List, [], Option, Some, None, Ok, Err, codes}
+use Rattle.caller_threads.specs.Submits.{Line}
+use Rattle.driver_model.specs.Config.{first_fault}
+use Rattle.redis_error.specs.declared.config_name.ConfigName.{ConfigName}
+use Rattle.outside.specs.Ends.{Gained, GainedPart}
+use Rattle.outside.specs.declared.world.Call.{Call}
+use Rattle.program_ends.specs.Lines.{numbered_line, config_line, read_fault_line}
+use Rattle.program_ends.specs.Sides.{Side, Fails, IfTold}
+use Rattle.program_ends.specs.declared.status.Status.{Status}
+use Rattle.program_ends.specs.declared.status.Status.TheVariants as status
+use Rattle.script_text.specs.Lines.{lines_of}
+use Rattle.live_lines.specs.Flights.{IsFlight}
+use Rattle.live_lines.specs.Outcomes.{outcome_lines, outcomes_of}
+use Rattle.live_lines.specs.Plans.{plan_of}
+use Rattle.live_lines.specs.declared.flying.Flight.{Flight}
+use Rattle.live_lines.specs.declared.planning.Plan.{Plan}
+use Rattle.live_lines.specs.declared.reading.Refusal.{Refusal}
+use Rattle.live_lines.specs.declared.reading.Refusal.TheVariants as refusal
+
+-- these are the lines that a source had, and it has nothing left
+pub record AreLines (old left : Option (List ℕ)) (lines : List Line) : Type 0 where
+  pub read : (bytes : List ℕ) → old ≡ Some bytes → lines_of bytes ≡ Ok lines
+  pub ended : (bytes : List ℕ) → old ≡ Some bytes → left ≡ Some []
+
+-- words are a plan, and a source's bytes the lines for it
+pub record IsAsked (words : List (List ℕ)) (bytes : List ℕ) : Type 0 where
+  pub plan : Plan
+  pub plans : plan_of words ≡ Some plan
+  pub lines : List Line
+  pub reads : lines_of bytes ≡ Ok lines
+
+-- these words and bytes were asked for, the bytes were read to their end, and this is the live run of them
+pub record IsLive (words : List (List ℕ)) (bytes : List ℕ) (left : Option (List ℕ)) (old new : Option (List Call)) (f : Flight) : Type 0 where
+  pub asked : IsAsked words bytes
+  pub ended : left ≡ Some []
+  pub flight : IsFlight asked.plan asked.lines old new f
+
+-- they were, and the configuration is refused, first for what it says of this name
+pub record IsRefusedConfig (words : List (List ℕ)) (bytes : List ℕ) (name : ConfigName) : Type 0 where
+  pub asked : IsAsked words bytes
+  pub refused : first_fault asked.plan.config ≡ Some name
+
+-- the words are a plan
+pub record IsPlan (words : List (List ℕ)) : Type 0 where
+  pub plan : Plan
+  pub plans : plan_of words ≡ Some plan
+
+-- Why there was no live run, in this order: the words are no plan; the source failed; this line of its bytes is the first at
+-- fault; the configuration is refused. Numbers run out only behind all of these, and memory may be refused at any moment.
+abbrev pub IsRefused : Refusal → List (List ℕ) → Side → Side → Type 0
+IsRefused refusal.Usage words source source' = plan_of words ≡ None
+IsRefused refusal.ReadFault words source source' = IsPlan words × Fails source source'
+IsRefused (refusal.Line n) words source source' = IsPlan words × IfTold source (λ bytes. lines_of bytes ≡ Err n)
+IsRefused (refusal.Config name) words source source' = IsPlan words × IfTold source (λ bytes. IsRefusedConfig words bytes name)
+IsRefused (refusal.Spent events) words source source' = IsPlan words × IfTold source (IsAsked words)
+IsRefused refusal.NoMemory words source source' = ⊤
+
+-- the line that tells why there was none, where this one tells words that are no plan
+abbrev pub refusal_line : List ℕ → Refusal → List ℕ
+refusal_line usage refusal.Usage = usage
+refusal_line usage (refusal.Line n) = numbered_line (codes "script line") n
+refusal_line usage (refusal.Config name) = config_line name
+refusal_line usage (refusal.Spent events) = numbered_line (codes "spent event") (events + 1)
+refusal_line usage refusal.ReadFault = read_fault_line
+refusal_line usage refusal.NoMemory = []
+
+abbrev pub refusal_status : Refusal → Status
+refusal_status refusal.Usage = status.Usage
+refusal_status (refusal.Line n) = status.Script
+refusal_status (refusal.Config name) = status.Config
+refusal_status (refusal.Spent events) = status.Spent
+refusal_status refusal.ReadFault = status.ReadFault
+refusal_status refusal.NoMemory = status.NoMemory
+
+-- a text was written, with which a run ends with its status; or its front, and the sink failed; or its front, and memory was
+-- refused
+abbrev pub Writes : Status → List ℕ → Status → Side → Side → Type 0
+Writes its text s sink sink' =
+    ((s ≡ its) × Gained sink.bytes sink'.bytes text)
+    ⊎ ((s ≡ status.WriteFault) × GainedPart sink.bytes sink'.bytes text × Fails sink sink')
+    ⊎ ((s ≡ status.NoMemory) × GainedPart sink.bytes sink'.bytes text)
+
+-- the outcome of each line of a live run, in the order of the lines, as a trace shows it
+abbrev pub flight_text : Flight → List ℕ
+flight_text f = outcome_lines (outcomes_of f.session) f.numbers.items

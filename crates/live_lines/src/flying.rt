@@ -1,0 +1,163 @@
+ghost use Rattle.std.specs.Prelude.{◌≡◌, ◌≤◌, ◌++◌, [], length, max, IfOk, IfErr, IsErrOf};
+ghost use Rattle.caller_threads.specs.Submits.{IsAllowed};
+ghost use Rattle.driver_model.specs.Config.{first_fault};
+ghost use Rattle.session_callers.specs.Rule.{Each};
+ghost use Rattle.shared_session.specs.Replay.{IsSound};
+ghost use Rattle.live_lines.specs.Flights.{AreSubmitted, IsBare, IsFlight, IsNoFlight};
+
+use crate::planning::Plan;
+use caller_threads::{OpenGate, submit_lines};
+use driver_model::{Action, Submission};
+use live_run::{Ending, drive};
+use outside::World;
+use redis_error::ConfigName;
+use session_callers::{Caller, SharedSession};
+use shared_session::{MakeError, Session, StepError};
+use std::alloc::{AllocError, Global};
+use std::sync::Wait;
+use std::thread::Threads;
+
+/// A live run that came to its end.
+#[derive(Drop)]
+pub struct Flight {
+    /// The session, which was shut down.
+    pub session: Session,
+    /// The number of each line's submission, in the order of the lines.
+    pub numbers: Vec<u32>,
+    pub ending: Ending,
+}
+
+/// Why a live run did not come to its end.
+#[derive(Clone, Copy, PartialEq, Eq)]
+pub enum FlightError {
+    /// The configuration is refused for this.
+    Config(ConfigName),
+    /// A number ran out at the step of an event, behind so many events.
+    Spent(u32),
+    NoMemory,
+}
+
+/// Why the step of a live run was refused. Its events are never bad.
+fn refused(error: StepError) -> FlightError
+    ensures { (plan : Plan) → IsNoFlight plan result }
+{
+    match error {
+        StepError::Spent { events } => FlightError::Spent(events),
+        StepError::BadEvent | StepError::NoMemory => FlightError::NoMemory,
+    }
+}
+
+/// So many callers in all, and one at least: those that join the first, and then the first.
+fn join_all<R: Wait>(
+    rt: &R,
+    alloc: Global,
+    shared: &SharedSession,
+    first: Caller,
+    count: u32,
+) -> Result<Vec<Caller>, AllocError>
+    requires of { first.table ≡ shared.now.table.shared.table_id }
+    requires none { first.view.mine ≡ [] }
+    ensures of { IfOk result (λ callers.
+        Each (λ caller. caller.table ≡ shared.now.table.shared.table_id) callers.items
+        ) }
+    ensures bare { IfOk result (λ callers.
+        Each (IsBare first.view.config first.view.word) callers.items
+        ) }
+    ensures count { IfOk result (λ callers. length callers.items ≡ max 1 count) }
+{
+    let mut first = first;
+    let mut callers = Vec::new(alloc);
+    let mut left = count;
+    'joins: while left > 1 {
+        match shared.join(rt, &mut first) {
+            Ok(other) => callers.push(other)?,
+            Err(_) => return Err(AllocError),
+        }
+        left -= 1;
+    }
+    callers.push(first)?;
+    Ok(callers)
+}
+
+/// The session of a plan, whose callers submitted these lines, and the numbers of the submissions. `actions` gains all that
+/// was asked so far.
+fn submitted<R: Threads + Wait + Sync>(
+    rt: &R,
+    alloc: Global,
+    plan: Plan,
+    word: u64,
+    lines: Vec<(Submission, u64)>,
+    actions: &mut Vec<Action>,
+) -> Result<(Session, Vec<u32>), FlightError>
+    requires none { actions.old.items ≡ [] }
+    requires allowed { Each IsAllowed lines.items }
+    ensures sound { IfOk result (λ _. IsSound plan.config) }
+    ensures submitted { IfOk result (λ made.
+        AreSubmitted plan word lines.items made.1.items made.0 actions.new.items
+        ) }
+    ensures err { IfErr result (IsNoFlight plan) }
+{
+    let Plan { callers, config } = plan;
+    let (shared, first) = match SharedSession::new(alloc, config, word, actions) {
+        Ok(made) => made,
+        Err(MakeError::Config { name }) => return Err(FlightError::Config(name)),
+        Err(MakeError::NoMemory) => return Err(FlightError::NoMemory),
+    };
+    let Ok(mut callers) = join_all(rt, alloc, &shared, first, callers) else {
+        return Err(FlightError::NoMemory);
+    };
+    let mut numbers = Vec::new(alloc);
+    let gate = OpenGate;
+    match submit_lines(
+        rt,
+        alloc,
+        &shared,
+        &mut callers,
+        lines,
+        &gate,
+        &mut numbers,
+        actions,
+    ) {
+        Ok(()) => {}
+        Err(error) => return Err(refused(error)),
+    }
+    match shared.close(callers) {
+        Ok(session) => Ok((session, numbers)),
+        Err(_) => Err(FlightError::NoMemory),
+    }
+}
+
+/// A live run: the callers of the plan submit the lines, each on a thread of its own, line i by caller i modulo their number;
+/// then the session is driven over the world until it ends.
+pub fn fly<R: Threads + Wait + Sync, W: World>(
+    rt: &R,
+    alloc: Global,
+    plan: Plan,
+    lines: Vec<(Submission, u64)>,
+    world: &mut W,
+) -> Result<Flight, FlightError>
+    requires { Each IsAllowed lines.items }
+    ensures flight { IfOk result (
+        IsFlight plan lines.items (W.told world.old) (W.told world.new)
+        ) }
+    ensures err { IfErr result (IsNoFlight plan) }
+{
+    let Ok(count) = u32::try_from(lines.len()) else {
+        return Err(FlightError::NoMemory);
+    };
+    let mut actions = Vec::new(alloc);
+    let word = world.word();
+    let (session, numbers) = match submitted(rt, alloc, plan, word, lines, &mut actions) {
+        Ok(made) => made,
+        Err(error) => return Err(error),
+    };
+    let mut session = session;
+    match drive(alloc, &mut session, actions, count, world) {
+        Ok(ending) => Ok(Flight {
+            session,
+            numbers,
+            ending,
+        }),
+        Err(error) => Err(refused(error)),
+    }
+}

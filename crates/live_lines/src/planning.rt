@@ -1,0 +1,61 @@
+ghost use Rattle.std.specs.Prelude.{◌≡◌, IfOk};
+ghost use Rattle.script_text.specs.Lines.{texts};
+ghost use Rattle.live_lines.specs.Plans.{callers_of, digit_count, without_callers, plan_of};
+
+use driver_model::Config;
+use script_text::read_config;
+use std::alloc::{AllocError, Global};
+
+/// What the words of a live run ask for.
+#[derive(Drop)]
+pub struct Plan {
+    /// How many callers submit its lines: 1 to 8.
+    pub callers: u32,
+    pub config: Config,
+}
+
+/// The number from 1 to 8 that a value is.
+fn digit_count(value: &[u8]) -> Option<u32>
+    ensures { result ≡ digit_count value.now }
+{
+    match value {
+        [digit] if *digit >= b'1' && *digit <= b'8' => Some(u32::from(*digit - b'0')),
+        _ => None,
+    }
+}
+
+/// How many callers a word sets.
+fn callers_of(word: &[u8]) -> Option<u32>
+    ensures { result ≡ callers_of word.now }
+{
+    let key = b"callers=".as_slice();
+    if word.len() < key.len() || &word[..key.len()] != key {
+        return None;
+    }
+    digit_count(&word[key.len()..])
+}
+
+/// How many callers words set, and the words behind that.
+fn without_callers(words: &[String]) -> (u32, &[String])
+    ensures { (result.0, texts result.1.now) ≡ without_callers (texts words.now) }
+{
+    let [first, rest @ ..] = words else {
+        return (1, words);
+    };
+    match callers_of(first.as_bytes()) {
+        Some(callers) => (callers, rest),
+        None => (1, words),
+    }
+}
+
+/// What the words behind `live` ask for: `callers=K` or nothing, and the words of a configuration. `None` where they make
+/// no configuration.
+pub fn plan_of(alloc: Global, words: &[String]) -> Result<Option<Plan>, AllocError>
+    ensures { IfOk result (λ plan. plan ≡ plan_of (texts words.now)) }
+{
+    let (callers, settings) = without_callers(words);
+    match read_config(alloc, settings)? {
+        Some(config) => Ok(Some(Plan { callers, config })),
+        None => Ok(None),
+    }
+}

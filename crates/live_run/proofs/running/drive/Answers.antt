@@ -1,0 +1,12 @@
+use Rattle.live_run.proofs.Runs.{broke_more, broke_nothing}
+use Rattle.live_run.proofs.Whole.{driven}
+use Rattle.live_run.proofs.running.drive.Goals as goal
+
+pub returns-in-Err-clause-err : goal.returns-in-Err-clause-err
+returns-in-Err-clause-err g c = broke_nothing
+
+pub returns-in-Ok-end-clause-driven : goal.returns-in-Ok-end-clause-driven
+returns-in-Ok-end-clause-driven g c = driven (rw (c.new-book.ensures.count, c.new-book.ensures.unclosed) at c.in-Ok-run.ensures.did) c.in-Ok-end.ensures.did
+
+pub returns-clause-err : goal.returns-clause-err
+returns-clause-err g c = broke_more c.in-Ok-run.ensures.did c.in-Err-end.ensures.err

@@ -1,0 +1,32 @@
+-- When a run is over.
+use Rattle.std.specs.Prelude.{◌≡◌, ℕ, ◌<◌, ◌≤◌, Option, Some, None, length}
+use Rattle.live_run.specs.declared.ending.Ending.{Ending}
+use Rattle.live_run.specs.declared.ending.Ending.TheVariants.{Answered, Idle, Full}
+use Rattle.shared_session.specs.History.{History}
+use Rattle.shared_session.specs.Replay.{outcome_at, outcomes_in, trace_of}
+
+-- how many events a history holds at most before its shutdown
+abbrev pub most_events : ℕ
+most_events = 9_999_999
+
+-- the submission has no outcome yet
+abbrev pub IsOpen : History → ℕ → Type 0
+IsOpen s n = outcome_at (outcomes_in (trace_of s.config s.word s.events)) n ≡ None
+
+-- each of so many submissions has its outcome
+abbrev pub AreAnswered : History → ℕ → Type 0
+AreAnswered s count = (n : ℕ) → n < count → IsOpen s n → ⊥
+
+-- the history isn't full, and some submission has no outcome yet
+pub record IsGoing (s : History) (count : ℕ) : Type 0 where
+  pub room : length s.events < most_events
+  pub open_one : ℕ
+  pub asked : open_one < count
+  pub is_open : IsOpen s open_one
+
+-- why a run is over before its passes are all idle, if it is
+abbrev pub Over : Option Ending → History → ℕ → Type 0
+Over None s count = Unit {0}
+Over (Some Answered) s count = AreAnswered s count
+Over (Some Full) s count = most_events ≤ length s.events
+Over (Some Idle) s count = ⊥

@@ -1,0 +1,17 @@
+//! Drives a session over a world: the answers of its links, its timers and its words become the events of the session.
+#![tactic(auto)]
+
+mod book;
+mod deeds;
+mod ending;
+mod links;
+mod passes;
+mod rooms;
+mod running;
+#[cfg(test)]
+mod tests;
+mod timers;
+mod verdict;
+
+pub use ending::Ending;
+pub use running::drive;

@@ -1,0 +1,5 @@
+pub mod Lines
+pub mod Prints
+pub mod Sides
+pub mod Status
+pub mod Streaming

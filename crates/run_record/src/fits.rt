@@ -1,0 +1,184 @@
+ghost use Rattle.std.specs.Prelude.{All, ◌<◌, ◌^◌};
+ghost use Rattle.std.specs.Bool.{MatchBool};
+ghost use Rattle.text_laws.specs.Fits.{AreBytes, FitsCommands, FitsSubmission, FitsNumber, FitsKind};
+ghost use Rattle.text_laws.specs.Fits.{FitsEvent, FitsLimit, FitsConfig, FitsHistory, HasForm, HaveForms};
+
+use containers::{Bytes, Names};
+use driver_model::{Config, Event, EventKind, Submission};
+use shared_session::Session;
+use text_laws::a_slice_has_bytes;
+
+/// Does nothing. Its contract: a number of 32 bits is below 2^32.
+fn number_fits(number: u32)
+    ensures { number < 2 ^ 32 }
+{}
+
+/// Does nothing. Its contract: a number of 64 bits is below 2^64.
+fn large_number_fits(number: u64)
+    ensures { number < 2 ^ 64 }
+{}
+
+/// Does nothing. Its contract: so is a number of 32 bits that may be left out.
+fn optional_number_fits(number: Option<u32>)
+    ensures { FitsNumber (2 ^ 32) number }
+{
+    match number {
+        Some(number) => number_fits(number),
+        None => {}
+    }
+}
+
+/// Does nothing. Its contract: so is one of 64 bits.
+fn optional_large_number_fits(number: Option<u64>)
+    ensures { FitsNumber (2 ^ 64) number }
+{
+    match number {
+        Some(number) => large_number_fits(number),
+        None => {}
+    }
+}
+
+/// Does nothing. Its contract: so is a limit of time that may be left out.
+fn limit_fits(limit: Option<Option<u64>>)
+    ensures { FitsLimit limit }
+{
+    match limit {
+        Some(number) => optional_large_number_fits(number),
+        None => {}
+    }
+}
+
+/// Does nothing. Its contract: what words have are bytes.
+fn words_fit(words: &[Bytes])
+    ensures { All AreBytes words.now }
+{
+    for word in words {
+        a_slice_has_bytes(word.as_slice());
+    }
+}
+
+/// Does nothing. Its contract: so is what the words of commands have.
+fn commands_fit(commands: &[Names])
+    ensures { FitsCommands commands.now }
+{
+    for command in commands {
+        words_fit(command.as_slice());
+    }
+}
+
+/// Does nothing. Its contract: a submission is one that its type holds.
+fn submission_fits(submission: &Submission)
+    ensures { FitsSubmission submission.now }
+{
+    match submission {
+        Submission::Cmd { args } => words_fit(args.as_slice()),
+        Submission::NoReply { args } => words_fit(args.as_slice()),
+        Submission::Pipe { commands } => commands_fit(commands.as_slice()),
+        Submission::Multi { commands } => commands_fit(commands.as_slice()),
+        Submission::Packed {
+            offset,
+            count,
+            commands,
+        } => {
+            number_fits(*offset);
+            number_fits(*count);
+            commands_fit(commands.as_slice())
+        }
+    }
+}
+
+/// Does nothing. Its contract: so is what happened.
+fn kind_fits(kind: &EventKind)
+    ensures { FitsKind kind.now }
+{
+    match kind {
+        EventKind::Submit { submission } => submission_fits(submission),
+        EventKind::Cancel { submission } => number_fits(*submission),
+        EventKind::Connected { link } => number_fits(*link),
+        EventKind::Refused { link, fault: _ } => number_fits(*link),
+        EventKind::Wrote { link, count } => {
+            number_fits(*link);
+            large_number_fits(*count)
+        }
+        EventKind::Bytes { link, piece } => {
+            number_fits(*link);
+            a_slice_has_bytes(piece.as_slice())
+        }
+        EventKind::Ended { link } => number_fits(*link),
+        EventKind::ReadFault { link, fault: _ } => number_fits(*link),
+        EventKind::WriteFault { link, fault: _ } => number_fits(*link),
+        EventKind::Fired { timer } => number_fits(*timer),
+        EventKind::Timeout { ms } => optional_large_number_fits(*ms),
+        EventKind::Shutdown => {}
+    }
+}
+
+/// Does nothing. Its contract: so is an event.
+fn event_fits(event: &Event)
+    ensures { FitsEvent event.now }
+{
+    large_number_fits(event.word);
+    kind_fits(&event.kind);
+}
+
+/// Does nothing. Its contract: so is a configuration.
+fn config_fits(config: &Config)
+    ensures { FitsConfig config.now }
+{
+    a_slice_has_bytes(config.url.as_slice());
+    limit_fits(config.connect);
+    limit_fits(config.response);
+    optional_number_fits(config.limit);
+    optional_number_fits(config.buffer);
+    optional_large_number_fits(config.boundary);
+}
+
+/// Does nothing. Its contract: so are events.
+fn events_fit(events: &[Event])
+    ensures { All FitsEvent events.now }
+{
+    for event in events {
+        event_fits(event);
+    }
+}
+
+/// Does nothing. Its contract: so is the history of a session.
+pub fn history_fits(session: &Session)
+    ensures { FitsHistory session.now.config session.now.word session.now.events }
+{
+    config_fits(session.config());
+    large_number_fits(session.word());
+    events_fit(session.events());
+}
+
+/// Whether what happened has a form in a script.
+fn has_form(kind: &EventKind) -> bool
+    ensures { MatchBool result (HasForm kind.now) (HasForm kind.now → ⊥) }
+{
+    match kind {
+        EventKind::Submit { submission } => !submission.is_formless(),
+        EventKind::Cancel { submission: _ } => true,
+        EventKind::Connected { link: _ } => true,
+        EventKind::Refused { link: _, fault: _ } => true,
+        EventKind::Wrote { link: _, count: _ } => true,
+        EventKind::Bytes { link: _, piece: _ } => true,
+        EventKind::Ended { link: _ } => true,
+        EventKind::ReadFault { link: _, fault: _ } => true,
+        EventKind::WriteFault { link: _, fault: _ } => true,
+        EventKind::Fired { timer: _ } => true,
+        EventKind::Timeout { ms: _ } => true,
+        EventKind::Shutdown => true,
+    }
+}
+
+/// Whether each event has a form in a script.
+pub fn have_forms(events: &[Event]) -> bool
+    ensures { MatchBool result (HaveForms events.now) (HaveForms events.now → ⊥) }
+{
+    for event in events {
+        if !has_form(&event.kind) {
+            return false;
+        }
+    }
+    true
+}
