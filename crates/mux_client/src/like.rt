@@ -2,11 +2,11 @@ ghost use Rattle.std.specs.Prelude.{◌≡◌, ◌⊎◌, ◌++◌, ◌<◌, ◌
 ghost use Rattle.std.specs.Prelude.{OnOk, OnErr, IfOk, IfErr, IsErrOf, option_copied};
 ghost use Rattle.resp_write.specs.Pack.{pack, pack_pipeline};
 ghost use Rattle.driver_model.specs.News.{told};
-ghost use Rattle.mux_conn.specs.Connection.{is_ready};
+ghost use Rattle.mux_conn.specs.Connection.{is_ready, runs_out};
 ghost use Rattle.mux_conn.specs.Effects.{IsWithin};
 ghost use Rattle.mux_client.specs.Connection.{opened, outcome_of, fault_of, RefusesConnection};
 ghost use Rattle.mux_client.specs.Calls.{next_number, sent, sent_inside, shape_inside, cancelled};
-ghost use Rattle.mux_client.specs.Calls.{stepped, acts_of, RefusesSend};
+ghost use Rattle.mux_client.specs.Calls.{stepped, acts_of, turn_of, RefusesSend};
 
 use crate::act::ConnectionAct;
 use crate::connection::MultiplexedConnection;
@@ -67,7 +67,13 @@ pub trait ConnectionLike {
         ensures acts { OnOk result (
             out.new.items ≡ out.old.items ++ acts_of (seen self.old) (told event.entry.news)
             ) }
-        ensures err { OnErr result (out.new.items ≡ out.old.items) };
+        ensures err { OnErr result (out.new.items ≡ out.old.items) }
+        ensures sound { OnOk result ((seen self.old).core.failure ≡ None) }
+        ensures spent { IsErrOf result ConnectionError.Spent
+            → ((seen self.old).core.failure ≡ Some ConnectionError.Spent)
+            ⊎ (runs_out (turn_of (seen self.old) (told event.entry.news)) ≡ true) }
+        ensures fails { (e : ConnectionError) → IsErrOf result e
+            → (seen self.new).core.failure ≡ Some e };
 
     /// The outcome of a request: none while it is pending.
     fn poll(&self, request: &Pending) -> Option<&Outcome>
