@@ -37,6 +37,23 @@ impl Gate for Meeting {
     }
 }
 
+/// Takes only types that threads share.
+fn is_shared<T: Sync>() {}
+
+/// Takes only types that go to other threads.
+fn crosses<T: Send>() {}
+
+#[test]
+fn sessions_of_callers_are_shared() {
+    is_shared::<SharedSession>();
+    crosses::<SharedSession>();
+}
+
+#[test]
+fn callers_cross_threads() {
+    crosses::<Caller>();
+}
+
 fn get(alloc: Global) -> Result<Submission, AllocError>
     ensures { IfOk result (λ what. has_no_form what ≡ false) }
 {

@@ -10,17 +10,15 @@ use Rattle.outside.specs.declared.world.Call.{Call}
 use Rattle.caller_threads.specs.Submits.{Line}
 use Rattle.std.specs.Prelude.{Result}
 use Rattle.redis_error.specs.declared.config_name.ConfigName.{ConfigName}
-use Rattle.driver_model.specs.Config.{first_fault}
 use Rattle.driver_model.specs.declared.config.Config.{Config}
 use Rattle.program_ends.specs.Lines.{numbered_line, config_line, read_fault_line}
 use Rattle.program_ends.specs.Sides.{Side, Fails, IfTold}
 use Rattle.program_ends.specs.declared.status.Status.{Status}
 use Rattle.program_ends.specs.declared.status.Status.TheVariants as status
 use Rattle.script_text.specs.Lines.{lines_of}
-use Rattle.shared_session.specs.Replay.{IsSound}
 use Rattle.live_lines.specs.Does.{IsLiveRun, IsLineRun, IsConfigRun, IsSpentRun, IsOutput, IsCutRun, EndsWell, DoesLive}
 use Rattle.live_lines.specs.Live.{IsAsked, IsLive, IsPlan, IsRefused, IsRefusedConfig, Writes, flight_text, refusal_line, refusal_status}
-use Rattle.live_lines.specs.Plans.{plan_of}
+use Rattle.live_lines.specs.Plans.{plan_of, refused_of}
 use Rattle.live_lines.specs.declared.flying.Flight.{Flight}
 use Rattle.live_lines.specs.declared.planning.Plan.{Plan}
 use Rattle.live_lines.specs.declared.reading.Refusal.{Refusal}
@@ -167,7 +165,7 @@ module _ (usage : List ℕ) (words : List (List ℕ)) (s : Status) (source sourc
   unknown_by refusal.NoMemory h none = inr refl
 
   -- where all is well but numbers or memory, it is refused for one of these
-  well_refused : (r : Refusal) (bytes : List ℕ) → IsRefused r words source source' → source.bytes ≡ Some bytes → (asked : IsAsked words bytes) → IsSound asked.plan.config → (Fails source source' → ⊥)
+  well_refused : (r : Refusal) (bytes : List ℕ) → IsRefused r words source source' → source.bytes ≡ Some bytes → (asked : IsAsked words bytes) → refused_of asked.plan ≡ None → (Fails source source' → ⊥)
       → (refusal_status r ≡ status.Spent) ⊎ (refusal_status r ≡ status.NoMemory)
   well_refused refusal.Usage bytes h told asked sound reads = absurd (plan_not_none words (record { plan = asked.plan; plans = asked.plans }) h)
   well_refused (refusal.Line n) bytes h told asked sound reads = absurd (ok_not_err (lines_of bytes) asked.lines n asked.reads (h.1 bytes told))
@@ -177,7 +175,7 @@ module _ (usage : List ℕ) (words : List (List ℕ)) (s : Status) (source sourc
   well_refused (refusal.Config name) bytes h told asked sound reads =
       let r = h.1 bytes told in
       let same : asked.plan ≡ r.asked.plan = same_plan asked.plan r.asked.plan (sym asked.plans ∙ r.asked.plans) in
-      absurd (none_some name (sym sound ∙ ap (λ (plan : Plan). first_fault plan.config) same ∙ r.refused))
+      absurd (none_some name (sym sound ∙ ap refused_of same ∙ r.refused))
     where
       same_plan : (a b : Plan) → Some a ≡ Some b → a ≡ b
       same_plan a b e = cc

@@ -1,6 +1,9 @@
 mod Allowed
 mod Dealt
 mod Does
+mod Orders
 mod Sources
 mod Submitted
+mod Unbroken
 mod Writing
+pub mod Texts

@@ -8,9 +8,8 @@ use Rattle.program_ends.specs.declared.status.Status.{Status}
 use Rattle.program_ends.specs.declared.status.Status.TheVariants as status
 use Rattle.redis_error.specs.declared.config_name.ConfigName.{ConfigName}
 use Rattle.script_text.specs.Lines.{lines_of}
-use Rattle.shared_session.specs.Replay.{IsSound}
 use Rattle.live_lines.specs.Live.{IsAsked, IsLive, IsRefused, IsRefusedConfig, flight_text, refusal_line}
-use Rattle.live_lines.specs.Plans.{plan_of}
+use Rattle.live_lines.specs.Plans.{plan_of, refused_of}
 use Rattle.live_lines.specs.declared.flying.Flight.{Flight}
 use Rattle.live_lines.specs.declared.reading.Refusal.{Refusal}
 
@@ -54,7 +53,7 @@ pub record IsCutRun (usage : List ℕ) (words : List (List ℕ)) (bytes : List �
 -- its end, or numbers run out, or memory is refused
 abbrev pub EndsWell : List (List ℕ) → List ℕ → Status → Side → Side → Side → Side → Type 0
 EndsWell words bytes s source source' sink sink' =
-    (asked : IsAsked words bytes) → IsSound asked.plan.config → (Fails source source' → ⊥) → (Fails sink sink' → ⊥)
+    (asked : IsAsked words bytes) → refused_of asked.plan ≡ None → (Fails source source' → ⊥) → (Fails sink sink' → ⊥)
     → (s ≡ status.Done) ⊎ (s ≡ status.NoMemory) ⊎ (s ≡ status.Spent)
 
 -- What a live run does that ends with this status, where this line tells words that are no plan: from its source, its sink and

@@ -1,14 +1,13 @@
 -- What a live run is: callers submit its lines, and then the session is driven over the world until it ends.
-use Rattle.std.specs.Prelude.{◌≡◌, ℕ, ◌<◌, List, [], length, max, Option}
+use Rattle.std.specs.Prelude.{◌≡◌, ℕ, ◌<◌, false, List, [], length, max, Option, Some}
 use Rattle.caller_threads.specs.declared.job.Turn.{Turn}
-use Rattle.caller_threads.specs.Submits.{Line, AreTurnsOf, IsTold, places_of, numbers_of}
-use Rattle.driver_model.specs.declared.action.Action.{Action}
+use Rattle.caller_threads.specs.Submits.{Line, AreTurnsOf, places_of, numbers_of}
 use Rattle.driver_model.specs.declared.config.Config.{Config}
-use Rattle.driver_model.specs.Config.{first_fault}
 use Rattle.live_lines.specs.declared.flying.Flight.{Flight}
 use Rattle.live_lines.specs.declared.flying.FlightError.{FlightError}
 use Rattle.live_lines.specs.declared.flying.FlightError.TheVariants as flight
 use Rattle.live_lines.specs.declared.planning.Plan.{Plan}
+use Rattle.live_lines.specs.Plans.{refused_of}
 use Rattle.live_run.specs.Driven.{Driven}
 use Rattle.outside.specs.World.{Adds}
 use Rattle.outside.specs.declared.world.Call.{Call}
@@ -17,7 +16,7 @@ use Rattle.session_callers.specs.Calls.{Known}
 use Rattle.caller_threads.specs.Lines.{share}
 use Rattle.session_callers.specs.Rule.{times, below, Ascends}
 use Rattle.shared_session.specs.History.{History}
-use Rattle.shared_session.specs.Replay.{IsSound, opening_actions}
+use Rattle.shared_session.specs.Replay.{AreGood, IsSound, trace_of}
 
 -- a caller of a session of this configuration and word, which has submitted nothing
 abbrev pub IsBare : Config → ℕ → Known → Type 0
@@ -29,31 +28,30 @@ callers_of plan = max 1 plan.callers
 
 -- The callers of a plan have submitted these lines and nothing else: each line stands in the history at the place of its turn,
 -- with the number that it was given; each place of the history is that of one line; the lines of one caller, line i being that
--- of caller i modulo their number, stand there in their order; and the first pass performs what was asked by the opening, and
--- then by these turns in the order of the history.
-pub record AreSubmitted (plan : Plan) (word : ℕ) (lines : List Line) (numbers : List ℕ) (s : History) (actions : List Action) : Type 0 where
+-- of caller i modulo their number, stand there in their order; and none of the events is bad.
+pub record AreSubmitted (plan : Plan) (word : ℕ) (lines : List Line) (numbers : List ℕ) (s : History) : Type 0 where
   pub config : (s.config ≡ plan.config) × (s.word ≡ word)
   pub turns : List Turn
   pub each : AreTurnsOf plan.config word s.events lines turns
   pub given : numbers ≡ numbers_of turns
   pub once : (p : ℕ) → times p (places_of turns) ≡ below p (length s.events)
   pub order : (c : ℕ) → c < callers_of plan → Ascends 0 (places_of (share (callers_of plan) c turns)) (length s.events)
-  pub told : IsTold turns (opening_actions plan.config word) actions
+  pub good : AreGood plan.config word s.events
 
--- The live run of a plan and these lines, which came to its end: nothing of the configuration is refused; the session's word
--- is the world's first; the lines are submitted, and then the session is driven.
+-- The live run of a plan and these lines, which came to its end: nothing of the plan is refused; the session's word is the
+-- world's first; the lines are submitted, and then the session is driven, by what the trace of their history asks.
 pub record IsFlight (plan : Plan) (lines : List Line) (old new : Option (List Call)) (f : Flight) : Type 0 where
   pub sound : IsSound plan.config
+  pub bare : plan.creds ≡ false
   pub word : ℕ
   pub middle : Option (List Call)
   pub asked : Adds old middle (call.Word word)
   pub opened : History
-  pub actions : List Action
-  pub submitted : AreSubmitted plan word lines f.numbers.items opened actions
-  pub driven : Driven middle new opened f.session (length lines) f.ending
+  pub submitted : AreSubmitted plan word lines f.numbers.items opened
+  pub driven : Driven (trace_of plan.config word opened.events) middle new opened f.session (length lines) f.ending
 
--- why there was none: what is refused first of the configuration, or of numbers and memory
+-- why there was none: what is refused first of the plan, or of numbers and memory
 abbrev pub IsNoFlight : Plan → FlightError → Type 0
-IsNoFlight plan (flight.Config name) = first_fault plan.config ≡ Rattle.std.specs.Prelude.Some name
+IsNoFlight plan (flight.Config name) = refused_of plan ≡ Some name
 IsNoFlight plan (flight.Spent events) = Unit {0}
 IsNoFlight plan flight.NoMemory = Unit {0}

@@ -1,7 +1,6 @@
 -- What is written of a live run, and why there is none.
 use Rattle.std.specs.Prelude.{◌≡◌, ⊤, ◌⊎◌, ℕ, ◌+◌, List, [], Option, Some, None, Ok, Err, codes}
 use Rattle.caller_threads.specs.Submits.{Line}
-use Rattle.driver_model.specs.Config.{first_fault}
 use Rattle.redis_error.specs.declared.config_name.ConfigName.{ConfigName}
 use Rattle.outside.specs.Ends.{Gained, GainedPart}
 use Rattle.outside.specs.declared.world.Call.{Call}
@@ -12,7 +11,7 @@ use Rattle.program_ends.specs.declared.status.Status.TheVariants as status
 use Rattle.script_text.specs.Lines.{lines_of}
 use Rattle.live_lines.specs.Flights.{IsFlight}
 use Rattle.live_lines.specs.Outcomes.{outcome_lines, outcomes_of}
-use Rattle.live_lines.specs.Plans.{plan_of}
+use Rattle.live_lines.specs.Plans.{plan_of, refused_of}
 use Rattle.live_lines.specs.declared.flying.Flight.{Flight}
 use Rattle.live_lines.specs.declared.planning.Plan.{Plan}
 use Rattle.live_lines.specs.declared.reading.Refusal.{Refusal}
@@ -36,10 +35,10 @@ pub record IsLive (words : List (List ℕ)) (bytes : List ℕ) (left : Option (L
   pub ended : left ≡ Some []
   pub flight : IsFlight asked.plan asked.lines old new f
 
--- they were, and the configuration is refused, first for what it says of this name
+-- they were, and the plan is refused, first for what it says of this name
 pub record IsRefusedConfig (words : List (List ℕ)) (bytes : List ℕ) (name : ConfigName) : Type 0 where
   pub asked : IsAsked words bytes
-  pub refused : first_fault asked.plan.config ≡ Some name
+  pub refused : refused_of asked.plan ≡ Some name
 
 -- the words are a plan
 pub record IsPlan (words : List (List ℕ)) : Type 0 where

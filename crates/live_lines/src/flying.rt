@@ -1,8 +1,7 @@
-ghost use Rattle.std.specs.Prelude.{◌≡◌, ◌≤◌, ◌++◌, [], length, max, IfOk, IfErr, IsErrOf};
+ghost use Rattle.std.specs.Prelude.{◌≡◌, ◌≤◌, ◌++◌, [], false, length, max, IfOk, IfErr, IsErrOf};
 ghost use Rattle.caller_threads.specs.Submits.{IsAllowed};
-ghost use Rattle.driver_model.specs.Config.{first_fault};
 ghost use Rattle.session_callers.specs.Rule.{Each};
-ghost use Rattle.shared_session.specs.Replay.{IsSound};
+ghost use Rattle.shared_session.specs.Replay.{IsSound, trace_of};
 ghost use Rattle.live_lines.specs.Flights.{AreSubmitted, IsBare, IsFlight, IsNoFlight};
 
 use crate::planning::Plan;
@@ -30,7 +29,7 @@ pub struct Flight {
 /// Why a live run did not come to its end.
 #[derive(Clone, Copy, PartialEq, Eq)]
 pub enum FlightError {
-    /// The configuration is refused for this.
+    /// The plan is refused for this.
     Config(ConfigName),
     /// A number ran out at the step of an event, behind so many events.
     Spent(u32),
@@ -39,11 +38,13 @@ pub enum FlightError {
 
 /// Why the step of a live run was refused. Its events are never bad.
 fn refused(error: StepError) -> FlightError
+    requires { error ≡ StepError.BadEvent → ⊥ }
     ensures { (plan : Plan) → IsNoFlight plan result }
 {
     match error {
+        StepError::BadEvent => unreachable!(),
         StepError::Spent { events } => FlightError::Spent(events),
-        StepError::BadEvent | StepError::NoMemory => FlightError::NoMemory,
+        StepError::NoMemory => FlightError::NoMemory,
     }
 }
 
@@ -92,17 +93,28 @@ fn submitted<R: Threads + Wait + Sync>(
     requires none { actions.old.items ≡ [] }
     requires allowed { Each IsAllowed lines.items }
     ensures sound { IfOk result (λ _. IsSound plan.config) }
+    ensures bare { IfOk result (λ _. plan.creds ≡ false) }
     ensures submitted { IfOk result (λ made.
-        AreSubmitted plan word lines.items made.1.items made.0 actions.new.items
+        AreSubmitted plan word lines.items made.1.items made.0
+        ) }
+    ensures asked { IfOk result (λ made.
+        actions.new.items ≡ trace_of plan.config word made.0.events
         ) }
     ensures err { IfErr result (IsNoFlight plan) }
 {
-    let Plan { callers, config } = plan;
+    let Plan {
+        callers,
+        config,
+        creds,
+    } = plan;
     let (shared, first) = match SharedSession::new(alloc, config, word, actions) {
         Ok(made) => made,
         Err(MakeError::Config { name }) => return Err(FlightError::Config(name)),
         Err(MakeError::NoMemory) => return Err(FlightError::NoMemory),
     };
+    if creds {
+        return Err(FlightError::Config(ConfigName::Creds));
+    }
     let Ok(mut callers) = join_all(rt, alloc, &shared, first, callers) else {
         return Err(FlightError::NoMemory);
     };

@@ -88,7 +88,18 @@ fn run_of<R: Threads + Wait + Sync>(
         "response=none",
         "lib=off",
     ];
-    let words = texts(alloc, &words)?;
+    run_by(rt, alloc, &words, lines, world)
+}
+
+/// What the live run of these words comes to.
+fn run_by<R: Threads + Wait + Sync>(
+    rt: &R,
+    alloc: Global,
+    words: &[&str],
+    lines: &[u8],
+    world: &mut MemWorld,
+) -> Result<(Status, Bytes), AllocError> {
+    let words = texts(alloc, words)?;
     let text = Bytes::from_slice(alloc, lines)?;
     let mut source = MemSource::new(text, 1000, Seq::new(alloc));
     let mut sink = MemSink::new(alloc, 1000, Seq::new(alloc));
@@ -197,5 +208,37 @@ fn words_that_are_no_plan_are_told(rt: HostRuntime) -> Result<(), AllocError> {
     let (status, text) = run_of(&rt, alloc, "callers=9", LINES, &mut world)?;
     assert_eq!(rt; status.number(), 1);
     assert_eq!(rt; text.as_slice(), USAGE);
+    Ok(())
+}
+
+/// Settings, the status of their run, and what it writes first.
+const CREDENTIALS: [([&str; 3], u8, &[u8]); 5] = [
+    (
+        ["creds=on", "lib=off", "connect=none"],
+        3,
+        b"config creds\n",
+    ),
+    (["lib=off", "creds=on", "limit=0"], 3, b"config limit\n"),
+    (["creds=on", "creds=on", "lib=off"], 1, USAGE),
+    (["creds=yes", "lib=off", "connect=none"], 1, USAGE),
+    (
+        ["lib=off", "connect=none", "creds=off"],
+        0,
+        b"outcome s0 ok +x%0D%0A\n",
+    ),
+];
+
+#[test]
+fn credentials_are_refused(rt: HostRuntime) -> Result<(), AllocError> {
+    let alloc = rt.alloc();
+    let lines = b"submit cmd GET a\nend\n";
+    for (settings, number, wanted) in CREDENTIALS {
+        let [first, second, third] = settings;
+        let words = ["single", URL, "response=none", first, second, third];
+        let mut world = world_of(alloc, Dialed::Yes, &LATE, ALL, b"+x\r\n")?;
+        let (status, text) = run_by(&rt, alloc, &words, lines, &mut world)?;
+        assert_eq!(rt; status.number(), number);
+        assert_eq!(rt; text.as_slice(), wanted);
+    }
     Ok(())
 }

@@ -1,131 +1,120 @@
--- How many links are still to be closed.
-use Rattle.std.proofs.Common.{arith, ◌≡◌, ℕ, ◌+◌, List, [], ◌∷◌, ◌++◌, Option, Some, slice_get, append_assoc, refl, ◌∙◌, sym, ap}
-use Rattle.std.proofs.lemmas.List.{append-nil}
-use Rattle.std.specs.Prelude.{remove, suc, zero}
+-- How many links are still to be closed, and what closes them.
+use Rattle.std.proofs.Common.{arith, ◌≡◌, ℕ, ◌+◌, ◌==◌, Bool, true, false, List, [], ◌∷◌, ◌++◌, Option, append_assoc, if◌then◌else◌, refl, ◌∙◌, sym, ap}
+use Rattle.containers.proofs.Choices.{eq_from, left_if}
+use Rattle.driver_model.specs.declared.action.Action.{Action}
+use Rattle.driver_model.specs.declared.action.Action.TheVariants as action
 use Rattle.outside.specs.World.{Adds}
 use Rattle.outside.specs.declared.world.Call.{Call}
 use Rattle.outside.specs.declared.world.Call.TheVariants as call
-use Rattle.outside.specs.declared.world.Dialed.{Dialed}
-use Rattle.shared_session.specs.History.{History}
-use Rattle.live_run.specs.Deeds.{Deed, did, fired, shut, Each, Does, Told}
-use Rattle.live_run.specs.Passes.{One, IsTask, IsRead, IsWrite, IsFire}
-use Rattle.live_run.specs.Closing.{one, times, connected, up_of, closed_of, ups, downs, close_calls, Balanced, AreTasks}
-use Rattle.live_run.proofs.Runs.{did_quiet, does_none, does_as, does_more, each_more, told_none, told_adds, told_more, one_task, one_close}
+use Rattle.outside.specs.declared.world.Dialed.TheVariants as dialed
+use Rattle.outside.specs.declared.world.LinkGot.TheVariants as got
+use Rattle.outside.specs.declared.world.LinkPut.TheVariants as put
+use Rattle.live_run.specs.declared.agenda.Agenda.{Agenda}
+use Rattle.live_run.specs.Agenda.{answered, behind, noted, noted_each, removed, stands, to_close, undialled, without}
+use Rattle.live_run.specs.Deeds.{Deed, did, fired, Told, IsFirst, MayCall, May, AllMay, after, after_each}
+use Rattle.live_run.specs.Closing.{times, connected, closed, ups, downs, close_calls}
+use Rattle.live_run.proofs.Searches.{unmoved}
+use Rattle.live_run.proofs.Runs.{told_adds, told_more}
 
 pub times_more : (n : ℕ) (xs ys : List ℕ) → times n (xs ++ ys) ≡ times n xs + times n ys
 times_more n [] ys = omega arith
 times_more n (x ∷ xs) ys = let e = times_more n xs ys in omega (arith, e)
 
-pub times_remove : (n x : ℕ) (xs : List ℕ) (i : ℕ) → slice_get xs i ≡ Some x → times n xs ≡ one n x + times n (remove xs i)
-times_remove n x [] i is = absurd (cc)
-times_remove n x (y ∷ ys) zero is = ap (λ (z : ℕ). one n z + times n ys) (let e : y ≡ x = cc in e)
-times_remove n x (y ∷ ys) (suc i) is = let e = times_remove n x ys i is in omega (arith, e)
+-- how often a link is still to be closed
+abbrev pub held : ℕ → Agenda → ℕ
+held n a = times n a.closes + times n a.unclosed
 
-ups_more : (n : ℕ) (xs ys : List Deed) → ups n (xs ++ ys) ≡ ups n xs + ups n ys
-ups_more n [] ys = omega arith
-ups_more n (x ∷ xs) ys = let e = ups_more n xs ys in omega (arith, e)
+removed_by : (n l x : ℕ) (xs ys : List ℕ) (b : Bool) → (b ≡ true → x ≡ l) → (b ≡ false → times n xs ≡ times n (l ∷ []) + times n ys)
+    → times n (x ∷ xs) ≡ times n (l ∷ []) + times n (if b then xs else x ∷ ys)
+removed_by n l x xs ys true same h = rw (same refl) (omega arith)
+removed_by n l x xs ys false same h = let e = h refl in omega (arith, e)
 
-downs_more : (n : ℕ) (xs ys : List Deed) → downs n (xs ++ ys) ≡ downs n xs + downs n ys
-downs_more n [] ys = omega arith
-downs_more n (x ∷ xs) ys = let e = downs_more n xs ys in omega (arith, e)
+stood_by : (b c : Bool) → (if b then true else c) ≡ true → b ≡ false → c ≡ true
+stood_by true c e f = absurd (cc)
+stood_by false c e f = e
 
-pub balanced_none : (old : List ℕ) → Balanced old old []
-balanced_none old n = refl
+-- a link that is taken out
+times_removed : (n l : ℕ) (xs : List ℕ) → stands l xs ≡ true → times n xs ≡ times n (l ∷ []) + times n (removed l xs)
+times_removed n l [] is = absurd (cc)
+times_removed n l (x ∷ xs) is = removed_by n l x xs (removed l xs) (x == l) (λ t. eq_from x l t) (λ f. times_removed n l xs (stood_by (x == l) (stands l xs) is f))
 
-pub balanced_more : (a b c : List ℕ) (xs ys : List Deed) → Balanced a b xs → Balanced b c ys → Balanced a c (xs ++ ys)
-balanced_more a b c xs ys one_ two n =
-    let u = ups_more n xs ys in
-    let d = downs_more n xs ys in
-    let p = one_ n in
-    let q = two n in
-    omega (arith, u, d, p, q)
+closed_by : (n l : ℕ) (a : Agenda) (b : Bool) → (b ≡ true → times n a.unclosed ≡ times n (l ∷ []) + times n (removed l a.unclosed))
+    → held n (if b then record a { unclosed = removed l a.unclosed; closes = a.closes ++ l ∷ [] } else a) ≡ held n a
+closed_by n l a true h = let e = h refl in let m = times_more n a.closes (l ∷ []) in omega (arith, e, m)
+closed_by n l a false h = refl
 
--- deeds that neither connect nor close
-pub record Still (ds : List Deed) : Type 0 where
-  pub up : (n : ℕ) → ups n ds ≡ 0
-  pub down : (n : ℕ) → downs n ds ≡ 0
+held_close : (n l : ℕ) (a : Agenda) → held n (to_close a l) ≡ held n a
+held_close n l a = closed_by n l a (stands l a.unclosed) (λ t. times_removed n l a.unclosed t)
 
-pub still_balanced : (old : List ℕ) (ds : List Deed) → Still ds → Balanced old old ds
-still_balanced old ds still n = let u = still.up n in let d = still.down n in omega (arith, u, d)
+-- an action is asked
+held_noted : (n : ℕ) (a : Agenda) (x : Action) → held n (noted a x) ≡ held n a
+held_noted n a (action.Close l) = held_close n l (record a { links = without l a.links; dials = undialled l a.dials })
+held_noted n a (action.Connect l host port) = refl
+held_noted n a (action.Timer t ms what) = refl
+held_noted n a (action.Write l bytes) = refl
+held_noted n a (action.Turn number c) = refl
+held_noted n a (action.Took who l count) = refl
+held_noted n a (action.Start l message who count len) = refl
+held_noted n a (action.Wait who kind) = refl
+held_noted n a (action.Created e) = refl
+held_noted n a (action.Outcome k o) = refl
 
-still_more : (d : Deed) (ds : List Deed) → up_of d ≡ [] → closed_of d ≡ [] → Still ds → Still (d ∷ ds)
-still_more d ds up down still = record {
-  up = λ n. rw up (let e = still.up n in omega (arith, e));
-  down = λ n. rw down (let e = still.down n in omega (arith, e));
-}
+held_each : (n : ℕ) (a : Agenda) (xs : List Action) → held n (noted_each a xs) ≡ held n a
+held_each n a [] = refl
+held_each n a (x ∷ xs) = held_each n (noted a x) xs ∙ held_noted n a x
 
-still_none : Still []
-still_none = record { up = λ n. refl; down = λ n. refl }
+held_front : (n l : ℕ) (a : Agenda) (xs : List ℕ) → a.closes ≡ xs → IsFirst xs l → held n a ≡ times n (l ∷ []) + held n (record a { closes = behind xs })
+held_front n l a [] is first = absurd first
+held_front n l a (x ∷ xs) is first = rw (is, first) (omega arith)
 
-pub still_reads : (ds : List Deed) → Each IsRead ds → Still ds
-still_reads [] h = still_none
-still_reads (did (call.Read link room answer bytes) word ∷ ds) h = still_more _ ds refl refl (still_reads ds h.1)
-still_reads (did (call.Dial link host port answer) word ∷ ds) h = absurd h.0
-still_reads (did (call.Write link piece answer) word ∷ ds) h = absurd h.0
-still_reads (did (call.Close link) word ∷ ds) h = absurd h.0
-still_reads (did (call.Now moment) word ∷ ds) h = absurd h.0
-still_reads (did (call.Word told) word ∷ ds) h = absurd h.0
-still_reads (did (call.Wait ms) word ∷ ds) h = absurd h.0
-still_reads (fired timer word ∷ ds) h = absurd h.0
-still_reads (shut word ∷ ds) h = absurd h.0
+-- a call is answered
+held_answered : (n : ℕ) (a : Agenda) (c : Call) (word : ℕ) (actions : List Action) → MayCall a c → times n (connected (did c word actions)) + held n a ≡ times n (closed (did c word actions)) + held n (answered a c)
+held_answered n a (call.Dial l host port dialed.Yes) word actions may = let m = times_more n a.unclosed (l ∷ []) in omega (arith, m)
+held_answered n a (call.Dial l host port (dialed.Failed fault)) word actions may = refl
+held_answered n a (call.Read l room (got.Read k) bytes) word actions may = refl
+held_answered n a (call.Read l room got.NotYet bytes) word actions may = refl
+held_answered n a (call.Read l room got.Ended bytes) word actions may = refl
+held_answered n a (call.Read l room (got.Failed fault) bytes) word actions may = refl
+held_answered n a (call.Write l piece (put.Took k)) word actions may = refl
+held_answered n a (call.Write l piece put.NotYet) word actions may = refl
+held_answered n a (call.Write l piece (put.Failed fault)) word actions may = refl
+held_answered n a (call.Close l) word actions may = let e = held_front n l a a.closes refl may in omega (arith, e)
+held_answered n a (call.Now moment) word actions may = ap (λ (k : ℕ). 0 + k) (sym (held_each n (record a { early = []; moment = moment }) a.early))
+held_answered n a (call.Word told) word actions may = absurd may
+held_answered n a (call.Wait ms) word actions may = refl
 
-pub still_writes : (ds : List Deed) → Each IsWrite ds → Still ds
-still_writes [] h = still_none
-still_writes (did (call.Write link piece answer) word ∷ ds) h = still_more _ ds refl refl (still_writes ds h.1)
-still_writes (did (call.Dial link host port answer) word ∷ ds) h = absurd h.0
-still_writes (did (call.Read link room answer bytes) word ∷ ds) h = absurd h.0
-still_writes (did (call.Close link) word ∷ ds) h = absurd h.0
-still_writes (did (call.Now moment) word ∷ ds) h = absurd h.0
-still_writes (did (call.Word told) word ∷ ds) h = absurd h.0
-still_writes (did (call.Wait ms) word ∷ ds) h = absurd h.0
-still_writes (fired timer word ∷ ds) h = absurd h.0
-still_writes (shut word ∷ ds) h = absurd h.0
+held_after : (n : ℕ) (a : Agenda) (d : Deed) → May a d → times n (connected d) + held n a ≡ times n (closed d) + held n (after a d)
+held_after n a (did c word actions) may = let e = held_answered n a c word actions may in let f = held_each n (answered a c) actions in omega (arith, e, f)
+held_after n a (fired timer word actions) may = let f = held_each n (record a { timers = behind a.timers }) actions in omega (arith, f)
 
-pub still_fires : (ds : List Deed) → Each IsFire ds → Still ds
-still_fires [] h = still_none
-still_fires (fired timer word ∷ ds) h = still_more _ ds refl refl (still_fires ds h.1)
-still_fires (did c word ∷ ds) h = absurd h.0
-still_fires (shut word ∷ ds) h = absurd h.0
-
-pub tasks_none : (old : List ℕ) → AreTasks old old []
-tasks_none old = (tt, balanced_none old)
-
-pub tasks_dialled : {old new : Option (List Call)} {before after : History} (links now_links : List ℕ) {link : ℕ} {host : List ℕ} {port : ℕ} {answer : Dialed}
-    → Does old new before after (One (call.Dial link host port answer)) → now_links ≡ links ++ connected link answer → Does old new before after (AreTasks links now_links)
-tasks_dialled links now_links {link} {host} {port} {answer} done is = does_as (λ ds form.
-    (one_task link host port answer ds form, rw (form.1, is) (λ n. let e = times_more n links (connected link answer) in omega (arith, e)))) done
-
-pub tasks_closed : {old new : Option (List Call)} {before : History} (links now_links : List ℕ) {link : ℕ} → Adds old new (call.Close link)
-    → ((n : ℕ) → times n links ≡ one n link + times n now_links) → Does old new before before (AreTasks links now_links)
-tasks_closed links now_links {link} adds is = does_as (λ ds form.
-    (one_close link ds form, rw form.1 (λ n. let e = is n in omega (arith, e)))) (did_quiet (call.Close link) adds refl)
-
--- none was closed
-pub tasks_same : {old : Option (List Call)} {before : History} (links now_links : List ℕ) → now_links ≡ links → Does old old before before (AreTasks links now_links)
-tasks_same links now_links is = rw is (does_none (tasks_none links))
-
-pub tasks_more : {old mid new : Option (List Call)} {before between after : History} (a b c : List ℕ) → Does old mid before between (AreTasks a b) → Does mid new between after (AreTasks b c) → Does old new before after (AreTasks a c)
-tasks_more a b c first second = does_more (λ xs ys p q. (each_more IsTask xs ys p.0 q.0, balanced_more a b c xs ys p.1 q.1)) first second
-
--- a link is taken out
-pub taken : (n x : ℕ) (xs ys zs : List ℕ) (i : ℕ) → xs ≡ zs → slice_get xs i ≡ Some x → ys ≡ remove xs i → times n zs ≡ one n x + times n ys
-taken n x xs ys zs i same is out = rw (← same, out) (times_remove n x xs i is)
+-- deeds leave as many links to be closed as they connect and don't close
+pub even_after : (n : ℕ) (a : Agenda) (ds : List Deed) → AllMay a ds → ups n ds + held n a ≡ downs n ds + held n (after_each a ds)
+even_after n a [] may = refl
+even_after n a (d ∷ ds) may = let e = held_after n a d may.0 in let f = even_after n (after a d) ds may.1 in omega (arith, e, f)
 
 -- which links were closed, and which are left
-pub record Closing (old new : Option (List Call)) (links left : List ℕ) : Type 0 where
+pub record Closes (old new : Option (List Call)) (links left : List ℕ) : Type 0 where
   pub calls : List Call
   pub told : Told old new calls
   pub rest : calls ++ close_calls left ≡ close_calls links
 
-pub closing_none : {old : Option (List Call)} {links : List ℕ} → Closing old old links links
-closing_none = record { calls = []; told = told_none; rest = refl }
-
-pub closing_more : {old mid new : Option (List Call)} {links left rest : List ℕ} {link : ℕ} → Closing old mid links left → left ≡ link ∷ rest → Adds mid new (call.Close link) → Closing old new links rest
-closing_more {rest = rest} {link = link} first is adds = record {
+pub closes_more : {old mid new : Option (List Call)} {links left rest : List ℕ} {link : ℕ} → Closes old mid links left → left ≡ link ∷ rest → Adds mid new (call.Close link) → Closes old new links rest
+closes_more {rest = rest} {link = link} first is adds = record {
   calls = first.calls ++ call.Close link ∷ [];
   told = told_more first.told (told_adds adds);
   rest = append_assoc first.calls (call.Close link ∷ []) (close_calls rest) ∙ ap (λ (ls : List ℕ). first.calls ++ close_calls ls) (sym is) ∙ first.rest;
 }
 
-pub closing_done : {old new : Option (List Call)} {links left : List ℕ} → Closing old new links left → left ≡ [] → Told old new (close_calls links)
-closing_done {old} {new} first is = rw (sym first.rest, is, append-nil first.calls) first.told
+-- the links of two lists, one after the other
+closes_append : (xs ys : List ℕ) → close_calls (xs ++ ys) ≡ close_calls xs ++ close_calls ys
+closes_append [] ys = refl
+closes_append (x ∷ xs) ys = ap (λ (cs : List Call). call.Close x ∷ cs) (closes_append xs ys)
+
+pub told_closes : {old mid new : Option (List Call)} (xs ys : List ℕ) → Told old mid (close_calls xs) → Told mid new (close_calls ys) → Told old new (close_calls (xs ++ ys))
+told_closes xs ys one two = rw (closes_append xs ys) (told_more one two)
+
+-- a link that is not to be closed
+pub nothing_closed : (a b : Agenda) (l : ℕ) → stands l a.unclosed ≡ false → b ≡ record a { unclosed = removed l a.unclosed } → b ≡ to_close a l
+nothing_closed a b l none is =
+    is ∙ ap (λ (ls : List ℕ). record a { unclosed = ls }) (unmoved l a.unclosed none)
+    ∙ sym (left_if (stands l a.unclosed) (record a { unclosed = removed l a.unclosed; closes = a.closes ++ l ∷ [] }) a none)

@@ -1,15 +1,18 @@
 -- What a whole run is.
 use Rattle.std.specs.Prelude.{◌≡◌, ℕ, ◌+◌, ◌≤◌, List, [], ◌∷◌, ◌++◌, Option, length}
+use Rattle.driver_model.specs.declared.action.Action.{Action}
 use Rattle.driver_model.specs.declared.event.Event.{Event}
 use Rattle.driver_model.specs.declared.event.EventKind.TheVariants as event
 use Rattle.outside.specs.declared.world.Call.{Call}
 use Rattle.outside.specs.declared.world.Call.TheVariants as call
 use Rattle.shared_session.specs.History.{History}
+use Rattle.live_run.specs.declared.agenda.Agenda.{Agenda}
 use Rattle.live_run.specs.declared.ending.Ending.{Ending}
 use Rattle.live_run.specs.declared.ending.Ending.TheVariants.{Answered, Idle, Full}
-use Rattle.live_run.specs.Deeds.{Deed, Told, Went, calls_in, events_in}
+use Rattle.live_run.specs.Agenda.{agenda_of}
+use Rattle.live_run.specs.Deeds.{Deed, Told, AllMay, AreShown, IsGood, after_each, calls_in, events_in}
 use Rattle.live_run.specs.Passes.{AreRounds, EndsIdle}
-use Rattle.live_run.specs.Closing.{Balanced, close_calls, downs, times, ups}
+use Rattle.live_run.specs.Closing.{close_calls, downs, times, ups}
 use Rattle.live_run.specs.Endings.{AreAnswered, most_events}
 use Rattle.live_run.specs.Events.{answers_in, words_in, untimed_in, words_of}
 
@@ -18,24 +21,19 @@ abbrev pub shutdown : ℕ → Event
 shutdown word = record { word = word; kind = event.Shutdown }
 
 -- why a run ended, by the session before its shutdown, and by what was done in its passes
-abbrev pub Ends : Ending → History → ℕ → List Deed → Type 0
-Ends Answered s count deeds = AreAnswered s count
-Ends Full s count deeds = most_events ≤ length s.events
-Ends Idle s count deeds = EndsIdle 6_000 deeds
+abbrev pub Ends : Ending → History → ℕ → Agenda → List Deed → Type 0
+Ends Answered s count a deeds = AreAnswered s count
+Ends Full s count a deeds = most_events ≤ length s.events
+Ends Idle s count a deeds = EndsIdle 6_000 a deeds
 
--- the passes of a run that ended so, and the links that were still to be closed before and after it
-pub record Ran (ending : Ending) (s : History) (count : ℕ) (old new : List ℕ) (deeds : List Deed) : Type 0 where
-  pub balanced : Balanced old new deeds
-  pub rounds : AreRounds deeds
-  pub cause : Ends ending s count deeds
+-- the passes of a run that ended so
+pub record Ran (ending : Ending) (s : History) (count : ℕ) (a : Agenda) (deeds : List Deed) : Type 0 where
+  pub rounds : AreRounds a deeds
+  pub cause : Ends ending s count a deeds
 
--- the shutdown, and then closes of these links
-pub record IsEnd (old new : Option (List Call)) (before after : History) (closes : List ℕ) : Type 0 where
-  pub asked_word : ℕ
-  pub went : Went old new before after (call.Word asked_word ∷ close_calls closes) (shutdown asked_word ∷ [])
-
--- passes, one after another, until the run is over; then the shutdown, and then links are closed
-pub record Driven (old new : Option (List Call)) (before after : History) (count : ℕ) (ending : Ending) : Type 0 where
+-- Passes, one after another, over what the actions of the session ask, these before the first pass, until the run is over; then
+-- the shutdown, and then each link is closed that the world has connected and not closed.
+pub record Driven (early : List Action) (old new : Option (List Call)) (before after : History) (count : ℕ) (ending : Ending) : Type 0 where
   -- the session before its shutdown
   pub last : History
   -- what was done in the passes, the word of the shutdown, and the links that are closed after it
@@ -49,10 +47,16 @@ pub record Driven (old new : Option (List Call)) (before after : History) (count
   pub config_after : after.config ≡ before.config
   pub opening : last.word ≡ before.word
   pub opening_after : after.word ≡ before.word
-  pub rounds : AreRounds deeds
+  -- the deeds have the actions of the trace of their events, turn by turn, none of which is bad
+  pub shown : AreShown before.config before.word before.events deeds
+  pub good : IsGood before → IsGood after
+  -- each deed may be done behind those before it
+  pub may : AllMay (agenda_of early) deeds
+  pub rounds : AreRounds (agenda_of early) deeds
+  pub left : closes ≡ (after_each (agenda_of early) deeds).closes ++ (after_each (agenda_of early) deeds).unclosed
   -- each link is closed as often as a dial of it answered Yes
   pub even : (n : ℕ) → ups n deeds ≡ downs n deeds + times n closes
-  pub cause : Ends ending last count deeds
+  pub cause : Ends ending last count (agenda_of early) deeds
   -- none of the answers is left out, and each event has the word that was told for it
   pub answers : untimed_in (events_in deeds) ≡ answers_in (calls_in deeds)
   pub words : words_of (events_in deeds) ≡ words_in (calls_in deeds)

@@ -1,3 +1,4 @@
+pub mod Agenda
 pub mod Deeds
 pub mod Passes
 pub mod Closing
@@ -5,3 +6,5 @@ pub mod Endings
 pub mod Events
 pub mod Rounds
 pub mod Driven
+pub mod Places
+pub mod Steps

@@ -1,17 +1,32 @@
-ghost use Rattle.std.specs.Prelude.{◌≡◌, ℕ, List, ◌∷◌, ◌<◌, [], length, IfOk, OnOk, OnErr};
-ghost use Rattle.live_run.specs.Deeds.{Broke, Does, Stepped, Asked, answer_of, kinds_in};
-ghost use Rattle.live_run.specs.Passes.{Fires, One, Shuts};
+ghost use Rattle.std.specs.Prelude.{◌≡◌, ℕ, List, ◌∷◌, ◌<◌, [], true, Some, length, IfOk, IfErr, OnOk};
+ghost use Rattle.live_run.specs.Agenda.{first_due};
+ghost use Rattle.live_run.specs.Closing.{close_calls};
+ghost use Rattle.live_run.specs.Deeds.{Broke, Does, IsNameOf, Told, answer_of};
+ghost use Rattle.live_run.specs.Passes.{InTurn, IsDial, IsFire, IsReadOf, IsUp, IsWriteOf, Offers};
+ghost use Rattle.live_run.specs.Steps.{One, Refused, Settled, Stepped, Unsettled, kinds_in, to_dial};
 ghost use Rattle.outside.specs.World.{LinkGotWithin, link_given};
 
-use containers::Bytes;
+use crate::agenda::{Agenda, Target};
+use crate::links::{is_up, unanswered};
+use crate::rooms::ROOM;
+use containers::{Bytes, Queue};
 use driver_model::{Action, Event, EventKind};
 use outside::{Call, Dialed, LinkGot, LinkPut, World};
-use redis_error::FaultKind;
 use shared_session::{Session, StepError};
 use std::alloc::{AllocError, Global};
 
+/// The text of a host. One that is no text is no host.
+fn host_text(host: &Bytes) -> &str
+    ensures { IsNameOf host.now result.now }
+{
+    match str::from_utf8(host.as_slice()) {
+        Ok(text) => text,
+        Err(_) => "",
+    }
+}
+
 /// What a dial's answer is to a session.
-fn after_dial(link: u32, answer: Dialed) -> EventKind
+fn dial_news(link: u32, answer: Dialed) -> EventKind
     ensures { (host : List ℕ) → (port : ℕ) → answer_of (Call.Dial link host port answer) ≡ result ∷ [] }
 {
     match answer {
@@ -21,7 +36,7 @@ fn after_dial(link: u32, answer: Dialed) -> EventKind
 }
 
 /// What a read's answer is to a session, if it is anything.
-fn after_read(
+fn read_news(
     alloc: Global,
     link: u32,
     answer: LinkGot,
@@ -44,7 +59,7 @@ fn after_read(
 }
 
 /// What a write's answer is to a session, if it is anything.
-fn after_write(link: u32, answer: LinkPut) -> Option<EventKind>
+fn write_news(link: u32, answer: LinkPut) -> Option<EventKind>
     ensures { (piece : List ℕ) → answer_of (Call.Write link piece answer) ≡ kinds_in result }
 {
     match answer {
@@ -57,124 +72,173 @@ fn after_write(link: u32, answer: LinkPut) -> Option<EventKind>
     }
 }
 
-/// Asks for a word, and steps an event with it.
-fn step<W: World>(
+/// Asks for a word, and steps an event with it. What its turn asks is given.
+pub(crate) fn step<W: World>(
     alloc: Global,
     session: &mut Session,
     world: &mut W,
     kind: EventKind,
-    gained: &mut Vec<Action>,
-) -> Result<(), StepError>
-    ensures ok { OnOk result (Stepped (W.told world.old) (W.told world.new) session.old session.new kind) }
-    ensures err { OnErr result (Asked (W.told world.old) (W.told world.new) session.old session.new) }
+) -> Result<Vec<Action>, StepError>
+    ensures ok { IfOk result (λ gained.
+        Stepped (W.told world.old) (W.told world.new) session.old session.new kind gained.items) }
+    ensures err { IfErr result (λ error.
+        Refused error (W.told world.old) (W.told world.new) session.old session.new kind) }
 {
+    let mut gained = Vec::new(alloc);
     let word = world.word();
-    match session.step(alloc, Event { word, kind }, gained) {
+    match session.step(alloc, Event { word, kind }, &mut gained) {
+        Ok(()) => Ok(gained),
+        Err(error) => Err(error),
+    }
+}
+
+/// Steps what came of an answer, if anything did, and notes what its turn asks.
+fn settle<W: World>(
+    alloc: Global,
+    agenda: &mut Agenda,
+    session: &mut Session,
+    world: &mut W,
+    kind: Option<EventKind>,
+) -> Result<(), StepError>
+    ensures ok { OnOk result (
+        Settled (W.told world.old) (W.told world.new) session.old session.new
+        (kinds_in kind) agenda.old agenda.new) }
+    ensures err { IfErr result (λ error.
+        Unsettled error (W.told world.old) (W.told world.new) session.old session.new (kinds_in kind)) }
+{
+    let Some(kind) = kind else {
+        return Ok(());
+    };
+    let gained = match step(alloc, session, world, kind) {
+        Ok(gained) => gained,
+        Err(error) => return Err(error),
+    };
+    match agenda.note_all(gained) {
         Ok(()) => Ok(()),
-        Err(error) => Err(error),
-    }
-}
-
-/// Dials a link, and steps the answer.
-pub(crate) fn dial_link<W: World>(
-    alloc: Global,
-    session: &mut Session,
-    world: &mut W,
-    link: u32,
-    host: &str,
-    port: u16,
-    gained: &mut Vec<Action>,
-) -> Result<Dialed, StepError>
-    ensures did { IfOk result (λ answer.
-        Does (W.told world.old) (W.told world.new) session.old session.new (One (Call.Dial link host.now port answer))) }
-    ensures err { OnErr result (Broke (W.told world.old) (W.told world.new) session.old session.new) }
-{
-    let answer = world.dial(link, host, port);
-    match step(alloc, session, world, after_dial(link, answer), gained) {
-        Ok(()) => Ok(answer),
-        Err(error) => Err(error),
-    }
-}
-
-/// Reads a link once, and steps the answer, if it is one.
-pub(crate) fn read_link<W: World>(
-    alloc: Global,
-    session: &mut Session,
-    world: &mut W,
-    link: u32,
-    room: &mut [u8],
-    gained: &mut Vec<Action>,
-) -> Result<LinkGot, StepError>
-    requires { 0 < length room.old }
-    ensures did { IfOk result (λ answer.
-        Does (W.told world.old) (W.told world.new) session.old session.new
-        (One (Call.Read link (length room.old) answer (link_given room.new answer)))) }
-    ensures err { OnErr result (Broke (W.told world.old) (W.told world.new) session.old session.new) }
-{
-    let answer = world.read(link, room);
-    match after_read(alloc, link, answer, room) {
-        Ok(None) => Ok(answer),
-        Ok(Some(kind)) => match step(alloc, session, world, kind, gained) {
-            Ok(()) => Ok(answer),
-            Err(error) => Err(error),
-        },
         Err(_) => Err(StepError::NoMemory),
     }
 }
 
-/// Writes an offer of a link once, and steps the answer, if it is one.
+/// Dials a link, which was the first that is to be dialled.
+pub(crate) fn dial_link<W: World>(
+    alloc: Global,
+    agenda: &mut Agenda,
+    session: &mut Session,
+    world: &mut W,
+    target: Target,
+) -> Result<(), StepError>
+    ensures did { OnOk result (
+        Does (W.told world.old) (W.told world.new) session.old session.new
+        (to_dial target agenda.old) agenda.new (One IsDial)) }
+    ensures err { IfErr result (λ error.
+        Broke error (W.told world.old) (W.told world.new) session.old session.new
+        (to_dial target agenda.old)) }
+{
+    let link = target.link;
+    let name = host_text(&target.host);
+    let answer = world.dial(link, name, target.port);
+    let news = dial_news(link, answer);
+    match agenda.after_dial(alloc, link, answer) {
+        Ok(()) => {}
+        Err(_) => return Err(StepError::NoMemory),
+    }
+    match settle(alloc, agenda, session, world, Some(news)) {
+        Ok(()) => Ok(()),
+        Err(error) => Err(error),
+    }
+}
+
+/// Reads a link once, if it is up.
+pub(crate) fn read_link<W: World>(
+    alloc: Global,
+    agenda: &mut Agenda,
+    session: &mut Session,
+    world: &mut W,
+    room: &mut [u8],
+    link: u32,
+) -> Result<(), StepError>
+    requires { length room.old ≡ ROOM }
+    ensures did { OnOk result (
+        Does (W.told world.old) (W.told world.new) session.old session.new agenda.old agenda.new
+        (InTurn IsUp IsReadOf (link ∷ []) true agenda.old)) }
+    ensures err { IfErr result (λ error.
+        Broke error (W.told world.old) (W.told world.new) session.old session.new agenda.old) }
+{
+    if !is_up(&agenda.links, link) {
+        return Ok(());
+    }
+    let answer = world.read(link, room);
+    let news = match read_news(alloc, link, answer, room) {
+        Ok(news) => news,
+        Err(_) => return Err(StepError::NoMemory),
+    };
+    agenda.after_read(link, answer);
+    match settle(alloc, agenda, session, world, news) {
+        Ok(()) => Ok(()),
+        Err(error) => Err(error),
+    }
+}
+
+/// Writes what a link offers and nothing has answered, whole and once, if it is up and offers anything.
 pub(crate) fn write_link<W: World>(
     alloc: Global,
+    agenda: &mut Agenda,
     session: &mut Session,
     world: &mut W,
     link: u32,
-    offer: &[u8],
-    gained: &mut Vec<Action>,
-) -> Result<LinkPut, StepError>
-    requires { 0 < length offer.now }
-    ensures did { IfOk result (λ answer.
-        Does (W.told world.old) (W.told world.new) session.old session.new (One (Call.Write link offer.now answer))) }
-    ensures err { OnErr result (Broke (W.told world.old) (W.told world.new) session.old session.new) }
+) -> Result<(), StepError>
+    ensures did { OnOk result (
+        Does (W.told world.old) (W.told world.new) session.old session.new agenda.old agenda.new
+        (InTurn Offers IsWriteOf (link ∷ []) true agenda.old)) }
+    ensures err { IfErr result (λ error.
+        Broke error (W.told world.old) (W.told world.new) session.old session.new agenda.old) }
 {
+    let Some(offer) = unanswered(&agenda.links, link) else {
+        return Ok(());
+    };
     let answer = world.write(link, offer);
-    match after_write(link, answer) {
-        None => Ok(answer),
-        Some(kind) => match step(alloc, session, world, kind, gained) {
-            Ok(()) => Ok(answer),
-            Err(error) => Err(error),
-        },
+    let news = write_news(link, answer);
+    agenda.after_write(alloc, link, answer);
+    match settle(alloc, agenda, session, world, news) {
+        Ok(()) => Ok(()),
+        Err(error) => Err(error),
     }
 }
 
-/// Fires a timer.
+/// Fires the timer that is due first.
 pub(crate) fn fire_timer<W: World>(
     alloc: Global,
+    agenda: &mut Agenda,
     session: &mut Session,
     world: &mut W,
     timer: u32,
-    gained: &mut Vec<Action>,
 ) -> Result<(), StepError>
-    ensures did { OnOk result (Does (W.told world.old) (W.told world.new) session.old session.new (Fires timer)) }
-    ensures err { OnErr result (Broke (W.told world.old) (W.told world.new) session.old session.new) }
+    requires { first_due agenda.old ≡ Some timer }
+    ensures did { OnOk result (
+        Does (W.told world.old) (W.told world.new) session.old session.new agenda.old agenda.new
+        (One IsFire)) }
+    ensures err { IfErr result (λ error.
+        Broke error (W.told world.old) (W.told world.new) session.old session.new agenda.old) }
 {
-    match step(alloc, session, world, EventKind::Fired { timer }, gained) {
+    agenda.drop_timer();
+    match settle(
+        alloc,
+        agenda,
+        session,
+        world,
+        Some(EventKind::Fired { timer }),
+    ) {
         Ok(()) => Ok(()),
         Err(error) => Err(error),
     }
 }
 
-/// Shuts the session down.
-pub(crate) fn shut_down<W: World>(
-    alloc: Global,
-    session: &mut Session,
-    world: &mut W,
-    gained: &mut Vec<Action>,
-) -> Result<(), StepError>
-    ensures did { OnOk result (Does (W.told world.old) (W.told world.new) session.old session.new Shuts) }
-    ensures err { OnErr result (Broke (W.told world.old) (W.told world.new) session.old session.new) }
+/// Closes each of these links.
+pub(crate) fn close_each<W: World>(links: &mut Queue<u32>, world: &mut W)
+    ensures told { Told (W.told world.old) (W.told world.new) (close_calls links.old) }
+    ensures none { links.new ≡ [] }
 {
-    match step(alloc, session, world, EventKind::Shutdown, gained) {
-        Ok(()) => Ok(()),
-        Err(error) => Err(error),
+    while let Some(link) = links.pop_front() {
+        world.close(link);
     }
 }

@@ -1,11 +1,11 @@
 //! Drives a session over a world: the answers of its links, its timers and its words become the events of the session.
 #![tactic(auto)]
 
-mod book;
+mod agenda;
 mod deeds;
+mod driver;
 mod ending;
 mod links;
-mod passes;
 mod rooms;
 mod running;
 #[cfg(test)]

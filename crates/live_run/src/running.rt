@@ -1,13 +1,15 @@
-ghost use Rattle.std.specs.Prelude.{◌≡◌, ◌≤◌, ◌<◌, length, IfOk, OnOk, OnErr};
+ghost use Rattle.std.specs.Prelude.{◌≡◌, ◌≤◌, ◌<◌, ◌++◌, length, IfOk, IfErr, OnOk};
+ghost use Rattle.live_run.specs.Agenda.{agenda_of};
 ghost use Rattle.live_run.specs.Deeds.{Broke, Does};
-ghost use Rattle.live_run.specs.Driven.{Driven, IsEnd, Ran};
-ghost use Rattle.live_run.specs.Rounds.{IsNextOf, IsOverNext};
+ghost use Rattle.live_run.specs.Driven.{Driven, Ran};
+ghost use Rattle.live_run.specs.Rounds.{IsNext, IsOverNext};
+ghost use Rattle.live_run.specs.Steps.{IsEnd};
 
-use crate::book::Book;
-use crate::deeds::shut_down;
+use crate::deeds::{close_each, step};
+use crate::driver::Driver;
 use crate::ending::Ending;
 use crate::rooms::{ROOM, new_room};
-use driver_model::Action;
+use driver_model::{Action, EventKind};
 use outside::World;
 use shared_session::{Session, StepError};
 use std::alloc::Global;
@@ -29,7 +31,7 @@ pub(crate) enum Next {
 
 /// One pass, after so many idle ones in a row, and a wait where it is idle.
 fn round<W: World>(
-    book: &mut Book,
+    driver: &mut Driver,
     session: &mut Session,
     world: &mut W,
     room: &mut [u8],
@@ -39,18 +41,18 @@ fn round<W: World>(
     requires few { idle < 6_000 }
     ensures did { IfOk result (λ next.
         Does (W.told world.old) (W.told world.new) session.old session.new
-        (IsNextOf next idle session.old session.new book.old.unclosed book.new.unclosed)) }
+        driver.old.agenda driver.new.agenda
+        (IsNext next idle session.old session.new driver.old.agenda)) }
     ensures over { IfOk result (λ next.
-        IsOverNext next session.new book.old.verdict.submissions) }
+        IsOverNext next session.new driver.old.verdict.submissions) }
     ensures same { OnOk result (
-        book.new.verdict.submissions ≡ book.old.verdict.submissions
+        driver.new.verdict.submissions ≡ driver.old.verdict.submissions
         ) }
-    ensures err { OnErr result (
-        Broke (W.told world.old) (W.told world.new) session.old session.new
-        ) }
+    ensures err { IfErr result (λ error.
+        Broke error (W.told world.old) (W.told world.new) session.old session.new driver.old.agenda) }
 {
     let before = session.events_taken();
-    match book.pass(session, world, room) {
+    match driver.pass(session, world, room) {
         Ok(None) => {}
         Ok(Some(ending)) => return Ok(Next::Over(ending)),
         Err(error) => return Err(error),
@@ -64,7 +66,7 @@ fn round<W: World>(
 
 /// Makes passes until the run is over.
 fn run<W: World>(
-    book: &mut Book,
+    driver: &mut Driver,
     session: &mut Session,
     world: &mut W,
     room: &mut [u8],
@@ -72,17 +74,17 @@ fn run<W: World>(
     requires { length room.old ≡ ROOM }
     ensures did { IfOk result (λ ending.
         Does (W.told world.old) (W.told world.new) session.old session.new
-        (Ran ending session.new book.old.verdict.submissions book.old.unclosed book.new.unclosed)) }
-    ensures err { OnErr result (
-        Broke (W.told world.old) (W.told world.new) session.old session.new
-        ) }
+        driver.old.agenda driver.new.agenda
+        (Ran ending session.new driver.old.verdict.submissions driver.old.agenda)) }
+    ensures err { IfErr result (λ error.
+        Broke error (W.told world.old) (W.told world.new) session.old session.new driver.old.agenda) }
 {
     let mut idle = 0u32;
     'passes: while idle < IDLE_PASSES {
-        if let Some(ending) = book.verdict.ending(session) {
+        if let Some(ending) = driver.verdict.ending(session) {
             return Ok(ending);
         }
-        match round(book, session, world, room, idle) {
+        match round(driver, session, world, room, idle) {
             Ok(Next::Idle(count)) => idle = count,
             Ok(Next::Over(ending)) => return Ok(ending),
             Err(error) => return Err(error),
@@ -91,30 +93,21 @@ fn run<W: World>(
     Ok(Ending::Idle)
 }
 
-/// Shuts the session down, and closes the links.
-fn end<W: World>(
-    alloc: Global,
-    book: &mut Book,
-    session: &mut Session,
-    world: &mut W,
-) -> Result<(), StepError>
+/// Shuts the session down, and closes the links that the world has connected and not closed.
+fn end<W: World>(driver: &mut Driver, session: &mut Session, world: &mut W) -> Result<(), StepError>
     ensures did { OnOk result (
-        IsEnd (W.told world.old) (W.told world.new) session.old session.new book.old.unclosed
-        ) }
-    ensures err { OnErr result (
-        Broke (W.told world.old) (W.told world.new) session.old session.new
-        ) }
+        IsEnd (W.told world.old) (W.told world.new) session.old session.new
+        (driver.old.agenda.closes ++ driver.old.agenda.unclosed)) }
+    ensures err { IfErr result (λ error.
+        Broke error (W.told world.old) (W.told world.new) session.old session.new driver.old.agenda) }
 {
-    let mut gained = Vec::new(alloc);
-    let stepped = shut_down(alloc, session, world, &mut gained);
-    drop(gained);
-    match stepped {
-        Ok(()) => {
-            book.close_all(world);
-            Ok(())
-        }
-        Err(error) => Err(error),
+    match step(driver.alloc, session, world, EventKind::Shutdown) {
+        Ok(gained) => drop(gained),
+        Err(error) => return Err(error),
     }
+    close_each(&mut driver.agenda.closes, world);
+    close_each(&mut driver.agenda.unclosed, world);
+    Ok(())
 }
 
 /// Drives a session over a world, until every submission has its outcome, 6,000 passes in a row were idle, or the history
@@ -130,22 +123,22 @@ pub fn drive<W: World>(
     world: &mut W,
 ) -> Result<Ending, StepError>
     ensures driven { IfOk result (λ ending.
-        Driven (W.told world.old) (W.told world.new) session.old session.new submissions ending
+        Driven actions.items (W.told world.old) (W.told world.new) session.old session.new submissions ending
         ) }
-    ensures err { OnErr result (
-        Broke (W.told world.old) (W.told world.new) session.old session.new
-        ) }
+    ensures err { IfErr result (λ error.
+        Broke error (W.told world.old) (W.told world.new) session.old session.new
+        (agenda_of actions.items)) }
 {
     let mut room = match new_room(alloc) {
         Ok(room) => room,
         Err(_) => return Err(StepError::NoMemory),
     };
-    let mut book = Book::new(alloc, actions, submissions);
-    let ending = match run(&mut book, session, world, room.as_mut_slice()) {
+    let mut driver = Driver::new(alloc, actions, submissions);
+    let ending = match run(&mut driver, session, world, room.as_mut_slice()) {
         Ok(ending) => ending,
         Err(error) => return Err(error),
     };
-    match end(alloc, &mut book, session, world) {
+    match end(&mut driver, session, world) {
         Ok(()) => Ok(ending),
         Err(error) => Err(error),
     }

@@ -27,17 +27,27 @@ fn get(alloc: Global, key: &[u8]) -> Result<Event, AllocError> {
     Ok(Event::submit(Submission::Cmd { args }))
 }
 
-/// Two callers hand in a request each.
+/// The first link is to be closed.
+fn close_first(actions: &mut Vec<Action>) -> Result<(), AllocError> {
+    actions.push(Action::Close { link: 0 })?;
+    Ok(())
+}
+
+/// Two callers hand in a request each, and the first link may end before its dial.
 fn submit_both(
     alloc: Global,
     session: &mut Session,
     actions: &mut Vec<Action>,
+    ends: bool,
 ) -> Result<bool, AllocError> {
     for key in [b"a", b"b"] {
         let event = get(alloc, key)?;
         if session.step(alloc, event, actions).is_err() {
             return Ok(false);
         }
+    }
+    if ends {
+        close_first(actions)?;
     }
     Ok(true)
 }
@@ -50,9 +60,11 @@ fn queue<T: Copy + Drop>(alloc: Global, items: &[T]) -> Result<Queue<T>, AllocEr
     Ok(queue)
 }
 
-/// What a world answers: its dials, reads and writes, the bytes that come, and its moments.
+/// What a world answers: its dials, reads and writes, the bytes that come, and its moments. And whether the first link ends
+/// before its dial.
 #[derive(Clone, Copy)]
 struct Answers {
+    ends: bool,
     dials: &'static [Dialed],
     reads: &'static [LinkGot],
     incoming: &'static [u8],
@@ -93,7 +105,7 @@ fn driven(
     let Ok(mut session) = open(alloc, response, &mut actions) else {
         return Ok(None);
     };
-    if !submit_both(alloc, &mut session, &mut actions)? {
+    if !submit_both(alloc, &mut session, &mut actions, answers.ends)? {
         return Ok(None);
     }
     let mut world = world(alloc, answers)?;
@@ -118,6 +130,7 @@ const NOT_YET: LinkGot = LinkGot::NotYet;
 #[test]
 fn both_are_answered(rt: HostRuntime) -> Result<(), Fail> {
     let answers = Answers {
+        ends: false,
         dials: &[Dialed::Yes],
         reads: &[NOT_YET, NOT_YET, NOT_YET, LinkGot::Read(8)],
         incoming: b"+x\r\n+y\r\n",
@@ -132,6 +145,7 @@ fn both_are_answered(rt: HostRuntime) -> Result<(), Fail> {
 #[test]
 fn a_refused_dial_answers_all(rt: HostRuntime) -> Result<(), Fail> {
     let answers = Answers {
+        ends: false,
         dials: &[Dialed::Failed(FaultKind::Refused)],
         reads: &[],
         incoming: b"",
@@ -146,6 +160,7 @@ fn a_refused_dial_answers_all(rt: HostRuntime) -> Result<(), Fail> {
 #[test]
 fn a_silent_world_ends_the_run(rt: HostRuntime) -> Result<(), Fail> {
     let answers = Answers {
+        ends: false,
         dials: &[Dialed::Yes],
         reads: &[],
         incoming: b"",
@@ -160,6 +175,7 @@ fn a_silent_world_ends_the_run(rt: HostRuntime) -> Result<(), Fail> {
 #[test]
 fn a_link_ends_in_the_middle(rt: HostRuntime) -> Result<(), Fail> {
     let answers = Answers {
+        ends: false,
         dials: &[Dialed::Yes],
         reads: &[NOT_YET, LinkGot::Read(4), LinkGot::Ended],
         incoming: b"+x\r\n",
@@ -174,6 +190,7 @@ fn a_link_ends_in_the_middle(rt: HostRuntime) -> Result<(), Fail> {
 #[test]
 fn a_timer_fires_when_it_is_due(rt: HostRuntime) -> Result<(), Fail> {
     let answers = Answers {
+        ends: false,
         dials: &[Dialed::Yes],
         reads: &[],
         incoming: b"",
@@ -182,5 +199,35 @@ fn a_timer_fires_when_it_is_due(rt: HostRuntime) -> Result<(), Fail> {
     };
     let want = Some((Ending::Answered, b'f', b'f', 7, 15));
     assert_eq!(rt; driven(rt.alloc(), Some(500), &answers)?, want);
+    Ok(())
+}
+
+#[test]
+fn a_timer_that_is_not_due_does_not_fire(rt: HostRuntime) -> Result<(), Fail> {
+    let answers = Answers {
+        ends: false,
+        dials: &[Dialed::Yes],
+        reads: &[],
+        incoming: b"",
+        writes: &[LinkPut::Took(1_000)],
+        moments: &[10, 509],
+    };
+    let want = Some((Ending::Idle, b'f', b'f', 5, 18_008));
+    assert_eq!(rt; driven(rt.alloc(), Some(500), &answers)?, want);
+    Ok(())
+}
+
+#[test]
+fn a_link_that_ended_is_not_dialled(rt: HostRuntime) -> Result<(), Fail> {
+    let answers = Answers {
+        ends: true,
+        dials: &[Dialed::Yes],
+        reads: &[],
+        incoming: b"",
+        writes: &[],
+        moments: &[],
+    };
+    let want = Some((Ending::Idle, b'f', b'f', 3, 12_001));
+    assert_eq!(rt; driven(rt.alloc(), None, &answers)?, want);
     Ok(())
 }

@@ -1,5 +1,9 @@
+ghost use Rattle.std.specs.Prelude.{◌≡◌, ◌⊎◌, ◌≤◌, true, false, length, MatchOption, OnOk};
+ghost use Rattle.live_run.specs.Agenda.{due_in, timed};
+ghost use Rattle.live_run.specs.Places.{IsBefore};
+
 use containers::Queue;
-use std::alloc::{AllocError, Global};
+use std::alloc::AllocError;
 
 /// A timer that is to fire.
 #[derive(Clone, Copy, PartialEq, Eq)]
@@ -9,50 +13,48 @@ pub(crate) struct Pending {
     pub(crate) due: u64,
 }
 
-/// The timers that are to fire, the one that is due first in front. Of those that are due at one moment the one that was
-/// asked for first stands in front.
-#[derive(Drop)]
-pub(crate) struct Timers {
-    pub(crate) pending: Queue<Pending>,
+/// The timer in front of a place, if it is due later than at this moment.
+fn later_before(timers: &Queue<Pending>, place: usize, due: u64) -> Option<Pending>
+    requires { place ≤ length timers.now }
+    ensures { MatchOption result
+        ((place ≡ 0) ⊎ ((item : Pending) × IsBefore timers.now place due item false))
+        (λ item. IsBefore timers.now place due item true) }
+{
+    if place == 0 {
+        return None;
+    }
+    let before = *timers.at(place - 1);
+    if before.due <= due {
+        return None;
+    }
+    Some(before)
 }
 
-impl Timers {
-    pub(crate) fn new(alloc: Global) -> Timers {
-        Timers {
-            pending: Queue::new(alloc),
-        }
+/// One more timer, behind the last that is not due later. Its place is looked for from the back.
+pub(crate) fn add_timer(timers: &mut Queue<Pending>, next: Pending) -> Result<(), AllocError>
+    ensures { OnOk result (timers.new ≡ timed next timers.old) }
+{
+    timers.push_back(next)?;
+    let mut place = timers.len() - 1;
+    while let Some(before) = later_before(timers, place, next.due) {
+        timers.set(place, before);
+        place -= 1;
     }
+    timers.set(place, next);
+    Ok(())
+}
 
-    /// One more timer. Its place is looked for from the back.
-    pub(crate) fn add(&mut self, timer: u32, due: u64) -> Result<(), AllocError> {
-        let next = Pending { timer, due };
-        self.pending.push_back(next)?;
-        let mut place = self.pending.len() - 1;
-        while place > 0 {
-            let before = *self.pending.at(place - 1);
-            if before.due <= due {
-                break;
-            }
-            self.pending.set(place, before);
-            place -= 1;
-        }
-        self.pending.set(place, next);
-        Ok(())
+/// The timer in front, if it is due by this moment.
+pub(crate) fn due_by(timers: &Queue<Pending>, moment: u64) -> Option<u32>
+    ensures { result ≡ due_in moment timers.now }
+{
+    if timers.is_empty() {
+        return None;
     }
-
-    /// Whether a timer is due by now.
-    pub(crate) fn is_due(&self, now: u64) -> bool {
-        !self.pending.is_empty() && self.pending.at(0).due <= now
-    }
-
-    /// The timer in front, taken out, if it is due by now.
-    pub(crate) fn take_due(&mut self, now: u64) -> Option<u32> {
-        if !self.is_due(now) {
-            return None;
-        }
-        match self.pending.pop_front() {
-            Some(first) => Some(first.timer),
-            None => None,
-        }
+    let first = *timers.at(0);
+    if first.due <= moment {
+        Some(first.timer)
+    } else {
+        None
     }
 }

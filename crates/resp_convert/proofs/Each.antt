@@ -64,3 +64,12 @@ module _ {A V : Type 0} (view : V → A) (P : A → Type 0) where
       subst (λ us. AllByRecursion P (map view us)) (sym (take_more vs i v h)) (
       subst (AllByRecursion P) (sym (view_push view (λ d (u : A). P d) (take i vs) w)) (
       all_push (map view (take i vs)) (view w) all (subst (λ u. P (view u)) at is)))
+
+  not_there : (vs : List V) (i : ℕ) (v : V) → i < length vs → (P (view (get_or vs i v)) → ⊥) → AllByRecursion P (map view vs) → ⊥
+  not_there [] i v h none all = omega arith
+  not_there (w ∷ vs) zero v h none all = none all.0
+  not_there (w ∷ vs) (suc i) v h none all = not_there vs i v (omega arith) none all.1
+
+  -- of one value it isn't true
+  pub not_at : (vs : List V) (i : ℕ) (v : V) → i < length vs → v ≡ get_or vs i v → (P (view v) → ⊥) → AllByRecursion P (map view vs) → ⊥
+  not_at vs i v h at none = not_there vs i v h (subst (λ u. P (view u) → ⊥) at none)

@@ -14,13 +14,13 @@ use Rattle.resp_convert.proofs.Each.{same_pairs}
 pub told_of : {A S R : Type 0} (fits : A → Type 0) (reads : A → S → Type 0) (made : A → R → Type 0) (d : A) → ((x : R) → made d x → (s : S) × reads d s) → (look : Look) → IsTold fits reads d look → IsTold fits made d look
 told_of fits reads made d of Fits told = told
 told_of fits reads made d of Unfit none = λ x is. let s = of x is in none s.0 s.1
-told_of fits reads made d of Untold told = tt
+told_of fits reads made d of Untold told = told
 
 -- the look at the value, where the key fits
 pub told_pair : {K V : Type 0} (fits_key fits_value : Data → Type 0) (keys : Data → K → Type 0) (values : Data → V → Type 0) (k d : Data) → fits_key k → (look : Look) → IsTold fits_value values d look → IsTold (FitsPair fits_key fits_value) (IsPair keys values) (k, d) look
 told_pair fits_key fits_value keys values k d fit Fits told = (fit, told)
 told_pair fits_key fits_value keys values k d fit Unfit none = λ x is. none x.1 is.1
-told_pair fits_key fits_value keys values k d fit Untold told = tt
+told_pair fits_key fits_value keys values k d fit Untold told = λ both. told both.1
 
 -- a key that is nothing of its type
 pub no_key : {K V : Type 0} (keys : Data → K → Type 0) (values : Data → V → Type 0) (k d : Data) → ((x : K) → keys k x → ⊥) → (x : K × V) → IsPair keys values (k, d) x → ⊥
@@ -30,7 +30,7 @@ no_key keys values k d none x is = none x.0 is.0
 pub told_list : {S : Type 0} (fits : Data → Type 0) (reads : Data → S → Type 0) (d : Data) (ds : List Data) → items_in (bare d) ≡ Some ds → (look : Look) → IsTold (AllByRecursion fits) (IsEach reads) ds look → IsTold (FitsList fits) (IsList reads) d look
 told_list fits reads d ds there Fits told = subst (AllFit fits) (sym there) told
 told_list fits reads d ds there Unfit none = λ xs each. none xs (subst (λ o. IsEachOf reads o xs) there each)
-told_list fits reads d ds there Untold told = tt
+told_list fits reads d ds there Untold told = λ fit. told (subst (AllFit fits) there fit)
 
 pub no_list : {S : Type 0} (reads : Data → S → Type 0) (d : Data) → items_in (bare d) ≡ None → (xs : List S) → IsList reads d xs → ⊥
 no_list reads d none xs each = subst (λ o. IsEachOf reads o xs) none each
@@ -72,7 +72,8 @@ told_map fits_key fits_value keys values d ps is Fits told =
     subst (λ e. AllFit (FitsPair fits_key fits_value) (members_in e)) is (subst (AllByRecursion (FitsPair fits_key fits_value)) (sym (same_pairs ps)) told)
 told_map fits_key fits_value keys values d ps is Unfit none = λ xs each.
     none xs (subst (λ qs. IsEach (IsPair keys values) qs xs) (same_pairs ps) (subst (λ e. IsEachOf (IsPair keys values) (pairs_in e) xs) (sym is) each))
-told_map fits_key fits_value keys values d ps is Untold told = tt
+told_map fits_key fits_value keys values d ps is Untold told = λ fit.
+    told (subst (AllByRecursion (FitsPair fits_key fits_value)) (same_pairs ps) (subst (λ e. AllFit (FitsPair fits_key fits_value) (members_in e)) (sym is) fit))
 
 -- What is told of the items or pairs is told of what is made of them.
 pub told_vec : {S : Type 0} (Z : Type 0) (fits : Data → Type 0) (reads : Data → S → Type 0) (d : Data) (look : Look) → IsTold (FitsList fits) (IsList reads) d look → IsTold (FitsList fits) (λ d (xs : Vec S Z). IsList reads d xs.items) d look

@@ -68,7 +68,7 @@ pub enum Look {
     Fits,
     /// It is nothing of the type.
     Unfit,
-    /// Nothing: values are read as one of the type, and none is moved.
+    /// It can't be moved: it is read, if it is of the type.
     Untold,
 }
 
@@ -100,10 +100,7 @@ pub trait FromRedisValue: Sized {
 
     /// Whether a value can be moved into one of the type.
     fn look(value: &Value) -> Look
-        ensures { IsTold fits reads (data_of value.now) result }
-    {
-        Look::Untold
-    }
+        ensures { IsTold fits reads (data_of value.now) result };
 
     /// Whether each of some values can.
     fn look_at_values(values: &[Value]) -> Look

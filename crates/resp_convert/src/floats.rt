@@ -1,10 +1,9 @@
 ghost use Rattle.std.specs.Prelude.{◌≡◌, MatchOption, None, Some};
 ghost use Rattle.std.specs.Float.{binary64};
 ghost use Rattle.std.specs.Float.Parse.{parse_float};
-ghost use Rattle.resp_convert.specs.Convert.{IsOfType};
 ghost use Rattle.resp_convert.specs.Types.{IsFloat, bare};
 
-use crate::convert::FromRedisValue;
+use crate::convert::{FromRedisValue, Look};
 use crate::parts;
 use resp_value::Value;
 use std::alloc::{AllocError, Global};
@@ -24,7 +23,7 @@ fn float(text: &[u8]) -> Option<f64>
 impl FromRedisValue for f64 {
     ghost reads = { λ d x. IsFloat (bare d) x };
 
-    ghost fits = { IsOfType (λ d x. IsFloat (bare d) x) };
+    ghost fits = { λ _. ⊥ };
 
     fn read_value(_alloc: Global, value: &Value) -> Result<Option<f64>, AllocError> {
         match parts::bare(value) {
@@ -35,5 +34,9 @@ impl FromRedisValue for f64 {
             Value::VerbatimString { format: _, text } => Ok(float(text.as_slice())),
             _ => Ok(None),
         }
+    }
+
+    fn look(_value: &Value) -> Look {
+        Look::Untold
     }
 }

@@ -2,10 +2,9 @@ ghost use Rattle.std.specs.Prelude.{◌<◌, ◌^◌, ℕ, ℤ, MatchOption};
 ghost use mir.Syntax.{w8, w16, w32, w64};
 ghost use mir.Val.{SFits};
 ghost use Rattle.resp_value.specs.View.{data_of};
-ghost use Rattle.resp_convert.specs.Convert.{IsOfType};
 ghost use Rattle.resp_convert.specs.Types.{IsCount, IsDecimal, IsInteger, IsNatural, IsNumber, IsPlainDecimal};
 
-use crate::convert::FromRedisValue;
+use crate::convert::{FromRedisValue, Look};
 use crate::parts::bare;
 use resp_value::Value;
 use std::alloc::{AllocError, Global};
@@ -62,7 +61,7 @@ fn number(value: &Value) -> Option<i64>
 impl FromRedisValue for i8 {
     ghost reads = { IsInteger w8 };
 
-    ghost fits = { IsOfType (IsInteger w8) };
+    ghost fits = { λ _. ⊥ };
 
     fn read_value(_alloc: Global, value: &Value) -> Result<Option<i8>, AllocError> {
         match number(bare(value)) {
@@ -70,13 +69,17 @@ impl FromRedisValue for i8 {
             None => Ok(None),
         }
     }
+
+    fn look(_value: &Value) -> Look {
+        Look::Untold
+    }
 }
 
 /// A number of 16 bits, or a text that is one in decimal.
 impl FromRedisValue for i16 {
     ghost reads = { IsInteger w16 };
 
-    ghost fits = { IsOfType (IsInteger w16) };
+    ghost fits = { λ _. ⊥ };
 
     fn read_value(_alloc: Global, value: &Value) -> Result<Option<i16>, AllocError> {
         match number(bare(value)) {
@@ -84,13 +87,17 @@ impl FromRedisValue for i16 {
             None => Ok(None),
         }
     }
+
+    fn look(_value: &Value) -> Look {
+        Look::Untold
+    }
 }
 
 /// A number of 32 bits, or a text that is one in decimal.
 impl FromRedisValue for i32 {
     ghost reads = { IsInteger w32 };
 
-    ghost fits = { IsOfType (IsInteger w32) };
+    ghost fits = { λ _. ⊥ };
 
     fn read_value(_alloc: Global, value: &Value) -> Result<Option<i32>, AllocError> {
         match number(bare(value)) {
@@ -98,16 +105,24 @@ impl FromRedisValue for i32 {
             None => Ok(None),
         }
     }
+
+    fn look(_value: &Value) -> Look {
+        Look::Untold
+    }
 }
 
 /// A number of 64 bits, or a text that is one in decimal.
 impl FromRedisValue for i64 {
     ghost reads = { IsInteger w64 };
 
-    ghost fits = { IsOfType (IsInteger w64) };
+    ghost fits = { λ _. ⊥ };
 
     fn read_value(_alloc: Global, value: &Value) -> Result<Option<i64>, AllocError> {
         Ok(number(bare(value)))
+    }
+
+    fn look(_value: &Value) -> Look {
+        Look::Untold
     }
 }
 
@@ -115,7 +130,7 @@ impl FromRedisValue for i64 {
 impl FromRedisValue for isize {
     ghost reads = { IsInteger w64 };
 
-    ghost fits = { IsOfType (IsInteger w64) };
+    ghost fits = { λ _. ⊥ };
 
     fn read_value(_alloc: Global, value: &Value) -> Result<Option<isize>, AllocError> {
         match number(bare(value)) {
@@ -123,13 +138,17 @@ impl FromRedisValue for isize {
             None => Ok(None),
         }
     }
+
+    fn look(_value: &Value) -> Look {
+        Look::Untold
+    }
 }
 
 /// A number of 8 bits that is not below 0, or a text that is one in decimal.
 impl FromRedisValue for u8 {
     ghost reads = { IsNatural 8 };
 
-    ghost fits = { IsOfType (IsNatural 8) };
+    ghost fits = { λ _. ⊥ };
 
     fn read_value(_alloc: Global, value: &Value) -> Result<Option<u8>, AllocError> {
         match count(bare(value)) {
@@ -137,13 +156,17 @@ impl FromRedisValue for u8 {
             None => Ok(None),
         }
     }
+
+    fn look(_value: &Value) -> Look {
+        Look::Untold
+    }
 }
 
 /// A number of 16 bits that is not below 0, or a text that is one in decimal.
 impl FromRedisValue for u16 {
     ghost reads = { IsNatural 16 };
 
-    ghost fits = { IsOfType (IsNatural 16) };
+    ghost fits = { λ _. ⊥ };
 
     fn read_value(_alloc: Global, value: &Value) -> Result<Option<u16>, AllocError> {
         match count(bare(value)) {
@@ -151,13 +174,17 @@ impl FromRedisValue for u16 {
             None => Ok(None),
         }
     }
+
+    fn look(_value: &Value) -> Look {
+        Look::Untold
+    }
 }
 
 /// A number of 32 bits that is not below 0, or a text that is one in decimal.
 impl FromRedisValue for u32 {
     ghost reads = { IsNatural 32 };
 
-    ghost fits = { IsOfType (IsNatural 32) };
+    ghost fits = { λ _. ⊥ };
 
     fn read_value(_alloc: Global, value: &Value) -> Result<Option<u32>, AllocError> {
         match count(bare(value)) {
@@ -165,16 +192,24 @@ impl FromRedisValue for u32 {
             None => Ok(None),
         }
     }
+
+    fn look(_value: &Value) -> Look {
+        Look::Untold
+    }
 }
 
 /// A number of 64 bits that is not below 0, or a text that is one in decimal.
 impl FromRedisValue for u64 {
     ghost reads = { IsNatural 64 };
 
-    ghost fits = { IsOfType (IsNatural 64) };
+    ghost fits = { λ _. ⊥ };
 
     fn read_value(_alloc: Global, value: &Value) -> Result<Option<u64>, AllocError> {
         Ok(count(bare(value)))
+    }
+
+    fn look(_value: &Value) -> Look {
+        Look::Untold
     }
 }
 
@@ -182,12 +217,16 @@ impl FromRedisValue for u64 {
 impl FromRedisValue for usize {
     ghost reads = { IsNatural 64 };
 
-    ghost fits = { IsOfType (IsNatural 64) };
+    ghost fits = { λ _. ⊥ };
 
     fn read_value(_alloc: Global, value: &Value) -> Result<Option<usize>, AllocError> {
         match count(bare(value)) {
             Some(number) => Ok(usize::try_from(number).ok()),
             None => Ok(None),
         }
+    }
+
+    fn look(_value: &Value) -> Look {
+        Look::Untold
     }
 }

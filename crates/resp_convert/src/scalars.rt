@@ -1,6 +1,5 @@
 ghost use Rattle.std.specs.Prelude.{◌≡◌, IfOk};
 ghost use Rattle.resp_value.specs.View.{data_of};
-ghost use Rattle.resp_convert.specs.Convert.{IsOfType};
 ghost use Rattle.resp_convert.specs.Types.{IsDone, IsTruth, bare};
 
 use crate::convert::{FromRedisValue, Look};
@@ -36,7 +35,7 @@ impl FromRedisValue for Value {
 impl FromRedisValue for bool {
     ghost reads = { λ d on. IsTruth (bare d) on };
 
-    ghost fits = { IsOfType (λ d on. IsTruth (bare d) on) };
+    ghost fits = { λ _. ⊥ };
 
     fn read_value(_alloc: Global, value: &Value) -> Result<Option<bool>, AllocError> {
         match parts::bare(value) {
@@ -46,18 +45,26 @@ impl FromRedisValue for bool {
             _ => Ok(None),
         }
     }
+
+    fn look(_value: &Value) -> Look {
+        Look::Untold
+    }
 }
 
 /// Anything but a server error.
 impl FromRedisValue for () {
     ghost reads = { λ d done. IsDone (bare d) };
 
-    ghost fits = { λ d. IsDone (bare d) };
+    ghost fits = { λ _. ⊥ };
 
     fn read_value(_alloc: Global, value: &Value) -> Result<Option<()>, AllocError> {
         match parts::bare(value) {
             Value::ServerError(_) => Ok(None),
             _ => Ok(Some(())),
         }
+    }
+
+    fn look(_value: &Value) -> Look {
+        Look::Untold
     }
 }

@@ -1,9 +1,9 @@
 ghost use Rattle.std.specs.Prelude.{IfOk};
 ghost use Rattle.resp_value.specs.View.{list_view};
-ghost use Rattle.resp_convert.specs.Convert.{IsOfType, IsRead};
+ghost use Rattle.resp_convert.specs.Convert.{IsRead};
 ghost use Rattle.resp_convert.specs.Types.{AreFive, AreFour, AreOne, AreSix, AreThree, AreTwo, HasItems};
 
-use crate::convert::FromRedisValue;
+use crate::convert::{FromRedisValue, Look};
 use crate::parts;
 use resp_value::Value;
 use std::alloc::{AllocError, Global};
@@ -134,13 +134,17 @@ fn read_six<
 impl<A: FromRedisValue + Drop, B: FromRedisValue + Drop> FromRedisValue for (A, B) {
     ghost reads = { HasItems (AreTwo A.reads B.reads) };
 
-    ghost fits = { IsOfType (HasItems (AreTwo A.reads B.reads)) };
+    ghost fits = { λ _. ⊥ };
 
     fn read_value(alloc: Global, value: &Value) -> Result<Option<(A, B)>, AllocError> {
         match parts::items(parts::bare(value)) {
             Some(items) => read_two(alloc, items),
             None => Ok(None),
         }
+    }
+
+    fn look(_value: &Value) -> Look {
+        Look::Untold
     }
 }
 
@@ -149,13 +153,17 @@ impl<A: FromRedisValue + Drop, B: FromRedisValue + Drop, C: FromRedisValue + Dro
     for (A, B, C) {
     ghost reads = { HasItems (AreThree A.reads B.reads C.reads) };
 
-    ghost fits = { IsOfType (HasItems (AreThree A.reads B.reads C.reads)) };
+    ghost fits = { λ _. ⊥ };
 
     fn read_value(alloc: Global, value: &Value) -> Result<Option<(A, B, C)>, AllocError> {
         match parts::items(parts::bare(value)) {
             Some(items) => read_three(alloc, items),
             None => Ok(None),
         }
+    }
+
+    fn look(_value: &Value) -> Look {
+        Look::Untold
     }
 }
 
@@ -168,13 +176,17 @@ impl<
 > FromRedisValue for (A, B, C, D) {
     ghost reads = { HasItems (AreFour A.reads B.reads C.reads D.reads) };
 
-    ghost fits = { IsOfType (HasItems (AreFour A.reads B.reads C.reads D.reads)) };
+    ghost fits = { λ _. ⊥ };
 
     fn read_value(alloc: Global, value: &Value) -> Result<Option<(A, B, C, D)>, AllocError> {
         match parts::items(parts::bare(value)) {
             Some(items) => read_four(alloc, items),
             None => Ok(None),
         }
+    }
+
+    fn look(_value: &Value) -> Look {
+        Look::Untold
     }
 }
 
@@ -188,13 +200,17 @@ impl<
 > FromRedisValue for (A, B, C, D, E) {
     ghost reads = { HasItems (AreFive A.reads B.reads C.reads D.reads E.reads) };
 
-    ghost fits = { IsOfType (HasItems (AreFive A.reads B.reads C.reads D.reads E.reads)) };
+    ghost fits = { λ _. ⊥ };
 
     fn read_value(alloc: Global, value: &Value) -> Result<Option<(A, B, C, D, E)>, AllocError> {
         match parts::items(parts::bare(value)) {
             Some(items) => read_five(alloc, items),
             None => Ok(None),
         }
+    }
+
+    fn look(_value: &Value) -> Look {
+        Look::Untold
     }
 }
 
@@ -209,12 +225,16 @@ impl<
 > FromRedisValue for (A, B, C, D, E, F) {
     ghost reads = { HasItems (AreSix A.reads B.reads C.reads D.reads E.reads F.reads) };
 
-    ghost fits = { IsOfType (HasItems (AreSix A.reads B.reads C.reads D.reads E.reads F.reads)) };
+    ghost fits = { λ _. ⊥ };
 
     fn read_value(alloc: Global, value: &Value) -> Result<Option<(A, B, C, D, E, F)>, AllocError> {
         match parts::items(parts::bare(value)) {
             Some(items) => read_six(alloc, items),
             None => Ok(None),
         }
+    }
+
+    fn look(_value: &Value) -> Look {
+        Look::Untold
     }
 }

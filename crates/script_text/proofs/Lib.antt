@@ -1,7 +1,9 @@
 pub mod Cutting
 pub mod Decided
 pub mod Digits
+pub mod Escapes
 pub mod Faults
+pub mod Found
 pub mod Forms
 pub mod Glue
 pub mod Glued

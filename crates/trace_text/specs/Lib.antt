@@ -1,4 +1,5 @@
 pub mod Words
+pub mod Plain
 pub mod Errors
 pub mod Show
 pub mod Writer

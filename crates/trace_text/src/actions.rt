@@ -11,58 +11,46 @@ use std::alloc::{AllocError, Global};
 use std::mem;
 
 impl Writer {
-    fn turn(&mut self, alloc: Global, number: u32, cause: &Cause) -> Result<(), AllocError>
+    fn turn(&mut self, number: u32, cause: &Cause) -> Result<(), AllocError>
         ensures before { self.new.before ≡ self.old.before }
         ensures ok { OnOk result
             (Added self.old self.new (action_line (Action.Turn number cause.now))) }
     {
         self.first(b"turn")?;
         self.number(u64::from(number))?;
-        self.cause(alloc, cause)?;
+        self.cause(cause)?;
         self.end_line()
     }
 
-    fn connect(
-        &mut self,
-        alloc: Global,
-        link: u32,
-        host: &Bytes,
-        port: u16,
-    ) -> Result<(), AllocError>
+    fn connect(&mut self, link: u32, host: &Bytes, port: u16) -> Result<(), AllocError>
         ensures before { self.new.before ≡ self.old.before }
         ensures ok { OnOk result
             (Added self.old self.new (action_line (Action.Connect link host.now port))) }
     {
         self.first(b"connect")?;
         self.number(u64::from(link))?;
-        self.address(alloc, host, port)?;
+        self.address(host, port)?;
         self.end_line()
     }
 
     /// What a timer is asked for.
-    fn purpose(&mut self, alloc: Global, purpose: Purpose) -> Result<(), AllocError>
+    fn purpose(&mut self, purpose: Purpose) -> Result<(), AllocError>
         ensures before { self.new.before ≡ self.old.before }
         ensures ok { OnOk result (AddedWords self.old self.new (purpose_words purpose)) }
     {
         match purpose {
             Purpose::Connect { link } => {
-                self.word(b"connect")?;
+                self.literal(b"connect")?;
                 self.number(u64::from(link))
             }
             Purpose::Response { owner } => {
-                self.word(b"response")?;
-                self.owner(alloc, owner)
+                self.literal(b"response")?;
+                self.owner(owner)
             }
         }
     }
 
-    fn timer(
-        &mut self,
-        alloc: Global,
-        timer: u32,
-        ms: u64,
-        purpose: Purpose,
-    ) -> Result<(), AllocError>
+    fn timer(&mut self, timer: u32, ms: u64, purpose: Purpose) -> Result<(), AllocError>
         ensures before { self.new.before ≡ self.old.before }
         ensures ok { OnOk result
             (Added self.old self.new (action_line (Action.Timer timer ms purpose))) }
@@ -70,17 +58,17 @@ impl Writer {
         self.first(b"timer")?;
         self.number(u64::from(timer))?;
         self.number(ms)?;
-        self.purpose(alloc, purpose)?;
+        self.purpose(purpose)?;
         self.end_line()
     }
 
-    fn took(&mut self, alloc: Global, owner: Owner, link: u32, count: u32) -> Result<(), AllocError>
+    fn took(&mut self, owner: Owner, link: u32, count: u32) -> Result<(), AllocError>
         ensures before { self.new.before ≡ self.old.before }
         ensures ok { OnOk result
             (Added self.old self.new (action_line (Action.Took owner link count))) }
     {
         self.first(b"took")?;
-        self.owner(alloc, owner)?;
+        self.owner(owner)?;
         self.number(u64::from(link))?;
         self.number(u64::from(count))?;
         self.end_line()
@@ -106,19 +94,18 @@ impl Writer {
         self.end_line()
     }
 
-    fn wait(&mut self, alloc: Global, owner: Owner, wait: WaitKind) -> Result<(), AllocError>
+    fn wait(&mut self, owner: Owner, wait: WaitKind) -> Result<(), AllocError>
         ensures before { self.new.before ≡ self.old.before }
         ensures ok { OnOk result (Added self.old self.new (action_line (Action.Wait owner wait))) }
     {
         self.first(b"wait")?;
-        self.owner(alloc, owner)?;
+        self.owner(owner)?;
         self.wait_kind(wait)?;
         self.end_line()
     }
 
     fn start(
         &mut self,
-        alloc: Global,
         link: u32,
         message: u32,
         owner: Owner,
@@ -132,7 +119,7 @@ impl Writer {
         self.first(b"start")?;
         self.number(u64::from(link))?;
         self.number(u64::from(message))?;
-        self.owner(alloc, owner)?;
+        self.owner(owner)?;
         self.number(need)?;
         self.number(len)?;
         self.end_line()
@@ -144,9 +131,9 @@ impl Writer {
         ensures ok { OnOk result (AddedWords self.old self.new (created_words error.now)) }
     {
         match error {
-            None => self.word(b"ok"),
+            None => self.literal(b"ok"),
             Some(error) => {
-                self.word(b"err")?;
+                self.literal(b"err")?;
                 self.error(alloc, error)
             }
         }
@@ -173,7 +160,7 @@ impl Writer {
             (Added self.old self.new (action_line (Action.Outcome submission outcome.now))) }
     {
         self.first(b"outcome")?;
-        self.submission(alloc, submission)?;
+        self.submission(submission)?;
         self.outcome(alloc, outcome)?;
         self.end_line()
     }
@@ -184,20 +171,20 @@ impl Writer {
         ensures ok { OnOk result (Added self.old self.new (action_line action.now)) }
     {
         match action {
-            Action::Turn { number, cause } => self.turn(alloc, *number, cause),
-            Action::Connect { link, host, port } => self.connect(alloc, *link, host, *port),
-            Action::Timer { timer, ms, purpose } => self.timer(alloc, *timer, *ms, *purpose),
-            Action::Took { owner, link, count } => self.took(alloc, *owner, *link, *count),
+            Action::Turn { number, cause } => self.turn(*number, cause),
+            Action::Connect { link, host, port } => self.connect(*link, host, *port),
+            Action::Timer { timer, ms, purpose } => self.timer(*timer, *ms, *purpose),
+            Action::Took { owner, link, count } => self.took(*owner, *link, *count),
             Action::Close { link } => self.close(*link),
             Action::Write { link, bytes } => self.write(*link, bytes),
-            Action::Wait { owner, wait } => self.wait(alloc, *owner, *wait),
+            Action::Wait { owner, wait } => self.wait(*owner, *wait),
             Action::Start {
                 link,
                 message,
                 owner,
                 need,
                 len,
-            } => self.start(alloc, *link, *message, *owner, *need, *len),
+            } => self.start(*link, *message, *owner, *need, *len),
             Action::Created { error } => self.created(alloc, error),
             Action::Outcome {
                 submission,

@@ -13,97 +13,72 @@ use crate::writer::Writer;
 use containers::{Bytes, Names};
 use driver_model::{Cause, Config, Event, EventKind, Submission};
 use redis_error::FaultKind;
-use std::alloc::{AllocError, Global};
+use std::alloc::AllocError;
 
 impl Writer {
     /// The word of the address.
     #[tactic(auto, unfolding(crate::specs::Show::url))]
-    fn url(&mut self, alloc: Global, config: &Config) -> Result<(), AllocError>
+    fn url(&mut self, config: &Config) -> Result<(), AllocError>
         ensures before { self.new.before ≡ self.old.before }
         ensures ok { OnOk result (AddedWords self.old self.new (url config.now ∷ [])) }
     {
-        let mut word = Bytes::from_slice(alloc, b"url=")?;
-        word.extend_from_slice(config.url.as_slice())?;
-        self.word(word.as_slice())
+        self.word_behind(b"url=", config.url.as_slice())
     }
 
     /// How long the connect may take, where it is given.
-    fn connect_limit(
-        &mut self,
-        alloc: Global,
-        connect: Option<Option<u64>>,
-    ) -> Result<(), AllocError>
+    fn connect_limit(&mut self, connect: Option<Option<u64>>) -> Result<(), AllocError>
         ensures before { self.new.before ≡ self.old.before }
         ensures ok { OnOk result (AddedWords self.old self.new (connect_words connect)) }
     {
         match connect {
             None => Ok(()),
-            Some(None) => self.word(b"connect=none"),
-            Some(Some(ms)) => {
-                let word = format!(in alloc; "connect={ms}")?;
-                self.word(word.as_bytes())
-            }
+            Some(None) => self.literal(b"connect=none"),
+            Some(Some(ms)) => self.number_behind(b"connect=", ms),
         }
     }
 
     /// Within how long a request is to be answered, where it is given.
-    fn response_limit(
-        &mut self,
-        alloc: Global,
-        response: Option<Option<u64>>,
-    ) -> Result<(), AllocError>
+    fn response_limit(&mut self, response: Option<Option<u64>>) -> Result<(), AllocError>
         ensures before { self.new.before ≡ self.old.before }
         ensures ok { OnOk result (AddedWords self.old self.new (response_words response)) }
     {
         match response {
             None => Ok(()),
-            Some(None) => self.word(b"response=none"),
-            Some(Some(ms)) => {
-                let word = format!(in alloc; "response={ms}")?;
-                self.word(word.as_bytes())
-            }
+            Some(None) => self.literal(b"response=none"),
+            Some(Some(ms)) => self.number_behind(b"response=", ms),
         }
     }
 
     /// How many messages the queue of the link holds, where it is given.
-    fn buffer(&mut self, alloc: Global, buffer: Option<u32>) -> Result<(), AllocError>
+    fn buffer(&mut self, buffer: Option<u32>) -> Result<(), AllocError>
         ensures before { self.new.before ≡ self.old.before }
         ensures ok { OnOk result (AddedWords self.old self.new (buffer_words buffer)) }
     {
         match buffer {
             None => Ok(()),
-            Some(size) => {
-                let word = format!(in alloc; "buffer={size}")?;
-                self.word(word.as_bytes())
-            }
+            Some(size) => self.number_behind(b"buffer=", u64::from(size)),
         }
     }
 
     /// How many permits there are, where it is given.
-    fn limit(&mut self, alloc: Global, limit: Option<u32>) -> Result<(), AllocError>
+    fn limit(&mut self, limit: Option<u32>) -> Result<(), AllocError>
         ensures before { self.new.before ≡ self.old.before }
         ensures ok { OnOk result (AddedWords self.old self.new (limit_words limit)) }
     {
         match limit {
             None => Ok(()),
-            Some(limit) => {
-                let word = format!(in alloc; "limit={limit}")?;
-                self.word(word.as_bytes())
-            }
+            Some(limit) => self.number_behind(b"limit=", u64::from(limit)),
         }
     }
 
     /// At how many unwritten bytes no message of the link starts, where it is given.
-    fn boundary(&mut self, alloc: Global, boundary: Option<u64>) -> Result<(), AllocError>
+    fn boundary(&mut self, boundary: Option<u64>) -> Result<(), AllocError>
         ensures before { self.new.before ≡ self.old.before }
         ensures ok { OnOk result (AddedWords self.old self.new (boundary_words boundary)) }
     {
         match boundary {
             None => Ok(()),
-            Some(bytes) => {
-                let word = format!(in alloc; "boundary={bytes}")?;
-                self.word(word.as_bytes())
-            }
+            Some(bytes) => self.number_behind(b"boundary=", bytes),
         }
     }
 
@@ -114,49 +89,49 @@ impl Writer {
     {
         match lib {
             None => Ok(()),
-            Some(true) => self.word(b"lib=on"),
-            Some(false) => self.word(b"lib=off"),
+            Some(true) => self.literal(b"lib=on"),
+            Some(false) => self.literal(b"lib=off"),
         }
     }
 
     /// What is given of the times.
-    fn time_settings(&mut self, alloc: Global, config: &Config) -> Result<(), AllocError>
+    fn time_settings(&mut self, config: &Config) -> Result<(), AllocError>
         ensures before { self.new.before ≡ self.old.before }
         ensures ok { OnOk result (AddedWords self.old self.new (times_words config.now)) }
     {
-        self.connect_limit(alloc, config.connect)?;
-        self.response_limit(alloc, config.response)
+        self.connect_limit(config.connect)?;
+        self.response_limit(config.response)
     }
 
     /// What is given of the queue of the link, and of the number of permits.
-    fn number_settings(&mut self, alloc: Global, config: &Config) -> Result<(), AllocError>
+    fn number_settings(&mut self, config: &Config) -> Result<(), AllocError>
         ensures before { self.new.before ≡ self.old.before }
         ensures ok { OnOk result (AddedWords self.old self.new (numbers_words config.now)) }
     {
-        self.buffer(alloc, config.buffer)?;
-        self.limit(alloc, config.limit)?;
-        self.boundary(alloc, config.boundary)
+        self.buffer(config.buffer)?;
+        self.limit(config.limit)?;
+        self.boundary(config.boundary)
     }
 
     /// The settings behind the address.
-    fn later_settings(&mut self, alloc: Global, config: &Config) -> Result<(), AllocError>
+    fn later_settings(&mut self, config: &Config) -> Result<(), AllocError>
         ensures before { self.new.before ≡ self.old.before }
         ensures ok { OnOk result (AddedWords self.old self.new (later_words config.now)) }
     {
-        self.time_settings(alloc, config)?;
-        self.number_settings(alloc, config)?;
+        self.time_settings(config)?;
+        self.number_settings(config)?;
         self.lib(config.lib)
     }
 
     /// The words of a config line.
-    fn config(&mut self, alloc: Global, config: &Config) -> Result<(), AllocError>
+    fn config(&mut self, config: &Config) -> Result<(), AllocError>
         ensures before { self.new.before ≡ self.old.before }
         ensures ok { OnOk result (AddedWords self.old self.new (config_words config.now)) }
     {
-        self.word(b"config")?;
-        self.word(b"single")?;
-        self.url(alloc, config)?;
-        self.later_settings(alloc, config)
+        self.literal(b"config")?;
+        self.literal(b"single")?;
+        self.url(config)?;
+        self.later_settings(config)
     }
 
     /// A time: so many milliseconds, or any number.
@@ -165,7 +140,7 @@ impl Writer {
         ensures ok { OnOk result (AddedWords self.old self.new (time_word ms ∷ [])) }
     {
         match ms {
-            None => self.word(b"none"),
+            None => self.literal(b"none"),
             Some(ms) => self.number(ms),
         }
     }
@@ -215,19 +190,19 @@ impl Writer {
     {
         match submission {
             Submission::Cmd { args } => {
-                self.word(b"cmd")?;
+                self.literal(b"cmd")?;
                 self.arguments(args.as_slice())
             }
             Submission::NoReply { args } => {
-                self.word(b"noreply")?;
+                self.literal(b"noreply")?;
                 self.arguments(args.as_slice())
             }
             Submission::Pipe { commands } => {
-                self.word(b"pipe")?;
+                self.literal(b"pipe")?;
                 self.commands(commands.as_slice())
             }
             Submission::Multi { commands } => {
-                self.word(b"multi")?;
+                self.literal(b"multi")?;
                 self.commands(commands.as_slice())
             }
             Submission::Packed {
@@ -235,7 +210,7 @@ impl Writer {
                 count,
                 commands,
             } => {
-                self.word(b"packed")?;
+                self.literal(b"packed")?;
                 self.number(u64::from(*offset))?;
                 self.number(u64::from(*count))?;
                 self.commands(commands.as_slice())
@@ -262,77 +237,77 @@ impl Writer {
     {
         match kind {
             EventKind::Submit { submission } => {
-                self.word(b"submit")?;
+                self.literal(b"submit")?;
                 self.submitted(submission)
             }
             EventKind::Cancel { submission } => {
-                self.word(b"cancel")?;
+                self.literal(b"cancel")?;
                 self.number(u64::from(*submission))
             }
             EventKind::Connected { link } => {
-                self.word(b"connected")?;
+                self.literal(b"connected")?;
                 self.number(u64::from(*link))
             }
             EventKind::Refused { link, fault } => self.fault(b"refused", *link, *fault),
             EventKind::Wrote { link, count } => {
-                self.word(b"wrote")?;
+                self.literal(b"wrote")?;
                 self.number(u64::from(*link))?;
                 self.number(*count)
             }
             EventKind::Bytes { link, piece } => {
-                self.word(b"bytes")?;
+                self.literal(b"bytes")?;
                 self.number(u64::from(*link))?;
                 self.word(piece.as_slice())
             }
             EventKind::Ended { link } => {
-                self.word(b"ended")?;
+                self.literal(b"ended")?;
                 self.number(u64::from(*link))
             }
             EventKind::ReadFault { link, fault } => self.fault(b"read-fault", *link, *fault),
             EventKind::WriteFault { link, fault } => self.fault(b"write-fault", *link, *fault),
             EventKind::Fired { timer } => {
-                self.word(b"fired")?;
+                self.literal(b"fired")?;
                 self.number(u64::from(*timer))
             }
             EventKind::Timeout { ms } => {
-                self.word(b"timeout")?;
+                self.literal(b"timeout")?;
                 self.time(*ms)
             }
-            EventKind::Shutdown => self.word(b"shutdown"),
+            EventKind::Shutdown => self.literal(b"shutdown"),
         }
     }
 
     /// The words of an opening: those of its config line, behind the word of its draws.
-    pub fn opening(&mut self, alloc: Global, config: &Config, word: u64) -> Result<(), AllocError>
+    pub fn opening(&mut self, config: &Config, word: u64) -> Result<(), AllocError>
         ensures before { self.new.before ≡ self.old.before }
         ensures ok { OnOk result
             (AddedParts self.old self.new (cause_words (Cause.Opening config.now word))
             (cause_more (Cause.Opening config.now word))) }
     {
-        self.draw(alloc, word)?;
-        self.config(alloc, config)
+        self.draw(word)?;
+        self.config(config)
     }
 
     /// The words of an event, behind the word of its draws.
-    pub fn drawn_event(&mut self, alloc: Global, event: &Event) -> Result<(), AllocError>
+    pub fn drawn_event(&mut self, event: &Event) -> Result<(), AllocError>
         ensures before { self.new.before ≡ self.old.before }
         ensures ok { OnOk result
             (AddedParts self.old self.new (cause_words (Cause.Event event.now))
             (cause_more (Cause.Event event.now))) }
     {
-        self.draw(alloc, event.word)?;
+        self.draw(event.word)?;
         self.event(&event.kind)
     }
 
     /// The words of what a turn is the turn of.
-    pub fn cause(&mut self, alloc: Global, cause: &Cause) -> Result<(), AllocError>
+    pub fn cause(&mut self, cause: &Cause) -> Result<(), AllocError>
         ensures before { self.new.before ≡ self.old.before }
         ensures ok { OnOk result
             (AddedParts self.old self.new (cause_words cause.now) (cause_more cause.now)) }
     {
         match cause {
-            Cause::Opening { config, word } => self.opening(alloc, config, *word),
-            Cause::Event { event } => self.drawn_event(alloc, event),
+            Cause::Opening { config, word } => self.opening(config, *word),
+            Cause::Event { event } => self.drawn_event(event),
         }
     }
 }

@@ -1,4 +1,5 @@
-ghost use Rattle.std.specs.Prelude.{◌≡◌, ◌++◌, ◌∷◌, [], OnOk, map, decimal};
+ghost use Rattle.std.specs.Prelude.{◌≡◌, ◌++◌, ◌∷◌, [], OnOk, map, decimal, true};
+ghost use Rattle.trace_text.specs.Plain.{is_literal};
 ghost use Rattle.trace_text.specs.Words.{following};
 ghost use Rattle.trace_text.specs.Errors.{abort_word, error_words, server_text};
 ghost use Rattle.trace_text.specs.Writer.{AddedWords};
@@ -31,15 +32,15 @@ impl Writer {
     {
         match error {
             RedisError::Config { name } => self.word_and(b"config", name.name().as_bytes()),
-            RedisError::Client => self.word(b"client"),
-            RedisError::Resp3Required => self.word(b"resp3"),
-            RedisError::EmptyCommand => self.word(b"empty"),
-            RedisError::Closed => self.word(b"closed"),
+            RedisError::Client => self.literal(b"client"),
+            RedisError::Resp3Required => self.literal(b"resp3"),
+            RedisError::EmptyCommand => self.literal(b"empty"),
+            RedisError::Closed => self.literal(b"closed"),
             RedisError::Io { fault } => self.word_and(b"io", fault.name().as_bytes()),
             RedisError::CreateFailed { last } => self.word_and(b"create-failed", last.as_slice()),
-            RedisError::Parse => self.word(b"parse"),
+            RedisError::Parse => self.literal(b"parse"),
             RedisError::Convert { value } => self.convert(alloc, value),
-            RedisError::NotFound => self.word(b"not-found"),
+            RedisError::NotFound => self.literal(b"not-found"),
             RedisError::Server(error) => self.server(error),
             RedisError::Aborted { errors } => self.aborted(alloc, errors.as_slice()),
             RedisError::AuthFailed { text } => self.word_and(b"auth-failed", text.as_slice()),
@@ -47,18 +48,19 @@ impl Writer {
             RedisError::CrossSlot { first, second } => self.cross_slot(*first, *second),
             RedisError::RouteWithoutLink { routes } => self.no_link(routes.as_slice()),
             RedisError::TurnsSpent { turns } => {
-                self.word(b"turns")?;
+                self.literal(b"turns")?;
                 self.number(u64::from(*turns))
             }
         }
     }
 
-    /// Two more words.
+    /// Two more words, of which the first is written as it is.
     fn word_and(&mut self, word: &[u8], next: &[u8]) -> Result<(), AllocError>
+        requires { is_literal word.now ≡ true }
         ensures before { self.new.before ≡ self.old.before }
         ensures ok { OnOk result (AddedWords self.old self.new (word.now ∷ next.now ∷ [])) }
     {
-        self.word(word)?;
+        self.literal(word)?;
         self.word(next)
     }
 
@@ -88,7 +90,7 @@ impl Writer {
         ensures ok { OnOk result
             (AddedWords self.old self.new (error_words (RedisError.CrossSlot first second))) }
     {
-        self.word(b"cross-slot")?;
+        self.literal(b"cross-slot")?;
         self.number(u64::from(first))?;
         self.number(u64::from(second))
     }
@@ -111,7 +113,7 @@ impl Writer {
         ensures ok { OnOk result
             (AddedWords self.old self.new (error_words (RedisError.Aborted errors.now))) }
     {
-        self.word(b"aborted")?;
+        self.literal(b"aborted")?;
         self.aborts(alloc, errors)
     }
 
@@ -130,7 +132,7 @@ impl Writer {
         ensures ok { OnOk result
             (AddedWords self.old self.new (error_words (RedisError.RouteWithoutLink routes.now))) }
     {
-        self.word(b"no-link")?;
+        self.literal(b"no-link")?;
         self.numbers(routes)
     }
 

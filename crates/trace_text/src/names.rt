@@ -7,44 +7,50 @@ ghost use Rattle.trace_text.specs.Writer.{AddedWords};
 use crate::writer::Writer;
 use containers::Bytes;
 use driver_model::{Owner, WaitKind};
-use itoa::Buffer;
-use std::alloc::{AllocError, Global};
+use std::alloc::AllocError;
 
 impl Writer {
     /// One more word: a host and a port.
-    pub fn address(&mut self, alloc: Global, host: &Bytes, port: u16) -> Result<(), AllocError>
+    pub fn address(&mut self, host: &Bytes, port: u16) -> Result<(), AllocError>
         ensures before { self.new.before ≡ self.old.before }
         ensures ok { OnOk result
             (AddedWords self.old self.new (address host.now port ∷ [])) }
     {
-        let mut digits = Buffer::new();
-        let mut word = host.clone(alloc)?;
-        word.push(b':')?;
-        word.extend_from_slice(digits.format(port).as_bytes())?;
-        self.word(word.as_slice())
+        self.push(b" ")?;
+        self.escaped_bytes(host.as_slice())?;
+        self.push(b":")?;
+        self.digits(u64::from(port))
     }
 
     /// One more word: a submission.
-    pub fn submission(&mut self, alloc: Global, submission: u32) -> Result<(), AllocError>
+    pub fn submission(&mut self, submission: u32) -> Result<(), AllocError>
         ensures before { self.new.before ≡ self.old.before }
         ensures ok { OnOk result
             (AddedWords self.old self.new (submission_word submission ∷ [])) }
     {
-        let word = format!(in alloc; "s{submission}")?;
-        self.word(word.as_bytes())
+        self.number_behind(b"s", u64::from(submission))
+    }
+
+    /// One more word: a submission and a round.
+    fn try_word(&mut self, submission: u32, round: u32) -> Result<(), AllocError>
+        ensures before { self.new.before ≡ self.old.before }
+        ensures ok { OnOk result
+            (AddedWords self.old self.new (owner_word (Owner.Try submission round) ∷ [])) }
+    {
+        self.push(b" s")?;
+        self.digits(u64::from(submission))?;
+        self.push(b".")?;
+        self.digits(u64::from(round))
     }
 
     /// One more word: a try of a submission, or what is said to the server before the first request.
-    pub fn owner(&mut self, alloc: Global, owner: Owner) -> Result<(), AllocError>
+    pub fn owner(&mut self, owner: Owner) -> Result<(), AllocError>
         ensures before { self.new.before ≡ self.old.before }
         ensures ok { OnOk result (AddedWords self.old self.new (owner_word owner ∷ [])) }
     {
         match owner {
-            Owner::Try { submission, round } => {
-                let word = format!(in alloc; "s{submission}.{round}")?;
-                self.word(word.as_bytes())
-            }
-            Owner::Setup => self.word(b"setup"),
+            Owner::Try { submission, round } => self.try_word(submission, round),
+            Owner::Setup => self.literal(b"setup"),
         }
     }
 
@@ -54,23 +60,22 @@ impl Writer {
         ensures ok { OnOk result (AddedWords self.old self.new (wait_word wait ∷ [])) }
     {
         match wait {
-            WaitKind::Connect => self.word(b"connect"),
-            WaitKind::Setup => self.word(b"setup"),
-            WaitKind::Permit => self.word(b"permit"),
-            WaitKind::Place => self.word(b"place"),
-            WaitKind::Room => self.word(b"room"),
+            WaitKind::Connect => self.literal(b"connect"),
+            WaitKind::Setup => self.literal(b"setup"),
+            WaitKind::Permit => self.literal(b"permit"),
+            WaitKind::Place => self.literal(b"place"),
+            WaitKind::Room => self.literal(b"room"),
         }
     }
 
     /// The word that random draws come from, where it isn't 0.
-    pub fn draw(&mut self, alloc: Global, number: u64) -> Result<(), AllocError>
+    pub fn draw(&mut self, number: u64) -> Result<(), AllocError>
         ensures before { self.new.before ≡ self.old.before }
         ensures ok { OnOk result (AddedWords self.old self.new (draw_words number)) }
     {
         if number == 0 {
             return Ok(());
         }
-        let word = format!(in alloc; "@{number}")?;
-        self.word(word.as_bytes())
+        self.number_behind(b"@", number)
     }
 }

@@ -19,7 +19,7 @@ impl Writer {
             Outcome::One(value) => self.reply(alloc, value),
             Outcome::Many(values) => self.replies(alloc, values),
             Outcome::Fault(error) => {
-                self.word(b"err")?;
+                self.literal(b"err")?;
                 self.error(alloc, error)
             }
         }
@@ -31,7 +31,7 @@ impl Writer {
             (AddedWords self.old self.new (outcome_words (Outcome.One value.now))) }
     {
         let text = canonical_text(alloc, value)?;
-        self.word(b"ok")?;
+        self.literal(b"ok")?;
         self.word(text.as_slice())
     }
 
@@ -41,7 +41,7 @@ impl Writer {
             (AddedWords self.old self.new (outcome_words (Outcome.Many values.now))) }
     {
         let text = list_text(alloc, values)?;
-        self.word(b"many")?;
+        self.literal(b"many")?;
         self.word(text.as_slice())
     }
 }

@@ -14,7 +14,7 @@ fn config_line(alloc: Global, config: &Config, word: u64) -> Result<Bytes, Alloc
     ensures { IfOk result (λ line. line ≡ byte " " ∷ script_line (Cause.Opening config.now word)) }
 {
     let mut writer = Writer::new(Bytes::new(alloc));
-    writer.opening(alloc, config, word)?;
+    writer.opening(config, word)?;
     writer.end_line()?;
     Ok(writer.finish())
 }
@@ -25,7 +25,7 @@ fn event_line(alloc: Global, event: &Event) -> Result<Bytes, AllocError>
     ensures { IfOk result (λ line. line ≡ byte " " ∷ script_line (Cause.Event event.now)) }
 {
     let mut writer = Writer::new(Bytes::new(alloc));
-    writer.drawn_event(alloc, event)?;
+    writer.drawn_event(event)?;
     writer.end_line()?;
     Ok(writer.finish())
 }

@@ -1,5 +1,7 @@
-ghost use Rattle.std.specs.Prelude.{◌≡◌, ◌∷◌, [], OnOk, codes, decimal, flat_map};
+ghost use Rattle.std.specs.Prelude.{◌≡◌, ◌∷◌, ◌++◌, [], OnOk, codes, decimal, flat_map, true};
 ghost use Rattle.std.specs.Str.{byte};
+ghost use Rattle.percent_encoding.specs.Percent as percent;
+ghost use Rattle.trace_text.specs.Plain.{is_literal};
 ghost use Rattle.trace_text.specs.Words.{escaped, escaped_byte, following, is_plain, is_separator};
 ghost use Rattle.trace_text.specs.Writer.{Added, AddedWords};
 
@@ -23,29 +25,34 @@ fn is_separator(word: &[u8]) -> bool
 }
 
 impl Writer {
-    fn escaped_byte(&mut self, byte: u8) -> Result<(), AllocError>
+    /// Bytes that stand for themselves, and the escape of the one behind them.
+    fn run_and_escape(&mut self, run: &[u8], byte: u8) -> Result<(), AllocError>
         ensures before { self.new.before ≡ self.old.before }
-        ensures ok { OnOk result (Added self.old self.new (escaped_byte byte)) }
+        ensures ok { OnOk result
+            (Added self.old self.new (run.now ++ percent.percent_encode_byte byte)) }
     {
-        if is_plain(byte) {
-            return self.push(&[byte]);
-        }
+        self.push(run)?;
         self.push(percent_encode_byte(byte).as_bytes())
     }
 
-    fn escaped_bytes(&mut self, word: &[u8]) -> Result<(), AllocError>
+    /// Bytes of a word, each as itself or as its escape.
+    pub fn escaped_bytes(&mut self, bytes: &[u8]) -> Result<(), AllocError>
         ensures before { self.new.before ≡ self.old.before }
-        ensures ok { OnOk result (Added self.old self.new (flat_map escaped_byte word.now)) }
+        ensures ok { OnOk result (Added self.old self.new (flat_map escaped_byte bytes.now)) }
     {
-        for byte in word {
-            self.escaped_byte(*byte)?;
+        let mut start = 0;
+        for (i, byte) in bytes.iter().enumerate() {
+            if is_plain(*byte) {
+                continue;
+            }
+            self.run_and_escape(&bytes[start..i], *byte)?;
+            start = i + 1;
         }
-        Ok(())
+        self.push(&bytes[start..])
     }
 
-    /// The first word of the line.
     #[tactic(auto, unfolding(crate::specs::Words::escaped))]
-    pub fn first(&mut self, word: &[u8]) -> Result<(), AllocError>
+    fn escaped(&mut self, word: &[u8]) -> Result<(), AllocError>
         ensures before { self.new.before ≡ self.old.before }
         ensures ok { OnOk result (Added self.old self.new (escaped word.now)) }
     {
@@ -58,8 +65,28 @@ impl Writer {
         self.escaped_bytes(word)
     }
 
+    /// The first word of the line, which is written as it is.
+    #[tactic(auto, using(crate::proofs::Plain::escaped_literal))]
+    pub fn first(&mut self, word: &[u8]) -> Result<(), AllocError>
+        requires { is_literal word.now ≡ true }
+        ensures before { self.new.before ≡ self.old.before }
+        ensures ok { OnOk result (Added self.old self.new (escaped word.now)) }
+    {
+        self.push(word)
+    }
+
     /// One more word.
     pub fn word(&mut self, word: &[u8]) -> Result<(), AllocError>
+        ensures before { self.new.before ≡ self.old.before }
+        ensures ok { OnOk result (AddedWords self.old self.new (word.now ∷ [])) }
+    {
+        self.push(b" ")?;
+        self.escaped(word)
+    }
+
+    /// One more word, which is written as it is.
+    pub fn literal(&mut self, word: &[u8]) -> Result<(), AllocError>
+        requires { is_literal word.now ≡ true }
         ensures before { self.new.before ≡ self.old.before }
         ensures ok { OnOk result (AddedWords self.old self.new (word.now ∷ [])) }
     {
@@ -67,13 +94,46 @@ impl Writer {
         self.first(word)
     }
 
+    /// The digits of a number.
+    pub fn digits(&mut self, number: u64) -> Result<(), AllocError>
+        ensures before { self.new.before ≡ self.old.before }
+        ensures ok { OnOk result (Added self.old self.new (decimal number)) }
+    {
+        let mut digits = Buffer::new();
+        self.push(digits.format(number).as_bytes())
+    }
+
     /// One more word, a number.
     pub fn number(&mut self, number: u64) -> Result<(), AllocError>
         ensures before { self.new.before ≡ self.old.before }
         ensures ok { OnOk result (AddedWords self.old self.new (decimal number ∷ [])) }
     {
-        let mut digits = Buffer::new();
-        self.word(digits.format(number).as_bytes())
+        self.push(b" ")?;
+        self.digits(number)
+    }
+
+    /// One more word, a number behind what is written as it is.
+    pub fn number_behind(&mut self, front: &[u8], number: u64) -> Result<(), AllocError>
+        requires { is_literal front.now ≡ true }
+        ensures before { self.new.before ≡ self.old.before }
+        ensures ok { OnOk result
+            (AddedWords self.old self.new ((front.now ++ decimal number) ∷ [])) }
+    {
+        self.push(b" ")?;
+        self.push(front)?;
+        self.digits(number)
+    }
+
+    /// One more word, any bytes behind what is written as it is.
+    pub fn word_behind(&mut self, front: &[u8], bytes: &[u8]) -> Result<(), AllocError>
+        requires { is_literal front.now ≡ true }
+        ensures before { self.new.before ≡ self.old.before }
+        ensures ok { OnOk result
+            (AddedWords self.old self.new ((front.now ++ bytes.now) ∷ [])) }
+    {
+        self.push(b" ")?;
+        self.push(front)?;
+        self.escaped_bytes(bytes)
     }
 
     /// The end of the line.

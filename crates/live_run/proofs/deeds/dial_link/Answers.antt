@@ -1,8 +1,15 @@
-use Rattle.live_run.proofs.Runs.{did_stepped, broke_asked}
+use Rattle.live_run.proofs.Runs.{broke_call}
+use Rattle.live_run.proofs.Turns.{dialled_one, dial_broken}
 use Rattle.live_run.proofs.deeds.dial_link.Goals as goal
 
-pub returns-in-Ok-clause-did : goal.returns-in-Ok-clause-did
-returns-in-Ok-clause-did g c = did_stepped _ _ c.dial-answer.ensures.tells (c.after_dial.ensures c.args.host.now c.args.port) c.in-Ok.ensures.ok
-
 pub returns-in-Err-clause-err : goal.returns-in-Err-clause-err
-returns-in-Err-clause-err g c = broke_asked _ c.dial-answer.ensures.tells c.in-Err.ensures.err
+returns-in-Err-clause-err g c = broke_call _ c.dial-answer.ensures.tells
+
+pub returns-in-Ok-settle-clause-did : goal.returns-in-Ok-settle-clause-did
+returns-in-Ok-settle-clause-did g c =
+    dialled_one c.args.target c.host_text-name.ensures c.dial-answer.ensures.tells (c.dial_news-news.ensures c.host_text-name.result.now c.args.target.port)
+    (c.in-Ok.ensures c.args.target c.host_text-name.result.now c.args.target.port) c.in-Ok-settle.ensures.ok
+
+pub returns-clause-err : goal.returns-clause-err
+returns-clause-err g c =
+    dial_broken c.args.target c.host_text-name.ensures c.dial-answer.ensures.tells (c.dial_news-news.ensures c.host_text-name.result.now c.args.target.port) c.in-Err-settle.ensures.err

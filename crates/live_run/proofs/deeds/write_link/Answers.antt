@@ -1,11 +1,13 @@
-use Rattle.live_run.proofs.Runs.{did_stepped, did_quiet, broke_asked}
+use Rattle.live_run.proofs.Turns.{write_one, write_broken}
 use Rattle.live_run.proofs.deeds.write_link.Goals as goal
 
-pub returns-in-None-clause-did : goal.returns-in-None-clause-did
-returns-in-None-clause-did g c = did_quiet _ c.write-answer.ensures.tells (c.in-None.ensures c.args.offer.now)
-
 pub returns-in-Ok-clause-did : goal.returns-in-Ok-clause-did
-returns-in-Ok-clause-did g c = did_stepped _ _ c.write-answer.ensures.tells (c.in-Some.ensures c.args.offer.now) c.in-Ok.ensures.ok
+returns-in-Ok-clause-did g c =
+    let offer = c.in-Some.ensures in
+    write_one c.args.link c.in-Some.offer.now offer.0 offer.1 c.write-answer.ensures.within c.write-answer.ensures.tells (c.write_news-news.ensures c.in-Some.offer.now)
+    (c.after_write.ensures c.in-Some.offer.now) c.in-Ok.ensures.ok
 
 pub returns-in-Err-clause-err : goal.returns-in-Err-clause-err
-returns-in-Err-clause-err g c = broke_asked _ c.write-answer.ensures.tells c.in-Err.ensures.err
+returns-in-Err-clause-err g c =
+    let offer = c.in-Some.ensures in
+    write_broken c.args.link c.in-Some.offer.now offer.0 offer.1 c.write-answer.ensures.within c.write-answer.ensures.tells (c.write_news-news.ensures c.in-Some.offer.now) c.in-Err.ensures.err

@@ -1,10 +1,10 @@
 use Rattle.std.proofs.Common.{arith, refl, ◌∙◌}
-use Rattle.live_run.proofs.Runs.{does_none, broke_more}
+use Rattle.live_run.proofs.Runs.{broke_more}
 use Rattle.live_run.proofs.Whole.{next_within, ran_over, sofar_more, sofar_none}
 use Rattle.live_run.proofs.running.run.Goals as goal
 
 pub passes-init : goal.passes-init
-passes-init g c = record { does = does_none (sofar_none _); same = refl; within = omega arith }
+passes-init g c = record { does = sofar_none; same = refl; within = omega arith }
 
 pub passes-preserved : goal.passes-preserved
 passes-preserved g c =
@@ -12,7 +12,7 @@ passes-preserved g c =
     record {
       does = sofar_more c.passes.invariant.does did;
       same = c.in-Ok-Idle.ensures.same ∙ (c.ending.ensures.same ∙ c.passes.invariant.same);
-      within = next_within _ _ _ _ did c.passes-test.true;
+      within = next_within _ _ did c.passes-test.true;
     }
 
 pub returns-in-Ok-Over-clause-did : goal.returns-in-Ok-Over-clause-did

@@ -6,8 +6,8 @@ use Rattle.live_run.proofs.running.run.Given as goal
 
 abbrev pub invariant-passes : goal.invariant-passes
 invariant-passes g l = record {
-  does : Does (g.W.World.told l.fn.world) (g.W.World.told l.world) l.fn.session l.session (Sofar l.idle l.fn.book.unclosed l.book.unclosed);
-  same : l.book.verdict.submissions ≡ l.fn.book.verdict.submissions;
+  does : Does (g.W.World.told l.fn.world) (g.W.World.told l.world) l.fn.session l.session l.fn.driver.agenda l.driver.agenda (Sofar l.idle l.fn.driver.agenda);
+  same : l.driver.verdict.submissions ≡ l.fn.driver.verdict.submissions;
   within : l.idle ≤ 6_000;
 }
 

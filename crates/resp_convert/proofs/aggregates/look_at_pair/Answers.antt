@@ -8,3 +8,6 @@ returns-in-Fits g c =
 pub returns-in-Unfit : goal.returns-in-Unfit
 returns-in-Unfit g c =
     no_key g.K.FromRedisValue.reads g.V.FromRedisValue.reads _ _ c.in-Unfit.ensures
+
+pub returns-in-Untold : goal.returns-in-Untold
+returns-in-Untold g c both = c.in-Untold.ensures both.0

@@ -1,10 +1,12 @@
-use Rattle.std.proofs.Common.{◌≡◌, ◌++◌, take}
+use Rattle.std.proofs.Common.{◌≡◌, ◌≤◌, ◌++◌, take, slice_range}
 use Rattle.std.specs.Prelude.{flat_map}
 use Rattle.trace_text.specs.Words.{escaped_byte}
 use Rattle.trace_text.proofs.writer.Writer.escaped_bytes.Given as goal
 
--- the text before the line stays, and the line has each byte that was passed
-abbrev pub invariant-loop-byte : goal.invariant-loop-byte
-invariant-loop-byte l =
+-- the text before the line stays, the line has the bytes up to a place, and those behind it are plain
+abbrev pub invariant-loop-i : goal.invariant-loop-i
+invariant-loop-i l =
     (l.self.before ≡ l.fn.self.before)
-    × (l.self.line ≡ l.fn.self.line ++ flat_map escaped_byte (take l.byte-index l.word))
+    × (l.start ≤ l.i)
+    × (l.self.line ≡ l.fn.self.line ++ flat_map escaped_byte (take l.start l.bytes))
+    × (flat_map escaped_byte (slice_range l.bytes l.start l.i) ≡ slice_range l.bytes l.start l.i)

@@ -1,8 +1,0 @@
-use Rattle.live_run.proofs.Runs.{did_shut, broke_step}
-use Rattle.live_run.proofs.deeds.shut_down.Goals as goal
-
-pub returns-in-Ok-clause-did : goal.returns-in-Ok-clause-did
-returns-in-Ok-clause-did g c = did_shut c.in-Ok.ensures.ok
-
-pub returns-in-Err-clause-err : goal.returns-in-Err-clause-err
-returns-in-Err-clause-err g c = broke_step c.in-Err.ensures.err

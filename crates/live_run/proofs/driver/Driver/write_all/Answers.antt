@@ -1,0 +1,24 @@
+use Rattle.std.proofs.Common.{◌∙◌}
+use Rattle.live_run.specs.Agenda.{numbers_of}
+use Rattle.live_run.specs.Passes.{Offers, IsWriteOf}
+use Rattle.live_run.proofs.Runs.{broke_more, broke_nothing}
+use Rattle.live_run.proofs.Stages.{turn_more, turns_cut, turns_done}
+use Rattle.live_run.proofs.driver.Driver.write_all.Goals as goal
+
+pub returns-in-Err-clause-err : goal.returns-in-Err-clause-err
+returns-in-Err-clause-err g c = broke_nothing
+
+pub returns-in-Some-ending-clause-did : goal.returns-in-Some-ending-clause-did
+returns-in-Some-ending-clause-did g c = turns_cut Offers IsWriteOf (numbers_of c.args.self.now.agenda.links) c.loop-link.left c.loop-link.invariant.does
+
+pub loop-link-preserved : goal.loop-link-preserved
+loop-link-preserved g c = record {
+  does = turn_more Offers IsWriteOf (numbers_of c.args.self.now.agenda.links) c.loop-link.left c.in-Some.ensures c.loop-link.invariant.does c.in-Ok-write_link.ensures.did;
+  same = c.ending.ensures.same ∙ c.loop-link.invariant.same;
+}
+
+pub returns-in-Err-write_link-clause-err : goal.returns-in-Err-write_link-clause-err
+returns-in-Err-write_link-clause-err g c = broke_more c.loop-link.invariant.does c.in-Err-write_link.ensures.err
+
+pub returns-clause-did : goal.returns-clause-did
+returns-clause-did g c = turns_done Offers IsWriteOf (numbers_of c.args.self.now.agenda.links) c.loop-link.left c.in_default.ensures.0 c.loop-link.invariant.does
