@@ -13,6 +13,3 @@ mod telling;
 pub use gate::{Gate, OpenGate};
 pub use job::{Job, Turn};
 pub use submit::submit_lines;
-
-#[cfg(test)]
-mod tests;

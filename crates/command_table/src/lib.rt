@@ -4,14 +4,10 @@
 mod commands;
 mod lookup;
 mod part_command;
-#[cfg(test)]
-mod part_command_tests;
 mod parts;
 mod routes;
 mod routing;
 mod selection;
-#[cfg(test)]
-mod tests;
 
 pub use commands::Form;
 pub use lookup::form_of;

@@ -12,10 +12,6 @@ mod path;
 mod protocol;
 mod query;
 mod read_url;
-#[cfg(test)]
-mod tests;
-#[cfg(test)]
-mod url_tests;
 mod write_url;
 
 pub use address::{ConnectionInfo, RedisConnectionInfo};

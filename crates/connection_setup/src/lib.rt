@@ -6,8 +6,6 @@ mod meaning;
 mod messages;
 mod permits;
 mod phrase;
-#[cfg(test)]
-mod tests;
 
 pub use judgement::{SetupResult, check_setup};
 pub use messages::setup_messages;

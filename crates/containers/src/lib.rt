@@ -5,8 +5,6 @@ mod bytes;
 mod names;
 mod queue;
 mod seq;
-#[cfg(test)]
-mod tests;
 mod try_clone;
 
 pub use bytes::Bytes;

@@ -4,18 +4,12 @@
 mod action;
 mod commands;
 mod config;
-#[cfg(test)]
-mod config_tests;
 mod event;
 mod making;
-#[cfg(test)]
-mod making_tests;
 mod news;
 mod outcome;
 mod request;
 mod setup;
-#[cfg(test)]
-mod tests;
 mod verdicts;
 
 pub use action::{Action, Cause, Owner, Purpose, WaitKind};

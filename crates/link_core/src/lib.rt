@@ -13,6 +13,3 @@ pub use link::LinkCore;
 pub use message::{Entry, PushAt, PushInfo, Queued, Settled, Started};
 pub use outbox::Outbox;
 pub use row::Row;
-
-#[cfg(test)]
-mod tests;

@@ -15,6 +15,3 @@ pub use planning::{Plan, plan_of};
 pub use reading::{Refusal, flight_of};
 pub use refusing::refuse;
 pub use whole_run::live;
-
-#[cfg(test)]
-mod tests;

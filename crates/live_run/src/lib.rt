@@ -8,8 +8,6 @@ mod ending;
 mod links;
 mod rooms;
 mod running;
-#[cfg(test)]
-mod tests;
 mod timers;
 mod verdict;
 

@@ -10,8 +10,6 @@ mod makers;
 mod sending;
 mod showing;
 mod stepping;
-#[cfg(test)]
-mod tests;
 
 pub use act::{ConnectionAct, ConnectionTimer};
 pub use connection::MultiplexedConnection;

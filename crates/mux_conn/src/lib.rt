@@ -18,10 +18,3 @@ pub use connection::MultiplexedConnection;
 pub use errors::ConnectionError;
 pub use life::Life;
 pub use request::{Pending, Progress, Request, Waiting};
-
-#[cfg(test)]
-mod setup_tests;
-#[cfg(test)]
-mod tests;
-#[cfg(test)]
-mod threads_tests;

@@ -10,8 +10,6 @@ mod rows;
 mod shard;
 mod slot_map;
 mod strategy;
-#[cfg(test)]
-mod tests;
 
 pub use command_table::{
     KeyIndices, MultipleNodeRoutingInfo, ResponsePolicy, Route, RoutingInfo, SingleNodeRoutingInfo,

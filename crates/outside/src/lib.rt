@@ -8,16 +8,12 @@ mod fault_of;
 mod feeding;
 mod mem_world;
 mod memory;
-#[cfg(test)]
-mod net_tests;
 mod net_world;
 mod sink;
 mod source;
 mod standard;
 mod streams;
 mod sure;
-#[cfg(test)]
-mod tests;
 mod unread;
 mod whole;
 mod world;

@@ -5,8 +5,6 @@ mod config_name;
 mod error_kind;
 mod fault_kind;
 mod redis_error;
-#[cfg(test)]
-mod redis_error_tests;
 
 pub use config_name::ConfigName;
 pub use error_kind::ErrorKind;

@@ -15,18 +15,3 @@ mod tuples;
 pub use aggregates::KeyValues;
 pub use convert::{ConvertError, FromRedisValue, Look};
 pub use laws::written_numbers_are_read_back;
-
-#[cfg(test)]
-mod aggregate_tests;
-#[cfg(test)]
-mod float_tests;
-#[cfg(test)]
-mod integer_tests;
-#[cfg(test)]
-mod moved_tests;
-#[cfg(test)]
-mod set_tests;
-#[cfg(test)]
-mod tests;
-#[cfg(test)]
-mod tuple_tests;

@@ -2,23 +2,15 @@
 #![tactic(auto)]
 
 mod error_kind;
-#[cfg(test)]
-mod error_tests;
 mod first_error;
 mod push_kind;
 mod redirect;
 mod retry_method;
 mod same;
-#[cfg(test)]
-mod same_tests;
 mod server_code;
 mod server_error;
 mod shown;
 mod shown_value;
-#[cfg(test)]
-mod tests;
-#[cfg(test)]
-mod threads_tests;
 mod value;
 
 pub use error_kind::ServerErrorKind;

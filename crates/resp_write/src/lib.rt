@@ -22,10 +22,3 @@ pub use pack::pack_names;
 pub use pipeline::{CmdIter, Pipeline, pipe};
 pub use subscription::SubscriptionAction;
 pub use value_text::{canonical_text, list_text, write_value};
-
-#[cfg(test)]
-mod arguments_tests;
-#[cfg(test)]
-mod pipeline_tests;
-#[cfg(test)]
-mod tests;

@@ -6,6 +6,3 @@ mod recording;
 mod writing;
 
 pub use recording::{RecordError, record};
-
-#[cfg(test)]
-mod tests;

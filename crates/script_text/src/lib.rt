@@ -23,8 +23,3 @@ pub use explain::explain_line;
 pub use intake::Intake;
 pub use script::{Script, ScriptError, read_script};
 pub use submissions::{read_config, read_lines};
-
-#[cfg(test)]
-mod submission_tests;
-#[cfg(test)]
-mod tests;

@@ -18,6 +18,3 @@ pub use closing::CloseError;
 pub use dial::{Claim, Dial};
 pub use pending::PendingSend;
 pub use session::{JoinError, SharedSession};
-
-#[cfg(test)]
-mod tests;

@@ -11,12 +11,3 @@ pub use core_state::{Core, Single};
 pub use errors::{MakeError, ReplayError, StepError};
 pub use session::{Failure, Session};
 pub use showing::Done;
-
-#[cfg(test)]
-mod setup_tests;
-#[cfg(test)]
-mod tests;
-#[cfg(test)]
-mod threads_tests;
-#[cfg(test)]
-mod waits_tests;

@@ -5,8 +5,6 @@ mod address;
 mod reading;
 mod slot;
 mod table;
-#[cfg(test)]
-mod tests;
 
 pub use address::{AddressError, NodeAddress};
 pub use reading::is_text;

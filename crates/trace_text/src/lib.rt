@@ -3,8 +3,6 @@
 
 mod actions;
 mod causes;
-#[cfg(test)]
-mod error_tests;
 mod errors;
 mod names;
 mod outcomes;
@@ -14,6 +12,3 @@ mod writer;
 
 pub use actions::{append_action, show};
 pub use scripts::{append_config, append_event};
-
-#[cfg(test)]
-mod tests;

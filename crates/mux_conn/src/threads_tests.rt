@@ -1,9 +1,0 @@
-use crate::MultiplexedConnection;
-
-/// Takes only types that go to other threads, and that threads share.
-fn crosses<T: Send + Sync>() {}
-
-#[test]
-fn connections_cross_threads() {
-    crosses::<MultiplexedConnection>();
-}

@@ -1,0 +1,15 @@
+//! Tests of sessions and their callers, by public calls alone.
+#![tactic(auto)]
+
+#[cfg(test)]
+mod callers;
+#[cfg(test)]
+mod meetings;
+#[cfg(test)]
+mod sessions;
+#[cfg(test)]
+mod setups;
+#[cfg(test)]
+mod threads;
+#[cfg(test)]
+mod waits;

@@ -1,0 +1,200 @@
+use containers::{Bytes, Names};
+use resp_write::{Cmd, ToRedisArgs};
+use std::alloc::{AllocError, Global};
+
+/// Whether these are the arguments of the command.
+fn has_args(command: &Cmd, wanted: &[&[u8]]) -> bool {
+    let mut left = command.args_iter();
+    for wanted in wanted {
+        match left.next() {
+            Some(arg) if arg == *wanted => {}
+            _ => return false,
+        }
+    }
+    left.next().is_none()
+}
+
+/// Whether the value becomes these arguments.
+fn is_written<T: ToRedisArgs>(
+    alloc: Global,
+    value: &T,
+    wanted: &[&[u8]],
+) -> Result<bool, AllocError> {
+    let mut command = Cmd::new(alloc);
+    value.write_redis_args(alloc, &mut command)?;
+    Ok(has_args(&command, wanted))
+}
+
+/// Whether each value becomes the arguments beside it.
+fn are_written<T: ToRedisArgs>(alloc: Global, rows: &[(T, &[&[u8]])]) -> Result<bool, AllocError> {
+    for row in rows {
+        if !is_written(alloc, &row.0, row.1)? {
+            return Ok(false);
+        }
+    }
+    Ok(true)
+}
+
+const TRUTHS: [(bool, &[&[u8]]); 2] = [(true, &[b"1"]), (false, &[b"0"])];
+
+const I8: [(i8, &[&[u8]]); 3] = [(-128, &[b"-128"]), (0, &[b"0"]), (127, &[b"127"])];
+
+const I16: [(i16, &[&[u8]]); 2] = [(-32_768, &[b"-32768"]), (32_767, &[b"32767"])];
+
+const I32: [(i32, &[&[u8]]); 2] = [
+    (-2_147_483_648, &[b"-2147483648"]),
+    (2_147_483_647, &[b"2147483647"]),
+];
+
+const I64: [(i64, &[&[u8]]); 3] = [
+    (-9_223_372_036_854_775_808, &[b"-9223372036854775808"]),
+    (-1, &[b"-1"]),
+    (9_223_372_036_854_775_807, &[b"9223372036854775807"]),
+];
+
+const ISIZE: [(isize, &[&[u8]]); 2] = [(-10, &[b"-10"]), (10, &[b"10"])];
+
+const U8: [(u8, &[&[u8]]); 2] = [(0, &[b"0"]), (255, &[b"255"])];
+
+const U16: [(u16, &[&[u8]]); 1] = [(65_535, &[b"65535"])];
+
+const U32: [(u32, &[&[u8]]); 1] = [(4_294_967_295, &[b"4294967295"])];
+
+const U64: [(u64, &[&[u8]]); 1] = [(18_446_744_073_709_551_615, &[b"18446744073709551615"])];
+
+const USIZE: [(usize, &[&[u8]]); 2] = [(0, &[b"0"]), (100, &[b"100"])];
+
+const FLOATS: [(f64, &[&[u8]]); 10] = [
+    (1.5, &[b"1.5"]),
+    (0.1, &[b"0.1"]),
+    (-0.0, &[b"-0.0"]),
+    (100.0, &[b"100.0"]),
+    (0.30000000000000004, &[b"0.30000000000000004"]),
+    (1e21, &[b"1e21"]),
+    (-2.5e-300, &[b"-2.5e-300"]),
+    (f64::INFINITY, &[b"inf"]),
+    (f64::NEG_INFINITY, &[b"-inf"]),
+    (f64::NAN, &[b"NaN"]),
+];
+
+const SCORES: [(&[(f64, &str)], &[&[u8]]); 1] = [(
+    &[(1.5, "a"), (-2.0, "b")],
+    &[b"1.5", b"a", b"-2.0", b"b"],
+)];
+
+#[test]
+fn floats_become_short_texts(rt: HostRuntime) -> Result<(), AllocError> {
+    let alloc = rt.alloc();
+    let floats = are_written(alloc, &FLOATS)?;
+    assert!(rt; floats);
+    let scores = are_written(alloc, &SCORES)?;
+    assert!(rt; scores);
+    let vector = is_written(
+        alloc,
+        &Vec::from_slice(alloc, &[0.5, 2.0])?,
+        &[b"0.5", b"2.0"],
+    )?;
+    assert!(rt; vector);
+    Ok(())
+}
+
+#[test]
+fn numbers_become_their_digits(rt: HostRuntime) -> Result<(), AllocError> {
+    let alloc = rt.alloc();
+    let signed = are_written(alloc, &I8)?
+        && are_written(alloc, &I16)?
+        && are_written(alloc, &I32)?
+        && are_written(alloc, &I64)?
+        && are_written(alloc, &ISIZE)?;
+    assert!(rt; signed);
+    let unsigned = are_written(alloc, &U8)?
+        && are_written(alloc, &U16)?
+        && are_written(alloc, &U32)?
+        && are_written(alloc, &U64)?
+        && are_written(alloc, &USIZE)?;
+    assert!(rt; unsigned);
+    let truths = are_written(alloc, &TRUTHS)?;
+    assert!(rt; truths);
+    Ok(())
+}
+
+const TEXTS: [(&str, &[&[u8]]); 2] = [("", &[b""]), ("yz", &[b"yz"])];
+
+const BYTES: [(&[u8], &[&[u8]]); 2] = [(b"", &[b""]), (b"X\r\n", &[b"X\r\n"])];
+
+const OPTIONS: [(Option<u16>, &[&[u8]]); 2] = [(None, &[]), (Some(7), &[b"7"])];
+
+#[test]
+fn texts_are_one_argument(rt: HostRuntime) -> Result<(), AllocError> {
+    let alloc = rt.alloc();
+    let lent = are_written(alloc, &TEXTS)? && are_written(alloc, &BYTES)?;
+    assert!(rt; lent);
+    let options = are_written(alloc, &OPTIONS)?;
+    assert!(rt; options);
+    let bytes = is_written(alloc, &Bytes::from_slice(alloc, b"a\0")?, &[b"a\0"])?;
+    assert!(rt; bytes);
+    let vector = is_written(alloc, &Vec::from_slice(alloc, b"12")?, &[b"12"])?;
+    assert!(rt; vector);
+    let string = is_written(alloc, &String::from_str(alloc, "12")?, &[b"12"])?;
+    assert!(rt; string);
+    Ok(())
+}
+
+const NUMBERS: [(&[i64], &[&[u8]]); 2] = [(&[], &[]), (&[3, -4], &[b"3", b"-4"])];
+
+const KEYS: [(&[&str], &[&[u8]]); 1] = [(&["a", "", "b"], &[b"a", b"", b"b"])];
+
+const FIELDS: [(&[(&str, u8)], &[&[u8]]); 1] = [(&[("a", 1), ("b", 2)], &[b"a", b"1", b"b", b"2"])];
+
+const LEFT_OUT: [(&[Option<bool>], &[&[u8]]); 1] = [(&[None, Some(true), None], &[b"1"])];
+
+#[test]
+fn elements_become_arguments_in_order(rt: HostRuntime) -> Result<(), AllocError> {
+    let alloc = rt.alloc();
+    let slices = are_written(alloc, &NUMBERS)?
+        && are_written(alloc, &KEYS)?
+        && are_written(alloc, &FIELDS)?
+        && are_written(alloc, &LEFT_OUT)?;
+    assert!(rt; slices);
+    let vector = is_written(alloc, &Vec::from_slice(alloc, &[5u16, 6])?, &[b"5", b"6"])?;
+    assert!(rt; vector);
+    let names = Names::from_slices(alloc, &[b"n", b""])?;
+    let names = is_written(alloc, &names, &[b"n", b""])?;
+    assert!(rt; names);
+    Ok(())
+}
+
+#[test]
+fn tuples_become_arguments_in_order(rt: HostRuntime) -> Result<(), AllocError> {
+    let alloc = rt.alloc();
+    let two = is_written(alloc, &("EX", 5u32), &[b"EX", b"5"])?;
+    assert!(rt; two);
+    let three = is_written(alloc, &(1u8, "a", -1i8), &[b"1", b"a", b"-1"])?;
+    assert!(rt; three);
+    let four = is_written(alloc, &(true, false, None::<u8>, "x"), &[b"1", b"0", b"x"])?;
+    assert!(rt; four);
+    let five = is_written(
+        alloc,
+        &(1u8, 2u8, 3u8, 4u8, 5u8),
+        &[b"1", b"2", b"3", b"4", b"5"],
+    )?;
+    assert!(rt; five);
+    let six = is_written(
+        alloc,
+        &("a", ("b", 1u8), "c", "d", "e", "f"),
+        &[b"a", b"b", b"1", b"c", b"d", b"e", b"f"],
+    )?;
+    assert!(rt; six);
+    Ok(())
+}
+
+#[test]
+fn arguments_are_added_behind_others(rt: HostRuntime) -> Result<(), AllocError> {
+    let alloc = rt.alloc();
+    let mut command = Cmd::new(alloc);
+    b"SET".as_slice().write_redis_args(alloc, &mut command)?;
+    ("key", -120i32).write_redis_args(alloc, &mut command)?;
+    [1u16, 2].as_slice().write_redis_args(alloc, &mut command)?;
+    assert!(rt; has_args(&command, &[b"SET", b"key", b"-120", b"1", b"2"]));
+    Ok(())
+}

@@ -1,0 +1,104 @@
+use containers::Bytes;
+use resp_value::{RetryMethod, ServerError, ServerErrorKind};
+use std::alloc::{AllocError, Global};
+
+const KINDS: [(&[u8], ServerErrorKind); 16] = [
+    (b"ERR", ServerErrorKind::ResponseError),
+    (b"EXECABORT", ServerErrorKind::ExecAbort),
+    (b"LOADING", ServerErrorKind::BusyLoading),
+    (b"NOSCRIPT", ServerErrorKind::NoScript),
+    (b"MOVED", ServerErrorKind::Moved),
+    (b"ASK", ServerErrorKind::Ask),
+    (b"TRYAGAIN", ServerErrorKind::TryAgain),
+    (b"CLUSTERDOWN", ServerErrorKind::ClusterDown),
+    (b"CROSSSLOT", ServerErrorKind::CrossSlot),
+    (b"MASTERDOWN", ServerErrorKind::MasterDown),
+    (b"READONLY", ServerErrorKind::ReadOnly),
+    (b"NOTBUSY", ServerErrorKind::NotBusy),
+    (b"NOSUB", ServerErrorKind::NoSub),
+    (b"NOPERM", ServerErrorKind::NoPerm),
+    (b"WRONGTYPE", ServerErrorKind::Other),
+    (b"err", ServerErrorKind::Other),
+];
+
+const METHODS: [(&[u8], RetryMethod); 9] = [
+    (b"MOVED", RetryMethod::MovedRedirect),
+    (b"ASK", RetryMethod::AskRedirect),
+    (b"READONLY", RetryMethod::RefreshSlotsAndRetry),
+    (b"TRYAGAIN", RetryMethod::WaitAndRetry),
+    (b"CLUSTERDOWN", RetryMethod::WaitAndRetry),
+    (b"LOADING", RetryMethod::WaitAndRetry),
+    (b"MASTERDOWN", RetryMethod::WaitAndRetry),
+    (b"ERR", RetryMethod::NoRetry),
+    (b"", RetryMethod::NoRetry),
+];
+
+fn error(alloc: Global, code: &[u8], detail: &[u8]) -> Result<ServerError, AllocError> {
+    let code = Bytes::from_slice(alloc, code)?;
+    let detail = Some(Bytes::from_slice(alloc, detail)?);
+    Ok(ServerError { code, detail })
+}
+
+fn is_of_kind(alloc: Global, code: &[u8], kind: ServerErrorKind) -> Result<bool, AllocError> {
+    Ok(error(alloc, code, b"")?.kind() == kind)
+}
+
+fn has_method(alloc: Global, code: &[u8], method: RetryMethod) -> Result<bool, AllocError> {
+    Ok(error(alloc, code, b"")?.retry_method() == method)
+}
+
+#[test]
+fn codes_have_kinds_and_methods(rt: HostRuntime) -> Result<(), AllocError> {
+    let alloc = rt.alloc();
+    for (code, kind) in KINDS {
+        let same = is_of_kind(alloc, code, kind)?;
+        assert!(rt; same);
+    }
+    for (code, method) in METHODS {
+        let same = has_method(alloc, code, method)?;
+        assert!(rt; same);
+    }
+    assert!(rt; RetryMethod::Reconnect.is_unrecoverable());
+    assert!(rt; !RetryMethod::NoRetry.is_unrecoverable());
+    Ok(())
+}
+
+/// Whether an error leads to that slot and that address, and for one command alone.
+fn leads(error: &ServerError, slot: u16, address: &[u8], ask: bool) -> bool {
+    match error.redirect_node() {
+        Some(to) => to.slot == slot && to.address == address && to.ask == ask,
+        None => false,
+    }
+}
+
+fn leads_nowhere(alloc: Global, code: &[u8], detail: &[u8]) -> Result<bool, AllocError> {
+    Ok(error(alloc, code, detail)?.redirect_node().is_none())
+}
+
+/// Details of no redirect.
+const NOWHERE: [&[u8]; 8] = [
+    b"",
+    b" h:1",
+    b"7",
+    b"7x h:1",
+    b"+7 h:1",
+    b"16384 h:1",
+    b"99999999999999999999 h:1",
+    b"-1 h:1",
+];
+
+#[test]
+fn redirects_lead_to_nodes(rt: HostRuntime) -> Result<(), AllocError> {
+    let alloc = rt.alloc();
+    let moved = error(alloc, b"MOVED", b"3999 127.0.0.1:6381")?;
+    assert!(rt; leads(&moved, 3999, b"127.0.0.1:6381", false));
+    let ask = error(alloc, b"ASK", b"0016383  h:1")?;
+    assert!(rt; leads(&ask, 16383, b" h:1", true));
+    for detail in NOWHERE {
+        let nowhere = leads_nowhere(alloc, b"MOVED", detail)?;
+        assert!(rt; nowhere);
+    }
+    let other = leads_nowhere(alloc, b"ERR", b"7 h:1")?;
+    assert!(rt; other);
+    Ok(())
+}
