@@ -375,7 +375,7 @@ fn keys_go_into_a_part(rt: HostRuntime) -> Result<(), AllocError> {
 }
 
 /// The command of a part.
-#[tactic(auto, using(Rattle.command_table.proofs.Splitting::each_is_within), unfolding(Rattle.command_table.specs.Splitting::can_be_split))]
+#[tactic(auto, using(command_table::proofs::Splitting::each_is_within), unfolding(command_table::specs::Splitting::can_be_split))]
 fn command_of_part(alloc: Global, cmd: &Cmd, parts: &SlotParts, k: usize) -> Result<Cmd, AllocError>
     requires parts { can_be_split cmd.now.args (MultiNode (MultiSlot parts.now) None) ≡ true }
     requires place { k < length parts.now }
@@ -384,7 +384,7 @@ fn command_of_part(alloc: Global, cmd: &Cmd, parts: &SlotParts, k: usize) -> Res
 }
 
 /// Whether a command has two parts, with these commands.
-#[tactic(auto, unfolding(Rattle.command_table.specs.Splitting::can_be_split))]
+#[tactic(auto, unfolding(command_table::specs::Splitting::can_be_split))]
 fn are_parts_of(alloc: Global, text: &str, first: &str, second: &str) -> Result<bool, AllocError> {
     let cmd = command(alloc, text)?;
     let routing = RoutingInfo::for_routable(alloc, &cmd)?;

@@ -1,5 +1,5 @@
 use Rattle.mux_conn.proofs.Threads.{crossing}
-use Rattle.mux_conn.proofs.threads_tests.connections_cross_threads.Goals as goal
+use Rattle.connection_tests.proofs.threads.connections_cross_threads.Goals as goal
 
 pub crosses-requires-send-T : goal.crosses-requires-send-T
 crosses-requires-send-T c κs = search crossing depth 60 fits 20000

@@ -2,7 +2,7 @@ use Rattle.std.proofs.Common.{◌≡◌, ◌++◌, ◌∷◌, [], sym, subst}
 use Rattle.session_callers.specs.Rule.{Each}
 use Rattle.caller_threads.specs.Submits.{IsAllowed}
 use Rattle.caller_threads.proofs.Places.{each_more}
-use Rattle.caller_threads.proofs.tests.gets.Goals as goal
+use Rattle.session_tests.proofs.meetings.gets.Goals as goal
 
 pub loop-i-preserved : goal.loop-i-preserved
 loop-i-preserved c =

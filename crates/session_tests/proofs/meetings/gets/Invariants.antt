@@ -1,6 +1,6 @@
 use Rattle.session_callers.specs.Rule.{Each}
 use Rattle.caller_threads.specs.Submits.{IsAllowed}
-use Rattle.caller_threads.proofs.tests.gets.Given as goal
+use Rattle.session_tests.proofs.meetings.gets.Given as goal
 
 abbrev pub invariant-loop-i : goal.invariant-loop-i
 invariant-loop-i l = Each IsAllowed l.lines.items

@@ -1,5 +1,5 @@
 use Rattle.shared_session.proofs.Threads.{crossing}
-use Rattle.shared_session.proofs.threads_tests.sessions_cross_threads.Goals as goal
+use Rattle.session_tests.proofs.threads.sessions_cross_threads.Goals as goal
 
 pub crosses-requires-send-T : goal.crosses-requires-send-T
 crosses-requires-send-T c κs = search crossing depth 60 fits 20000
