@@ -11,26 +11,26 @@ use Rattle.resp_convert.specs.Types.{AllFit, FitsList, FitsPair, FitsPairs, IsEa
 use Rattle.resp_convert.proofs.Each.{same_pairs}
 
 -- what is told of lists is told of what is made of them
-pub told_of : {A S R : Type 0} (fits : A → Type 0) (reads : A → S → Type 0) (made : A → R → Type 0) (d : A) → ((x : R) → made d x → (s : S) × reads d s) → (look : Look) → IsTold fits reads d look → IsTold fits made d look
-told_of fits reads made d of Fits told = told
-told_of fits reads made d of Unfit none = λ x is. let s = of x is in none s.0 s.1
-told_of fits reads made d of Untold told = told
+pub told_of : {A S R : Type 0} (moves fits : A → Type 0) (reads : A → S → Type 0) (made : A → R → Type 0) (d : A) → ((x : R) → made d x → (s : S) × reads d s) → (look : Look) → IsTold moves fits reads d look → IsTold moves fits made d look
+told_of moves fits reads made d of Fits told = told
+told_of moves fits reads made d of Unfit none = λ x is. let s = of x is in none s.0 s.1
+told_of moves fits reads made d of Untold told = told
 
 -- the look at the value, where the key fits
-pub told_pair : {K V : Type 0} (fits_key fits_value : Data → Type 0) (keys : Data → K → Type 0) (values : Data → V → Type 0) (k d : Data) → fits_key k → (look : Look) → IsTold fits_value values d look → IsTold (FitsPair fits_key fits_value) (IsPair keys values) (k, d) look
-told_pair fits_key fits_value keys values k d fit Fits told = (fit, told)
-told_pair fits_key fits_value keys values k d fit Unfit none = λ x is. none x.1 is.1
-told_pair fits_key fits_value keys values k d fit Untold told = λ both. told both.1
+pub told_pair : {K V : Type 0} (moves_key moves_value fits_key fits_value : Data → Type 0) (keys : Data → K → Type 0) (values : Data → V → Type 0) (k d : Data) → fits_key k → (look : Look) → IsTold moves_value fits_value values d look → IsTold (FitsPair moves_key moves_value) (FitsPair fits_key fits_value) (IsPair keys values) (k, d) look
+told_pair moves_key moves_value fits_key fits_value keys values k d fit Fits told = (fit, told)
+told_pair moves_key moves_value fits_key fits_value keys values k d fit Unfit none = λ x is. none x.1 is.1
+told_pair moves_key moves_value fits_key fits_value keys values k d fit Untold told = λ both. told both.1
 
 -- a key that is nothing of its type
 pub no_key : {K V : Type 0} (keys : Data → K → Type 0) (values : Data → V → Type 0) (k d : Data) → ((x : K) → keys k x → ⊥) → (x : K × V) → IsPair keys values (k, d) x → ⊥
 no_key keys values k d none x is = none x.0 is.0
 
 -- what is told of items is told of the array or the set
-pub told_list : {S : Type 0} (fits : Data → Type 0) (reads : Data → S → Type 0) (d : Data) (ds : List Data) → items_in (bare d) ≡ Some ds → (look : Look) → IsTold (AllByRecursion fits) (IsEach reads) ds look → IsTold (FitsList fits) (IsList reads) d look
-told_list fits reads d ds there Fits told = subst (AllFit fits) (sym there) told
-told_list fits reads d ds there Unfit none = λ xs each. none xs (subst (λ o. IsEachOf reads o xs) there each)
-told_list fits reads d ds there Untold told = λ fit. told (subst (AllFit fits) there fit)
+pub told_list : {S : Type 0} (moves fits : Data → Type 0) (reads : Data → S → Type 0) (d : Data) (ds : List Data) → items_in (bare d) ≡ Some ds → (look : Look) → IsTold (AllByRecursion moves) (AllByRecursion fits) (IsEach reads) ds look → IsTold (FitsList moves) (FitsList fits) (IsList reads) d look
+told_list moves fits reads d ds there Fits told = subst (AllFit fits) (sym there) told
+told_list moves fits reads d ds there Unfit none = λ xs each. none xs (subst (λ o. IsEachOf reads o xs) there each)
+told_list moves fits reads d ds there Untold told = λ moved. told (subst (AllFit moves) there moved)
 
 pub no_list : {S : Type 0} (reads : Data → S → Type 0) (d : Data) → items_in (bare d) ≡ None → (xs : List S) → IsList reads d xs → ⊥
 no_list reads d none xs each = subst (λ o. IsEachOf reads o xs) none each
@@ -67,30 +67,30 @@ module _ (d e : Data) (is : e ≡ bare d) where
   pairs_of_members keys values ps there (Err error) each = each
 
 -- what is told of the members is told of the map
-pub told_map : {K V : Type 0} (fits_key fits_value : Data → Type 0) (keys : Data → K → Type 0) (values : Data → V → Type 0) (d : Data) (ps : List (Data × Data)) → dict (members_of ps) ≡ bare d → (look : Look) → IsTold (AllByRecursion (FitsPair fits_key fits_value)) (IsEach (IsPair keys values)) ps look → IsTold (FitsPairs fits_key fits_value) (IsPairs keys values) d look
-told_map fits_key fits_value keys values d ps is Fits told =
+pub told_map : {K V : Type 0} (moves_key moves_value fits_key fits_value : Data → Type 0) (keys : Data → K → Type 0) (values : Data → V → Type 0) (d : Data) (ps : List (Data × Data)) → dict (members_of ps) ≡ bare d → (look : Look) → IsTold (AllByRecursion (FitsPair moves_key moves_value)) (AllByRecursion (FitsPair fits_key fits_value)) (IsEach (IsPair keys values)) ps look → IsTold (FitsPairs moves_key moves_value) (FitsPairs fits_key fits_value) (IsPairs keys values) d look
+told_map moves_key moves_value fits_key fits_value keys values d ps is Fits told =
     subst (λ e. AllFit (FitsPair fits_key fits_value) (members_in e)) is (subst (AllByRecursion (FitsPair fits_key fits_value)) (sym (same_pairs ps)) told)
-told_map fits_key fits_value keys values d ps is Unfit none = λ xs each.
+told_map moves_key moves_value fits_key fits_value keys values d ps is Unfit none = λ xs each.
     none xs (subst (λ qs. IsEach (IsPair keys values) qs xs) (same_pairs ps) (subst (λ e. IsEachOf (IsPair keys values) (pairs_in e) xs) (sym is) each))
-told_map fits_key fits_value keys values d ps is Untold told = λ fit.
-    told (subst (AllByRecursion (FitsPair fits_key fits_value)) (same_pairs ps) (subst (λ e. AllFit (FitsPair fits_key fits_value) (members_in e)) (sym is) fit))
+told_map moves_key moves_value fits_key fits_value keys values d ps is Untold told = λ moved.
+    told (subst (AllByRecursion (FitsPair moves_key moves_value)) (same_pairs ps) (subst (λ e. AllFit (FitsPair moves_key moves_value) (members_in e)) (sym is) moved))
 
 -- What is told of the items or pairs is told of what is made of them.
-pub told_vec : {S : Type 0} (Z : Type 0) (fits : Data → Type 0) (reads : Data → S → Type 0) (d : Data) (look : Look) → IsTold (FitsList fits) (IsList reads) d look → IsTold (FitsList fits) (λ d (xs : Vec S Z). IsList reads d xs.items) d look
-told_vec {S} Z fits reads d look told = told_of (FitsList fits) (IsList reads) (λ d (xs : Vec S Z). IsList reads d xs.items) d (λ xs is. (xs.items, is)) look told
+pub told_vec : {S : Type 0} (Z : Type 0) (moves fits : Data → Type 0) (reads : Data → S → Type 0) (d : Data) (look : Look) → IsTold (FitsList moves) (FitsList fits) (IsList reads) d look → IsTold (FitsList moves) (FitsList fits) (λ d (xs : Vec S Z). IsList reads d xs.items) d look
+told_vec {S} Z moves fits reads d look told = told_of (FitsList moves) (FitsList fits) (IsList reads) (λ d (xs : Vec S Z). IsList reads d xs.items) d (λ xs is. (xs.items, is)) look told
 
-pub told_ordered_set : {K : Type 0} (cmp : K → K → Ordering) (fits : Data → Type 0) (reads : Data → K → Type 0) (d : Data) (look : Look) → IsTold (FitsList fits) (IsList reads) d look → IsTold (FitsList fits) (IsOrderedSet cmp reads) d look
-told_ordered_set cmp fits reads d look told = told_of (FitsList fits) (IsList reads) (IsOrderedSet cmp reads) d (λ s is. (is.0, is.1)) look told
+pub told_ordered_set : {K : Type 0} (cmp : K → K → Ordering) (moves fits : Data → Type 0) (reads : Data → K → Type 0) (d : Data) (look : Look) → IsTold (FitsList moves) (FitsList fits) (IsList reads) d look → IsTold (FitsList moves) (FitsList fits) (IsOrderedSet cmp reads) d look
+told_ordered_set cmp moves fits reads d look told = told_of (FitsList moves) (FitsList fits) (IsList reads) (IsOrderedSet cmp reads) d (λ s is. (is.0, is.1)) look told
 
-pub told_hash_set : {K : Type 0} (S : Type 0) (eq : K → K → Bool) (fits : Data → Type 0) (reads : Data → K → Type 0) (d : Data) (look : Look) → IsTold (FitsList fits) (IsList reads) d look → IsTold (FitsList fits) (IsHashSet {S = S} eq reads) d look
-told_hash_set {K} S eq fits reads d look told = told_of (FitsList fits) (IsList reads) (IsHashSet {S = S} eq reads) d (λ s is. (is.0, is.1)) look told
+pub told_hash_set : {K : Type 0} (S : Type 0) (eq : K → K → Bool) (moves fits : Data → Type 0) (reads : Data → K → Type 0) (d : Data) (look : Look) → IsTold (FitsList moves) (FitsList fits) (IsList reads) d look → IsTold (FitsList moves) (FitsList fits) (IsHashSet {S = S} eq reads) d look
+told_hash_set {K} S eq moves fits reads d look told = told_of (FitsList moves) (FitsList fits) (IsList reads) (IsHashSet {S = S} eq reads) d (λ s is. (is.0, is.1)) look told
 
-module _ {K V : Type 0} (fits_key fits_value : Data → Type 0) (keys : Data → K → Type 0) (values : Data → V → Type 0) (d : Data) (look : Look) (told : IsTold (FitsPairs fits_key fits_value) (IsPairs keys values) d look) where
-  pub told_key_values : IsTold (FitsPairs fits_key fits_value) (λ d (xs : KeyValues K V). IsPairs keys values d xs.pairs.items) d look
-  told_key_values = told_of (FitsPairs fits_key fits_value) (IsPairs keys values) (λ d (xs : KeyValues K V). IsPairs keys values d xs.pairs.items) d (λ xs is. (xs.pairs.items, is)) look told
+module _ {K V : Type 0} (moves_key moves_value fits_key fits_value : Data → Type 0) (keys : Data → K → Type 0) (values : Data → V → Type 0) (d : Data) (look : Look) (told : IsTold (FitsPairs moves_key moves_value) (FitsPairs fits_key fits_value) (IsPairs keys values) d look) where
+  pub told_key_values : IsTold (FitsPairs moves_key moves_value) (FitsPairs fits_key fits_value) (λ d (xs : KeyValues K V). IsPairs keys values d xs.pairs.items) d look
+  told_key_values = told_of (FitsPairs moves_key moves_value) (FitsPairs fits_key fits_value) (IsPairs keys values) (λ d (xs : KeyValues K V). IsPairs keys values d xs.pairs.items) d (λ xs is. (xs.pairs.items, is)) look told
 
-  pub told_map_of : (cmp : K → K → Ordering) → IsTold (FitsPairs fits_key fits_value) (IsMap cmp keys values) d look
-  told_map_of cmp = told_of (FitsPairs fits_key fits_value) (IsPairs keys values) (IsMap cmp keys values) d (λ m is. (is.0, is.1)) look told
+  pub told_map_of : (cmp : K → K → Ordering) → IsTold (FitsPairs moves_key moves_value) (FitsPairs fits_key fits_value) (IsMap cmp keys values) d look
+  told_map_of cmp = told_of (FitsPairs moves_key moves_value) (FitsPairs fits_key fits_value) (IsPairs keys values) (IsMap cmp keys values) d (λ m is. (is.0, is.1)) look told
 
-  pub told_hash_map_of : (S : Type 0) (eq : K → K → Bool) → IsTold (FitsPairs fits_key fits_value) (IsHashMap {S = S} eq keys values) d look
-  told_hash_map_of S eq = told_of (FitsPairs fits_key fits_value) (IsPairs keys values) (IsHashMap {S = S} eq keys values) d (λ m is. (is.0, is.1)) look told
+  pub told_hash_map_of : (S : Type 0) (eq : K → K → Bool) → IsTold (FitsPairs moves_key moves_value) (FitsPairs fits_key fits_value) (IsHashMap {S = S} eq keys values) d look
+  told_hash_map_of S eq = told_of (FitsPairs moves_key moves_value) (FitsPairs fits_key fits_value) (IsPairs keys values) (IsHashMap {S = S} eq keys values) d (λ m is. (is.0, is.1)) look told

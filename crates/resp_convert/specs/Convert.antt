@@ -34,11 +34,11 @@ IsConverted reads value (Ok x) = reads (data_of value) x
 IsConverted reads value (Err (Convert given)) = (given ≡ value) × IsNone reads (data_of value)
 IsConverted reads value (Err NoMemory) = Unit {0}
 
--- what a look at it told: that it can be moved, that it is nothing of the type, or that it can't be moved
-abbrev pub IsTold : {A S : Type 0} → (A → Type 0) → (A → S → Type 0) → A → Look → Type 0
-IsTold fits reads d Fits = fits d
-IsTold fits reads d Unfit = IsNone reads d
-IsTold fits reads d Untold = fits d → ⊥
+-- what a look at it told: that it can be taken, that it is nothing of the type, or that it isn't one of those that are moved
+abbrev pub IsTold : {A S : Type 0} → (A → Type 0) → (A → Type 0) → (A → S → Type 0) → A → Look → Type 0
+IsTold moves fits reads d Fits = fits d
+IsTold moves fits reads d Unfit = IsNone reads d
+IsTold moves fits reads d Untold = moves d → ⊥
 
 -- the items that were read
 abbrev pub items_read : {S Z E : Type 0} → Result (Vec S Z) E → Result (List S) E

@@ -19,6 +19,8 @@ impl<T: FromRedisValue> FromRedisValue for Option<T> {
 
     ghost fits = { FitsOption T.fits };
 
+    ghost moves = { FitsOption T.moves };
+
     fn read_value(alloc: Global, value: &Value) -> Result<Option<Option<T>>, AllocError> {
         match value {
             Value::Nil => Ok(Some(None)),
@@ -69,7 +71,7 @@ pub fn read_items<T: FromRedisValue + Drop>(
 
 /// Whether the items of an array or a set can be moved.
 pub fn look_at_items<T: FromRedisValue>(value: &Value) -> Look
-    ensures { IsTold (FitsList T.fits) (IsList T.reads) (data_of value.now) result }
+    ensures { IsTold (FitsList T.moves) (FitsList T.fits) (IsList T.reads) (data_of value.now) result }
 {
     match parts::items(parts::bare(value)) {
         Some(items) => T::look_at_values(items),
@@ -96,6 +98,8 @@ impl<T: FromRedisValue + Drop> FromRedisValue for Vec<T> {
     ghost reads = { λ d xs. IsList T.reads d xs.items };
 
     ghost fits = { FitsList T.fits };
+
+    ghost moves = { FitsList T.moves };
 
     fn read_value(alloc: Global, value: &Value) -> Result<Option<Vec<T>>, AllocError> {
         read_items(alloc, value)
@@ -193,7 +197,7 @@ fn read_pairs<K: FromRedisValue + Drop, V: FromRedisValue + Drop>(
 
 /// Whether a key and its value can be moved.
 fn look_at_pair<K: FromRedisValue, V: FromRedisValue>(key: &Value, value: &Value) -> Look
-    ensures { IsTold (FitsPair K.fits V.fits) (IsPair K.reads V.reads)
+    ensures { IsTold (FitsPair K.moves V.moves) (FitsPair K.fits V.fits) (IsPair K.reads V.reads)
         (data_of key.now, data_of value.now) result }
 {
     match K::look(key) {
@@ -205,7 +209,7 @@ fn look_at_pair<K: FromRedisValue, V: FromRedisValue>(key: &Value, value: &Value
 
 /// Whether the keys and values of a map can be moved.
 fn look_at_members<K: FromRedisValue, V: FromRedisValue>(members: &[(Value, Value)]) -> Look
-    ensures { IsTold (AllByRecursion (FitsPair K.fits V.fits)) (IsEach (IsPair K.reads V.reads))
+    ensures { IsTold (AllByRecursion (FitsPair K.moves V.moves)) (AllByRecursion (FitsPair K.fits V.fits)) (IsEach (IsPair K.reads V.reads))
         (pairs_view members.now) result }
 {
     for member in members {
@@ -220,7 +224,7 @@ fn look_at_members<K: FromRedisValue, V: FromRedisValue>(members: &[(Value, Valu
 
 /// The same of a value that is a map. An array of keys and values is read.
 fn look_at_pairs<K: FromRedisValue, V: FromRedisValue>(value: &Value) -> Look
-    ensures { IsTold (FitsPairs K.fits V.fits) (IsPairs K.reads V.reads)
+    ensures { IsTold (FitsPairs K.moves V.moves) (FitsPairs K.fits V.fits) (IsPairs K.reads V.reads)
         (data_of value.now) result }
 {
     match parts::bare(value) {
@@ -279,6 +283,8 @@ impl<K: FromRedisValue + Drop, V: FromRedisValue + Drop> FromRedisValue for KeyV
 
     ghost fits = { FitsPairs K.fits V.fits };
 
+    ghost moves = { FitsPairs K.moves V.moves };
+
     fn read_value(alloc: Global, value: &Value) -> Result<Option<KeyValues<K, V>>, AllocError> {
         match read_pairs(alloc, parts::bare(value))? {
             Some(pairs) => Ok(Some(KeyValues { pairs })),
@@ -318,6 +324,8 @@ impl<K: FromRedisValue + Ord + Drop, V: FromRedisValue + Drop> FromRedisValue fo
 
     ghost fits = { FitsPairs K.fits V.fits };
 
+    ghost moves = { FitsPairs K.moves V.moves };
+
     fn read_value(alloc: Global, value: &Value) -> Result<Option<BTreeMap<K, V>>, AllocError> {
         match read_pairs(alloc, parts::bare(value))? {
             Some(pairs) => Ok(Some(map_of(alloc, pairs)?)),
@@ -350,6 +358,8 @@ impl<K: FromRedisValue + Eq + Hash + Drop, V: FromRedisValue + Drop> FromRedisVa
     ghost reads = { IsHashMap K.eq K.reads V.reads };
 
     ghost fits = { FitsPairs K.fits V.fits };
+
+    ghost moves = { FitsPairs K.moves V.moves };
 
     fn read_value(alloc: Global, value: &Value) -> Result<Option<HashMap<K, V>>, AllocError> {
         match read_pairs(alloc, parts::bare(value))? {

@@ -68,15 +68,18 @@ pub enum Look {
     Fits,
     /// It is nothing of the type.
     Unfit,
-    /// It can't be moved: it is read, if it is of the type.
+    /// It isn't moved: it is read, if it is of the type.
     Untold,
 }
 
-/// A type that values are read as, or moved into: `reads` says which values are what of it, and `fits` which can be moved.
+/// A type that values are read as, or moved into: `reads` says which values are what of it, `fits` which can be taken, and
+/// `moves` of which a look has to say so.
 pub trait FromRedisValue: Sized {
     ghost reads: { Data → Self → Type 0 };
 
     ghost fits: { Data → Type 0 };
+
+    ghost moves: { Data → Type 0 };
 
     /// What a value is as one of the type, if it is of the type.
     fn read_value(alloc: Global, value: &Value) -> Result<Option<Self>, AllocError>
@@ -100,11 +103,11 @@ pub trait FromRedisValue: Sized {
 
     /// Whether a value can be moved into one of the type.
     fn look(value: &Value) -> Look
-        ensures { IsTold fits reads (data_of value.now) result };
+        ensures { IsTold moves fits reads (data_of value.now) result };
 
     /// Whether each of some values can.
     fn look_at_values(values: &[Value]) -> Look
-        ensures { IsTold (AllByRecursion fits) (IsEach reads) (list_view values.now) result }
+        ensures { IsTold (AllByRecursion moves) (AllByRecursion fits) (IsEach reads) (list_view values.now) result }
     {
         for value in values {
             match Self::look(value) {

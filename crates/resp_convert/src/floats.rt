@@ -1,6 +1,7 @@
 ghost use Rattle.std.specs.Prelude.{◌≡◌, MatchOption, None, Some};
 ghost use Rattle.std.specs.Float.{binary64};
 ghost use Rattle.std.specs.Float.Parse.{parse_float};
+ghost use Rattle.resp_convert.specs.Convert.{IsOfType};
 ghost use Rattle.resp_convert.specs.Types.{IsFloat, bare};
 
 use crate::convert::{FromRedisValue, Look};
@@ -23,7 +24,9 @@ fn float(text: &[u8]) -> Option<f64>
 impl FromRedisValue for f64 {
     ghost reads = { λ d x. IsFloat (bare d) x };
 
-    ghost fits = { λ _. ⊥ };
+    ghost fits = { IsOfType (λ d x. IsFloat (bare d) x) };
+
+    ghost moves = { λ _. ⊥ };
 
     fn read_value(_alloc: Global, value: &Value) -> Result<Option<f64>, AllocError> {
         match parts::bare(value) {

@@ -2,6 +2,7 @@ ghost use Rattle.std.specs.Prelude.{◌<◌, ◌^◌, ℕ, ℤ, MatchOption};
 ghost use mir.Syntax.{w8, w16, w32, w64};
 ghost use mir.Val.{SFits};
 ghost use Rattle.resp_value.specs.View.{data_of};
+ghost use Rattle.resp_convert.specs.Convert.{IsOfType};
 ghost use Rattle.resp_convert.specs.Types.{IsCount, IsDecimal, IsInteger, IsNatural, IsNumber, IsPlainDecimal};
 
 use crate::convert::{FromRedisValue, Look};
@@ -61,7 +62,9 @@ fn number(value: &Value) -> Option<i64>
 impl FromRedisValue for i8 {
     ghost reads = { IsInteger w8 };
 
-    ghost fits = { λ _. ⊥ };
+    ghost fits = { IsOfType (IsInteger w8) };
+
+    ghost moves = { λ _. ⊥ };
 
     fn read_value(_alloc: Global, value: &Value) -> Result<Option<i8>, AllocError> {
         match number(bare(value)) {
@@ -79,7 +82,9 @@ impl FromRedisValue for i8 {
 impl FromRedisValue for i16 {
     ghost reads = { IsInteger w16 };
 
-    ghost fits = { λ _. ⊥ };
+    ghost fits = { IsOfType (IsInteger w16) };
+
+    ghost moves = { λ _. ⊥ };
 
     fn read_value(_alloc: Global, value: &Value) -> Result<Option<i16>, AllocError> {
         match number(bare(value)) {
@@ -97,7 +102,9 @@ impl FromRedisValue for i16 {
 impl FromRedisValue for i32 {
     ghost reads = { IsInteger w32 };
 
-    ghost fits = { λ _. ⊥ };
+    ghost fits = { IsOfType (IsInteger w32) };
+
+    ghost moves = { λ _. ⊥ };
 
     fn read_value(_alloc: Global, value: &Value) -> Result<Option<i32>, AllocError> {
         match number(bare(value)) {
@@ -115,7 +122,9 @@ impl FromRedisValue for i32 {
 impl FromRedisValue for i64 {
     ghost reads = { IsInteger w64 };
 
-    ghost fits = { λ _. ⊥ };
+    ghost fits = { IsOfType (IsInteger w64) };
+
+    ghost moves = { λ _. ⊥ };
 
     fn read_value(_alloc: Global, value: &Value) -> Result<Option<i64>, AllocError> {
         Ok(number(bare(value)))
@@ -130,7 +139,9 @@ impl FromRedisValue for i64 {
 impl FromRedisValue for isize {
     ghost reads = { IsInteger w64 };
 
-    ghost fits = { λ _. ⊥ };
+    ghost fits = { IsOfType (IsInteger w64) };
+
+    ghost moves = { λ _. ⊥ };
 
     fn read_value(_alloc: Global, value: &Value) -> Result<Option<isize>, AllocError> {
         match number(bare(value)) {
@@ -148,7 +159,9 @@ impl FromRedisValue for isize {
 impl FromRedisValue for u8 {
     ghost reads = { IsNatural 8 };
 
-    ghost fits = { λ _. ⊥ };
+    ghost fits = { IsOfType (IsNatural 8) };
+
+    ghost moves = { λ _. ⊥ };
 
     fn read_value(_alloc: Global, value: &Value) -> Result<Option<u8>, AllocError> {
         match count(bare(value)) {
@@ -166,7 +179,9 @@ impl FromRedisValue for u8 {
 impl FromRedisValue for u16 {
     ghost reads = { IsNatural 16 };
 
-    ghost fits = { λ _. ⊥ };
+    ghost fits = { IsOfType (IsNatural 16) };
+
+    ghost moves = { λ _. ⊥ };
 
     fn read_value(_alloc: Global, value: &Value) -> Result<Option<u16>, AllocError> {
         match count(bare(value)) {
@@ -184,7 +199,9 @@ impl FromRedisValue for u16 {
 impl FromRedisValue for u32 {
     ghost reads = { IsNatural 32 };
 
-    ghost fits = { λ _. ⊥ };
+    ghost fits = { IsOfType (IsNatural 32) };
+
+    ghost moves = { λ _. ⊥ };
 
     fn read_value(_alloc: Global, value: &Value) -> Result<Option<u32>, AllocError> {
         match count(bare(value)) {
@@ -202,7 +219,9 @@ impl FromRedisValue for u32 {
 impl FromRedisValue for u64 {
     ghost reads = { IsNatural 64 };
 
-    ghost fits = { λ _. ⊥ };
+    ghost fits = { IsOfType (IsNatural 64) };
+
+    ghost moves = { λ _. ⊥ };
 
     fn read_value(_alloc: Global, value: &Value) -> Result<Option<u64>, AllocError> {
         Ok(count(bare(value)))
@@ -217,7 +236,9 @@ impl FromRedisValue for u64 {
 impl FromRedisValue for usize {
     ghost reads = { IsNatural 64 };
 
-    ghost fits = { λ _. ⊥ };
+    ghost fits = { IsOfType (IsNatural 64) };
+
+    ghost moves = { λ _. ⊥ };
 
     fn read_value(_alloc: Global, value: &Value) -> Result<Option<usize>, AllocError> {
         match count(bare(value)) {

@@ -1,5 +1,6 @@
 ghost use Rattle.std.specs.Prelude.{◌≡◌, IfOk};
 ghost use Rattle.resp_value.specs.View.{data_of};
+ghost use Rattle.resp_convert.specs.Convert.{IsOfType};
 ghost use Rattle.resp_convert.specs.Types.{IsDone, IsTruth, bare};
 
 use crate::convert::{FromRedisValue, Look};
@@ -12,6 +13,8 @@ impl FromRedisValue for Value {
     ghost reads = { λ d value. data_of value ≡ d };
 
     ghost fits = { λ _. Unit {0} };
+
+    ghost moves = { λ _. Unit {0} };
 
     fn read_value(alloc: Global, value: &Value) -> Result<Option<Value>, AllocError> {
         Ok(Some(value.clone(alloc)?))
@@ -35,7 +38,9 @@ impl FromRedisValue for Value {
 impl FromRedisValue for bool {
     ghost reads = { λ d on. IsTruth (bare d) on };
 
-    ghost fits = { λ _. ⊥ };
+    ghost fits = { IsOfType (λ d on. IsTruth (bare d) on) };
+
+    ghost moves = { λ _. ⊥ };
 
     fn read_value(_alloc: Global, value: &Value) -> Result<Option<bool>, AllocError> {
         match parts::bare(value) {
@@ -55,7 +60,9 @@ impl FromRedisValue for bool {
 impl FromRedisValue for () {
     ghost reads = { λ d done. IsDone (bare d) };
 
-    ghost fits = { λ _. ⊥ };
+    ghost fits = { λ d. IsDone (bare d) };
+
+    ghost moves = { λ _. ⊥ };
 
     fn read_value(_alloc: Global, value: &Value) -> Result<Option<()>, AllocError> {
         match parts::bare(value) {

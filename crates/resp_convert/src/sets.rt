@@ -30,6 +30,8 @@ impl<T: FromRedisValue + Ord + Drop> FromRedisValue for BTreeSet<T> {
 
     ghost fits = { FitsList T.fits };
 
+    ghost moves = { FitsList T.moves };
+
     fn read_value(alloc: Global, value: &Value) -> Result<Option<BTreeSet<T>>, AllocError> {
         match read_items::<T>(alloc, value)? {
             Some(items) => Ok(Some(ordered_set(alloc, items)?)),
@@ -51,6 +53,8 @@ impl<T: FromRedisValue + Eq + Hash + Drop> FromRedisValue for HashSet<T> {
     ghost reads = { IsHashSet T.eq T.reads };
 
     ghost fits = { FitsList T.fits };
+
+    ghost moves = { FitsList T.moves };
 
     fn read_value(alloc: Global, value: &Value) -> Result<Option<HashSet<T>>, AllocError> {
         match read_items::<T>(alloc, value)? {

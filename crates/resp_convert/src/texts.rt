@@ -17,6 +17,8 @@ impl FromRedisValue for Bytes {
 
     ghost fits = { IsOfType IsText };
 
+    ghost moves = { IsOfType IsText };
+
     fn read_value(alloc: Global, value: &Value) -> Result<Option<Bytes>, AllocError> {
         let Some(text) = text(bare(value)) else {
             return Ok(None);
@@ -49,6 +51,8 @@ impl FromRedisValue for String {
     ghost reads = { λ d s. IsUnicode d (string_bytes s) };
 
     ghost fits = { IsOfType IsUnicode };
+
+    ghost moves = { IsOfType IsUnicode };
 
     fn read_value(alloc: Global, value: &Value) -> Result<Option<String>, AllocError> {
         let Some(text) = text(bare(value)) else {

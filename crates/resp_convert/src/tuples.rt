@@ -1,6 +1,6 @@
 ghost use Rattle.std.specs.Prelude.{IfOk};
 ghost use Rattle.resp_value.specs.View.{list_view};
-ghost use Rattle.resp_convert.specs.Convert.{IsRead};
+ghost use Rattle.resp_convert.specs.Convert.{IsOfType, IsRead};
 ghost use Rattle.resp_convert.specs.Types.{AreFive, AreFour, AreOne, AreSix, AreThree, AreTwo, HasItems};
 
 use crate::convert::{FromRedisValue, Look};
@@ -134,7 +134,9 @@ fn read_six<
 impl<A: FromRedisValue + Drop, B: FromRedisValue + Drop> FromRedisValue for (A, B) {
     ghost reads = { HasItems (AreTwo A.reads B.reads) };
 
-    ghost fits = { λ _. ⊥ };
+    ghost fits = { IsOfType (HasItems (AreTwo A.reads B.reads)) };
+
+    ghost moves = { λ _. ⊥ };
 
     fn read_value(alloc: Global, value: &Value) -> Result<Option<(A, B)>, AllocError> {
         match parts::items(parts::bare(value)) {
@@ -153,7 +155,9 @@ impl<A: FromRedisValue + Drop, B: FromRedisValue + Drop, C: FromRedisValue + Dro
     for (A, B, C) {
     ghost reads = { HasItems (AreThree A.reads B.reads C.reads) };
 
-    ghost fits = { λ _. ⊥ };
+    ghost fits = { IsOfType (HasItems (AreThree A.reads B.reads C.reads)) };
+
+    ghost moves = { λ _. ⊥ };
 
     fn read_value(alloc: Global, value: &Value) -> Result<Option<(A, B, C)>, AllocError> {
         match parts::items(parts::bare(value)) {
@@ -176,7 +180,9 @@ impl<
 > FromRedisValue for (A, B, C, D) {
     ghost reads = { HasItems (AreFour A.reads B.reads C.reads D.reads) };
 
-    ghost fits = { λ _. ⊥ };
+    ghost fits = { IsOfType (HasItems (AreFour A.reads B.reads C.reads D.reads)) };
+
+    ghost moves = { λ _. ⊥ };
 
     fn read_value(alloc: Global, value: &Value) -> Result<Option<(A, B, C, D)>, AllocError> {
         match parts::items(parts::bare(value)) {
@@ -200,7 +206,9 @@ impl<
 > FromRedisValue for (A, B, C, D, E) {
     ghost reads = { HasItems (AreFive A.reads B.reads C.reads D.reads E.reads) };
 
-    ghost fits = { λ _. ⊥ };
+    ghost fits = { IsOfType (HasItems (AreFive A.reads B.reads C.reads D.reads E.reads)) };
+
+    ghost moves = { λ _. ⊥ };
 
     fn read_value(alloc: Global, value: &Value) -> Result<Option<(A, B, C, D, E)>, AllocError> {
         match parts::items(parts::bare(value)) {
@@ -225,7 +233,9 @@ impl<
 > FromRedisValue for (A, B, C, D, E, F) {
     ghost reads = { HasItems (AreSix A.reads B.reads C.reads D.reads E.reads F.reads) };
 
-    ghost fits = { λ _. ⊥ };
+    ghost fits = { IsOfType (HasItems (AreSix A.reads B.reads C.reads D.reads E.reads F.reads)) };
+
+    ghost moves = { λ _. ⊥ };
 
     fn read_value(alloc: Global, value: &Value) -> Result<Option<(A, B, C, D, E, F)>, AllocError> {
         match parts::items(parts::bare(value)) {

@@ -13,4 +13,4 @@ returns-in-Unfit g c =
 
 pub returns-in-Untold : goal.returns-in-Untold
 returns-in-Untold g c =
-    not_at pair_of (FitsPair g.K.FromRedisValue.fits g.V.FromRedisValue.fits) _ c.loop-member.member-index _ c.loop-member-test.true c.member-item.is c.in-Untold.ensures
+    not_at pair_of (FitsPair g.K.FromRedisValue.moves g.V.FromRedisValue.moves) _ c.loop-member.member-index _ c.loop-member-test.true c.member-item.is c.in-Untold.ensures

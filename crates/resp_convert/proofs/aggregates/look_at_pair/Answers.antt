@@ -3,7 +3,7 @@ use Rattle.resp_convert.proofs.aggregates.look_at_pair.Goals as goal
 
 pub returns-in-Fits : goal.returns-in-Fits
 returns-in-Fits g c =
-    told_pair g.K.FromRedisValue.fits g.V.FromRedisValue.fits g.K.FromRedisValue.reads g.V.FromRedisValue.reads _ _ c.in-Fits.ensures _ c.look-in-Fits.ensures
+    told_pair g.K.FromRedisValue.moves g.V.FromRedisValue.moves g.K.FromRedisValue.fits g.V.FromRedisValue.fits g.K.FromRedisValue.reads g.V.FromRedisValue.reads _ _ c.in-Fits.ensures _ c.look-in-Fits.ensures
 
 pub returns-in-Unfit : goal.returns-in-Unfit
 returns-in-Unfit g c =

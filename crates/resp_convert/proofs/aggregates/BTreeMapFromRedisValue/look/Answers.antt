@@ -3,4 +3,4 @@ use Rattle.resp_convert.proofs.Fit.{told_map_of}
 use Rattle.resp_convert.proofs.aggregates.BTreeMapFromRedisValue.look.Goals as goal
 
 pub returns : goal.returns
-returns g c = told_map_of g.K.FromRedisValue.fits g.V.FromRedisValue.fits g.K.FromRedisValue.reads g.V.FromRedisValue.reads (data_of c.args.value.now) c.look_at_pairs.result c.look_at_pairs.ensures _
+returns g c = told_map_of g.K.FromRedisValue.moves g.V.FromRedisValue.moves g.K.FromRedisValue.fits g.V.FromRedisValue.fits g.K.FromRedisValue.reads g.V.FromRedisValue.reads (data_of c.args.value.now) c.look_at_pairs.result c.look_at_pairs.ensures _

@@ -12,4 +12,4 @@ returns-in-Unfit g c =
 
 pub returns-in-Untold : goal.returns-in-Untold
 returns-in-Untold g c =
-    not_at data_of g.Self.FromRedisValue.fits _ c.loop-value.value-index _ c.loop-value-test.true c.value-item.is c.in-Untold.ensures
+    not_at data_of g.Self.FromRedisValue.moves _ c.loop-value.value-index _ c.loop-value-test.true c.value-item.is c.in-Untold.ensures

@@ -3,4 +3,4 @@ use Rattle.resp_convert.proofs.Fit.{told_ordered_set}
 use Rattle.resp_convert.proofs.sets.BTreeSetFromRedisValue.look.Goals as goal
 
 pub returns : goal.returns
-returns g c = told_ordered_set _ g.T.FromRedisValue.fits g.T.FromRedisValue.reads (data_of c.args.value.now) c.look_at_items.result c.look_at_items.ensures
+returns g c = told_ordered_set _ g.T.FromRedisValue.moves g.T.FromRedisValue.fits g.T.FromRedisValue.reads (data_of c.args.value.now) c.look_at_items.result c.look_at_items.ensures
