@@ -8,8 +8,4 @@ mod meetings;
 #[cfg(test)]
 mod sessions;
 #[cfg(test)]
-mod setups;
-#[cfg(test)]
 mod threads;
-#[cfg(test)]
-mod waits;
