@@ -105,6 +105,12 @@ pub record Refused (error : StepError) (v w : View) (event : Event) (shown after
   pub why : IsRefused error (history_of w) event
   pub actions : after ≡ shown
 
+-- the same of a caller that is lent for longer: in some turn of it, whose history begins with what was seen
+pub record RefusedInTurn (error : StepError) (v : View) (event : Event) (shown after : List Action) : Type 0 where
+  pub view : View
+  pub turned : Turned v view
+  pub refused : Refused error v view event shown after
+
 -- the outcome of the submission by a history that begins with what was seen
 pub record IsOutcomeLater (v : View) (n : ℕ) (outcome : Outcome) : Type 0 where
   pub seen : List Event

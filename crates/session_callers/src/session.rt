@@ -5,7 +5,7 @@ ghost use Rattle.shared_session.specs.Replay.{opening_actions, trace_of, outcome
 ghost use Rattle.shared_session.specs.Replay.{IsSound};
 ghost use Rattle.shared_session.specs.declared.session.Failure.TheVariants.{Sound};
 ghost use Rattle.session_callers.specs.Rule.{history, newcomer};
-ghost use Rattle.session_callers.specs.Calls.{Turned, Added, Refused, submission_event, joined_by, with_claim};
+ghost use Rattle.session_callers.specs.Calls.{Turned, Added, Refused, RefusedInTurn, submission_event, joined_by, with_claim};
 ghost use Rattle.session_callers.specs.Claims.{MatchClaim};
 
 use crate::board::{Home, Origin, Turns, View};
@@ -283,7 +283,7 @@ impl SharedSession {
         caller.front
     }
 
-    /// Submits as `submit_as` does, and answers a future of the outcome.
+    /// Submits as `submit_as` does, and answers a future of the outcome. A refusal is one of some turn of the caller.
     pub fn send_as<'a, R: Wait>(
         &'a self,
         rt: &'a R,
@@ -300,7 +300,9 @@ impl SharedSession {
             × Added caller.old.view p.caller.now.view (submission_event what word) p.number
             out.old.items out.new.items
             ) }
-        ensures err { OnErr result (out.new.items ≡ out.old.items) }
+        ensures refused { IfErr result (λ error.
+            RefusedInTurn error caller.old.view (submission_event what word) out.old.items out.new.items
+            ) }
     {
         let number = self.submit_as(rt, alloc, caller, what, word, out)?;
         Ok(PendingSend {
