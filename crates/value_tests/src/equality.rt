@@ -40,32 +40,54 @@ fn push(alloc: Global) -> Result<Value, AllocError> {
     Ok(Value::Push { kind, parts })
 }
 
-fn error(alloc: Global) -> Result<Value, AllocError> {
-    let code = text(alloc, b"1")?;
-    Ok(Value::ServerError(ServerError { code, detail: None }))
-}
-
 /// How many forms values have.
 const FORMS: u32 = 15;
+
+/// A value of the form of this number, of those that hold nothing.
+fn plain(number: u32) -> Value {
+    match number {
+        0 => Value::Nil,
+        1 => Value::Int(1),
+        2 => Value::Okay,
+        _ => Value::Boolean(true),
+    }
+}
+
+/// A value of the form of this number, of those that hold a text.
+fn of_text(alloc: Global, number: u32) -> Result<Value, AllocError> {
+    let text = text(alloc, b"1")?;
+    match number {
+        4 => Ok(Value::BulkString(text)),
+        5 => Ok(Value::SimpleString(text)),
+        6 => Ok(Value::Double(text)),
+        7 => Ok(Value::BigNumber(text)),
+        _ => {
+            Ok(Value::ServerError(ServerError {
+                code: text,
+                detail: None,
+            }))
+        }
+    }
+}
+
+/// A value of the form of this number, of those that hold values or two texts.
+fn of_parts(alloc: Global, number: u32) -> Result<Value, AllocError> {
+    match number {
+        9 => Ok(Value::Array(list(alloc, &[1])?)),
+        10 => Ok(Value::Set(list(alloc, &[1])?)),
+        11 => Ok(Value::Map(pairs(alloc, &[(1, 2)])?)),
+        12 => attribute(alloc),
+        13 => verbatim(alloc),
+        _ => push(alloc),
+    }
+}
 
 /// A value of the form of this number.
 fn form(alloc: Global, number: u32) -> Result<Value, AllocError> {
     match number {
-        0 => Ok(Value::Nil),
-        1 => Ok(Value::Int(1)),
-        2 => Ok(Value::BulkString(text(alloc, b"1")?)),
-        3 => Ok(Value::Array(list(alloc, &[1])?)),
-        4 => Ok(Value::SimpleString(text(alloc, b"1")?)),
-        5 => Ok(Value::Okay),
-        6 => Ok(Value::Map(pairs(alloc, &[(1, 2)])?)),
-        7 => attribute(alloc),
-        8 => Ok(Value::Set(list(alloc, &[1])?)),
-        9 => Ok(Value::Double(text(alloc, b"1")?)),
-        10 => Ok(Value::Boolean(true)),
-        11 => verbatim(alloc),
-        12 => Ok(Value::BigNumber(text(alloc, b"1")?)),
-        13 => push(alloc),
-        _ => error(alloc),
+        0..=3 => Ok(plain(number)),
+        4..=8 => of_text(alloc, number),
+        _ => of_parts(alloc, number),
     }
 }
 
@@ -105,18 +127,40 @@ const MAPS: [(&[(i64, i64)], &[(i64, i64)], bool); 5] = [
     (&[(1, 2), (3, 4)], &[(1, 2)], false),
 ];
 
+/// Whether lists of these numbers are the same.
+fn are_same_lists(alloc: Global, one: &[i64], other: &[i64]) -> Result<bool, AllocError> {
+    let one = list(alloc, one)?;
+    let other = list(alloc, other)?;
+    Ok(one == other)
+}
+
+/// Whether keys with these values are the same.
+fn are_same_pairs(
+    alloc: Global,
+    one: &[(i64, i64)],
+    other: &[(i64, i64)],
+) -> Result<bool, AllocError> {
+    let one = pairs(alloc, one)?;
+    let other = pairs(alloc, other)?;
+    Ok(one == other)
+}
+
 #[test]
 fn lists_are_compared_in_order(rt: HostRuntime) -> Result<(), AllocError> {
     let alloc = rt.alloc();
     for (one, other, same) in LISTS {
-        let one = list(alloc, one)?;
-        let other = list(alloc, other)?;
-        assert_eq!(rt; one == other, same);
+        let are_same = are_same_lists(alloc, one, other)?;
+        assert!(rt; are_same == same);
     }
+    Ok(())
+}
+
+#[test]
+fn keys_are_compared_with_their_values(rt: HostRuntime) -> Result<(), AllocError> {
+    let alloc = rt.alloc();
     for (one, other, same) in MAPS {
-        let one = pairs(alloc, one)?;
-        let other = pairs(alloc, other)?;
-        assert_eq!(rt; one == other, same);
+        let are_same = are_same_pairs(alloc, one, other)?;
+        assert!(rt; are_same == same);
     }
     Ok(())
 }

@@ -27,6 +27,14 @@ fn same_in_a_copy(alloc: Global, pipeline: &Pipeline, wanted: &[u8]) -> Result<b
     has_bytes(alloc, &copy, wanted)
 }
 
+/// Whether the commands of a pipeline have these numbers of arguments.
+fn has_counts(pipeline: &Pipeline, wanted: [usize; 3]) -> bool {
+    pipeline
+        .cmd_iter()
+        .map(|c| c.args_iter().count())
+        .eq(wanted)
+}
+
 /// The bytes with and without a transaction, and whether the commands and their arguments come in order.
 fn is_filled(alloc: Global, pipeline: &mut Pipeline) -> Result<bool, AllocError> {
     fill(alloc, pipeline)?;
@@ -36,11 +44,8 @@ fn is_filled(alloc: Global, pipeline: &mut Pipeline) -> Result<bool, AllocError>
     let framed =
         b"*1\r\n$5\r\nMULTI\r\n*3\r\n$3\r\nSET\r\n$1\r\nk\r\n$1\r\n1\r\n*1\r\n$4\r\nPING\r\n*1\r\n$4\r\nEXEC\r\n";
     let within = same_in_a_copy(alloc, pipeline, framed)?;
-    let counted = pipeline
-        .cmd_iter()
-        .map(|c| c.args_iter().count())
-        .eq([3usize, 0, 1]);
-    Ok(without && within && counted && pipeline.len() == 3 && pipeline.is_transaction())
+    let whole = pipeline.len() == 3 && pipeline.is_transaction();
+    Ok(without && within && whole && has_counts(pipeline, [3, 0, 1]))
 }
 
 /// A transaction without commands, and one of a command without arguments.
@@ -49,20 +54,26 @@ fn is_empty_first(alloc: Global, pipeline: &mut Pipeline) -> Result<bool, AllocE
     pipeline.atomic();
     let none = has_bytes(alloc, pipeline, b"")? && pipeline.is_empty();
     pipeline.add_command(Cmd::new(alloc))?;
-    let frame = has_bytes(
-        alloc,
-        pipeline,
-        b"*1\r\n$5\r\nMULTI\r\n*1\r\n$4\r\nEXEC\r\n",
-    )?;
-    Ok(none && frame)
+    let frame: &[u8] = b"*1\r\n$5\r\nMULTI\r\n*1\r\n$4\r\nEXEC\r\n";
+    Ok(none && has_bytes(alloc, pipeline, frame)?)
 }
 
 #[test]
 fn pipelines_have_bytes(rt: HostRuntime) -> Result<(), AllocError> {
     let alloc = rt.alloc();
-    let filled = is_filled(alloc, &mut pipe(alloc))?;
+    let mut pipeline = pipe(alloc);
+    let filled = is_filled(alloc, &mut pipeline)?;
+    drop(pipeline);
     assert!(rt; filled);
-    let empty_first = is_empty_first(alloc, &mut Pipeline::new(alloc))?;
+    Ok(())
+}
+
+#[test]
+fn transactions_without_commands_have_bytes(rt: HostRuntime) -> Result<(), AllocError> {
+    let alloc = rt.alloc();
+    let mut pipeline = Pipeline::new(alloc);
+    let empty_first = is_empty_first(alloc, &mut pipeline)?;
+    drop(pipeline);
     assert!(rt; empty_first);
     Ok(())
 }
