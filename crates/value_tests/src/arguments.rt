@@ -245,25 +245,3 @@ fn long_tuples_become_arguments_in_order(rt: HostRuntime) -> Result<(), AllocErr
     assert!(rt; six);
     Ok(())
 }
-
-/// Adds a name, a pair and two numbers to a command.
-fn add(alloc: Global, command: &mut Cmd) -> Result<(), AllocError> {
-    b"SET".as_slice().write_redis_args(alloc, command)?;
-    ("key", -120i32).write_redis_args(alloc, command)?;
-    [1u16, 2].as_slice().write_redis_args(alloc, command)
-}
-
-/// Whether what is added stands in order.
-fn are_added(alloc: Global, wanted: &[&[u8]]) -> Result<bool, AllocError> {
-    let mut command = Cmd::new(alloc);
-    add(alloc, &mut command)?;
-    Ok(has_args(&command, wanted))
-}
-
-#[test]
-fn arguments_are_added_behind_others(rt: HostRuntime) -> Result<(), AllocError> {
-    let alloc = rt.alloc();
-    let added = are_added(alloc, &[b"SET", b"key", b"-120", b"1", b"2"])?;
-    assert!(rt; added);
-    Ok(())
-}

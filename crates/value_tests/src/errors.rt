@@ -79,7 +79,7 @@ const FAULTS: [(FaultKind, RetryMethod, bool, &'static str); 10] = [
 ];
 
 /// Codes of servers: their kinds, their methods, and the texts of errors.
-const SERVER: [(&[u8], ServerErrorKind, RetryMethod, &'static str); 9] = [
+const SERVER: [(&[u8], ServerErrorKind, RetryMethod, &'static str); 10] = [
     (
         b"MOVED",
         ServerErrorKind::Moved,
@@ -127,6 +127,12 @@ const SERVER: [(&[u8], ServerErrorKind, RetryMethod, &'static str); 9] = [
         ServerErrorKind::CrossSlot,
         RetryMethod::NoRetry,
         "CROSSSLOT 7 h:1",
+    ),
+    (
+        b"ERR",
+        ServerErrorKind::ResponseError,
+        RetryMethod::NoRetry,
+        "ERR 7 h:1",
     ),
     (b"", ServerErrorKind::Other, RetryMethod::NoRetry, " 7 h:1"),
 ];

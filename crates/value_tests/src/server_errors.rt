@@ -1,5 +1,5 @@
 use containers::Bytes;
-use resp_value::{RetryMethod, ServerError, ServerErrorKind};
+use resp_value::{ServerError, ServerErrorKind};
 use std::alloc::{AllocError, Global};
 
 const KINDS: [(&[u8], ServerErrorKind); 16] = [
@@ -21,18 +21,6 @@ const KINDS: [(&[u8], ServerErrorKind); 16] = [
     (b"err", ServerErrorKind::Other),
 ];
 
-const METHODS: [(&[u8], RetryMethod); 9] = [
-    (b"MOVED", RetryMethod::MovedRedirect),
-    (b"ASK", RetryMethod::AskRedirect),
-    (b"READONLY", RetryMethod::RefreshSlotsAndRetry),
-    (b"TRYAGAIN", RetryMethod::WaitAndRetry),
-    (b"CLUSTERDOWN", RetryMethod::WaitAndRetry),
-    (b"LOADING", RetryMethod::WaitAndRetry),
-    (b"MASTERDOWN", RetryMethod::WaitAndRetry),
-    (b"ERR", RetryMethod::NoRetry),
-    (b"", RetryMethod::NoRetry),
-];
-
 fn error(alloc: Global, code: &[u8], detail: &[u8]) -> Result<ServerError, AllocError> {
     let code = Bytes::from_slice(alloc, code)?;
     let detail = Some(Bytes::from_slice(alloc, detail)?);
@@ -43,25 +31,11 @@ fn is_of_kind(alloc: Global, code: &[u8], kind: ServerErrorKind) -> Result<bool,
     Ok(error(alloc, code, b"")?.kind() == kind)
 }
 
-fn has_method(alloc: Global, code: &[u8], method: RetryMethod) -> Result<bool, AllocError> {
-    Ok(error(alloc, code, b"")?.retry_method() == method)
-}
-
 #[test]
 fn codes_have_kinds(rt: HostRuntime) -> Result<(), AllocError> {
     let alloc = rt.alloc();
     for (code, kind) in KINDS {
         let same = is_of_kind(alloc, code, kind)?;
-        assert!(rt; same);
-    }
-    Ok(())
-}
-
-#[test]
-fn codes_have_methods(rt: HostRuntime) -> Result<(), AllocError> {
-    let alloc = rt.alloc();
-    for (code, method) in METHODS {
-        let same = has_method(alloc, code, method)?;
         assert!(rt; same);
     }
     Ok(())

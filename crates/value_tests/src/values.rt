@@ -77,84 +77,6 @@ fn copies_are_like_their_sources(rt: HostRuntime) -> Result<(), Fail> {
     Ok(())
 }
 
-fn three(alloc: Global) -> Result<Values, AllocError> {
-    let mut values = Values::new(alloc);
-    values.push(Value::Int(1))?;
-    values.push(Value::Boolean(true))?;
-    values.push(Value::Okay)?;
-    Ok(values)
-}
-
-/// Whether the first value is taken off, and is the same as this one.
-fn is_first(values: &mut Values, wanted: &Value) -> bool {
-    match values.pop_front() {
-        Some(value) => value == *wanted,
-        None => false,
-    }
-}
-
-/// Whether a number and a truth value are taken off, and nothing behind them.
-fn are_first_two(values: &mut Values) -> bool {
-    is_first(values, &Value::Int(1))
-        && is_first(values, &Value::Boolean(true))
-        && values.pop_front().is_none()
-}
-
-/// Whether values that are split are taken off in order.
-fn is_split(mut values: Values) -> Result<bool, AllocError> {
-    if values.len() < 2 {
-        return Ok(false);
-    }
-    let mut moved = values.split_off(2)?;
-    let last = is_first(&mut moved, &Value::Okay) && moved.is_empty();
-    Ok(last && are_first_two(&mut values))
-}
-
-#[test]
-fn values_are_taken_from_the_front(rt: HostRuntime) -> Result<(), Fail> {
-    let alloc = rt.alloc();
-    let split = is_split(three(alloc)?)?;
-    assert!(rt; split);
-    Ok(())
-}
-
-/// Whether values are taken out in order, and put back.
-fn is_taken_apart(alloc: Global) -> Result<bool, AllocError> {
-    let mut values = Values::new(alloc);
-    values.push(Value::Int(1))?;
-    values.push(Value::Okay)?;
-    let items = values.into_vec();
-    let in_order = matches!(items.as_slice(), [Value::Int(1), Value::Okay]);
-    let values = Values::from_vec(items);
-    Ok(in_order && values.len() == 2 && !values.is_empty())
-}
-
-/// Whether a pair is taken out.
-fn is_pair_taken_out(alloc: Global) -> Result<bool, AllocError> {
-    let pairs = pair(alloc)?;
-    let one = pairs.len() == 1 && !pairs.is_empty();
-    let items = Pairs::from_vec(pairs.into_vec()).into_vec();
-    Ok(one && matches!(items.as_slice(), [(Value::Okay, Value::Nil)]))
-}
-
-/// Whether an inner value is taken out.
-fn is_opened(alloc: Global) -> Result<bool, AllocError> {
-    let inner = Inner::new(alloc, Value::Int(7))?;
-    Ok(matches!(inner.into_value(), Value::Int(7)))
-}
-
-#[test]
-fn values_are_taken_apart(rt: HostRuntime) -> Result<(), Fail> {
-    let alloc = rt.alloc();
-    let apart = is_taken_apart(alloc)?;
-    assert!(rt; apart);
-    let taken_out = is_pair_taken_out(alloc)?;
-    assert!(rt; taken_out);
-    let opened = is_opened(alloc)?;
-    assert!(rt; opened);
-    Ok(())
-}
-
 fn is_error(extracted: &Result<Value, ServerError>, code: &[u8]) -> bool {
     match extracted {
         Ok(_) => false,
@@ -209,18 +131,12 @@ const OTHERS: [(&[u8], &str); 2] = [
 ];
 
 #[test]
-fn other_kinds_have_names(rt: HostRuntime) -> Result<(), Fail> {
+fn kinds_have_names(rt: HostRuntime) -> Result<(), Fail> {
     let alloc = rt.alloc();
     for (name, shown) in OTHERS {
         let other = is_other_kind(alloc, name, shown)?;
         assert!(rt; other, "{}", shown);
     }
-    Ok(())
-}
-
-#[test]
-fn kinds_have_names(rt: HostRuntime) -> Result<(), Fail> {
-    let alloc = rt.alloc();
     let named = is_kind(alloc, &PushKind::SMessage, b"smessage", "smessage")?;
     assert!(rt; named);
     let copied = is_kind_copied(alloc, &PushKind::SSubscribe)?;

@@ -1,6 +1,6 @@
 use containers::{Bytes, Names};
 use resp_value::{Inner, Pairs, PushKind, ServerError, Value, Values};
-use resp_write::{Cmd, canonical_text, cmd, list_text, pack_lists, pack_names, write_value};
+use resp_write::{Cmd, canonical_text, cmd, pack_lists, write_value};
 use std::alloc::{AllocError, Global};
 
 fn bytes(alloc: Global, text: &[u8]) -> Result<Bytes, AllocError> {
@@ -253,27 +253,6 @@ fn values_in_values_are_written(rt: HostRuntime) -> Result<(), AllocError> {
     Ok(())
 }
 
-/// Whether values are written as this list.
-fn is_list(alloc: Global, values: &Values, wanted: &[u8]) -> Result<bool, AllocError> {
-    let text = list_text(alloc, values)?;
-    Ok(text.as_slice() == wanted)
-}
-
-fn is_list_of_two(alloc: Global, wanted: &[u8]) -> Result<bool, AllocError> {
-    let values = two(alloc)?;
-    is_list(alloc, &values, wanted)
-}
-
-#[test]
-fn lists_have_text(rt: HostRuntime) -> Result<(), AllocError> {
-    let alloc = rt.alloc();
-    let none = is_list(alloc, &Values::new(alloc), b"*0\r\n")?;
-    assert!(rt; none);
-    let some = is_list_of_two(alloc, b"*2\r\n:-7\r\n$3\r\na\r\n\r\n")?;
-    assert!(rt; some);
-    Ok(())
-}
-
 fn get(alloc: Global) -> Result<Cmd, AllocError> {
     let mut get = cmd(alloc, b"GET")?;
     get.arg(alloc, b"a\r\n")?;
@@ -316,20 +295,6 @@ fn commands_have_bytes(rt: HostRuntime) -> Result<(), AllocError> {
 
 fn name(alloc: Global, text: &[u8]) -> Result<Names, AllocError> {
     Names::from_slices(alloc, &[text])
-}
-
-fn is_name_packed(alloc: Global, text: &[u8], wanted: &[u8]) -> Result<bool, AllocError> {
-    let name = name(alloc, text)?;
-    let packed = pack_names(alloc, &name)?;
-    Ok(packed.as_slice() == wanted)
-}
-
-#[test]
-fn names_have_bytes(rt: HostRuntime) -> Result<(), AllocError> {
-    let alloc = rt.alloc();
-    let packed = is_name_packed(alloc, b"PING", b"*1\r\n$4\r\nPING\r\n")?;
-    assert!(rt; packed);
-    Ok(())
 }
 
 /// The commands GET and SET.
