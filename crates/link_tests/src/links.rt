@@ -519,15 +519,32 @@ fn takes_message(alloc: Global, packed: &[u8]) -> bool {
     }
 }
 
-#[test]
-fn a_megabyte_comes_through(rt: HostRuntime) -> Result<(), AllocError> {
-    let alloc = rt.alloc();
-    let text = vec![in alloc; b'x'; LONG]?;
-    assert!(rt; takes_message(alloc, text.as_slice()));
+/// Whether a link takes a message that long.
+fn takes_long(alloc: Global, len: usize) -> Result<bool, AllocError> {
+    let text = vec![in alloc; b'x'; len]?;
+    Ok(takes_message(alloc, text.as_slice()))
+}
+
+/// The bytes of a text of a megabyte.
+fn long_piece(alloc: Global) -> Result<Vec<u8>, AllocError> {
     let mut piece = Vec::new(alloc);
     piece.extend_from_slice(b"$1048576\r\n".as_slice())?;
-    piece.extend_from_slice(text.as_slice())?;
+    for _ in 0..LONG {
+        piece.push(b'x')?;
+    }
     piece.extend_from_slice(b"\r\n".as_slice())?;
-    assert!(rt; reads_text(alloc, piece.as_slice(), LONG)?);
+    Ok(piece)
+}
+
+/// Whether a text of a megabyte is read.
+fn reads_long(alloc: Global) -> Result<bool, AllocError> {
+    let piece = long_piece(alloc)?;
+    reads_text(alloc, piece.as_slice(), LONG)
+}
+
+#[test]
+fn a_megabyte_comes_through(rt: HostRuntime) -> Result<(), AllocError> {
+    assert!(rt; takes_long(rt.alloc(), LONG)?);
+    assert!(rt; reads_long(rt.alloc())?);
     Ok(())
 }
