@@ -1,6 +1,6 @@
 use driver_model::{Event, EventKind, Submission};
 use redis_error::FaultKind;
-use resp_write::cmd;
+use resp_write::{Cmd, cmd};
 use std::alloc::{AllocError, Global};
 
 /// Whether a submission is a command of two words, and whether its reply is awaited.
@@ -12,13 +12,24 @@ fn is_command(submission: &Submission, awaited: bool) -> bool {
     }
 }
 
-/// Whether SET a is a submission of that kind.
-fn is_made(alloc: Global, awaited: bool) -> Result<bool, AllocError> {
+/// SET a.
+fn set(alloc: Global, awaited: bool) -> Result<Cmd, AllocError> {
     let mut command = cmd(alloc, b"SET")?;
     command.arg(alloc, b"a")?;
     command.set_no_response(!awaited);
-    let submission = Submission::from_cmd(alloc, &command)?;
+    Ok(command)
+}
+
+/// Whether a command of two words is a submission of that kind.
+fn is_submitted(alloc: Global, command: &Cmd, awaited: bool) -> Result<bool, AllocError> {
+    let submission = Submission::from_cmd(alloc, command)?;
     Ok(is_command(&submission, awaited))
+}
+
+/// Whether SET a is a submission of that kind.
+fn is_made(alloc: Global, awaited: bool) -> Result<bool, AllocError> {
+    let command = set(alloc, awaited)?;
+    is_submitted(alloc, &command, awaited)
 }
 
 #[test]
