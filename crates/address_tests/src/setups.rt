@@ -5,6 +5,7 @@ use connection_setup::{
 use containers::Bytes;
 use redis_error::{ErrorKind, RedisError};
 use resp_value::{ServerError, Value, Values};
+use resp_write::Pipeline;
 use std::alloc::{AllocError, Global};
 
 /// What is configured: RESP3, database, user name, password, whether the library is named, and whether the user name
@@ -25,19 +26,22 @@ fn text(alloc: Global, bytes: Option<&'static [u8]>) -> Result<Option<Bytes>, Al
     }
 }
 
-fn info(alloc: Global, case: &Case) -> Result<RedisConnectionInfo, AllocError> {
-    let username = text(alloc, case.2)?;
-    let password = text(alloc, case.3)?;
-    let protocol = if case.0 {
+fn protocol(resp3: bool) -> ProtocolVersion {
+    if resp3 {
         ProtocolVersion::RESP3
     } else {
         ProtocolVersion::RESP2
-    };
+    }
+}
+
+fn info(alloc: Global, case: &Case) -> Result<RedisConnectionInfo, AllocError> {
+    let username = text(alloc, case.2)?;
+    let password = text(alloc, case.3)?;
     Ok(RedisConnectionInfo {
         db: case.1,
         username,
         password,
-        protocol,
+        protocol: protocol(case.0),
         skip_set_lib_name: !case.4,
     })
 }
@@ -132,11 +136,28 @@ const SETUPS: [(Case, usize, &'static [u8]); 18] = [
     ),
 ];
 
-fn says(alloc: Global, case: &Case, count: usize, bytes: &[u8]) -> Result<bool, AllocError> {
-    let info = info(alloc, case)?;
-    let pipeline = setup_messages(alloc, &info, case.5)?;
+/// Whether a pipeline has so many commands, without transaction, and these bytes.
+fn is_pipeline(
+    alloc: Global,
+    pipeline: &Pipeline,
+    count: usize,
+    bytes: &[u8],
+) -> Result<bool, AllocError> {
     let packed = pipeline.get_packed_pipeline(alloc)?;
-    Ok(pipeline.len() == count && !pipeline.is_transaction() && packed.as_slice() == bytes)
+    let same = packed.as_slice() == bytes;
+    Ok(same && pipeline.len() == count && !pipeline.is_transaction())
+}
+
+/// The commands of the setup of a case.
+fn messages(alloc: Global, case: &Case) -> Result<Pipeline, AllocError> {
+    let info = info(alloc, case)?;
+    setup_messages(alloc, &info, case.5)
+}
+
+/// Whether the setup of a case has so many commands and these bytes.
+fn says(alloc: Global, case: &Case, count: usize, bytes: &[u8]) -> Result<bool, AllocError> {
+    let pipeline = messages(alloc, case)?;
+    is_pipeline(alloc, &pipeline, count, bytes)
 }
 
 #[test]
@@ -293,22 +314,27 @@ const REPLIES: [(Case, [Reply; 4], Wanted); 22] = [
     ),
 ];
 
+fn server_error(
+    alloc: Global,
+    code: &'static [u8],
+    detail: Option<&'static [u8]>,
+) -> Result<ServerError, AllocError> {
+    let code = Bytes::from_slice(alloc, code)?;
+    let detail = text(alloc, detail)?;
+    Ok(ServerError { code, detail })
+}
+
 fn value(alloc: Global, reply: Reply) -> Result<Value, AllocError> {
     match reply {
         Reply::Well => Ok(Value::Okay),
-        Reply::Error(code, detail) => {
-            let code = Bytes::from_slice(alloc, code)?;
-            let detail = text(alloc, detail)?;
-            Ok(Value::ServerError(ServerError { code, detail }))
-        }
+        Reply::Error(code, detail) => Ok(Value::ServerError(server_error(alloc, code, detail)?)),
     }
 }
 
 fn values(alloc: Global, replies: &[Reply]) -> Result<Values, AllocError> {
     let mut values = Values::new(alloc);
     for reply in replies {
-        let value = value(alloc, *reply)?;
-        values.push(value)?;
+        values.push(value(alloc, *reply)?)?;
     }
     Ok(values)
 }
@@ -330,16 +356,27 @@ fn is_result(got: &SetupResult, wanted: Wanted) -> bool {
     }
 }
 
+/// Whether the setup of a case comes to that with these replies.
+fn is_judged(
+    alloc: Global,
+    case: &Case,
+    replies: &Values,
+    wanted: Wanted,
+) -> Result<bool, AllocError> {
+    let info = info(alloc, case)?;
+    let got = check_setup(alloc, &info, case.5, replies);
+    Ok(is_result(&got, wanted))
+}
+
+/// The same, of replies that are to be made.
 fn comes_to(
     alloc: Global,
     case: &Case,
     replies: &[Reply],
     wanted: Wanted,
 ) -> Result<bool, AllocError> {
-    let info = info(alloc, case)?;
     let replies = values(alloc, replies)?;
-    let got = check_setup(alloc, &info, case.5, &replies);
-    Ok(is_result(&got, wanted))
+    is_judged(alloc, case, &replies, wanted)
 }
 
 #[test]
@@ -361,18 +398,21 @@ const PERMITS: [(u32, u32, u32); 6] = [
     (u32::MAX, u32::MAX, u32::MAX),
 ];
 
+/// None where the limit is refused.
+fn refusal(error: &RedisError) -> Option<u32> {
+    if matches!(error.kind(), ErrorKind::InvalidClientConfig) {
+        None
+    } else {
+        Some(u32::MAX)
+    }
+}
+
 /// The limit of the limiter that is built; 0 where there is none, and none where the limit is refused.
 fn limit_of(limit: Option<u32>) -> Option<u32> {
     match build_concurrency_limiter(limit) {
         Ok(Some(limiter)) => Some(limiter.limit()),
         Ok(None) => Some(0),
-        Err(error) => {
-            if matches!(error.kind(), ErrorKind::InvalidClientConfig) {
-                None
-            } else {
-                Some(u32::MAX)
-            }
-        }
+        Err(error) => refusal(&error),
     }
 }
 

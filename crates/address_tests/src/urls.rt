@@ -1,4 +1,4 @@
-use connection_info::{Client, ConnectionInfo, OpenError};
+use connection_info::{Client, ConnectionInfo, OpenError, RedisConnectionInfo};
 use containers::Bytes;
 use redis_error::ConfigName;
 use std::alloc::Global;
@@ -331,32 +331,55 @@ fn is_text(got: &Option<Bytes>, wanted: Option<&'static [u8]>) -> bool {
     }
 }
 
+fn is_place(info: &ConnectionInfo, row: &Row) -> bool {
+    info.host.as_slice() == row.1 && info.port == row.2
+}
+
+fn is_redis(redis: &RedisConnectionInfo, row: &Row) -> bool {
+    redis.db == row.3 && redis.protocol.supports_resp3() == row.6 && !redis.skip_set_lib_name
+}
+
+fn are_credentials(redis: &RedisConnectionInfo, row: &Row) -> bool {
+    is_text(&redis.username, row.4) && is_text(&redis.password, row.5)
+}
+
+/// Whether an address is that of the row.
 fn is_address(info: &ConnectionInfo, row: &Row) -> bool {
-    info.host.as_slice() == row.1
-        && info.port == row.2
-        && info.redis.db == row.3
-        && is_text(&info.redis.username, row.4)
-        && is_text(&info.redis.password, row.5)
-        && info.redis.protocol.supports_resp3() == row.6
-        && !info.redis.skip_set_lib_name
+    is_place(info, row) && is_redis(&info.redis, row) && are_credentials(&info.redis, row)
+}
+
+/// Whether a copy of a client has the row's address.
+fn copy_is_address(alloc: Global, client: &Client, row: &Row) -> Result<bool, OpenError> {
+    let copy = client.clone(alloc)?;
+    Ok(is_address(copy.get_connection_info(), row))
 }
 
 /// Whether the client of a row's URL and its copy have the row's address.
 fn opens(alloc: Global, row: &Row) -> Result<bool, OpenError> {
     let client = Client::open(alloc, row.0)?;
-    let copy = client.clone(alloc)?;
-    Ok(is_address(client.get_connection_info(), row) && is_address(copy.get_connection_info(), row))
+    let same = is_address(client.get_connection_info(), row);
+    Ok(copy_is_address(alloc, &client, row)? && same)
+}
+
+/// Whether a URL has the row's address.
+fn reads(alloc: Global, url: &[u8], row: &Row) -> Result<bool, OpenError> {
+    let Ok(text) = std::str::from_utf8(url) else {
+        return Ok(false);
+    };
+    let client = Client::open(alloc, text)?;
+    Ok(is_address(client.get_connection_info(), row))
+}
+
+/// The URL that is written of the address of a text.
+fn written(alloc: Global, text: &str) -> Result<Bytes, OpenError> {
+    let client = Client::open(alloc, text)?;
+    client.get_connection_info().to_url(alloc)
 }
 
 /// Whether the written URL of a row's address has that address.
 fn opens_again(alloc: Global, row: &Row) -> Result<bool, OpenError> {
-    let client = Client::open(alloc, row.0)?;
-    let url = client.get_connection_info().to_url(alloc)?;
-    let Ok(text) = std::str::from_utf8(url.as_slice()) else {
-        return Ok(false);
-    };
-    let again = Client::open(alloc, text)?;
-    Ok(is_address(again.get_connection_info(), row))
+    let url = written(alloc, row.0)?;
+    reads(alloc, url.as_slice(), row)
 }
 
 fn each_opens(alloc: Global, rows: &[Row]) -> Result<bool, OpenError> {

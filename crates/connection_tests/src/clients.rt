@@ -2,10 +2,9 @@ ghost use Rattle.std.specs.Prelude.{◌≡◌, true};
 ghost use Rattle.driver_model.specs.News.{told};
 ghost use Rattle.mux_conn.specs.Effects.{CanTake, IsWithin};
 
-use connection_info::{
-    AsyncConnectionConfig, Client, ConnectionInfo, OpenError, RedisConnectionInfo,
-};
-use driver_model::{LinkEvent, LinkNews, Outcome};
+use crate::connections::said;
+use connection_info::{AsyncConnectionConfig, Client, OpenError};
+use driver_model::{Config, LinkEvent, LinkNews, Outcome};
 use mux_client::{
     Connect, ConnectionAct, ConnectionGetters, ConnectionLike, ConnectionTimer,
     MultiplexedConnection, Pending, SendError,
@@ -16,242 +15,285 @@ use resp_write::{Pipeline, cmd};
 use std::alloc::{AllocError, Global};
 use std::process::Abort;
 
-/// The client of a server to which nothing is to be said.
-fn client(rt: &impl Abort, alloc: Global, url: &str) -> Client {
-    let Ok(client) = Client::open(alloc, url) else {
-        panic!(rt; "an address");
-    };
-    client
+/// A connection that is made, where it is not for want of memory alone that none is.
+fn must(
+    made: Result<MultiplexedConnection, OpenError>,
+) -> Result<MultiplexedConnection, AllocError> {
+    match made {
+        Ok(conn) => Ok(conn),
+        Err(_) => Err(AllocError),
+    }
 }
 
-/// The address of that server.
-fn address(rt: &impl Abort, alloc: Global) -> Result<ConnectionInfo, AllocError> {
-    let client = client(rt, alloc, "redis://h");
-    let mut info = client.get_connection_info().clone(alloc)?;
-    info.redis.skip_set_lib_name = true;
-    Ok(info)
-}
-
-/// A connection to that server, made with this configuration.
+/// A connection over link 3 to a server to which nothing is to be said.
 fn connected(
-    rt: &impl Abort,
     alloc: Global,
     config: &AsyncConnectionConfig,
 ) -> Result<MultiplexedConnection, AllocError> {
-    let info = address(rt, alloc)?;
-    let Ok(mut conn) = MultiplexedConnection::connect_with_config(alloc, &info, config, 3) else {
-        panic!(rt; "a connection");
-    };
-    turn(rt, alloc, &mut conn, LinkNews::Connected)?;
+    let info = said(None);
+    let mut conn = must(MultiplexedConnection::new_with_config(alloc, &info, 3, config))?;
+    hear(alloc, &mut conn, LinkNews::Connected)?;
     Ok(conn)
 }
 
-/// One turn whose news takes no bytes; the names of its acts.
-fn turn(
-    rt: &impl Abort,
+/// One turn.
+fn hear(
     alloc: Global,
     conn: &mut MultiplexedConnection,
     news: LinkNews<'_>,
-) -> Result<Vec<u8>, AllocError>
+) -> Result<(), AllocError>
     requires { IsWithin conn.old.core.life (told news) }
 {
     let mut acts = Vec::new(alloc);
     match conn.step(alloc, LinkEvent { word: 0, news }, &mut acts) {
-        Ok(()) => {}
-        Err(_) => panic!(rt; "a turn"),
+        Ok(()) => Ok(()),
+        Err(_) => Err(AllocError),
     }
-    let mut log = Vec::new(alloc);
-    for act in &acts {
-        log.extend_from_slice(name(act).as_bytes())?;
+}
+
+/// Whether a turn shows acts of these names.
+fn shows(
+    alloc: Global,
+    conn: &mut MultiplexedConnection,
+    news: LinkNews<'_>,
+    names: &[&str],
+) -> Result<bool, AllocError>
+    requires { IsWithin conn.old.core.life (told news) }
+{
+    let mut acts = Vec::new(alloc);
+    match conn.step(alloc, LinkEvent { word: 0, news }, &mut acts) {
+        Ok(()) => Ok(are(acts.as_slice(), names)),
+        Err(_) => Err(AllocError),
     }
-    Ok(log)
+}
+
+/// Whether acts have these names.
+fn are(acts: &[ConnectionAct], names: &[&str]) -> bool {
+    if acts.len() != names.len() {
+        return false;
+    }
+    for (act, wanted) in acts.iter().zip(names) {
+        if name(act).as_bytes() != wanted.as_bytes() {
+            return false;
+        }
+    }
+    true
+}
+
+fn timer_name(timer: &ConnectionTimer) -> &'static str {
+    match timer {
+        ConnectionTimer::Connect => "connect-timer",
+        ConnectionTimer::Response { request: _ } => "timer",
+    }
 }
 
 fn name(act: &ConnectionAct) -> &'static str {
     match act {
-        ConnectionAct::Created { error: None } => "created ",
-        ConnectionAct::Created { error: Some(_) } => "failed ",
-        ConnectionAct::Timer {
-            timer: ConnectionTimer::Connect,
-            ms: _,
-        } => "connect-timer ",
-        ConnectionAct::Timer {
-            timer: ConnectionTimer::Response { request: _ },
-            ms: _,
-        } => "timer ",
-        ConnectionAct::Took {
-            request: _,
-            count: _,
-        } => "took ",
-        ConnectionAct::Close => "close ",
-        ConnectionAct::Write { bytes: _ } => "write ",
-        ConnectionAct::Wait {
-            request: _,
-            wait: _,
-        } => "wait ",
-        ConnectionAct::SetUp {
-            message: _,
-            need: _,
-            len: _,
-        } => "setup ",
-        ConnectionAct::Start {
-            message: _,
-            request: _,
-            need: _,
-            len: _,
-        } => "start ",
-        ConnectionAct::Answered { request: _ } => "answered ",
+        ConnectionAct::Created { error: None } => "created",
+        ConnectionAct::Created { error: Some(_) } => "failed",
+        ConnectionAct::Timer { timer, ms: _ } => timer_name(timer),
+        ConnectionAct::Took { .. } => "took",
+        ConnectionAct::Close => "close",
+        ConnectionAct::Write { bytes: _ } => "write",
+        ConnectionAct::Wait { .. } => "wait",
+        ConnectionAct::SetUp { .. } => "setup",
+        ConnectionAct::Start { .. } => "start",
+        ConnectionAct::Answered { request: _ } => "answered",
     }
 }
 
 /// A command without arguments is sent.
 fn send(
-    rt: &impl Abort,
     alloc: Global,
     conn: &mut MultiplexedConnection,
     name: &[u8],
 ) -> Result<Pending, AllocError> {
     let command = cmd(alloc, name)?;
-    let Ok(request) = conn.send_packed_command(alloc, &command) else {
-        panic!(rt; "a request");
-    };
-    Ok(request)
+    match conn.req_packed_command(alloc, &command) {
+        Ok(request) => Ok(request),
+        Err(_) => Err(AllocError),
+    }
 }
 
 /// The text of a request's outcome.
 fn outcome<'a>(conn: &'a MultiplexedConnection, request: &Pending) -> &'a [u8] {
     match conn.poll(request) {
         None => b"pending",
-        Some(Outcome::One(Value::SimpleString(text))) => text.as_slice(),
+        Some(Outcome::One(value)) => text(value),
         Some(Outcome::Many(_)) => b"many",
-        Some(
-            Outcome::Fault(
-                RedisError::Io {
-                    fault: FaultKind::TimedOut,
-                },
-            ),
-        ) => b"timed out",
-        Some(_) => b"other",
+        Some(Outcome::Fault(error)) => fault(error),
     }
+}
+
+fn text(value: &Value) -> &[u8] {
+    match value {
+        Value::SimpleString(text) => text.as_slice(),
+        _ => b"other",
+    }
+}
+
+fn fault(error: &RedisError) -> &'static [u8] {
+    match error {
+        RedisError::Io {
+            fault: FaultKind::TimedOut,
+        } => b"timed out",
+        _ => b"other",
+    }
+}
+
+/// Whether a request has this outcome.
+fn has(conn: &MultiplexedConnection, request: Pending, wanted: &[u8]) -> bool {
+    outcome(conn, &request) == wanted
+}
+
+/// What three requests show that are to be answered in time.
+const STARTED: [&str; 7] = [
+    "timer", "start", "timer", "start", "timer", "start", "write",
+];
+
+/// Three callers send, and the second goes before the replies come.
+fn talk(
+    rt: &impl Abort,
+    alloc: Global,
+    conn: &mut MultiplexedConnection,
+) -> Result<(), AllocError> {
+    let first = send(alloc, conn, b"A")?;
+    let second = send(alloc, conn, b"B")?;
+    let third = send(alloc, conn, b"C")?;
+    assert!(rt; shows(alloc, conn, LinkNews::Silence, &STARTED)?);
+    conn.cancel(second);
+    let piece = b"+1\r\n+2\r\n+3\r\n";
+    assert!(rt;
+        shows(
+            alloc,
+            conn,
+            LinkNews::Came { piece },
+            &["answered", "answered"]
+        )?
+    );
+    for (request, wanted) in [(first, "1"), (second, "pending"), (third, "3")] {
+        assert!(rt; has(conn, request, wanted.as_bytes()));
+    }
+    Ok(())
 }
 
 #[test]
 fn replies_go_to_their_callers(rt: HostRuntime) -> Result<(), AllocError> {
-    let alloc = rt.alloc();
-    let mut conn = connected(&rt, alloc, &AsyncConnectionConfig::new())?;
-    let first = send(&rt, alloc, &mut conn, b"A")?;
-    let second = send(&rt, alloc, &mut conn, b"B")?;
-    let third = send(&rt, alloc, &mut conn, b"C")?;
-    let log = turn(&rt, alloc, &mut conn, LinkNews::Silence)?;
-    assert!(rt; log.as_slice() == b"timer start timer start timer start write ".as_slice());
-    conn.cancel(second);
-    turn(
-        &rt,
-        alloc,
-        &mut conn,
-        LinkNews::Came {
-            piece: b"+1\r\n+2\r\n+3\r\n",
-        },
-    )?;
-    assert!(rt; outcome(&conn, &first) == b"1".as_slice());
-    assert!(rt; outcome(&conn, &second) == b"pending".as_slice());
-    assert!(rt; outcome(&conn, &third) == b"3".as_slice());
+    let mut conn = connected(rt.alloc(), &AsyncConnectionConfig::new())?;
+    talk(&rt, rt.alloc(), &mut conn)
+}
+
+/// A new connection connects, sends and is answered.
+fn answer(
+    rt: &impl Abort,
+    alloc: Global,
+    conn: &mut MultiplexedConnection,
+) -> Result<(), AllocError> {
+    assert!(rt;
+        shows(
+            alloc,
+            conn,
+            LinkNews::Connected,
+            &["connect-timer", "created"]
+        )?
+    );
+    let request = send(alloc, conn, b"PING")?;
+    assert!(rt; shows(alloc, conn, LinkNews::Silence, &["timer", "start", "write"])?);
+    let piece = b"+PONG\r\n";
+    hear(alloc, conn, LinkNews::Came { piece })?;
+    assert!(rt; has(conn, request, b"PONG"));
     Ok(())
 }
 
 #[test]
 fn a_connection_of_defaults_answers(rt: HostRuntime) -> Result<(), AllocError> {
-    let alloc = rt.alloc();
-    let info = address(&rt, alloc)?;
-    let Ok(mut conn) = MultiplexedConnection::new(alloc, &info.redis, 0) else {
-        panic!(rt; "a connection");
-    };
-    let log = turn(&rt, alloc, &mut conn, LinkNews::Connected)?;
-    assert!(rt; log.as_slice() == b"connect-timer created ".as_slice());
-    let Ok(request) = conn.req_packed_command(alloc, &cmd(alloc, b"PING")?) else {
-        panic!(rt; "a request");
-    };
-    let log = turn(&rt, alloc, &mut conn, LinkNews::Silence)?;
-    assert!(rt; log.as_slice() == b"timer start write ".as_slice());
-    turn(
-        &rt,
-        alloc,
-        &mut conn,
-        LinkNews::Came {
-            piece: b"+PONG\r\n",
-        },
-    )?;
-    assert!(rt; outcome(&conn, &request) == b"PONG".as_slice());
+    let mut conn = must(MultiplexedConnection::new(rt.alloc(), &said(None), 0))?;
+    answer(&rt, rt.alloc(), &mut conn)
+}
+
+/// The time of a request is over before its reply comes.
+fn come_late(
+    rt: &impl Abort,
+    alloc: Global,
+    conn: &mut MultiplexedConnection,
+) -> Result<(), AllocError> {
+    conn.set_response_timeout(7);
+    let late = send(alloc, conn, b"A")?;
+    let next = send(alloc, conn, b"B")?;
+    hear(alloc, conn, LinkNews::Silence)?;
+    assert!(rt; conn.time_out(alloc, late).is_ok());
+    assert!(rt; has(conn, late, b"timed out"));
+    let piece = b"+1\r\n+2\r\n";
+    assert!(rt;
+        shows(
+            alloc,
+            conn,
+            LinkNews::Came { piece },
+            &["answered", "answered"]
+        )?
+    );
+    assert!(rt; has(conn, next, b"2"));
     Ok(())
 }
 
 #[test]
 fn the_time_of_a_request_is_over(rt: HostRuntime) -> Result<(), AllocError> {
-    let alloc = rt.alloc();
-    let mut conn = connected(&rt, alloc, &AsyncConnectionConfig::new())?;
-    conn.set_response_timeout(7);
-    let late = send(&rt, alloc, &mut conn, b"A")?;
-    let next = send(&rt, alloc, &mut conn, b"B")?;
-    turn(&rt, alloc, &mut conn, LinkNews::Silence)?;
-    assert!(rt; matches!(conn.time_out(alloc, late), Ok(())));
-    assert!(rt; outcome(&conn, &late) == b"timed out".as_slice());
-    let log = turn(
-        &rt,
-        alloc,
-        &mut conn,
-        LinkNews::Came {
-            piece: b"+1\r\n+2\r\n",
-        },
-    )?;
-    assert!(rt; log.as_slice() == b"answered answered ".as_slice());
-    assert!(rt; outcome(&conn, &next) == b"2".as_slice());
-    Ok(())
+    let mut conn = connected(rt.alloc(), &AsyncConnectionConfig::new())?;
+    come_late(&rt, rt.alloc(), &mut conn)
+}
+
+/// Whether the driver itself may say something at a connection that is up.
+fn send_inside(alloc: Global, conn: &mut MultiplexedConnection) -> Result<bool, AllocError> {
+    let mut pipeline = Pipeline::new(alloc);
+    pipeline.add_command(cmd(alloc, b"READONLY")?)?;
+    if !conn.is_ready() {
+        return Ok(false);
+    }
+    Ok(conn.send_internal(alloc, &pipeline).is_ok())
+}
+
+/// Two requests share one permit, which what is internal does without.
+fn go_past(
+    rt: &impl Abort,
+    alloc: Global,
+    conn: &mut MultiplexedConnection,
+) -> Result<(), AllocError> {
+    send(alloc, conn, b"A")?;
+    send(alloc, conn, b"B")?;
+    hear(alloc, conn, LinkNews::Silence)?;
+    assert!(rt; send_inside(alloc, conn)?);
+    assert!(rt; shows(alloc, conn, LinkNews::Silence, &["timer", "start"])?);
+    let piece = b"+1\r\n+OK\r\n";
+    hear(alloc, conn, LinkNews::Came { piece })
 }
 
 #[test]
 fn what_is_internal_takes_no_permit(rt: HostRuntime) -> Result<(), AllocError> {
-    let alloc = rt.alloc();
     let config = AsyncConnectionConfig::new().set_concurrency_limit(1);
-    let mut conn = connected(&rt, alloc, &config)?;
-    send(&rt, alloc, &mut conn, b"A")?;
-    send(&rt, alloc, &mut conn, b"B")?;
-    turn(&rt, alloc, &mut conn, LinkNews::Silence)?;
-    let mut pipeline = Pipeline::new(alloc);
-    pipeline.add_command(cmd(alloc, b"READONLY")?)?;
-    if !conn.is_ready() {
-        panic!(rt; "a link that is set up");
-    }
-    assert!(rt; matches!(conn.send_internal(alloc, &pipeline), Ok(_)));
-    let log = turn(&rt, alloc, &mut conn, LinkNews::Silence)?;
-    assert!(rt; log.as_slice() == b"timer start ".as_slice());
-    turn(
-        &rt,
-        alloc,
-        &mut conn,
-        LinkNews::Came {
-            piece: b"+1\r\n+OK\r\n",
-        },
-    )?;
-    Ok(())
+    let mut conn = connected(rt.alloc(), &config)?;
+    go_past(&rt, rt.alloc(), &mut conn)
+}
+
+/// Whether a pipeline of nothing is refused.
+fn refuses_nothing(alloc: Global, conn: &mut MultiplexedConnection) -> bool {
+    let nothing = Pipeline::new(alloc);
+    let sent = conn.req_packed_commands(alloc, &nothing, 0, 0);
+    matches!(sent, Err(SendError::Refused(RedisError::EmptyCommand)))
 }
 
 #[test]
 fn nothing_is_refused_by_name(rt: HostRuntime) -> Result<(), AllocError> {
-    let alloc = rt.alloc();
-    let mut conn = connected(&rt, alloc, &AsyncConnectionConfig::new())?;
-    let sent = conn.req_packed_commands(alloc, &Pipeline::new(alloc), 0, 0);
-    assert!(rt; matches!(sent, Err(SendError::Refused(RedisError::EmptyCommand))));
+    let mut conn = connected(rt.alloc(), &AsyncConnectionConfig::new())?;
+    assert!(rt; refuses_nothing(rt.alloc(), &mut conn));
     Ok(())
 }
 
+/// What of a configuration is refused.
 fn refusal(
-    rt: &impl Abort,
     alloc: Global,
     config: &AsyncConnectionConfig,
 ) -> Result<Option<ConfigName>, AllocError> {
-    let client = client(rt, alloc, "redis://h");
-    let info: &RedisConnectionInfo = &client.get_connection_info().redis;
-    match MultiplexedConnection::new_with_config(alloc, info, 0, config) {
+    match MultiplexedConnection::new_with_config(alloc, &said(None), 0, config) {
         Ok(_) => Ok(None),
         Err(OpenError::Config(name)) => Ok(Some(name)),
         Err(_) => Err(AllocError),
@@ -260,32 +302,76 @@ fn refusal(
 
 #[test]
 fn configurations_are_refused_by_name(rt: HostRuntime) -> Result<(), AllocError> {
-    let alloc = rt.alloc();
     let new = AsyncConnectionConfig::new();
-    let limit = new.set_concurrency_limit(0).set_pipeline_buffer_size(0);
-    assert!(rt; refusal(&rt, alloc, &new)? == None);
-    assert!(rt; refusal(&rt, alloc, &limit)? == Some(ConfigName::Limit));
     let buffer = new.set_pipeline_buffer_size(0);
-    assert!(rt; refusal(&rt, alloc, &buffer)? == Some(ConfigName::Buffer));
+    let limit = buffer.set_concurrency_limit(0);
     let kind = limit.set_push_sender();
-    assert!(rt; refusal(&rt, alloc, &kind)? == Some(ConfigName::Kind));
+    for (config, wanted) in [
+        (new, None),
+        (buffer, Some(ConfigName::Buffer)),
+        (limit, Some(ConfigName::Limit)),
+        (kind, Some(ConfigName::Kind)),
+    ] {
+        assert!(rt; refusal(rt.alloc(), &config)? == wanted);
+    }
     Ok(())
+}
+
+fn client(alloc: Global, url: &str) -> Result<Client, AllocError> {
+    match Client::open(alloc, url) {
+        Ok(client) => Ok(client),
+        Err(_) => Err(AllocError),
+    }
+}
+
+/// The link and the database of a connection to an address, over link 3.
+fn place(alloc: Global, url: &str) -> Result<(u32, i64), AllocError> {
+    let client = client(alloc, url)?;
+    let config = AsyncConnectionConfig::new();
+    let info = client.get_connection_info();
+    let conn = must(MultiplexedConnection::connect_with_config(alloc, info, &config, 3))?;
+    Ok((conn.link(), conn.get_db()))
+}
+
+#[test]
+fn a_connection_is_made_for_an_address(rt: HostRuntime) -> Result<(), AllocError> {
+    assert!(rt; place(rt.alloc(), "redis://h")? == (3, 0));
+    assert!(rt; place(rt.alloc(), "redis://h/4")? == (3, 4));
+    Ok(())
+}
+
+/// The words of a session over a connection to an address, by default or with this configuration.
+fn words(
+    alloc: Global,
+    url: &str,
+    config: Option<AsyncConnectionConfig>,
+) -> Result<Config, AllocError> {
+    let client = client(alloc, url)?;
+    let made = match config {
+        Some(config) => client.get_multiplexed_async_connection_with_config(alloc, &config),
+        None => client.get_multiplexed_async_connection(alloc),
+    };
+    match made {
+        Ok(words) => Ok(words),
+        Err(_) => Err(AllocError),
+    }
+}
+
+/// Whether these are the words of a session: its URL, and the times for its connect and its replies.
+fn are_words(
+    alloc: Global,
+    config: Option<AsyncConnectionConfig>,
+    response: Option<Option<u64>>,
+) -> Result<bool, AllocError> {
+    let words = words(alloc, "redis://h/4", config)?;
+    let url = words.url.as_slice() == b"redis://h:6379/4".as_slice();
+    Ok(url && words.connect == None && words.response == response)
 }
 
 #[test]
 fn a_client_makes_the_words_of_a_session(rt: HostRuntime) -> Result<(), AllocError> {
-    let alloc = rt.alloc();
-    let client = client(&rt, alloc, "redis://h/4");
-    let Ok(plain) = client.get_multiplexed_async_connection(alloc) else {
-        return Err(AllocError);
-    };
-    assert!(rt; plain.url.as_slice() == b"redis://h:6379/4".as_slice());
-    assert!(rt; plain.response == None);
     let config = AsyncConnectionConfig::new().set_response_timeout(None);
-    let Ok(made) = client.get_multiplexed_async_connection_with_config(alloc, &config) else {
-        return Err(AllocError);
-    };
-    assert!(rt; made.response == Some(None));
-    assert!(rt; made.connect == None);
+    assert!(rt; are_words(rt.alloc(), None, None)?);
+    assert!(rt; are_words(rt.alloc(), Some(config), Some(None))?);
     Ok(())
 }

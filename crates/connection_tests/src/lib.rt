@@ -6,6 +6,6 @@ mod clients;
 #[cfg(test)]
 mod connections;
 #[cfg(test)]
-mod setups;
-#[cfg(test)]
 mod threads;
+#[cfg(test)]
+mod turns;

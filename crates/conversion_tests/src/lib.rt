@@ -8,6 +8,8 @@ mod floats;
 #[cfg(test)]
 mod integers;
 #[cfg(test)]
+mod made;
+#[cfg(test)]
 mod moves;
 #[cfg(test)]
 mod scalars;

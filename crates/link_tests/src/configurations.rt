@@ -2,29 +2,12 @@ use connection_info::OpenError;
 use containers::Bytes;
 use driver_model::Config;
 use redis_error::ConfigName;
-use std::alloc::Global;
-use std::test::Fail;
+use std::alloc::{AllocError, Global};
 
-/// What of a configuration with this address, so many permits and this size of the queue is refused first, if anything is.
-fn refused(
-    alloc: Global,
-    url: &[u8],
-    limit: Option<u32>,
-    buffer: Option<u32>,
-) -> Result<Option<ConfigName>, Fail> {
-    let mut config = Config::new(Bytes::from_slice(alloc, url)?);
-    config.limit = limit;
-    config.buffer = buffer;
-    match config.info(alloc) {
-        Ok(_) => Ok(None),
-        Err(OpenError::Config(name)) => Ok(Some(name)),
-        Err(OpenError::Client) => Err(Fail::from("no sender")),
-        Err(OpenError::NoMemory) => Err(Fail::from("no memory")),
-    }
-}
+/// An address with its number of permits and the size of its queue, and with what is refused first, if anything is.
+type Row = (&'static [u8], Option<u32>, Option<u32>, Option<ConfigName>);
 
-/// Addresses, each with its number of permits and the size of its queue, and with what is refused first.
-const REFUSED: [(&[u8], Option<u32>, Option<u32>, Option<ConfigName>); 13] = [
+const REFUSED: [Row; 13] = [
     (b"redis://h", None, None, None),
     (b"redis://h", None, Some(1), None),
     (b"redis://h", None, Some(u32::MAX), None),
@@ -40,42 +23,125 @@ const REFUSED: [(&[u8], Option<u32>, Option<u32>, Option<ConfigName>); 13] = [
     (b"redis://u:p@h/1?protocol=resp3", None, Some(1), None),
 ];
 
+/// A configuration with that address alone.
+fn plain(alloc: Global, url: &[u8]) -> Result<Config, AllocError> {
+    let url = Bytes::from_slice(alloc, url)?;
+    Ok(Config::new(url))
+}
+
+/// A configuration with the address, the permits and the queue of a row.
+fn configured(alloc: Global, row: &Row) -> Result<Config, AllocError> {
+    let mut config = plain(alloc, row.0)?;
+    config.limit = row.1;
+    config.buffer = row.2;
+    Ok(config)
+}
+
+/// Whether this is what is refused first.
+fn is_refusal(error: OpenError, wanted: Option<ConfigName>) -> bool {
+    match error {
+        OpenError::Config(name) => wanted == Some(name),
+        OpenError::Client => false,
+        OpenError::NoMemory => false,
+    }
+}
+
+/// Whether this of a configuration is refused first, or whether it is taken where nothing is to be refused.
+fn is_refused(alloc: Global, config: &Config, wanted: Option<ConfigName>) -> bool {
+    match config.info(alloc) {
+        Ok(_) => wanted.is_none(),
+        Err(error) => is_refusal(error, wanted),
+    }
+}
+
+/// Whether the configuration of a row is refused as the row tells.
+fn is_so(alloc: Global, row: &Row) -> Result<bool, AllocError> {
+    let config = configured(alloc, row)?;
+    Ok(is_refused(alloc, &config, row.3))
+}
+
 #[test]
-fn one_name_is_refused_first(rt: HostRuntime) -> Result<(), Fail> {
-    for (url, limit, buffer, wanted) in REFUSED {
-        let found = refused(rt.alloc(), url, limit, buffer)?;
-        assert!(rt; found == wanted);
+fn one_name_is_refused_first(rt: HostRuntime) -> Result<(), AllocError> {
+    for row in &REFUSED {
+        assert!(rt; is_so(rt.alloc(), row)?);
     }
     Ok(())
 }
 
-#[test]
-fn what_is_not_given_has_a_value(rt: HostRuntime) -> Result<(), Fail> {
-    let alloc = rt.alloc();
-    let config = Config::new(Bytes::from_slice(alloc, b"redis://h")?);
-    assert_eq!(rt; config.url.as_slice(), b"redis://h".as_slice());
-    assert!(rt; config.connect_timeout() == Some(1000));
-    assert!(rt; config.response_timeout() == Some(500));
-    assert!(rt; config.limit == None);
-    assert_eq!(rt; config.buffer_size(), 50);
-    assert_eq!(rt; config.boundary(), 8192);
-    Ok(())
+/// How long a connect and a reply may take, how many permits there are, the size of the queue, the boundary, and
+/// whether the server is told which library speaks.
+type Settings = (
+    Option<u64>,
+    Option<u64>,
+    Option<u32>,
+    u32,
+    u64,
+    Option<bool>,
+);
+
+fn settings(config: &Config) -> Settings {
+    (
+        config.connect_timeout(),
+        config.response_timeout(),
+        config.limit,
+        config.buffer_size(),
+        config.boundary(),
+        config.lib,
+    )
+}
+
+/// Whether a configuration has that address and these settings.
+fn has(config: &Config, url: &[u8], wanted: Settings) -> bool {
+    config.url.as_slice() == url && settings(config) == wanted
+}
+
+const NOTHING_GIVEN: Settings = (Some(1000), Some(500), None, 50, 8192, None);
+
+/// Whether a configuration of which only the address is given has these settings.
+fn plain_has(alloc: Global, wanted: Settings) -> Result<bool, AllocError> {
+    let config = plain(alloc, b"redis://h")?;
+    Ok(has(&config, b"redis://h", wanted))
 }
 
 #[test]
-fn what_is_given_stands_also_in_a_copy(rt: HostRuntime) -> Result<(), Fail> {
-    let alloc = rt.alloc();
-    let mut config = Config::new(Bytes::from_slice(alloc, b"redis://h")?);
+fn what_is_not_given_has_a_value(rt: HostRuntime) -> Result<(), AllocError> {
+    assert!(rt; plain_has(rt.alloc(), NOTHING_GIVEN)?);
+    Ok(())
+}
+
+const ALL_GIVEN: Settings = (Some(5), None, Some(3), 7, 0, Some(false));
+
+/// A configuration of which all is given.
+fn full(alloc: Global) -> Result<Config, AllocError> {
+    let mut config = plain(alloc, b"redis://h")?;
+    config.connect = Some(Some(5));
     config.response = Some(None);
     config.limit = Some(3);
     config.buffer = Some(7);
     config.boundary = Some(0);
     config.lib = Some(false);
+    Ok(config)
+}
+
+/// Whether a copy of a configuration has that address and these settings.
+fn copy_has(
+    alloc: Global,
+    config: &Config,
+    url: &[u8],
+    wanted: Settings,
+) -> Result<bool, AllocError> {
     let copy = config.clone(alloc)?;
-    assert!(rt; copy.response_timeout() == None);
-    assert!(rt; copy.limit == Some(3));
-    assert_eq!(rt; copy.buffer_size(), 7);
-    assert_eq!(rt; copy.boundary(), 0);
-    assert!(rt; copy.lib == Some(false));
+    Ok(has(&copy, url, wanted))
+}
+
+/// Whether a copy of a configuration of which all is given has these settings.
+fn full_copy_has(alloc: Global, wanted: Settings) -> Result<bool, AllocError> {
+    let config = full(alloc)?;
+    copy_has(alloc, &config, b"redis://h", wanted)
+}
+
+#[test]
+fn what_is_given_stands_also_in_a_copy(rt: HostRuntime) -> Result<(), AllocError> {
+    assert!(rt; full_copy_has(rt.alloc(), ALL_GIVEN)?);
     Ok(())
 }

@@ -1,8 +1,7 @@
 use driver_model::{Event, EventKind, Submission};
 use redis_error::FaultKind;
-use resp_write::cmd;
+use resp_write::{Cmd, cmd};
 use std::alloc::{AllocError, Global};
-use std::test::Fail;
 
 /// Whether a submission is a command of two words, and whether its reply is awaited.
 fn is_command(submission: &Submission, awaited: bool) -> bool {
@@ -13,17 +12,28 @@ fn is_command(submission: &Submission, awaited: bool) -> bool {
     }
 }
 
-/// Whether SET a is a submission of that kind.
-fn is_made(alloc: Global, awaited: bool) -> Result<bool, AllocError> {
+/// SET a.
+fn set(alloc: Global, awaited: bool) -> Result<Cmd, AllocError> {
     let mut command = cmd(alloc, b"SET")?;
     command.arg(alloc, b"a")?;
     command.set_no_response(!awaited);
-    let submission = Submission::from_cmd(alloc, &command)?;
+    Ok(command)
+}
+
+/// Whether a command of two words is a submission of that kind.
+fn is_submitted(alloc: Global, command: &Cmd, awaited: bool) -> Result<bool, AllocError> {
+    let submission = Submission::from_cmd(alloc, command)?;
     Ok(is_command(&submission, awaited))
 }
 
+/// Whether SET a is a submission of that kind.
+fn is_made(alloc: Global, awaited: bool) -> Result<bool, AllocError> {
+    let command = set(alloc, awaited)?;
+    is_submitted(alloc, &command, awaited)
+}
+
 #[test]
-fn commands_are_submitted(rt: HostRuntime) -> Result<(), Fail> {
+fn commands_are_submitted(rt: HostRuntime) -> Result<(), AllocError> {
     let alloc = rt.alloc();
     assert!(rt; is_made(alloc, true)?);
     assert!(rt; is_made(alloc, false)?);
@@ -49,30 +59,76 @@ fn seen(event: &Event) -> (&'static str, u32) {
     }
 }
 
+/// An event that is to be made.
+#[derive(Clone, Copy)]
+enum Call {
+    Cancel(u32),
+    Connected(u32),
+    Refused(u32, FaultKind),
+    Wrote(u32, u64),
+    Bytes(u32, &'static [u8]),
+    Ended(u32),
+    ReadFault(u32, FaultKind),
+    WriteFault(u32, FaultKind),
+    Fired(u32),
+    Timeout(Option<u64>),
+    Shutdown,
+}
+
+/// The event that a call makes.
+fn event(alloc: Global, call: Call) -> Result<Event, AllocError> {
+    match call {
+        Call::Cancel(submission) => Ok(Event::cancel(submission)),
+        Call::Connected(link) => Ok(Event::connected(link)),
+        Call::Refused(link, fault) => Ok(Event::refused(link, fault)),
+        Call::Wrote(link, count) => Ok(Event::wrote(link, count)),
+        Call::Bytes(link, piece) => Event::bytes(alloc, link, piece),
+        Call::Ended(link) => Ok(Event::ended(link)),
+        Call::ReadFault(link, fault) => Ok(Event::read_fault(link, fault)),
+        Call::WriteFault(link, fault) => Ok(Event::write_fault(link, fault)),
+        Call::Fired(timer) => Ok(Event::fired(timer)),
+        Call::Timeout(ms) => Ok(Event::timeout(ms)),
+        Call::Shutdown => Ok(Event::shutdown()),
+    }
+}
+
+/// Calls, each with the kind of the event and with its link or submission.
+const EVENTS: [(Call, &str, u32); 12] = [
+    (Call::Cancel(4), "cancel", 4),
+    (Call::Connected(1), "connected", 1),
+    (Call::Refused(6, FaultKind::Refused), "refused", 6),
+    (Call::Wrote(2, 20), "wrote", 2),
+    (Call::Bytes(3, b"+x"), "bytes", 3),
+    (Call::Ended(5), "ended", 5),
+    (Call::ReadFault(6, FaultKind::Reset), "read-fault", 6),
+    (Call::WriteFault(7, FaultKind::Reset), "write-fault", 7),
+    (Call::Fired(8), "fired", 8),
+    (Call::Timeout(Some(9)), "timeout", 1),
+    (Call::Timeout(None), "timeout none", 0),
+    (Call::Shutdown, "shutdown", 0),
+];
+
+/// Whether a call makes an event of that kind, of that link or submission.
+fn makes(alloc: Global, call: Call, kind: &'static str, place: u32) -> Result<bool, AllocError> {
+    let event = event(alloc, call)?;
+    Ok(seen(&event) == (kind, place))
+}
+
 #[test]
-fn events_are_made(rt: HostRuntime) -> Result<(), Fail> {
-    let alloc = rt.alloc();
-    assert_eq!(rt; seen(&Event::cancel(4)), ("cancel", 4));
-    assert_eq!(rt; seen(&Event::connected(1)), ("connected", 1));
-    assert_eq!(rt;
-        seen(&Event::refused(6, FaultKind::Refused)),
-        ("refused", 6)
-    );
-    assert_eq!(rt; seen(&Event::wrote(2, 20)), ("wrote", 2));
-    assert_eq!(rt; seen(&Event::bytes(alloc, 3, b"+x")?), ("bytes", 3));
-    assert_eq!(rt; seen(&Event::ended(5)), ("ended", 5));
-    assert_eq!(rt;
-        seen(&Event::read_fault(6, FaultKind::Reset)),
-        ("read-fault", 6)
-    );
-    assert_eq!(rt;
-        seen(&Event::write_fault(7, FaultKind::Reset)),
-        ("write-fault", 7)
-    );
-    assert_eq!(rt; seen(&Event::fired(8)), ("fired", 8));
-    assert_eq!(rt; seen(&Event::timeout(Some(9))), ("timeout", 1));
-    assert_eq!(rt; seen(&Event::timeout(None)), ("timeout none", 0));
-    assert_eq!(rt; seen(&Event::shutdown()), ("shutdown", 0));
-    assert_eq!(rt; Event::shutdown().with_word(9).word, 9);
+fn events_are_made(rt: HostRuntime) -> Result<(), AllocError> {
+    for row in &EVENTS {
+        assert!(rt; makes(rt.alloc(), row.0, row.1, row.2)?, "{}", row.1);
+    }
     Ok(())
+}
+
+/// The word of an event that has been given one.
+fn word_of_event(word: u64) -> u64 {
+    let event = Event::shutdown().with_word(word);
+    event.word
+}
+
+#[test]
+fn an_event_has_a_word(rt: HostRuntime) {
+    assert_eq!(rt; word_of_event(9), 9);
 }

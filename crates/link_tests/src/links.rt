@@ -1,8 +1,8 @@
 use driver_model::{Shape, Verdict};
-use link_core::{EnqueueError, LinkCore, LinkFault, PushAt, Settled, StartError};
+use link_core::{EnqueueError, LinkCore, LinkFault, PushAt, Settled, StartError, Started};
 use redis_error::{FaultKind, RedisError};
 use resp_read::{ReadError, Reader};
-use resp_value::Value;
+use resp_value::{ServerError, Value};
 use std::alloc::{AllocError, Global};
 use std::process::Abort;
 
@@ -71,26 +71,66 @@ fn put_shape(
     log.extend_from_slice(word.as_bytes())
 }
 
-fn start(alloc: Global, link: &mut LinkCore, log: &mut Vec<u8>) -> Result<(), AllocError> {
-    let mut starts = Vec::new(alloc);
-    match link.start_ready(alloc, &mut starts) {
-        Ok(()) => {}
-        Err(StartError::Spent) => log.extend_from_slice(b"spent; ".as_slice())?,
-        Err(StartError::NoMemory) => return Err(AllocError),
-    }
-    let (count, lack) = (starts.len(), link.open_needs());
-    log.extend_from_slice(format!(in alloc; "starts {count}, open {lack}; ")?.as_bytes())?;
-    for start in &starts {
-        let (msg, id, need, len) = (start.msg, start.id, start.need, start.len);
-        log.extend_from_slice(format!(in alloc; "{msg} {id} {need} {len}; ")?.as_bytes())?;
+/// Appends which message starts: its number, whose it is, how many items it takes, and how many bytes it has.
+fn say_start(alloc: Global, start: &Started, log: &mut Vec<u8>) -> Result<(), AllocError> {
+    let (msg, id, need, len) = (start.msg, start.id, start.need, start.len);
+    let words = format!(in alloc; "{msg} {id} {need} {len}; ")?;
+    say(log, words.as_str())
+}
+
+/// Appends which messages start, and how many items the link lacks.
+fn say_starts(
+    alloc: Global,
+    starts: &[Started],
+    lack: u128,
+    log: &mut Vec<u8>,
+) -> Result<(), AllocError> {
+    let count = starts.len();
+    let words = format!(in alloc; "starts {count}, open {lack}; ")?;
+    say(log, words.as_str())?;
+    for start in starts {
+        say_start(alloc, start, log)?;
     }
     Ok(())
 }
 
+/// Appends that the link is spent, if that is why nothing starts.
+fn say_spent(answer: Result<(), StartError>, log: &mut Vec<u8>) -> Result<(), AllocError> {
+    match answer {
+        Ok(()) => Ok(()),
+        Err(StartError::Spent) => say(log, "spent; "),
+        Err(StartError::NoMemory) => Err(AllocError),
+    }
+}
+
+fn start(alloc: Global, link: &mut LinkCore, log: &mut Vec<u8>) -> Result<(), AllocError> {
+    let mut starts = Vec::new(alloc);
+    let answer = link.start_ready(alloc, &mut starts);
+    say_spent(answer, log)?;
+    say_starts(alloc, starts.as_slice(), link.open_needs(), log)
+}
+
+/// Appends words.
+fn say(log: &mut Vec<u8>, words: &str) -> Result<(), AllocError> {
+    log.extend_from_slice(words.as_bytes())
+}
+
+/// Appends a number between words.
+fn say_number(
+    alloc: Global,
+    log: &mut Vec<u8>,
+    before: &str,
+    number: i128,
+    behind: &str,
+) -> Result<(), AllocError> {
+    let words = format!(in alloc; "{before}{number}{behind}")?;
+    say(log, words.as_str())
+}
+
 fn first(alloc: Global, link: &LinkCore, log: &mut Vec<u8>) -> Result<(), AllocError> {
     match link.first_queued() {
-        Some(id) => log.extend_from_slice(format!(in alloc; "next {id}; ")?.as_bytes()),
-        None => log.extend_from_slice(b"nobody next; ".as_slice()),
+        Some(id) => say_number(alloc, log, "next ", i128::from(id), "; "),
+        None => say(log, "nobody next; "),
     }
 }
 
@@ -115,28 +155,42 @@ fn wrote(
 
 fn describe_value(alloc: Global, value: &Value, log: &mut Vec<u8>) -> Result<(), AllocError> {
     match value {
-        Value::Int(n) => log.extend_from_slice(format!(in alloc; "{n}")?.as_bytes()),
-        Value::Okay => log.extend_from_slice(b"okay".as_slice()),
-        Value::ServerError(_) => log.extend_from_slice(b"error".as_slice()),
-        _ => log.extend_from_slice(b"other".as_slice()),
+        Value::Int(n) => say_number(alloc, log, "", i128::from(*n), ""),
+        Value::Okay => say(log, "okay"),
+        Value::ServerError(_) => say(log, "error"),
+        _ => say(log, "other"),
     }
 }
 
-fn describe_fault(alloc: Global, error: &RedisError, log: &mut Vec<u8>) -> Result<(), AllocError> {
+/// The name of an error.
+fn name(error: &RedisError) -> &'static str {
     match error {
-        RedisError::Closed => log.extend_from_slice(b"closed".as_slice()),
-        RedisError::Parse => log.extend_from_slice(b"parse".as_slice()),
-        RedisError::Io { fault } => log.extend_from_slice(fault.name().as_bytes()),
-        RedisError::Server(_) => log.extend_from_slice(b"server".as_slice()),
-        RedisError::Aborted { errors } => {
-            log.extend_from_slice(b"aborted".as_slice())?;
-            for refused in errors.as_slice() {
-                let position = refused.0;
-                log.extend_from_slice(format!(in alloc; " {position}")?.as_bytes())?;
-            }
-            Ok(())
-        }
-        _ => log.extend_from_slice(b"fault".as_slice()),
+        RedisError::Closed => "closed",
+        RedisError::Parse => "parse",
+        RedisError::Io { fault } => fault.name(),
+        RedisError::Server(_) => "server",
+        RedisError::Aborted { .. } => "aborted",
+        _ => "fault",
+    }
+}
+
+/// Appends the places of the refused commands of a transaction.
+fn say_places(
+    alloc: Global,
+    refused: &[(u32, ServerError)],
+    log: &mut Vec<u8>,
+) -> Result<(), AllocError> {
+    for row in refused {
+        say_number(alloc, log, " ", i128::from(row.0), "")?;
+    }
+    Ok(())
+}
+
+fn describe_fault(alloc: Global, error: &RedisError, log: &mut Vec<u8>) -> Result<(), AllocError> {
+    say(log, name(error))?;
+    match error {
+        RedisError::Aborted { errors } => say_places(alloc, errors.as_slice(), log),
+        _ => Ok(()),
     }
 }
 
@@ -519,15 +573,40 @@ fn takes_message(alloc: Global, packed: &[u8]) -> bool {
     }
 }
 
+/// Whether a link takes a message that long.
+fn takes_long(alloc: Global, len: usize) -> Result<bool, AllocError> {
+    let text = vec![in alloc; b'x'; len]?;
+    Ok(takes_message(alloc, text.as_slice()))
+}
+
+fn frame(piece: &mut Vec<u8>, text: &[u8]) -> Result<(), AllocError> {
+    say(piece, "$1048576\r\n")?;
+    piece.extend_from_slice(text)?;
+    say(piece, "\r\n")
+}
+
+/// The bytes in which a text of a megabyte comes.
+fn framed(alloc: Global, text: &[u8]) -> Result<Vec<u8>, AllocError> {
+    let mut piece = Vec::new(alloc);
+    frame(&mut piece, text)?;
+    Ok(piece)
+}
+
+/// Whether this text of a megabyte is read.
+fn reads(alloc: Global, text: &[u8]) -> Result<bool, AllocError> {
+    let piece = framed(alloc, text)?;
+    reads_text(alloc, piece.as_slice(), LONG)
+}
+
+/// Whether a text of a megabyte is read.
+fn reads_long(alloc: Global) -> Result<bool, AllocError> {
+    let text = vec![in alloc; b'x'; LONG]?;
+    reads(alloc, text.as_slice())
+}
+
 #[test]
 fn a_megabyte_comes_through(rt: HostRuntime) -> Result<(), AllocError> {
-    let alloc = rt.alloc();
-    let text = vec![in alloc; b'x'; LONG]?;
-    assert!(rt; takes_message(alloc, text.as_slice()));
-    let mut piece = Vec::new(alloc);
-    piece.extend_from_slice(b"$1048576\r\n".as_slice())?;
-    piece.extend_from_slice(text.as_slice())?;
-    piece.extend_from_slice(b"\r\n".as_slice())?;
-    assert!(rt; reads_text(alloc, piece.as_slice(), LONG)?);
+    assert!(rt; takes_long(rt.alloc(), LONG)?);
+    assert!(rt; reads_long(rt.alloc())?);
     Ok(())
 }

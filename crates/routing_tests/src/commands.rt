@@ -251,16 +251,35 @@ fn is_wanted(got: &Option<RoutingInfo>, want: Want) -> bool {
     }
 }
 
+/// Where the command of a text goes.
+fn routing(alloc: Global, text: &str) -> Result<Option<RoutingInfo>, AllocError> {
+    let cmd = command(alloc, text)?;
+    RoutingInfo::for_routable(alloc, &cmd)
+}
+
+/// Whether the command of a text goes where it is wanted to go.
+fn goes(alloc: Global, text: &str, want: Want) -> Result<bool, AllocError> {
+    let got = routing(alloc, text)?;
+    Ok(is_wanted(&got, want))
+}
+
 #[test]
 fn each_line_of_the_table_has_its_route(rt: HostRuntime) -> Result<(), AllocError> {
-    let alloc = rt.alloc();
     for row in &ROWS {
-        let cmd = command(alloc, row.0)?;
-        let got = RoutingInfo::for_routable(alloc, &cmd)?;
-        assert!(rt; is_wanted(&got, row.1), "{}", row.0);
+        assert!(rt; goes(rt.alloc(), row.0, row.1)?, "{}", row.0);
     }
-    let none = RoutingInfo::for_routable(alloc, &Cmd::new(alloc))?;
-    assert!(rt; none.is_none());
+    Ok(())
+}
+
+/// Whether a text has no route.
+fn goes_nowhere(alloc: Global, text: &str) -> Result<bool, AllocError> {
+    let got = routing(alloc, text)?;
+    Ok(got.is_none())
+}
+
+#[test]
+fn no_command_has_no_route(rt: HostRuntime) -> Result<(), AllocError> {
+    assert!(rt; goes_nowhere(rt.alloc(), "")?);
     Ok(())
 }
 
@@ -284,15 +303,16 @@ fn is_split(got: &Option<RoutingInfo>) -> bool {
     }
 }
 
+/// Whether the keys of a command are split.
+fn splits(alloc: Global, text: &str) -> Result<bool, AllocError> {
+    let got = routing(alloc, text)?;
+    Ok(is_split(&got))
+}
+
 #[test]
 fn keys_are_split_by_their_slots(rt: HostRuntime) -> Result<(), AllocError> {
-    let alloc = rt.alloc();
-    let cmd = command(alloc, "MGET foo baz {foo}bar {baz}x")?;
-    let got = RoutingInfo::for_routable(alloc, &cmd)?;
-    assert!(rt; is_split(&got));
-    let cmd = command(alloc, "MSET foo 1 baz 2 {foo}bar 3 {baz}x 4")?;
-    let got = RoutingInfo::for_routable(alloc, &cmd)?;
-    assert!(rt; is_split(&got));
+    assert!(rt; splits(rt.alloc(), "MGET foo baz {foo}bar {baz}x")?);
+    assert!(rt; splits(rt.alloc(), "MSET foo 1 baz 2 {foo}bar 3 {baz}x 4")?);
     Ok(())
 }
 
@@ -350,20 +370,43 @@ fn are_within(count: usize, indices: &[u32]) -> bool
     indices.iter().all(|i| (*i as usize) < count)
 }
 
-fn is_command(alloc: Global, cmd: &Cmd, text: &str) -> Result<bool, AllocError> {
+/// Whether the command of a text has these bytes.
+fn has_bytes(alloc: Global, text: &str, bytes: &[u8]) -> Result<bool, AllocError> {
     let wanted = command(alloc, text)?;
-    Ok(cmd.get_packed_command(alloc)?.as_slice() == wanted.get_packed_command(alloc)?.as_slice())
+    Ok(wanted.get_packed_command(alloc)?.as_slice() == bytes)
 }
 
-/// Whether the command of these keys is that one.
-fn is_selected(alloc: Global, row: &(&str, &[u32], &str)) -> Result<bool, AllocError> {
-    let cmd = command(alloc, row.0)?;
-    let indices = KeyIndices::from_vec(Vec::from_slice(alloc, row.1)?).clone(alloc)?;
-    if !may_be_several(&cmd) || !are_within(key_count(&cmd), indices.as_slice()) {
+/// Whether a command and the command of a text have the same bytes.
+fn is_command(alloc: Global, cmd: &Cmd, text: &str) -> Result<bool, AllocError> {
+    let packed = cmd.get_packed_command(alloc)?;
+    has_bytes(alloc, text, packed.as_slice())
+}
+
+/// A copy of these places.
+fn places(alloc: Global, indices: &[u32]) -> Result<KeyIndices, AllocError> {
+    let indices = KeyIndices::from_vec(Vec::from_slice(alloc, indices)?);
+    indices.clone(alloc)
+}
+
+/// Whether the command of the keys at these places is that one.
+fn selects(
+    alloc: Global,
+    cmd: &Cmd,
+    indices: &KeyIndices,
+    wanted: &str,
+) -> Result<bool, AllocError> {
+    if !may_be_several(cmd) || !are_within(key_count(cmd), indices.as_slice()) {
         return Ok(false);
     }
-    let part = command_for_multi_slot_indices(alloc, &cmd, &indices)?;
-    is_command(alloc, &part, row.2)
+    let part = command_for_multi_slot_indices(alloc, cmd, indices)?;
+    is_command(alloc, &part, wanted)
+}
+
+/// Whether the command of the keys of a row is the row's.
+fn is_selected(alloc: Global, row: &(&str, &[u32], &str)) -> Result<bool, AllocError> {
+    let cmd = command(alloc, row.0)?;
+    let indices = places(alloc, row.1)?;
+    selects(alloc, &cmd, &indices, row.2)
 }
 
 #[test]

@@ -10,6 +10,18 @@ fn command(alloc: Global, text: &str) -> Result<Cmd, AllocError> {
     Ok(cmd)
 }
 
+/// Whether a command and the command of that text have the same bytes.
+fn is_command(alloc: Global, part: &Cmd, text: &str) -> Result<bool, AllocError> {
+    let packed = part.get_packed_command(alloc)?;
+    has_bytes(alloc, text, packed.as_slice())
+}
+
+/// Whether the command of that text has these bytes.
+fn has_bytes(alloc: Global, text: &str, bytes: &[u8]) -> Result<bool, AllocError> {
+    let wanted = command(alloc, text)?;
+    Ok(wanted.get_packed_command(alloc)?.as_slice() == bytes)
+}
+
 /// Whether a command's part of place `k` is the wanted one; without a wanted one, whether there is none.
 fn is_part(
     alloc: Global,
@@ -18,13 +30,29 @@ fn is_part(
     k: usize,
     wanted: Option<&str>,
 ) -> Result<bool, AllocError> {
-    let part = parts.command(alloc, cmd, k)?;
-    let (Some(part), Some(wanted)) = (&part, wanted) else {
-        return Ok(part.is_none() && wanted.is_none());
-    };
-    let packed = part.get_packed_command(alloc)?;
-    let expected = command(alloc, wanted)?.get_packed_command(alloc)?;
-    Ok(packed.as_slice() == expected.as_slice())
+    match (parts.command(alloc, cmd, k)?, wanted) {
+        (Some(part), Some(wanted)) => is_command(alloc, &part, wanted),
+        (None, None) => Ok(true),
+        _ => Ok(false),
+    }
+}
+
+/// Whether these parts give that part of the command of a text.
+fn give(
+    alloc: Global,
+    parts: &SlotParts,
+    text: &str,
+    k: usize,
+    wanted: Option<&str>,
+) -> Result<bool, AllocError> {
+    let cmd = command(alloc, text)?;
+    is_part(alloc, &cmd, parts, k, wanted)
+}
+
+/// Where the command of a text goes.
+fn routing(alloc: Global, text: &str) -> Result<Option<RoutingInfo>, AllocError> {
+    let cmd = command(alloc, text)?;
+    RoutingInfo::for_routable(alloc, &cmd)
 }
 
 /// Whether the parts of one command's route give that part of another command.
@@ -35,13 +63,12 @@ fn gives(
     k: usize,
     wanted: Option<&str>,
 ) -> Result<bool, AllocError> {
-    let cmd = command(alloc, text)?;
-    let routing = RoutingInfo::for_routable(alloc, &cmd)?;
-    let Some(RoutingInfo::MultiNode(MultipleNodeRoutingInfo::MultiSlot(parts), _)) = &routing else {
-        return Ok(false);
-    };
-    let other = command(alloc, other)?;
-    is_part(alloc, &other, parts, k, wanted)
+    match &routing(alloc, text)? {
+        Some(RoutingInfo::MultiNode(MultipleNodeRoutingInfo::MultiSlot(parts), _)) => {
+            give(alloc, parts, other, k, wanted)
+        }
+        _ => Ok(false),
+    }
 }
 
 const MGET: &str = "MGET foo baz {foo}bar";

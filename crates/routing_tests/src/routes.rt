@@ -120,30 +120,85 @@ fn is_told(got: &Result<SlotRows, SlotsError>, port: i64, want: Told) -> bool {
     }
 }
 
+/// A reply with one row of one node.
+fn row_reply(
+    alloc: Global,
+    start: i64,
+    end: i64,
+    host: Host,
+    port: i64,
+) -> Result<Value, AllocError> {
+    let row = row(alloc, start, end, &[host], port)?;
+    only(alloc, row)
+}
+
+/// Whether the reply of a case tells what the case wants.
+fn tells(alloc: Global, case: &(i64, i64, Host, i64, Told)) -> Result<bool, AllocError> {
+    let reply = row_reply(alloc, case.0, case.1, case.2, case.3)?;
+    let got = parse_slots(alloc, &reply, b"answer.host");
+    Ok(is_told(&got, case.3, case.4))
+}
+
 #[test]
-fn rows_are_told(rt: HostRuntime) -> Result<(), Fail> {
-    let alloc = rt.alloc();
+fn rows_are_told(rt: HostRuntime) -> Result<(), AllocError> {
     for case in &ROWS {
-        let reply = only(alloc, row(alloc, case.0, case.1, &[case.2], case.3)?)?;
-        let got = parse_slots(alloc, &reply, b"answer.host");
-        assert!(rt; is_told(&got, case.3, case.4));
+        assert!(rt; tells(rt.alloc(), case)?);
     }
     Ok(())
 }
 
-fn is_refused(alloc: Global, reply: Value) -> bool {
-    matches!(parse_slots(alloc, &reply, b"h"), Err(SlotsError::Parse))
+/// Replies of other shapes.
+#[derive(Clone, Copy)]
+enum Odd {
+    Nil,
+    Okay,
+    ListOfNumber,
+    RowAlone,
+    RowWithoutNode,
+}
+
+fn odd_reply(alloc: Global, odd: Odd) -> Result<Value, AllocError> {
+    match odd {
+        Odd::Nil => Ok(Value::Nil),
+        Odd::Okay => Ok(Value::Okay),
+        Odd::ListOfNumber => only(alloc, Value::Int(0)),
+        Odd::RowAlone => row(alloc, 0, 1, &[Host::Nil], 1),
+        Odd::RowWithoutNode => only(alloc, row(alloc, 0, 1, &[], 1)?),
+    }
+}
+
+/// Whether a reply of another shape is refused.
+fn is_refused(alloc: Global, odd: Odd) -> Result<bool, AllocError> {
+    let reply = odd_reply(alloc, odd)?;
+    Ok(matches!(parse_slots(alloc, &reply, b"h"), Err(SlotsError::Parse)))
+}
+
+const ODD: [Odd; 5] = [
+    Odd::Nil,
+    Odd::Okay,
+    Odd::ListOfNumber,
+    Odd::RowAlone,
+    Odd::RowWithoutNode,
+];
+
+#[test]
+fn other_shapes_are_refused(rt: HostRuntime) -> Result<(), AllocError> {
+    for odd in ODD {
+        assert!(rt; is_refused(rt.alloc(), odd)?);
+    }
+    Ok(())
+}
+
+/// How many rows an empty list has.
+fn rows_of_nothing(alloc: Global) -> Result<usize, SlotsError> {
+    let reply = Value::Array(Values::new(alloc));
+    let rows = parse_slots(alloc, &reply, b"h")?;
+    Ok(rows.len())
 }
 
 #[test]
-fn other_shapes_are_refused(rt: HostRuntime) -> Result<(), Fail> {
-    let alloc = rt.alloc();
-    assert!(rt; is_refused(alloc, Value::Nil));
-    assert!(rt; is_refused(alloc, Value::Okay));
-    assert!(rt; is_refused(alloc, only(alloc, Value::Int(0))?));
-    assert!(rt; is_refused(alloc, row(alloc, 0, 1, &[Host::Nil], 1)?));
-    assert!(rt; is_refused(alloc, only(alloc, row(alloc, 0, 1, &[], 1)?)?));
-    assert!(rt; parse_slots(alloc, &Value::Array(Values::new(alloc)), b"h")?.is_empty());
+fn an_empty_list_has_no_rows(rt: HostRuntime) -> Result<(), Fail> {
+    assert_eq!(rt; rows_of_nothing(rt.alloc())?, 0);
     Ok(())
 }
 
@@ -154,14 +209,22 @@ fn has_one_node(rows: &SlotRows) -> bool {
     }
 }
 
+/// A reply with one row, whose replica is not known.
+fn unknown_replica(alloc: Global) -> Result<Value, AllocError> {
+    let row = row(alloc, 5, 5, &[Host::Bulk(b"h"), Host::Bulk(b"?")], 1)?;
+    only(alloc, row)
+}
+
+/// Whether an unknown replica is left out.
+fn leaves_out(alloc: Global) -> Result<bool, SlotsError> {
+    let reply = unknown_replica(alloc)?;
+    let rows = parse_slots(alloc, &reply, b"answer.host")?;
+    Ok(has_one_node(&rows))
+}
+
 #[test]
 fn an_unknown_replica_is_left_out(rt: HostRuntime) -> Result<(), Fail> {
-    let alloc = rt.alloc();
-    let reply = only(
-        alloc,
-        row(alloc, 5, 5, &[Host::Bulk(b"h"), Host::Bulk(b"?")], 1)?,
-    )?;
-    assert!(rt; has_one_node(&parse_slots(alloc, &reply, b"answer.host")?));
+    assert!(rt; leaves_out(rt.alloc())?);
     Ok(())
 }
 
@@ -188,11 +251,14 @@ fn map_reply(alloc: Global) -> Result<Value, AllocError> {
     Ok(Value::Array(rows))
 }
 
-fn map(alloc: Global) -> Result<SlotMap, SlotsError> {
+fn map_rows(alloc: Global) -> Result<SlotRows, SlotsError> {
     let reply = map_reply(alloc)?;
-    let rows = parse_slots(alloc, &reply, b"h")?;
-    let map = SlotMap::from_rows(alloc, &rows)?;
-    Ok(map)
+    parse_slots(alloc, &reply, b"h")
+}
+
+fn map(alloc: Global) -> Result<SlotMap, SlotsError> {
+    let rows = map_rows(alloc)?;
+    Ok(SlotMap::from_rows(alloc, &rows)?)
 }
 
 /// Slots with the host of the primary.
@@ -216,17 +282,43 @@ fn primary_host(map: &SlotMap, slot: u16) -> Option<&[u8]>
     Some(map.address(i).host.as_slice())
 }
 
+/// Whether a slot has that primary.
+fn has_primary_host(alloc: Global, slot: u16, host: Option<&[u8]>) -> Result<bool, SlotsError>
+    requires { slot < 2 ^ 14 }
+{
+    let map = map(alloc)?;
+    Ok(primary_host(&map, slot) == host)
+}
+
 #[test]
 fn slots_are_of_the_last_row(rt: HostRuntime) -> Result<(), Fail> {
-    let alloc = rt.alloc();
-    let map = map(alloc)?;
     for row in &PRIMARIES {
         if row.0 < 16_384 {
-            assert!(rt; primary_host(&map, row.0) == row.1);
+            assert!(rt; has_primary_host(rt.alloc(), row.0, row.1)?);
         }
     }
-    assert_eq!(rt; map.nodes(alloc)?.as_slice(), [0u32, 1, 2, 3, 4].as_slice());
-    assert_eq!(rt; map.primaries(alloc)?.as_slice(), [0u32, 1, 2].as_slice());
+    Ok(())
+}
+
+fn are_nodes(alloc: Global, map: &SlotMap, wanted: &[u32]) -> Result<bool, AllocError> {
+    let nodes = map.nodes(alloc)?;
+    Ok(nodes.as_slice() == wanted)
+}
+
+fn are_primaries(alloc: Global, map: &SlotMap, wanted: &[u32]) -> Result<bool, AllocError> {
+    let primaries = map.primaries(alloc)?;
+    Ok(primaries.as_slice() == wanted)
+}
+
+/// Whether the map has these nodes, and these primaries among them.
+fn has_nodes(alloc: Global, nodes: &[u32], primaries: &[u32]) -> Result<bool, SlotsError> {
+    let map = map(alloc)?;
+    Ok(are_nodes(alloc, &map, nodes)? && are_primaries(alloc, &map, primaries)?)
+}
+
+#[test]
+fn primaries_are_among_the_nodes(rt: HostRuntime) -> Result<(), Fail> {
+    assert!(rt; has_nodes(rt.alloc(), &[0, 1, 2, 3, 4], &[0, 1, 2])?);
     Ok(())
 }
 
@@ -252,40 +344,132 @@ fn route(addr: SlotAddr) -> Route
     Route { slot: 1500, addr }
 }
 
-/// The places 2 to 4 are those of node2, replica2 and replica3.
+/// Who picks.
+#[derive(Clone, Copy)]
+enum Picker {
+    Nobody,
+    First,
+    Given(ReadStrategy),
+}
+
+/// The place to which a route leads with this draw. The places 2 to 4 are those of node2, replica2 and replica3.
+fn place(map: &SlotMap, addr: SlotAddr, picker: Picker, draw: u64) -> Option<u32> {
+    let route = route(addr);
+    match picker {
+        Picker::Nobody => map.slot_addr_for_route(route, &mut None::<ReadStrategy>, draw),
+        Picker::First => map.slot_addr_for_route(route, &mut Some(FirstReplica), draw),
+        Picker::Given(strategy) => map.slot_addr_for_route(route, &mut Some(strategy), draw),
+    }
+}
+
+fn place_of(
+    alloc: Global,
+    addr: SlotAddr,
+    picker: Picker,
+    draw: u64,
+) -> Result<Option<u32>, SlotsError> {
+    let map = map(alloc)?;
+    Ok(place(&map, addr, picker, draw))
+}
+
+const TURNS: Picker = Picker::Given(ReadStrategy::RoundRobin { next: 0 });
+
+/// Who picks for a route with which draw, and the place.
+const PICKS: [(SlotAddr, Picker, u64, u32); 6] = [
+    (SlotAddr::ReplicaOptional, Picker::Nobody, 0, 2),
+    (SlotAddr::ReplicaRequired, Picker::Nobody, 0, 3),
+    (SlotAddr::ReplicaOptional, Picker::First, 1, 3),
+    (
+        SlotAddr::ReplicaOptional,
+        Picker::Given(ReadStrategy::Random),
+        7,
+        4,
+    ),
+    (SlotAddr::ReplicaOptional, TURNS, 7, 3),
+    (SlotAddr::Master, TURNS, 7, 2),
+];
+
 #[test]
 fn replicas_are_picked(rt: HostRuntime) -> Result<(), Fail> {
-    let alloc = rt.alloc();
-    let map = map(alloc)?;
-    let optional = route(SlotAddr::ReplicaOptional);
-    let required = route(SlotAddr::ReplicaRequired);
-    let mut none: Option<ReadStrategy> = None;
-    assert!(rt; map.slot_addr_for_route(optional, &mut none, 0) == Some(2));
-    assert!(rt; map.slot_addr_for_route(required, &mut none, 0) == Some(3));
-    assert!(rt; map.slot_addr_for_route(optional, &mut Some(FirstReplica), 1) == Some(3));
-    let mut random = Some(ReadStrategy::Random);
-    assert!(rt; map.slot_addr_for_route(optional, &mut random, 7) == Some(4));
-    let mut turns = Some(ReadStrategy::RoundRobin { next: 0 });
-    assert!(rt; map.slot_addr_for_route(optional, &mut turns, 7) == Some(3));
-    assert!(rt; map.slot_addr_for_route(route(SlotAddr::Master), &mut turns, 7) == Some(2));
-    assert!(rt; map.slot_addr_for_route(required, &mut turns, 7) == Some(4));
-    assert!(rt; map.slot_addr_for_route(required, &mut turns, 7) == Some(3));
+    for row in &PICKS {
+        assert!(rt; place_of(rt.alloc(), row.0, row.1, row.2)? == Some(row.3));
+    }
     Ok(())
+}
+
+/// The places to which two routes lead, one after the other, where replicas are picked in turn from this one on.
+fn turns(map: &SlotMap, next: u32, one: SlotAddr, two: SlotAddr) -> (Option<u32>, Option<u32>) {
+    let mut turns = Some(ReadStrategy::RoundRobin { next });
+    let first = map.slot_addr_for_route(route(one), &mut turns, 7);
+    let second = map.slot_addr_for_route(route(two), &mut turns, 7);
+    (first, second)
+}
+
+fn turns_of(
+    alloc: Global,
+    next: u32,
+    one: SlotAddr,
+    two: SlotAddr,
+) -> Result<(Option<u32>, Option<u32>), SlotsError> {
+    let map = map(alloc)?;
+    Ok(turns(&map, next, one, two))
+}
+
+/// Whose turn it is, two routes, and their places: a route to the primary takes no turn.
+const TAKEN: [(u32, SlotAddr, SlotAddr, u32, u32); 3] = [
+    (
+        0,
+        SlotAddr::ReplicaOptional,
+        SlotAddr::ReplicaRequired,
+        3,
+        4,
+    ),
+    (0, SlotAddr::Master, SlotAddr::ReplicaRequired, 2, 3),
+    (
+        1,
+        SlotAddr::ReplicaRequired,
+        SlotAddr::ReplicaRequired,
+        4,
+        3,
+    ),
+];
+
+#[test]
+fn replicas_take_turns(rt: HostRuntime) -> Result<(), Fail> {
+    for row in &TAKEN {
+        let found = turns_of(rt.alloc(), row.0, row.1, row.2)?;
+        assert!(rt; found == (Some(row.3), Some(row.4)));
+    }
+    Ok(())
+}
+
+fn are_fallbacks(
+    alloc: Global,
+    map: &SlotMap,
+    route: Route,
+    wanted: &[u32],
+) -> Result<bool, AllocError>
+    requires { route.slot < 2 ^ 14 }
+{
+    let fallbacks = map.shard_fallback_addrs(alloc, route)?;
+    Ok(fallbacks.as_slice() == wanted)
+}
+
+/// Whether these are the places that stand in for that of a route.
+fn stand_in(alloc: Global, slot: u16, addr: SlotAddr, wanted: &[u32]) -> Result<bool, SlotsError>
+    requires { slot < 2 ^ 14 }
+{
+    let map = map(alloc)?;
+    Ok(are_fallbacks(alloc, &map, Route { slot, addr }, wanted)?)
 }
 
 #[test]
 fn replicas_stand_in(rt: HostRuntime) -> Result<(), Fail> {
     let alloc = rt.alloc();
-    let map = map(alloc)?;
-    let fallbacks = map.shard_fallback_addrs(alloc, route(SlotAddr::ReplicaOptional))?;
-    assert_eq!(rt; fallbacks.as_slice(), [3u32, 4, 2].as_slice());
-    let fallbacks = map.shard_fallback_addrs(alloc, route(SlotAddr::ReplicaRequired))?;
-    assert_eq!(rt; fallbacks.as_slice(), [3u32, 4].as_slice());
-    let fallbacks = map.shard_fallback_addrs(alloc, route(SlotAddr::Master))?;
-    assert!(rt; fallbacks.is_empty());
-    let addr = SlotAddr::ReplicaOptional;
-    let fallbacks = map.shard_fallback_addrs(alloc, Route { slot: 1001, addr })?;
-    assert!(rt; fallbacks.is_empty());
+    assert!(rt; stand_in(alloc, 1500, SlotAddr::ReplicaOptional, &[3, 4, 2])?);
+    assert!(rt; stand_in(alloc, 1500, SlotAddr::ReplicaRequired, &[3, 4])?);
+    assert!(rt; stand_in(alloc, 1500, SlotAddr::Master, &[])?);
+    assert!(rt; stand_in(alloc, 1001, SlotAddr::ReplicaOptional, &[])?);
     Ok(())
 }
 
@@ -348,13 +532,17 @@ fn is_agreed(got: &Result<Option<Route>, RouteError>, want: Agreed) -> bool {
     }
 }
 
+/// Whether the commands of a text agree on that.
+fn agrees(alloc: Global, text: &str, want: Agreed) -> Result<bool, AllocError> {
+    let pipeline = pipeline(alloc, text)?;
+    let got = route_for_pipeline(alloc, &pipeline, 16_389);
+    Ok(is_agreed(&got, want))
+}
+
 #[test]
-fn pipelines_have_routes(rt: HostRuntime) -> Result<(), Fail> {
-    let alloc = rt.alloc();
+fn pipelines_have_routes(rt: HostRuntime) -> Result<(), AllocError> {
     for row in &PIPELINES {
-        let pipeline = pipeline(alloc, row.0)?;
-        let got = route_for_pipeline(alloc, &pipeline, 16_389);
-        assert!(rt; is_agreed(&got, row.1), "{}", row.0);
+        assert!(rt; agrees(rt.alloc(), row.0, row.1)?, "{}", row.0);
     }
     Ok(())
 }
@@ -380,16 +568,42 @@ fn host_of(map: &SlotMap, slot: u16, addr: SlotAddr) -> Option<&[u8]> {
     Some(node.host.as_slice())
 }
 
+/// Whether a route leads to that host.
+fn leads(
+    alloc: Global,
+    slot: u16,
+    addr: SlotAddr,
+    host: Option<&[u8]>,
+) -> Result<bool, SlotsError> {
+    let map = map(alloc)?;
+    Ok(host_of(&map, slot, addr) == host)
+}
+
 #[test]
-fn routes_have_addresses(rt: HostRuntime) -> Result<(), Fail> {
-    let map = map(rt.alloc())?;
+fn routes_to_primaries_have_addresses(rt: HostRuntime) -> Result<(), Fail> {
     for row in &PRIMARIES {
-        assert!(rt; host_of(&map, row.0, SlotAddr::Master) == row.1);
+        assert!(rt; leads(rt.alloc(), row.0, SlotAddr::Master, row.1)?);
     }
-    let replica = host_of(&map, 1500, SlotAddr::ReplicaRequired);
-    assert!(rt; replica == Some(b"replica2".as_slice()));
-    assert!(rt; host_of(&map, 16_384, SlotAddr::Master).is_none());
-    assert!(rt; map.get(0).is_some());
-    assert!(rt; map.get(5).is_none());
+    Ok(())
+}
+
+#[test]
+fn other_routes_have_addresses(rt: HostRuntime) -> Result<(), Fail> {
+    let alloc = rt.alloc();
+    assert!(rt; leads(alloc, 1500, SlotAddr::ReplicaRequired, Some(b"replica2"))?);
+    assert!(rt; leads(alloc, 16_384, SlotAddr::Master, None)?);
+    Ok(())
+}
+
+/// Whether the map has an address of that number.
+fn has_address(alloc: Global, number: u32) -> Result<bool, SlotsError> {
+    let map = map(alloc)?;
+    Ok(map.get(number).is_some())
+}
+
+#[test]
+fn addresses_have_numbers(rt: HostRuntime) -> Result<(), Fail> {
+    assert!(rt; has_address(rt.alloc(), 0)?);
+    assert!(rt; !has_address(rt.alloc(), 5)?);
     Ok(())
 }

@@ -22,9 +22,20 @@ fn keys_have_slots(rt: HostRuntime) {
     for row in &SLOTS {
         assert_eq!(rt; key_slot(row.0), row.1);
     }
-    assert_eq!(rt; key_slot(b"a}b{c}d"), key_slot(b"c"));
-    assert_eq!(rt; key_slot(b"foo{bar}{zap}"), key_slot(b"bar"));
-    assert_eq!(rt; key_slot(b"foo{{bar}}zap"), key_slot(b"{bar"));
+}
+
+/// Keys, each with the key of its hash tag.
+const TAGS: [(&[u8], &[u8]); 3] = [
+    (b"a}b{c}d", b"c"),
+    (b"foo{bar}{zap}", b"bar"),
+    (b"foo{{bar}}zap", b"{bar"),
+];
+
+#[test]
+fn keys_have_the_slots_of_their_tags(rt: HostRuntime) {
+    for row in &TAGS {
+        assert_eq!(rt; key_slot(row.0), key_slot(row.1));
+    }
 }
 
 /// Texts with the host and the port of the address that they are, or nothing.
@@ -50,24 +61,51 @@ const ADDRESSES: [(&[u8], Option<(&[u8], u16)>); 16] = [
     (b"\xFF:1", None),
 ];
 
-fn is_answer(got: &Result<NodeAddress, AddressError>, wanted: &Option<(&[u8], u16)>) -> bool {
-    match (got, wanted) {
-        (Ok(address), Some(parts)) => address.host.as_slice() == parts.0 && address.port == parts.1,
-        (Err(AddressError::Invalid), None) => true,
-        _ => false,
+fn is_address(address: &NodeAddress, wanted: &(&[u8], u16)) -> bool {
+    address.host.as_slice() == wanted.0 && address.port == wanted.1
+}
+
+/// Whether a copy of an address has that host and that port.
+fn copy_is_address(
+    alloc: Global,
+    address: &NodeAddress,
+    wanted: &(&[u8], u16),
+) -> Result<bool, AllocError> {
+    let copy = address.clone(alloc)?;
+    Ok(is_address(&copy, wanted))
+}
+
+/// Whether an address and its copy have that host and that port.
+fn are_addresses(
+    alloc: Global,
+    address: &NodeAddress,
+    wanted: &Option<(&[u8], u16)>,
+) -> Result<bool, AllocError> {
+    match wanted {
+        Some(wanted) => {
+            let same = is_address(address, wanted);
+            Ok(copy_is_address(alloc, address, wanted)? && same)
+        }
+        None => Ok(false),
+    }
+}
+
+/// Whether a text is the address that is wanted, or is refused where none is.
+fn is_answer(
+    alloc: Global,
+    text: &[u8],
+    wanted: &Option<(&[u8], u16)>,
+) -> Result<bool, AllocError> {
+    match NodeAddress::try_from(alloc, text) {
+        Ok(address) => are_addresses(alloc, &address, wanted),
+        Err(error) => Ok(wanted.is_none() && matches!(error, AddressError::Invalid)),
     }
 }
 
 #[test]
 fn texts_are_addresses(rt: HostRuntime) -> Result<(), AllocError> {
-    let alloc = rt.alloc();
     for row in &ADDRESSES {
-        let got = NodeAddress::try_from(alloc, row.0);
-        assert!(rt; is_answer(&got, &row.1));
-        if let Ok(address) = &got {
-            let copy = Ok(address.clone(alloc)?);
-            assert!(rt; is_answer(&copy, &row.1));
-        }
+        assert!(rt; is_answer(rt.alloc(), row.0, &row.1)?);
     }
     Ok(())
 }

@@ -1,6 +1,6 @@
 use containers::Bytes;
-use driver_model::{Event, EventKind, Submission};
-use script_text::{Intake, ScriptError, read_script};
+use driver_model::{Config, Event, EventKind, Submission};
+use script_text::{Intake, Script, ScriptError, read_script};
 use std::alloc::{AllocError, Global};
 use std::test::Fail;
 
@@ -15,10 +15,16 @@ fn fault(alloc: Global, text: &[u8]) -> Result<u32, ScriptError> {
     }
 }
 
-/// The same of a text behind a configuration.
-fn fault_behind(alloc: Global, rest: &[u8]) -> Result<u32, ScriptError> {
+/// A text behind a configuration.
+fn behind(alloc: Global, rest: &[u8]) -> Result<Bytes, AllocError> {
     let mut text = Bytes::from_slice(alloc, CONFIG)?;
     text.extend_from_slice(rest)?;
+    Ok(text)
+}
+
+/// The line at fault of a text behind a configuration, or 0.
+fn fault_behind(alloc: Global, rest: &[u8]) -> Result<u32, ScriptError> {
+    let text = behind(alloc, rest)?;
     fault(alloc, text.as_slice())
 }
 
@@ -160,13 +166,24 @@ const QUEUE_LINES: [(&[u8], u32); 32] = [
     (b"lib=on", 1),
 ];
 
+/// A script of these settings alone.
+fn single(alloc: Global, settings: &[u8]) -> Result<Bytes, AllocError> {
+    let mut text = Bytes::from_slice(alloc, b"config single ")?;
+    text.extend_from_slice(settings)?;
+    text.extend_from_slice(b"\nend\n")?;
+    Ok(text)
+}
+
+/// The line at fault of a script of these settings, or 0.
+fn fault_of_settings(alloc: Global, settings: &[u8]) -> Result<u32, ScriptError> {
+    let text = single(alloc, settings)?;
+    fault(alloc, text.as_slice())
+}
+
 #[test]
 fn queue_settings(rt: HostRuntime) -> Result<(), Fail> {
     for (settings, line) in QUEUE_LINES {
-        let mut text = Bytes::from_slice(rt.alloc(), b"config single ")?;
-        text.extend_from_slice(settings)?;
-        text.extend_from_slice(b"\nend\n")?;
-        let found = fault(rt.alloc(), text.as_slice())?;
+        let found = fault_of_settings(rt.alloc(), settings)?;
         assert_eq!(rt; found, line);
     }
     Ok(())
@@ -308,15 +325,72 @@ fn are_as_given(events: &[Event]) -> bool {
         && is_bytes(bytes, b"+x\r\n")
 }
 
+const GIVEN: &[u8] =
+    b"config single lib=off response=none url=redis://h.1:7 connect=none\nconnected 8\nsubmit cmd GET %25%3b\nwrote 8 20\nbytes 8 +x%0D%0a\nend\n";
+
+/// Whether a script has the address, the time of the connect and the events of that text.
+fn is_as_given(script: &Script) -> bool {
+    script.config.url.as_slice() == b"redis://h.1:7".as_slice()
+        && script.config.connect == Some(None)
+        && are_as_given(script.events.as_slice())
+}
+
+/// Whether the text is read as it is given.
+fn reads_as_given(alloc: Global) -> Result<bool, ScriptError> {
+    let script = read_script(alloc, GIVEN)?;
+    Ok(is_as_given(&script))
+}
+
 #[test]
 fn events_as_given(rt: HostRuntime) -> Result<(), Fail> {
-    let text =
-        b"config single lib=off response=none url=redis://h.1:7 connect=none\nconnected 8\nsubmit cmd GET %25%3b\nwrote 8 20\nbytes 8 +x%0D%0a\nend\n";
-    let script = read_script(rt.alloc(), text)?;
-    assert!(rt; script.config.url.as_slice() == b"redis://h.1:7".as_slice());
-    assert!(rt; script.config.connect == Some(None));
-    assert!(rt; are_as_given(script.events.as_slice()));
+    assert!(rt; reads_as_given(rt.alloc())?);
     Ok(())
+}
+
+/// What is configured: the times of a connect and of a reply, the permits, the queue, the boundary and the library.
+#[derive(Clone, Copy)]
+struct Given {
+    connect: Option<Option<u64>>,
+    response: Option<Option<u64>>,
+    limit: Option<u32>,
+    buffer: Option<u32>,
+    boundary: Option<u64>,
+    lib: Option<bool>,
+}
+
+fn given(config: &Config) -> Given {
+    Given {
+        connect: config.connect,
+        response: config.response,
+        limit: config.limit,
+        buffer: config.buffer,
+        boundary: config.boundary,
+        lib: config.lib,
+    }
+}
+
+/// What the text configures.
+fn given_in(alloc: Global, text: &[u8]) -> Result<Given, ScriptError> {
+    let script = read_script(alloc, text)?;
+    Ok(given(&script.config))
+}
+
+/// What these settings configure.
+fn read(alloc: Global, settings: &[u8]) -> Result<Given, ScriptError> {
+    let text = single(alloc, settings)?;
+    given_in(alloc, text.as_slice())
+}
+
+/// Whether the text configures that address.
+fn has_url_in(alloc: Global, text: &[u8], url: &[u8]) -> Result<bool, ScriptError> {
+    let script = read_script(alloc, text)?;
+    Ok(script.config.url.as_slice() == url)
+}
+
+/// Whether these settings configure that address.
+fn has_url(alloc: Global, settings: &[u8], url: &[u8]) -> Result<bool, ScriptError> {
+    let text = single(alloc, settings)?;
+    has_url_in(alloc, text.as_slice(), url)
 }
 
 /// Settings, each line with its URL and with how long the connect may take.
@@ -339,12 +413,8 @@ const SETTINGS: [(&[u8], &[u8], Option<Option<u64>>); 5] = [
 #[test]
 fn settings_as_given(rt: HostRuntime) -> Result<(), Fail> {
     for (settings, url, connect) in SETTINGS {
-        let mut text = Bytes::from_slice(rt.alloc(), b"config single ")?;
-        text.extend_from_slice(settings)?;
-        text.extend_from_slice(b"\nend\n")?;
-        let config = read_script(rt.alloc(), text.as_slice())?.config;
-        assert!(rt; config.url.as_slice() == url);
-        assert!(rt; config.connect == connect);
+        assert!(rt; has_url(rt.alloc(), settings, url)?);
+        assert!(rt; read(rt.alloc(), settings)?.connect == connect);
     }
     Ok(())
 }
@@ -369,10 +439,7 @@ const PERMITS: [(&[u8], Option<Option<u64>>, Option<u32>); 5] = [
 #[test]
 fn permits_as_given(rt: HostRuntime) -> Result<(), Fail> {
     for (settings, response, limit) in PERMITS {
-        let mut text = Bytes::from_slice(rt.alloc(), b"config single ")?;
-        text.extend_from_slice(settings)?;
-        text.extend_from_slice(b"\nend\n")?;
-        let config = read_script(rt.alloc(), text.as_slice())?.config;
+        let config = read(rt.alloc(), settings)?;
         assert!(rt; config.response == response);
         assert!(rt; config.limit == limit);
     }
@@ -389,10 +456,7 @@ const LIBS: [(&[u8], Option<bool>); 3] = [
 #[test]
 fn libs_as_given(rt: HostRuntime) -> Result<(), Fail> {
     for (settings, lib) in LIBS {
-        let mut text = Bytes::from_slice(rt.alloc(), b"config single ")?;
-        text.extend_from_slice(settings)?;
-        text.extend_from_slice(b"\nend\n")?;
-        let config = read_script(rt.alloc(), text.as_slice())?.config;
+        let config = read(rt.alloc(), settings)?;
         assert!(rt; config.lib == lib);
     }
     Ok(())
@@ -418,14 +482,20 @@ const QUEUES: [(&[u8], Option<u32>, Option<u64>); 5] = [
 #[test]
 fn queues_as_given(rt: HostRuntime) -> Result<(), Fail> {
     for (settings, buffer, boundary) in QUEUES {
-        let mut text = Bytes::from_slice(rt.alloc(), b"config single ")?;
-        text.extend_from_slice(settings)?;
-        text.extend_from_slice(b"\nend\n")?;
-        let config = read_script(rt.alloc(), text.as_slice())?.config;
+        let config = read(rt.alloc(), settings)?;
         assert!(rt; config.buffer == buffer);
         assert!(rt; config.boundary == boundary);
     }
     Ok(())
+}
+
+/// The answer to the last of so many pieces.
+fn pushed(intake: &mut Intake, piece: &[u8], times: u32) -> Result<bool, AllocError> {
+    let mut goes_on = true;
+    for _ in 0..times {
+        goes_on = intake.push(piece)?;
+    }
+    Ok(goes_on)
 }
 
 /// The answers to a piece that comes so many times and to one more, and how many bytes are kept.
@@ -436,10 +506,7 @@ fn kept(
     last: &[u8],
 ) -> Result<(bool, bool, usize), AllocError> {
     let mut intake = Intake::new(alloc);
-    let mut goes_on = true;
-    for _ in 0..times {
-        goes_on = intake.push(piece)?;
-    }
+    let goes_on = pushed(&mut intake, piece, times)?;
     let after = intake.push(last)?;
     Ok((goes_on, after, intake.text().len()))
 }

@@ -52,35 +52,44 @@ fn show_commands(out: &mut Bytes, commands: &[Names]) -> Result<(), AllocError> 
     Ok(())
 }
 
-fn show(alloc: Global, submission: &Submission) -> Result<Bytes, AllocError> {
-    let mut out = Bytes::new(alloc);
+fn show_word(out: &mut Bytes, word: &[u8], args: &[Bytes]) -> Result<(), AllocError> {
+    out.extend_from_slice(word)?;
+    show_command(out, args)
+}
+
+fn show_list(out: &mut Bytes, word: &[u8], commands: &[Names]) -> Result<(), AllocError> {
+    out.extend_from_slice(word)?;
+    show_commands(out, commands)
+}
+
+fn show_packed(
+    alloc: Global,
+    out: &mut Bytes,
+    offset: u32,
+    count: u32,
+    commands: &[Names],
+) -> Result<(), AllocError> {
+    let numbers = format!(in alloc; "packed {offset} {count} ")?;
+    show_list(out, numbers.as_bytes(), commands)
+}
+
+fn show_in(alloc: Global, out: &mut Bytes, submission: &Submission) -> Result<(), AllocError> {
     match submission {
-        Submission::Cmd { args } => {
-            out.extend_from_slice(b"cmd ")?;
-            show_command(&mut out, args.as_slice())?;
-        }
-        Submission::NoReply { args } => {
-            out.extend_from_slice(b"noreply ")?;
-            show_command(&mut out, args.as_slice())?;
-        }
-        Submission::Pipe { commands } => {
-            out.extend_from_slice(b"pipe ")?;
-            show_commands(&mut out, commands.as_slice())?;
-        }
-        Submission::Multi { commands } => {
-            out.extend_from_slice(b"multi ")?;
-            show_commands(&mut out, commands.as_slice())?;
-        }
+        Submission::Cmd { args } => show_word(out, b"cmd ", args.as_slice()),
+        Submission::NoReply { args } => show_word(out, b"noreply ", args.as_slice()),
+        Submission::Pipe { commands } => show_list(out, b"pipe ", commands.as_slice()),
+        Submission::Multi { commands } => show_list(out, b"multi ", commands.as_slice()),
         Submission::Packed {
             offset,
             count,
             commands,
-        } => {
-            let numbers = format!(in alloc; "packed {offset} {count} ")?;
-            out.extend_from_slice(numbers.as_bytes())?;
-            show_commands(&mut out, commands.as_slice())?;
-        }
+        } => show_packed(alloc, out, *offset, *count, commands.as_slice()),
     }
+}
+
+fn show(alloc: Global, submission: &Submission) -> Result<Bytes, AllocError> {
+    let mut out = Bytes::new(alloc);
+    show_in(alloc, &mut out, submission)?;
     Ok(out)
 }
 
@@ -103,12 +112,22 @@ fn is_shown(alloc: Global, events: &[Event], want: &[u8]) -> Result<bool, AllocE
     Ok(shown.as_slice() == want)
 }
 
+/// Whether the events of a script are that submission alone.
+fn gives(alloc: Global, text: &[u8], want: &[u8]) -> Result<bool, ScriptError> {
+    let script = read_script(alloc, text)?;
+    Ok(is_shown(alloc, script.events.as_slice(), want)?)
+}
+
+/// Whether a line is that submission.
+fn is_submission(alloc: Global, line: &[u8], want: &[u8]) -> Result<bool, ScriptError> {
+    let text = script_of(alloc, line)?;
+    gives(alloc, text.as_slice(), want)
+}
+
 #[test]
 fn submissions_as_given(rt: HostRuntime) -> Result<(), Fail> {
     for (line, want) in SUBMISSIONS {
-        let text = script_of(rt.alloc(), line)?;
-        let script = read_script(rt.alloc(), text.as_slice())?;
-        assert!(rt; is_shown(rt.alloc(), script.events.as_slice(), want)?);
+        assert!(rt; is_submission(rt.alloc(), line, want)?);
     }
     Ok(())
 }
@@ -156,12 +175,22 @@ fn is_fault(events: &[Event], failed: Failed, name: &[u8]) -> bool {
     found == failed && fault.name().as_bytes() == name
 }
 
+/// Whether the events of a script are that fault alone.
+fn tells(alloc: Global, text: &[u8], failed: Failed, name: &[u8]) -> Result<bool, ScriptError> {
+    let script = read_script(alloc, text)?;
+    Ok(is_fault(script.events.as_slice(), failed, name))
+}
+
+/// Whether a line is that fault.
+fn is_told(alloc: Global, line: &[u8], failed: Failed, name: &[u8]) -> Result<bool, ScriptError> {
+    let text = script_of(alloc, line)?;
+    tells(alloc, text.as_slice(), failed, name)
+}
+
 #[test]
 fn faults_as_given(rt: HostRuntime) -> Result<(), Fail> {
     for (line, failed, name) in FAULTS {
-        let text = script_of(rt.alloc(), line)?;
-        let script = read_script(rt.alloc(), text.as_slice())?;
-        assert!(rt; is_fault(script.events.as_slice(), failed, name));
+        assert!(rt; is_told(rt.alloc(), line, failed, name)?);
     }
     Ok(())
 }
@@ -196,15 +225,20 @@ const REFUSED: [&[u8]; 26] = [
     b";",
 ];
 
+fn is_refused(alloc: Global, text: &[u8]) -> bool {
+    matches!(read_script(alloc, text), Err(ScriptError::Line(2)))
+}
+
+/// Whether a line is refused.
+fn is_line_refused(alloc: Global, line: &[u8]) -> Result<bool, AllocError> {
+    let text = script_of(alloc, line)?;
+    Ok(is_refused(alloc, text.as_slice()))
+}
+
 #[test]
-fn lines_refused(rt: HostRuntime) -> Result<(), Fail> {
+fn lines_refused(rt: HostRuntime) -> Result<(), AllocError> {
     for line in REFUSED {
-        let text = script_of(rt.alloc(), line)?;
-        let is_refused = matches!(
-            read_script(rt.alloc(), text.as_slice()),
-            Err(ScriptError::Line(2))
-        );
-        assert!(rt; is_refused);
+        assert!(rt; is_line_refused(rt.alloc(), line)?);
     }
     Ok(())
 }
@@ -229,7 +263,7 @@ fn fault_of_lines(alloc: Global, text: &[u8]) -> Result<u32, AllocError> {
 }
 
 #[test]
-fn lines_alone(rt: HostRuntime) -> Result<(), Fail> {
+fn lines_alone(rt: HostRuntime) -> Result<(), AllocError> {
     for (text, line) in LINES {
         let found = fault_of_lines(rt.alloc(), text)?;
         assert_eq!(rt; found, line);
@@ -249,18 +283,27 @@ const CONFIGS: [(&[&str], bool); 5] = [
     ),
 ];
 
-fn is_config(alloc: Global, words: &[&str]) -> Result<bool, AllocError> {
+fn texts(alloc: Global, words: &[&str]) -> Result<Vec<String>, AllocError> {
     let mut texts = Vec::new(alloc);
     for word in words {
-        let text = String::from_str(alloc, word)?;
-        texts.push(text)?;
+        texts.push(String::from_str(alloc, word)?)?;
     }
-    let config = read_config(alloc, texts.as_slice())?;
+    Ok(texts)
+}
+
+fn are_config(alloc: Global, texts: &[String]) -> Result<bool, AllocError> {
+    let config = read_config(alloc, texts)?;
     Ok(config.is_some())
 }
 
+/// Whether these words are a configuration.
+fn is_config(alloc: Global, words: &[&str]) -> Result<bool, AllocError> {
+    let texts = texts(alloc, words)?;
+    are_config(alloc, texts.as_slice())
+}
+
 #[test]
-fn configs_alone(rt: HostRuntime) -> Result<(), Fail> {
+fn configs_alone(rt: HostRuntime) -> Result<(), AllocError> {
     for (words, want) in CONFIGS {
         let found = is_config(rt.alloc(), words)?;
         assert_eq!(rt; found, want);

@@ -1,81 +1,325 @@
+use crate::errors::{Fault, Plain, bytes, error, server};
 use containers::{Bytes, Names, Seq};
 use driver_model::{
     Action, Cause, Commands, Config, Event, EventKind, Outcome, Owner, Purpose, Submission,
     WaitKind,
 };
-use redis_error::{FaultKind, RedisError};
-use resp_value::{ServerError, Value, Values};
+use redis_error::FaultKind;
+use resp_value::{Value, Values};
 use std::alloc::{AllocError, Global};
 use trace_text::{append_action, show};
 
-/// A request that is answered, and the same with a reply that is none.
-const ANSWERED: &[u8] = b"turn 0 config single url=redis://h:6379 connect=none response=none lib=off
-connect 0 h:6379
-turn 1 connected 0
-created ok
-turn 2 submit cmd GET a
-start 0 0 s0.0 1 20
-write 0 *2%0D%0A$3%0D%0AGET%0D%0A$1%0D%0Aa%0D%0A
-turn 3 wrote 0 20
-turn 4 bytes 0 +x%0D%0A
-outcome s0 ok +x%0D%0A
-";
+/// The words of a command, and commands.
+type Words = &'static [&'static [u8]];
 
-const REFUSED: &[u8] = b"turn 0 config single url=redis://h:6379 connect=none response=none lib=off
-connect 0 h:6379
-turn 1 connected 0
-created ok
-turn 2 submit cmd GET a
-start 0 0 s0.0 1 20
-write 0 *2%0D%0A$3%0D%0AGET%0D%0A$1%0D%0Aa%0D%0A
-turn 3 bytes 0 ?x%0D%0A
-close 0
-outcome s0 err parse
-";
+type List = &'static [Words];
 
-/// What these two do not show.
-const OTHERS: &[u8] =
-    b"turn 0 @18446744073709551615 config single url=redis://%25-:0 response=none lib=off
-turn 0 config single url=%20; connect=0 response=none lib=off
-turn 0 config single url= connect=18446744073709551615 response=none lib=off
-turn 5 @7 submit cmd %- %3B ;; %20 %25
-turn 6 submit cmd
-turn 7 cancel 3
-turn 8 ended 2
-turn 9 shutdown
-wait s4294967295.1 connect
-outcome s1 err closed
-outcome s2 err empty
-outcome s3 ok $0%0D%0A%0D%0A
-";
-
-fn bytes(alloc: Global, text: &[u8]) -> Result<Bytes, AllocError> {
-    Bytes::from_slice(alloc, text)
+/// What is submitted.
+#[derive(Clone, Copy)]
+enum Sent {
+    Cmd(Words),
+    NoReply(Words),
+    Pipe(List),
+    Multi(List),
+    Packed(u32, u32, List),
 }
 
-fn opening(
-    alloc: Global,
-    url: &[u8],
-    connect: Option<Option<u64>>,
-    word: u64,
-) -> Result<Action, AllocError> {
-    let mut config = Config::new(bytes(alloc, url)?);
-    config.connect = connect;
-    config.response = Some(None);
-    config.lib = Some(false);
-    let cause = Cause::Opening { config, word };
-    Ok(Action::Turn { number: 0, cause })
+/// What happens.
+#[derive(Clone, Copy)]
+enum News {
+    Submit(Sent),
+    Cancel(u32),
+    Connected(u32),
+    Refused(u32, FaultKind),
+    Wrote(u32, u64),
+    Bytes(u32, &'static [u8]),
+    Ended(u32),
+    ReadFault(u32, FaultKind),
+    WriteFault(u32, FaultKind),
+    Fired(u32),
+    Timeout(Option<u64>),
+    Shutdown,
 }
 
-fn turn(number: u32, word: u64, kind: EventKind) -> Action {
-    let event = Event { word, kind };
-    let cause = Cause::Event { event };
-    Action::Turn { number, cause }
+/// What is configured: the times of a connect and of a reply, the queue, the permits, the boundary and the library.
+type Settings = (
+    Option<Option<u64>>,
+    Option<Option<u64>>,
+    Option<u32>,
+    Option<u32>,
+    Option<u64>,
+    Option<bool>,
+);
+
+/// An answer.
+#[derive(Clone, Copy)]
+enum Reply {
+    Simple(&'static [u8]),
+    Bulk(&'static [u8]),
+    /// No replies.
+    Nothing,
+    /// A number, and a server error.
+    Two,
+    Fault(Fault),
 }
 
-fn submitted(number: u32, word: u64, submission: Submission) -> Action {
-    turn(number, word, EventKind::Submit { submission })
+/// An action.
+#[derive(Clone, Copy)]
+enum Deed {
+    Opening(u64, &'static [u8], Settings),
+    Turn(u32, u64, News),
+    Connect(u32, &'static [u8], u16),
+    Created,
+    NotCreated(Fault),
+    Start(u32, Owner, u64, u64),
+    Took(Owner, u32, u32),
+    Write(u32, &'static [u8]),
+    Close(u32),
+    Timer(u32, u64, Purpose),
+    Wait(Owner, WaitKind),
+    Outcome(u32, Reply),
 }
+
+/// What is left out of an opening, but not of the library.
+const BARE: Settings = (None, Some(None), None, None, None, Some(false));
+
+/// What is given of the first openings below.
+const TIMELESS: Settings = (Some(None), Some(None), None, None, None, Some(false));
+
+/// Tries of submissions.
+const FIRST: Owner = Owner::Try {
+    submission: 0,
+    round: 0,
+};
+
+const SECOND: Owner = Owner::Try {
+    submission: u32::MAX,
+    round: 1,
+};
+
+/// A request that is answered, line by line.
+const ANSWERED: [(Deed, &str); 10] = [
+    (
+        Deed::Opening(0, b"redis://h:6379", TIMELESS),
+        "turn 0 config single url=redis://h:6379 connect=none response=none lib=off\n",
+    ),
+    (Deed::Connect(0, b"h", 6379), "connect 0 h:6379\n"),
+    (Deed::Turn(1, 0, News::Connected(0)), "turn 1 connected 0\n"),
+    (Deed::Created, "created ok\n"),
+    (
+        Deed::Turn(2, 0, News::Submit(Sent::Cmd(&[b"GET", b"a"]))),
+        "turn 2 submit cmd GET a\n",
+    ),
+    (Deed::Start(0, FIRST, 1, 20), "start 0 0 s0.0 1 20\n"),
+    (
+        Deed::Write(0, b"*2\r\n$3\r\nGET\r\n$1\r\na\r\n"),
+        "write 0 *2%0D%0A$3%0D%0AGET%0D%0A$1%0D%0Aa%0D%0A\n",
+    ),
+    (Deed::Turn(3, 0, News::Wrote(0, 20)), "turn 3 wrote 0 20\n"),
+    (
+        Deed::Turn(4, 0, News::Bytes(0, b"+x\r\n")),
+        "turn 4 bytes 0 +x%0D%0A\n",
+    ),
+    (
+        Deed::Outcome(0, Reply::Simple(b"x")),
+        "outcome s0 ok +x%0D%0A\n",
+    ),
+];
+
+/// Openings: what is given of the times, of the queue of a link, of its permits and of the library; and how they end.
+const OPENINGS: [(Deed, &str); 10] = [
+    (
+        Deed::Opening(u64::MAX, b"redis://%-:0", BARE),
+        "turn 0 @18446744073709551615 config single url=redis://%25-:0 response=none lib=off\n",
+    ),
+    (
+        Deed::Opening(0, b" ;", (Some(Some(0)), None, None, None, None, None)),
+        "turn 0 config single url=%20; connect=0\n",
+    ),
+    (
+        Deed::Opening(0, b"", (Some(Some(u64::MAX)), None, None, None, None, None)),
+        "turn 0 config single url= connect=18446744073709551615\n",
+    ),
+    (
+        Deed::Opening(
+            0,
+            b"a",
+            (None, None, Some(u32::MAX), Some(u32::MAX), None, None),
+        ),
+        "turn 0 config single url=a buffer=4294967295 limit=4294967295\n",
+    ),
+    (
+        Deed::Opening(
+            0,
+            b"a",
+            (
+                Some(None),
+                Some(None),
+                None,
+                None,
+                Some(u64::MAX),
+                Some(true),
+            ),
+        ),
+        "turn 0 config single url=a connect=none response=none boundary=18446744073709551615 lib=on\n",
+    ),
+    (
+        Deed::Opening(
+            0,
+            b"a",
+            (
+                Some(Some(5)),
+                Some(Some(0)),
+                Some(0),
+                Some(1),
+                Some(0),
+                Some(false),
+            ),
+        ),
+        "turn 0 config single url=a connect=5 response=0 buffer=0 limit=1 boundary=0 lib=off\n",
+    ),
+    (
+        Deed::Timer(u32::MAX, u64::MAX, Purpose::Connect { link: 7 }),
+        "timer 4294967295 18446744073709551615 connect 7\n",
+    ),
+    (
+        Deed::Turn(1, 0, News::Refused(0, FaultKind::TimedOut)),
+        "turn 1 refused 0 timed-out\n",
+    ),
+    (
+        Deed::NotCreated(Fault::Plain(Plain::Io(FaultKind::TimedOut))),
+        "created err io timed-out\n",
+    ),
+    (
+        Deed::NotCreated(Fault::AuthFailed(b"")),
+        "created err auth-failed %-\n",
+    ),
+];
+
+/// Events.
+const EVENTS: [(Deed, &str); 18] = [
+    (
+        Deed::Turn(
+            5,
+            7,
+            News::Submit(Sent::Cmd(&[b"", b";", b";;", b" ", b"%"])),
+        ),
+        "turn 5 @7 submit cmd %- %3B ;; %20 %25\n",
+    ),
+    (
+        Deed::Turn(6, 0, News::Submit(Sent::Cmd(&[]))),
+        "turn 6 submit cmd\n",
+    ),
+    (Deed::Turn(7, 0, News::Cancel(3)), "turn 7 cancel 3\n"),
+    (Deed::Turn(8, 0, News::Ended(2)), "turn 8 ended 2\n"),
+    (Deed::Turn(9, 0, News::Shutdown), "turn 9 shutdown\n"),
+    (
+        Deed::Turn(1, 0, News::Submit(Sent::NoReply(&[b"SET", b"k", b"v"]))),
+        "turn 1 submit noreply SET k v\n",
+    ),
+    (
+        Deed::Turn(2, 0, News::Submit(Sent::NoReply(&[]))),
+        "turn 2 submit noreply\n",
+    ),
+    (
+        Deed::Turn(3, 0, News::Submit(Sent::Pipe(&[]))),
+        "turn 3 submit pipe\n",
+    ),
+    (
+        Deed::Turn(4, 9, News::Submit(Sent::Pipe(&[&[b"GET", b"a"]]))),
+        "turn 4 @9 submit pipe GET a\n",
+    ),
+    (
+        Deed::Turn(5, 0, News::Submit(Sent::Pipe(&[&[], &[b"GET", b";"]]))),
+        "turn 5 submit pipe ; GET %3B\n",
+    ),
+    (
+        Deed::Turn(
+            6,
+            0,
+            News::Submit(Sent::Multi(&[&[b"SET", b"k", b"1"], &[b"BAD"]])),
+        ),
+        "turn 6 submit multi SET k 1 ; BAD\n",
+    ),
+    (
+        Deed::Turn(7, 0, News::Submit(Sent::Packed(0, 0, &[&[b"PING"]]))),
+        "turn 7 submit packed 0 0 PING\n",
+    ),
+    (
+        Deed::Turn(
+            8,
+            0,
+            News::Submit(Sent::Packed(u32::MAX, 2, &[&[b"A"], &[], &[]])),
+        ),
+        "turn 8 submit packed 4294967295 2 A ; ;\n",
+    ),
+    (
+        Deed::Turn(9, 0, News::ReadFault(3, FaultKind::Reset)),
+        "turn 9 read-fault 3 reset\n",
+    ),
+    (
+        Deed::Turn(10, 0, News::WriteFault(4, FaultKind::NotConnected)),
+        "turn 10 write-fault 4 not-connected\n",
+    ),
+    (
+        Deed::Turn(2, 3, News::Fired(u32::MAX)),
+        "turn 2 @3 fired 4294967295\n",
+    ),
+    (
+        Deed::Turn(1, 0, News::Timeout(Some(u64::MAX))),
+        "turn 1 timeout 18446744073709551615\n",
+    ),
+    (
+        Deed::Turn(2, 0, News::Timeout(None)),
+        "turn 2 timeout none\n",
+    ),
+];
+
+/// Starts, permits, times, waits, and how requests end.
+const REQUESTS: [(Deed, &str); 15] = [
+    (
+        Deed::Start(7, Owner::Setup, 3, 4_294_967_296),
+        "start 7 0 setup 3 4294967296\n",
+    ),
+    (Deed::Took(FIRST, 7, u32::MAX), "took s0.0 7 4294967295\n"),
+    (
+        Deed::Timer(3, 0, Purpose::Response { owner: SECOND }),
+        "timer 3 0 response s4294967295.1\n",
+    ),
+    (
+        Deed::Wait(SECOND, WaitKind::Connect),
+        "wait s4294967295.1 connect\n",
+    ),
+    (Deed::Wait(FIRST, WaitKind::Place), "wait s0.0 place\n"),
+    (Deed::Wait(FIRST, WaitKind::Room), "wait s0.0 room\n"),
+    (Deed::Wait(FIRST, WaitKind::Permit), "wait s0.0 permit\n"),
+    (Deed::Wait(FIRST, WaitKind::Setup), "wait s0.0 setup\n"),
+    (Deed::Close(0), "close 0\n"),
+    (
+        Deed::Outcome(0, Reply::Fault(Fault::Plain(Plain::Parse))),
+        "outcome s0 err parse\n",
+    ),
+    (
+        Deed::Outcome(1, Reply::Fault(Fault::Plain(Plain::Closed))),
+        "outcome s1 err closed\n",
+    ),
+    (
+        Deed::Outcome(2, Reply::Fault(Fault::Plain(Plain::Empty))),
+        "outcome s2 err empty\n",
+    ),
+    (
+        Deed::Outcome(3, Reply::Bulk(b"")),
+        "outcome s3 ok $0%0D%0A%0D%0A\n",
+    ),
+    (
+        Deed::Outcome(0, Reply::Nothing),
+        "outcome s0 many *0%0D%0A\n",
+    ),
+    (
+        Deed::Outcome(1, Reply::Two),
+        "outcome s1 many *2%0D%0A:1%0D%0A-ERR%20bad%0D%0A\n",
+    ),
+];
 
 fn names(alloc: Global, words: &[&[u8]]) -> Result<Names, AllocError> {
     let mut names = Names::new(alloc);
@@ -85,116 +329,7 @@ fn names(alloc: Global, words: &[&[u8]]) -> Result<Names, AllocError> {
     Ok(names)
 }
 
-fn submit(alloc: Global, words: &[&[u8]]) -> Result<EventKind, AllocError> {
-    let args = names(alloc, words)?;
-    let submission = Submission::Cmd { args };
-    Ok(EventKind::Submit { submission })
-}
-
-fn begin(alloc: Global, actions: &mut Seq<Action>) -> Result<(), AllocError> {
-    actions.push(opening(alloc, b"redis://h:6379", Some(None), 0)?)?;
-    let host = bytes(alloc, b"h")?;
-    let port = 6379;
-    actions.push(Action::Connect {
-        link: 0,
-        host,
-        port,
-    })?;
-    actions.push(turn(1, 0, EventKind::Connected { link: 0 }))?;
-    actions.push(Action::Created { error: None })?;
-    actions.push(turn(2, 0, submit(alloc, &[b"GET", b"a"])?))?;
-    let owner = Owner::Try {
-        submission: 0,
-        round: 0,
-    };
-    actions.push(Action::Start {
-        link: 0,
-        message: 0,
-        owner,
-        need: 1,
-        len: 20,
-    })?;
-    let packed = bytes(alloc, b"*2\r\n$3\r\nGET\r\n$1\r\na\r\n")?;
-    actions.push(Action::Write {
-        link: 0,
-        bytes: packed,
-    })
-}
-
-fn answered(alloc: Global, actions: &mut Seq<Action>) -> Result<(), AllocError> {
-    begin(alloc, actions)?;
-    actions.push(turn(3, 0, EventKind::Wrote { link: 0, count: 20 }))?;
-    let piece = bytes(alloc, b"+x\r\n")?;
-    actions.push(turn(4, 0, EventKind::Bytes { link: 0, piece }))?;
-    let outcome = Outcome::One(Value::SimpleString(bytes(alloc, b"x")?));
-    actions.push(Action::Outcome {
-        submission: 0,
-        outcome,
-    })
-}
-
-fn refused(alloc: Global, actions: &mut Seq<Action>) -> Result<(), AllocError> {
-    begin(alloc, actions)?;
-    let piece = bytes(alloc, b"?x\r\n")?;
-    actions.push(turn(3, 0, EventKind::Bytes { link: 0, piece }))?;
-    actions.push(Action::Close { link: 0 })?;
-    let outcome = Outcome::Fault(RedisError::Parse);
-    actions.push(Action::Outcome {
-        submission: 0,
-        outcome,
-    })
-}
-
-fn others(alloc: Global, actions: &mut Seq<Action>) -> Result<(), AllocError> {
-    actions.push(opening(alloc, b"redis://%-:0", None, u64::MAX)?)?;
-    actions.push(opening(alloc, b" ;", Some(Some(0)), 0)?)?;
-    actions.push(opening(alloc, b"", Some(Some(u64::MAX)), 0)?)?;
-    actions.push(turn(5, 7, submit(alloc, &[b"", b";", b";;", b" ", b"%"])?))?;
-    actions.push(turn(6, 0, submit(alloc, &[])?))?;
-    actions.push(turn(7, 0, EventKind::Cancel { submission: 3 }))?;
-    actions.push(turn(8, 0, EventKind::Ended { link: 2 }))?;
-    actions.push(turn(9, 0, EventKind::Shutdown))?;
-    let owner = Owner::Try {
-        submission: u32::MAX,
-        round: 1,
-    };
-    actions.push(Action::Wait {
-        owner,
-        wait: WaitKind::Connect,
-    })?;
-    let outcome = Outcome::Fault(RedisError::Closed);
-    actions.push(Action::Outcome {
-        submission: 1,
-        outcome,
-    })?;
-    let outcome = Outcome::Fault(RedisError::EmptyCommand);
-    actions.push(Action::Outcome {
-        submission: 2,
-        outcome,
-    })?;
-    let outcome = Outcome::One(Value::BulkString(Bytes::new(alloc)));
-    actions.push(Action::Outcome {
-        submission: 3,
-        outcome,
-    })
-}
-
-/// Lists of commands, faults and lists of replies.
-const LISTS: &[u8] = b"turn 1 submit noreply SET k v
-turn 2 submit noreply
-turn 3 submit pipe
-turn 4 @9 submit pipe GET a
-turn 5 submit pipe ; GET %3B
-turn 6 submit multi SET k 1 ; BAD
-turn 7 submit packed 0 0 PING
-turn 8 submit packed 4294967295 2 A ; ;
-turn 9 read-fault 3 reset
-turn 10 write-fault 4 not-connected
-outcome s0 many *0%0D%0A
-outcome s1 many *2%0D%0A:1%0D%0A-ERR%20bad%0D%0A
-";
-
-fn list(alloc: Global, commands: &[&[&[u8]]]) -> Result<Commands, AllocError> {
+fn list(alloc: Global, commands: List) -> Result<Commands, AllocError> {
     let mut list = Commands::new(alloc);
     for words in commands {
         list.push(names(alloc, words)?)?;
@@ -202,161 +337,85 @@ fn list(alloc: Global, commands: &[&[&[u8]]]) -> Result<Commands, AllocError> {
     Ok(list)
 }
 
-fn single(alloc: Global, actions: &mut Seq<Action>) -> Result<(), AllocError> {
-    let args = names(alloc, &[b"SET", b"k", b"v"])?;
-    actions.push(submitted(1, 0, Submission::NoReply { args }))?;
-    let args = names(alloc, &[])?;
-    actions.push(submitted(2, 0, Submission::NoReply { args }))
+fn alone(alloc: Global, words: Words, awaited: bool) -> Result<Submission, AllocError> {
+    let args = names(alloc, words)?;
+    if awaited {
+        Ok(Submission::Cmd { args })
+    } else {
+        Ok(Submission::NoReply { args })
+    }
 }
 
-fn pipes(alloc: Global, actions: &mut Seq<Action>) -> Result<(), AllocError> {
-    let commands = list(alloc, &[])?;
-    actions.push(submitted(3, 0, Submission::Pipe { commands }))?;
-    let commands = list(alloc, &[&[b"GET", b"a"]])?;
-    actions.push(submitted(4, 9, Submission::Pipe { commands }))?;
-    let commands = list(alloc, &[&[], &[b"GET", b";"]])?;
-    actions.push(submitted(5, 0, Submission::Pipe { commands }))
+fn together(alloc: Global, commands: List, framed: bool) -> Result<Submission, AllocError> {
+    let commands = list(alloc, commands)?;
+    if framed {
+        Ok(Submission::Multi { commands })
+    } else {
+        Ok(Submission::Pipe { commands })
+    }
 }
 
-fn counted(alloc: Global, actions: &mut Seq<Action>) -> Result<(), AllocError> {
-    let commands = list(alloc, &[&[b"SET", b"k", b"1"], &[b"BAD"]])?;
-    actions.push(submitted(6, 0, Submission::Multi { commands }))?;
-    let commands = list(alloc, &[&[b"PING"]])?;
-    actions.push(submitted(
-        7,
-        0,
-        Submission::Packed {
-            offset: 0,
-            count: 0,
-            commands,
-        },
-    ))?;
-    let commands = list(alloc, &[&[b"A"], &[], &[]])?;
-    actions.push(submitted(
-        8,
-        0,
-        Submission::Packed {
-            offset: u32::MAX,
-            count: 2,
-            commands,
-        },
-    ))
-}
-
-fn faults(actions: &mut Seq<Action>) -> Result<(), AllocError> {
-    let kind = EventKind::ReadFault {
-        link: 3,
-        fault: FaultKind::Reset,
-    };
-    actions.push(turn(9, 0, kind))?;
-    let kind = EventKind::WriteFault {
-        link: 4,
-        fault: FaultKind::NotConnected,
-    };
-    actions.push(turn(10, 0, kind))
-}
-
-fn replies(alloc: Global, actions: &mut Seq<Action>) -> Result<(), AllocError> {
-    let outcome = Outcome::Many(Values::new(alloc));
-    actions.push(Action::Outcome {
-        submission: 0,
-        outcome,
-    })?;
-    let code = bytes(alloc, b"ERR")?;
-    let detail = Some(bytes(alloc, b"bad")?);
-    let mut values = Values::new(alloc);
-    values.push(Value::Int(1))?;
-    values.push(Value::ServerError(ServerError { code, detail }))?;
-    let outcome = Outcome::Many(values);
-    actions.push(Action::Outcome {
-        submission: 1,
-        outcome,
+fn packed(
+    alloc: Global,
+    offset: u32,
+    count: u32,
+    commands: List,
+) -> Result<Submission, AllocError> {
+    let commands = list(alloc, commands)?;
+    Ok(Submission::Packed {
+        offset,
+        count,
+        commands,
     })
 }
 
-#[test]
-fn lists_have_text(rt: HostRuntime) -> Result<(), AllocError> {
-    let alloc = rt.alloc();
-    let mut actions = Seq::new(alloc);
-    single(alloc, &mut actions)?;
-    pipes(alloc, &mut actions)?;
-    counted(alloc, &mut actions)?;
-    faults(&mut actions)?;
-    replies(alloc, &mut actions)?;
-    assert_eq!(rt; show(alloc, actions.as_slice())?.as_slice(), LISTS);
-    Ok(())
+fn submission(alloc: Global, sent: Sent) -> Result<Submission, AllocError> {
+    match sent {
+        Sent::Cmd(words) => alone(alloc, words, true),
+        Sent::NoReply(words) => alone(alloc, words, false),
+        Sent::Pipe(commands) => together(alloc, commands, false),
+        Sent::Multi(commands) => together(alloc, commands, true),
+        Sent::Packed(offset, count, commands) => packed(alloc, offset, count, commands),
+    }
 }
 
-#[test]
-fn traces_have_text(rt: HostRuntime) -> Result<(), AllocError> {
-    let alloc = rt.alloc();
-    let mut actions = Seq::new(alloc);
-    answered(alloc, &mut actions)?;
-    assert_eq!(rt; show(alloc, actions.as_slice())?.as_slice(), ANSWERED);
-    actions.truncate(0);
-    refused(alloc, &mut actions)?;
-    assert_eq!(rt; show(alloc, actions.as_slice())?.as_slice(), REFUSED);
-    actions.truncate(0);
-    others(alloc, &mut actions)?;
-    assert_eq!(rt; show(alloc, actions.as_slice())?.as_slice(), OTHERS);
-    Ok(())
+fn submit(alloc: Global, sent: Sent) -> Result<EventKind, AllocError> {
+    let submission = submission(alloc, sent)?;
+    Ok(EventKind::Submit { submission })
 }
 
-/// Openings that fail.
-const FAILED: &[u8] = b"timer 4294967295 18446744073709551615 connect 7
-turn 1 refused 0 timed-out
-created err io timed-out
-turn 2 @3 fired 4294967295
-created err auth-failed %-
-";
-
-fn failed(alloc: Global, actions: &mut Seq<Action>) -> Result<(), AllocError> {
-    actions.push(Action::Timer {
-        timer: u32::MAX,
-        ms: u64::MAX,
-        purpose: Purpose::Connect { link: 7 },
-    })?;
-    let fault = FaultKind::TimedOut;
-    actions.push(turn(1, 0, EventKind::Refused { link: 0, fault }))?;
-    let error = Some(RedisError::Io { fault });
-    actions.push(Action::Created { error })?;
-    actions.push(turn(2, 3, EventKind::Fired { timer: u32::MAX }))?;
-    let text = Bytes::new(alloc);
-    let error = Some(RedisError::AuthFailed { text });
-    actions.push(Action::Created { error })
+fn received(alloc: Global, link: u32, piece: &[u8]) -> Result<EventKind, AllocError> {
+    let piece = bytes(alloc, piece)?;
+    Ok(EventKind::Bytes { link, piece })
 }
 
-#[test]
-fn failed_openings_have_text(rt: HostRuntime) -> Result<(), AllocError> {
-    let alloc = rt.alloc();
-    let mut actions = Seq::new(alloc);
-    failed(alloc, &mut actions)?;
-    assert_eq!(rt; show(alloc, actions.as_slice())?.as_slice(), FAILED);
-    Ok(())
+fn kind(alloc: Global, news: News) -> Result<EventKind, AllocError> {
+    match news {
+        News::Submit(sent) => submit(alloc, sent),
+        News::Cancel(submission) => Ok(EventKind::Cancel { submission }),
+        News::Connected(link) => Ok(EventKind::Connected { link }),
+        News::Refused(link, fault) => Ok(EventKind::Refused { link, fault }),
+        News::Wrote(link, count) => Ok(EventKind::Wrote { link, count }),
+        News::Bytes(link, piece) => received(alloc, link, piece),
+        News::Ended(link) => Ok(EventKind::Ended { link }),
+        News::ReadFault(link, fault) => Ok(EventKind::ReadFault { link, fault }),
+        News::WriteFault(link, fault) => Ok(EventKind::WriteFault { link, fault }),
+        News::Fired(timer) => Ok(EventKind::Fired { timer }),
+        News::Timeout(ms) => Ok(EventKind::Timeout { ms }),
+        News::Shutdown => Ok(EventKind::Shutdown),
+    }
 }
 
-/// What is given of the times, of the queue of a link, of its permits and of the library, and what requests wait for.
-const QUEUES: &[u8] = b"turn 0 config single url=a buffer=4294967295 limit=4294967295
-turn 0 config single url=a connect=none response=none boundary=18446744073709551615 lib=on
-turn 0 config single url=a connect=5 response=0 buffer=0 limit=1 boundary=0 lib=off
-wait s0.0 connect
-wait s1.0 place
-wait s2.0 room
-wait s3.0 permit
-wait s4.0 setup
-";
+fn turn(alloc: Global, number: u32, word: u64, news: News) -> Result<Action, AllocError> {
+    let kind = kind(alloc, news)?;
+    let event = Event { word, kind };
+    let cause = Cause::Event { event };
+    Ok(Action::Turn { number, cause })
+}
 
-/// An opening with these settings.
-fn settings(
-    alloc: Global,
-    times: (Option<Option<u64>>, Option<Option<u64>>),
-    buffer: Option<u32>,
-    limit: Option<u32>,
-    boundary: Option<u64>,
-    lib: Option<bool>,
-) -> Result<Action, AllocError> {
-    let (connect, response) = times;
-    let url = bytes(alloc, b"a")?;
+fn opening(alloc: Global, word: u64, url: &[u8], given: Settings) -> Result<Action, AllocError> {
+    let url = bytes(alloc, url)?;
+    let (connect, response, buffer, limit, boundary, lib) = given;
     let config = Config {
         url,
         connect,
@@ -366,116 +425,173 @@ fn settings(
         boundary,
         lib,
     };
-    let cause = Cause::Opening { config, word: 0 };
+    let cause = Cause::Opening { config, word };
     Ok(Action::Turn { number: 0, cause })
 }
 
-/// The wait of the first try of this submission.
-fn wait(submission: u32, wait: WaitKind) -> Action {
-    let owner = Owner::Try {
+fn connect(alloc: Global, link: u32, host: &[u8], port: u16) -> Result<Action, AllocError> {
+    let host = bytes(alloc, host)?;
+    Ok(Action::Connect { link, host, port })
+}
+
+fn write(alloc: Global, link: u32, piece: &[u8]) -> Result<Action, AllocError> {
+    let bytes = bytes(alloc, piece)?;
+    Ok(Action::Write { link, bytes })
+}
+
+fn not_created(alloc: Global, fault: Fault) -> Result<Action, AllocError> {
+    let error = Some(error(alloc, fault)?);
+    Ok(Action::Created { error })
+}
+
+fn two(alloc: Global) -> Result<Values, AllocError> {
+    let refused = Value::ServerError(server(alloc, (b"ERR", Some(b"bad")))?);
+    let mut values = Values::new(alloc);
+    values.push(Value::Int(1))?;
+    values.push(refused)?;
+    Ok(values)
+}
+
+fn replied(alloc: Global, reply: Reply) -> Result<Outcome, AllocError> {
+    match reply {
+        Reply::Simple(text) => Ok(Outcome::One(Value::SimpleString(bytes(alloc, text)?))),
+        Reply::Bulk(text) => Ok(Outcome::One(Value::BulkString(bytes(alloc, text)?))),
+        Reply::Nothing => Ok(Outcome::Many(Values::new(alloc))),
+        Reply::Two => Ok(Outcome::Many(two(alloc)?)),
+        Reply::Fault(fault) => Ok(Outcome::Fault(error(alloc, fault)?)),
+    }
+}
+
+fn ended(alloc: Global, submission: u32, reply: Reply) -> Result<Action, AllocError> {
+    let outcome = replied(alloc, reply)?;
+    Ok(Action::Outcome {
         submission,
-        round: 0,
-    };
-    Action::Wait { owner, wait }
+        outcome,
+    })
 }
 
-fn queues(alloc: Global, actions: &mut Seq<Action>) -> Result<(), AllocError> {
-    let none = (Some(None), Some(None));
-    let some = (Some(Some(5)), Some(Some(0)));
-    let most = Some(u32::MAX);
-    actions.push(settings(alloc, (None, None), most, most, None, None)?)?;
-    actions.push(settings(alloc, none, None, None, Some(u64::MAX), Some(true))?)?;
-    actions.push(settings(alloc, some, Some(0), Some(1), Some(0), Some(false))?)?;
-    actions.push(wait(0, WaitKind::Connect))?;
-    actions.push(wait(1, WaitKind::Place))?;
-    actions.push(wait(2, WaitKind::Room))?;
-    actions.push(wait(3, WaitKind::Permit))?;
-    actions.push(wait(4, WaitKind::Setup))
-}
-
-#[test]
-fn queues_and_waits_have_text(rt: HostRuntime) -> Result<(), AllocError> {
-    let alloc = rt.alloc();
-    let mut actions = Seq::new(alloc);
-    queues(alloc, &mut actions)?;
-    assert_eq!(rt; show(alloc, actions.as_slice())?.as_slice(), QUEUES);
-    Ok(())
-}
-
-/// A setup that starts, permits that are taken, times of requests, and the events that tell times.
-const TIMES: &[u8] = b"start 7 0 setup 3 4294967296
-took s4.0 7 4294967295
-timer 3 0 response s4.1
-turn 1 timeout 18446744073709551615
-turn 2 timeout none
-";
-
-fn times(alloc: Global, actions: &mut Seq<Action>) -> Result<(), AllocError> {
-    let owner = Owner::Try {
-        submission: 4,
-        round: 0,
-    };
-    let again = Owner::Try {
-        submission: 4,
-        round: 1,
-    };
-    actions.push(Action::Start {
-        link: 7,
-        message: 0,
-        owner: Owner::Setup,
-        need: 3,
-        len: 4_294_967_296,
-    })?;
-    actions.push(Action::Took {
-        owner,
-        link: 7,
-        count: u32::MAX,
-    })?;
-    actions.push(Action::Timer {
-        timer: 3,
-        ms: 0,
-        purpose: Purpose::Response { owner: again },
-    })?;
-    let ms = Some(u64::MAX);
-    actions.push(turn(1, 0, EventKind::Timeout { ms }))?;
-    actions.push(turn(2, 0, EventKind::Timeout { ms: None }))
-}
-
-#[test]
-fn setups_permits_and_times_have_text(rt: HostRuntime) -> Result<(), AllocError> {
-    let alloc = rt.alloc();
-    let mut actions = Seq::new(alloc);
-    times(alloc, &mut actions)?;
-    assert_eq!(rt; show(alloc, actions.as_slice())?.as_slice(), TIMES);
-    Ok(())
+/// The action that a deed stands for.
+fn action(alloc: Global, deed: Deed) -> Result<Action, AllocError> {
+    match deed {
+        Deed::Opening(word, url, given) => opening(alloc, word, url, given),
+        Deed::Turn(number, word, news) => turn(alloc, number, word, news),
+        Deed::Connect(link, host, port) => connect(alloc, link, host, port),
+        Deed::Created => Ok(Action::Created { error: None }),
+        Deed::NotCreated(fault) => not_created(alloc, fault),
+        Deed::Start(link, owner, need, len) => Ok(Action::Start {
+            link,
+            message: 0,
+            owner,
+            need,
+            len,
+        }),
+        Deed::Took(owner, link, count) => Ok(Action::Took { owner, link, count }),
+        Deed::Write(link, piece) => write(alloc, link, piece),
+        Deed::Close(link) => Ok(Action::Close { link }),
+        Deed::Timer(timer, ms, purpose) => Ok(Action::Timer { timer, ms, purpose }),
+        Deed::Wait(owner, wait) => Ok(Action::Wait { owner, wait }),
+        Deed::Outcome(submission, reply) => ended(alloc, submission, reply),
+    }
 }
 
 /// The line of an action.
-pub(crate) fn line(alloc: Global, action: &Action) -> Result<Bytes, AllocError> {
+fn line(alloc: Global, action: &Action) -> Result<Bytes, AllocError> {
     let mut text = Bytes::new(alloc);
     append_action(alloc, &mut text, action)?;
     Ok(text)
 }
 
-/// The line in which this byte is written.
-fn written(alloc: Global, byte: u8) -> Result<Bytes, AllocError> {
-    let bytes = bytes(alloc, &[byte])?;
-    let action = Action::Write { link: 9, bytes };
-    line(alloc, &action)
+/// Whether this is the line of an action.
+pub(crate) fn has_line(alloc: Global, action: &Action, wanted: &[u8]) -> Result<bool, AllocError> {
+    let text = line(alloc, action)?;
+    Ok(text.as_slice() == wanted)
+}
+
+/// Whether this is the line of a deed.
+fn is_line(alloc: Global, deed: Deed, wanted: &str) -> Result<bool, AllocError> {
+    let action = action(alloc, deed)?;
+    has_line(alloc, &action, wanted.as_bytes())
+}
+
+#[test]
+fn openings_have_text(rt: HostRuntime) -> Result<(), AllocError> {
+    for row in &OPENINGS {
+        assert!(rt; is_line(rt.alloc(), row.0, row.1)?, "{}", row.1);
+    }
+    Ok(())
+}
+
+#[test]
+fn events_have_text(rt: HostRuntime) -> Result<(), AllocError> {
+    for row in &EVENTS {
+        assert!(rt; is_line(rt.alloc(), row.0, row.1)?, "{}", row.1);
+    }
+    Ok(())
+}
+
+#[test]
+fn requests_have_text(rt: HostRuntime) -> Result<(), AllocError> {
+    for row in &REQUESTS {
+        assert!(rt; is_line(rt.alloc(), row.0, row.1)?, "{}", row.1);
+    }
+    Ok(())
+}
+
+/// A trace of these deeds, and its text.
+fn push_each(
+    alloc: Global,
+    rows: &[(Deed, &str)],
+    actions: &mut Seq<Action>,
+    text: &mut Bytes,
+) -> Result<(), AllocError> {
+    for row in rows {
+        actions.push(action(alloc, row.0)?)?;
+        text.extend_from_slice(row.1.as_bytes())?;
+    }
+    Ok(())
+}
+
+/// Whether that is the text of a trace.
+fn is_text(alloc: Global, actions: &[Action], wanted: &[u8]) -> Result<bool, AllocError> {
+    let text = show(alloc, actions)?;
+    Ok(text.as_slice() == wanted)
+}
+
+/// Whether the text of a trace is the lines of its deeds, one behind the other.
+fn are_lines(alloc: Global, rows: &[(Deed, &str)]) -> Result<bool, AllocError> {
+    let mut actions = Seq::new(alloc);
+    let mut text = Bytes::new(alloc);
+    push_each(alloc, rows, &mut actions, &mut text)?;
+    is_text(alloc, actions.as_slice(), text.as_slice())
+}
+
+#[test]
+fn traces_have_text(rt: HostRuntime) -> Result<(), AllocError> {
+    assert!(rt; are_lines(rt.alloc(), &ANSWERED)?);
+    assert!(rt; are_lines(rt.alloc(), &REQUESTS)?);
+    Ok(())
+}
+
+/// Whether a byte that is written is shown as itself if it is visible, and else by its code.
+fn is_shown(alloc: Global, byte: u8) -> Result<bool, AllocError> {
+    let action = write(alloc, 9, &[byte])?;
+    let wanted = wanted_of(alloc, byte)?;
+    has_line(alloc, &action, wanted.as_bytes())
+}
+
+fn wanted_of(alloc: Global, byte: u8) -> Result<String, AllocError> {
+    let visible = (0x21..=0x7E).contains(&byte) && byte != b'%' && byte != b';';
+    if visible {
+        format!(in alloc; "write 9 {}\n", char::from(byte))
+    } else {
+        format!(in alloc; "write 9 %{byte:02X}\n")
+    }
 }
 
 #[test]
 fn each_byte_has_a_word(rt: HostRuntime) -> Result<(), AllocError> {
-    let alloc = rt.alloc();
     for byte in 0..=255u8 {
-        let text = written(alloc, byte)?;
-        let visible = (0x21..=0x7E).contains(&byte) && byte != b'%' && byte != b';';
-        let wanted = if visible {
-            format!(in alloc; "write 9 {}\n", char::from(byte))?
-        } else {
-            format!(in alloc; "write 9 %{byte:02X}\n")?
-        };
-        assert_eq!(rt; text.as_slice(), wanted.as_bytes());
+        assert!(rt; is_shown(rt.alloc(), byte)?, "{byte}");
     }
     Ok(())
 }

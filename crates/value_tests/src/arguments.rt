@@ -82,6 +82,11 @@ const SCORES: [(&[(f64, &str)], &[&[u8]]); 1] = [(
     &[b"1.5", b"a", b"-2.0", b"b"],
 )];
 
+fn are_floats_written(alloc: Global, floats: &[f64], wanted: &[&[u8]]) -> Result<bool, AllocError> {
+    let vector = Vec::from_slice(alloc, floats)?;
+    is_written(alloc, &vector, wanted)
+}
+
 #[test]
 fn floats_become_short_texts(rt: HostRuntime) -> Result<(), AllocError> {
     let alloc = rt.alloc();
@@ -89,32 +94,46 @@ fn floats_become_short_texts(rt: HostRuntime) -> Result<(), AllocError> {
     assert!(rt; floats);
     let scores = are_written(alloc, &SCORES)?;
     assert!(rt; scores);
-    let vector = is_written(
-        alloc,
-        &Vec::from_slice(alloc, &[0.5, 2.0])?,
-        &[b"0.5", b"2.0"],
-    )?;
+    let vector = are_floats_written(alloc, &[0.5, 2.0], &[b"0.5", b"2.0"])?;
     assert!(rt; vector);
     Ok(())
+}
+
+fn are_small_written(alloc: Global) -> Result<bool, AllocError> {
+    Ok(are_written(alloc, &I8)? && are_written(alloc, &I16)? && are_written(alloc, &I32)?)
+}
+
+fn are_large_written(alloc: Global) -> Result<bool, AllocError> {
+    Ok(are_written(alloc, &I64)? && are_written(alloc, &ISIZE)?)
+}
+
+fn are_small_counts_written(alloc: Global) -> Result<bool, AllocError> {
+    Ok(are_written(alloc, &U8)? && are_written(alloc, &U16)? && are_written(alloc, &U32)?)
+}
+
+fn are_large_counts_written(alloc: Global) -> Result<bool, AllocError> {
+    Ok(are_written(alloc, &U64)? && are_written(alloc, &USIZE)?)
 }
 
 #[test]
 fn numbers_become_their_digits(rt: HostRuntime) -> Result<(), AllocError> {
     let alloc = rt.alloc();
-    let signed = are_written(alloc, &I8)?
-        && are_written(alloc, &I16)?
-        && are_written(alloc, &I32)?
-        && are_written(alloc, &I64)?
-        && are_written(alloc, &ISIZE)?;
-    assert!(rt; signed);
-    let unsigned = are_written(alloc, &U8)?
-        && are_written(alloc, &U16)?
-        && are_written(alloc, &U32)?
-        && are_written(alloc, &U64)?
-        && are_written(alloc, &USIZE)?;
-    assert!(rt; unsigned);
+    let small = are_small_written(alloc)?;
+    assert!(rt; small);
+    let large = are_large_written(alloc)?;
+    assert!(rt; large);
     let truths = are_written(alloc, &TRUTHS)?;
     assert!(rt; truths);
+    Ok(())
+}
+
+#[test]
+fn counts_become_their_digits(rt: HostRuntime) -> Result<(), AllocError> {
+    let alloc = rt.alloc();
+    let small = are_small_counts_written(alloc)?;
+    assert!(rt; small);
+    let large = are_large_counts_written(alloc)?;
+    assert!(rt; large);
     Ok(())
 }
 
@@ -124,18 +143,35 @@ const BYTES: [(&[u8], &[&[u8]]); 2] = [(b"", &[b""]), (b"X\r\n", &[b"X\r\n"])];
 
 const OPTIONS: [(Option<u16>, &[&[u8]]); 2] = [(None, &[]), (Some(7), &[b"7"])];
 
+fn are_lent_written(alloc: Global) -> Result<bool, AllocError> {
+    Ok(are_written(alloc, &TEXTS)? && are_written(alloc, &BYTES)? && are_written(alloc, &OPTIONS)?)
+}
+
+fn are_bytes_written(alloc: Global, bytes: &[u8]) -> Result<bool, AllocError> {
+    let owned = Bytes::from_slice(alloc, bytes)?;
+    is_written(alloc, &owned, &[bytes])
+}
+
+fn is_vector_written(alloc: Global, bytes: &[u8]) -> Result<bool, AllocError> {
+    let vector = Vec::from_slice(alloc, bytes)?;
+    is_written(alloc, &vector, &[bytes])
+}
+
+fn is_string_written(alloc: Global, text: &str) -> Result<bool, AllocError> {
+    let string = String::from_str(alloc, text)?;
+    is_written(alloc, &string, &[text.as_bytes()])
+}
+
 #[test]
 fn texts_are_one_argument(rt: HostRuntime) -> Result<(), AllocError> {
     let alloc = rt.alloc();
-    let lent = are_written(alloc, &TEXTS)? && are_written(alloc, &BYTES)?;
+    let lent = are_lent_written(alloc)?;
     assert!(rt; lent);
-    let options = are_written(alloc, &OPTIONS)?;
-    assert!(rt; options);
-    let bytes = is_written(alloc, &Bytes::from_slice(alloc, b"a\0")?, &[b"a\0"])?;
+    let bytes = are_bytes_written(alloc, b"a\0")?;
     assert!(rt; bytes);
-    let vector = is_written(alloc, &Vec::from_slice(alloc, b"12")?, &[b"12"])?;
+    let vector = is_vector_written(alloc, b"12")?;
     assert!(rt; vector);
-    let string = is_written(alloc, &String::from_str(alloc, "12")?, &[b"12"])?;
+    let string = is_string_written(alloc, "12")?;
     assert!(rt; string);
     Ok(())
 }
@@ -148,24 +184,40 @@ const FIELDS: [(&[(&str, u8)], &[&[u8]]); 1] = [(&[("a", 1), ("b", 2)], &[b"a", 
 
 const LEFT_OUT: [(&[Option<bool>], &[&[u8]]); 1] = [(&[None, Some(true), None], &[b"1"])];
 
+fn are_slices_written(alloc: Global) -> Result<bool, AllocError> {
+    Ok(are_written(alloc, &NUMBERS)? && are_written(alloc, &KEYS)?)
+}
+
+fn are_parts_written(alloc: Global) -> Result<bool, AllocError> {
+    Ok(are_written(alloc, &FIELDS)? && are_written(alloc, &LEFT_OUT)?)
+}
+
+fn are_numbers_written(alloc: Global, wanted: &[&[u8]]) -> Result<bool, AllocError> {
+    let vector = Vec::from_slice(alloc, &[5u16, 6])?;
+    is_written(alloc, &vector, wanted)
+}
+
+fn are_names_written(alloc: Global, wanted: &[&[u8]]) -> Result<bool, AllocError> {
+    let names = Names::from_slices(alloc, wanted)?;
+    is_written(alloc, &names, wanted)
+}
+
 #[test]
 fn elements_become_arguments_in_order(rt: HostRuntime) -> Result<(), AllocError> {
     let alloc = rt.alloc();
-    let slices = are_written(alloc, &NUMBERS)?
-        && are_written(alloc, &KEYS)?
-        && are_written(alloc, &FIELDS)?
-        && are_written(alloc, &LEFT_OUT)?;
+    let slices = are_slices_written(alloc)?;
     assert!(rt; slices);
-    let vector = is_written(alloc, &Vec::from_slice(alloc, &[5u16, 6])?, &[b"5", b"6"])?;
+    let parts = are_parts_written(alloc)?;
+    assert!(rt; parts);
+    let vector = are_numbers_written(alloc, &[b"5", b"6"])?;
     assert!(rt; vector);
-    let names = Names::from_slices(alloc, &[b"n", b""])?;
-    let names = is_written(alloc, &names, &[b"n", b""])?;
+    let names = are_names_written(alloc, &[b"n", b""])?;
     assert!(rt; names);
     Ok(())
 }
 
 #[test]
-fn tuples_become_arguments_in_order(rt: HostRuntime) -> Result<(), AllocError> {
+fn short_tuples_become_arguments_in_order(rt: HostRuntime) -> Result<(), AllocError> {
     let alloc = rt.alloc();
     let two = is_written(alloc, &("EX", 5u32), &[b"EX", b"5"])?;
     assert!(rt; two);
@@ -173,6 +225,12 @@ fn tuples_become_arguments_in_order(rt: HostRuntime) -> Result<(), AllocError> {
     assert!(rt; three);
     let four = is_written(alloc, &(true, false, None::<u8>, "x"), &[b"1", b"0", b"x"])?;
     assert!(rt; four);
+    Ok(())
+}
+
+#[test]
+fn long_tuples_become_arguments_in_order(rt: HostRuntime) -> Result<(), AllocError> {
+    let alloc = rt.alloc();
     let five = is_written(
         alloc,
         &(1u8, 2u8, 3u8, 4u8, 5u8),
@@ -185,16 +243,5 @@ fn tuples_become_arguments_in_order(rt: HostRuntime) -> Result<(), AllocError> {
         &[b"a", b"b", b"1", b"c", b"d", b"e", b"f"],
     )?;
     assert!(rt; six);
-    Ok(())
-}
-
-#[test]
-fn arguments_are_added_behind_others(rt: HostRuntime) -> Result<(), AllocError> {
-    let alloc = rt.alloc();
-    let mut command = Cmd::new(alloc);
-    b"SET".as_slice().write_redis_args(alloc, &mut command)?;
-    ("key", -120i32).write_redis_args(alloc, &mut command)?;
-    [1u16, 2].as_slice().write_redis_args(alloc, &mut command)?;
-    assert!(rt; has_args(&command, &[b"SET", b"key", b"-120", b"1", b"2"]));
     Ok(())
 }

@@ -4,11 +4,9 @@
 #[cfg(test)]
 mod arguments;
 #[cfg(test)]
-mod equality;
+mod bytes;
 #[cfg(test)]
 mod errors;
-#[cfg(test)]
-mod lists;
 #[cfg(test)]
 mod pipelines;
 #[cfg(test)]

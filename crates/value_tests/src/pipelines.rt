@@ -27,7 +27,7 @@ fn same_in_a_copy(alloc: Global, pipeline: &Pipeline, wanted: &[u8]) -> Result<b
     has_bytes(alloc, &copy, wanted)
 }
 
-/// The bytes with and without a transaction, and whether the commands and their arguments come in order.
+/// The bytes with and without a transaction, of a copy too.
 fn is_filled(alloc: Global, pipeline: &mut Pipeline) -> Result<bool, AllocError> {
     fill(alloc, pipeline)?;
     let plain = b"*3\r\n$3\r\nSET\r\n$1\r\nk\r\n$1\r\n1\r\n*1\r\n$4\r\nPING\r\n";
@@ -36,11 +36,7 @@ fn is_filled(alloc: Global, pipeline: &mut Pipeline) -> Result<bool, AllocError>
     let framed =
         b"*1\r\n$5\r\nMULTI\r\n*3\r\n$3\r\nSET\r\n$1\r\nk\r\n$1\r\n1\r\n*1\r\n$4\r\nPING\r\n*1\r\n$4\r\nEXEC\r\n";
     let within = same_in_a_copy(alloc, pipeline, framed)?;
-    let counted = pipeline
-        .cmd_iter()
-        .map(|c| c.args_iter().count())
-        .eq([3usize, 0, 1]);
-    Ok(without && within && counted && pipeline.len() == 3 && pipeline.is_transaction())
+    Ok(without && within && pipeline.len() == 3 && pipeline.is_transaction())
 }
 
 /// A transaction without commands, and one of a command without arguments.
@@ -49,20 +45,26 @@ fn is_empty_first(alloc: Global, pipeline: &mut Pipeline) -> Result<bool, AllocE
     pipeline.atomic();
     let none = has_bytes(alloc, pipeline, b"")? && pipeline.is_empty();
     pipeline.add_command(Cmd::new(alloc))?;
-    let frame = has_bytes(
-        alloc,
-        pipeline,
-        b"*1\r\n$5\r\nMULTI\r\n*1\r\n$4\r\nEXEC\r\n",
-    )?;
-    Ok(none && frame)
+    let frame: &[u8] = b"*1\r\n$5\r\nMULTI\r\n*1\r\n$4\r\nEXEC\r\n";
+    Ok(none && has_bytes(alloc, pipeline, frame)?)
 }
 
 #[test]
 fn pipelines_have_bytes(rt: HostRuntime) -> Result<(), AllocError> {
     let alloc = rt.alloc();
-    let filled = is_filled(alloc, &mut pipe(alloc))?;
+    let mut pipeline = pipe(alloc);
+    let filled = is_filled(alloc, &mut pipeline)?;
+    drop(pipeline);
     assert!(rt; filled);
-    let empty_first = is_empty_first(alloc, &mut Pipeline::new(alloc))?;
+    Ok(())
+}
+
+#[test]
+fn transactions_without_commands_have_bytes(rt: HostRuntime) -> Result<(), AllocError> {
+    let alloc = rt.alloc();
+    let mut pipeline = Pipeline::new(alloc);
+    let empty_first = is_empty_first(alloc, &mut pipeline)?;
+    drop(pipeline);
     assert!(rt; empty_first);
     Ok(())
 }

@@ -1,5 +1,5 @@
 use containers::Bytes;
-use resp_value::{RetryMethod, ServerError, ServerErrorKind};
+use resp_value::{ServerError, ServerErrorKind};
 use std::alloc::{AllocError, Global};
 
 const KINDS: [(&[u8], ServerErrorKind); 16] = [
@@ -21,18 +21,6 @@ const KINDS: [(&[u8], ServerErrorKind); 16] = [
     (b"err", ServerErrorKind::Other),
 ];
 
-const METHODS: [(&[u8], RetryMethod); 9] = [
-    (b"MOVED", RetryMethod::MovedRedirect),
-    (b"ASK", RetryMethod::AskRedirect),
-    (b"READONLY", RetryMethod::RefreshSlotsAndRetry),
-    (b"TRYAGAIN", RetryMethod::WaitAndRetry),
-    (b"CLUSTERDOWN", RetryMethod::WaitAndRetry),
-    (b"LOADING", RetryMethod::WaitAndRetry),
-    (b"MASTERDOWN", RetryMethod::WaitAndRetry),
-    (b"ERR", RetryMethod::NoRetry),
-    (b"", RetryMethod::NoRetry),
-];
-
 fn error(alloc: Global, code: &[u8], detail: &[u8]) -> Result<ServerError, AllocError> {
     let code = Bytes::from_slice(alloc, code)?;
     let detail = Some(Bytes::from_slice(alloc, detail)?);
@@ -43,23 +31,13 @@ fn is_of_kind(alloc: Global, code: &[u8], kind: ServerErrorKind) -> Result<bool,
     Ok(error(alloc, code, b"")?.kind() == kind)
 }
 
-fn has_method(alloc: Global, code: &[u8], method: RetryMethod) -> Result<bool, AllocError> {
-    Ok(error(alloc, code, b"")?.retry_method() == method)
-}
-
 #[test]
-fn codes_have_kinds_and_methods(rt: HostRuntime) -> Result<(), AllocError> {
+fn codes_have_kinds(rt: HostRuntime) -> Result<(), AllocError> {
     let alloc = rt.alloc();
     for (code, kind) in KINDS {
         let same = is_of_kind(alloc, code, kind)?;
         assert!(rt; same);
     }
-    for (code, method) in METHODS {
-        let same = has_method(alloc, code, method)?;
-        assert!(rt; same);
-    }
-    assert!(rt; RetryMethod::Reconnect.is_unrecoverable());
-    assert!(rt; !RetryMethod::NoRetry.is_unrecoverable());
     Ok(())
 }
 
@@ -69,6 +47,18 @@ fn leads(error: &ServerError, slot: u16, address: &[u8], ask: bool) -> bool {
         Some(to) => to.slot == slot && to.address == address && to.ask == ask,
         None => false,
     }
+}
+
+/// Whether this detail leads all commands to that slot and that address.
+fn moves_on(alloc: Global, detail: &[u8], slot: u16, address: &[u8]) -> Result<bool, AllocError> {
+    let moved = error(alloc, b"MOVED", detail)?;
+    Ok(leads(&moved, slot, address, false))
+}
+
+/// Whether this detail leads one command to that slot and that address.
+fn asks(alloc: Global, detail: &[u8], slot: u16, address: &[u8]) -> Result<bool, AllocError> {
+    let ask = error(alloc, b"ASK", detail)?;
+    Ok(leads(&ask, slot, address, true))
 }
 
 fn leads_nowhere(alloc: Global, code: &[u8], detail: &[u8]) -> Result<bool, AllocError> {
@@ -90,10 +80,16 @@ const NOWHERE: [&[u8]; 8] = [
 #[test]
 fn redirects_lead_to_nodes(rt: HostRuntime) -> Result<(), AllocError> {
     let alloc = rt.alloc();
-    let moved = error(alloc, b"MOVED", b"3999 127.0.0.1:6381")?;
-    assert!(rt; leads(&moved, 3999, b"127.0.0.1:6381", false));
-    let ask = error(alloc, b"ASK", b"0016383  h:1")?;
-    assert!(rt; leads(&ask, 16383, b" h:1", true));
+    let moved = moves_on(alloc, b"3999 127.0.0.1:6381", 3999, b"127.0.0.1:6381")?;
+    assert!(rt; moved);
+    let asked = asks(alloc, b"0016383  h:1", 16383, b" h:1")?;
+    assert!(rt; asked);
+    Ok(())
+}
+
+#[test]
+fn other_details_lead_nowhere(rt: HostRuntime) -> Result<(), AllocError> {
+    let alloc = rt.alloc();
     for detail in NOWHERE {
         let nowhere = leads_nowhere(alloc, b"MOVED", detail)?;
         assert!(rt; nowhere);
