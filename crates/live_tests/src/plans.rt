@@ -1,16 +1,14 @@
-use containers::{Bytes, Seq};
+use containers::{Bytes, Queue, Seq};
 use live_lines::{live, plan_of};
 use outside::{Dialed, LinkGot, LinkPut, MemSink, MemSource, MemWorld, WorldScript};
-use program_ends::Status;
 use redis_error::FaultKind;
 use std::alloc::{AllocError, Global};
 use std::sync::Wait;
-use std::test::*;
 use std::thread::Threads;
 
 const USAGE: &[u8] = b"usage\n";
 
-/// Two lines.
+/// Two requests.
 const LINES: &[u8] = b"submit cmd GET a\nsubmit cmd GET b\nend\n";
 
 fn texts(alloc: Global, words: &[&str]) -> Result<Vec<String>, AllocError> {
@@ -21,6 +19,8 @@ fn texts(alloc: Global, words: &[&str]) -> Result<Vec<String>, AllocError> {
     Ok(texts)
 }
 
+const URL: &str = "url=redis://h:6379";
+
 /// How many callers words set, 0 where they are no plan.
 fn callers(alloc: Global, words: &[&str]) -> Result<u32, AllocError> {
     let words = texts(alloc, words)?;
@@ -30,92 +30,102 @@ fn callers(alloc: Global, words: &[&str]) -> Result<u32, AllocError> {
     }
 }
 
-const URL: &str = "url=redis://h:6379";
+/// Words, and how many callers they set, 0 where they are no plan.
+const PLANS: [(&[&str], u32); 7] = [
+    (&["single", URL], 1),
+    (&["callers=8", "single", URL, "lib=off"], 8),
+    (&["callers=9", "single", URL], 0),
+    (&["callers=08", "single", URL], 0),
+    (&["callers=2", "callers=2", "single", URL], 0),
+    (&["callers=2"], 0),
+    (&[], 0),
+];
 
 #[test]
 fn words_are_plans(rt: HostRuntime) -> Result<(), AllocError> {
-    let alloc = rt.alloc();
-    assert_eq!(rt; callers(alloc, &["single", URL])?, 1);
-    assert_eq!(rt;
-        callers(alloc, &["callers=8", "single", URL, "lib=off"])?,
-        8
-    );
-    assert_eq!(rt; callers(alloc, &["callers=9", "single", URL])?, 0);
-    assert_eq!(rt; callers(alloc, &["callers=08", "single", URL])?, 0);
-    assert_eq!(rt;
-        callers(alloc, &["callers=2", "callers=2", "single", URL])?,
-        0
-    );
-    assert_eq!(rt; callers(alloc, &["callers=2"])?, 0);
-    assert_eq!(rt; callers(alloc, &[])?, 0);
+    for (words, wanted) in PLANS {
+        assert!(rt; callers(rt.alloc(), words)? == wanted);
+    }
     Ok(())
 }
 
-/// A world that answers its dial so, its reads each so and its writes so, with these bytes to come.
-fn world_of(
-    alloc: Global,
-    dial: Dialed,
-    reads: &[LinkGot],
-    write: LinkPut,
-    incoming: &[u8],
-) -> Result<MemWorld, AllocError> {
+/// How a world answers: its dial, its reads and its writes, and the bytes that come.
+type Answers = (Dialed, [LinkGot; 4], LinkPut, &'static [u8]);
+
+fn fill<T: Copy + Drop>(queue: &mut Queue<T>, items: &[T]) -> Result<(), AllocError> {
+    for item in items {
+        queue.push_back(*item)?;
+    }
+    Ok(())
+}
+
+fn fill_script(script: &mut WorldScript, answers: &Answers) -> Result<(), AllocError> {
+    let (dial, reads, write, incoming) = *answers;
+    fill(&mut script.dials, &[dial])?;
+    fill(&mut script.reads, &reads)?;
+    fill(&mut script.writes, &[write; 8])?;
+    script.incoming.extend_from_slice(incoming)
+}
+
+fn world(alloc: Global, answers: &Answers) -> Result<MemWorld, AllocError> {
     let mut script = WorldScript::new(alloc);
-    script.dials.push_back(dial)?;
-    for read in reads {
-        script.reads.push_back(*read)?;
-    }
-    for _ in 0..8 {
-        script.writes.push_back(write)?;
-    }
-    script.incoming.extend_from_slice(incoming)?;
+    fill_script(&mut script, answers)?;
     Ok(MemWorld::new(alloc, script))
 }
 
-/// What a live run by so many callers comes to, of these lines over that world.
-fn run_of<R: Threads + Wait + Sync>(
-    rt: &R,
-    alloc: Global,
-    callers: &str,
-    lines: &[u8],
-    world: &mut MemWorld,
-) -> Result<(Status, Bytes), AllocError> {
-    let words = [
-        callers,
-        "single",
-        URL,
-        "connect=none",
-        "response=none",
-        "lib=off",
-    ];
-    run_by(rt, alloc, &words, lines, world)
+fn source(alloc: Global, lines: &[u8]) -> Result<MemSource, AllocError> {
+    let text = Bytes::from_slice(alloc, lines)?;
+    Ok(MemSource::new(text, 1000, Seq::new(alloc)))
 }
 
-/// What the live run of these words comes to.
-fn run_by<R: Threads + Wait + Sync>(
+/// The status of a live run of these words and lines over that world. Its output goes to `sink`.
+fn run<R: Threads + Wait + Sync>(
     rt: &R,
     alloc: Global,
     words: &[&str],
     lines: &[u8],
     world: &mut MemWorld,
-) -> Result<(Status, Bytes), AllocError> {
+    sink: &mut MemSink,
+) -> Result<u8, AllocError> {
     let words = texts(alloc, words)?;
-    let text = Bytes::from_slice(alloc, lines)?;
-    let mut source = MemSource::new(text, 1000, Seq::new(alloc));
-    let mut sink = MemSink::new(alloc, 1000, Seq::new(alloc));
-    let status = live(
-        rt,
-        alloc,
-        words.as_slice(),
-        USAGE,
-        &mut source,
-        &mut sink,
-        world,
-    );
-    Ok((status, Bytes::from_slice(alloc, sink.as_slice())?))
+    let mut source = source(alloc, lines)?;
+    let status = live(rt, alloc, words.as_slice(), USAGE, &mut source, sink, world);
+    Ok(status.number())
 }
 
-/// How the world answers: its dial, its reads and its writes; and the lines that are written then.
-type Row = (Dialed, [LinkGot; 4], LinkPut, &'static [u8]);
+/// Whether a live run has this status and writes this text.
+fn gives<R: Threads + Wait + Sync>(
+    rt: &R,
+    alloc: Global,
+    words: &[&str],
+    lines: &[u8],
+    answers: &Answers,
+    wanted: (u8, &[u8]),
+) -> Result<bool, AllocError> {
+    let mut world = world(alloc, answers)?;
+    let mut sink = MemSink::new(alloc, 1000, Seq::new(alloc));
+    let status = run(rt, alloc, words, lines, &mut world, &mut sink)?;
+    Ok(status == wanted.0 && sink.as_slice() == wanted.1)
+}
+
+/// Words of a plan of one caller, and of three.
+const ONE: &[&str] = &[
+    "callers=1",
+    "single",
+    URL,
+    "connect=none",
+    "response=none",
+    "lib=off",
+];
+
+const THREE: &[&str] = &[
+    "callers=3",
+    "single",
+    URL,
+    "connect=none",
+    "response=none",
+    "lib=off",
+];
 
 const ALL: LinkPut = LinkPut::Took(1000);
 
@@ -126,118 +136,110 @@ const LATE: [LinkGot; 4] = [
     LinkGot::Read(1000),
 ];
 
-const ROWS: [Row; 5] = [
+/// Both requests are answered late.
+const BOTH: Answers = (Dialed::Yes, LATE, ALL, b"+x\r\n+y\r\n");
+
+/// How the world answers, and the lines that are written then.
+const WORLDS: [(Answers, &[u8]); 5] = [
+    (BOTH, b"outcome s0 ok +x%0D%0A\noutcome s1 ok +y%0D%0A\n"),
     (
-        Dialed::Yes,
-        LATE,
-        ALL,
-        b"outcome s0 ok +x%0D%0A\noutcome s1 ok +y%0D%0A\n",
-    ),
-    (
-        Dialed::Failed(FaultKind::Refused),
-        LATE,
-        ALL,
+        (Dialed::Failed(FaultKind::Refused), LATE, ALL, b""),
         b"outcome s0 err io refused\noutcome s1 err io refused\n",
     ),
     (
-        Dialed::Yes,
-        LATE,
-        LinkPut::Failed(FaultKind::BrokenPipe),
+        (
+            Dialed::Yes,
+            LATE,
+            LinkPut::Failed(FaultKind::BrokenPipe),
+            b"",
+        ),
         b"outcome s0 err io broken-pipe\noutcome s1 err closed\n",
     ),
     (
-        Dialed::Yes,
-        [
-            LinkGot::NotYet,
-            LinkGot::Read(4),
-            LinkGot::Ended,
-            LinkGot::NotYet,
-        ],
-        ALL,
+        (
+            Dialed::Yes,
+            [
+                LinkGot::NotYet,
+                LinkGot::Read(4),
+                LinkGot::Ended,
+                LinkGot::NotYet,
+            ],
+            ALL,
+            b"+x\r\n+y\r\n",
+        ),
         b"outcome s0 ok +x%0D%0A\noutcome s1 err closed\n",
     ),
     (
-        Dialed::Yes,
-        [LinkGot::NotYet; 4],
-        LinkPut::NotYet,
+        (Dialed::Yes, [LinkGot::NotYet; 4], LinkPut::NotYet, b""),
         b"outcome s0 err closed\noutcome s1 err closed\n",
     ),
 ];
 
 #[test]
 fn each_world_gives_its_outcomes(rt: HostRuntime) -> Result<(), AllocError> {
-    let alloc = rt.alloc();
-    for (dial, reads, write, wanted) in ROWS {
-        let mut world = world_of(alloc, dial, &reads, write, b"+x\r\n+y\r\n")?;
-        let (status, text) = run_of(&rt, alloc, "callers=1", LINES, &mut world)?;
-        assert_eq!(rt; status.number(), 0);
-        assert_eq!(rt; text.as_slice(), wanted);
+    for (answers, wanted) in WORLDS {
+        assert!(rt; gives(&rt, rt.alloc(), ONE, LINES, &answers, (0, wanted))?);
     }
     Ok(())
 }
 
-/// Lines, and the status and the line of their refusal.
-const FAULTS: [(&[u8], u8, &[u8]); 4] = [
-    (b"submit cmd GET a\n", 2, b"script line 2\n"),
+/// Words and lines that are refused, the status, and the line of their refusal.
+const FAULTS: [(&[&str], &[u8], u8, &[u8]); 9] = [
+    (THREE, b"submit cmd GET a\n", 2, b"script line 2\n"),
     (
+        THREE,
         b"submit cmd GET a\nconnected 0\nend\n",
         2,
         b"script line 2\n",
     ),
-    (b"end\nsubmit cmd GET a\n", 2, b"script line 2\n"),
-    (b"", 2, b"script line 1\n"),
-];
-
-#[test]
-fn lines_at_fault_are_told(rt: HostRuntime) -> Result<(), AllocError> {
-    let alloc = rt.alloc();
-    for (lines, number, wanted) in FAULTS {
-        let mut world = world_of(alloc, Dialed::Yes, &LATE, ALL, b"")?;
-        let (status, text) = run_of(&rt, alloc, "callers=3", lines, &mut world)?;
-        assert_eq!(rt; status.number(), number);
-        assert_eq!(rt; text.as_slice(), wanted);
-    }
-    Ok(())
-}
-
-#[test]
-fn words_that_are_no_plan_are_told(rt: HostRuntime) -> Result<(), AllocError> {
-    let alloc = rt.alloc();
-    let mut world = world_of(alloc, Dialed::Yes, &LATE, ALL, b"")?;
-    let (status, text) = run_of(&rt, alloc, "callers=9", LINES, &mut world)?;
-    assert_eq!(rt; status.number(), 1);
-    assert_eq!(rt; text.as_slice(), USAGE);
-    Ok(())
-}
-
-/// Settings, the status of their run, and what it writes first.
-const CREDENTIALS: [([&str; 3], u8, &[u8]); 5] = [
+    (THREE, b"end\nsubmit cmd GET a\n", 2, b"script line 2\n"),
+    (THREE, b"", 2, b"script line 1\n"),
+    (&["callers=9", "single", URL], LINES, 1, USAGE),
     (
-        ["creds=on", "lib=off", "connect=none"],
+        &["single", URL, "creds=on", "lib=off", "connect=none"],
+        LINES,
         3,
         b"config creds\n",
     ),
-    (["lib=off", "creds=on", "limit=0"], 3, b"config limit\n"),
-    (["creds=on", "creds=on", "lib=off"], 1, USAGE),
-    (["creds=yes", "lib=off", "connect=none"], 1, USAGE),
     (
-        ["lib=off", "connect=none", "creds=off"],
-        0,
-        b"outcome s0 ok +x%0D%0A\n",
+        &["single", URL, "lib=off", "creds=on", "limit=0"],
+        LINES,
+        3,
+        b"config limit\n",
+    ),
+    (
+        &["single", URL, "creds=on", "creds=on", "lib=off"],
+        LINES,
+        1,
+        USAGE,
+    ),
+    (
+        &["single", URL, "creds=yes", "lib=off", "connect=none"],
+        LINES,
+        1,
+        USAGE,
     ),
 ];
 
 #[test]
-fn credentials_are_refused(rt: HostRuntime) -> Result<(), AllocError> {
-    let alloc = rt.alloc();
-    let lines = b"submit cmd GET a\nend\n";
-    for (settings, number, wanted) in CREDENTIALS {
-        let [first, second, third] = settings;
-        let words = ["single", URL, "response=none", first, second, third];
-        let mut world = world_of(alloc, Dialed::Yes, &LATE, ALL, b"+x\r\n")?;
-        let (status, text) = run_by(&rt, alloc, &words, lines, &mut world)?;
-        assert_eq!(rt; status.number(), number);
-        assert_eq!(rt; text.as_slice(), wanted);
+fn what_is_refused_is_told(rt: HostRuntime) -> Result<(), AllocError> {
+    for (words, lines, number, wanted) in FAULTS {
+        assert!(rt; gives(&rt, rt.alloc(), words, lines, &BOTH, (number, wanted))?);
     }
+    Ok(())
+}
+
+#[test]
+fn no_credentials_are_no_refusal(rt: HostRuntime) -> Result<(), AllocError> {
+    let words = [
+        "single",
+        URL,
+        "response=none",
+        "lib=off",
+        "connect=none",
+        "creds=off",
+    ];
+    let wanted = b"outcome s0 ok +x%0D%0A\noutcome s1 ok +y%0D%0A\n".as_slice();
+    assert!(rt; gives(&rt, rt.alloc(), &words, LINES, &BOTH, (0, wanted))?);
     Ok(())
 }

@@ -4,22 +4,28 @@ use live_run::{Ending, drive};
 use outside::{Dialed, LinkGot, LinkPut, MemWorld, WorldScript};
 use redis_error::FaultKind;
 use resp_write::canonical_text;
-use shared_session::{MakeError, Session, StepError};
+use shared_session::Session;
 use std::alloc::{AllocError, Global};
-use std::process::Abort;
-use std::test::Fail;
+
+/// The configuration of a session whose requests are to be answered within so many milliseconds.
+fn config(alloc: Global, response: Option<u64>) -> Result<Config, AllocError> {
+    let mut config = Config::new(Bytes::from_slice(alloc, b"redis://h:6379")?);
+    config.connect = Some(None);
+    config.response = Some(response);
+    config.lib = Some(false);
+    Ok(config)
+}
 
 /// A session that has made its opening.
 fn open(
     alloc: Global,
     response: Option<u64>,
     actions: &mut Vec<Action>,
-) -> Result<Session, MakeError> {
-    let mut config = Config::new(Bytes::from_slice(alloc, b"redis://h:6379")?);
-    config.connect = Some(None);
-    config.response = Some(response);
-    config.lib = Some(false);
-    Session::new(alloc, config, 0, actions)
+) -> Result<Session, AllocError> {
+    match Session::new(alloc, config(alloc, response)?, 0, actions) {
+        Ok(session) => Ok(session),
+        Err(_) => Err(AllocError),
+    }
 }
 
 fn get(alloc: Global, key: &[u8]) -> Result<Event, AllocError> {
@@ -27,10 +33,17 @@ fn get(alloc: Global, key: &[u8]) -> Result<Event, AllocError> {
     Ok(Event::submit(Submission::Cmd { args }))
 }
 
-/// The first link is to be closed.
-fn close_first(actions: &mut Vec<Action>) -> Result<(), AllocError> {
-    actions.push(Action::Close { link: 0 })?;
-    Ok(())
+/// A caller hands in a request.
+fn submit(
+    alloc: Global,
+    session: &mut Session,
+    key: &[u8],
+    actions: &mut Vec<Action>,
+) -> Result<(), AllocError> {
+    match session.step(alloc, get(alloc, key)?, actions) {
+        Ok(()) => Ok(()),
+        Err(_) => Err(AllocError),
+    }
 }
 
 /// Two callers hand in a request each, and the first link may end before its dial.
@@ -39,31 +52,27 @@ fn submit_both(
     session: &mut Session,
     actions: &mut Vec<Action>,
     ends: bool,
-) -> Result<bool, AllocError> {
-    for key in [b"a", b"b"] {
-        let event = get(alloc, key)?;
-        if session.step(alloc, event, actions).is_err() {
-            return Ok(false);
-        }
-    }
+) -> Result<(), AllocError> {
+    submit(alloc, session, b"a", actions)?;
+    submit(alloc, session, b"b", actions)?;
     if ends {
-        close_first(actions)?;
+        actions.push(Action::Close { link: 0 })?;
     }
-    Ok(true)
+    Ok(())
 }
 
-fn queue<T: Copy + Drop>(alloc: Global, items: &[T]) -> Result<Queue<T>, AllocError> {
-    let mut queue = Queue::new(alloc);
+fn fill<T: Copy + Drop>(queue: &mut Queue<T>, items: &[T]) -> Result<(), AllocError> {
     for item in items {
         queue.push_back(*item)?;
     }
-    Ok(queue)
+    Ok(())
 }
 
-/// What a world answers: its dials, reads and writes, the bytes that come, and its moments. And whether the first link ends
-/// before its dial.
+/// What a world answers: its dials, reads and writes, the bytes that come, and its moments. And within what time a request
+/// is to be answered, and whether the first link ends before its dial.
 #[derive(Clone, Copy)]
 struct Answers {
+    response: Option<u64>,
     ends: bool,
     dials: &'static [Dialed],
     reads: &'static [LinkGot],
@@ -72,15 +81,17 @@ struct Answers {
     moments: &'static [u64],
 }
 
+fn fill_script(script: &mut WorldScript, answers: &Answers) -> Result<(), AllocError> {
+    fill(&mut script.dials, answers.dials)?;
+    fill(&mut script.reads, answers.reads)?;
+    fill(&mut script.writes, answers.writes)?;
+    fill(&mut script.moments, answers.moments)?;
+    script.incoming.extend_from_slice(answers.incoming)
+}
+
 fn world(alloc: Global, answers: &Answers) -> Result<MemWorld, AllocError> {
-    let script = WorldScript {
-        dials: queue(alloc, answers.dials)?,
-        reads: queue(alloc, answers.reads)?,
-        incoming: Bytes::from_slice(alloc, answers.incoming)?,
-        writes: queue(alloc, answers.writes)?,
-        moments: queue(alloc, answers.moments)?,
-        words: Queue::new(alloc),
-    };
+    let mut script = WorldScript::new(alloc);
+    fill_script(&mut script, answers)?;
     Ok(MemWorld::new(alloc, script))
 }
 
@@ -94,140 +105,145 @@ fn told(outcome: Option<&Outcome>) -> u8 {
     }
 }
 
-/// Drives two requests over a world, and tells how it ended, what became of them, how many events the history holds and
-/// how many calls the world had.
-fn driven(
-    alloc: Global,
-    response: Option<u64>,
-    answers: &Answers,
-) -> Result<Option<(Ending, u8, u8, u32, usize)>, AllocError> {
-    let mut actions = Vec::new(alloc);
-    let Ok(mut session) = open(alloc, response, &mut actions) else {
-        return Ok(None);
-    };
-    if !submit_both(alloc, &mut session, &mut actions, answers.ends)? {
-        return Ok(None);
-    }
-    let mut world = world(alloc, answers)?;
-    let Ok(ending) = drive(alloc, &mut session, actions, 2, &mut world) else {
-        return Ok(None);
-    };
+/// How a run ended, what became of its two requests, how many events its history holds and how many calls its world had.
+type End = (Ending, u8, u8, u32, usize);
+
+fn end(ending: Ending, session: &Session, world: &MemWorld) -> End {
     let calls = match world.calls() {
         Some(calls) => calls.len(),
         None => 0,
     };
-    Ok(Some((
-        ending,
-        told(session.outcome_of(0)),
-        told(session.outcome_of(1)),
-        session.events_taken(),
-        calls,
-    )))
+    let first = told(session.outcome_of(0));
+    let second = told(session.outcome_of(1));
+    (ending, first, second, session.events_taken(), calls)
 }
 
-const NOT_YET: LinkGot = LinkGot::NotYet;
-
-#[test]
-fn both_are_answered(rt: HostRuntime) -> Result<(), Fail> {
-    let answers = Answers {
-        ends: false,
-        dials: &[Dialed::Yes],
-        reads: &[NOT_YET, NOT_YET, NOT_YET, LinkGot::Read(8)],
-        incoming: b"+x\r\n+y\r\n",
-        writes: &[LinkPut::Took(1_000), LinkPut::Took(1_000)],
-        moments: &[],
-    };
-    let want = Some((Ending::Answered, b'v', b'v', 6, 17));
-    assert_eq!(rt; driven(rt.alloc(), None, &answers)?, want);
-    Ok(())
+/// Drives a session over a world.
+fn run(
+    alloc: Global,
+    session: &mut Session,
+    actions: Vec<Action>,
+    world: &mut MemWorld,
+) -> Result<End, AllocError> {
+    match drive(alloc, session, actions, 2, world) {
+        Ok(ending) => Ok(end(ending, session, world)),
+        Err(_) => Err(AllocError),
+    }
 }
 
-#[test]
-fn a_refused_dial_answers_all(rt: HostRuntime) -> Result<(), Fail> {
-    let answers = Answers {
-        ends: false,
-        dials: &[Dialed::Failed(FaultKind::Refused)],
-        reads: &[],
-        incoming: b"",
-        writes: &[],
-        moments: &[],
-    };
-    let want = Some((Ending::Answered, b'f', b'f', 4, 4));
-    assert_eq!(rt; driven(rt.alloc(), None, &answers)?, want);
-    Ok(())
+/// Drives two requests over a new world.
+fn driven(alloc: Global, answers: &Answers) -> Result<End, AllocError> {
+    let mut world = world(alloc, answers)?;
+    let mut actions = Vec::new(alloc);
+    let mut session = open(alloc, answers.response, &mut actions)?;
+    submit_both(alloc, &mut session, &mut actions, answers.ends)?;
+    run(alloc, &mut session, actions, &mut world)
 }
 
-#[test]
-fn a_silent_world_ends_the_run(rt: HostRuntime) -> Result<(), Fail> {
-    let answers = Answers {
-        ends: false,
-        dials: &[Dialed::Yes],
-        reads: &[],
-        incoming: b"",
-        writes: &[],
-        moments: &[],
-    };
-    let want = Some((Ending::Idle, b'f', b'f', 4, 24_007));
-    assert_eq!(rt; driven(rt.alloc(), None, &answers)?, want);
-    Ok(())
-}
+/// What a run shows, its world, and how it ends.
+const RUNS: [(&str, Answers, End); 7] = [
+    (
+        "both are answered",
+        Answers {
+            response: None,
+            ends: false,
+            dials: &[Dialed::Yes],
+            reads: &[
+                LinkGot::NotYet,
+                LinkGot::NotYet,
+                LinkGot::NotYet,
+                LinkGot::Read(8),
+            ],
+            incoming: b"+x\r\n+y\r\n",
+            writes: &[LinkPut::Took(1_000), LinkPut::Took(1_000)],
+            moments: &[],
+        },
+        (Ending::Answered, b'v', b'v', 6, 17),
+    ),
+    (
+        "a refused dial answers all",
+        Answers {
+            response: None,
+            ends: false,
+            dials: &[Dialed::Failed(FaultKind::Refused)],
+            reads: &[],
+            incoming: b"",
+            writes: &[],
+            moments: &[],
+        },
+        (Ending::Answered, b'f', b'f', 4, 4),
+    ),
+    (
+        "a silent world ends the run",
+        Answers {
+            response: None,
+            ends: false,
+            dials: &[Dialed::Yes],
+            reads: &[],
+            incoming: b"",
+            writes: &[],
+            moments: &[],
+        },
+        (Ending::Idle, b'f', b'f', 4, 24_007),
+    ),
+    (
+        "a link ends in the middle",
+        Answers {
+            response: None,
+            ends: false,
+            dials: &[Dialed::Yes],
+            reads: &[LinkGot::NotYet, LinkGot::Read(4), LinkGot::Ended],
+            incoming: b"+x\r\n",
+            writes: &[LinkPut::Took(1_000), LinkPut::Took(1_000)],
+            moments: &[],
+        },
+        (Ending::Answered, b'v', b'f', 7, 14),
+    ),
+    (
+        "a timer fires when it is due",
+        Answers {
+            response: Some(500),
+            ends: false,
+            dials: &[Dialed::Yes],
+            reads: &[],
+            incoming: b"",
+            writes: &[LinkPut::Took(1_000)],
+            moments: &[10, 509, 510],
+        },
+        (Ending::Answered, b'f', b'f', 7, 15),
+    ),
+    (
+        "a timer that is not due does not fire",
+        Answers {
+            response: Some(500),
+            ends: false,
+            dials: &[Dialed::Yes],
+            reads: &[],
+            incoming: b"",
+            writes: &[LinkPut::Took(1_000)],
+            moments: &[10, 509],
+        },
+        (Ending::Idle, b'f', b'f', 5, 18_008),
+    ),
+    (
+        "a link that ended is not dialled",
+        Answers {
+            response: None,
+            ends: true,
+            dials: &[Dialed::Yes],
+            reads: &[],
+            incoming: b"",
+            writes: &[],
+            moments: &[],
+        },
+        (Ending::Idle, b'f', b'f', 3, 12_001),
+    ),
+];
 
 #[test]
-fn a_link_ends_in_the_middle(rt: HostRuntime) -> Result<(), Fail> {
-    let answers = Answers {
-        ends: false,
-        dials: &[Dialed::Yes],
-        reads: &[NOT_YET, LinkGot::Read(4), LinkGot::Ended],
-        incoming: b"+x\r\n",
-        writes: &[LinkPut::Took(1_000), LinkPut::Took(1_000)],
-        moments: &[],
-    };
-    let want = Some((Ending::Answered, b'v', b'f', 7, 14));
-    assert_eq!(rt; driven(rt.alloc(), None, &answers)?, want);
-    Ok(())
-}
-
-#[test]
-fn a_timer_fires_when_it_is_due(rt: HostRuntime) -> Result<(), Fail> {
-    let answers = Answers {
-        ends: false,
-        dials: &[Dialed::Yes],
-        reads: &[],
-        incoming: b"",
-        writes: &[LinkPut::Took(1_000)],
-        moments: &[10, 509, 510],
-    };
-    let want = Some((Ending::Answered, b'f', b'f', 7, 15));
-    assert_eq!(rt; driven(rt.alloc(), Some(500), &answers)?, want);
-    Ok(())
-}
-
-#[test]
-fn a_timer_that_is_not_due_does_not_fire(rt: HostRuntime) -> Result<(), Fail> {
-    let answers = Answers {
-        ends: false,
-        dials: &[Dialed::Yes],
-        reads: &[],
-        incoming: b"",
-        writes: &[LinkPut::Took(1_000)],
-        moments: &[10, 509],
-    };
-    let want = Some((Ending::Idle, b'f', b'f', 5, 18_008));
-    assert_eq!(rt; driven(rt.alloc(), Some(500), &answers)?, want);
-    Ok(())
-}
-
-#[test]
-fn a_link_that_ended_is_not_dialled(rt: HostRuntime) -> Result<(), Fail> {
-    let answers = Answers {
-        ends: true,
-        dials: &[Dialed::Yes],
-        reads: &[],
-        incoming: b"",
-        writes: &[],
-        moments: &[],
-    };
-    let want = Some((Ending::Idle, b'f', b'f', 3, 12_001));
-    assert_eq!(rt; driven(rt.alloc(), None, &answers)?, want);
+fn each_world_ends_its_run(rt: HostRuntime) -> Result<(), AllocError> {
+    for (name, answers, wanted) in RUNS {
+        assert!(rt; driven(rt.alloc(), &answers)? == wanted, "{name}");
+    }
     Ok(())
 }

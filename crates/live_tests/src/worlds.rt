@@ -6,8 +6,6 @@ use redis_error::FaultKind;
 use std::alloc::{AllocError, Global};
 use std::io;
 use std::io::{ErrorKind, Read, Write};
-use std::process::Abort;
-use std::test::Fail;
 
 /// A writer that takes nothing.
 #[derive(Drop)]
@@ -81,164 +79,244 @@ fn mem_source(alloc: Global, fails: Option<u64>) -> Result<MemSource, AllocError
     Ok(MemSource::new(bytes, 4, numbers(alloc, fails)?))
 }
 
+/// Whether a source answers its next read so, with these four bytes in the room after it.
+fn reads(source: &mut MemSource, room: &mut [u8; 8], got: Got, front: &[u8], faults: u64) -> bool {
+    if source.read(room) != got {
+        return false;
+    }
+    room[..4] == front[..] && source.faults() == faults
+}
+
+/// What each read of `hello world` gives where the second is to fail, the four bytes in the room, and the faults so far.
+const READS: [(Got, &[u8], u64); 5] = [
+    (Got::Read(4), b"hell", 0),
+    (Got::Failed, b"hell", 1),
+    (Got::Read(4), b"o wo", 1),
+    (Got::Read(3), b"rldo", 1),
+    (Got::End, b"rldo", 1),
+];
+
 #[test]
-fn a_source_gives_its_bytes_in_order_and_fails_where_it_is_to(rt: HostRuntime) -> Result<(), Fail> {
+fn a_source_gives_its_bytes_in_order_and_fails_where_it_is_to(
+    rt: HostRuntime,
+) -> Result<(), AllocError> {
     let mut source = mem_source(rt.alloc(), Some(1))?;
     let mut room = [0u8; 8];
-    let steps = [
-        (Got::Read(4), "hell", 0),
-        (Got::Failed, "hell", 1),
-        (Got::Read(4), "o wo", 1),
-        (Got::Read(3), "rldo", 1),
-        (Got::End, "rldo", 1),
-    ];
-    for (got, front, faults) in steps {
-        assert_eq!(rt; source.read(&mut room), got);
-        assert_eq!(rt; room[..4], front.as_bytes()[..]);
-        assert_eq!(rt; source.faults(), faults);
+    for (got, front, faults) in READS {
+        assert!(rt; reads(&mut source, &mut room, got, front, faults));
     }
     Ok(())
 }
 
+/// Whether what was read is this.
+fn is(read: Result<Bytes, ReadAllError>, wanted: Result<&[u8], ReadAllError>) -> bool {
+    match (read, wanted) {
+        (Ok(bytes), Ok(text)) => bytes.as_slice() == text,
+        (Err(error), Err(other)) => error == other,
+        _ => false,
+    }
+}
+
+/// Whether a whole source, of which a read may fail, is read so.
+fn is_read(
+    alloc: Global,
+    fails: Option<u64>,
+    most: usize,
+    wanted: Result<&[u8], ReadAllError>,
+) -> Result<bool, AllocError> {
+    let mut source = mem_source(alloc, fails)?;
+    Ok(is(read_all(alloc, &mut source, most), wanted))
+}
+
 #[test]
-fn a_whole_source_is_read_unless_it_fails_or_is_too_long(rt: HostRuntime) -> Result<(), Fail> {
-    let cases = [
-        (None, 11, Ok("hello world")),
+fn a_whole_source_is_read_unless_it_fails_or_is_too_long(
+    rt: HostRuntime,
+) -> Result<(), AllocError> {
+    for (fails, most, wanted) in [
+        (None, 11, Ok(b"hello world".as_slice())),
         (None, 10, Err(ReadAllError::TooLong)),
         (Some(1), 11, Err(ReadAllError::Fault)),
-    ];
-    for (fails, most, want) in cases {
-        let mut source = mem_source(rt.alloc(), fails)?;
-        match read_all(rt.alloc(), &mut source, most) {
-            Ok(bytes) => assert_eq!(rt; Ok(bytes.as_slice()), want.map(|text| text.as_bytes())),
-            Err(error) => assert_eq!(rt; Err(error), want),
-        }
+    ] {
+        assert!(rt; is_read(rt.alloc(), fails, most, wanted)?);
     }
     Ok(())
 }
 
-#[test]
-fn a_feed_ends_the_reading_when_it_has_enough(rt: HostRuntime) -> Result<(), Fail> {
-    let mut source = mem_source(rt.alloc(), None)?;
+/// Whether a feed that has enough ends the reading of `hello world`.
+fn ends_early(alloc: Global) -> Result<bool, AllocError> {
+    let mut source = mem_source(alloc, None)?;
     let mut feed = Five {
-        bytes: Bytes::new(rt.alloc()),
+        bytes: Bytes::new(alloc),
     };
-    assert_eq!(rt;
-        feed_all(rt.alloc(), &mut source, &mut feed),
-        Ok(Fed::Enough)
-    );
-    assert_eq!(rt; feed.bytes.as_slice(), b"hello wo".as_slice());
-    Ok(())
+    let fed = feed_all(alloc, &mut source, &mut feed);
+    Ok(fed == Ok(Fed::Enough) && feed.bytes.as_slice() == b"hello wo".as_slice())
 }
 
 #[test]
-fn a_sink_takes_bytes_until_a_write_fails(rt: HostRuntime) -> Result<(), Fail> {
-    let cases = [(Some(2), false, "abcdef", 1), (None, true, "abcdefgh", 0)];
-    for (fails, done, held, faults) in cases {
-        let mut sink = MemSink::new(rt.alloc(), 3, numbers(rt.alloc(), fails)?);
-        assert_eq!(rt; write_all(&mut sink, b"abcdefgh"), done);
-        assert_eq!(rt; sink.as_slice(), held.as_bytes());
-        assert_eq!(rt; sink.faults(), faults);
-    }
+fn a_feed_ends_the_reading_when_it_has_enough(rt: HostRuntime) -> Result<(), AllocError> {
+    assert!(rt; ends_early(rt.alloc())?);
     Ok(())
 }
 
+/// Whether a sink of which a write may fail takes so much of `abcdefgh`.
+fn takes(
+    alloc: Global,
+    fails: Option<u64>,
+    done: bool,
+    held: &[u8],
+    faults: u64,
+) -> Result<bool, AllocError> {
+    let mut sink = MemSink::new(alloc, 3, numbers(alloc, fails)?);
+    let all = write_all(&mut sink, b"abcdefgh");
+    Ok(all == done && sink.as_slice() == held && sink.faults() == faults)
+}
+
 #[test]
-fn sure_ends_never_fail(rt: HostRuntime) -> Result<(), Fail> {
-    let mut source = SureSource::new(Bytes::from_slice(rt.alloc(), b"hello world")?);
-    match read_surely(rt.alloc(), &mut source, 11) {
-        Ok(bytes) => assert_eq!(rt; bytes.as_slice(), b"hello world".as_slice()),
-        Err(error) => assert_eq!(rt; Err(error), Ok(())),
-    }
-    assert_eq!(rt; source.faults(), 0);
+fn a_sink_takes_bytes_until_a_write_fails(rt: HostRuntime) -> Result<(), AllocError> {
+    assert!(rt; takes(rt.alloc(), Some(2), false, b"abcdef", 1)?);
+    assert!(rt; takes(rt.alloc(), None, true, b"abcdefgh", 0)?);
+    Ok(())
+}
+
+/// Whether a sure source gives all its bytes.
+fn gives_surely(alloc: Global) -> Result<bool, AllocError> {
+    let mut source = SureSource::new(Bytes::from_slice(alloc, b"hello world")?);
+    let read = read_surely(alloc, &mut source, 11);
+    Ok(is(read, Ok(b"hello world".as_slice())) && source.faults() == 0)
+}
+
+#[test]
+fn sure_ends_never_fail(rt: HostRuntime) -> Result<(), AllocError> {
+    assert!(rt; gives_surely(rt.alloc())?);
     let mut sink = SureSink::new();
     assert!(rt; write_surely(&mut sink, b"abc"));
-    assert_eq!(rt; sink.faults(), 0);
+    assert!(rt; sink.faults() == 0);
     Ok(())
+}
+
+/// Whether a reader of std is a source.
+fn reader_gives(alloc: Global) -> bool {
+    let mut source = StdSource::new(b"hello world".as_slice());
+    is(
+        read_all(alloc, &mut source, 11),
+        Ok(b"hello world".as_slice()),
+    )
+}
+
+/// Whether a reader that fails is a source that fails.
+fn reader_fails() -> bool {
+    let mut broken = StdSource::new(Broken);
+    broken.read(&mut [0u8; 4]) == Got::Failed && broken.faults() == 1
+}
+
+/// Whether a writer of std is a sink.
+fn writer_takes(alloc: Global) -> bool {
+    let mut held = Vec::new(alloc);
+    let all = write_all(&mut StdSink::new(&mut held), b"abc");
+    all && held.as_slice() == b"abc".as_slice()
+}
+
+/// Whether a writer that takes nothing is a sink that fails.
+fn writer_fails() -> bool {
+    let mut full = StdSink::new(Full);
+    full.write(b"abc") == Put::Failed && full.faults() == 1
 }
 
 #[test]
-fn readers_and_writers_of_std_are_ends(rt: HostRuntime) -> Result<(), Fail> {
-    let mut source = StdSource::new(b"hello world".as_slice());
-    match read_all(rt.alloc(), &mut source, 11) {
-        Ok(bytes) => assert_eq!(rt; bytes.as_slice(), b"hello world".as_slice()),
-        Err(error) => assert_eq!(rt; Err(error), Ok(())),
-    }
-    let mut broken = StdSource::new(Broken);
-    assert_eq!(rt; broken.read(&mut [0u8; 4]), Got::Failed);
-    assert_eq!(rt; broken.faults(), 1);
-    let mut held = Vec::new(rt.alloc());
-    assert!(rt; write_all(&mut StdSink::new(&mut held), b"abc"));
-    assert_eq!(rt; held.as_slice(), b"abc".as_slice());
-    let mut full = StdSink::new(Full);
-    assert_eq!(rt; full.write(b"abc"), Put::Failed);
-    assert_eq!(rt; full.faults(), 1);
-    assert_eq!(rt; standard_input(&rt).faults(), 0);
-    assert!(rt; write_all(&mut standard_output(&rt), b"written\n"));
-    Ok(())
+fn readers_and_writers_of_std_are_ends(rt: HostRuntime) {
+    assert!(rt; reader_gives(rt.alloc()));
+    assert!(rt; reader_fails());
+    assert!(rt; writer_takes(rt.alloc()));
+    assert!(rt; writer_fails());
 }
 
-fn queue<T: Copy + Drop>(alloc: Global, items: &[T]) -> Result<Queue<T>, AllocError> {
-    let mut queue = Queue::new(alloc);
+#[test]
+fn the_program_has_its_own_ends(rt: HostRuntime) {
+    assert!(rt; standard_input(&rt).faults() == 0);
+    assert!(rt; write_all(&mut standard_output(&rt), b"written\n"));
+}
+
+fn fill<T: Copy + Drop>(queue: &mut Queue<T>, items: &[T]) -> Result<(), AllocError> {
     for item in items {
         queue.push_back(*item)?;
     }
-    Ok(queue)
+    Ok(())
 }
 
-fn script(alloc: Global) -> Result<WorldScript, AllocError> {
-    let dials = queue(alloc, &[Dialed::Yes])?;
-    let reads = queue(alloc, &[LinkGot::Read(9), LinkGot::NotYet, LinkGot::Ended])?;
-    let writes = queue(
-        alloc,
-        &[LinkPut::Took(2), LinkPut::Failed(FaultKind::Reset)],
+const CUT: LinkPut = LinkPut::Failed(FaultKind::Reset);
+
+fn fill_script(script: &mut WorldScript) -> Result<(), AllocError> {
+    fill(&mut script.dials, &[Dialed::Yes])?;
+    fill(
+        &mut script.reads,
+        &[LinkGot::Read(9), LinkGot::NotYet, LinkGot::Ended],
     )?;
-    let moments = queue(alloc, &[5])?;
-    let words = queue(alloc, &[7])?;
-    let incoming = Bytes::from_slice(alloc, b"+OK")?;
-    Ok(WorldScript {
-        dials,
-        reads,
-        incoming,
-        writes,
-        moments,
-        words,
-    })
+    fill(&mut script.writes, &[LinkPut::Took(2), CUT])?;
+    fill(&mut script.moments, &[5])?;
+    fill(&mut script.words, &[7])?;
+    script.incoming.extend_from_slice(b"+OK".as_slice())
 }
 
-fn call<W: World>(rt: &impl Abort, world: &mut W) {
-    for want in [Dialed::Yes, Dialed::Failed(FaultKind::Refused)] {
-        assert_eq!(rt; world.dial(0, "localhost", 6379), want);
+fn world(alloc: Global) -> Result<MemWorld, AllocError> {
+    let mut script = WorldScript::new(alloc);
+    fill_script(&mut script)?;
+    Ok(MemWorld::new(alloc, script))
+}
+
+fn dials<W: World>(world: &mut W, wanted: Dialed) -> bool {
+    world.dial(0, "localhost", 6379) == wanted
+}
+
+/// Whether a read answers so, and leaves the bytes that came in the room.
+fn got<W: World>(world: &mut W, room: &mut [u8; 4], wanted: LinkGot) -> bool {
+    world.read(0, room) == wanted && room[..3] == b"+OK"[..]
+}
+
+/// Whether the moment, the word and the faults are these.
+fn tells<W: World>(world: &mut W, moment: u64, word: u64) -> bool {
+    world.now() == moment && world.word() == word && world.faults() == 2
+}
+
+/// What the reads of the script and one more give.
+const GOT: [LinkGot; 4] = [
+    LinkGot::Read(3),
+    LinkGot::NotYet,
+    LinkGot::Ended,
+    LinkGot::NotYet,
+];
+
+/// Makes nine calls; whether a world answers them by its script.
+fn answers<W: World>(world: &mut W) -> bool {
+    if !dials(world, Dialed::Yes) || !dials(world, Dialed::Failed(FaultKind::Refused)) {
+        return false;
     }
     let mut room = [0u8; 4];
-    for want in [
-        LinkGot::Read(3),
-        LinkGot::NotYet,
-        LinkGot::Ended,
-        LinkGot::NotYet,
-    ] {
-        assert_eq!(rt; world.read(0, &mut room), want);
+    for wanted in GOT {
+        if !got(world, &mut room, wanted) {
+            return false;
+        }
     }
-    assert_eq!(rt; room[..3], b"+OK"[..]);
-    for want in [
-        LinkPut::Took(2),
-        LinkPut::Failed(FaultKind::Reset),
-        LinkPut::NotYet,
-    ] {
-        assert_eq!(rt; world.write(0, b"PING"), want);
+    for wanted in [LinkPut::Took(2), CUT, LinkPut::NotYet] {
+        if world.write(0, b"PING") != wanted {
+            return false;
+        }
     }
-    for want in [(5, 7, 2), (0, 0, 2)] {
-        assert_eq!(rt; (world.now(), world.word(), world.faults()), want);
-    }
+    true
+}
+
+/// Makes the calls that no answer is checked of, and tells whether there were so many in all and no read is left.
+fn has_calls(world: &mut MemWorld, count: usize) -> bool {
     world.close(0);
     world.wait(10);
+    world.script().reads.is_empty() && world.calls().map(|calls| calls.len()) == Some(count)
 }
 
 #[test]
-fn a_world_in_memory_answers_by_its_script(rt: HostRuntime) -> Result<(), Fail> {
-    let mut world = MemWorld::new(rt.alloc(), script(rt.alloc())?);
-    call(&rt, &mut world);
-    assert!(rt; world.script().reads.is_empty());
-    assert_eq!(rt; world.calls().map(|calls| calls.len()), Some(15));
+fn a_world_in_memory_answers_by_its_script(rt: HostRuntime) -> Result<(), AllocError> {
+    let mut world = world(rt.alloc())?;
+    assert!(rt; answers(&mut world));
+    assert!(rt; tells(&mut world, 5, 7));
+    assert!(rt; tells(&mut world, 0, 0));
+    assert!(rt; has_calls(&mut world, 15));
     Ok(())
 }
