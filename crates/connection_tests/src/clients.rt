@@ -15,7 +15,7 @@ use resp_write::{Pipeline, cmd};
 use std::alloc::{AllocError, Global};
 use std::process::Abort;
 
-/// A connection that is made, where it is not for want of memory alone that none is.
+/// What was made. A refusal counts as want of memory.
 fn must(
     made: Result<MultiplexedConnection, OpenError>,
 ) -> Result<MultiplexedConnection, AllocError> {

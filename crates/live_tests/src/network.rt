@@ -119,6 +119,30 @@ fn a_port_where_nobody_listens_refuses(rt: HostRuntime) -> Result<(), Fail> {
     Ok(())
 }
 
+/// Whether a link is connected by the name of this machine, and once more.
+fn is_dialled_again<W: World>(
+    world: &mut W,
+    listener: &TcpListener,
+    port: u16,
+) -> io::Result<bool> {
+    for _ in 0..2 {
+        if world.dial(7, "localhost", port) != Dialed::Yes {
+            return Ok(false);
+        }
+        listener.accept()?;
+    }
+    Ok(true)
+}
+
+#[test]
+fn names_are_looked_up_and_links_dialled_again(rt: HostRuntime) -> Result<(), Fail> {
+    let (listener, port) = listen(&rt)?;
+    let mut world = NetWorld::new(&rt, rt.alloc());
+    let dialled = is_dialled_again(&mut world, &listener, port)?;
+    assert!(rt; dialled);
+    Ok(())
+}
+
 /// Whether the clock starts at 0 and goes on.
 fn goes_on<W: World>(world: &mut W) -> bool {
     let before = world.now();

@@ -143,7 +143,12 @@ const BOTH: Answers = (Dialed::Yes, LATE, ALL, b"+x\r\n+y\r\n");
 const WORLDS: [(Answers, &[u8]); 5] = [
     (BOTH, b"outcome s0 ok +x%0D%0A\noutcome s1 ok +y%0D%0A\n"),
     (
-        (Dialed::Failed(FaultKind::Refused), LATE, ALL, b""),
+        (
+            Dialed::Failed(FaultKind::Refused),
+            LATE,
+            ALL,
+            b"+x\r\n+y\r\n",
+        ),
         b"outcome s0 err io refused\noutcome s1 err io refused\n",
     ),
     (
@@ -151,7 +156,7 @@ const WORLDS: [(Answers, &[u8]); 5] = [
             Dialed::Yes,
             LATE,
             LinkPut::Failed(FaultKind::BrokenPipe),
-            b"",
+            b"+x\r\n+y\r\n",
         ),
         b"outcome s0 err io broken-pipe\noutcome s1 err closed\n",
     ),
@@ -170,7 +175,12 @@ const WORLDS: [(Answers, &[u8]); 5] = [
         b"outcome s0 ok +x%0D%0A\noutcome s1 err closed\n",
     ),
     (
-        (Dialed::Yes, [LinkGot::NotYet; 4], LinkPut::NotYet, b""),
+        (
+            Dialed::Yes,
+            [LinkGot::NotYet; 4],
+            LinkPut::NotYet,
+            b"+x\r\n+y\r\n",
+        ),
         b"outcome s0 err closed\noutcome s1 err closed\n",
     ),
 ];
