@@ -72,8 +72,9 @@ fn longer_tuples_are_read(rt: HostRuntime) -> Result<(), AllocError> {
 
 /// Whether a type gives back an array of as many numbers.
 fn gives_back<T: FromRedisValue + Drop>(alloc: Global, count: i64) -> Result<bool, AllocError> {
-    let value = Value::Array(numbers(alloc, count)?);
-    Ok(gives_back_items::<T>(alloc, value, count as usize))
+    let items = numbers(alloc, count)?;
+    let length = items.len();
+    Ok(gives_back_items::<T>(alloc, Value::Array(items), length))
 }
 
 #[test]

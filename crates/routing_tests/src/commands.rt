@@ -1,8 +1,6 @@
-ghost use Rattle.std.specs.Prelude.{◌≡◌, ◌<◌, length, true, None};
-ghost use Rattle.command_table.specs.declared.routing.MultipleNodeRoutingInfo.TheVariants.{MultiSlot};
-ghost use Rattle.command_table.specs.declared.routing.RoutingInfo.TheVariants.{MultiNode};
+ghost use Rattle.std.specs.Prelude.{◌≡◌, true};
 ghost use Rattle.command_table.specs.Selection.{is_several, key_count, may_be_several, width};
-ghost use Rattle.command_table.specs.Splitting.{are_within, can_be_split};
+ghost use Rattle.command_table.specs.Splitting.{are_within};
 
 use command_table::{
     Form, KeyIndices, MultipleNodeRoutingInfo, ResponsePolicy, Route, RoutingInfo,
@@ -414,37 +412,5 @@ fn keys_go_into_a_part(rt: HostRuntime) -> Result<(), AllocError> {
     for row in &SELECTIONS {
         assert!(rt; is_selected(rt.alloc(), row)?, "{}", row.0);
     }
-    Ok(())
-}
-
-/// The command of a part.
-#[tactic(auto, using(command_table::proofs::Splitting::each_is_within), unfolding(command_table::specs::Splitting::can_be_split))]
-fn command_of_part(alloc: Global, cmd: &Cmd, parts: &SlotParts, k: usize) -> Result<Cmd, AllocError>
-    requires parts { can_be_split cmd.now.args (MultiNode (MultiSlot parts.now) None) ≡ true }
-    requires place { k < length parts.now }
-{
-    command_for_multi_slot_indices(alloc, cmd, &parts.as_slice()[k].1)
-}
-
-/// Whether a command has two parts, with these commands.
-#[tactic(auto, unfolding(command_table::specs::Splitting::can_be_split))]
-fn are_parts_of(alloc: Global, text: &str, first: &str, second: &str) -> Result<bool, AllocError> {
-    let cmd = command(alloc, text)?;
-    let routing = RoutingInfo::for_routable(alloc, &cmd)?;
-    let Some(RoutingInfo::MultiNode(MultipleNodeRoutingInfo::MultiSlot(parts), _)) = &routing else {
-        return Ok(false);
-    };
-    if parts.len() != 2 {
-        return Ok(false);
-    }
-    let one = command_of_part(alloc, &cmd, parts, 0)?;
-    let two = command_of_part(alloc, &cmd, parts, 1)?;
-    Ok(is_command(alloc, &one, first)? && is_command(alloc, &two, second)?)
-}
-
-#[test]
-fn the_parts_of_a_route_have_commands(rt: HostRuntime) -> Result<(), AllocError> {
-    let text = "MSET foo 1 baz 2 {foo}bar 3";
-    assert!(rt; are_parts_of(rt.alloc(), text, "MSET foo 1 {foo}bar 3", "MSET baz 2")?);
     Ok(())
 }

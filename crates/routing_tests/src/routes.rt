@@ -251,13 +251,9 @@ fn map_reply(alloc: Global) -> Result<Value, AllocError> {
     Ok(Value::Array(rows))
 }
 
-fn map_rows(alloc: Global) -> Result<SlotRows, SlotsError> {
-    let reply = map_reply(alloc)?;
-    parse_slots(alloc, &reply, b"h")
-}
-
 fn map(alloc: Global) -> Result<SlotMap, SlotsError> {
-    let rows = map_rows(alloc)?;
+    let reply = map_reply(alloc)?;
+    let rows = parse_slots(alloc, &reply, b"h")?;
     Ok(SlotMap::from_rows(alloc, &rows)?)
 }
 

@@ -37,7 +37,7 @@ pub(crate) enum Fault {
     Aborted(&'static [(u32, Told)]),
 }
 
-fn plain(fault: Plain) -> RedisError {
+fn plain_error(fault: Plain) -> RedisError {
     match fault {
         Plain::Client => RedisError::Client,
         Plain::Resp3Required => RedisError::Resp3Required,
@@ -105,7 +105,7 @@ fn aborted(alloc: Global, refused: &[(u32, Told)]) -> Result<RedisError, AllocEr
 /// The error that a fault stands for.
 pub(crate) fn error(alloc: Global, fault: Fault) -> Result<RedisError, AllocError> {
     match fault {
-        Fault::Plain(fault) => Ok(plain(fault)),
+        Fault::Plain(fault) => Ok(plain_error(fault)),
         Fault::CreateFailed(text) => create_failed(alloc, text),
         Fault::AuthFailed(text) => auth_failed(alloc, text),
         Fault::Credentials(text) => credentials(alloc, text),

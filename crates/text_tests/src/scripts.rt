@@ -358,7 +358,7 @@ struct Given {
     lib: Option<bool>,
 }
 
-fn given(config: &Config) -> Given {
+fn settings_of(config: &Config) -> Given {
     Given {
         connect: config.connect,
         response: config.response,
@@ -372,7 +372,7 @@ fn given(config: &Config) -> Given {
 /// What the text configures.
 fn given_in(alloc: Global, text: &[u8]) -> Result<Given, ScriptError> {
     let script = read_script(alloc, text)?;
-    Ok(given(&script.config))
+    Ok(settings_of(&script.config))
 }
 
 /// What these settings configure.
