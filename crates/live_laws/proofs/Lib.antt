@@ -1,0 +1,9 @@
+mod Agendas
+mod News
+mod Taking
+mod Offers
+mod Written
+mod Runs
+mod Picked
+mod Dialling
+mod Connecting
