@@ -4,6 +4,7 @@ mod Taking
 mod Offers
 mod Written
 mod Runs
+mod Fronts
 mod Picked
 mod Dialling
 mod Connecting

@@ -4,6 +4,8 @@ use Rattle.driver_model.specs.declared.action.Action.{Action}
 use Rattle.outside.specs.declared.world.Call.{Call}
 use Rattle.outside.specs.declared.world.Call.TheVariants as call
 use Rattle.legal_trace.specs.Book.{book}
+use Rattle.legal_trace.specs.Ledger.{Ledger, joined}
+use Rattle.legal_laws.specs.Links.{IsPrefix}
 use Rattle.shared_session.specs.History.{History}
 use Rattle.shared_session.specs.Replay.{IsSound}
 use Rattle.live_run.specs.declared.ending.Ending.{Ending}
@@ -17,9 +19,13 @@ use Rattle.live_laws.specs.Dials.{dials_in, connects_in, IsPicked, Rises}
 abbrev pub calls_of : {early : List Action} {old new : Option (List Call)} {before after : History} {count : ℕ} {ending : Ending} → Driven early old new before after count ending → List Call
 calls_of run = calls_in run.deeds ++ (call.Word run.word ∷ close_calls run.closes)
 
--- what link l has taken, by the trace of a session
+-- the ledger of link l, by the trace of a session
+abbrev pub link_in : History → ℕ → Ledger
+link_in s l = (book (traced s)).link l
+
+-- what link l has taken by it
 abbrev pub taken_in : History → ℕ → List ℕ
-taken_in s l = ((book (traced s)).link l).taken
+taken_in s l = (link_in s l).taken
 
 -- what a link has taken by the trace behind a run is what it had taken before, and then what its writes took in the run
 abbrev pub TakesWhatWasWritten : Type 0
@@ -41,6 +47,13 @@ TakesAll =
     (early : List Action) (old new : Option (List Call)) (before after : History) (count : ℕ) (ending : Ending) (l : ℕ)
     → IsSound before.config → IsGood before → AreUnwritten before.events → (run : Driven early old new before after count ending)
     → taken_in after l ≡ taken l (calls_of run)
+
+-- then this, with what the link is still offered behind it, is the front of the messages that were started on it
+abbrev pub TakesFront : Type 0
+TakesFront =
+    (early : List Action) (old new : Option (List Call)) (before after : History) (count : ℕ) (ending : Ending) (l : ℕ)
+    → IsSound before.config → IsGood before → AreUnwritten before.events → (run : Driven early old new before after count ending)
+    → IsPrefix (taken l (calls_of run) ++ (link_in after l).offer) (joined (link_in after l).starts)
 
 -- the links that a run dials are some of those that the session asked to connect, in that order. It performs all actions of
 -- the session's trace so far
