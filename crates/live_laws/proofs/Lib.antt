@@ -1,0 +1,10 @@
+mod Agendas
+mod News
+mod Taking
+mod Offers
+mod Written
+mod Runs
+mod Fronts
+mod Picked
+mod Dialling
+mod Connecting

@@ -1,0 +1,81 @@
+-- What a link hears, and what it leaves of what it has taken and is offered.
+use Rattle.std.proofs.Common.{◌≡◌, ℕ, ◌==◌, if◌then◌else◌, Bool, true, false, List, [], ◌++◌, take, Option, Some, None, slice_get, refl, sym, ap}
+use Rattle.std.proofs.lemmas.List.{append-nil}
+use Rattle.containers.proofs.Choices.{chosen, if_true, not_both}
+use Rattle.redis_error.specs.declared.redis_error.RedisError.TheVariants as error
+use Rattle.driver_model.specs.declared.action.Purpose.{Purpose}
+use Rattle.driver_model.specs.declared.action.Purpose.TheVariants as purpose
+use Rattle.driver_model.specs.declared.event.EventKind.{EventKind}
+use Rattle.driver_model.specs.declared.event.EventKind.TheVariants as event
+use Rattle.driver_model.specs.declared.news.LinkFault.TheVariants as fault
+use Rattle.driver_model.specs.News.{News, silence, connected, refused, overdue, took, came, failed, shut, for_link, of_timer, news_of}
+use Rattle.legal_trace.specs.Ledger.{Ledger, Line, hears, offers, noted, noted_each, is_over, dials, refused_in, bytes_came}
+use Rattle.legal_trace.specs.Book.{if_mine}
+use Rattle.live_laws.specs.Taken.{IsNoWrote}
+
+abbrev pub IsNoTook : News → Type 0
+IsNoTook (took count) = ⊥
+IsNoTook _ = Unit {0}
+
+-- a link that was up is, offers what it offered, and has taken what it had
+abbrev pub Stays : Ledger → Ledger → Type 0
+Stays g h = (g.up ≡ true → h.up ≡ true) × (h.offer ≡ g.offer) × (h.taken ≡ g.taken)
+
+pub stays_same : (g : Ledger) → Stays g g
+stays_same g = (λ u. u, refl, refl)
+
+pub hears_stays : (g : Ledger) (turn : ℕ) (news : News) → IsNoTook news → Stays g (noted g (hears turn news))
+hears_stays g turn silence quiet = (λ u. u, refl, refl)
+hears_stays g turn connected quiet = chosen (λ (m : Ledger). Stays g (record m { heard = connected })) (is_over g) g (record g { up = true }) (λ t. (λ u. u, refl, refl)) (λ f. (λ u. refl, refl, refl))
+hears_stays g turn (refused f) quiet =
+    chosen (λ (m : Ledger). Stays g (record m { heard = refused f })) (dials g) (refused_in g turn (error.Io f)) g (λ t. (λ u. u, refl, refl)) (λ e. (λ u. u, refl, refl))
+hears_stays g turn overdue quiet = (λ u. u, refl, refl)
+hears_stays g turn (took count) quiet = absurd quiet
+hears_stays g turn (came piece) quiet = chosen (λ (m : Ledger). Stays g (record m { heard = came piece })) g.up (bytes_came g piece) g (λ t. (λ u. u, refl, refl)) (λ f. (λ u. u, refl, refl))
+hears_stays g turn (failed f) quiet = (λ u. u, refl, refl)
+hears_stays g turn shut quiet = (λ u. u, refl, refl)
+
+not_took : (mine : Bool) (news : News) → IsNoTook news → IsNoTook (for_link mine news)
+not_took mine news h = chosen IsNoTook mine news silence (λ t. h) (λ f. tt)
+
+timer_not_took : (n : ℕ) (what : Option Purpose) → IsNoTook (of_timer n what)
+timer_not_took n None = tt
+timer_not_took n (Some (purpose.Connect l)) = not_took (l == n) overdue tt
+timer_not_took n (Some (purpose.Response who)) = tt
+
+pub event_not_took : (timers : List Purpose) (n : ℕ) (kind : EventKind) → IsNoWrote kind → IsNoTook (news_of timers n kind)
+event_not_took timers n (event.Connected l) quiet = not_took (l == n) connected tt
+event_not_took timers n (event.Refused l f) quiet = not_took (l == n) (refused f) tt
+event_not_took timers n (event.Wrote l count) quiet = absurd quiet
+event_not_took timers n (event.Bytes l piece) quiet = not_took (l == n) (came piece) tt
+event_not_took timers n (event.Ended l) quiet = not_took (l == n) (failed fault.Ended) tt
+event_not_took timers n (event.ReadFault l kind) quiet = not_took (l == n) (failed (fault.Io kind)) tt
+event_not_took timers n (event.WriteFault l kind) quiet = not_took (l == n) (failed (fault.Io kind)) tt
+event_not_took timers n (event.Fired t) quiet = timer_not_took n (slice_get timers t)
+event_not_took timers n (event.Timeout ms) quiet = tt
+event_not_took timers n event.Shutdown quiet = tt
+event_not_took timers n (event.Submit s) quiet = tt
+event_not_took timers n (event.Cancel s) quiet = tt
+
+-- an offer of another link is taken
+pub other_stays : (mine : Bool) (g : Ledger) (turn count : ℕ) → mine ≡ false → Stays g (noted g (hears turn (for_link mine (took count))))
+other_stays true g turn count other = absurd (not_both true other refl)
+other_stays false g turn count other = (λ u. u, refl, refl)
+
+-- bytes are taken of what a link that is up is offered
+pub mine_takes : (mine : Bool) (g : Ledger) (turn count : ℕ) (piece : List ℕ) → (mine ≡ true → (g.up ≡ true) × (g.offer ≡ piece))
+    → (noted g (hears turn (for_link mine (took count)))).taken ≡ g.taken ++ (if mine then take count piece else [])
+mine_takes true g turn count piece h =
+    let k = h refl in
+    if_true (λ (m : Ledger). m.taken ≡ g.taken ++ take count piece) g.up (record g { taken = g.taken ++ take count g.offer; offer = [] }) g k.0 (ap (λ (bytes : List ℕ). g.taken ++ take count bytes) k.1)
+mine_takes false g turn count piece h = sym (append-nil g.taken)
+
+-- a line of another link
+pub not_mine : (mine : Bool) (g : Ledger) (x : Line) → mine ≡ false → Stays g (noted_each g (if_mine mine x))
+not_mine true g x other = absurd (not_both true other refl)
+not_mine false g x other = stays_same g
+
+-- an offer of the link's own
+pub mine_offers : (mine : Bool) (g : Ledger) (bytes : List ℕ) → mine ≡ true → g.up ≡ true → ((noted_each g (if_mine mine (offers bytes))).up ≡ true) × ((noted_each g (if_mine mine (offers bytes))).offer ≡ bytes)
+mine_offers true g bytes t up = (up, refl)
+mine_offers false g bytes t up = absurd (not_both false refl t)

@@ -1,0 +1,91 @@
+-- What a link has taken changes by no action but the turn of a write that took bytes.
+use Rattle.std.proofs.Common.{◌≡◌, ℕ, ◌+◌, ◌==◌, List, [], ◌∷◌, ◌++◌, length, Option, Some, None, refl, ap, ◌∙◌}
+use Rattle.connection_info.specs.declared.address.ConnectionInfo.{ConnectionInfo}
+use Rattle.driver_model.specs.Config.{address, connect_timeout}
+use Rattle.driver_model.specs.declared.action.Action.{Action}
+use Rattle.driver_model.specs.declared.action.Action.TheVariants as action
+use Rattle.driver_model.specs.declared.action.Cause.TheVariants as cause
+use Rattle.driver_model.specs.declared.config.Config.{Config}
+use Rattle.driver_model.specs.declared.event.Event.{Event}
+use Rattle.driver_model.specs.declared.event.EventKind.{EventKind}
+use Rattle.mux_conn.specs.declared.act.LinkAct.{LinkAct}
+use Rattle.mux_conn.specs.declared.act.LinkAct.TheVariants as act
+use Rattle.shared_session.specs.declared.core_state.Core.{Core}
+use Rattle.shared_session.specs.Turn.{actions_of, next_turn, shown, shown_each, timer_of}
+use Rattle.shared_session.specs.Replay.{connect_asked, opening_actions, opening_core, trace_of, turns_on}
+use Rattle.legal_trace.specs.Ledger.{Ledger}
+use Rattle.legal_trace.specs.Book.{Book, blank_book, book, entered, entered_each}
+use Rattle.legal_trace.proofs.Books.{entered_append}
+use Rattle.legal_trace.proofs.Ledgers.{mine_keeps}
+use Rattle.driver_model.specs.News.{news_of}
+use Rattle.live_laws.specs.Taken.{AreUnwritten, IsNoWrote}
+use Rattle.live_laws.proofs.News.{Stays, event_not_took, hears_stays}
+
+-- what link n has taken
+abbrev pub taken_of : Book → ℕ → List ℕ
+taken_of b n = (b.link n).taken
+
+-- the turn of an event
+abbrev pub turn_of : ℕ → ℕ → EventKind → Action
+turn_of number word kind = action.Turn number (cause.Event (record { word = word; kind = kind }))
+
+pub turn_stays : (b : Book) (number word n : ℕ) (kind : EventKind) → IsNoWrote kind → Stays (b.link n) ((entered b (turn_of number word kind)).link n)
+turn_stays b number word n kind quiet = hears_stays (b.link n) number (news_of b.timers n kind) (event_not_took b.timers n kind quiet)
+
+abbrev pub IsNoTurn : Action → Type 0
+IsNoTurn (action.Turn number c) = ⊥
+IsNoTurn _ = Unit {0}
+
+-- no act of a connection begins a turn
+pub no_turn : (l t : ℕ) (x : LinkAct) → IsNoTurn (shown l t x)
+no_turn l t (act.Created e) = tt
+no_turn l t (act.Took n count) = tt
+no_turn l t (act.Timer n ms) = tt
+no_turn l t (act.SetUp message need len) = tt
+no_turn l t act.Close = tt
+no_turn l t (act.Write bytes) = tt
+no_turn l t (act.Wait n kind) = tt
+no_turn l t (act.Start message n need len) = tt
+no_turn l t (act.Outcome n o) = tt
+
+pub action_taken : (b : Book) (x : Action) (n : ℕ) → IsNoTurn x → taken_of (entered b x) n ≡ taken_of b n
+action_taken b (action.Turn number c) n quiet = absurd quiet
+action_taken b (action.Connect l host port) n quiet = mine_keeps (λ (g : Ledger). g.taken ≡ (b.link n).taken) (l == n) (b.link n) _ (λ t. refl) refl
+action_taken b (action.Timer t ms what) n quiet = refl
+action_taken b (action.Took who l count) n quiet = refl
+action_taken b (action.Close l) n quiet = mine_keeps (λ (g : Ledger). g.taken ≡ (b.link n).taken) (l == n) (b.link n) _ (λ t. refl) refl
+action_taken b (action.Write l bytes) n quiet = mine_keeps (λ (g : Ledger). g.taken ≡ (b.link n).taken) (l == n) (b.link n) _ (λ t. refl) refl
+action_taken b (action.Start l message who count len) n quiet = mine_keeps (λ (g : Ledger). g.taken ≡ (b.link n).taken) (l == n) (b.link n) _ (λ t. refl) refl
+action_taken b (action.Wait who kind) n quiet = refl
+action_taken b (action.Created e) n quiet = refl
+action_taken b (action.Outcome m o) n quiet = refl
+
+acts_taken : (l t : ℕ) (acts : List LinkAct) (b : Book) (n : ℕ) → taken_of (entered_each b (shown_each l t acts)) n ≡ taken_of b n
+acts_taken l t [] b n = refl
+acts_taken l t (x ∷ acts) b n = acts_taken l (t + length (timer_of x)) acts (entered b (shown l t x)) n ∙ action_taken b (shown l t x) n (no_turn l t x)
+
+-- a turn of another event
+pub turn_taken : (c : Core) (e : Event) (b : Book) (n : ℕ) → IsNoWrote e.kind → taken_of (entered_each b (actions_of c e)) n ≡ taken_of b n
+turn_taken c e b n quiet =
+    acts_taken c.single.link (length c.timers) (next_turn c e.kind).acts (entered b (action.Turn c.turns (cause.Event e))) n
+    ∙ (hears_stays (b.link n) c.turns (news_of b.timers n e.kind) (event_not_took b.timers n e.kind quiet)).2
+
+turns_taken : (c : Core) (es : List Event) (b : Book) (n : ℕ) → AreUnwritten es → taken_of (entered_each b (turns_on c es)) n ≡ taken_of b n
+turns_taken c [] b n quiet = refl
+turns_taken c (e ∷ es) b n quiet =
+    ap (λ (d : Book). taken_of d n) (entered_append b (actions_of c e) (turns_on (next_turn c e.kind).core es))
+    ∙ turns_taken (next_turn c e.kind).core es (entered_each b (actions_of c e)) n quiet.1
+    ∙ turn_taken c e b n quiet.0
+
+asked_taken : (info : Option ConnectionInfo) (timeout : Option ℕ) (b : Book) (n : ℕ) → taken_of (entered_each b (connect_asked info timeout)) n ≡ taken_of b n
+asked_taken None timeout b n = refl
+asked_taken (Some info) None b n = action_taken b (action.Connect 0 info.host info.port) n tt
+asked_taken (Some info) (Some ms) b n = action_taken b (action.Connect 0 info.host info.port) n tt
+
+-- no link has taken anything where no event told of it
+pub none_taken : (config : Config) (word : ℕ) (es : List Event) (n : ℕ) → AreUnwritten es → taken_of (book (trace_of config word es)) n ≡ []
+unfolding trace_of book
+none_taken config word es n quiet =
+    ap (λ (d : Book). taken_of d n) (entered_append blank_book (opening_actions config word) (turns_on (opening_core config word) es))
+    ∙ turns_taken (opening_core config word) es (entered_each blank_book (opening_actions config word)) n quiet
+    ∙ asked_taken (address config) (connect_timeout config) (entered blank_book (action.Turn 0 (cause.Opening config word))) n

@@ -1,0 +1,15 @@
+use Rattle.std.proofs.Common.{ℕ, List, ◌++◌, ◌∙◌, ap}
+use Rattle.outside.specs.declared.world.Call.{Call}
+use Rattle.live_laws.specs.Laws.{taken_in}
+use Rattle.live_laws.specs.Taken.{taken}
+use Rattle.live_laws.proofs.Fronts.{run_front}
+use Rattle.live_laws.proofs.Runs.{run_taken, run_takes_all, run_told}
+use Rattle.live_laws.proofs.links_took_what_was_written.Goals as goal
+
+pub returns : goal.returns
+returns c = record {
+  done = λ early old new before after count ending l sound good run. run_taken run l sound good;
+  told = λ early told calls before after count ending l sound good run. run_taken run l sound good ∙ ap (λ (xs : List Call). taken_in before l ++ taken l xs) (run_told told calls run);
+  all = λ early old new before after count ending l sound good quiet run. run_takes_all run l sound good quiet;
+  front = λ early old new before after count ending l sound good quiet run. run_front run l sound good quiet;
+}
