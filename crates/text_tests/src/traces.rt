@@ -572,11 +572,18 @@ fn traces_have_text(rt: HostRuntime) -> Result<(), AllocError> {
     Ok(())
 }
 
+/// The line in which this byte is written.
+fn written(alloc: Global, byte: u8) -> Result<Bytes, AllocError> {
+    let bytes = bytes(alloc, &[byte])?;
+    let action = Action::Write { link: 9, bytes };
+    line(alloc, &action)
+}
+
 /// Whether a byte that is written is shown as itself if it is visible, and else by its code.
 fn is_shown(alloc: Global, byte: u8) -> Result<bool, AllocError> {
-    let action = write(alloc, 9, &[byte])?;
+    let text = written(alloc, byte)?;
     let wanted = wanted_of(alloc, byte)?;
-    has_line(alloc, &action, wanted.as_bytes())
+    Ok(text.as_slice() == wanted.as_bytes())
 }
 
 fn wanted_of(alloc: Global, byte: u8) -> Result<String, AllocError> {
