@@ -1,5 +1,5 @@
 -- What is done to the links of an agenda keeps facts of them.
-use Rattle.std.proofs.Common.{◌≡◌, ◌≢◌, ℕ, ◌==◌, true, false, List, [], ◌∷◌, ◌++◌, Option, Some, None, refl, sym, ◌∙◌, subst}
+use Rattle.std.proofs.Common.{◌≡◌, ◌≢◌, ℕ, ◌==◌, List, [], ◌∷◌, ◌++◌, Some, None, refl, sym, ◌∙◌, subst}
 use Rattle.containers.proofs.Choices.{by_test, chosen, eq_from, ne_from, taken_if, left_if}
 use Rattle.legal_trace.proofs.Plain.{same_some, not_none}
 use Rattle.live_run.specs.Agenda.{first_due, without, offered, offer_of}

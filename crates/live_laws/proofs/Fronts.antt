@@ -5,7 +5,6 @@ use Rattle.outside.specs.declared.world.Call.{Call}
 use Rattle.legal_laws.proofs.Lines.{ledgers_are_told}
 use Rattle.legal_laws.proofs.Links.{links_take_in_order}
 use Rattle.legal_laws.specs.Links.{IsPrefix}
-use Rattle.legal_trace.specs.Book.{book}
 use Rattle.legal_trace.specs.Ledger.{Ledger, joined, stream}
 use Rattle.session_laws.proofs.Legality.{replay_legal}
 use Rattle.shared_session.specs.History.{History}

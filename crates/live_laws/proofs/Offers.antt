@@ -1,5 +1,5 @@
 -- What an agenda offers is what the book of the trace offers, action by action.
-use Rattle.std.proofs.Common.{◌≡◌, ◌⊎◌, inl, inr, ℕ, ◌-◌, ◌==◌, true, List, [], ◌∷◌, ◌++◌, take, Some, if◌then◌else◌, refl, sym, ap, ◌∙◌, subst}
+use Rattle.std.proofs.Common.{◌≡◌, ◌⊎◌, inl, inr, ℕ, ◌-◌, ◌==◌, true, List, [], ◌∷◌, ◌++◌, take, Some, if◌then◌else◌, refl, sym, ◌∙◌, subst}
 use Rattle.containers.proofs.Choices.{chosen, eq_from, eq_test, ne_test}
 use Rattle.driver_model.specs.declared.action.Action.{Action}
 use Rattle.driver_model.specs.declared.action.Action.TheVariants as action

@@ -18,7 +18,7 @@ use Rattle.shared_session.proofs.Replays.{trace_of-more}
 use Rattle.live_run.specs.declared.ending.Ending.{Ending}
 use Rattle.live_run.specs.Agenda.{agenda_of}
 use Rattle.live_run.specs.Closing.{close_calls}
-use Rattle.live_run.specs.Deeds.{AllMay, AreShown, Deed, IsGood, Told, actions_in, after, after_each, calls_in, events_in, events_of, traced}
+use Rattle.live_run.specs.Deeds.{AllMay, AreShown, Deed, IsGood, actions_in, after, calls_in, events_in, events_of, traced}
 use Rattle.live_run.specs.Driven.{Driven, shutdown}
 use Rattle.live_run.proofs.Shown.{shown_whole, turns_gained}
 use Rattle.live_laws.specs.Laws.{calls_of, taken_in}

@@ -1,5 +1,5 @@
 -- What a link takes, deed by deed.
-use Rattle.std.proofs.Common.{◌≡◌, ◌⊎◌, inl, inr, ℕ, ◌+◌, false, List, [], ◌∷◌, ◌++◌, length, None, append_assoc, refl, sym, ap, ◌∙◌, subst}
+use Rattle.std.proofs.Common.{◌≡◌, ◌⊎◌, inl, inr, ℕ, ◌+◌, false, List, [], ◌∷◌, ◌++◌, length, None, refl, sym, ap, ◌∙◌, subst}
 use Rattle.std.proofs.lemmas.List.{append-nil}
 use Rattle.containers.proofs.Choices.{chosen, not_both}
 use Rattle.driver_model.specs.declared.action.Action.{Action}
@@ -16,13 +16,13 @@ use Rattle.shared_session.specs.declared.core_state.Core.{Core}
 use Rattle.shared_session.specs.Turn.{next_turn, shown, shown_each, timer_of}
 use Rattle.shared_session.specs.Replay.{turns_on}
 use Rattle.legal_trace.specs.Book.{Book, entered, entered_each}
-use Rattle.legal_trace.specs.Legal.{AllStand, MayStand}
+use Rattle.legal_trace.specs.Legal.{AllStand}
 use Rattle.legal_trace.proofs.Plain.{not_none}
 use Rattle.live_run.specs.Agenda.{agenda_of, answered, begun, behind, dialled, noted, noted_each, offered, removed, stands, undialled, without}
 use Rattle.live_run.specs.Deeds.{Deed, did, fired, answer_of, asked, made, calls_of, events_of, actions_of, after, May, MayCall}
 use Rattle.live_laws.specs.Taken.{IsNoWrote, taken, taken_by}
 use Rattle.live_laws.proofs.Agendas.{Agenda}
-use Rattle.live_laws.proofs.Taking.{IsNoTurn, action_taken, no_turn, taken_of, turn_of, turn_stays}
+use Rattle.live_laws.proofs.Taking.{action_taken, no_turn, taken_of, turn_of, turn_stays}
 use Rattle.live_laws.proofs.Offers.{Ties, dialled_ties, gone_ties, noted_ties, turn_ties, wrote_taken, wrote_ties}
 
 -- what was asked before the first pass is noted once

@@ -1,4 +1,4 @@
-use Rattle.std.proofs.Common.{ℕ, List, ◌++◌, ◌∙◌, ap}
+use Rattle.std.proofs.Common.{List, ◌++◌, ◌∙◌, ap}
 use Rattle.outside.specs.declared.world.Call.{Call}
 use Rattle.live_laws.specs.Laws.{taken_in}
 use Rattle.live_laws.specs.Taken.{taken}
