@@ -1,3 +1,5 @@
+ghost use Rattle.std.specs.Prelude.{◌<◌, length};
+
 use outside::*;
 use redis_error::FaultKind;
 use std::io::{Read, Write};
@@ -39,7 +41,9 @@ fn read_soon<W: World>(world: &mut W) -> (LinkGot, [u8; 4]) {
 }
 
 /// Writes to a peer that was silent, and whether it answers with this.
-fn is_answered<W: World>(world: &mut W, piece: &[u8], wanted: [u8; 4]) -> bool {
+fn is_answered<W: World>(world: &mut W, piece: &[u8], wanted: [u8; 4]) -> bool
+    requires { 0 < length piece.now }
+{
     let mut room = [0u8; 4];
     if world.read(7, &mut room) != LinkGot::NotYet {
         return false;

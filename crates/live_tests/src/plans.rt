@@ -1,4 +1,4 @@
-use containers::{Bytes, Queue, Seq};
+use containers::{Bytes, Seq};
 use live_lines::{live, plan_of};
 use outside::{Dialed, LinkGot, LinkPut, MemSink, MemSource, MemWorld, WorldScript};
 use redis_error::FaultKind;
@@ -52,18 +52,15 @@ fn words_are_plans(rt: HostRuntime) -> Result<(), AllocError> {
 /// How a world answers: its dial, its reads and its writes, and the bytes that come.
 type Answers = (Dialed, [LinkGot; 4], LinkPut, &'static [u8]);
 
-fn fill<T: Copy + Drop>(queue: &mut Queue<T>, items: &[T]) -> Result<(), AllocError> {
-    for item in items {
-        queue.push_back(*item)?;
-    }
-    Ok(())
-}
-
 fn fill_script(script: &mut WorldScript, answers: &Answers) -> Result<(), AllocError> {
     let (dial, reads, write, incoming) = *answers;
-    fill(&mut script.dials, &[dial])?;
-    fill(&mut script.reads, &reads)?;
-    fill(&mut script.writes, &[write; 8])?;
+    script.dials.push_back(dial)?;
+    for read in reads {
+        script.reads.push_back(read)?;
+    }
+    for _ in 0..8 {
+        script.writes.push_back(write)?;
+    }
     script.incoming.extend_from_slice(incoming)
 }
 
