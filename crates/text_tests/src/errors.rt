@@ -1,4 +1,4 @@
-use crate::traces::has_line;
+use crate::traces::line;
 use containers::Bytes;
 use driver_model::{Action, Outcome};
 use redis_error::{ConfigName, FaultKind, RedisError, RouteNumbers};
@@ -178,11 +178,17 @@ fn outcome(alloc: Global, fault: Fault) -> Result<Action, AllocError> {
     })
 }
 
-/// Whether the line of an outcome with that error ends in these words.
-fn shows(alloc: Global, fault: Fault, words: &str) -> Result<bool, AllocError> {
+/// The line of an outcome with that error.
+fn error_line(alloc: Global, fault: Fault) -> Result<Bytes, AllocError> {
     let action = outcome(alloc, fault)?;
+    line(alloc, &action)
+}
+
+/// Whether that line ends in these words.
+fn shows(alloc: Global, fault: Fault, words: &str) -> Result<bool, AllocError> {
+    let text = error_line(alloc, fault)?;
     let wanted = format!(in alloc; "outcome s7 err {words}\n")?;
-    has_line(alloc, &action, wanted.as_bytes())
+    Ok(text.as_slice() == wanted.as_bytes())
 }
 
 #[test]

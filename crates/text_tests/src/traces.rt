@@ -502,7 +502,7 @@ fn line(alloc: Global, action: &Action) -> Result<Bytes, AllocError> {
 }
 
 /// Whether this is the line of an action.
-pub(crate) fn has_line(alloc: Global, action: &Action, wanted: &[u8]) -> Result<bool, AllocError> {
+fn has_line(alloc: Global, action: &Action, wanted: &[u8]) -> Result<bool, AllocError> {
     let text = line(alloc, action)?;
     Ok(text.as_slice() == wanted)
 }
