@@ -495,7 +495,7 @@ fn action(alloc: Global, deed: Deed) -> Result<Action, AllocError> {
 }
 
 /// The line of an action.
-fn line(alloc: Global, action: &Action) -> Result<Bytes, AllocError> {
+pub(crate) fn line(alloc: Global, action: &Action) -> Result<Bytes, AllocError> {
     let mut text = Bytes::new(alloc);
     append_action(alloc, &mut text, action)?;
     Ok(text)
