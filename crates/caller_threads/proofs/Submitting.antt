@@ -112,6 +112,7 @@ one_turn v w line n t table turned added place number =
           begins = subst (λ (l : List Event). IsPrefix l log) added.seen p;
           place = at;
           number = number ∙ added.number;
+          unspent = added.unspent;
           actions = added.actions;
         },
         tt,
@@ -129,7 +130,7 @@ one_look v w error event shown after table turned refused = record {
 pub cause_of : (error : StepError) (v w : Known) (line : Line) (shown after : List Action) → IsAllowed line → Turned v.view w.view → Refused error v.view w.view (event_of line) shown after → IsCause error v w
 unfolding is_bad
 cause_of BadEvent v w line shown after allowed turned refused = let e = refused.why.1 in cc
-cause_of (Spent n) v w line shown after allowed turned refused = ((let e = turned.drawn in omega arith), refused.why.0, refused.why.1)
+cause_of (Spent n) v w line shown after allowed turned refused = ((let e = turned.drawn in omega arith), refused.why.0, refused.why.1, refused.spent refused.why.0)
 cause_of NoMemory v w line shown after allowed turned refused = tt
 
 -- so far all was submitted
@@ -159,5 +160,5 @@ tried_and_looked u v w lines done rest line turns whole h k = record {
 
 pub cause_later : (error : StepError) (u v w : Known) (a : List Line) (s : List Turn) → HasSubmitted u v a s → IsCause error v w → IsCause error u w
 cause_later BadEvent u v w a s h c = c
-cause_later (Spent n) u v w a s h c = ((let e = h.drawn in let f = c.0 in omega arith), c.1, c.2)
+cause_later (Spent n) u v w a s h c = ((let e = h.drawn in let f = c.0 in omega arith), c.1, c.2, c.3)
 cause_later NoMemory u v w a s h c = tt

@@ -8,12 +8,12 @@ use Rattle.driver_model.specs.declared.event.Event.{Event}
 use Rattle.driver_model.specs.declared.event.Submission.{Submission}
 use Rattle.driver_model.specs.Request.{has_no_form}
 use Rattle.shared_session.specs.Turn.{actions_of}
-use Rattle.shared_session.specs.Replay.{state_after}
+use Rattle.shared_session.specs.Replay.{state_after, is_spent_after}
 use Rattle.shared_session.specs.declared.errors.StepError.{StepError}
 use Rattle.shared_session.specs.declared.errors.StepError.TheVariants.{BadEvent, Spent, NoMemory}
 use Rattle.shared_session.specs.declared.session.Failure.TheVariants as failure
 use Rattle.session_callers.specs.Calls.{Known, submission_event}
-use Rattle.session_callers.specs.Rule.{submissions_in, Ascends}
+use Rattle.session_callers.specs.Rule.{SpendsNext, submissions_in, Ascends}
 use Rattle.session_callers.specs.declared.board.Stage.TheVariants.{Idle}
 use Rattle.caller_threads.specs.declared.job.Turn.{Turn}
 use Rattle.caller_threads.specs.Each.{EachAt, AnyAt}
@@ -31,12 +31,13 @@ abbrev pub event_of : Line → Event
 event_of line = submission_event line.0 line.1
 
 -- By this history the turn is that of the line: the line's event stands at its place, so many submissions stand before
--- it, and the core shows these actions for it.
+-- it, its step isn't spent, and the core shows these actions for it.
 pub record IsTurnOf (config : Config) (word : ℕ) (log : List Event) (line : Line) (t : Turn) : Type 0 where
   pub before : List Event
   pub begins : IsPrefix (before ++ event_of line ∷ []) log
   pub place : t.place ≡ length before
   pub number : t.number ≡ submissions_in before
+  pub unspent : is_spent_after config word before (event_of line) ≡ false
   pub actions : t.actions.items ≡ actions_of (state_after config word before) (event_of line)
 
 -- the turns are those of the lines, one for each
@@ -91,11 +92,11 @@ pub record HasLooked (v w : Known) : Type 0 where
   pub drawn : w.view.drawn ≡ v.view.drawn + 1
   pub mine : w.view.mine ≡ v.view.mine
 
--- What this caller shows of the error: in a turn of its own it has found that numbers had run out, after so many events.
--- An event is never bad.
+-- What this caller shows of the error: in a turn of its own it has found that numbers had run out, after so many events,
+-- behind which the step of some event would be spent. An event is never bad.
 abbrev pub IsCause : StepError → Known → Known → Type 0
 IsCause BadEvent v w = ⊥
-IsCause (Spent n) v w = (v.view.drawn < w.view.drawn) × (w.view.failure ≡ failure.Spent) × (n ≡ length w.view.seen)
+IsCause (Spent n) v w = (v.view.drawn < w.view.drawn) × (w.view.failure ≡ failure.Spent) × (n ≡ length w.view.seen) × SpendsNext w.view.config w.view.word w.view.seen
 IsCause NoMemory v w = Unit {0}
 
 -- Each caller has submitted its share of the lines, of which each has a turn. The turns stand in line order.

@@ -8,3 +8,5 @@ mod Fronts
 mod Picked
 mod Dialling
 mod Connecting
+mod Full
+mod Flights

@@ -12,9 +12,11 @@ use Rattle.legal_trace.proofs.Ledgers.{mine_keeps}
 use Rattle.live_run.specs.Agenda.{noted, offer_of, offered, removed, stands, undialled, without}
 use Rattle.live_run.specs.Passes.{Each}
 use Rattle.live_laws.specs.Taken.{IsNoWrote}
-use Rattle.live_laws.proofs.Agendas.{Agenda, Link, AreSingle, each_as, each_last, each_offered, each_without, offering, single_last, single_offered, single_without}
+use Rattle.live_run.proofs.Agendas.{AreSingle, each_as, each_last, offering, single_last, single_offered, single_without}
+use Rattle.live_run.proofs.Hearing.{IsNoTurn, turn_of}
+use Rattle.live_laws.proofs.Agendas.{Agenda, Link, each_offered, each_without}
 use Rattle.live_laws.proofs.News.{Stays, mine_offers, mine_takes, not_mine, other_stays, stays_same}
-use Rattle.live_laws.proofs.Taking.{IsNoTurn, taken_of, turn_of, turn_stays}
+use Rattle.live_laws.proofs.Taking.{taken_of, turn_stays}
 
 -- a link offers nothing, or it is up by the book too, and these very bytes are offered there
 abbrev pub IsTied : Book → Link → Type 0

@@ -18,6 +18,8 @@ use Rattle.legal_trace.specs.Book.{Book, blank_book, book, entered, entered_each
 use Rattle.legal_trace.proofs.Books.{entered_append}
 use Rattle.legal_trace.proofs.Ledgers.{mine_keeps}
 use Rattle.driver_model.specs.News.{news_of}
+use Rattle.live_run.proofs.Heard.{no_turn}
+use Rattle.live_run.proofs.Hearing.{IsNoTurn, turn_of}
 use Rattle.live_laws.specs.Taken.{AreUnwritten, IsNoWrote}
 use Rattle.live_laws.proofs.News.{Stays, event_not_took, hears_stays}
 
@@ -25,28 +27,8 @@ use Rattle.live_laws.proofs.News.{Stays, event_not_took, hears_stays}
 abbrev pub taken_of : Book → ℕ → List ℕ
 taken_of b n = (b.link n).taken
 
--- the turn of an event
-abbrev pub turn_of : ℕ → ℕ → EventKind → Action
-turn_of number word kind = action.Turn number (cause.Event (record { word = word; kind = kind }))
-
 pub turn_stays : (b : Book) (number word n : ℕ) (kind : EventKind) → IsNoWrote kind → Stays (b.link n) ((entered b (turn_of number word kind)).link n)
 turn_stays b number word n kind quiet = hears_stays (b.link n) number (news_of b.timers n kind) (event_not_took b.timers n kind quiet)
-
-abbrev pub IsNoTurn : Action → Type 0
-IsNoTurn (action.Turn number c) = ⊥
-IsNoTurn _ = Unit {0}
-
--- no act of a connection begins a turn
-pub no_turn : (l t : ℕ) (x : LinkAct) → IsNoTurn (shown l t x)
-no_turn l t (act.Created e) = tt
-no_turn l t (act.Took n count) = tt
-no_turn l t (act.Timer n ms) = tt
-no_turn l t (act.SetUp message need len) = tt
-no_turn l t act.Close = tt
-no_turn l t (act.Write bytes) = tt
-no_turn l t (act.Wait n kind) = tt
-no_turn l t (act.Start message n need len) = tt
-no_turn l t (act.Outcome n o) = tt
 
 pub action_taken : (b : Book) (x : Action) (n : ℕ) → IsNoTurn x → taken_of (entered b x) n ≡ taken_of b n
 action_taken b (action.Turn number c) n quiet = absurd quiet

@@ -22,7 +22,9 @@ use Rattle.live_run.specs.Agenda.{agenda_of, answered, begun, behind, dialled, n
 use Rattle.live_run.specs.Deeds.{Deed, did, fired, answer_of, asked, made, calls_of, events_of, actions_of, after, May, MayCall}
 use Rattle.live_laws.specs.Taken.{IsNoWrote, taken, taken_by}
 use Rattle.live_laws.proofs.Agendas.{Agenda}
-use Rattle.live_laws.proofs.Taking.{action_taken, no_turn, taken_of, turn_of, turn_stays}
+use Rattle.live_run.proofs.Heard.{no_turn}
+use Rattle.live_run.proofs.Hearing.{turn_of}
+use Rattle.live_laws.proofs.Taking.{action_taken, taken_of, turn_stays}
 use Rattle.live_laws.proofs.Offers.{Ties, dialled_ties, gone_ties, noted_ties, turn_ties, wrote_taken, wrote_ties}
 
 -- what was asked before the first pass is noted once

@@ -1,5 +1,5 @@
 -- The laws of live runs, each as one statement.
-use Rattle.std.specs.Prelude.{◌≡◌, ℕ, ◌≤◌, List, ◌∷◌, ◌++◌, Option, Some}
+use Rattle.std.specs.Prelude.{◌≡◌, ℕ, ◌≤◌, List, ◌∷◌, ◌++◌, length, Option, Some}
 use Rattle.driver_model.specs.declared.action.Action.{Action}
 use Rattle.outside.specs.declared.world.Call.{Call}
 use Rattle.outside.specs.declared.world.Call.TheVariants as call
@@ -9,9 +9,11 @@ use Rattle.legal_laws.specs.Links.{IsPrefix}
 use Rattle.shared_session.specs.History.{History}
 use Rattle.shared_session.specs.Replay.{IsSound}
 use Rattle.live_run.specs.declared.ending.Ending.{Ending}
+use Rattle.live_run.specs.declared.ending.Ending.TheVariants.{Full}
 use Rattle.live_run.specs.Closing.{close_calls, times}
 use Rattle.live_run.specs.Deeds.{IsGood, calls_in, traced}
 use Rattle.live_run.specs.Driven.{Driven}
+use Rattle.live_run.specs.Endings.{most_events}
 use Rattle.live_laws.specs.Taken.{taken, AreUnwritten}
 use Rattle.live_laws.specs.Dials.{dials_in, connects_in, IsPicked, Rises}
 
@@ -54,6 +56,13 @@ TakesFront =
     (early : List Action) (old new : Option (List Call)) (before after : History) (count : ℕ) (ending : Ending) (l : ℕ)
     → IsSound before.config → IsGood before → AreUnwritten before.events → (run : Driven early old new before after count ending)
     → IsPrefix (taken l (calls_of run) ++ (link_in after l).offer) (joined (link_in after l).starts)
+
+-- a run that ends since its history is full holds just so many events before its shutdown, if it began with no more
+abbrev pub FullIsExact : Type 0
+FullIsExact =
+    (early : List Action) (old new : Option (List Call)) (before after : History) (count : ℕ)
+    → length before.events ≤ most_events → (run : Driven early old new before after count Full)
+    → length run.last.events ≡ most_events
 
 -- the links that a run dials are some of those that the session asked to connect, in that order. It performs all actions of
 -- the session's trace so far

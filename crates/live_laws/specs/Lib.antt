@@ -1,3 +1,4 @@
 pub mod Taken
 pub mod Dials
 pub mod Laws
+pub mod Flights

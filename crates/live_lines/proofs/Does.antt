@@ -142,7 +142,7 @@ module _ (usage : List ℕ) (words : List (List ℕ)) (s : Status) (source sourc
   spent_by refusal.Usage h e gained = absurd (apart status.Usage status.Spent refl e)
   spent_by (refusal.Line n) h e gained = absurd (apart status.Script status.Spent refl e)
   spent_by (refusal.Config name) h e gained = absurd (apart status.Config status.Spent refl e)
-  spent_by (refusal.Spent events) h e gained = λ bytes told. record { asked = h.1 bytes told; events = events; told = gained }
+  spent_by (refusal.Spent events) h e gained = λ bytes told. record { events = events; ran_out = h.1 bytes told; told = gained }
   spent_by refusal.ReadFault h e gained = absurd (apart status.ReadFault status.Spent refl e)
   spent_by refusal.NoMemory h e gained = absurd (apart status.NoMemory status.Spent refl e)
 

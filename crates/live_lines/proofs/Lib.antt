@@ -2,6 +2,7 @@ mod Allowed
 mod Dealt
 mod Does
 mod Orders
+mod RunningOut
 mod Sources
 mod Submitted
 mod Unbroken

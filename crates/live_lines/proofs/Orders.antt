@@ -11,12 +11,13 @@ use Rattle.driver_model.specs.declared.config.Config.{Config}
 use Rattle.driver_model.specs.declared.event.Event.{Event}
 use Rattle.shared_session.specs.declared.core_state.Core.{Core}
 use Rattle.shared_session.specs.Turn.{is_bad, next_turn, actions_of}
-use Rattle.shared_session.specs.Replay.{opening_core, opening_actions, state_after, trace_of, turns_on, AreGood, AreGoodOn}
+use Rattle.shared_session.specs.Replay.{opening_core, opening_actions, state_after, is_spent_after, trace_of, turns_on, AreGood, AreGoodOn, AreUnspent, AreUnspentOn}
 use Rattle.shared_session.proofs.Replays.{state_after-more, state_after-none}
 use Rattle.session_callers.specs.Rule.{Each, below, same, times}
 use Rattle.caller_threads.specs.declared.job.Turn.{Turn}
 use Rattle.caller_threads.specs.Each.{EachAt}
 use Rattle.caller_threads.specs.Submits.{Line, IsAllowed, IsTurnOf, IsTold, event_of, places_of, actions_in}
+use Rattle.live_lines.specs.Flights.{IsOfLine}
 
 -- a line that a script may have, and whose turn it is
 abbrev IsTurn : Config → ℕ → List Event → Turn → Type 0
@@ -68,9 +69,12 @@ line_good : (c : Core) (line : Line) → IsAllowed line → is_bad c (event_of l
 unfolding is_bad
 line_good c line allowed = allowed
 
--- the turns from a core on are shown, and none of their events is bad
-abbrev Comes : Core → List Event → List Turn → Type 0
-Comes c es ts = (actions_in ts ≡ turns_on c es) × AreGoodOn c es
+-- the turns from a core on are shown; their events are those of lines, none of them is bad, and no step of them spent
+record Comes (c : Core) (es : List Event) (ts : List Turn) : Type 0 where
+  actions : actions_in ts ≡ turns_on c es
+  only : Each IsOfLine es
+  good : AreGoodOn c es
+  unspent : AreUnspentOn c es
 
 module _ (config : Config) (word : ℕ) (log : List Event) where
   first_place : (t : Turn) (ts : List Turn) (from : ℕ) → from < length log → IsNonDecreasingBy (λ (x : Turn). x.place) (t ∷ ts) → AreOnce from (length log) (t ∷ ts) → t.place ≡ from
@@ -84,7 +88,7 @@ module _ (config : Config) (word : ℕ) (log : List Event) where
 
   turns_come : (ts : List Turn) (front rest : List Event) → log ≡ front ++ rest → All (IsTurn config word log) ts → IsNonDecreasingBy (λ (t : Turn). t.place) ts → AreOnce (length front) (length log) ts
       → Comes (state_after config word front) rest ts
-  turns_come [] front [] is each rises once = (refl, tt)
+  turns_come [] front [] is each rises once = record { actions = refl; only = tt; good = tt; unspent = tt }
   turns_come [] front (e ∷ rest) is each rises once =
       let long = ap length is ∙ length-append front (e ∷ rest) in absurd (omega (arith, long, once (length front)))
   turns_come (t ∷ ts) front [] is each rises once =
@@ -106,15 +110,31 @@ module _ (config : Config) (word : ℕ) (log : List Event) where
       let more = turns_come ts (front ++ e ∷ []) rest behind (All-tail (IsTurn config word log) t ts each) (λ i j d le lt. rises (suc i) (suc j) d (omega (arith, le)) (omega (arith, lt)))
       (subst (λ (k : ℕ). AreOnce k (length log) ts) (sym further) later) in
       let next : Comes (next_turn c e.kind).core rest ts = subst (λ (x : Core). Comes x rest ts) (state_after-more config word front e) more in
-      ((λ i. acts i ++ next.0 i), (good, next.1))
+      record {
+        actions = λ i. acts i ++ next.actions i;
+        only = ((turn.0, sym at.1), next.only);
+        good = (good, next.good);
+        unspent = ((λ i. is_spent_after config word (sym at.0 i) (sym at.1 i)) ∙ of.unspent, next.unspent);
+      }
 
--- what was asked is the trace of the history, and none of its events is bad
-pub told_good : (config : Config) (word : ℕ) (log : List Event) (lines : List Line) (turns : List Turn) (actions : List Action) → Each IsAllowed lines → EachAt (λ i. IsTurnOf config word log) 0 lines turns
-    → ((p : ℕ) → times p (places_of turns) ≡ below p (length log)) → IsTold turns (opening_actions config word) actions → (actions ≡ trace_of config word log) × AreGood config word log
-unfolding trace_of AreGood
-told_good config word log lines turns actions allowed each once told =
+-- What was asked is the trace of the history. Its events are those of lines, none of them is bad, and no step of them spent
+pub record IsWell (config : Config) (word : ℕ) (log : List Event) (actions : List Action) : Type 0 where
+  pub asked : actions ≡ trace_of config word log
+  pub only : Each IsOfLine log
+  pub good : AreGood config word log
+  pub unspent : AreUnspent config word log
+
+pub told_well : (config : Config) (word : ℕ) (log : List Event) (lines : List Line) (turns : List Turn) (actions : List Action) → Each IsAllowed lines → EachAt (λ i. IsTurnOf config word log) 0 lines turns
+    → ((p : ℕ) → times p (places_of turns) ≡ below p (length log)) → IsTold turns (opening_actions config word) actions → IsWell config word log actions
+unfolding trace_of AreGood AreUnspent
+told_well config word log lines turns actions allowed each once told =
     let all = All-permutation (IsTurn config word log) turns told.order told.ordered.same (each_turn config word log 0 lines turns allowed each) in
     let all_once : AreOnce 0 (length log) told.order = λ p. omega (arith, times_ordered p turns told.order told.ordered.same, once p) in
     let comes = turns_come config word log told.order [] log refl all told.ordered.rises all_once in
     let from_opening : Comes (opening_core config word) log told.order = subst (λ (c : Core). Comes c log told.order) (state_after-none config word) comes in
-    (told.actions ∙ ap (λ (more : List Action). opening_actions config word ++ more) from_opening.0, from_opening.1)
+    record {
+      asked = told.actions ∙ ap (λ (more : List Action). opening_actions config word ++ more) from_opening.actions;
+      only = from_opening.only;
+      good = from_opening.good;
+      unspent = from_opening.unspent;
+    }

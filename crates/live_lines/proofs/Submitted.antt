@@ -6,7 +6,7 @@ use Rattle.driver_model.specs.declared.config.Config.{Config}
 use Rattle.driver_model.specs.declared.event.Event.{Event}
 use Rattle.atomic_table.specs.Seated.{TableId}
 use Rattle.session_callers.specs.Calls.{Known}
-use Rattle.session_callers.specs.Rule.{Each, total, times, same, below}
+use Rattle.session_callers.specs.Rule.{Each, MaySpend, total, times, same, below}
 use Rattle.caller_threads.specs.declared.job.Turn.{Turn}
 use Rattle.caller_threads.specs.Each.{EachAt}
 use Rattle.caller_threads.specs.Lines.{share, share_from}
@@ -20,7 +20,7 @@ use Rattle.shared_session.specs.History.{History}
 use Rattle.shared_session.specs.Replay.{opening_actions, trace_of, AreGood}
 use Rattle.live_lines.specs.Flights.{IsBare, AreSubmitted, callers_of}
 use Rattle.live_lines.specs.declared.planning.Plan.{Plan}
-use Rattle.live_lines.proofs.Orders.{told_good}
+use Rattle.live_lines.proofs.Orders.{IsWell, told_well}
 use Rattle.live_lines.proofs.Dealt.{pair_at, whole, total_by_place, total_shares}
 
 -- how often a place is that of a turn
@@ -80,27 +80,32 @@ module _ (config : Config) (word : ℕ) (vs ws : List Known) (lines : List Line)
       ap (times p) (h.1.mine ∙ ap (λ (xs : List ℕ). xs ++ places_of (share k c turns)) h.0.2) ∙ times_places p (share k c turns) in
       times_places p turns ∙ sym (total_shares f k 0 some turns) ∙ sym (total_by_place HasShare (λ (c : Known). times p c.view.mine) (λ (c : ℕ). total f (share_from k c 0 turns)) 0 vs ws own have_shares) ∙ counted
 
--- none of the events is bad, and what was asked is the trace of the history
-pub told_and_good : (plan : Plan) (word : ℕ) (vs ws : List Known) (lines : List Line) (given numbers : List ℕ) (s : History) (shown actions : List Action) → Each IsAllowed lines → Each (IsBare plan.config word) vs
+-- what was asked is the trace of the history, and all is well with its events
+pub asked_well : (plan : Plan) (word : ℕ) (vs ws : List Known) (lines : List Line) (given numbers : List ℕ) (s : History) (shown actions : List Action) → Each IsAllowed lines → Each (IsBare plan.config word) vs
     → length vs ≡ callers_of plan → HaveSubmitted vs ws lines given numbers shown actions → shown ≡ opening_actions plan.config word → Each (λ (c : Known). IsPrefix c.view.seen s.events) ws
-    → ((p : ℕ) → total (λ (c : Known). times p c.view.mine) ws ≡ below p (length s.events)) → (actions ≡ trace_of plan.config word s.events) × AreGood plan.config word s.events
-told_and_good plan word vs ws lines given numbers s shown actions allowed bare count h opened seen once =
+    → ((p : ℕ) → total (λ (c : Known). times p c.view.mine) ws ≡ below p (length s.events)) → IsWell plan.config word s.events actions
+asked_well plan word vs ws lines given numbers s shown actions allowed bare count h opened seen once =
     let some : 0 < length vs = omega (arith, count) in
-    told_good plan.config word s.events lines h.turns actions allowed (lines_stand plan.config word vs ws lines h.turns bare h.run s.events some seen)
+    told_well plan.config word s.events lines h.turns actions allowed (lines_stand plan.config word vs ws lines h.turns bare h.run s.events some seen)
     (λ p. lines_once plan.config word vs ws lines h.turns bare h.run p (length s.events) some (once p)) (subst (λ (xs : List Action). IsTold h.turns xs actions) opened h.told)
 
 -- all of it
 pub are_submitted : (plan : Plan) (word : ℕ) (vs ws : List Known) (lines : List Line) (given numbers : List ℕ) (s : History) (shown actions : List Action) → Each IsAllowed lines → Each (IsBare plan.config word) vs
     → length vs ≡ callers_of plan → HaveSubmitted vs ws lines given numbers shown actions → given ≡ [] → shown ≡ opening_actions plan.config word → Each (λ (c : Known). IsPrefix c.view.seen s.events) ws
-    → ((p : ℕ) → total (λ (c : Known). times p c.view.mine) ws ≡ below p (length s.events)) → IsShared ws s.config s.word → AreSubmitted plan word lines numbers s
-are_submitted plan word vs ws lines given numbers s shown actions allowed bare count h none opened seen once shared =
+    → ((p : ℕ) → total (λ (c : Known). times p c.view.mine) ws ≡ below p (length s.events)) → IsShared ws s.config s.word → MaySpend s.config s.word s.events s.failure → AreSubmitted plan word lines numbers s
+are_submitted plan word vs ws lines given numbers s shown actions allowed bare count h none opened seen once shared spent =
     let some : 0 < length vs = omega (arith, count) in
+    let is = shared plan.config word (shared_still plan.config word vs ws lines h.turns bare h.run) in
+    let well = asked_well plan word vs ws lines given numbers s shown actions allowed bare count h opened seen once in
     record {
-      config = shared plan.config word (shared_still plan.config word vs ws lines h.turns bare h.run);
+      config = is;
       turns = h.turns;
       each = lines_stand plan.config word vs ws lines h.turns bare h.run s.events some seen;
       given = h.gained ∙ ap (λ (xs : List ℕ). xs ++ numbers_of h.turns) none;
       once = λ p. lines_once plan.config word vs ws lines h.turns bare h.run p (length s.events) some (once p);
       order = λ c less. subst (λ (k : ℕ). Ascends 0 (places_of (share k c h.turns)) (length s.events)) count (share_rises plan.config word vs ws lines h.turns bare h.run s.events seen c (subst (λ (k : ℕ). c < k) (sym count) less));
-      good = (told_and_good plan word vs ws lines given numbers s shown actions allowed bare count h opened seen once).1;
+      only = well.only;
+      good = well.good;
+      unspent = well.unspent;
+      spent = rw (← is.0, ← is.1) spent;
     }

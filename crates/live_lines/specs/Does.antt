@@ -8,7 +8,7 @@ use Rattle.program_ends.specs.declared.status.Status.{Status}
 use Rattle.program_ends.specs.declared.status.Status.TheVariants as status
 use Rattle.redis_error.specs.declared.config_name.ConfigName.{ConfigName}
 use Rattle.script_text.specs.Lines.{lines_of}
-use Rattle.live_lines.specs.Live.{IsAsked, IsLive, IsRefused, IsRefusedConfig, flight_text, refusal_line}
+use Rattle.live_lines.specs.Live.{IsAsked, IsLive, IsRefused, IsRefusedConfig, IsRunOut, flight_text, refusal_line}
 use Rattle.live_lines.specs.Plans.{plan_of, refused_of}
 use Rattle.live_lines.specs.declared.flying.Flight.{Flight}
 use Rattle.live_lines.specs.declared.reading.Refusal.{Refusal}
@@ -31,10 +31,10 @@ pub record IsConfigRun (words : List (List ℕ)) (bytes : List ℕ) (sink sink' 
   pub refused : IsRefusedConfig words bytes name
   pub told : Gained sink.bytes sink'.bytes (config_line name)
 
--- numbers ran out at an event, and the sink gained its number, counted from 1
+-- numbers ran out behind so many events, and the sink gained the number of the next, counted from 1
 pub record IsSpentRun (words : List (List ℕ)) (bytes : List ℕ) (sink sink' : Side) : Type 0 where
-  pub asked : IsAsked words bytes
   pub events : ℕ
+  pub ran_out : IsRunOut words bytes events
   pub told : Gained sink.bytes sink'.bytes (numbered_line (codes "spent event") (events + 1))
 
 -- all that a live run may write: the outcome of each line, or the line that tells why there was none

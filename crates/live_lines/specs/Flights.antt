@@ -1,8 +1,9 @@
 -- What a live run is: callers submit its lines, and then the session is driven over the world until it ends.
 use Rattle.std.specs.Prelude.{◌≡◌, ℕ, ◌<◌, false, List, [], length, max, Option, Some}
 use Rattle.caller_threads.specs.declared.job.Turn.{Turn}
-use Rattle.caller_threads.specs.Submits.{Line, AreTurnsOf, places_of, numbers_of}
+use Rattle.caller_threads.specs.Submits.{Line, AreTurnsOf, event_of, places_of, numbers_of}
 use Rattle.driver_model.specs.declared.config.Config.{Config}
+use Rattle.driver_model.specs.declared.event.Event.{Event}
 use Rattle.live_lines.specs.declared.flying.Flight.{Flight}
 use Rattle.live_lines.specs.declared.flying.FlightError.{FlightError}
 use Rattle.live_lines.specs.declared.flying.FlightError.TheVariants as flight
@@ -14,9 +15,9 @@ use Rattle.outside.specs.declared.world.Call.{Call}
 use Rattle.outside.specs.declared.world.Call.TheVariants as call
 use Rattle.session_callers.specs.Calls.{Known}
 use Rattle.caller_threads.specs.Lines.{share}
-use Rattle.session_callers.specs.Rule.{times, below, Ascends}
+use Rattle.session_callers.specs.Rule.{times, below, Ascends, Each, MaySpend, SpendsNext}
 use Rattle.shared_session.specs.History.{History}
-use Rattle.shared_session.specs.Replay.{AreGood, IsSound, trace_of}
+use Rattle.shared_session.specs.Replay.{AreGood, AreUnspent, IsSound, trace_of}
 
 -- a caller of a session of this configuration and word, which has submitted nothing
 abbrev pub IsBare : Config → ℕ → Known → Type 0
@@ -26,9 +27,14 @@ IsBare config word c = (c.view.config ≡ config) × (c.view.word ≡ word) × (
 abbrev pub callers_of : Plan → ℕ
 callers_of plan = max 1 plan.callers
 
+-- the event hands in a line
+abbrev pub IsOfLine : Event → Type 0
+IsOfLine e = (line : Line) × (e ≡ event_of line)
+
 -- The callers of a plan have submitted these lines and nothing else: each line stands in the history at the place of its turn,
 -- with the number that it was given; each place of the history is that of one line; the lines of one caller, line i being that
--- of caller i modulo their number, stand there in their order; and none of the events is bad.
+-- of caller i modulo their number, stand there in their order; none of the events is bad, and no step of them spent. Numbers may
+-- have run out behind them only where the step of some event would be spent.
 pub record AreSubmitted (plan : Plan) (word : ℕ) (lines : List Line) (numbers : List ℕ) (s : History) : Type 0 where
   pub config : (s.config ≡ plan.config) × (s.word ≡ word)
   pub turns : List Turn
@@ -36,7 +42,10 @@ pub record AreSubmitted (plan : Plan) (word : ℕ) (lines : List Line) (numbers 
   pub given : numbers ≡ numbers_of turns
   pub once : (p : ℕ) → times p (places_of turns) ≡ below p (length s.events)
   pub order : (c : ℕ) → c < callers_of plan → Ascends 0 (places_of (share (callers_of plan) c turns)) (length s.events)
+  pub only : Each IsOfLine s.events
   pub good : AreGood plan.config word s.events
+  pub unspent : AreUnspent plan.config word s.events
+  pub spent : MaySpend plan.config word s.events s.failure
 
 -- The live run of a plan and these lines, which came to its end: nothing of the plan is refused; the session's word is the
 -- world's first; the lines are submitted, and then the session is driven, by what the trace of their history asks.
@@ -50,8 +59,15 @@ pub record IsFlight (plan : Plan) (lines : List Line) (old new : Option (List Ca
   pub submitted : AreSubmitted plan word lines f.numbers.items opened
   pub driven : Driven (trace_of plan.config word opened.events) middle new opened f.session (length lines) f.ending
 
--- why there was none: what is refused first of the plan, or of numbers and memory
+-- numbers ran out: behind so many events the step of some event that isn't bad would be spent
+pub record RanOut (config : Config) (count : ℕ) : Type 0 where
+  pub word : ℕ
+  pub events : List Event
+  pub number : count ≡ length events
+  pub next : SpendsNext config word events
+
+-- why there was none: what is refused first of the plan, or that numbers ran out, or memory
 abbrev pub IsNoFlight : Plan → FlightError → Type 0
 IsNoFlight plan (flight.Config name) = refused_of plan ≡ Some name
-IsNoFlight plan (flight.Spent events) = Unit {0}
+IsNoFlight plan (flight.Spent events) = RanOut plan.config events
 IsNoFlight plan flight.NoMemory = Unit {0}

@@ -9,7 +9,7 @@ use Rattle.program_ends.specs.Sides.{Side, Fails, IfTold}
 use Rattle.program_ends.specs.declared.status.Status.{Status}
 use Rattle.program_ends.specs.declared.status.Status.TheVariants as status
 use Rattle.script_text.specs.Lines.{lines_of}
-use Rattle.live_lines.specs.Flights.{IsFlight}
+use Rattle.live_lines.specs.Flights.{IsFlight, RanOut}
 use Rattle.live_lines.specs.Outcomes.{outcome_lines, outcomes_of}
 use Rattle.live_lines.specs.Plans.{plan_of, refused_of}
 use Rattle.live_lines.specs.declared.flying.Flight.{Flight}
@@ -40,6 +40,11 @@ pub record IsRefusedConfig (words : List (List ℕ)) (bytes : List ℕ) (name : 
   pub asked : IsAsked words bytes
   pub refused : refused_of asked.plan ≡ Some name
 
+-- they were, and numbers ran out behind so many events
+pub record IsRunOut (words : List (List ℕ)) (bytes : List ℕ) (events : ℕ) : Type 0 where
+  pub asked : IsAsked words bytes
+  pub ran_out : RanOut asked.plan.config events
+
 -- the words are a plan
 pub record IsPlan (words : List (List ℕ)) : Type 0 where
   pub plan : Plan
@@ -52,7 +57,7 @@ IsRefused refusal.Usage words source source' = plan_of words ≡ None
 IsRefused refusal.ReadFault words source source' = IsPlan words × Fails source source'
 IsRefused (refusal.Line n) words source source' = IsPlan words × IfTold source (λ bytes. lines_of bytes ≡ Err n)
 IsRefused (refusal.Config name) words source source' = IsPlan words × IfTold source (λ bytes. IsRefusedConfig words bytes name)
-IsRefused (refusal.Spent events) words source source' = IsPlan words × IfTold source (IsAsked words)
+IsRefused (refusal.Spent events) words source source' = IsPlan words × IfTold source (λ bytes. IsRunOut words bytes events)
 IsRefused refusal.NoMemory words source source' = ⊤
 
 -- the line that tells why there was none, where this one tells words that are no plan

@@ -1,8 +1,8 @@
-ghost use Rattle.std.specs.Prelude.{◌≡◌, ◌≤◌, ◌++◌, [], false, length, max, IfOk, IfErr, IsErrOf};
+ghost use Rattle.std.specs.Prelude.{◌≡◌, ℕ, ◌≤◌, ◌++◌, [], false, length, max, IfOk, IfErr, IsErrOf};
 ghost use Rattle.caller_threads.specs.Submits.{IsAllowed};
 ghost use Rattle.session_callers.specs.Rule.{Each};
 ghost use Rattle.shared_session.specs.Replay.{IsSound, trace_of};
-ghost use Rattle.live_lines.specs.Flights.{AreSubmitted, IsBare, IsFlight, IsNoFlight};
+ghost use Rattle.live_lines.specs.Flights.{AreSubmitted, IsBare, IsFlight, IsNoFlight, RanOut};
 
 use crate::planning::Plan;
 use caller_threads::{OpenGate, submit_lines};
@@ -31,7 +31,7 @@ pub struct Flight {
 pub enum FlightError {
     /// The plan is refused for this.
     Config(ConfigName),
-    /// A number ran out at the step of an event, behind so many events.
+    /// Numbers ran out: behind so many events the step of some event would be spent.
     Spent(u32),
     NoMemory,
 }
@@ -39,7 +39,9 @@ pub enum FlightError {
 /// Why the step of a live run was refused. Its events are never bad.
 fn refused(error: StepError) -> FlightError
     requires { error ≡ StepError.BadEvent → ⊥ }
-    ensures { (plan : Plan) → IsNoFlight plan result }
+    ensures { (plan : Plan)
+        → ((n : ℕ) → error ≡ StepError.Spent n → RanOut plan.config n)
+        → IsNoFlight plan result }
 {
     match error {
         StepError::BadEvent => unreachable!(),

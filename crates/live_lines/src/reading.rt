@@ -32,7 +32,7 @@ pub enum Refusal {
     NoMemory,
     /// The source failed.
     ReadFault,
-    /// A number ran out at the step of an event, behind so many.
+    /// Numbers ran out: behind so many events the step of some event would be spent.
     Spent(u32),
 }
 

@@ -27,7 +27,7 @@ use Rattle.live_run.proofs.Hearing.{IsNoTurn, IsNoWrote, turn_grows, turn_of}
 use Rattle.live_run.proofs.Standing.{IsKnown, IsKnownLink, Knows, known_grown, noted_known, wrote_known}
 
 -- no act of a connection begins a turn
-no_turn : (l t : ℕ) (x : LinkAct) → IsNoTurn (shown l t x)
+pub no_turn : (l t : ℕ) (x : LinkAct) → IsNoTurn (shown l t x)
 no_turn l t (act.Created e) = tt
 no_turn l t (act.Took n count) = tt
 no_turn l t (act.Timer n ms) = tt

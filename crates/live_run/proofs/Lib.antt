@@ -3,14 +3,15 @@ pub mod Runs
 pub mod Settling
 pub mod Turns
 pub mod Stages
+mod Going
 pub mod Searches
 pub mod Later
 pub mod Balance
 pub mod Words
 pub mod Whole
-mod Agendas
-mod Hearing
+pub mod Agendas
+pub mod Hearing
 mod Standing
-mod Heard
+pub mod Heard
 mod Early
 pub mod Good

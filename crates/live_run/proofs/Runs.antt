@@ -1,5 +1,5 @@
 -- What two parts of a run, one after the other, do.
-use Rattle.std.proofs.Common.{arith, ◌≡◌, List, [], ◌∷◌, ◌++◌, Option, append_assoc, refl, ◌∙◌, sym, ap}
+use Rattle.std.proofs.Common.{arith, ◌≡◌, ◌⊎◌, List, [], ◌∷◌, ◌++◌, Option, append_assoc, refl, ◌∙◌, sym, ap, inl, inr}
 use Rattle.std.proofs.lemmas.List.{append-nil}
 use Rattle.driver_model.specs.declared.action.Action.{Action}
 use Rattle.driver_model.specs.declared.event.Event.{Event}
@@ -9,6 +9,7 @@ use Rattle.shared_session.specs.History.{History}
 use Rattle.shared_session.specs.Replay.{trace_of}
 use Rattle.shared_session.specs.declared.errors.StepError.{StepError}
 use Rattle.shared_session.specs.declared.errors.StepError.TheVariants.{NoMemory}
+use Rattle.shared_session.specs.declared.session.Failure.TheVariants.{Sound}
 use Rattle.live_run.specs.declared.agenda.Agenda.{Agenda}
 use Rattle.live_run.specs.Deeds.{Deed, Told, Went, Does, Broke, AllMay, after, after_each, calls_of, events_of, actions_of, calls_in, events_in, actions_in}
 use Rattle.live_run.proofs.Shown.{shown_then}
@@ -66,6 +67,9 @@ went_calls {before = before} told = record {
   word = refl;
   shown = sym (append-nil _);
   good = λ h. h;
+  unspent = λ h. h;
+  failure = refl;
+  sound = inr refl;
 }
 
 pub went_none : {old : Option (List Call)} {before : History} → Went old old before before [] [] []
@@ -74,15 +78,23 @@ went_none = went_calls told_none
 pub went_call : {old new : Option (List Call)} {before : History} {c : Call} → Adds old new c → Went old new before before (c ∷ []) [] []
 went_call adds = went_calls (told_adds adds)
 
+sound_more : (before between : History) (es fs : List Event) → between.failure ≡ before.failure → (before.failure ≡ Sound) ⊎ (es ≡ []) → (between.failure ≡ Sound) ⊎ (fs ≡ []) → (before.failure ≡ Sound) ⊎ (es ++ fs ≡ [])
+sound_more before between es fs same (inl sound) two = inl sound
+sound_more before between es fs same (inr none) (inl sound) = inl (sym same ∙ sound)
+sound_more before between es fs same (inr none) (inr no_more) = inr (rw (none, no_more) refl)
+
 pub went_more : {old mid new : Option (List Call)} {before between after : History} {xs ys : List Call} {es fs : List Event} {acts bs : List Action}
     → Went old mid before between xs es acts → Went mid new between after ys fs bs → Went old new before after (xs ++ ys) (es ++ fs) (acts ++ bs)
-went_more {before = before} {es = es} {fs = fs} {acts = acts} {bs = bs} one two = record {
+went_more {before = before} {between = between} {es = es} {fs = fs} {acts = acts} {bs = bs} one two = record {
   told = told_more one.told two.told;
   grown = two.grown ∙ ap (λ (all : List Event). all ++ fs) one.grown ∙ append_assoc before.events es fs;
   config = two.config ∙ one.config;
   word = two.word ∙ one.word;
   shown = two.shown ∙ ap (λ (all : List Action). all ++ bs) one.shown ∙ append_assoc _ acts bs;
   good = λ h. two.good (one.good h);
+  unspent = λ h. two.unspent (one.unspent h);
+  failure = two.failure ∙ one.failure;
+  sound = sound_more before between es fs one.failure one.sound two.sound;
 }
 
 -- nothing was done

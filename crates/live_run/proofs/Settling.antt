@@ -11,17 +11,18 @@ use Rattle.outside.specs.World.{Adds}
 use Rattle.outside.specs.declared.world.Call.{Call}
 use Rattle.outside.specs.declared.world.Call.TheVariants as call
 use Rattle.shared_session.specs.History.{History}
-use Rattle.shared_session.specs.Replay.{state_after, is_bad_after}
-use Rattle.shared_session.specs.Turn.{actions_of, is_bad, next_turn}
+use Rattle.shared_session.specs.Replay.{state_after, is_bad_after, is_spent_after}
+use Rattle.shared_session.specs.Turn.{actions_of, is_bad, next_turn, spends}
 use Rattle.shared_session.specs.declared.errors.StepError.{StepError}
 use Rattle.shared_session.specs.declared.errors.StepError.TheVariants.{BadEvent, Spent, NoMemory}
 use Rattle.shared_session.specs.declared.core_state.Core.{Core}
-use Rattle.shared_session.specs.Replay.{AreGood, AreGoodOn, opening_core, run_on}
+use Rattle.shared_session.specs.Replay.{AreGood, AreGoodOn, AreUnspent, AreUnspentOn, opening_core, run_on}
+use Rattle.shared_session.specs.declared.session.Failure.TheVariants as failure
 use Rattle.shared_session.proofs.Replays.{trace_of-more}
 use Rattle.live_run.specs.declared.agenda.Agenda.{Agenda}
 use Rattle.live_run.specs.Agenda.{answered, behind, first_due, noted_each}
 use Rattle.live_run.specs.Deeds.{actions_of as deed_actions}
-use Rattle.live_run.specs.Deeds.{Deed, did, fired, Went, Does, Broke, May, MayCall, MayStep, calls_of, events_of, of_call, of_timer, IsWhy, IsGood, traced, answer_of, asked, made}
+use Rattle.live_run.specs.Deeds.{Deed, did, fired, Went, Does, Broke, May, MayCall, MayStep, calls_of, events_of, of_call, of_timer, IsWhy, IsGood, IsUnspent, traced, answer_of, asked, made}
 use Rattle.live_run.specs.Steps.{Stepped, Refuses, Refused, Settled, Unsettled, refused, unnoted}
 use Rattle.live_run.proofs.Runs.{shown_by, told_adds, told_more, went_call, went_calls, went_none, went_more}
 
@@ -41,13 +42,27 @@ good_step : (before after : History) (e : Event) → after ≡ record before { e
     → is_bad_after before.config before.word before.events e ≡ false → IsGood before → IsGood after
 good_step before after e is fine good = rw is (good_more before.config before.word before.events e good fine)
 
+unspent_on_more : (c : Core) (es : List Event) (e : Event) → AreUnspentOn c es → spends (run_on c es) e ≡ false → AreUnspentOn c (es ++ e ∷ [])
+unspent_on_more c [] e all free = (free, tt)
+unspent_on_more c (d ∷ es) e all free = (all.0, unspent_on_more (next_turn c d.kind).core es e all.1 free)
+
+unspent_more : (config : Config) (word : ℕ) (es : List Event) (e : Event) → AreUnspent config word es → is_spent_after config word es e ≡ false → AreUnspent config word (es ++ e ∷ [])
+unfolding AreUnspent state_after
+unspent_more config word es e all free = unspent_on_more (opening_core config word) es e all free
+
+unspent_step : (before after : History) (e : Event) → after ≡ record before { events = before.events ++ e ∷ [] }
+    → is_spent_after before.config before.word before.events e ≡ false → IsUnspent before → IsUnspent after
+unspent_step before after e is free unspent = rw is (unspent_more before.config before.word before.events e unspent free)
+
 -- a word was asked for, and its event was taken
 pub stepped : {old new : Option (List Call)} {before after : History} {start actions : List Action} (word : ℕ) (kind : EventKind) → Adds old new (call.Word word)
     → after ≡ record before { events = before.events ++ record { word = word; kind = kind } ∷ [] }
     → start ≡ [] → actions ≡ start ++ actions_of (state_after before.config before.word before.events) (record { word = word; kind = kind })
+    → before.failure ≡ failure.Sound
     → is_bad_after before.config before.word before.events (record { word = word; kind = kind }) ≡ false
+    → is_spent_after before.config before.word before.events (record { word = word; kind = kind }) ≡ false
     → Stepped old new before after kind actions
-stepped {before = before} {after = after} word kind adds is none shows fine =
+stepped {before = before} {after = after} word kind adds is none shows sound fine free =
     let e : Event = record { word = word; kind = kind } in
     record {
       asked_word = word;
@@ -58,6 +73,9 @@ stepped {before = before} {after = after} word kind adds is none shows fine =
         word = ap (λ (h : History). h.word) is;
         shown = rw (shows, none) (shown_step before after e is);
         good = good_step before after e is fine;
+        unspent = unspent_step before after e is free;
+        failure = ap (λ (h : History). h.failure) is;
+        sound = inl sound;
       };
     }
 

@@ -18,11 +18,12 @@ use Rattle.live_run.specs.Agenda.{agenda_of}
 use Rattle.live_run.specs.Closing.{close_calls, downs, times, ups}
 use Rattle.live_run.specs.Deeds.{Deed, did, fired, Does, Broke, Told, AllMay, after_each, events_in, events_of, answer_of, made, of_end}
 use Rattle.live_run.specs.Passes.{Pass, IsQuiet, IsIdle, IsRound, EachRound, EndsIdle, Each, joined}
-use Rattle.live_run.specs.Endings.{Over}
+use Rattle.live_run.specs.Endings.{Goes, Over}
 use Rattle.live_run.specs.Rounds.{IsNext}
 use Rattle.live_run.specs.Driven.{Driven, Ends, Ran}
 use Rattle.live_run.specs.Steps.{IsEnd, Refused, Stepped}
 use Rattle.live_run.proofs.Balance.{even_after, held, times_more, told_closes}
+use Rattle.live_run.proofs.Going.{going_events}
 use Rattle.live_run.proofs.Runs.{after_more, does_more, does_none, told_more, went_call}
 use Rattle.live_run.proofs.Settling.{broke_step}
 use Rattle.live_run.proofs.Shown.{shown_none}
@@ -152,7 +153,7 @@ ended {actions = actions} closes unclosed step first second =
     record {
       asked_word = step.asked_word;
       actions = actions;
-      went = record { told = told_more w.told told; grown = w.grown; config = w.config; word = w.word; shown = w.shown; good = w.good };
+      went = record { told = told_more w.told told; grown = w.grown; config = w.config; word = w.word; shown = w.shown; good = w.good; unspent = w.unspent; failure = w.failure; sound = w.sound };
     }
 
 pub unended : {error : StepError} {old new : Option (List Call)} {before after : History} {a : Agenda} → Refused error old new before after event.Shutdown → Broke error old new before after a
@@ -165,8 +166,8 @@ even_closes n early b ds leads may =
     omega (arith, e, m)
 
 pub driven : {old mid new : Option (List Call)} {before last after : History} {count : ℕ} {b : Agenda} {ending : Ending} (early : List Action)
-    → Does old mid before last (agenda_of early) b (Ran ending last count (agenda_of early)) → IsEnd mid new last after (b.closes ++ b.unclosed) → Driven early old new before after count ending
-driven {last = last} {b = b} early run end_of = record {
+    → Does old mid before last (agenda_of early) b (Ran ending last count (agenda_of early)) → Goes before last count → IsEnd mid new last after (b.closes ++ b.unclosed) → Driven early old new before after count ending
+driven {last = last} {b = b} early run goes end_of = record {
   last = last;
   deeds = run.deeds;
   word = end_of.asked_word;
@@ -180,8 +181,10 @@ driven {last = last} {b = b} early run end_of = record {
   opening_after = end_of.went.word ∙ run.went.word;
   shown = run.shown;
   good = λ h. end_of.went.good (run.went.good h);
+  unspent = λ h. end_of.went.unspent (run.went.unspent h);
   may = run.may;
   rounds = run.form.rounds;
+  going = going_events (events_in run.deeds) run.went.grown goes;
   left = ap (λ (x : Agenda). x.closes ++ x.unclosed) run.leads;
   even = λ n. even_closes n early b run.deeds run.leads run.may;
   cause = run.form.cause;

@@ -14,7 +14,7 @@ use Rattle.outside.specs.declared.world.Dialed.TheVariants as dialed
 use Rattle.outside.specs.declared.world.LinkGot.TheVariants as got
 use Rattle.outside.specs.declared.world.LinkPut.TheVariants as put
 use Rattle.shared_session.specs.History.{History}
-use Rattle.shared_session.specs.Replay.{trace_of, AreGood, is_bad_after}
+use Rattle.shared_session.specs.Replay.{trace_of, AreGood, AreUnspent, is_bad_after}
 use Rattle.shared_session.specs.Stops.{IsSpentBy}
 use Rattle.shared_session.specs.declared.errors.StepError.{StepError}
 use Rattle.shared_session.specs.declared.errors.StepError.TheVariants.{BadEvent, Spent, NoMemory}
@@ -148,12 +148,17 @@ traced s = trace_of s.config s.word s.events
 abbrev pub IsGood : History → Type 0
 IsGood s = AreGood s.config s.word s.events
 
+-- no step of them was spent
+abbrev pub IsUnspent : History → Type 0
+IsUnspent s = AreUnspent s.config s.word s.events
+
 -- the trace gains by each of these deeds the actions of its own turn
 abbrev pub AreShown : Config → ℕ → List Event → List Deed → Type 0
 AreShown config word events [] = Unit {0}
 AreShown config word events (d ∷ ds) = (trace_of config word (events ++ events_of d) ≡ trace_of config word events ++ actions_of d) × AreShown config word (events ++ events_of d) ds
 
--- the world had these calls, the history gained these events, none of which is bad, and the trace these actions
+-- The world had these calls, the history gained these events, of which none is bad and no step spent, and the trace these
+-- actions. A session takes events only while it is sound.
 pub record Went (old new : Option (List Call)) (before after : History) (calls : List Call) (events : List Event) (actions : List Action) : Type 0 where
   pub told : Told old new calls
   pub grown : after.events ≡ before.events ++ events
@@ -161,6 +166,9 @@ pub record Went (old new : Option (List Call)) (before after : History) (calls :
   pub word : after.word ≡ before.word
   pub shown : traced after ≡ traced before ++ actions
   pub good : IsGood before → IsGood after
+  pub unspent : IsUnspent before → IsUnspent after
+  pub failure : after.failure ≡ before.failure
+  pub sound : (before.failure ≡ failure.Sound) ⊎ (events ≡ [])
 
 -- some deeds were done that may be done, and nothing else; they are as `form` says, and lead from this agenda to that
 pub record Does (old new : Option (List Call)) (before after : History) (a b : Agenda) (Form : List Deed → Type 0) : Type 0 where

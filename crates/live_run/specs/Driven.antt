@@ -10,10 +10,10 @@ use Rattle.live_run.specs.declared.agenda.Agenda.{Agenda}
 use Rattle.live_run.specs.declared.ending.Ending.{Ending}
 use Rattle.live_run.specs.declared.ending.Ending.TheVariants.{Answered, Idle, Full}
 use Rattle.live_run.specs.Agenda.{agenda_of}
-use Rattle.live_run.specs.Deeds.{Deed, Told, AllMay, AreShown, IsGood, after_each, calls_in, events_in}
+use Rattle.live_run.specs.Deeds.{Deed, Told, AllMay, AreShown, IsGood, IsUnspent, after_each, calls_in, events_in}
 use Rattle.live_run.specs.Passes.{AreRounds, EndsIdle}
 use Rattle.live_run.specs.Closing.{close_calls, downs, times, ups}
-use Rattle.live_run.specs.Endings.{AreAnswered, most_events}
+use Rattle.live_run.specs.Endings.{AreAnswered, AreGoing, most_events}
 use Rattle.live_run.specs.Events.{answers_in, words_in, untimed_in, words_of}
 
 -- the shutdown
@@ -47,12 +47,15 @@ pub record Driven (early : List Action) (old new : Option (List Call)) (before a
   pub config_after : after.config ≡ before.config
   pub opening : last.word ≡ before.word
   pub opening_after : after.word ≡ before.word
-  -- the deeds have the actions of the trace of their events, turn by turn, none of which is bad
+  -- the deeds have the actions of the trace of their events, turn by turn; none of them is bad, and no step of them spent
   pub shown : AreShown before.config before.word before.events deeds
   pub good : IsGood before → IsGood after
+  pub unspent : IsUnspent before → IsUnspent after
   -- each deed may be done behind those before it
   pub may : AllMay (agenda_of early) deeds
   pub rounds : AreRounds (agenda_of early) deeds
+  -- the run was still going before each of their events
+  pub going : AreGoing before count (events_in deeds)
   pub left : closes ≡ (after_each (agenda_of early) deeds).closes ++ (after_each (agenda_of early) deeds).unclosed
   -- each link is closed as often as a dial of it answered Yes
   pub even : (n : ℕ) → ups n deeds ≡ downs n deeds + times n closes

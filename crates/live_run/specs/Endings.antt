@@ -1,5 +1,6 @@
 -- When a run is over.
-use Rattle.std.specs.Prelude.{◌≡◌, ℕ, ◌<◌, ◌≤◌, Option, Some, None, length}
+use Rattle.std.specs.Prelude.{◌≡◌, ℕ, ◌<◌, ◌≤◌, List, [], ◌∷◌, ◌++◌, Option, Some, None, length}
+use Rattle.driver_model.specs.declared.event.Event.{Event}
 use Rattle.live_run.specs.declared.ending.Ending.{Ending}
 use Rattle.live_run.specs.declared.ending.Ending.TheVariants.{Answered, Idle, Full}
 use Rattle.shared_session.specs.History.{History}
@@ -23,6 +24,19 @@ pub record IsGoing (s : History) (count : ℕ) : Type 0 where
   pub open_one : ℕ
   pub asked : open_one < count
   pub is_open : IsOpen s open_one
+
+-- before each of these events, one after another, the run was still going
+abbrev pub AreGoing : History → ℕ → List Event → Type 0
+AreGoing s count [] = Unit {0}
+AreGoing s count (e ∷ es) = IsGoing s count × AreGoing (record s { events = s.events ++ e ∷ [] }) count es
+
+-- a session has taken events, and the run was still going before each of them
+pub record Goes (before after : History) (count : ℕ) : Type 0 where
+  pub gained : List Event
+  pub grown : after.events ≡ before.events ++ gained
+  pub config : after.config ≡ before.config
+  pub word : after.word ≡ before.word
+  pub going : AreGoing before count gained
 
 -- why a run is over before its passes are all idle, if it is
 abbrev pub Over : Option Ending → History → ℕ → Type 0

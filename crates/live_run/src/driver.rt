@@ -1,7 +1,7 @@
 ghost use Rattle.std.specs.Prelude.{◌≡◌, length, is_none, IfOk, IfErr, OnOk};
 ghost use Rattle.live_run.specs.Agenda.{agenda_of};
 ghost use Rattle.live_run.specs.Deeds.{Broke, Does};
-ghost use Rattle.live_run.specs.Endings.{Over};
+ghost use Rattle.live_run.specs.Endings.{Goes, Over};
 ghost use Rattle.live_run.specs.Passes.{Dialing, Firing, Pass, Reading, Writing};
 
 use crate::agenda::Agenda;
@@ -44,6 +44,7 @@ impl Driver {
         ensures did { IfOk result (λ ending.
             Does (W.told world.old) (W.told world.new) session.old session.new
             self.old.agenda self.new.agenda (Dialing (is_none ending) self.old.agenda)) }
+        ensures goes { OnOk result (Goes session.old session.new self.old.verdict.submissions) }
         ensures over { IfOk result (λ ending. Over ending session.new self.old.verdict.submissions) }
         ensures same { OnOk result (self.new.verdict.submissions ≡ self.old.verdict.submissions) }
         ensures err { IfErr result (λ error.
@@ -76,6 +77,7 @@ impl Driver {
         ensures did { IfOk result (λ ending.
             Does (W.told world.old) (W.told world.new) session.old session.new
             self.old.agenda self.new.agenda (Reading (is_none ending) self.old.agenda)) }
+        ensures goes { OnOk result (Goes session.old session.new self.old.verdict.submissions) }
         ensures over { IfOk result (λ ending. Over ending session.new self.old.verdict.submissions) }
         ensures same { OnOk result (self.new.verdict.submissions ≡ self.old.verdict.submissions) }
         ensures err { IfErr result (λ error.
@@ -106,6 +108,7 @@ impl Driver {
         ensures did { IfOk result (λ ending.
             Does (W.told world.old) (W.told world.new) session.old session.new
             self.old.agenda self.new.agenda (Writing (is_none ending) self.old.agenda)) }
+        ensures goes { OnOk result (Goes session.old session.new self.old.verdict.submissions) }
         ensures over { IfOk result (λ ending. Over ending session.new self.old.verdict.submissions) }
         ensures same { OnOk result (self.new.verdict.submissions ≡ self.old.verdict.submissions) }
         ensures err { IfErr result (λ error.
@@ -136,6 +139,7 @@ impl Driver {
         ensures did { IfOk result (λ ending.
             Does (W.told world.old) (W.told world.new) session.old session.new
             self.old.agenda self.new.agenda (Firing (is_none ending) self.old.agenda)) }
+        ensures goes { OnOk result (Goes session.old session.new self.old.verdict.submissions) }
         ensures over { IfOk result (λ ending. Over ending session.new self.old.verdict.submissions) }
         ensures same { OnOk result (self.new.verdict.submissions ≡ self.old.verdict.submissions) }
         ensures err { IfErr result (λ error.
@@ -164,6 +168,7 @@ impl Driver {
         ensures did { IfOk result (λ ending.
             Does (W.told world.old) (W.told world.new) session.old session.new
             self.old.agenda self.new.agenda (Pass (is_none ending) self.old.agenda)) }
+        ensures goes { OnOk result (Goes session.old session.new self.old.verdict.submissions) }
         ensures over { IfOk result (λ ending. Over ending session.new self.old.verdict.submissions) }
         ensures same { OnOk result (self.new.verdict.submissions ≡ self.old.verdict.submissions) }
         ensures err { IfErr result (λ error.

@@ -2,6 +2,7 @@ ghost use Rattle.std.specs.Prelude.{◌≡◌, ◌≤◌, ◌<◌, ◌++◌, len
 ghost use Rattle.live_run.specs.Agenda.{agenda_of};
 ghost use Rattle.live_run.specs.Deeds.{Broke, Does};
 ghost use Rattle.live_run.specs.Driven.{Driven, Ran};
+ghost use Rattle.live_run.specs.Endings.{Goes};
 ghost use Rattle.live_run.specs.Rounds.{IsNext, IsOverNext};
 ghost use Rattle.live_run.specs.Steps.{IsEnd};
 
@@ -43,6 +44,9 @@ fn round<W: World>(
         Does (W.told world.old) (W.told world.new) session.old session.new
         driver.old.agenda driver.new.agenda
         (IsNext next idle session.old session.new driver.old.agenda)) }
+    ensures goes { OnOk result (
+        Goes session.old session.new driver.old.verdict.submissions
+        ) }
     ensures over { IfOk result (λ next.
         IsOverNext next session.new driver.old.verdict.submissions) }
     ensures same { OnOk result (
@@ -76,6 +80,9 @@ fn run<W: World>(
         Does (W.told world.old) (W.told world.new) session.old session.new
         driver.old.agenda driver.new.agenda
         (Ran ending session.new driver.old.verdict.submissions driver.old.agenda)) }
+    ensures goes { OnOk result (
+        Goes session.old session.new driver.old.verdict.submissions
+        ) }
     ensures err { IfErr result (λ error.
         Broke error (W.told world.old) (W.told world.new) session.old session.new driver.old.agenda) }
 {

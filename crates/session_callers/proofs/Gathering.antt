@@ -5,7 +5,7 @@ use mathlib.Core.List.{IsPrefix}
 use Rattle.session_callers.specs.declared.board.View.{View}
 use Rattle.session_callers.specs.declared.board.Ended.{Ended}
 use Rattle.session_callers.specs.declared.board.Stage.TheVariants.{Idle}
-use Rattle.session_callers.specs.Rule.{total, times, Each, callers, as_ended, joined}
+use Rattle.session_callers.specs.Rule.{MaySpend, total, times, Each, callers, as_ended, joined}
 use Rattle.session_callers.specs.Calls.{Known, IsOf, Gathered}
 use Rattle.session_callers.proofs.Totals.{total_append}
 use Rattle.session_callers.proofs.Seats.{each_append}
@@ -75,7 +75,7 @@ some_home : {A : Type 0} (x y : A) → Some x ≡ Some y → x ≡ y
 some_home x y e = ap (λ o. get_home x o) e
 
 pub closed : (m : ℕ) (cs : List Known) (v : View) → Gathered m cs v → 1 ≤ m → m ≤ length cs → (id : ℕ) (ws : List ℕ) (xs : List (Option Home)) (h : Home) → Final (Seen Ruled id v) ws xs → get_elem? xs 0 ≡ some (Some h)
-    → Each (λ (c : Known). IsPrefix c.view.seen h.session.events) cs × ((p : ℕ) → total (λ (c : Known). times p c.view.mine) cs ≡ below p (length h.session.events)) × IsShared cs h.session.config h.session.word
+    → Each (λ (c : Known). IsPrefix c.view.seen h.session.events) cs × ((p : ℕ) → total (λ (c : Known). times p c.view.mine) cs ≡ below p (length h.session.events)) × IsShared cs h.session.config h.session.word × MaySpend h.session.config h.session.word h.session.events h.session.failure
 closed m cs v g some_caller enough id ws xs h final taken =
     let s = final.0 in
     let seen = final.1 in
@@ -83,10 +83,11 @@ closed m cs v g some_caller enough id ws xs h final taken =
     let end = closes s seen.0 id v seen.1 g.idle m all (each_append (λ (n : ℕ). n < m) v.number (map (λ (e : Ended). e.number) v.ended) g.low (each_map m v.ended g.low_ended)) some_caller g.made g.made_ended in
     let same_home : end.0 ≡ h = some_home end.0 h (some-injective (Some end.0) (Some h) (sym (final.4 0 (Some end.0) (ap (λ l. get_elem? l 0) end.1)) ∙ taken)) in
     let own = end.5 (omega (arith, g.single)) in
-    subst (λ (h : Home). Each (λ (c : Known). IsPrefix c.view.seen h.session.events) cs × ((p : ℕ) → total (λ (c : Known). times p c.view.mine) cs ≡ below p (length h.session.events)) × IsShared cs h.session.config h.session.word) same_home (
+    subst (λ (h : Home). Each (λ (c : Known). IsPrefix c.view.seen h.session.events) cs × ((p : ℕ) → total (λ (c : Known). times p c.view.mine) cs ≡ below p (length h.session.events)) × IsShared cs h.session.config h.session.word × MaySpend h.session.config h.session.word h.session.events h.session.failure) same_home (
       g.begins end.0.session.events end.3 end.2,
       (λ p. sym (g.mine p) ∙ end.4 p),
       (λ config word each. let of = g.config config word each in (own.0 ∙ of.0, own.1 ∙ of.1)),
+      end.6,
     )
 
 -- where all callers were taken in, the session is at home

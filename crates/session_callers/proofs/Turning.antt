@@ -157,6 +157,7 @@ refused : (error : StepError) (v w : View) (h k : Home) (e : Event) (shown after
 refused error v w h k e shown after t s a = record {
   mine = mine_as_many w k (a.events ∙ ap (λ (s : History). s.events) t.session) ∙ t.mine;
   why = subst (λ (x : Config × ℕ). IsRefused error (history x.0 x.1 k.session.events k.session.failure) e) (λ i. ((s.config.0 ∙ ap (λ (s : History). s.config) t.session) i, (s.config.1 ∙ ap (λ (s : History). s.word) t.session) i)) a.why;
+  spent = (may_give v w h k t s).spent;
   actions = a.actions;
 }
 

@@ -1,6 +1,7 @@
 -- Where one seat has all callers, the session is at home, and each position is that seat's.
 use Rattle.std.proofs.Common.{◌≡◌, ◌≢◌, ◌⊎◌, ℕ, zero, suc, ◌+◌, ◌-◌, ◌^◌, ◌<◌, ◌≤◌, List, [], ◌∷◌, ◌++◌, length, map, Option, Some, None, refl, sym, ap, ◌∙◌, subst, ⊎_elim, inl, inr, arith, zero-le}
 use Rattle.driver_model.specs.declared.event.Event.{Event}
+use Rattle.shared_session.specs.History.{History}
 use mathlib.Core.Option.{some, some-ne-none, some-injective}
 use mathlib.Core.List.{IsPrefix}
 use native.Mathlib.Decide.{ℕ_discrete, dec_le}
@@ -11,7 +12,7 @@ use Rattle.session_callers.specs.declared.board.View.{View}
 use Rattle.session_callers.specs.declared.board.Ended.{Ended}
 use Rattle.session_callers.specs.declared.board.Stage.{Stage}
 use Rattle.session_callers.specs.declared.board.Stage.TheVariants.{Idle, Waiting, Served, Holding, Split}
-use Rattle.session_callers.specs.Rule.{total, same, below, between, times, draws, out, more, numbered, callers, owns, makes, InTurn, Each, Ruled}
+use Rattle.session_callers.specs.Rule.{MaySpend, total, same, below, between, times, draws, out, more, numbered, callers, owns, makes, InTurn, Each, Ruled}
 use Rattle.session_callers.proofs.Totals.{total_at, total_two, total_le, total_append, below_up, same_self}
 
 -- f of each number below b, added up
@@ -179,7 +180,7 @@ module _ (s : State (Option Home) View) (r : Ruled s) (id : ℕ) (v : View) (at 
           let i = other_has_none j u apart e n (omega arith) in absurd (omega arith)
 
   pub closes : (h : Home) × (s.homes ≡ some (Some h) ∷ []) × IsPrefix v.seen h.session.events × Each (λ (x : List Event). IsPrefix x h.session.events) v.fronts × ((p : ℕ) → owns p v ≡ below p (length h.session.events))
-      × (1 ≤ length v.number → (h.session.config ≡ v.config) × (h.session.word ≡ v.word))
+      × (1 ≤ length v.number → (h.session.config ≡ v.config) × (h.session.word ≡ v.word)) × MaySpend h.session.config h.session.word h.session.events h.session.failure
   closes = ⊎_elim
       (λ p. let events : h_events p.0 ≡ r.now.log = ap (λ s. s.events) p.2 in (
         p.0,
@@ -188,6 +189,7 @@ module _ (s : State (Option Home) View) (r : Ruled s) (id : ℕ) (v : View) (at 
         subst (λ l. Each (λ (x : List Event). IsPrefix x l) v.fronts) (sym events) (r.each id v at).fronts,
         (λ q. sym (total_only (owns q) s.views id v at (owns_none q)) ∙ r.counted.positions q ∙ ap (λ l. below q (length l)) (sym events)),
         (λ one. let of = (r.each id v at).config one in (ap (λ s. s.config) p.2 ∙ sym of.0, ap (λ s. s.word) p.2 ∙ sym of.1)),
+        subst (λ (s : History). MaySpend s.config s.word s.events s.failure) (sym p.2) r.spent,
       ))
       (λ p. let a = total_none (λ (v : View). out v.stage) s.views none_out in let b = p.1 in absurd (omega arith))
       r.place

@@ -99,10 +99,11 @@ pub record Added (v w : View) (event : Event) (n : ℕ) (shown after : List Acti
   pub unspent : is_spent_after w.config w.word before event ≡ false
   pub actions : after ≡ shown ++ actions_of (state_after w.config w.word before) event
 
--- no event more, nothing shown, and why
+-- no event more, nothing shown, and why. Numbers may have run out only where the step of some event would be spent
 pub record Refused (error : StepError) (v w : View) (event : Event) (shown after : List Action) : Type 0 where
   pub mine : w.mine ≡ v.mine
   pub why : IsRefused error (history_of w) event
+  pub spent : MaySpend w.config w.word w.seen w.failure
   pub actions : after ≡ shown
 
 -- the same of a caller that is lent for longer: in some turn of it, whose history begins with what was seen

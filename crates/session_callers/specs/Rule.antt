@@ -139,9 +139,13 @@ pub record Fits (now : Now) (v : View) : Type 0 where
   pub nothing : length v.number ≡ 0 → (v.mine ≡ []) × (v.ended ≡ [])
   pub fronts : Each (λ (xs : List Event). IsPrefix xs now.log) v.fronts
 
--- a session may have run out of numbers only where the step of some event that isn't bad would
+-- behind this history the step of some event that isn't bad would be spent
+abbrev pub SpendsNext : Config → ℕ → List Event → Type 0
+SpendsNext config word log = (e : Event) × (is_bad_after config word log e ≡ false) × (is_spent_after config word log e ≡ true)
+
+-- a session may have run out of numbers only there
 abbrev pub MaySpend : Config → ℕ → List Event → Failure → Type 0
-MaySpend config word log failure = failure ≡ Spent → (e : Event) × (is_bad_after config word log e ≡ false) × (is_spent_after config word log e ≡ true)
+MaySpend config word log failure = failure ≡ Spent → SpendsNext config word log
 
 -- 1 for a submission, else 0
 abbrev pub submits : EventKind → ℕ

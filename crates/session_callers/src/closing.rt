@@ -1,6 +1,6 @@
 ghost use Rattle.std.specs.Prelude.{◌≡◌, ℕ, ◌≤◌, IfOk, IfErr, OnOk, length, false};
 ghost use mathlib.Core.List.{IsPrefix};
-ghost use Rattle.session_callers.specs.Rule.{Each, total, times, below};
+ghost use Rattle.session_callers.specs.Rule.{Each, MaySpend, total, times, below};
 ghost use Rattle.session_callers.specs.Calls.{IsOf};
 ghost use Rattle.session_callers.specs.Closes.{knows_more, do_know_more, IsMissing, IsShared};
 
@@ -51,6 +51,7 @@ impl SharedSession {
             total (λ caller. times p caller.view.mine) callers.items
             ≡ below p (length result.events) }
         ensures shared { IsShared callers.items result.config result.word }
+        ensures spent { MaySpend result.config result.word result.events result.failure }
     {
         let Some(last) = callers.pop() else {
             unreachable!()
@@ -83,8 +84,9 @@ impl SharedSession {
     }
 
     /// Ends the sharing, and answers the session. Its history begins with what each of the callers had seen, and each
-    /// place of it is one caller's own. It has the configuration and the word that they know. `Missing` comes exactly where
-    /// fewer callers were handed in than were made.
+    /// place of it is one caller's own. It has the configuration and the word that they know, and its numbers have run out
+    /// only where the step of some event would be spent. `Missing` comes exactly where fewer callers were handed in than were
+    /// made.
     pub fn close(self, callers: Vec<Caller>) -> Result<Session, CloseError>
         requires { Each (λ caller. caller.table ≡ self.table.shared.table_id) callers.items }
         ensures begins { IfOk result (λ session.
@@ -96,6 +98,9 @@ impl SharedSession {
             ) }
         ensures shared { IfOk result (λ session.
             IsShared callers.items session.config session.word
+            ) }
+        ensures spent { IfOk result (λ session.
+            MaySpend session.config session.word session.events session.failure
             ) }
         ensures all { OnOk result (
             do_know_more (length callers.items) callers.items ≡ false

@@ -4,11 +4,17 @@ use Rattle.driver_model.specs.declared.config.Config.{Config}
 use Rattle.session_callers.specs.Rule.{Each}
 use Rattle.shared_session.specs.Replay.{opening_actions}
 use Rattle.live_lines.specs.Flights.{IsBare}
-use Rattle.live_lines.proofs.Submitted.{are_submitted, tables_still, told_and_good}
+use Rattle.live_lines.proofs.RunningOut.{stopped_out}
+use Rattle.live_lines.proofs.Submitted.{are_submitted, tables_still, asked_well}
 use Rattle.live_lines.proofs.flying.submitted.Goals as goal
 
 pub returns-in-Err-clause-err : goal.returns-in-Err-clause-err
-returns-in-Err-clause-err g c = c.refused.ensures c.args.plan
+returns-in-Err-clause-err g c =
+    let first = c.in-Ok.made.1.view in
+    let is = c.in-Ok.ensures.caller.1 in
+    let bare = subst (λ (config : Config). Each (IsBare config first.word) c.in-Ok-join_all.callers.items) (ap (λ v. v.config) is) c.in-Ok-join_all.ensures.bare in
+    c.refused.ensures c.args.plan
+    (stopped_out c.args.plan.config first.word c.in-Ok-join_all.callers.items c.submit_lines.new.callers.items c.args.lines.items c.in-Err.error bare c.in-Err.ensures.err)
 
 pub close-requires : goal.close-requires
 close-requires g c =
@@ -24,7 +30,7 @@ returns-in-Ok-close-clause-submitted g c =
     (subst (λ (config : Config). Each (IsBare config c.in-Ok.made.1.view.word) callers) (ap (λ v. v.config) is) c.in-Ok-join_all.ensures.bare) in
     let shown = ◌∙◌ {A = List Action} c.in-Ok.ensures.actions (ap (λ (xs : List Action). xs ++ opening_actions c.args.plan.config c.args.word) c.requires.none) in
     are_submitted c.args.plan c.args.word callers c.submit_lines.new.callers.items c.args.lines.items c.new-numbers.result.items c.submit_lines.new.numbers.items c.in-Ok-close.session
-    c.new.new.out.items c.submit_lines.new.out.items c.requires.allowed bare c.in-Ok-join_all.ensures.count c.in-Ok-submit_lines.ensures.ok c.new-numbers.ensures.items shown c.in-Ok-close.ensures.begins c.in-Ok-close.ensures.mine c.in-Ok-close.ensures.shared
+    c.new.new.out.items c.submit_lines.new.out.items c.requires.allowed bare c.in-Ok-join_all.ensures.count c.in-Ok-submit_lines.ensures.ok c.new-numbers.ensures.items shown c.in-Ok-close.ensures.begins c.in-Ok-close.ensures.mine c.in-Ok-close.ensures.shared c.in-Ok-close.ensures.spent
 
 pub returns-in-Ok-close-clause-asked : goal.returns-in-Ok-close-clause-asked
 returns-in-Ok-close-clause-asked g c =
@@ -33,5 +39,5 @@ returns-in-Ok-close-clause-asked g c =
     let bare = subst (λ (word : ℕ). Each (IsBare c.args.plan.config word) callers) (ap (λ v. v.word) is)
     (subst (λ (config : Config). Each (IsBare config c.in-Ok.made.1.view.word) callers) (ap (λ v. v.config) is) c.in-Ok-join_all.ensures.bare) in
     let shown = ◌∙◌ {A = List Action} c.in-Ok.ensures.actions (ap (λ (xs : List Action). xs ++ opening_actions c.args.plan.config c.args.word) c.requires.none) in
-    (told_and_good c.args.plan c.args.word callers c.submit_lines.new.callers.items c.args.lines.items c.new-numbers.result.items c.submit_lines.new.numbers.items c.in-Ok-close.session
-    c.new.new.out.items c.submit_lines.new.out.items c.requires.allowed bare c.in-Ok-join_all.ensures.count c.in-Ok-submit_lines.ensures.ok shown c.in-Ok-close.ensures.begins c.in-Ok-close.ensures.mine).0
+    (asked_well c.args.plan c.args.word callers c.submit_lines.new.callers.items c.args.lines.items c.new-numbers.result.items c.submit_lines.new.numbers.items c.in-Ok-close.session
+    c.new.new.out.items c.submit_lines.new.out.items c.requires.allowed bare c.in-Ok-join_all.ensures.count c.in-Ok-submit_lines.ensures.ok shown c.in-Ok-close.ensures.begins c.in-Ok-close.ensures.mine).asked

@@ -19,3 +19,13 @@ returns-in-Err-Config-clause-refused g c =
         refused = rw c.in-Err-Config.field-0-is at c.in-Err-Config.ensures.err;
       }),
     )
+
+pub returns-in-Err-Spent-clause-refused : goal.returns-in-Err-Spent-clause-refused
+returns-in-Err-Spent-clause-refused g c =
+    let plans = sym c.in-Ok-Some.ensures ∙ c.in-Ok-Some.field-0-is in (
+      record { plan = c.in-Ok-Some.plan; plans = plans },
+      (λ bytes told. record {
+        asked = record { plan = c.in-Ok-Some.plan; plans = plans; lines = c.in-Ok.lines.items; reads = c.in-Ok.ensures.lines.read bytes told };
+        ran_out = rw c.in-Err-Spent.field-0-is at c.in-Err-Spent.ensures.err;
+      }),
+    )

@@ -1,12 +1,13 @@
 use Rattle.std.proofs.Common.{◌≡◌, ◌≤◌, ◌+◌, ◌-◌, ◌*◌, length}
 use Rattle.live_run.specs.Deeds.{Does}
-use Rattle.live_run.specs.Endings.{most_events}
+use Rattle.live_run.specs.Endings.{Goes, most_events}
 use Rattle.live_run.proofs.Whole.{Sofar}
 use Rattle.live_run.proofs.running.run.Given as goal
 
 abbrev pub invariant-passes : goal.invariant-passes
 invariant-passes g l = record {
   does : Does (g.W.World.told l.fn.world) (g.W.World.told l.world) l.fn.session l.session l.fn.driver.agenda l.driver.agenda (Sofar l.idle l.fn.driver.agenda);
+  goes : Goes l.fn.session l.session l.fn.driver.verdict.submissions;
   same : l.driver.verdict.submissions ≡ l.fn.driver.verdict.submissions;
   within : l.idle ≤ 6_000;
 }

@@ -1,4 +1,5 @@
 use Rattle.std.proofs.Common.{arith, ◌≡◌, ◌+◌, ◌-◌, length, inl, ◌∙◌}
+use Rattle.live_run.proofs.Going.{goes_more, goes_none, goes_one}
 use Rattle.live_run.proofs.Stages.{dial_next, dial_broke, dials_cut, dials_done, dials_none}
 use Rattle.live_run.proofs.driver.Driver.dial_all.Goals as goal
 
@@ -13,6 +14,7 @@ dials-preserved g c =
     let next : c.dials.left ≡ (c.dials.left - 1) + 1 = omega (arith, c.dials-test.true) in
     record {
       does = dial_next (length c.args.self.now.agenda.dials) c.dials.left (c.dials.left - 1) next c.in-Some-pop_front.ensures c.dials.invariant.does c.in-Ok.ensures.did;
+      goes = goes_more c.dials.invariant.goes (goes_one (rw (← c.dials.invariant.same) (c.in_default.ensures.going refl)) c.in-Ok.ensures.did);
       same = c.ending.ensures.same ∙ c.dials.invariant.same;
     }
 

@@ -1,5 +1,6 @@
 use Rattle.std.proofs.Common.{ℕ, List, ap}
 use Rattle.std.specs.Prelude.{is_none}
+use Rattle.live_run.proofs.Going.{goes_more}
 use Rattle.live_run.proofs.Runs.{broke_none, broke_more}
 use Rattle.live_run.proofs.Stages.{did_now, pass_begun, pass_closed, pass_dialled, pass_read, pass_written, pass_fired, cut_dialling, cut_reading, cut_writing}
 use Rattle.live_run.proofs.driver.Driver.pass.Goals as goal
@@ -38,3 +39,17 @@ returns-in-Ok-fire_all-clause-did g c =
 pub returns-in-Err-fire_all-clause-err : goal.returns-in-Err-fire_all-clause-err
 returns-in-Err-fire_all-clause-err g c =
     broke_more (pass_written (pass_read (pass_dialled (pass_closed (pass_begun c.now-moment.ensures.tells c.in-Ok.ensures) c.close_each.ensures.told (ap (λ (ls : List ℕ). record c.begin.new.self { closes = ls }) c.close_each.ensures.none)) (rw c.in-Ok-None.field-0-is at c.in-Ok-None.ensures.did)) (rw c.in-Ok-None-read_all.field-0-is at c.in-Ok-None-read_all.ensures.did)) (rw c.in-Ok-None-write_all.field-0-is at c.in-Ok-None-write_all.ensures.did)) c.in-Err-fire_all.ensures.err
+
+pub returns-in-Ok-Some-read_all-clause-goes : goal.returns-in-Ok-Some-read_all-clause-goes
+returns-in-Ok-Some-read_all-clause-goes g c = goes_more c.in-Ok-None.ensures.goes (rw c.in-Ok-None.ensures.same at c.in-Ok-Some-read_all.ensures.goes)
+
+pub returns-in-Ok-Some-write_all-clause-goes : goal.returns-in-Ok-Some-write_all-clause-goes
+returns-in-Ok-Some-write_all-clause-goes g c =
+    goes_more c.in-Ok-None.ensures.goes (goes_more (rw c.in-Ok-None.ensures.same at c.in-Ok-None-read_all.ensures.goes)
+    (rw (c.in-Ok-None-read_all.ensures.same, c.in-Ok-None.ensures.same) at c.in-Ok-Some-write_all.ensures.goes))
+
+pub returns-in-Ok-fire_all-clause-goes : goal.returns-in-Ok-fire_all-clause-goes
+returns-in-Ok-fire_all-clause-goes g c =
+    goes_more c.in-Ok-None.ensures.goes (goes_more (rw c.in-Ok-None.ensures.same at c.in-Ok-None-read_all.ensures.goes)
+    (goes_more (rw (c.in-Ok-None-read_all.ensures.same, c.in-Ok-None.ensures.same) at c.in-Ok-None-write_all.ensures.goes)
+    (rw (c.in-Ok-None-write_all.ensures.same, c.in-Ok-None-read_all.ensures.same, c.in-Ok-None.ensures.same) at c.in-Ok-fire_all.ensures.goes)))

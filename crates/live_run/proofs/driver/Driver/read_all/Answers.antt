@@ -1,6 +1,7 @@
 use Rattle.std.proofs.Common.{◌∙◌}
 use Rattle.live_run.specs.Agenda.{numbers_of}
 use Rattle.live_run.specs.Passes.{IsUp, IsReadOf}
+use Rattle.live_run.proofs.Going.{goes_in_turn, goes_more, goes_none}
 use Rattle.live_run.proofs.Runs.{broke_more, broke_nothing}
 use Rattle.live_run.proofs.Stages.{turn_more, turns_cut, turns_done}
 use Rattle.live_run.proofs.driver.Driver.read_all.Goals as goal
@@ -14,6 +15,7 @@ returns-in-Some-ending-clause-did g c = turns_cut IsUp IsReadOf (numbers_of c.ar
 pub loop-link-preserved : goal.loop-link-preserved
 loop-link-preserved g c = record {
   does = turn_more IsUp IsReadOf (numbers_of c.args.self.now.agenda.links) c.loop-link.left c.in-Some.ensures c.loop-link.invariant.does c.in-Ok-read_link.ensures.did;
+  goes = goes_more c.loop-link.invariant.goes (goes_in_turn (rw (← c.loop-link.invariant.same) (c.in_default.ensures.going refl)) c.in-Ok-read_link.ensures.did);
   same = c.ending.ensures.same ∙ c.loop-link.invariant.same;
 }
 

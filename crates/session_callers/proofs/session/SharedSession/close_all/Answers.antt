@@ -61,6 +61,16 @@ returns-clause-shared c =
     subst (λ l. IsShared l c.in-Some-home.field-0.session.config c.in-Some-home.field-0.session.word) all
     (closed c.args.made i.2.0 c.loop-next.seat.me.0 i.2.2 need.0 enough _ _ _ c.in-Some-home.field-0 c.close_with-closed.ensures.values.2 got).2
 
+pub returns-clause-spent : goal.returns-clause-spent
+returns-clause-spent c =
+    let i = c.loop-next.invariant in
+    let none_left : c.loop-next.callers.items ≡ [] = search rules in
+    let all : i.2.0 ≡ c.args.callers.items = ap (λ l. l ++ i.2.0) (sym none_left) ∙ i.2.1 in
+    let need = c.requires.all in
+    let enough = subst (λ l. c.args.made ≤ length l) (sym all) need.1 in
+    let got = c.take-home.ensures.value ∙ ap some c.in-Some-home.is in
+    (closed c.args.made i.2.0 c.loop-next.seat.me.0 i.2.2 need.0 enough _ _ _ c.in-Some-home.field-0 c.close_with-closed.ensures.values.2 got).3
+
 pub unreachable-requires-in-None : goal.unreachable-requires-in-None
 unreachable-requires-in-None c =
     let i = c.loop-next.invariant in
