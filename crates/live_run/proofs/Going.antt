@@ -1,5 +1,5 @@
 -- A run takes events only while it is going.
-use Rattle.std.proofs.Common.{◌≡◌, ℕ, true, List, [], ◌∷◌, ◌++◌, Option, append_assoc, refl, sym, ap, ◌∙◌, subst}
+use Rattle.std.proofs.Common.{◌≡◌, ℕ, true, List, [], ◌∷◌, ◌++◌, Option, append_assoc, refl, sym, ap, inl, inr, ◌∙◌, subst}
 use Rattle.std.proofs.lemmas.List.{append-nil, append_cancel_left}
 use Rattle.driver_model.specs.declared.config.Config.{Config}
 use Rattle.driver_model.specs.declared.event.Event.{Event}
@@ -104,9 +104,9 @@ goes_few {before = before} {count = count} few going one = record {
 pub goes_one : {old new : Option (List Call)} {before after : History} {a b : Agenda} {Is : Deed → Type 0} {count : ℕ} → IsGoing before count → Does old new before after a b (One Is) → Goes before after count
 goes_one {Is = Is} going one = goes_few (few_of_one Is) going one
 
-pub goes_in_turn : {old new : Option (List Call)} {before after : History} {a b : Agenda} {Has : Agenda → ℕ → Type 0} {Is : ℕ → Deed → Type 0} {l : ℕ} {count : ℕ} → IsGoing before count
+pub goes_in_turn : {old new : Option (List Call)} {before after : History} {a b : Agenda} {l : ℕ} {count : ℕ} (Has : Agenda → ℕ → Type 0) (Is : ℕ → Deed → Type 0) → IsGoing before count
     → Does old new before after a b (InTurn Has Is (l ∷ []) true a) → Goes before after count
-goes_in_turn {a = a} {Has = Has} {Is = Is} {l = l} going one = goes_few (few_in_turn Has Is l a) going one
+goes_in_turn {a = a} {l = l} Has Is going one = goes_few (few_in_turn Has Is l a) going one
 
 -- what was taken is what the deeds are
 pub going_events : {before after : History} {count : ℕ} (es : List Event) → after.events ≡ before.events ++ es → Goes before after count → AreGoing before count es

@@ -68,7 +68,7 @@ went_calls {before = before} told = record {
   shown = sym (append-nil _);
   good = λ h. h;
   unspent = λ h. h;
-  failure = refl;
+  same_failure = refl;
   sound = inr refl;
 }
 
@@ -93,8 +93,8 @@ went_more {before = before} {between = between} {es = es} {fs = fs} {acts = acts
   shown = two.shown ∙ ap (λ (all : List Action). all ++ bs) one.shown ∙ append_assoc _ acts bs;
   good = λ h. two.good (one.good h);
   unspent = λ h. two.unspent (one.unspent h);
-  failure = two.failure ∙ one.failure;
-  sound = sound_more before between es fs one.failure one.sound two.sound;
+  same_failure = two.same_failure ∙ one.same_failure;
+  sound = sound_more before between es fs one.same_failure one.sound two.sound;
 }
 
 -- nothing was done

@@ -74,7 +74,7 @@ stepped {before = before} {after = after} word kind adds is none shows sound fin
         shown = rw (shows, none) (shown_step before after e is);
         good = good_step before after e is fine;
         unspent = unspent_step before after e is free;
-        failure = ap (λ (h : History). h.failure) is;
+        same_failure = ap (λ (h : History). h.failure) is;
         sound = inl sound;
       };
     }

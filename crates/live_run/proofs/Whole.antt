@@ -153,7 +153,7 @@ ended {actions = actions} closes unclosed step first second =
     record {
       asked_word = step.asked_word;
       actions = actions;
-      went = record { told = told_more w.told told; grown = w.grown; config = w.config; word = w.word; shown = w.shown; good = w.good; unspent = w.unspent; failure = w.failure; sound = w.sound };
+      went = record { told = told_more w.told told; grown = w.grown; config = w.config; word = w.word; shown = w.shown; good = w.good; unspent = w.unspent; same_failure = w.same_failure; sound = w.sound };
     }
 
 pub unended : {error : StepError} {old new : Option (List Call)} {before after : History} {a : Agenda} → Refused error old new before after event.Shutdown → Broke error old new before after a

@@ -167,7 +167,7 @@ pub record Went (old new : Option (List Call)) (before after : History) (calls :
   pub shown : traced after ≡ traced before ++ actions
   pub good : IsGood before → IsGood after
   pub unspent : IsUnspent before → IsUnspent after
-  pub failure : after.failure ≡ before.failure
+  pub same_failure : after.failure ≡ before.failure
   pub sound : (before.failure ≡ failure.Sound) ⊎ (events ≡ [])
 
 -- some deeds were done that may be done, and nothing else; they are as `form` says, and lead from this agenda to that

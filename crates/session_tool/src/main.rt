@@ -11,8 +11,6 @@ mod lines;
 mod note_tests;
 mod noting;
 mod offer;
-#[cfg(test)]
-mod opening_tests;
 mod reading;
 mod replaying;
 #[cfg(test)]

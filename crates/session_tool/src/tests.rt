@@ -5,9 +5,7 @@ ghost use Rattle.session_tool.specs.Words.{command_of};
 use super::command::Command;
 use super::reading::read_text;
 use super::rows::{
-    ABORTED, ANSWERED, BAD_EVENT, BEHIND_END, CANCELLED, CANCELLED_EARLY, EMPTY_COMMAND, HELD_BACK,
-    IN_PIECES, NO_REPLY, NO_TRANSACTION, NO_VALUE, NONE_KEPT, ONE_PERMIT, ONE_PLACE, OPENING,
-    PUSHED, READ_FAULT, Row, SHUT_DOWN, TIMES, TOO_LONG, WITHOUT_END, WRITE_FAULT,
+    ANSWERED, BAD_EVENT, CANCELLED, EMPTY_COMMAND, NO_ADDRESS, OPENING, Row, SHUT_DOWN, WITHOUT_END,
 };
 use super::running::{run, run_alone};
 use containers::{Bytes, Seq};
@@ -122,26 +120,11 @@ fn scripts_are_replayed(rt: HostRuntime) -> Result<(), Fail> {
         OPENING,
         ANSWERED,
         CANCELLED,
-        CANCELLED_EARLY,
         BAD_EVENT,
-        IN_PIECES,
-        NO_VALUE,
-        TOO_LONG,
         WITHOUT_END,
-        BEHIND_END,
         EMPTY_COMMAND,
         SHUT_DOWN,
-        PUSHED,
-        ABORTED,
-        NO_TRANSACTION,
-        NONE_KEPT,
-        NO_REPLY,
-        READ_FAULT,
-        WRITE_FAULT,
-        HELD_BACK,
-        ONE_PLACE,
-        ONE_PERMIT,
-        TIMES,
+        NO_ADDRESS,
     ] {
         let (status, sink) = answer(rt.alloc(), &["replay"], row.script, None, None)?;
         assert_eq!(rt; status, row.status);
@@ -176,6 +159,14 @@ fn ends_may_fail(rt: HostRuntime) -> Result<(), Fail> {
         assert_eq!(rt; answered, status);
         assert_eq!(rt; sink.as_slice(), output);
     }
+    Ok(())
+}
+
+#[test]
+fn a_refusal_is_written_or_the_sink_failed(rt: HostRuntime) -> Result<(), Fail> {
+    let (status, sink) = answer(rt.alloc(), &["replay"], NO_ADDRESS.script, None, Some(0))?;
+    assert_eq!(rt; status, 7);
+    assert_eq!(rt; sink.as_slice(), b"".as_slice());
     Ok(())
 }
 

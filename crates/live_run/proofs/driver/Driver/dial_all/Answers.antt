@@ -1,4 +1,4 @@
-use Rattle.std.proofs.Common.{arith, ◌≡◌, ◌+◌, ◌-◌, length, inl, ◌∙◌}
+use Rattle.std.proofs.Common.{arith, ◌≡◌, ◌+◌, ◌-◌, length, inl, refl, ◌∙◌}
 use Rattle.live_run.proofs.Going.{goes_more, goes_none, goes_one}
 use Rattle.live_run.proofs.Stages.{dial_next, dial_broke, dials_cut, dials_done, dials_none}
 use Rattle.live_run.proofs.driver.Driver.dial_all.Goals as goal

@@ -1,4 +1,4 @@
-use Rattle.std.proofs.Common.{◌∙◌, sym}
+use Rattle.std.proofs.Common.{refl, ◌∙◌, sym}
 use Rattle.live_run.proofs.Going.{goes_more, goes_one}
 use Rattle.live_run.proofs.Runs.{broke_more}
 use Rattle.live_run.proofs.Stages.{fire_more, fires_cut, fires_done}
@@ -8,7 +8,7 @@ pub returns-in-Some-ending-clause-did : goal.returns-in-Some-ending-clause-did
 returns-in-Some-ending-clause-did g c = fires_cut c.fires.invariant.does
 
 pub fires-preserved : goal.fires-preserved
-fires-preserved g c = record { does = fire_more c.fires.invariant.does c.in-Ok.ensures.did; goes = goes_more c.fires.invariant.goes (goes_one (rw (← c.fires.invariant.same) (c.in_default.ensures.going refl)) c.in-Ok.ensures.did); same = c.ending.ensures.same ∙ c.fires.invariant.same }
+fires-preserved g c = record { does = fire_more c.fires.invariant.does c.in-Ok.ensures.did; goes = goes_more c.fires.invariant.goes (goes_one (rw (← c.fires.invariant.same) (c.in_default-ending.ensures.going refl)) c.in-Ok.ensures.did); same = c.ending.ensures.same ∙ c.fires.invariant.same }
 
 pub returns-in-Err-clause-err : goal.returns-in-Err-clause-err
 returns-in-Err-clause-err g c = broke_more c.fires.invariant.does c.in-Err.ensures.err

@@ -1,4 +1,4 @@
-use Rattle.std.proofs.Common.{◌∙◌}
+use Rattle.std.proofs.Common.{refl, ◌∙◌}
 use Rattle.live_run.specs.Agenda.{numbers_of}
 use Rattle.live_run.specs.Passes.{Offers, IsWriteOf}
 use Rattle.live_run.proofs.Going.{goes_in_turn, goes_more, goes_none}
@@ -15,7 +15,7 @@ returns-in-Some-ending-clause-did g c = turns_cut Offers IsWriteOf (numbers_of c
 pub loop-link-preserved : goal.loop-link-preserved
 loop-link-preserved g c = record {
   does = turn_more Offers IsWriteOf (numbers_of c.args.self.now.agenda.links) c.loop-link.left c.in-Some.ensures c.loop-link.invariant.does c.in-Ok-write_link.ensures.did;
-  goes = goes_more c.loop-link.invariant.goes (goes_in_turn (rw (← c.loop-link.invariant.same) (c.in_default.ensures.going refl)) c.in-Ok-write_link.ensures.did);
+  goes = goes_more c.loop-link.invariant.goes (goes_in_turn Offers IsWriteOf (rw (← c.loop-link.invariant.same) (c.in_default-ending.ensures.going refl)) c.in-Ok-write_link.ensures.did);
   same = c.ending.ensures.same ∙ c.loop-link.invariant.same;
 }
 
