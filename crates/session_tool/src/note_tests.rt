@@ -18,22 +18,14 @@ fn noted(alloc: Global, script: &[u8]) -> Result<(u8, MemSink), AllocError> {
     Ok((status.number(), notes))
 }
 
-/// The same of a front, lines and a last line.
-fn noted_behind(alloc: Global, front: &[u8], lines: &[u8]) -> Result<(u8, MemSink), AllocError> {
-    let mut text = Bytes::from_slice(alloc, front)?;
-    text.extend_from_slice(lines)?;
-    text.extend_from_slice(b"end\n")?;
-    noted(alloc, text.as_slice())
-}
-
 /// The status and the notes of a script with a line of so many bytes, its LF not counted.
 fn noted_long(alloc: Global, length: u32) -> Result<(u8, MemSink), AllocError> {
-    let mut line = Bytes::new(alloc);
+    let mut text = Bytes::from_slice(alloc, CONFIG)?;
     for _ in 0..length {
-        line.push(b'a')?;
+        text.push(b'a')?;
     }
-    line.push(b'\n')?;
-    noted_behind(alloc, CONFIG, line.as_slice())
+    text.extend_from_slice(b"\nend\n")?;
+    noted(alloc, text.as_slice())
 }
 
 /// Lines of `a` alone, by their lengths, and the notes on them.
