@@ -1,5 +1,5 @@
 -- Behind which events numbers ran out.
-use Rattle.std.proofs.Common.{◌≡◌, ◌⊎◌, ℕ, ◌+◌, List, [], ◌∷◌, ◌++◌, length, Option, refl, sym, ap, ◌∙◌, subst}
+use Rattle.std.proofs.Common.{◌≡◌, ◌⊎◌, ℕ, ◌+◌, List, [], ◌∷◌, ◌++◌, length, Option, refl, sym, ap, inl, inr, ◌∙◌, subst}
 use Rattle.std.proofs.lemmas.List.{append-nil}
 use Rattle.caller_threads.specs.Each.{EachAt, AnyAt}
 use Rattle.caller_threads.specs.Lines.{share}
@@ -14,7 +14,7 @@ use Rattle.shared_session.specs.History.{History}
 use Rattle.shared_session.specs.declared.errors.StepError.{StepError}
 use Rattle.shared_session.specs.declared.errors.StepError.TheVariants.{BadEvent, Spent, NoMemory}
 use Rattle.shared_session.specs.declared.session.Failure.TheVariants as failure
-use Rattle.live_run.specs.declared.agenda.Agenda.{Agenda}
+use Rattle.live_run.specs.Agenda.{agenda_of}
 use Rattle.live_run.specs.Deeds.{Broke, events_in}
 use Rattle.live_lines.specs.Flights.{AreSubmitted, IsBare, RanOut}
 use Rattle.live_lines.specs.declared.planning.Plan.{Plan}
@@ -51,8 +51,8 @@ sound_not_spent : (s : History) → s.failure ≡ failure.Sound → s.failure �
 sound_not_spent s sound spent = cc
 
 -- while the session was driven
-broke_by : {old new : Option (List Call)} (plan : Plan) (word : ℕ) (lines : List Line) (numbers : List ℕ) (a : Agenda) (before later : History) (count : ℕ) → AreSubmitted plan word lines numbers before → Broke (Spent count) old new before later a → RanOut plan.config count
-broke_by plan word lines numbers a before later count submitted broke =
+broke_by : {old new : Option (List Call)} (plan : Plan) (word : ℕ) (lines : List Line) (numbers : List ℕ) (actions : List Action) (before later : History) (count : ℕ) → AreSubmitted plan word lines numbers before → Broke (Spent count) old new before later (agenda_of actions) → RanOut plan.config count
+broke_by plan word lines numbers actions before later count submitted broke =
     let last = broke.last in
     let went = broke.went in
     elim broke.why.1 [
@@ -71,6 +71,7 @@ broke_by plan word lines numbers a before later count submitted broke =
       }
     ]
 
-pub broke_out : {old new : Option (List Call)} (plan : Plan) (word : ℕ) (lines : List Line) (numbers : List ℕ) (a : Agenda) (error : StepError) (before later : History) → AreSubmitted plan word lines numbers before → Broke error old new before later a
+pub broke_out : {old new : Option (List Call)} (plan : Plan) (word : ℕ) (lines : List Line) (numbers : List ℕ) (actions : List Action) (error : StepError) (before later : History) → AreSubmitted plan word lines numbers before → Broke error old new before later (agenda_of actions)
     → (count : ℕ) → error ≡ Spent count → RanOut plan.config count
-broke_out {old} {new} plan word lines numbers a error before later submitted broke count is = broke_by plan word lines numbers a before later count submitted (subst (λ (e : StepError). Broke e old new before later a) is broke)
+broke_out {old} {new} plan word lines numbers actions error before later submitted broke count is =
+    broke_by plan word lines numbers actions before later count submitted (subst (λ (e : StepError). Broke e old new before later (agenda_of actions)) is broke)

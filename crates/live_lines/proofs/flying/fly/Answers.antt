@@ -3,7 +3,7 @@ use Rattle.live_lines.proofs.Unbroken.{none_broke}
 use Rattle.live_lines.proofs.flying.fly.Goals as goal
 
 pub returns-in-Err-drive-clause-err : goal.returns-in-Err-drive-clause-err
-returns-in-Err-drive-clause-err g c = 
+returns-in-Err-drive-clause-err g c =
     c.refused.ensures c.args.plan
     (broke_out c.args.plan c.word-word.result c.args.lines.items c.in-Ok-submitted.made.1.items _ c.in-Err-drive.error c.in-Ok-submitted.made.0 c.drive.new.session c.in-Ok-submitted.ensures.submitted c.in-Err-drive.ensures.err)
 
