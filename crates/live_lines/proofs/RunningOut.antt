@@ -56,13 +56,13 @@ broke_by plan word lines numbers actions before later count submitted broke =
     let last = broke.last in
     let went = broke.went in
     elim broke.why.1 [
-      inl failed ↦ (
-        let spent : before.failure ≡ failure.Spent = sym went.same_failure ∙ failed in
-        elim went.sound [
-          inl sound ↦ absurd (sound_not_spent before sound spent)
-          | inr none ↦ out_before plan word count before last (events_in broke.deeds) (submitted.spent spent) went.grown none broke.why.0
-        ]
-      )
+      | inl failed ↦ (
+          let spent : before.failure ≡ failure.Spent = sym went.same_failure ∙ failed in
+          elim went.sound [
+            | inl sound ↦ absurd (sound_not_spent before sound spent)
+            | inr none ↦ out_before plan word count before last (events_in broke.deeds) (submitted.spent spent) went.grown none broke.why.0
+          ]
+          )
       | inr by ↦ record {
         word = last.word;
         events = last.events;

@@ -35,7 +35,7 @@ going_more s count [] ys one two = are_going_same (record s { events = s.events 
 going_more s count (x ∷ xs) ys one two = (
   one.0,
   going_more (record s { events = s.events ++ x ∷ [] }) count xs ys one.1
-  (are_going_same (record s { events = s.events ++ x ∷ xs }) (record s { events = (s.events ++ x ∷ []) ++ xs }) count ys refl refl (sym (append_assoc s.events (x ∷ []) xs)) two),
+      (are_going_same (record s { events = s.events ++ x ∷ xs }) (record s { events = (s.events ++ x ∷ []) ++ xs }) count ys refl refl (sym (append_assoc s.events (x ∷ []) xs)) two),
 )
 
 -- nothing happened
