@@ -1,7 +1,6 @@
 -- Starts in the order of the queue.
-use Rattle.std.proofs.Common.{◌≡◌, ◌+◌, ◌^◌, ◌≤◌, List, [], ◌∷◌, Bool, true, false, ◌++◌, length, take, refl, sym, ap, ◌∙◌, arith}
+use Rattle.std.proofs.Common.{◌≡◌, ◌+◌, ◌^◌, ◌≤◌, List, [], ◌∷◌, Bool, true, false, ◌++◌, length, refl, sym, ap, ◌∙◌, arith}
 use Rattle.std.proofs.Math.Nat.{le_refl}
-use Rattle.std.proofs.lemmas.List.{take-append-le, length-take}
 use Rattle.link_core.specs.declared.message.Started.{Started}
 use Rattle.std.specs.Prelude.{if◌then◌else◌}
 use Rattle.link_core.specs.declared.message.Queued.{Queued}
@@ -58,9 +57,3 @@ spent_on s q qs e free h =
     let high : 2 ^ 32 ≤ (started_one (with_queue s qs) q).link.started = grind arith in
     let more : 2 ^ 32 ≤ (started_all s).link.started = omega (arith, n, high, ap (λ (t : Starting). t.link.started) all) in
     grind arith
-
--- what was in the list before stays its front
-pub front_kept : (out before later : List Started) (x : Started) → take (length before) out ≡ before → later ≡ out ++ x ∷ [] → take (length before) later ≡ before
-front_kept out before later x h e =
-    let n : length before ≤ length out = omega (arith, simp length-take at (ap length h)) in
-    ap (take (length before)) e ∙ take-append-le (length before) out (x ∷ []) n ∙ h

@@ -1,6 +1,7 @@
 pub mod First
 pub mod Outbox
 pub mod Row
+pub mod Ring
 pub mod Waiting
 pub mod Dealing
 pub mod Ends

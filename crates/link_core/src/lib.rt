@@ -1,6 +1,7 @@
 //! One link: a queue of messages, a row of started ones, the bytes to be written, and the dealing of items.
 #![tactic(auto)]
 
+mod dealing;
 mod errors;
 mod link;
 mod message;

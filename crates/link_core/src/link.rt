@@ -3,22 +3,17 @@ ghost use Rattle.std.specs.Prelude.{if◌then◌else◌, OnOk, OnErr, IfOk, IsEr
 ghost use Rattle.link_core.specs.Link.{holds_back};
 ghost use Rattle.link_core.specs.Waiting.{without, is_wanted};
 ghost use Rattle.link_core.specs.Ends.{queue_closed};
-ghost use Rattle.link_core.specs.Dealing.{dealing_with, dealt_each, value_dealt, push_behind};
-ghost use Rattle.link_core.specs.Dealing.{pushes_each, heard_of};
-ghost use Rattle.resp_value.specs.View.{data_of};
-ghost use Rattle.resp_read.specs.Values.{values, left_over, is_spoiled};
-ghost use Rattle.resp_read.specs.Items.{items, is_item};
-ghost use Rattle.resp_read.specs.Limits.{default_limits};
+ghost use Rattle.link_core.specs.Dealing.{heard_of};
 
+use crate::dealing::deal_into;
 use crate::errors::{EnqueueError, StartError};
-use crate::message::{Entry, PushAt, PushInfo, Queued, Settled, Started};
+use crate::message::{PushAt, Queued, Settled, Started};
 use crate::outbox::Outbox;
 use crate::row::{Row, fail};
 use containers::{Bytes, Queue};
 use driver_model::{LinkFault, Shape};
 use redis_error::RedisError;
-use resp_read::{Health, ReadError, Reader};
-use resp_value::{Value, Values};
+use resp_read::{ReadError, Reader};
 use std::alloc::{AllocError, Global};
 use std::marker::Model;
 
@@ -274,12 +269,7 @@ impl LinkCore {
         }
         let len = message.packed.len() as u64;
         self.outbox.add(message.packed.as_slice())?;
-        self.row.push_back(Entry {
-            id: message.id,
-            shape: message.shape,
-            awaited: message.awaited,
-            got: Values::new(alloc),
-        })?;
+        self.row.start(alloc, &message)?;
         let start = Started {
             msg: self.started,
             id: message.id,
@@ -365,12 +355,7 @@ impl LinkCore {
 
     /// The link ends by a fault: the oldest message that takes items gets it if it is a single command, every other one the
     /// closed connection, and `out` gains those that are awaited. After an error `out` is as it was, and the link has failed.
-    pub fn fault(
-        &mut self,
-        alloc: Global,
-        fault: LinkFault,
-        out: &mut Vec<Settled>,
-    ) -> Result<(), AllocError>
+    pub fn fault(&mut self, fault: LinkFault, out: &mut Vec<Settled>) -> Result<(), AllocError>
         ensures ok { OnOk result (
             settling_with self.new out.new.items
             ≡ faulted (settling_with self.old out.old.items) fault
@@ -382,36 +367,31 @@ impl LinkCore {
         if self.failed {
             return Err(AllocError);
         }
-        match self.try_fault(alloc, fault, out) {
+        let before = out.len();
+        match self.try_fault(fault, out) {
             Ok(()) => Ok(()),
             Err(error) => {
                 self.failed = true;
+                out.truncate(before);
                 Err(error)
             }
         }
     }
 
-    fn try_fault(
-        &mut self,
-        alloc: Global,
-        fault: LinkFault,
-        out: &mut Vec<Settled>,
-    ) -> Result<(), AllocError>
+    fn try_fault(&mut self, fault: LinkFault, out: &mut Vec<Settled>) -> Result<(), AllocError>
         ensures ok { OnOk result (
             settling_with self.new out.new.items
             ≡ faulted (settling_with self.old out.old.items) fault
             ) }
-        ensures err { OnErr result (out.new.items ≡ out.old.items) }
+        ensures err { OnErr result (take (length out.old.items) out.new.items ≡ out.old.items) }
     {
-        let mut settled = Vec::new(alloc);
-        self.row.hit(fault, &mut settled)?;
-        close_queue(&mut self.queue, &mut settled)?;
-        out.append(&mut settled)
+        self.row.hit(fault, out)?;
+        close_queue(&mut self.queue, out)
     }
 
     /// The link is closed: every message that it has gets the closed connection, and `out` gains those that are awaited.
     /// After an error `out` is as it was, and the link has failed.
-    pub fn close(&mut self, alloc: Global, out: &mut Vec<Settled>) -> Result<(), AllocError>
+    pub fn close(&mut self, out: &mut Vec<Settled>) -> Result<(), AllocError>
         ensures ok { OnOk result (
             settling_with self.new out.new.items
             ≡ closed_all (settling_with self.old out.old.items)
@@ -423,26 +403,26 @@ impl LinkCore {
         if self.failed {
             return Err(AllocError);
         }
-        match self.try_close(alloc, out) {
+        let before = out.len();
+        match self.try_close(out) {
             Ok(()) => Ok(()),
             Err(error) => {
                 self.failed = true;
+                out.truncate(before);
                 Err(error)
             }
         }
     }
 
-    fn try_close(&mut self, alloc: Global, out: &mut Vec<Settled>) -> Result<(), AllocError>
+    fn try_close(&mut self, out: &mut Vec<Settled>) -> Result<(), AllocError>
         ensures ok { OnOk result (
             settling_with self.new out.new.items
             ≡ closed_all (settling_with self.old out.old.items)
             ) }
-        ensures err { OnErr result (out.new.items ≡ out.old.items) }
+        ensures err { OnErr result (take (length out.old.items) out.new.items ≡ out.old.items) }
     {
-        let mut settled = Vec::new(alloc);
-        self.row.close(&mut settled)?;
-        close_queue(&mut self.queue, &mut settled)?;
-        out.append(&mut settled)
+        self.row.close(out)?;
+        close_queue(&mut self.queue, out)
     }
 
     /// Bytes came. Each item in them is dealt, and `out` gains the messages that are settled and awaited; `pushes` gains
@@ -574,167 +554,18 @@ impl LinkCore {
     {
         self.failed = true;
         self.reader.feed(piece)?;
-        let mut settled = Vec::new(alloc);
-        let mut pushed = Vec::new(alloc);
-        self.broken = deal_all(
-            alloc,
-            heard,
-            &mut self.reader,
-            &mut self.row,
-            &mut settled,
-            &mut pushed,
-        )?;
-        append_both(out, &mut settled, pushes, &mut pushed)?;
+        let reader = &mut self.reader;
+        self.broken = deal_into(alloc, heard, reader, &mut self.row, out, pushes)?;
         self.failed = false;
         Ok(())
     }
 }
 
-/// Moves what was settled and what was pushed. After an error nothing has moved.
-fn append_both(
-    out: &mut Vec<Settled>,
-    settled: &mut Vec<Settled>,
-    pushes: &mut Vec<PushAt>,
-    pushed: &mut Vec<PushAt>,
-) -> Result<(), AllocError>
-    ensures settled { OnOk result (out.new.items ≡ out.old.items ++ settled.old.items) }
-    ensures pushed { OnOk result (pushes.new.items ≡ pushes.old.items ++ pushed.old.items) }
-    ensures settled_err { OnErr result (out.new.items ≡ out.old.items) }
-    ensures pushed_err { OnErr result (pushes.new.items ≡ pushes.old.items) }
-{
-    let before = out.len();
-    out.append(settled)?;
-    match pushes.append(pushed) {
-        Ok(()) => Ok(()),
-        Err(error) => {
-            out.truncate(before);
-            Err(error)
-        }
-    }
-}
-
-/// Deals each value that a reader gives, and answers whether what is left begins no value.
-fn deal_all(
-    alloc: Global,
-    heard: bool,
-    reader: &mut Reader,
-    row: &mut Row,
-    out: &mut Vec<Settled>,
-    pushes: &mut Vec<PushAt>,
-) -> Result<bool, AllocError>
-    requires sound { reader.old.health ≡ Health.Sound }
-    requires limits { reader.old.limits ≡ default_limits }
-    ensures dealt { OnOk result (
-        dealing_with row.new out.new.items
-        ≡ dealt_each (dealing_with row.old out.old.items) (items reader.old.rest)
-        ) }
-    ensures pushed { OnOk result (
-        pushes.new.items
-        ≡ pushes.old.items
-        ++ heard_of heard
-        (pushes_each (dealing_with row.old out.old.items) (values reader.old.rest))
-        ) }
-    ensures rest { OnOk result (reader.new.rest ≡ left_over reader.old.rest) }
-    ensures spoiled { IfOk result (λ broken. broken ≡ is_spoiled reader.old.rest) }
-    ensures sound { IfOk result (λ broken.
-        broken ≡ false → reader.new.health ≡ Health.Sound
-        ) }
-    ensures limits { reader.new.limits ≡ default_limits }
-{
-    'values: loop {
-        match reader.next_value(alloc) {
-            Ok(Some(value)) => match deal_value(alloc, value, heard, row, out, pushes) {
-                Ok(()) => {}
-                Err(error) => return Err(error),
-            },
-            Ok(None) => return Ok(false),
-            Err(ReadError::Parse) => return Ok(true),
-            Err(ReadError::NoMemory) => return Err(AllocError),
-        }
-    }
-}
-
-/// One value: a push is noted where it is heard, and an item is dealt.
-fn deal_value(
-    alloc: Global,
-    value: Value,
-    heard: bool,
-    row: &mut Row,
-    out: &mut Vec<Settled>,
-    pushes: &mut Vec<PushAt>,
-) -> Result<(), AllocError>
-    ensures dealt { OnOk result (
-        dealing_with row.new out.new.items
-        ≡ value_dealt (dealing_with row.old out.old.items) (data_of value)
-        ) }
-    ensures pushed { OnOk result (
-        pushes.new.items
-        ≡ pushes.old.items ++ heard_of heard (push_behind (length out.old.items) (data_of value))
-        ) }
-{
-    note_heard(alloc, &value, heard, out.len() as u64, pushes)?;
-    if is_dealt(&value) {
-        return row.deal(alloc, value, out);
-    }
-    Ok(())
-}
-
-/// A push is noted where it is heard.
-fn note_heard(
-    alloc: Global,
-    value: &Value,
-    heard: bool,
-    settled: u64,
-    pushes: &mut Vec<PushAt>,
-) -> Result<(), AllocError>
-    ensures { OnOk result (
-        pushes.new.items
-        ≡ pushes.old.items ++ heard_of heard (push_behind settled (data_of value.now))
-        ) }
-{
-    if !heard {
-        return Ok(());
-    }
-    note_push(alloc, value, settled, pushes)
-}
-
-/// A push, behind so many settled messages.
-fn note_push(
-    alloc: Global,
-    value: &Value,
-    settled: u64,
-    pushes: &mut Vec<PushAt>,
-) -> Result<(), AllocError>
-    ensures { OnOk result (
-        pushes.new.items ≡ pushes.old.items ++ push_behind settled (data_of value.now)
-        ) }
-{
-    match value {
-        Value::Push { kind, parts } => {
-            let kind = kind.clone(alloc)?;
-            let parts = parts.clone(alloc)?;
-            let info = PushInfo { kind, parts };
-            pushes.push(PushAt { settled, info })?;
-            Ok(())
-        }
-        _ => Ok(()),
-    }
-}
-
-/// Whether a value is dealt: all but a push without reply.
-fn is_dealt(value: &Value) -> bool
-    ensures { result ≡ is_item (data_of value.now) }
-{
-    match value {
-        Value::Push { kind, parts: _ } => kind.has_reply(),
-        _ => true,
-    }
-}
-
-/// Each message of the queue, in order, ends with the closed connection.
+/// Each message of the queue, in order, ends with the closed connection. After an error `out` may have gained some of them.
 fn close_queue(queue: &mut Queue<Queued>, out: &mut Vec<Settled>) -> Result<(), AllocError>
     ensures emptied { OnOk result (queue.new ≡ []) }
     ensures settled { OnOk result (out.new.items ≡ out.old.items ++ queue_closed queue.old) }
+    ensures err { OnErr result (take (length out.old.items) out.new.items ≡ out.old.items) }
 {
     while let Some(message) = queue.pop_front() {
         fail(message.awaited, message.id, RedisError::Closed, out)?;

@@ -1,20 +1,34 @@
-ghost use Rattle.std.specs.Prelude.{◌≡◌, [], ◌∷◌, ◌++◌, length, MatchOption, OnOk, OnErr};
-ghost use Rattle.link_core.specs.Dealing.{settled_by};
+ghost use Rattle.std.specs.Prelude.{◌≡◌, ◌<◌, [], ◌∷◌, ◌++◌, length, take, MatchOption, IfSome, IfOk, OnOk, OnErr};
+ghost use Rattle.link_core.specs.Dealing.{settled_by, with_item};
 ghost use Rattle.link_core.specs.Ends.{failed_by, hit_by};
-ghost use Rattle.link_core.specs.Row.{lack_of};
+ghost use Rattle.driver_model.specs.Shape.{need_of, verdict_of};
+ghost use Rattle.resp_value.specs.View.{data_of};
 
-use crate::message::{Entry, Settled};
+use crate::message::{Entry, Queued, Settled};
 use driver_model::{LinkFault, Shape, Verdict};
 use redis_error::RedisError;
-use resp_value::Value;
+use resp_value::{Value, Values};
 use std::alloc::{AllocError, Global};
 use std::collections::VecDeque;
 use std::marker::Model;
 
-/// The started messages that take more items, in the order of their starts.
+/// A started message that takes more items.
+#[derive(Drop)]
+pub struct Taker {
+    pub entry: Entry,
+    /// How many items were dealt on its link once it is full.
+    pub end: u128,
+}
+
+/// The started messages that take more items, in the order of their starts. Dealing compares one count: the oldest message
+/// is full where as many items were dealt as its end says.
 #[derive(Drop)]
 pub struct Row {
-    entries: VecDeque<Entry>,
+    takers: VecDeque<Taker>,
+    /// How many items were dealt. Those that a message lacked when it was taken out are counted too.
+    dealt: u128,
+    /// How many items were dealt once all messages are full.
+    end: u128,
 }
 
 impl Model for Row {
@@ -22,121 +36,138 @@ impl Model for Row {
     ghost use Rattle.link_core.specs.declared.message.Entry.{Entry};
     ghost use Rattle.std.specs.Coded.{codes};
     ghost use Rattle.resp_value.specs.Code.{data_code};
+    ghost use Rattle.link_core.specs.Ring.{entries_of, IsRing};
 
     ghost Value = { List Entry };
 
     ghost coded = { Prim.hlevel (codes, data_code) };
 
-    ghost view = { λ r. r.entries.items };
+    ghost view = { λ r. entries_of r.takers.items };
+
+    ghost invariant = { λ r. IsRing r.dealt r.takers.items r.end };
 }
 
 impl Row {
-    ghost use Rattle.resp_value.specs.View.{data_of};
+    ghost use Rattle.link_core.specs.Link.{entry_of};
     ghost use Rattle.link_core.specs.Row.{silenced, lack_of_row};
-    ghost use Rattle.link_core.specs.Dealing.{dealing_with, dealt, given};
+    ghost use Rattle.link_core.specs.Ring.{lack_of_first, with_first};
+    ghost use Rattle.link_core.specs.Dealing.{dealing_with, dealt};
 
-    /// No entries. Takes no memory.
+    /// No messages. Takes no memory.
     pub fn new(alloc: Global) -> Row
         ensures { result ≡ [] }
     {
         Row {
-            entries: VecDeque::new(alloc),
+            takers: VecDeque::new(alloc),
+            dealt: 0,
+            end: 0,
         }
     }
 
+    /// How many messages there are.
     pub fn len(&self) -> usize
         ensures { result ≡ length self.now }
     {
-        self.entries.len()
+        self.takers.len()
     }
 
-    /// One more entry at the end. An error leaves the row as it was.
-    pub fn push_back(&mut self, entry: Entry) -> Result<(), AllocError>
-        ensures ok { OnOk result (self.new ≡ self.old ++ entry ∷ []) }
+    /// A message starts: it is the last, and has no items yet. An error leaves the row as it was; it comes for want of
+    /// memory, or if the counts had no room.
+    #[tactic(auto, using(crate::proofs::RingLemmas::one_more))]
+    pub fn start(&mut self, alloc: Global, message: &Queued) -> Result<(), AllocError>
+        ensures ok { OnOk result (self.new ≡ self.old ++ entry_of message.now ∷ []) }
         ensures err { OnErr result (self.new ≡ self.old) }
     {
-        self.entries.push_back(entry)?;
+        let need = u128::from(message.shape.need());
+        let end = match self.end.checked_add(need) {
+            Some(end) => end,
+            None => return Err(AllocError),
+        };
+        let entry = Entry {
+            id: message.id,
+            shape: message.shape,
+            awaited: message.awaited,
+            got: Values::new(alloc),
+        };
+        self.takers.push_back(Taker { entry, end })?;
+        self.end = end;
         Ok(())
     }
 
-    /// One more entry at the front. An error leaves the row as it was.
-    pub fn push_front(&mut self, entry: Entry) -> Result<(), AllocError>
-        ensures ok { OnOk result (self.new ≡ entry ∷ self.old) }
-        ensures err { OnErr result (self.new ≡ self.old) }
-    {
-        self.entries.push_front(entry)?;
-        Ok(())
-    }
-
-    /// The oldest entry, taken out.
+    /// The oldest message, taken out. It is not full.
     pub fn pop_front(&mut self) -> Option<Entry>
-        ensures { MatchOption result ((self.old ≡ []) × (self.new ≡ []))
+        ensures cases { MatchOption result ((self.old ≡ []) × (self.new ≡ []))
             (λ e. self.old ≡ e ∷ self.new) }
+        ensures open { IfSome result (λ e. length e.got < need_of e.shape) }
     {
-        self.entries.pop_front()
+        match self.takers.pop_front() {
+            Some(taker) => {
+                self.dealt = taker.end;
+                Some(taker.entry)
+            }
+            None => None,
+        }
     }
 
     /// How many more items these messages take.
+    #[tactic(auto, using(crate::proofs::RingLemmas::ring_end))]
     pub fn lacks(&self) -> u128
         ensures { result ≡ lack_of_row self.now }
     {
-        let mut sum: u128 = 0;
-        let len = self.entries.len();
-        for index in 0..len {
-            sum += u128::from(lack(&self.entries[index]));
+        self.end - self.dealt
+    }
+
+    /// How many more items the oldest message takes, and 0 where there is none.
+    fn first_lack(&self) -> u128
+        ensures { result ≡ lack_of_first self.now }
+    {
+        match self.takers.front() {
+            Some(taker) => taker.end - self.dealt,
+            None => 0,
         }
-        sum
     }
 
     /// The verdict of this message is not wanted any more. It still takes its items.
     pub fn silence(&mut self, id: u64)
         ensures { self.new ≡ silenced self.old id }
     {
-        let len = self.entries.len();
+        let len = self.takers.len();
         for index in 0..len {
-            if self.entries[index].id == id {
-                self.entries[index].awaited = false;
+            if self.takers[index].entry.id == id {
+                self.takers[index].entry.awaited = false;
                 return;
             }
         }
     }
 
-    /// The oldest message, with one item more: it goes back to the front, or it is settled.
-    fn give(
-        &mut self,
-        alloc: Global,
-        entry: Entry,
-        out: &mut Vec<Settled>,
-    ) -> Result<(), AllocError>
-        ensures { OnOk result (
-            dealing_with self.new out.new.items
-            ≡ given (dealing_with self.old out.old.items) entry self.old
-            ) }
+    /// The oldest message has one item more, and takes further ones.
+    fn put(&mut self, item: Value) -> Result<(), AllocError>
+        requires { 1 < lack_of_first self.old }
+        ensures { OnOk result (self.new ≡ with_first self.old (data_of item)) }
     {
-        if (entry.got.len() as u64) < entry.shape.need() {
-            self.push_front(entry)
-        } else {
-            settle(alloc, entry, out)
-        }
+        self.takers[0].entry.got.push(item)?;
+        self.dealt += 1;
+        Ok(())
     }
 
-    /// Deals an item: it goes to the oldest message, and one that finds none is dropped.
+    /// Deals an item: it goes to the oldest message, and one that finds none is dropped. An error leaves `out` as it was.
     pub fn deal(
         &mut self,
         alloc: Global,
         item: Value,
         out: &mut Vec<Settled>,
     ) -> Result<(), AllocError>
-        ensures { OnOk result (
+        ensures ok { OnOk result (
             dealing_with self.new out.new.items
             ≡ dealt (dealing_with self.old out.old.items) (data_of item)
             ) }
+        ensures err { OnErr result (out.new.items ≡ out.old.items) }
     {
+        if self.first_lack() > 1 {
+            return self.put(item);
+        }
         match self.pop_front() {
-            Some(mut entry) => {
-                entry.got.push(item)?;
-                self.give(alloc, entry, out)
-            }
+            Some(entry) => settle(alloc, entry, item, out),
             None => Ok(()),
         }
     }
@@ -145,10 +176,11 @@ impl Row {
 impl Row {
     ghost use Rattle.link_core.specs.Ends.{row_closed, row_hit};
 
-    /// Each message, in order, ends with the closed connection.
+    /// Each message, in order, ends with the closed connection. After an error `out` may have gained some of them.
     pub fn close(&mut self, out: &mut Vec<Settled>) -> Result<(), AllocError>
         ensures emptied { OnOk result (self.new ≡ []) }
         ensures settled { OnOk result (out.new.items ≡ out.old.items ++ row_closed self.old) }
+        ensures err { OnErr result (take (length out.old.items) out.new.items ≡ out.old.items) }
     {
         while let Some(entry) = self.pop_front() {
             fail(entry.awaited, entry.id, RedisError::Closed, out)?;
@@ -156,10 +188,12 @@ impl Row {
         Ok(())
     }
 
-    /// The oldest message ends with the fault if it is a single command, and each other with the closed connection.
+    /// The oldest message ends with the fault if it is a single command, and each other with the closed connection. After an
+    /// error `out` may have gained some of them.
     pub fn hit(&mut self, fault: LinkFault, out: &mut Vec<Settled>) -> Result<(), AllocError>
         ensures emptied { OnOk result (self.new ≡ []) }
         ensures settled { OnOk result (out.new.items ≡ out.old.items ++ row_hit fault self.old) }
+        ensures err { OnErr result (take (length out.old.items) out.new.items ≡ out.old.items) }
     {
         match self.pop_front() {
             Some(entry) => {
@@ -189,14 +223,15 @@ fn error_of(fault: LinkFault, shape: Shape) -> RedisError
     }
 }
 
-/// A message without verdict ends with an error, if it is awaited.
+/// A message without verdict ends with an error, if it is awaited. Want of memory leaves `out` as it was.
 pub fn fail(
     awaited: bool,
     id: u64,
     error: RedisError,
     out: &mut Vec<Settled>,
 ) -> Result<(), AllocError>
-    ensures { OnOk result (out.new.items ≡ out.old.items ++ failed_by awaited id error) }
+    ensures ok { OnOk result (out.new.items ≡ out.old.items ++ failed_by awaited id error) }
+    ensures err { OnErr result (out.new.items ≡ out.old.items) }
 {
     if !awaited {
         return Ok(());
@@ -208,16 +243,18 @@ pub fn fail(
     Ok(())
 }
 
-/// How many more items a message takes.
-fn lack(entry: &Entry) -> u64
-    ensures { result ≡ lack_of entry.now }
-{
-    entry.shape.need().saturating_sub(entry.got.len() as u64)
-}
-
-/// The verdict of a full message, if it is awaited.
-fn settle(alloc: Global, entry: Entry, out: &mut Vec<Settled>) -> Result<(), AllocError>
-    ensures { OnOk result (out.new.items ≡ out.old.items ++ settled_by entry) }
+/// The verdict of a message that this item fills, if it is awaited. An error leaves `out` as it was.
+fn settle(
+    alloc: Global,
+    entry: Entry,
+    item: Value,
+    out: &mut Vec<Settled>,
+) -> Result<(), AllocError>
+    requires { length entry.got < need_of entry.shape }
+    ensures ok { OnOk result (
+        out.new.items ≡ out.old.items ++ settled_by (with_item entry (data_of item))
+        ) }
+    ensures err { OnErr result (out.new.items ≡ out.old.items) }
 {
     let Entry {
         id,
@@ -228,7 +265,33 @@ fn settle(alloc: Global, entry: Entry, out: &mut Vec<Settled>) -> Result<(), All
     if !awaited {
         return Ok(());
     }
-    let verdict = shape.verdict(alloc, got)?;
+    let verdict = verdict_with(alloc, shape, got, item)?;
     out.push(Settled { id, verdict })?;
     Ok(())
+}
+
+/// What the items of a message are that this one fills: the one item of a single command is its reply, and no list is made
+/// for it.
+#[tactic(auto, using(crate::proofs::RingLemmas::only_reply))]
+fn verdict_with(
+    alloc: Global,
+    shape: Shape,
+    got: Values,
+    item: Value,
+) -> Result<Verdict, AllocError>
+    requires { length got < need_of shape }
+    ensures { IfOk result (λ v. v ≡ verdict_of shape (got ++ data_of item ∷ [])) }
+{
+    match shape {
+        Shape::Single => Ok(Verdict::One(item)),
+        Shape::Pipeline {
+            offset: _,
+            count: _,
+            transaction: _,
+        } => {
+            let mut items = got;
+            items.push(item)?;
+            shape.verdict(alloc, items)
+        }
+    }
 }

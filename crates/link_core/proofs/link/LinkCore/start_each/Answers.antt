@@ -1,6 +1,7 @@
 use Rattle.std.proofs.Common.{◌≡◌, ◌∷◌, false, sym, ap, ◌∙◌}
 use Rattle.link_core.specs.Link.{Starting, LinkState, started_all, started_one, holds_back, is_spent}
-use Rattle.link_core.proofs.StartLemmas.{one_more, none_more, spent_on, front_kept}
+use Rattle.link_core.proofs.FrontLemmas.{front_on}
+use Rattle.link_core.proofs.StartLemmas.{one_more, none_more, spent_on}
 use Rattle.link_core.proofs.link.LinkCore.start_each.Goals as goal
 
 pub starts-preserved : goal.starts-preserved
@@ -13,7 +14,7 @@ starts-preserved c =
     let seen = ap (λ (x : LinkState). started_all (started_one (record { link = record x { queue = qs }; out = s.out }) q)) c.self.view_is in
     record {
       all = ap started_all c.in-Ok.ensures.ok ∙ seen ∙ sym (one_more s q qs e free) ∙ c.starts.invariant.all;
-      front = front_kept s.out c.args.out.now.items c.start_one.new.out.items _ c.starts.invariant.front (ap (λ (x : Starting). x.out) c.in-Ok.ensures.ok);
+      front = front_on c.args.out.now.items s.out _ c.start_one.new.out.items c.starts.invariant.front (ap (λ (x : Starting). x.out) c.in-Ok.ensures.ok);
     }
 
 pub returns-in-Err-clause-spent : goal.returns-in-Err-clause-spent

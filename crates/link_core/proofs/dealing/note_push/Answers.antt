@@ -3,10 +3,10 @@ use Rattle.resp_value.specs.View.{data_of, list_of-items_of}
 use Rattle.resp_value.specs.declared.value.Value.{Value}
 use Rattle.link_core.specs.declared.message.PushAt.{PushAt}
 use Rattle.link_core.specs.Dealing.{push_behind}
-use Rattle.link_core.proofs.link.note_push.Goals as goal
+use Rattle.link_core.proofs.dealing.note_push.Goals as goal
 
-pub returns-in_ok-push-in-Push : goal.returns-in_ok-push-in-Push
-returns-in_ok-push-in-Push c =
+pub returns-in_ok-push-in-Push-clause-ok : goal.returns-in_ok-push-in-Push-clause-ok
+returns-in_ok-push-in-Push-clause-ok c =
     let before = c.args.pushes.now.items in
     let n = c.args.settled in
     let noted : PushAt = record { settled = n; info = record { kind = c.in-Push.kind; parts = c.in-Push.parts } } in
