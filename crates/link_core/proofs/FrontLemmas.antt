@@ -28,7 +28,3 @@ module _ {X : Type 0} where
   -- as many items as before are still there
   pub front_there : (n : ℕ) (out now : List X) → n ≤ length out → take n now ≡ take n out → n ≤ length now
   front_there n out now l h = omega (arith, l, length-take n out, length-take n now, ap length h)
-
-  -- all of it
-  pub front_whole : (n : ℕ) (out now : List X) → n ≡ length out → take n now ≡ take n out → take n now ≡ out
-  front_whole n out now e h = h ∙ take_all n out (omega (arith, e))

@@ -1,31 +1,23 @@
 -- The row as it is kept, with the count of the items that were dealt.
-use Rattle.std.proofs.Common.{◌≡◌, ℕ, zero, suc, ◌+◌, ◌-◌, ◌<◌, ◌≤◌, Bool, true, false, List, [], ◌∷◌, ◌++◌, length, get_or, set, map, refl, sym, ap, subst, ◌∙◌, arith, length-append}
-use Rattle.std.specs.Prelude.{nat_lt, ◌==◌, if◌then◌else◌}
-use Rattle.std.proofs.lemmas.List.{map-append}
+use Rattle.std.proofs.Common.{◌≡◌, ℕ, ◌+◌, ◌<◌, ◌≤◌, Bool, true, false, List, [], ◌∷◌, ◌++◌, length, refl, sym, ap, ◌∙◌, arith}
+use Rattle.std.specs.Prelude.{◌==◌, if◌then◌else◌}
 use Rattle.resp_value.specs.Data.{Data}
-use Rattle.resp_value.specs.View.{data_of, value_of, value_of-data_of}
+use Rattle.resp_value.specs.View.{data_of, value_of-data_of}
 use Rattle.resp_value.specs.declared.value.Value.{Value}
 use Rattle.driver_model.specs.Shape.{one_at_least, need_of, verdict_of}
 use Rattle.driver_model.specs.declared.outcome.Shape.{Shape}
 use Rattle.driver_model.specs.declared.outcome.Shape.TheVariants.{Single, Pipeline}
 use Rattle.driver_model.specs.declared.outcome.Verdict.TheVariants.{One}
 use Rattle.link_core.specs.declared.message.Entry.{Entry}
-use Rattle.link_core.specs.declared.message.Settled.{Settled}
 use Rattle.link_core.specs.declared.row.Taker.{Taker}
 use Rattle.link_core.specs.First.{first_replaced}
-use Rattle.link_core.specs.Dealing.{Dealing, dealing_with, with_item, settled_by, given, dealt}
 use Rattle.link_core.specs.Row.{lack_of, lack_of_row, silent, is_entry_of, silenced}
-use Rattle.link_core.specs.Ring.{entry_in, entries_of, IsRing, lack_of_first, with_first}
+use Rattle.link_core.specs.Ring.{entries_of, IsRing, lack_of_first}
 
 -- all are full where as many items were dealt as they lack
 pub ring_end : (dealt end : ℕ) (ts : List Taker) → IsRing dealt ts end → end ≡ dealt + lack_of_row (entries_of ts)
 ring_end dealt end [] h = omega (arith, h)
 ring_end dealt end (t ∷ ts) h = let rest = ring_end t.end end ts h.2 in omega (arith, rest, h.1)
-
--- where the oldest message is full
-pub first_end : (dealt end : ℕ) (ts : List Taker) (t : Taker) → 0 < length ts → t ≡ get_or ts 0 t → IsRing dealt ts end → t.end ≡ dealt + lack_of_first (entries_of ts)
-first_end dealt end [] t some is h = absurd (omega arith)
-first_end dealt end (s ∷ ts) t some is h = ap (λ (x : Taker). x.end) is ∙ h.1
 
 -- one message more
 pub one_more : (dealt end : ℕ) (ts : List Taker) (t : Taker) → IsRing dealt ts end → 0 < lack_of t.entry → t.end ≡ end + lack_of t.entry → IsRing dealt (ts ++ t ∷ []) t.end
@@ -48,54 +40,6 @@ some_needed (Pipeline offset count transaction) = omega (arith, one_needed count
 pub room_left : (dealt end : ℕ) (ts : List Taker) → 1 < lack_of_first (entries_of ts) → IsRing dealt ts end → dealt + 1 ≤ end
 room_left dealt end [] more h = absurd (omega (arith, more))
 room_left dealt end (t ∷ ts) more h = let all = ring_end dealt end (t ∷ ts) h in omega (arith, more, all)
-
--- an item in its place
-abbrev pub put_in : Taker → Data → Taker
-put_in t item = record t { entry = with_item t.entry item }
-
-pub put_entries : (ts : List Taker) (t : Taker) (item : Data) → 0 < length ts → t ≡ get_or ts 0 t → entries_of (set ts 0 (put_in t item)) ≡ with_first (entries_of ts) item
-put_entries [] t item some is = absurd (omega arith)
-put_entries (s ∷ ts) t item some is = ap (λ (x : Taker). with_item x.entry item ∷ entries_of ts) is
-
-put_here : (dealt end : ℕ) (s t : Taker) (ts : List Taker) (item : Data) → t ≡ s → 1 < lack_of s.entry → IsRing dealt (s ∷ ts) end → IsRing (dealt + 1) (put_in t item ∷ ts) end
-put_here dealt end s t ts item is more h =
-    subst (λ (x : Taker). IsRing (dealt + 1) (put_in x item ∷ ts) end) (sym is) (omega (arith, more, length-append s.entry.got (item ∷ [])), omega (arith, more, h.1, length-append s.entry.got (item ∷ [])), h.2)
-
-pub put_ring : (dealt end : ℕ) (ts : List Taker) (t : Taker) (item : Data) → t ≡ get_or ts 0 t → 1 < lack_of_first (entries_of ts) → IsRing dealt ts end → IsRing (dealt + 1) (set ts 0 (put_in t item)) end
-put_ring dealt end [] t item is more h = absurd (omega (arith, more))
-put_ring dealt end (s ∷ ts) t item is more h = put_here dealt end s t ts item is more h
-
--- a message that takes further items stays the oldest
-test_of : (m n : ℕ) → m < n → nat_lt m n ≡ true
-test_of m n l = grind arith
-
-untrue_of : (m n : ℕ) → n ≤ m → nat_lt m n ≡ false
-untrue_of m n l = grind arith
-
-given_more : (d : Dealing) (e : Entry) (es : List Entry) (further : Bool) → nat_lt (length e.got) (need_of e.shape) ≡ further → further ≡ true → given d e es ≡ record d { row = e ∷ es }
-given_more d e es true is h = rw is refl
-given_more d e es false is h = cc
-
-given_full : (d : Dealing) (e : Entry) (es : List Entry) (further : Bool) → nat_lt (length e.got) (need_of e.shape) ≡ further → further ≡ false → given d e es ≡ record { row = es; out = d.out ++ settled_by e }
-given_full d e es false is h = rw is refl
-given_full d e es true is h = cc
-
-pub put_dealt : (row : List Entry) (out : List Settled) (item : Data) → 1 < lack_of_first row → dealing_with (with_first row item) out ≡ dealt (dealing_with row out) item
-put_dealt [] out item more = absurd (omega (arith, more))
-put_dealt (e ∷ es) out item more =
-    let further = test_of (length (e.got ++ item ∷ [])) (need_of e.shape) (omega (arith, more, length-append e.got (item ∷ []))) in
-    sym (given_more (dealing_with (e ∷ es) out) (with_item e item) es _ refl further)
-
--- a message that takes no further one is settled
-pub settle_dealt : (row es : List Entry) (e : Entry) (out now : List Settled) (item : Data) → row ≡ e ∷ es → lack_of_first row ≤ 1 → length e.got < need_of e.shape → now ≡ out ++ settled_by (with_item e item) → dealing_with es now ≡ dealt (dealing_with row out) item
-settle_dealt row es e out now item is last some more =
-    let lack : lack_of e ≤ 1 = subst (λ (r : List Entry). lack_of_first r ≤ 1) is last in
-    let full = untrue_of (length (e.got ++ item ∷ [])) (need_of e.shape) (omega (arith, lack, length-append e.got (item ∷ []))) in
-    ap (dealing_with es) more ∙ sym (given_full (dealing_with (e ∷ es) out) (with_item e item) es _ refl full)
-    ∙ sym (ap (λ (r : List Entry). dealt (dealing_with r out) item) is)
-
-pub none_dealt : (row now : List Entry) (out : List Settled) (item : Data) → row ≡ [] → now ≡ [] → dealing_with now out ≡ dealt (dealing_with row out) item
-none_dealt row now out item is none = ap (λ (r : List Entry). dealing_with r out) none ∙ sym (ap (λ (r : List Entry). dealt (dealing_with r out) item) is)
 
 -- the one reply of a single command
 pub only_reply : (got : List Data) (v : Value) → length got < need_of Single → One v ≡ verdict_of Single (got ++ data_of v ∷ [])

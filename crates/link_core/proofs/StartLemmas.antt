@@ -1,8 +1,8 @@
 -- Starts in the order of the queue.
-use Rattle.std.proofs.Common.{◌≡◌, ◌+◌, ◌^◌, ◌≤◌, List, [], ◌∷◌, Bool, true, false, ◌++◌, length, refl, sym, ap, ◌∙◌, arith}
+use Rattle.std.proofs.Common.{◌≡◌, ℕ, length, ◌++◌, ◌+◌, ◌^◌, ◌≤◌, List, [], ◌∷◌, Bool, true, false, refl, sym, ap, ◌∙◌, arith}
 use Rattle.std.proofs.Math.Nat.{le_refl}
-use Rattle.link_core.specs.declared.message.Started.{Started}
-use Rattle.std.specs.Prelude.{if◌then◌else◌}
+use Rattle.std.specs.Prelude.{if◌then◌else◌, slice_set}
+use Rattle.std.proofs.lemmas.List.{set_at}
 use Rattle.link_core.specs.declared.message.Queued.{Queued}
 use Rattle.link_core.specs.Link.{Starting, started_one, started_each, started_all, holds_back, is_spent}
 
@@ -57,3 +57,7 @@ spent_on s q qs e free h =
     let high : 2 ^ 32 ≤ (started_one (with_queue s qs) q).link.started = grind arith in
     let more : 2 ^ 32 ≤ (started_all s).link.started = omega (arith, n, high, ap (λ (t : Starting). t.link.started) all) in
     grind arith
+
+-- a message in the place of the last one
+pub last_set : (queue now : List Queued) (q next : Queued) (n : ℕ) → n ≡ length queue → now ≡ queue ++ q ∷ [] → slice_set now n next ≡ queue ++ next ∷ []
+last_set queue now q next n e is = ap (λ (qs : List Queued). slice_set qs n next) is ∙ set_at queue q [] next n (sym e)

@@ -88,21 +88,24 @@ impl LinkCore {
         }
     }
 
-    /// A message takes the last place of the queue. `id` names it: no earlier message of this link had it. Where
-    /// `answered`, its verdict is not wanted. `Full`: the queue holds its size, and nothing changed.
+    /// A message takes the last place of the queue. `id` names it: no earlier message of this link had it. Its bytes
+    /// `packed` are taken over, and not copied; after an error they are left. Where `answered`, its verdict is not wanted.
+    /// `Full`: the queue holds its size, and nothing changed.
     pub fn enqueue(
         &mut self,
         alloc: Global,
         id: u64,
-        packed: &[u8],
+        packed: &mut Bytes,
         shape: Shape,
         answered: bool,
     ) -> Result<(), EnqueueError>
         ensures ok { OnOk result (
             self.new
             ≡ enqueued self.old
-            (record { id = id; packed = packed.now; shape = shape; awaited = not answered })
+            (record { id = id; packed = packed.old; shape = shape; awaited = not answered })
             ) }
+        ensures taken { OnOk result (packed.new ≡ []) }
+        ensures left { OnErr result (packed.new ≡ packed.old) }
         ensures full { IsErrOf result EnqueueError.Full
             ↔ ((self.old.failed ≡ false) × (is_full self.old ≡ true)) }
         ensures full_same { IsErrOf result EnqueueError.Full → self.new ≡ self.old }
@@ -124,19 +127,22 @@ impl LinkCore {
         }
     }
 
-    /// A message whose verdict is wanted takes the last place of the queue, also where the queue holds its size.
+    /// A message whose verdict is wanted takes the last place of the queue, also where the queue holds its size. Its bytes
+    /// `packed` are taken over, and not copied; after an error they are left.
     pub fn enqueue_beyond(
         &mut self,
         alloc: Global,
         id: u64,
-        packed: &[u8],
+        packed: &mut Bytes,
         shape: Shape,
     ) -> Result<(), AllocError>
         ensures ok { OnOk result (
             self.new
             ≡ enqueued self.old
-            (record { id = id; packed = packed.now; shape = shape; awaited = true })
+            (record { id = id; packed = packed.old; shape = shape; awaited = true })
             ) }
+        ensures taken { OnOk result (packed.new ≡ []) }
+        ensures left { OnErr result (packed.new ≡ packed.old) }
         ensures no_memory { OnErr result (self.new.failed ≡ true) }
         ensures failed { self.old.failed ≡ true → IsErr result }
     {
@@ -169,28 +175,44 @@ impl LinkCore {
         Some(self.queue.at(0).id)
     }
 
+    /// The place is taken first, so that the bytes are left where memory is refused.
+    #[tactic(auto, using(crate::proofs::StartLemmas::last_set))]
     fn try_enqueue(
         &mut self,
         alloc: Global,
         id: u64,
-        packed: &[u8],
+        packed: &mut Bytes,
         shape: Shape,
         answered: bool,
     ) -> Result<(), AllocError>
         ensures ok { OnOk result (
             self.new
             ≡ enqueued self.old
-            (record { id = id; packed = packed.now; shape = shape; awaited = not answered })
+            (record { id = id; packed = packed.old; shape = shape; awaited = not answered })
             ) }
+        ensures taken { OnOk result (packed.new ≡ []) }
         ensures err { OnErr result (self.new ≡ self.old) }
+        ensures left { OnErr result (packed.new ≡ packed.old) }
     {
-        let packed = Bytes::from_slice(alloc, packed)?;
+        let place = self.queue.len();
+        let awaited = !answered;
         self.queue.push_back(Queued {
             id,
-            packed,
+            packed: Bytes::new(alloc),
             shape,
-            awaited: !answered,
-        })
+            awaited,
+        })?;
+        let packed = std::mem::replace(packed, Bytes::new(alloc));
+        self.queue.set(
+            place,
+            Queued {
+                id,
+                packed,
+                shape,
+                awaited,
+            },
+        );
+        Ok(())
     }
 
     /// Starts messages in the order of the queue, as long as nothing holds them back, and appends the starts to `out`.

@@ -50,7 +50,12 @@ impl Outbox {
         requires { count ≤ length self.old.unwritten }
         ensures { self.new ≡ taken self.old count }
     {
-        self.unwritten.drop_front(count as usize);
+        let count = count as usize;
+        if count == self.unwritten.len() {
+            self.unwritten.clear();
+        } else {
+            self.unwritten.drop_front(count);
+        }
         self.offered = 0;
     }
 }

@@ -1,4 +1,4 @@
-use Rattle.std.proofs.Common.{◌≡◌, ◌+◌, ◌-◌, ◌<◌, List, arith, subst, sym}
+use Rattle.std.proofs.Common.{◌≡◌, ◌+◌, ◌<◌, List, arith, subst, sym}
 use Rattle.link_core.specs.declared.row.Taker.{Taker}
 use Rattle.link_core.specs.Row.{lack_of}
 use Rattle.link_core.specs.Ring.{IsRing}
