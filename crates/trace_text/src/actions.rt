@@ -1,4 +1,4 @@
-ghost use Rattle.std.specs.Prelude.{◌≡◌, ◌++◌, OnOk, OnErr, IfOk};
+ghost use Rattle.std.specs.Prelude.{◌≡◌, ◌∷◌, ◌++◌, OnOk, OnErr, IfOk};
 ghost use Rattle.trace_text.specs.Words.{following};
 ghost use Rattle.trace_text.specs.Show.{show, action_line, created_words, purpose_words};
 ghost use Rattle.trace_text.specs.Writer.{Added, AddedWords};
@@ -210,6 +210,22 @@ impl Writer {
         }
         Ok(())
     }
+
+    /// The lines of an event's turn.
+    fn whole_turn(
+        &mut self,
+        number: u32,
+        event: &Event,
+        behind: &[Action],
+    ) -> Result<(), AllocError>
+        ensures before { self.new.before ≡ self.old.before }
+        ensures ok { OnOk result
+            (Added self.old self.new
+            (show (Action.Turn number (Cause.Event event.now) ∷ behind.now))) }
+    {
+        self.event_turn(number, event)?;
+        self.actions(behind)
+    }
 }
 
 /// Gives a text back: with what was written to it, or where memory was refused without that.
@@ -254,20 +270,39 @@ pub fn append_actions(alloc: Global, out: &mut Bytes, actions: &[Action]) -> Res
     give_back(out, writer, written)
 }
 
-/// Appends the line of the action that begins an event's turn. An error leaves the text as it was.
+/// Appends the lines of an event's turn: of the action that begins it, and of those behind that. An error leaves the text
+/// as it was.
 pub fn append_turn(
     alloc: Global,
     out: &mut Bytes,
     number: u32,
     event: &Event,
+    behind: &[Action],
 ) -> Result<(), AllocError>
     ensures ok { OnOk result (
-        out.new ≡ out.old ++ action_line (Action.Turn number (Cause.Event event.now))
+        out.new ≡ out.old ++ show (Action.Turn number (Cause.Event event.now) ∷ behind.now)
         ) }
     ensures err { OnErr result (out.new ≡ out.old) }
 {
     let mut writer = Writer::new(mem::replace(out, Bytes::new(alloc)));
-    let written = writer.event_turn(number, event);
+    let written = writer.whole_turn(number, event, behind);
+    give_back(out, writer, written)
+}
+
+/// Appends the line of what a submission came to. An error leaves the text as it was.
+pub fn append_outcome(
+    alloc: Global,
+    out: &mut Bytes,
+    submission: u32,
+    outcome: &Outcome,
+) -> Result<(), AllocError>
+    ensures ok { OnOk result (
+        out.new ≡ out.old ++ action_line (Action.Outcome submission outcome.now)
+        ) }
+    ensures err { OnErr result (out.new ≡ out.old) }
+{
+    let mut writer = Writer::new(mem::replace(out, Bytes::new(alloc)));
+    let written = writer.answered(submission, outcome);
     give_back(out, writer, written)
 }
 

@@ -12,5 +12,5 @@ mod values;
 mod words;
 mod writer;
 
-pub use actions::{append_action, append_actions, append_turn, show};
+pub use actions::{append_action, append_actions, append_outcome, append_turn, show};
 pub use scripts::{append_config, append_event};
