@@ -7,15 +7,14 @@ ghost use Rattle.live_lines.specs.Outcomes.{outcome_line, outcome_lines, outcome
 
 use crate::flying::Flight;
 use containers::{Bytes, Queue};
-use driver_model::Action;
 use outside::Sink;
 use program_ends::{PutError, Status, put, write_large};
 use shared_session::Session;
 use std::alloc::{AllocError, Global};
-use trace_text::append_action;
+use trace_text::append_outcome;
 
 /// Appends the line of a submission's outcome, where it has one. An error leaves the text as it was.
-fn append_outcome(
+fn append_line(
     alloc: Global,
     text: &mut Bytes,
     session: &Session,
@@ -29,15 +28,7 @@ fn append_outcome(
     let Some(outcome) = session.outcome_of(submission) else {
         return Ok(());
     };
-    let outcome = outcome.clone(alloc)?;
-    append_action(
-        alloc,
-        text,
-        &Action::Outcome {
-            submission,
-            outcome,
-        },
-    )
+    append_outcome(alloc, text, submission, outcome)
 }
 
 /// Appends that line, and writes a text that is large.
@@ -60,7 +51,7 @@ fn write_one<K: Sink>(
     ensures cause { IsErrOf result PutError.WriteFault
         → Rose (K.fault_count sink.old) (K.fault_count sink.new) }
 {
-    append_outcome(alloc, text, session, submission)?;
+    append_line(alloc, text, session, submission)?;
     if write_large(sink, text) {
         Ok(())
     } else {

@@ -16,7 +16,6 @@ mod replaying;
 #[cfg(test)]
 mod rows;
 mod running;
-mod streaming;
 #[cfg(test)]
 mod tests;
 

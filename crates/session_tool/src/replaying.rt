@@ -12,14 +12,14 @@ ghost use Rattle.session_tool.specs.Notes.{open_count};
 ghost use Rattle.session_tool.specs.Stops.{Ends, IsNotOpened};
 
 use crate::counting::open_after;
-use crate::streaming::show_turn;
 use containers::Bytes;
-use driver_model::{Config, Event};
+use driver_model::{Action, Config, Event};
 use outside::Sink;
 use program_ends::write_large;
 use redis_error::ConfigName;
 use shared_session::{MakeError, Session, StepError};
 use std::alloc::{AllocError, Global};
+use trace_text::append_actions;
 
 /// Why a replay ended before its last event. The text has the lines of the finished turns that are not written yet.
 #[derive(Clone, Copy, PartialEq, Eq)]
@@ -46,13 +46,15 @@ impl From<AllocError> for Stop {
     }
 }
 
-/// Makes a session, and shows its opening.
+/// Makes a session, and shows its opening. The actions of the opening are room for those of a turn.
 fn open_session(
     alloc: Global,
     config: &Config,
     word: u64,
+    actions: &mut Vec<Action>,
     text: &mut Bytes,
 ) -> Result<Session, Stop>
+    requires { actions.old.items ≡ [] }
     ensures made { IfOk result (λ s.
         s ≡ record { config = config.now; word = word; events = []; failure = Sound }
         ) }
@@ -62,21 +64,21 @@ fn open_session(
     ensures err { OnErr result (text.new ≡ text.old) }
 {
     let config = config.clone(alloc)?;
-    let mut actions = Vec::new(alloc);
-    let session = match Session::new(alloc, config, word, &mut actions) {
+    let session = match Session::new(alloc, config, word, actions) {
         Ok(session) => session,
         Err(MakeError::Config { name }) => return Err(Stop::Config(name)),
         Err(MakeError::NoMemory) => return Err(Stop::NoMemory),
     };
-    show_turn(alloc, text, actions.as_slice())?;
+    append_actions(alloc, text, actions.as_slice())?;
     Ok(session)
 }
 
-/// Steps one event, and shows its turn.
+/// Steps one event, and shows its turn. Its actions come in the place of those of the turn before.
 fn take_turn(
     alloc: Global,
     session: &mut Session,
     event: &Event,
+    actions: &mut Vec<Action>,
     text: &mut Bytes,
 ) -> Result<(), Stop>
     ensures ok { OnOk result (
@@ -106,14 +108,14 @@ fn take_turn(
 {
     let event = event.clone(alloc)?;
     let number = u64::from(session.events_taken()) + 1;
-    let mut actions = Vec::new(alloc);
-    match session.step(alloc, event, &mut actions) {
+    actions.clear();
+    match session.step(alloc, event, actions) {
         Ok(()) => {}
         Err(StepError::BadEvent) => return Err(Stop::BadEvent(number)),
         Err(StepError::Spent { events }) => return Err(Stop::Spent(u64::from(events) + 1)),
         Err(StepError::NoMemory) => return Err(Stop::NoMemory),
     }
-    show_turn(alloc, text, actions.as_slice())?;
+    append_actions(alloc, text, actions.as_slice())?;
     Ok(())
 }
 
@@ -144,12 +146,13 @@ pub fn replay_into<K: Sink>(
     ensures cause { IsErrOf result Stop.WriteFault
         → Rose (K.fault_count sink.old) (K.fault_count sink.new) }
 {
-    let mut session = match open_session(alloc, config, word, text) {
+    let mut actions = Vec::new(alloc);
+    let mut session = match open_session(alloc, config, word, &mut actions, text) {
         Ok(session) => session,
         Err(stop) => return Err(stop),
     };
     for event in events {
-        match take_turn(alloc, &mut session, event, text) {
+        match take_turn(alloc, &mut session, event, &mut actions, text) {
             Ok(()) => {}
             Err(stop) => return Err(stop),
         }

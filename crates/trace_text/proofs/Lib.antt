@@ -1,3 +1,5 @@
+pub mod Canonical
+pub mod Children
 pub mod Plain
 pub mod Runs
 pub mod ScriptLines

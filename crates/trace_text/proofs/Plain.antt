@@ -10,6 +10,8 @@ use Rattle.driver_model.specs.declared.action.Owner.TheVariants.{Try}
 use Rattle.containers.proofs.Choices.{taken_if, left_if}
 use Rattle.trace_text.specs.Words.{is_plain, escaped_byte, is_separator, escaped, following}
 use Rattle.trace_text.specs.Plain.{is_kept, are_kept, is_literal}
+use Rattle.resp_value.specs.declared.server_error.ServerError.{ServerError}
+use Rattle.trace_text.specs.Errors.{abort_word, server_text}
 use Rattle.trace_text.specs.Show.{address, owner_word}
 
 abbrev pub all_escaped : List ℕ → List ℕ
@@ -48,7 +50,7 @@ kept_decimal n small =
     (λ m ds l h. kept-append ds ((48 + m % 10) ∷ []) h (one_kept (48 + m % 10) (digit_kept (m % 10) (omega arith)))) n small
 
 -- some bytes that aren't the separator
-escaped_some : (word : List ℕ) → 0 < length word → is_separator word ≡ false → escaped word ≡ all_escaped word
+pub escaped_some : (word : List ℕ) → 0 < length word → is_separator word ≡ false → escaped word ≡ all_escaped word
 unfolding escaped
 escaped_some [] some e = absurd (omega arith)
 escaped_some (b ∷ bs) some e = left_if (is_separator (b ∷ bs)) (codes "%3B") (all_escaped (b ∷ bs)) e
@@ -92,12 +94,20 @@ colon_no_separator [] (r ∷ rest) = refl
 colon_no_separator (h ∷ []) rest = refl
 colon_no_separator (h ∷ i ∷ host) rest = refl
 
+-- two parts with a colon between them
+escaped_parts : (front rest : List ℕ) → escaped (front ++ byte ":" ∷ rest) ≡ all_escaped front ++ byte ":" ∷ all_escaped rest
+escaped_parts front rest =
+    escaped_some (front ++ byte ":" ∷ rest) (omega (arith, length-append front (byte ":" ∷ rest))) (colon_no_separator front rest)
+    ∙ flat_map-append escaped_byte front (byte ":" ∷ rest)
+
 -- a host and a port
 pub escaped_address : (host : List ℕ) (port : ℕ) → port < 2 ^ 64 → escaped (address host port) ≡ all_escaped host ++ byte ":" ∷ decimal port
-escaped_address host port small =
-    escaped_some (address host port) (omega (arith, length-append host (byte ":" ∷ decimal port))) (colon_no_separator host (decimal port))
-    ∙ flat_map-append escaped_byte host (byte ":" ∷ decimal port)
-    ∙ ap (λ x. all_escaped host ++ x) (kept_run (byte ":" ∷ decimal port) (kept_decimal port small))
+escaped_address host port small = escaped_parts host (decimal port) ∙ ap (λ x. all_escaped host ++ byte ":" ∷ x) (kept_run (decimal port) (kept_decimal port small))
+
+-- a position in a transaction and the error there
+escaped_abort : (position : ℕ) (e : ServerError) → position < 2 ^ 64 → escaped (abort_word (position, e)) ≡ decimal position ++ byte ":" ∷ all_escaped (server_text e)
+escaped_abort position e small =
+    escaped_parts (decimal position) (server_text e) ∙ ap (λ x. x ++ byte ":" ∷ all_escaped (server_text e)) (kept_run (decimal position) (kept_decimal position small))
 
 -- a line with one more word, of which the space comes first
 pub word_added : (old line new word bytes : List ℕ) → line ≡ old ++ codes " " → new ≡ line ++ bytes → escaped word ≡ bytes → new ≡ old ++ following (word ∷ [])
@@ -124,3 +134,12 @@ address_added old space named point new host port small h k l m =
     let all : new ≡ (((old ++ codes " ") ++ all_escaped host) ++ codes ":") ++ decimal port = m ∙ ap (λ x. x ++ decimal port) (l ∙ ap (λ x. x ++ codes ":") (k ∙ ap (λ x. x ++ all_escaped host) h)) in
     let flat : (((old ++ codes " ") ++ all_escaped host) ++ codes ":") ++ decimal port ≡ (old ++ codes " ") ++ (all_escaped host ++ byte ":" ∷ decimal port) = simp append_assoc in
     word_added old (old ++ codes " ") new (address host port) (all_escaped host ++ byte ":" ∷ decimal port) refl (all ∙ flat) (escaped_address host port small)
+
+-- a position and an error that come in four
+pub abort_added : (old space named point new : List ℕ) (position : ℕ) (e : ServerError) → position < 2 ^ 64
+    → space ≡ old ++ codes " " → named ≡ space ++ decimal position → point ≡ named ++ codes ":" → new ≡ point ++ all_escaped (server_text e) → new ≡ old ++ following (abort_word (position, e) ∷ [])
+abort_added old space named point new position e small h k l m =
+    let text = all_escaped (server_text e) in
+    let all : new ≡ (((old ++ codes " ") ++ decimal position) ++ codes ":") ++ text = m ∙ ap (λ x. x ++ text) (l ∙ ap (λ x. x ++ codes ":") (k ∙ ap (λ x. x ++ decimal position) h)) in
+    let flat : (((old ++ codes " ") ++ decimal position) ++ codes ":") ++ text ≡ (old ++ codes " ") ++ (decimal position ++ byte ":" ∷ text) = simp append_assoc in
+    word_added old (old ++ codes " ") new (abort_word (position, e)) (decimal position ++ byte ":" ∷ text) refl (all ∙ flat) (escaped_abort position e small)

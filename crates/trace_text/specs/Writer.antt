@@ -1,6 +1,6 @@
 -- What a writer holds, and what was written to it.
-use Rattle.std.specs.Prelude.{◌≡◌, ℕ, List, ◌++◌}
-use Rattle.trace_text.specs.Words.{following, separated}
+use Rattle.std.specs.Prelude.{◌≡◌, ℕ, List, ◌++◌, flat_map}
+use Rattle.trace_text.specs.Words.{escaped_byte, following, separated}
 
 -- the text before this line, and the line as far as it is written
 pub record Written : Type 0 where
@@ -10,6 +10,10 @@ pub record Written : Type 0 where
 -- these bytes were added to the line
 abbrev pub Added : Written → Written → List ℕ → Type 0
 Added old new bytes = new.line ≡ old.line ++ bytes
+
+-- these bytes were added, each as itself or as its escape
+abbrev pub AddedEscaped : Written → Written → List ℕ → Type 0
+AddedEscaped old new bytes = Added old new (flat_map escaped_byte bytes)
 
 -- these words were added to the line, each after a space
 abbrev pub AddedWords : Written → Written → List (List ℕ) → Type 0

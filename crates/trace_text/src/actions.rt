@@ -1,11 +1,11 @@
-ghost use Rattle.std.specs.Prelude.{◌≡◌, ◌++◌, OnOk, OnErr, IfOk};
+ghost use Rattle.std.specs.Prelude.{◌≡◌, ◌∷◌, ◌++◌, OnOk, OnErr, IfOk};
 ghost use Rattle.trace_text.specs.Words.{following};
 ghost use Rattle.trace_text.specs.Show.{show, action_line, created_words, purpose_words};
 ghost use Rattle.trace_text.specs.Writer.{Added, AddedWords};
 
 use crate::writer::Writer;
 use containers::Bytes;
-use driver_model::{Action, Cause, Outcome, Owner, Purpose, WaitKind};
+use driver_model::{Action, Cause, Event, Outcome, Owner, Purpose, WaitKind};
 use redis_error::RedisError;
 use std::alloc::{AllocError, Global};
 use std::mem;
@@ -19,6 +19,18 @@ impl Writer {
         self.first(b"turn")?;
         self.number(u64::from(number))?;
         self.cause(cause)?;
+        self.end_line()
+    }
+
+    /// The turn of an event.
+    fn event_turn(&mut self, number: u32, event: &Event) -> Result<(), AllocError>
+        ensures before { self.new.before ≡ self.old.before }
+        ensures ok { OnOk result
+            (Added self.old self.new (action_line (Action.Turn number (Cause.Event event.now)))) }
+    {
+        self.first(b"turn")?;
+        self.number(u64::from(number))?;
+        self.drawn_event(event)?;
         self.end_line()
     }
 
@@ -126,7 +138,7 @@ impl Writer {
     }
 
     /// How an opening went.
-    fn creation(&mut self, alloc: Global, error: &Option<RedisError>) -> Result<(), AllocError>
+    fn creation(&mut self, error: &Option<RedisError>) -> Result<(), AllocError>
         ensures before { self.new.before ≡ self.old.before }
         ensures ok { OnOk result (AddedWords self.old self.new (created_words error.now)) }
     {
@@ -134,39 +146,34 @@ impl Writer {
             None => self.literal(b"ok"),
             Some(error) => {
                 self.literal(b"err")?;
-                self.error(alloc, error)
+                self.error(error)
             }
         }
     }
 
-    fn created(&mut self, alloc: Global, error: &Option<RedisError>) -> Result<(), AllocError>
+    fn created(&mut self, error: &Option<RedisError>) -> Result<(), AllocError>
         ensures before { self.new.before ≡ self.old.before }
         ensures ok { OnOk result
             (Added self.old self.new (action_line (Action.Created error.now))) }
     {
         self.first(b"created")?;
-        self.creation(alloc, error)?;
+        self.creation(error)?;
         self.end_line()
     }
 
-    fn answered(
-        &mut self,
-        alloc: Global,
-        submission: u32,
-        outcome: &Outcome,
-    ) -> Result<(), AllocError>
+    fn answered(&mut self, submission: u32, outcome: &Outcome) -> Result<(), AllocError>
         ensures before { self.new.before ≡ self.old.before }
         ensures ok { OnOk result
             (Added self.old self.new (action_line (Action.Outcome submission outcome.now))) }
     {
         self.first(b"outcome")?;
         self.submission(submission)?;
-        self.outcome(alloc, outcome)?;
+        self.outcome(outcome)?;
         self.end_line()
     }
 
     /// The line of an action.
-    fn action(&mut self, alloc: Global, action: &Action) -> Result<(), AllocError>
+    fn action(&mut self, action: &Action) -> Result<(), AllocError>
         ensures before { self.new.before ≡ self.old.before }
         ensures ok { OnOk result (Added self.old self.new (action_line action.now)) }
     {
@@ -185,23 +192,53 @@ impl Writer {
                 need,
                 len,
             } => self.start(*link, *message, *owner, *need, *len),
-            Action::Created { error } => self.created(alloc, error),
+            Action::Created { error } => self.created(error),
             Action::Outcome {
                 submission,
                 outcome,
-            } => self.answered(alloc, *submission, outcome),
+            } => self.answered(*submission, outcome),
         }
+    }
+
+    /// The lines of actions.
+    fn actions(&mut self, actions: &[Action]) -> Result<(), AllocError>
+        ensures before { self.new.before ≡ self.old.before }
+        ensures ok { OnOk result (Added self.old self.new (show actions.now)) }
+    {
+        for action in actions {
+            self.action(action)?;
+        }
+        Ok(())
+    }
+
+    /// The lines of an event's turn.
+    fn whole_turn(
+        &mut self,
+        number: u32,
+        event: &Event,
+        behind: &[Action],
+    ) -> Result<(), AllocError>
+        ensures before { self.new.before ≡ self.old.before }
+        ensures ok { OnOk result
+            (Added self.old self.new
+            (show (Action.Turn number (Cause.Event event.now) ∷ behind.now))) }
+    {
+        self.event_turn(number, event)?;
+        self.actions(behind)
     }
 }
 
-/// Appends the line of an action. An error leaves the text as it was.
-pub fn append_action(alloc: Global, out: &mut Bytes, action: &Action) -> Result<(), AllocError>
-    ensures ok { OnOk result (out.new ≡ out.old ++ action_line action.now) }
-    ensures err { OnErr result (out.new ≡ out.old) }
+/// Gives a text back: with what was written to it, or where memory was refused without that.
+fn give_back(
+    out: &mut Bytes,
+    writer: Writer,
+    written: Result<(), AllocError>,
+) -> Result<(), AllocError>
+    ensures same { result ≡ written }
+    ensures ok { OnOk result (out.new ≡ writer.before ++ writer.line) }
+    ensures err { OnErr result (out.new ≡ writer.before) }
 {
-    let text = mem::replace(out, Bytes::new(alloc));
-    let mut writer = Writer::new(text);
-    match writer.action(alloc, action) {
+    match written {
         Ok(()) => {
             *out = writer.finish();
             Ok(())
@@ -213,13 +250,67 @@ pub fn append_action(alloc: Global, out: &mut Bytes, action: &Action) -> Result<
     }
 }
 
+/// Appends the line of an action. An error leaves the text as it was.
+pub fn append_action(alloc: Global, out: &mut Bytes, action: &Action) -> Result<(), AllocError>
+    ensures ok { OnOk result (out.new ≡ out.old ++ action_line action.now) }
+    ensures err { OnErr result (out.new ≡ out.old) }
+{
+    let mut writer = Writer::new(mem::replace(out, Bytes::new(alloc)));
+    let written = writer.action(action);
+    give_back(out, writer, written)
+}
+
+/// Appends the lines of actions. An error leaves the text as it was.
+pub fn append_actions(alloc: Global, out: &mut Bytes, actions: &[Action]) -> Result<(), AllocError>
+    ensures ok { OnOk result (out.new ≡ out.old ++ show actions.now) }
+    ensures err { OnErr result (out.new ≡ out.old) }
+{
+    let mut writer = Writer::new(mem::replace(out, Bytes::new(alloc)));
+    let written = writer.actions(actions);
+    give_back(out, writer, written)
+}
+
+/// Appends the lines of an event's turn: of the action that begins it, and of those behind that. An error leaves the text
+/// as it was.
+pub fn append_turn(
+    alloc: Global,
+    out: &mut Bytes,
+    number: u32,
+    event: &Event,
+    behind: &[Action],
+) -> Result<(), AllocError>
+    ensures ok { OnOk result (
+        out.new ≡ out.old ++ show (Action.Turn number (Cause.Event event.now) ∷ behind.now)
+        ) }
+    ensures err { OnErr result (out.new ≡ out.old) }
+{
+    let mut writer = Writer::new(mem::replace(out, Bytes::new(alloc)));
+    let written = writer.whole_turn(number, event, behind);
+    give_back(out, writer, written)
+}
+
+/// Appends the line of what a submission came to. An error leaves the text as it was.
+pub fn append_outcome(
+    alloc: Global,
+    out: &mut Bytes,
+    submission: u32,
+    outcome: &Outcome,
+) -> Result<(), AllocError>
+    ensures ok { OnOk result (
+        out.new ≡ out.old ++ action_line (Action.Outcome submission outcome.now)
+        ) }
+    ensures err { OnErr result (out.new ≡ out.old) }
+{
+    let mut writer = Writer::new(mem::replace(out, Bytes::new(alloc)));
+    let written = writer.answered(submission, outcome);
+    give_back(out, writer, written)
+}
+
 /// The text of a trace.
 pub fn show(alloc: Global, actions: &[Action]) -> Result<Bytes, AllocError>
     ensures { IfOk result (λ text. text ≡ show actions.now) }
 {
     let mut text = Bytes::new(alloc);
-    for action in actions {
-        append_action(alloc, &mut text, action)?;
-    }
+    append_actions(alloc, &mut text, actions)?;
     Ok(text)
 }

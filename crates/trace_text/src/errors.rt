@@ -1,32 +1,17 @@
 ghost use Rattle.std.specs.Prelude.{◌≡◌, ◌++◌, ◌∷◌, [], OnOk, map, decimal, true};
 ghost use Rattle.trace_text.specs.Plain.{is_literal};
 ghost use Rattle.trace_text.specs.Words.{following};
-ghost use Rattle.trace_text.specs.Errors.{abort_word, error_words, server_text};
+ghost use Rattle.trace_text.specs.Errors.{abort_word, error_words};
 ghost use Rattle.trace_text.specs.Writer.{AddedWords};
 
 use crate::writer::Writer;
-use containers::Bytes;
-use itoa::Buffer;
 use redis_error::RedisError;
 use resp_value::{ServerError, Value};
-use resp_write::canonical_text;
-use std::alloc::{AllocError, Global};
-
-/// A server's error behind a text.
-fn append_server_text(text: &mut Bytes, error: &ServerError) -> Result<(), AllocError>
-    ensures { OnOk result (text.new ≡ text.old ++ server_text error.now) }
-{
-    text.extend_from_slice(error.code.as_slice())?;
-    if let Some(detail) = &error.detail {
-        text.push(b' ')?;
-        text.extend_from_slice(detail.as_slice())?;
-    }
-    Ok(())
-}
+use std::alloc::AllocError;
 
 impl Writer {
     /// The words of why there is no reply.
-    pub fn error(&mut self, alloc: Global, error: &RedisError) -> Result<(), AllocError>
+    pub fn error(&mut self, error: &RedisError) -> Result<(), AllocError>
         ensures before { self.new.before ≡ self.old.before }
         ensures ok { OnOk result (AddedWords self.old self.new (error_words error.now)) }
     {
@@ -39,10 +24,10 @@ impl Writer {
             RedisError::Io { fault } => self.word_and(b"io", fault.name().as_bytes()),
             RedisError::CreateFailed { last } => self.word_and(b"create-failed", last.as_slice()),
             RedisError::Parse => self.literal(b"parse"),
-            RedisError::Convert { value } => self.convert(alloc, value),
+            RedisError::Convert { value } => self.convert(value),
             RedisError::NotFound => self.literal(b"not-found"),
             RedisError::Server(error) => self.server(error),
-            RedisError::Aborted { errors } => self.aborted(alloc, errors.as_slice()),
+            RedisError::Aborted { errors } => self.aborted(errors.as_slice()),
             RedisError::AuthFailed { text } => self.word_and(b"auth-failed", text.as_slice()),
             RedisError::Credentials { text } => self.word_and(b"creds", text.as_slice()),
             RedisError::CrossSlot { first, second } => self.cross_slot(*first, *second),
@@ -64,13 +49,13 @@ impl Writer {
         self.word(next)
     }
 
-    fn convert(&mut self, alloc: Global, value: &Value) -> Result<(), AllocError>
+    fn convert(&mut self, value: &Value) -> Result<(), AllocError>
         ensures before { self.new.before ≡ self.old.before }
         ensures ok { OnOk result
             (AddedWords self.old self.new (error_words (RedisError.Convert value.now))) }
     {
-        let text = canonical_text(alloc, value)?;
-        self.word_and(b"convert", text.as_slice())
+        self.literal(b"convert")?;
+        self.value_word(value)
     }
 
     fn server(&mut self, error: &ServerError) -> Result<(), AllocError>
@@ -96,33 +81,32 @@ impl Writer {
     }
 
     /// One more word: a position in a transaction and the server's error there.
-    fn abort(&mut self, alloc: Global, position: u32, error: &ServerError) -> Result<(), AllocError>
+    fn abort(&mut self, position: u32, error: &ServerError) -> Result<(), AllocError>
         ensures before { self.new.before ≡ self.old.before }
         ensures ok { OnOk result
             (AddedWords self.old self.new (abort_word (position, error.now) ∷ [])) }
     {
-        let mut digits = Buffer::new();
-        let mut word = Bytes::from_slice(alloc, digits.format(position).as_bytes())?;
-        word.push(b':')?;
-        append_server_text(&mut word, error)?;
-        self.word(word.as_slice())
+        self.push(b" ")?;
+        self.digits(u64::from(position))?;
+        self.push(b":")?;
+        self.server_text(error)
     }
 
-    fn aborted(&mut self, alloc: Global, errors: &[(u32, ServerError)]) -> Result<(), AllocError>
+    fn aborted(&mut self, errors: &[(u32, ServerError)]) -> Result<(), AllocError>
         ensures before { self.new.before ≡ self.old.before }
         ensures ok { OnOk result
             (AddedWords self.old self.new (error_words (RedisError.Aborted errors.now))) }
     {
         self.literal(b"aborted")?;
-        self.aborts(alloc, errors)
+        self.aborts(errors)
     }
 
-    fn aborts(&mut self, alloc: Global, errors: &[(u32, ServerError)]) -> Result<(), AllocError>
+    fn aborts(&mut self, errors: &[(u32, ServerError)]) -> Result<(), AllocError>
         ensures before { self.new.before ≡ self.old.before }
         ensures ok { OnOk result (AddedWords self.old self.new (map abort_word errors.now)) }
     {
         for item in errors {
-            self.abort(alloc, item.0, &item.1)?;
+            self.abort(item.0, &item.1)?;
         }
         Ok(())
     }

@@ -4,11 +4,13 @@
 mod actions;
 mod causes;
 mod errors;
+mod lines;
 mod names;
 mod outcomes;
 mod scripts;
+mod values;
 mod words;
 mod writer;
 
-pub use actions::{append_action, show};
+pub use actions::{append_action, append_actions, append_outcome, append_turn, show};
 pub use scripts::{append_config, append_event};

@@ -1,9 +1,9 @@
-ghost use Rattle.std.specs.Prelude.{◌≡◌, ◌∷◌, ◌++◌, [], OnOk, codes, decimal, flat_map, true};
+ghost use Rattle.std.specs.Prelude.{◌≡◌, ◌∷◌, ◌++◌, [], OnOk, codes, decimal, true};
 ghost use Rattle.std.specs.Str.{byte};
 ghost use Rattle.percent_encoding.specs.Percent as percent;
 ghost use Rattle.trace_text.specs.Plain.{is_literal};
-ghost use Rattle.trace_text.specs.Words.{escaped, escaped_byte, following, is_plain, is_separator};
-ghost use Rattle.trace_text.specs.Writer.{Added, AddedWords};
+ghost use Rattle.trace_text.specs.Words.{escaped, following, is_plain, is_separator};
+ghost use Rattle.trace_text.specs.Writer.{Added, AddedEscaped, AddedWords};
 
 use crate::writer::Writer;
 use itoa::Buffer;
@@ -38,7 +38,7 @@ impl Writer {
     /// Bytes of a word, each as itself or as its escape.
     pub fn escaped_bytes(&mut self, bytes: &[u8]) -> Result<(), AllocError>
         ensures before { self.new.before ≡ self.old.before }
-        ensures ok { OnOk result (Added self.old self.new (flat_map escaped_byte bytes.now)) }
+        ensures ok { OnOk result (AddedEscaped self.old self.new bytes.now) }
     {
         let mut start = 0;
         for (i, byte) in bytes.iter().enumerate() {
