@@ -1,12 +1,12 @@
 -- What a text of plain bytes and escapes stands for, read from one `%` to the next.
-use Rattle.std.proofs.Common.{◌≡◌, ℕ, ◌+◌, ◌*◌, ◌<◌, ◌≤◌, ◌==◌, not, ◌&&◌, ◌||◌, true, false, List, [], ◌∷◌, ◌++◌, length, get_or, drop, Option, Some, None, option_map, refl, sym, ap, ◌∙◌, subst, append_assoc, if◌then◌else◌, arith}
+use Rattle.std.proofs.Common.{◌≡◌, ℕ, ◌+◌, ◌*◌, ◌<◌, ◌≤◌, ◌==◌, not, ◌&&◌, ◌||◌, true, false, List, [], ◌∷◌, ◌++◌, length, get_or, drop, Option, Some, None, option_map, refl, sym, ap, ◌∙◌, subst, append_assoc, bytes_eq, codes, if◌then◌else◌, arith}
 use Rattle.std.specs.Char.{digit_value, is_digit}
 use Rattle.std.proofs.lemmas.Bool.{and_from, lt-ltb, eqb-true, eqb-false}
 use Rattle.std.proofs.lemmas.Bool.Decides.{nat_tests}
 use Rattle.percent_encoding.specs.Percent.{percent_decode}
 use Rattle.percent_encoding.proofs.PercentLemmas.{percent_decode-nil, percent_decode_escape, percent_decode_not_percent}
 use Rattle.containers.proofs.Choices.{chosen, taken_if, left_if}
-use Rattle.script_text.specs.Words.{begins_with_hex, is_well_escaped, cut_at}
+use Rattle.script_text.specs.Words.{begins_with_hex, is_well_escaped, unescaped, cut_at}
 
 -- what a cut at the first `%` says of a text
 abbrev CutWell : List ℕ → Option (List ℕ × List ℕ) → Type 0
@@ -93,3 +93,11 @@ read_some text bytes h = ap Some (sym h.1) ∙ sym (taken_if (is_well_escaped te
 
 pub read_none : (text : List ℕ) → is_well_escaped text ≡ false → ◌≡◌ {A = Option (List ℕ)} None (if is_well_escaped text then Some (percent_decode text) else None)
 read_none text h = sym (left_if (is_well_escaped text) (Some (percent_decode text)) None h)
+
+-- a part with no `%` stands for itself, if it has a byte
+pub plain_part : (raw : List ℕ) → (length raw == 0) ≡ false → bytes_eq raw (codes "%-") ≡ false → cut_at 37 raw ≡ None → Some raw ≡ unescaped raw
+unfolding unescaped
+plain_part [] some other none = cc
+plain_part (x ∷ xs) some other none =
+    read_some (x ∷ xs) (x ∷ xs) (no_percent (x ∷ xs) none)
+    ∙ sym (left_if (bytes_eq (x ∷ xs) (codes "%-")) (Some []) (if is_well_escaped (x ∷ xs) then Some (percent_decode (x ∷ xs)) else None) other)

@@ -3,6 +3,7 @@ pub mod Cursor
 pub mod Draws
 pub mod EventLine
 pub mod Faults
+pub mod Held
 pub mod Limits
 pub mod Lines
 pub mod Numbers

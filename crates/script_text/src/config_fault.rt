@@ -15,14 +15,15 @@ use crate::draw::{draw_fault, drawn, fault_behind};
 use crate::fault::Fault;
 use crate::line::Line;
 use crate::reason::{ConfigReason, LineReason, Reason};
+use crate::word::Word;
 use crate::words::cut;
-use containers::{Bytes, Names};
+use containers::Seq;
 
 /// Before the settings stand the words `config single`.
 const BEFORE: usize = 2;
 
 /// What is wrong with the first word that is no KEY=VALUE with a key that there is.
-fn setting_fault(words: &[Bytes]) -> Option<Fault>
+fn setting_fault(words: &[Word<'_>]) -> Option<Fault>
     ensures { is_some result ≡ not (list_all (is_setting keys) words.now) }
 {
     for (index, word) in words.iter().enumerate() {
@@ -41,7 +42,7 @@ fn setting_fault(words: &[Bytes]) -> Option<Fault>
 }
 
 /// The last of the words that gives the key a value, or how many words there are.
-fn last_index(words: &[Bytes], key: &[u8]) -> usize {
+fn last_index(words: &[Word<'_>], key: &[u8]) -> usize {
     let mut last = words.len();
     for (index, word) in words.iter().enumerate() {
         if value(word.as_slice(), key).is_some() {
@@ -52,7 +53,7 @@ fn last_index(words: &[Bytes], key: &[u8]) -> usize {
 }
 
 /// What is wrong with the values that words give a key, where they don't give it just the right one.
-fn wrong_values(words: &[Bytes], key: &[u8], wrong: Reason) -> Reason
+fn wrong_values(words: &[Word<'_>], key: &[u8], wrong: Reason) -> Reason
     ensures { result ≡ values_reason (values key.now words.now) wrong }
 {
     if only_value(words, key).is_some() {
@@ -66,7 +67,7 @@ fn wrong_values(words: &[Bytes], key: &[u8], wrong: Reason) -> Reason
 }
 
 /// The fault of a key that words don't give just the right value.
-fn values_fault(words: &[Bytes], key: &[u8], wrong: Reason) -> Fault
+fn values_fault(words: &[Word<'_>], key: &[u8], wrong: Reason) -> Fault
     ensures { result.reason ≡ values_reason (values key.now words.now) wrong }
 {
     Fault {
@@ -76,7 +77,7 @@ fn values_fault(words: &[Bytes], key: &[u8], wrong: Reason) -> Fault
 }
 
 /// What is wrong with what is said of the library.
-fn lib_fault(words: &[Bytes]) -> Option<Fault>
+fn lib_fault(words: &[Word<'_>]) -> Option<Fault>
     ensures { is_some result ≡ not (allows switch (values (codes "lib") words.now)) }
 {
     if allows_lib(words) {
@@ -86,7 +87,7 @@ fn lib_fault(words: &[Bytes]) -> Option<Fault>
 }
 
 /// What is wrong with the time of a key.
-fn time_fault(words: &[Bytes], key: &[u8], reason: ConfigReason) -> Option<Fault>
+fn time_fault(words: &[Word<'_>], key: &[u8], reason: ConfigReason) -> Option<Fault>
     ensures { is_some result ≡ not (allows time_limit (values key.now words.now)) }
 {
     if allows_time(words, key) {
@@ -96,7 +97,7 @@ fn time_fault(words: &[Bytes], key: &[u8], reason: ConfigReason) -> Option<Fault
 }
 
 /// What is wrong with the number of 32 bits of a key.
-fn number_fault(words: &[Bytes], key: &[u8], reason: ConfigReason) -> Option<Fault>
+fn number_fault(words: &[Word<'_>], key: &[u8], reason: ConfigReason) -> Option<Fault>
     ensures { is_some result ≡ not (allows (number max_u32) (values key.now words.now)) }
 {
     if allows_number(words, key) {
@@ -106,7 +107,7 @@ fn number_fault(words: &[Bytes], key: &[u8], reason: ConfigReason) -> Option<Fau
 }
 
 /// What is wrong with the boundary.
-fn boundary_fault(words: &[Bytes]) -> Option<Fault>
+fn boundary_fault(words: &[Word<'_>]) -> Option<Fault>
     ensures { is_some result ≡ not (allows (number max_u64) (values (codes "boundary") words.now)) }
 {
     if allows_large_number(words, b"boundary") {
@@ -117,7 +118,7 @@ fn boundary_fault(words: &[Bytes]) -> Option<Fault>
 }
 
 /// What is wrong with what is given of the times.
-fn times_fault(words: &[Bytes]) -> Option<Fault>
+fn times_fault(words: &[Word<'_>]) -> Option<Fault>
     ensures { is_some result ≡ not (allows_times words.now) }
 {
     if let Some(fault) = time_fault(words, b"connect", ConfigReason::Connect) {
@@ -127,7 +128,7 @@ fn times_fault(words: &[Bytes]) -> Option<Fault>
 }
 
 /// What is wrong with what is given of the queue.
-fn queue_fault(words: &[Bytes]) -> Option<Fault>
+fn queue_fault(words: &[Word<'_>]) -> Option<Fault>
     ensures { is_some result ≡ not (allows_queue words.now) }
 {
     if let Some(fault) = number_fault(words, b"buffer", ConfigReason::Buffer) {
@@ -137,7 +138,7 @@ fn queue_fault(words: &[Bytes]) -> Option<Fault>
 }
 
 /// What is wrong with how many permits there are, or with what is given of the queue.
-fn numbers_fault(words: &[Bytes]) -> Option<Fault>
+fn numbers_fault(words: &[Word<'_>]) -> Option<Fault>
     ensures { is_some result ≡ not (allows_numbers words.now) }
 {
     if let Some(fault) = number_fault(words, b"limit", ConfigReason::Limit) {
@@ -148,7 +149,7 @@ fn numbers_fault(words: &[Bytes]) -> Option<Fault>
 
 /// What is wrong with what is given of the times and of the numbers.
 #[tactic(auto, using(crate::proofs::Values::first_fails, crate::proofs::Values::second_tells))]
-fn optional_fault(words: &[Bytes]) -> Option<Fault>
+fn optional_fault(words: &[Word<'_>]) -> Option<Fault>
     ensures { is_some result ≡ not (allows_optional words.now) }
 {
     if let Some(fault) = times_fault(words) {
@@ -159,7 +160,7 @@ fn optional_fault(words: &[Bytes]) -> Option<Fault>
 
 /// What is wrong with a setting other than the URL.
 #[tactic(auto, using(crate::proofs::Values::first_fails, crate::proofs::Values::second_tells))]
-fn allowed_fault(words: &[Bytes]) -> Option<Fault>
+fn allowed_fault(words: &[Word<'_>]) -> Option<Fault>
     ensures { is_some result ≡ not (are_allowed words.now) }
 {
     if let Some(fault) = optional_fault(words) {
@@ -169,7 +170,7 @@ fn allowed_fault(words: &[Bytes]) -> Option<Fault>
 }
 
 /// What is wrong with the URL: that it doesn't stand just once. Whether it is an address is no matter of the script.
-fn url_fault(words: &[Bytes]) -> Option<Fault>
+fn url_fault(words: &[Word<'_>]) -> Option<Fault>
     ensures { is_some result ≡ is_none (only (values (codes "url") words.now)) }
 {
     if only_value(words, b"url").is_some() {
@@ -181,7 +182,7 @@ fn url_fault(words: &[Bytes]) -> Option<Fault>
 
 /// What is wrong with the settings of one connection.
 #[tactic(auto, using(crate::proofs::Values::both_told, crate::proofs::Values::none_allowed))]
-fn single_fault(words: &[Bytes]) -> Option<Fault>
+fn single_fault(words: &[Word<'_>]) -> Option<Fault>
     ensures { FindsFault result (single words.now) }
 {
     if let Some(fault) = setting_fault(words) {
@@ -195,7 +196,7 @@ fn single_fault(words: &[Bytes]) -> Option<Fault>
 
 /// What is wrong with words, and those behind separators, as a configuration.
 #[tactic(auto, unfolding(crate::specs::ConfigLine::config_of))]
-fn config_fault(words: &[Bytes], more: &[Names]) -> Option<Fault>
+fn config_fault(words: &[Word<'_>], more: &[Seq<Word<'_>>]) -> Option<Fault>
     ensures { FindsFault result (config_of (record { words = words.now; more = more.now })) }
 {
     let name = Fault {
@@ -228,12 +229,11 @@ fn config_fault(words: &[Bytes], more: &[Names]) -> Option<Fault>
 }
 
 /// What is wrong with the words of a line as a configuration behind the word of its draws.
-pub fn opening_fault(line: &Line) -> Option<Fault>
+pub fn opening_fault(line: &Line<'_>) -> Option<Fault>
     ensures { FindsFault result (opening_of line.now) }
 {
-    let Some((_, words)) = drawn(line.words()) else {
+    let Some((_, before)) = drawn(line.words()) else {
         return draw_fault();
     };
-    let before = line.words().len().saturating_sub(words.len());
-    fault_behind(config_fault(words, line.more()), before)
+    fault_behind(config_fault(&line.words()[before..], line.more()), before)
 }

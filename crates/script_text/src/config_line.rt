@@ -10,8 +10,9 @@ ghost use Rattle.script_text.specs.Numbers.{number, max_u32, max_u64, time_limit
 use crate::draw::drawn;
 use crate::line::Line;
 use crate::number::{number_u32, number_u64, switch, time_limit};
+use crate::word::Word;
 use crate::words::cut;
-use containers::{Bytes, Names};
+use containers::{Bytes, Seq};
 use driver_model::Config;
 use std::alloc::{AllocError, Global};
 
@@ -31,7 +32,7 @@ pub fn is_known_setting(word: &[u8]) -> bool
     }
 }
 
-fn are_settings(words: &[Bytes]) -> bool
+fn are_settings(words: &[Word<'_>]) -> bool
     ensures { result ≡ list_all (is_setting keys) words.now }
 {
     for word in words {
@@ -54,7 +55,7 @@ pub fn value<'a>(word: &'a [u8], key: &[u8]) -> Option<&'a [u8]>
 }
 
 /// The only value that words give the key.
-pub fn only_value<'a>(words: &'a [Bytes], key: &[u8]) -> Option<&'a [u8]>
+pub fn only_value<'a>(words: &'a [Word<'_>], key: &[u8]) -> Option<&'a [u8]>
     ensures { MatchOption result (only (values key.now words.now) ≡ None)
         (λ v. only (values key.now words.now) ≡ Some v.now) }
 {
@@ -71,7 +72,7 @@ pub fn only_value<'a>(words: &'a [Bytes], key: &[u8]) -> Option<&'a [u8]>
 }
 
 /// Whether words give the key some value.
-pub fn has_value(words: &[Bytes], key: &[u8]) -> bool
+pub fn has_value(words: &[Word<'_>], key: &[u8]) -> bool
     ensures { result ≡ (not (length (values key.now words.now) == 0)) }
 {
     for word in words {
@@ -83,28 +84,28 @@ pub fn has_value(words: &[Bytes], key: &[u8]) -> bool
 }
 
 /// The time that words give the key, where they give it just one value.
-fn time_of(words: &[Bytes], key: &[u8]) -> Option<Option<u64>>
+fn time_of(words: &[Word<'_>], key: &[u8]) -> Option<Option<u64>>
     ensures { result ≡ given time_limit (values key.now words.now) }
 {
     time_limit(only_value(words, key)?)
 }
 
 /// The number of 32 bits that words give the key, where they give it just one value.
-fn number_of(words: &[Bytes], key: &[u8]) -> Option<u32>
+fn number_of(words: &[Word<'_>], key: &[u8]) -> Option<u32>
     ensures { result ≡ given (number max_u32) (values key.now words.now) }
 {
     number_u32(only_value(words, key)?)
 }
 
 /// The number of 64 bits that words give the key, where they give it just one value.
-fn large_number_of(words: &[Bytes], key: &[u8]) -> Option<u64>
+fn large_number_of(words: &[Word<'_>], key: &[u8]) -> Option<u64>
     ensures { result ≡ given (number max_u64) (values key.now words.now) }
 {
     number_u64(only_value(words, key)?)
 }
 
 /// Whether the server is told which library speaks, where words say so once.
-fn lib_of(words: &[Bytes]) -> Option<bool>
+fn lib_of(words: &[Word<'_>]) -> Option<bool>
     ensures { result ≡ given switch (values (codes "lib") words.now) }
 {
     switch(only_value(words, b"lib")?)
@@ -112,7 +113,7 @@ fn lib_of(words: &[Bytes]) -> Option<bool>
 
 /// Whether words leave the time of the key open, or give it once.
 #[tactic(auto, using(crate::proofs::Values::allowed_once, crate::proofs::Values::allowed_never))]
-pub fn allows_time(words: &[Bytes], key: &[u8]) -> bool
+pub fn allows_time(words: &[Word<'_>], key: &[u8]) -> bool
     ensures { result ≡ allows time_limit (values key.now words.now) }
 {
     match only_value(words, key) {
@@ -123,7 +124,7 @@ pub fn allows_time(words: &[Bytes], key: &[u8]) -> bool
 
 /// Whether words leave the number of 32 bits of the key open, or give it once.
 #[tactic(auto, using(crate::proofs::Values::allowed_once, crate::proofs::Values::allowed_never))]
-pub fn allows_number(words: &[Bytes], key: &[u8]) -> bool
+pub fn allows_number(words: &[Word<'_>], key: &[u8]) -> bool
     ensures { result ≡ allows (number max_u32) (values key.now words.now) }
 {
     match only_value(words, key) {
@@ -134,7 +135,7 @@ pub fn allows_number(words: &[Bytes], key: &[u8]) -> bool
 
 /// Whether words leave the number of 64 bits of the key open, or give it once.
 #[tactic(auto, using(crate::proofs::Values::allowed_once, crate::proofs::Values::allowed_never))]
-pub fn allows_large_number(words: &[Bytes], key: &[u8]) -> bool
+pub fn allows_large_number(words: &[Word<'_>], key: &[u8]) -> bool
     ensures { result ≡ allows (number max_u64) (values key.now words.now) }
 {
     match only_value(words, key) {
@@ -145,7 +146,7 @@ pub fn allows_large_number(words: &[Bytes], key: &[u8]) -> bool
 
 /// Whether words leave open whether the server is told which library speaks, or say it once.
 #[tactic(auto, using(crate::proofs::Values::allowed_once, crate::proofs::Values::allowed_never))]
-pub fn allows_lib(words: &[Bytes]) -> bool
+pub fn allows_lib(words: &[Word<'_>]) -> bool
     ensures { result ≡ allows switch (values (codes "lib") words.now) }
 {
     match only_value(words, b"lib") {
@@ -155,42 +156,42 @@ pub fn allows_lib(words: &[Bytes]) -> bool
 }
 
 /// Whether words leave the times open, or give each once.
-fn allows_times(words: &[Bytes]) -> bool
+fn allows_times(words: &[Word<'_>]) -> bool
     ensures { result ≡ allows_times words.now }
 {
     allows_time(words, b"connect") && allows_time(words, b"response")
 }
 
 /// Whether words leave open what there is of the queue, or give it once.
-fn allows_queue(words: &[Bytes]) -> bool
+fn allows_queue(words: &[Word<'_>]) -> bool
     ensures { result ≡ allows_queue words.now }
 {
     allows_number(words, b"buffer") && allows_large_number(words, b"boundary")
 }
 
 /// Whether words leave open how many permits there are and what there is of the queue, or give it once.
-fn allows_numbers(words: &[Bytes]) -> bool
+fn allows_numbers(words: &[Word<'_>]) -> bool
     ensures { result ≡ allows_numbers words.now }
 {
     allows_number(words, b"limit") && allows_queue(words)
 }
 
 /// Whether words leave the times and the numbers open, or give each once.
-fn allows_optional(words: &[Bytes]) -> bool
+fn allows_optional(words: &[Word<'_>]) -> bool
     ensures { result ≡ allows_optional words.now }
 {
     allows_times(words) && allows_numbers(words)
 }
 
 /// Whether all settings but the URL are allowed.
-fn are_allowed(words: &[Bytes]) -> bool
+fn are_allowed(words: &[Word<'_>]) -> bool
     ensures { result ≡ are_allowed words.now }
 {
     allows_optional(words) && allows_lib(words)
 }
 
 /// The configuration with this URL, and with what words give it beside that.
-fn config_with(words: &[Bytes], url: Bytes) -> Config
+fn config_with(words: &[Word<'_>], url: Bytes) -> Config
     ensures { result ≡ config_with words.now url }
 {
     Config {
@@ -205,7 +206,7 @@ fn config_with(words: &[Bytes], url: Bytes) -> Config
 }
 
 /// One connection.
-fn read_single(alloc: Global, words: &[Bytes]) -> Result<Option<Config>, AllocError>
+fn read_single(alloc: Global, words: &[Word<'_>]) -> Result<Option<Config>, AllocError>
     ensures { IfOk result (λ c. c ≡ single words.now) }
 {
     if !are_settings(words) || !are_allowed(words) {
@@ -220,7 +221,11 @@ fn read_single(alloc: Global, words: &[Bytes]) -> Result<Option<Config>, AllocEr
 
 /// The configuration that words are, and those behind separators.
 #[tactic(auto, unfolding(crate::specs::ConfigLine::config_of))]
-pub fn config(alloc: Global, words: &[Bytes], more: &[Names]) -> Result<Option<Config>, AllocError>
+pub fn config(
+    alloc: Global,
+    words: &[Word<'_>],
+    more: &[Seq<Word<'_>>],
+) -> Result<Option<Config>, AllocError>
     ensures { IfOk result (λ c. c ≡ config_of (record { words = words.now; more = more.now })) }
 {
     let ([name, kind, settings @ ..], []) = (words, more) else {
@@ -233,13 +238,13 @@ pub fn config(alloc: Global, words: &[Bytes], more: &[Names]) -> Result<Option<C
 }
 
 /// The configuration that the words of a line are, and the word of its draws.
-pub fn opening(alloc: Global, line: &Line) -> Result<Option<(Config, u64)>, AllocError>
+pub fn opening(alloc: Global, line: &Line<'_>) -> Result<Option<(Config, u64)>, AllocError>
     ensures { IfOk result (λ o. o ≡ opening_of line.now) }
 {
-    let Some((word, words)) = drawn(line.words()) else {
+    let Some((word, before)) = drawn(line.words()) else {
         return Ok(None);
     };
-    match config(alloc, words, line.more())? {
+    match config(alloc, &line.words()[before..], line.more())? {
         Some(config) => Ok(Some((config, word))),
         None => Ok(None),
     }

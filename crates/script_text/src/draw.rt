@@ -1,10 +1,10 @@
-ghost use Rattle.std.specs.Prelude.{◌≡◌, MatchOption, Some, None, is_some, drop, true, false};
+ghost use Rattle.std.specs.Prelude.{◌≡◌, ◌≤◌, MatchOption, IfSome, Some, None, is_some, length, drop, true, false};
 ghost use Rattle.script_text.specs.Draws.{is_draw, drawn};
 
 use crate::fault::Fault;
 use crate::number::number_u64;
 use crate::reason::{LineReason, Reason};
-use containers::Bytes;
+use crate::word::Word;
 
 /// What stands behind the `@` of a word, if it begins so.
 pub fn behind_at(word: &[u8]) -> Option<&[u8]>
@@ -17,19 +17,20 @@ pub fn behind_at(word: &[u8]) -> Option<&[u8]>
     }
 }
 
-/// The words of a line behind that of its draws, which is 0 where no `@` says it.
-pub fn drawn(words: &[Bytes]) -> Option<(u64, &[Bytes])>
-    ensures { MatchOption result (drawn words.now ≡ None)
-        (λ d. drawn words.now ≡ Some (d.0, d.1.now)) }
+/// The word of the draws that words begin with, which is 0 where no `@` says it, and how many of the words say it.
+pub fn drawn(words: &[Word<'_>]) -> Option<(u64, usize)>
+    ensures read { MatchOption result (drawn words.now ≡ None)
+        (λ d. drawn words.now ≡ Some (d.0, drop d.1 words.now)) }
+    ensures fits { IfSome result (λ d. d.1 ≤ length words.now) }
 {
-    let [first, rest @ ..] = words else {
-        return Some((0, words));
+    let [first, ..] = words else {
+        return Some((0, 0));
     };
     let Some(digits) = behind_at(first.as_slice()) else {
-        return Some((0, words));
+        return Some((0, 0));
     };
     let word = number_u64(digits)?;
-    Some((word, rest))
+    Some((word, 1))
 }
 
 /// No number stands behind `@`.

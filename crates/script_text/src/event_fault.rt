@@ -13,7 +13,8 @@ use crate::fault::{Fault, large_number_at, number_at};
 use crate::line::Line;
 use crate::number::time_limit;
 use crate::reason::{EventReason, Form, LineReason, Reason};
-use containers::{Bytes, Names};
+use crate::word::Word;
+use containers::Seq;
 use redis_error::FaultKind;
 
 /// The kind of a fault that a part is, or its own fault.
@@ -42,7 +43,7 @@ fn form_fault(form: Form, part: usize) -> Option<Fault>
 }
 
 /// What is wrong with the one number of an event.
-fn numbered_fault(words: &[Bytes], form: Form) -> Option<Fault>
+fn numbered_fault(words: &[Word<'_>], form: Form) -> Option<Fault>
     ensures { (f : ℕ → EventKind) → FindsFault result (numbered f words.now) }
 {
     match words {
@@ -51,7 +52,7 @@ fn numbered_fault(words: &[Bytes], form: Form) -> Option<Fault>
     }
 }
 
-fn wrote_fault(words: &[Bytes]) -> Option<Fault>
+fn wrote_fault(words: &[Word<'_>]) -> Option<Fault>
     ensures { FindsFault result (wrote words.now) }
 {
     let [link, count] = words else {
@@ -63,7 +64,7 @@ fn wrote_fault(words: &[Bytes]) -> Option<Fault>
     }
 }
 
-fn came_fault(words: &[Bytes]) -> Option<Fault>
+fn came_fault(words: &[Word<'_>]) -> Option<Fault>
     ensures { FindsFault result (came words.now) }
 {
     match words {
@@ -73,7 +74,7 @@ fn came_fault(words: &[Bytes]) -> Option<Fault>
 }
 
 /// What is wrong with the link and the kind of a fault.
-fn failed_fault(words: &[Bytes], form: Form) -> Option<Fault>
+fn failed_fault(words: &[Word<'_>], form: Form) -> Option<Fault>
     ensures { (f : ℕ → FaultKind → EventKind) → FindsFault result (failed f words.now) }
 {
     let [link, kind] = words else {
@@ -86,7 +87,7 @@ fn failed_fault(words: &[Bytes], form: Form) -> Option<Fault>
 }
 
 /// What is wrong with the one time of an event.
-fn timeout_fault(words: &[Bytes]) -> Option<Fault>
+fn timeout_fault(words: &[Word<'_>]) -> Option<Fault>
     ensures { FindsFault result (timed words.now) }
 {
     let [value] = words else {
@@ -101,7 +102,7 @@ fn timeout_fault(words: &[Bytes]) -> Option<Fault>
     })
 }
 
-fn shutdown_fault(words: &[Bytes]) -> Option<Fault>
+fn shutdown_fault(words: &[Word<'_>]) -> Option<Fault>
     ensures { (kind : EventKind) → FindsFault result (alone kind words.now) }
 {
     match words {
@@ -110,7 +111,7 @@ fn shutdown_fault(words: &[Bytes]) -> Option<Fault>
     }
 }
 
-fn packed_fault(words: &[Bytes]) -> Option<Fault>
+fn packed_fault(words: &[Word<'_>]) -> Option<Fault>
     ensures { (more : List (List (List ℕ))) → FindsFault result (packed words.now more) }
 {
     let [offset, count, ..] = words else {
@@ -123,7 +124,7 @@ fn packed_fault(words: &[Bytes]) -> Option<Fault>
 }
 
 /// The first separator, where there is one.
-fn separator_fault(more: &[Names], part: usize) -> Option<Fault>
+fn separator_fault(more: &[Seq<Word<'_>>], part: usize) -> Option<Fault>
     ensures none { more.now ≡ [] → result ≡ None }
     ensures some { 1 ≤ length more.now
         → result ≡ Some (at (Reason.Line LineReason.Separator) part) }
@@ -137,7 +138,7 @@ fn separator_fault(more: &[Names], part: usize) -> Option<Fault>
     }
 }
 
-fn submission_fault(words: &[Bytes], more: &[Names]) -> Option<Fault>
+fn submission_fault(words: &[Word<'_>], more: &[Seq<Word<'_>>]) -> Option<Fault>
     ensures { FindsFault result (by_first submissions words.now more.now) }
 {
     let unknown = Fault {
@@ -162,7 +163,7 @@ fn submission_fault(words: &[Bytes], more: &[Names]) -> Option<Fault>
 
 /// What is wrong with an event besides submissions, by the name and the words behind it.
 #[tactic(auto, unfolding(crate::specs::EventLine::others))]
-fn other_fault(name: &[u8], words: &[Bytes]) -> Option<Fault>
+fn other_fault(name: &[u8], words: &[Word<'_>]) -> Option<Fault>
     ensures { FindsFault result (by_first others (name.now ∷ words.now) []) }
 {
     if name == b"cancel".as_slice() {
@@ -206,7 +207,7 @@ fn other_fault(name: &[u8], words: &[Bytes]) -> Option<Fault>
 
 /// What is wrong with an event, by its first word, the words behind it and those behind separators.
 #[tactic(auto, using(crate::proofs::Faults::finds_submit, crate::proofs::Faults::finds_other, crate::proofs::Faults::finds_separator))]
-fn named_fault(name: &[u8], words: &[Bytes], more: &[Names]) -> Option<Fault>
+fn named_fault(name: &[u8], words: &[Word<'_>], more: &[Seq<Word<'_>>]) -> Option<Fault>
     ensures { FindsFault result (by_first events (name.now ∷ words.now) more.now) }
 {
     if name == b"submit".as_slice() {
@@ -219,7 +220,7 @@ fn named_fault(name: &[u8], words: &[Bytes], more: &[Names]) -> Option<Fault>
 }
 
 /// What is wrong with words, and those behind separators, as what happens.
-fn happening_fault(words: &[Bytes], more: &[Names]) -> Option<Fault>
+fn happening_fault(words: &[Word<'_>], more: &[Seq<Word<'_>>]) -> Option<Fault>
     ensures { FindsFault result (by_first events words.now more.now) }
 {
     match words {
@@ -233,12 +234,14 @@ fn happening_fault(words: &[Bytes], more: &[Names]) -> Option<Fault>
 
 /// What is wrong with the words of a line as an event behind the word of its draws.
 #[tactic(auto, unfolding(crate::specs::EventLine::event_of))]
-pub fn event_fault(line: &Line) -> Option<Fault>
+pub fn event_fault(line: &Line<'_>) -> Option<Fault>
     ensures { FindsFault result (event_of line.now) }
 {
-    let Some((_, words)) = drawn(line.words()) else {
+    let Some((_, before)) = drawn(line.words()) else {
         return draw_fault();
     };
-    let before = line.words().len().saturating_sub(words.len());
-    fault_behind(happening_fault(words, line.more()), before)
+    fault_behind(
+        happening_fault(&line.words()[before..], line.more()),
+        before,
+    )
 }

@@ -1,4 +1,4 @@
-ghost use Rattle.std.specs.Prelude.{◌≡◌, ◌∷◌, [], ℕ, List, drop, option_map, MatchOption, IfOk, Some, None};
+ghost use Rattle.std.specs.Prelude.{◌≡◌, ◌≤◌, ◌∷◌, [], ℕ, List, drop, length, option_map, MatchOption, IfOk, IfSome, Some, None};
 ghost use Rattle.driver_model.specs.declared.event.EventKind.TheVariants.{Submit, Cancel, Connected};
 ghost use Rattle.driver_model.specs.declared.event.EventKind.TheVariants.{Ended, Shutdown};
 ghost use Rattle.driver_model.specs.declared.event.EventKind.TheVariants.{Refused, ReadFault, WriteFault, Fired};
@@ -10,9 +10,11 @@ ghost use Rattle.script_text.specs.EventLine.{timed};
 ghost use Rattle.script_text.specs.EventLine.{fault_among, failed, commands, packed, submissions};
 ghost use Rattle.script_text.specs.EventLine.{others, events, event_of};
 
+use crate::draw::drawn;
 use crate::line::Line;
 use crate::number::{number_u32, number_u64, time_limit};
-use containers::{Bytes, Names};
+use crate::word::{Word, take_all};
+use containers::{Names, Seq};
 use driver_model::{Commands, Event, EventKind, Submission};
 use redis_error::FaultKind;
 use std::alloc::{AllocError, Global};
@@ -31,19 +33,8 @@ const FAULTS: [FaultKind; 10] = [
     FaultKind::Other,
 ];
 
-/// The first word, taken out.
-fn first(words: &mut Vec<Bytes>) -> Option<Bytes>
-    ensures { MatchOption result (words.old.items ≡ [])
-        (λ w. words.old.items ≡ w ∷ words.new.items) }
-{
-    if words.is_empty() {
-        return None;
-    }
-    Some(words.remove(0))
-}
-
 /// The one word, as a number.
-fn only_number(words: &[Bytes]) -> Option<u32>
+fn only_number(words: &[Word<'_>]) -> Option<u32>
     ensures { result ≡ numbered (λ n. n) words.now }
 {
     match words {
@@ -52,7 +43,7 @@ fn only_number(words: &[Bytes]) -> Option<u32>
     }
 }
 
-fn read_wrote(words: &[Bytes]) -> Option<EventKind>
+fn read_wrote(words: &[Word<'_>]) -> Option<EventKind>
     ensures { result ≡ wrote words.now }
 {
     let [link, count] = words else {
@@ -63,15 +54,17 @@ fn read_wrote(words: &[Bytes]) -> Option<EventKind>
     Some(EventKind::Wrote { link, count })
 }
 
-fn read_came(mut words: Vec<Bytes>) -> Option<EventKind>
-    ensures { result ≡ came words.items }
+fn read_came(alloc: Global, words: &mut [Word<'_>]) -> Result<Option<EventKind>, AllocError>
+    ensures { IfOk result (λ k. k ≡ came words.old) }
 {
-    let [link, _] = words.as_slice() else {
-        return None;
+    let [link, _] = &*words else {
+        return Ok(None);
     };
-    let link = number_u32(link.as_slice())?;
-    let piece = words.pop()?;
-    Some(EventKind::Bytes { link, piece })
+    let Some(link) = number_u32(link.as_slice()) else {
+        return Ok(None);
+    };
+    let piece = words[1].take(alloc)?;
+    Ok(Some(EventKind::Bytes { link, piece }))
 }
 
 /// The first of these faults with that name.
@@ -94,7 +87,7 @@ pub fn fault(name: &[u8]) -> Option<FaultKind>
 }
 
 /// A link, and the kind of what failed there.
-fn link_fault(words: &[Bytes]) -> Option<(u32, FaultKind)>
+fn link_fault(words: &[Word<'_>]) -> Option<(u32, FaultKind)>
     ensures { MatchOption result ((f : ℕ → FaultKind → EventKind) → failed f words.now ≡ None)
         (λ c. (f : ℕ → FaultKind → EventKind) → failed f words.now ≡ Some (f c.0 c.1)) }
 {
@@ -106,21 +99,21 @@ fn link_fault(words: &[Bytes]) -> Option<(u32, FaultKind)>
     Some((link, fault))
 }
 
-fn refused(words: &[Bytes]) -> Option<EventKind>
+fn refused(words: &[Word<'_>]) -> Option<EventKind>
     ensures { result ≡ failed Refused words.now }
 {
     let (link, fault) = link_fault(words)?;
     Some(EventKind::Refused { link, fault })
 }
 
-fn read_fault(words: &[Bytes]) -> Option<EventKind>
+fn read_fault(words: &[Word<'_>]) -> Option<EventKind>
     ensures { result ≡ failed ReadFault words.now }
 {
     let (link, fault) = link_fault(words)?;
     Some(EventKind::ReadFault { link, fault })
 }
 
-fn write_fault(words: &[Bytes]) -> Option<EventKind>
+fn write_fault(words: &[Word<'_>]) -> Option<EventKind>
     ensures { result ≡ failed WriteFault words.now }
 {
     let (link, fault) = link_fault(words)?;
@@ -130,72 +123,90 @@ fn write_fault(words: &[Bytes]) -> Option<EventKind>
 /// The commands between separators.
 fn commands_between(
     alloc: Global,
-    first: Vec<Bytes>,
-    more: Vec<Names>,
+    first: &mut [Word<'_>],
+    more: Vec<Seq<Word<'_>>>,
 ) -> Result<Commands, AllocError>
-    ensures { IfOk result (λ cs. cs ≡ commands first.items more.items) }
+    ensures { IfOk result (λ cs. cs ≡ commands first.old more.entry.items) }
 {
     let mut commands = Commands::new(alloc);
     if first.is_empty() && more.is_empty() {
         return Ok(commands);
     }
-    commands.push(Names::from_vec(first))?;
+    commands.push(take_all(alloc, first)?)?;
     for command in more {
-        commands.push(command)?;
+        let mut words = command.into_vec();
+        commands.push(take_all(alloc, words.as_mut_slice())?)?;
     }
     Ok(commands)
 }
 
-fn cmd(args: Vec<Bytes>, more: &[Names]) -> Option<Submission>
-    ensures { result ≡ whole (λ ws. Some (Cmd ws)) args.items more.now }
+/// The arguments of a command, if it stands alone.
+fn arguments(
+    alloc: Global,
+    words: &mut [Word<'_>],
+    more: &[Seq<Word<'_>>],
+) -> Result<Option<Names>, AllocError>
+    ensures { IfOk result (λ args. args ≡ whole (λ ws. Some ws) words.old more.now) }
 {
     match more {
-        [] => Some(Submission::Cmd {
-            args: Names::from_vec(args),
-        }),
-        _ => None,
+        [] => Ok(Some(take_all(alloc, words)?)),
+        _ => Ok(None),
     }
 }
 
-fn no_reply(args: Vec<Bytes>, more: &[Names]) -> Option<Submission>
-    ensures { result ≡ whole (λ ws. Some (NoReply ws)) args.items more.now }
+fn cmd(
+    alloc: Global,
+    words: &mut [Word<'_>],
+    more: &[Seq<Word<'_>>],
+) -> Result<Option<Submission>, AllocError>
+    ensures { IfOk result (λ s. s ≡ whole (λ ws. Some (Cmd ws)) words.old more.now) }
 {
-    match more {
-        [] => Some(Submission::NoReply {
-            args: Names::from_vec(args),
-        }),
-        _ => None,
+    match arguments(alloc, words, more)? {
+        Some(args) => Ok(Some(Submission::Cmd { args })),
+        None => Ok(None),
     }
 }
 
-/// How many replies are skipped and how many are kept, the first two words, taken out.
-fn numbers(words: &mut Vec<Bytes>) -> Option<(u32, u32)>
-    ensures { MatchOption result
-        ((more : List (List (List ℕ))) → packed words.old.items more ≡ None)
-        (λ n. (more : List (List (List ℕ))) → packed words.old.items more
-        ≡ Some (Packed n.0 n.1 (commands words.new.items more))) }
+fn no_reply(
+    alloc: Global,
+    words: &mut [Word<'_>],
+    more: &[Seq<Word<'_>>],
+) -> Result<Option<Submission>, AllocError>
+    ensures { IfOk result (λ s. s ≡ whole (λ ws. Some (NoReply ws)) words.old more.now) }
 {
-    let [offset, count, ..] = words.as_slice() else {
+    match arguments(alloc, words, more)? {
+        Some(args) => Ok(Some(Submission::NoReply { args })),
+        None => Ok(None),
+    }
+}
+
+/// How many replies are skipped and how many are kept, by the first two words.
+fn numbers(words: &[Word<'_>]) -> Option<(u32, u32)>
+    ensures read { MatchOption result
+        ((more : List (List (List ℕ))) → packed words.now more ≡ None)
+        (λ n. (more : List (List (List ℕ))) → packed words.now more
+        ≡ Some (Packed n.0 n.1 (commands (drop 2 words.now) more))) }
+    ensures two { IfSome result (λ _. 2 ≤ length words.now) }
+{
+    let [offset, count, ..] = words else {
         return None;
     };
     let offset = number_u32(offset.as_slice())?;
     let count = number_u32(count.as_slice())?;
-    words.remove(0);
-    words.remove(0);
     Some((offset, count))
 }
 
 fn read_packed(
     alloc: Global,
-    mut words: Vec<Bytes>,
-    more: Vec<Names>,
+    words: &mut [Word<'_>],
+    more: Vec<Seq<Word<'_>>>,
 ) -> Result<Option<Submission>, AllocError>
-    ensures { IfOk result (λ s. s ≡ packed words.items more.items) }
+    ensures { IfOk result (λ s. s ≡ packed words.old more.entry.items) }
 {
-    let Some((offset, count)) = numbers(&mut words) else {
+    let Some((offset, count)) = numbers(words) else {
         return Ok(None);
     };
-    let commands = commands_between(alloc, words, more)?;
+    let commands = commands_between(alloc, &mut words[2..], more)?;
     Ok(Some(Submission::Packed {
         offset,
         count,
@@ -205,20 +216,20 @@ fn read_packed(
 
 fn submission(
     alloc: Global,
-    mut words: Vec<Bytes>,
-    more: Vec<Names>,
+    words: &mut [Word<'_>],
+    more: Vec<Seq<Word<'_>>>,
 ) -> Result<Option<Submission>, AllocError>
-    ensures { IfOk result (λ s. s ≡ by_first submissions words.items more.items) }
+    ensures { IfOk result (λ s. s ≡ by_first submissions words.old more.entry.items) }
 {
-    let Some(name) = first(&mut words) else {
+    let Some((name, words)) = words.split_first_mut() else {
         return Ok(None);
     };
     let name = name.as_slice();
     if name == b"cmd".as_slice() {
-        return Ok(cmd(words, more.as_slice()));
+        return cmd(alloc, words, more.as_slice());
     }
     if name == b"noreply".as_slice() {
-        return Ok(no_reply(words, more.as_slice()));
+        return no_reply(alloc, words, more.as_slice());
     }
     if name == b"pipe".as_slice() {
         let commands = commands_between(alloc, words, more)?;
@@ -236,11 +247,11 @@ fn submission(
 
 fn submit(
     alloc: Global,
-    words: Vec<Bytes>,
-    more: Vec<Names>,
+    words: &mut [Word<'_>],
+    more: Vec<Seq<Word<'_>>>,
 ) -> Result<Option<EventKind>, AllocError>
     ensures { IfOk result (λ k.
-        k ≡ option_map Submit (by_first submissions words.items more.items)) }
+        k ≡ option_map Submit (by_first submissions words.old more.entry.items)) }
 {
     match submission(alloc, words, more)? {
         Some(submission) => Ok(Some(EventKind::Submit { submission })),
@@ -248,7 +259,7 @@ fn submit(
     }
 }
 
-fn cancel(words: &[Bytes]) -> Option<EventKind>
+fn cancel(words: &[Word<'_>]) -> Option<EventKind>
     ensures { result ≡ numbered Cancel words.now }
 {
     Some(EventKind::Cancel {
@@ -256,7 +267,7 @@ fn cancel(words: &[Bytes]) -> Option<EventKind>
     })
 }
 
-fn connected(words: &[Bytes]) -> Option<EventKind>
+fn connected(words: &[Word<'_>]) -> Option<EventKind>
     ensures { result ≡ numbered Connected words.now }
 {
     Some(EventKind::Connected {
@@ -264,7 +275,7 @@ fn connected(words: &[Bytes]) -> Option<EventKind>
     })
 }
 
-fn ended(words: &[Bytes]) -> Option<EventKind>
+fn ended(words: &[Word<'_>]) -> Option<EventKind>
     ensures { result ≡ numbered Ended words.now }
 {
     Some(EventKind::Ended {
@@ -272,7 +283,7 @@ fn ended(words: &[Bytes]) -> Option<EventKind>
     })
 }
 
-fn fired(words: &[Bytes]) -> Option<EventKind>
+fn fired(words: &[Word<'_>]) -> Option<EventKind>
     ensures { result ≡ numbered Fired words.now }
 {
     Some(EventKind::Fired {
@@ -280,7 +291,7 @@ fn fired(words: &[Bytes]) -> Option<EventKind>
     })
 }
 
-fn timeout(words: &[Bytes]) -> Option<EventKind>
+fn timeout(words: &[Word<'_>]) -> Option<EventKind>
     ensures { result ≡ timed words.now }
 {
     let [value] = words else {
@@ -290,7 +301,7 @@ fn timeout(words: &[Bytes]) -> Option<EventKind>
     Some(EventKind::Timeout { ms })
 }
 
-fn shutdown(words: &[Bytes]) -> Option<EventKind>
+fn shutdown(words: &[Word<'_>]) -> Option<EventKind>
     ensures { result ≡ alone Shutdown words.now }
 {
     match words {
@@ -301,70 +312,80 @@ fn shutdown(words: &[Bytes]) -> Option<EventKind>
 
 /// What happens besides submissions, by the name and the words behind it.
 #[tactic(auto, unfolding(crate::specs::EventLine::others))]
-fn other(name: &[u8], words: Vec<Bytes>) -> Option<EventKind>
-    ensures { result ≡ by_first others (name.now ∷ words.items) [] }
+fn other(
+    alloc: Global,
+    name: &[u8],
+    words: &mut [Word<'_>],
+) -> Result<Option<EventKind>, AllocError>
+    ensures { IfOk result (λ k. k ≡ by_first others (name.now ∷ words.old) []) }
 {
     if name == b"cancel".as_slice() {
-        return cancel(words.as_slice());
+        return Ok(cancel(words));
     }
     if name == b"connected".as_slice() {
-        return connected(words.as_slice());
+        return Ok(connected(words));
     }
     if name == b"refused".as_slice() {
-        return refused(words.as_slice());
+        return Ok(refused(words));
     }
     if name == b"wrote".as_slice() {
-        return read_wrote(words.as_slice());
+        return Ok(read_wrote(words));
     }
     if name == b"bytes".as_slice() {
-        return read_came(words);
+        return read_came(alloc, words);
     }
     if name == b"ended".as_slice() {
-        return ended(words.as_slice());
+        return Ok(ended(words));
     }
     if name == b"read-fault".as_slice() {
-        return read_fault(words.as_slice());
+        return Ok(read_fault(words));
     }
     if name == b"write-fault".as_slice() {
-        return write_fault(words.as_slice());
+        return Ok(write_fault(words));
     }
     if name == b"fired".as_slice() {
-        return fired(words.as_slice());
+        return Ok(fired(words));
     }
     if name == b"timeout".as_slice() {
-        return timeout(words.as_slice());
+        return Ok(timeout(words));
     }
     if name == b"shutdown".as_slice() {
-        return shutdown(words.as_slice());
+        return Ok(shutdown(words));
     }
-    None
+    Ok(None)
 }
 
-fn kind(alloc: Global, line: Line) -> Result<Option<EventKind>, AllocError>
-    ensures { IfOk result (λ k. k ≡ by_first events line.words line.more) }
+fn kind(
+    alloc: Global,
+    words: &mut [Word<'_>],
+    more: Vec<Seq<Word<'_>>>,
+) -> Result<Option<EventKind>, AllocError>
+    ensures { IfOk result (λ k. k ≡ by_first events words.old more.entry.items) }
 {
-    let (mut words, more) = line.into_parts();
-    let Some(name) = first(&mut words) else {
+    let Some((name, words)) = words.split_first_mut() else {
         return Ok(None);
     };
-    if name.as_slice() == b"submit".as_slice() {
+    let name = name.as_slice();
+    if name == b"submit".as_slice() {
         return submit(alloc, words, more);
     }
-    match more.as_slice() {
-        [] => Ok(other(name.as_slice(), words)),
-        _ => Ok(None),
+    if !more.is_empty() {
+        return Ok(None);
     }
+    other(alloc, name, words)
 }
 
-/// The event that the words of a line are.
+/// The event that the words of a line are. What it keeps is taken out of the line, which is then only read anew.
 #[tactic(auto, unfolding(crate::specs::EventLine::event_of))]
-pub fn event(alloc: Global, mut line: Line) -> Result<Option<Event>, AllocError>
-    ensures { IfOk result (λ e. e ≡ event_of line) }
+pub fn event(alloc: Global, line: &mut Line<'_>) -> Result<Option<Event>, AllocError>
+    ensures { IfOk result (λ e. e ≡ event_of line.old) }
 {
-    let Some(word) = line.take_draw() else {
+    let Some((word, before)) = drawn(line.words()) else {
         return Ok(None);
     };
-    match kind(alloc, line)? {
+    let more = line.take_more(alloc);
+    let words = line.words_mut();
+    match kind(alloc, &mut words[before..], more)? {
         Some(kind) => Ok(Some(Event { word, kind })),
         None => Ok(None),
     }

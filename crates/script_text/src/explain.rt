@@ -9,9 +9,10 @@ ghost use Rattle.script_text.specs.Words.{words_of_line};
 use crate::config_fault::opening_fault;
 use crate::event_fault::event_fault;
 use crate::fault::Fault;
+use crate::line::Line;
 use crate::reason::{LineReason, Reason, TextReason};
 use crate::script::{MAX_LINE, MAX_LINES, MAX_TEXT, is_end_line};
-use crate::words::{cut, is_escaped_well, words};
+use crate::words::{cut, is_escaped_well};
 use containers::Bytes;
 use percent_encoding::percent_encode_byte;
 use std::alloc::{AllocError, Global};
@@ -71,10 +72,11 @@ fn first_line_fault(alloc: Global, line: &[u8]) -> Result<Option<Fault>, AllocEr
     ensures { IfOk result (λ fault.
         FindsFault fault (option_and_then opening_of (words_of_line line.now))) }
 {
-    match words(alloc, line)? {
-        Some(words) => Ok(opening_fault(&words)),
-        None => Ok(Some(part_fault(line))),
+    let mut words = Line::new(alloc);
+    if words.read(alloc, line)? {
+        return Ok(opening_fault(&words));
     }
+    Ok(Some(part_fault(line)))
 }
 
 /// What is wrong with a line that is to be an event.
@@ -82,10 +84,11 @@ fn later_line_fault(alloc: Global, line: &[u8]) -> Result<Option<Fault>, AllocEr
     ensures { IfOk result (λ fault.
         FindsFault fault (option_and_then event_of (words_of_line line.now))) }
 {
-    match words(alloc, line)? {
-        Some(words) => Ok(event_fault(&words)),
-        None => Ok(Some(part_fault(line))),
+    let mut words = Line::new(alloc);
+    if words.read(alloc, line)? {
+        return Ok(event_fault(&words));
     }
+    Ok(Some(part_fault(line)))
 }
 
 /// The fault of a line at fault: where the line ends in CR, that.
@@ -143,10 +146,8 @@ fn place_of(text: &[u8], number: u32) -> Place<'_> {
 
 /// Whether these are the bytes of a last line.
 fn is_last_line(alloc: Global, line: &[u8]) -> Result<bool, AllocError> {
-    match words(alloc, line)? {
-        Some(words) => Ok(is_end_line(&words)),
-        None => Ok(false),
-    }
+    let mut words = Line::new(alloc);
+    Ok(words.read(alloc, line)? && is_end_line(&words))
 }
 
 /// What is wrong with a line by where it stands, or by its length.

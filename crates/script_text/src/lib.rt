@@ -17,6 +17,7 @@ mod number;
 mod reason;
 mod script;
 mod submissions;
+mod word;
 mod words;
 
 pub use explain::explain_line;

@@ -1,22 +1,23 @@
-ghost use Rattle.std.specs.Prelude.{◌≡◌, [], OnOk, IfOk, option_map, MatchOption, Some, None};
-ghost use Rattle.script_text.specs.Draws.{drawn};
+ghost use Rattle.std.specs.Prelude.{◌≡◌, [], OnOk, IfOk, option_map, Some, None, if◌then◌else◌};
 ghost use Rattle.script_text.specs.Pieces.{joined, one_word, separator, piece_of};
+ghost use Rattle.script_text.specs.Words.{words_of_line};
 
-use crate::draw::behind_at;
-use crate::number::number_u64;
-use crate::words::word;
-use containers::{Bytes, Names};
+use crate::word::Word;
+use crate::words::{cut, word};
+use containers::Seq;
 use std::alloc::{AllocError, Global};
 use std::marker::Model;
+use std::mem;
 
-/// The words of a line: those before the first separator, and those behind each.
+/// The words of a line: those before the first separator, and those behind each. Lines are read into it one after the
+/// other, and their words stand in the same memory.
 #[derive(Drop)]
-pub struct Line {
-    words: Vec<Bytes>,
-    more: Vec<Names>,
+pub struct Line<'a> {
+    words: Vec<Word<'a>>,
+    more: Vec<Seq<Word<'a>>>,
 }
 
-impl Model for Line {
+impl<'a> Model for Line<'a> {
     ghost use Rattle.script_text.specs.Words.{LineWords};
 
     ghost Value = { LineWords };
@@ -24,9 +25,9 @@ impl Model for Line {
     ghost view = { λ l. record { words = l.words.items; more = l.more.items } };
 }
 
-impl Line {
+impl<'a> Line<'a> {
     /// No words. Takes no memory.
-    pub fn new(alloc: Global) -> Line
+    pub fn new(alloc: Global) -> Line<'a>
         ensures { result ≡ record { words = []; more = [] } }
     {
         Line {
@@ -36,47 +37,37 @@ impl Line {
     }
 
     /// The words before the first separator.
-    pub fn words(&self) -> &[Bytes]
+    pub fn words(&self) -> &[Word<'a>]
         ensures { result.now ≡ self.now.words }
     {
         self.words.as_slice()
     }
 
+    /// The words before the first separator, of which any may be taken.
+    pub fn words_mut(&mut self) -> &mut [Word<'a>]
+        ensures { result.now ≡ self.old.words }
+    {
+        self.words.as_mut_slice()
+    }
+
     /// The words behind each separator.
-    pub fn more(&self) -> &[Names]
+    pub fn more(&self) -> &[Seq<Word<'a>>]
         ensures { result.now ≡ self.now.more }
     {
         self.more.as_slice()
     }
 
-    /// Both.
-    pub fn into_parts(self) -> (Vec<Bytes>, Vec<Names>)
-        ensures words { result.0.items ≡ self.words }
-        ensures more { result.1.items ≡ self.more }
+    /// The words behind each separator, taken out.
+    pub fn take_more(&mut self, alloc: Global) -> Vec<Seq<Word<'a>>>
+        ensures more { result.items ≡ self.old.more }
+        ensures left { self.new ≡ record { words = self.old.words; more = [] } }
     {
-        (self.words, self.more)
-    }
-
-    /// The word of the draws, taken out: 0 where no `@` says it.
-    pub fn take_draw(&mut self) -> Option<u64>
-        ensures { MatchOption result (drawn self.old.words ≡ None)
-            (λ word. (drawn self.old.words ≡ Some (word, self.new.words))
-            × (self.new.more ≡ self.old.more)) }
-    {
-        let [first, ..] = self.words.as_slice() else {
-            return Some(0);
-        };
-        let Some(digits) = behind_at(first.as_slice()) else {
-            return Some(0);
-        };
-        let word = number_u64(digits)?;
-        self.words.remove(0);
-        Some(word)
+        mem::replace(&mut self.more, Vec::new(alloc))
     }
 
     /// One more word.
-    fn push(&mut self, word: Bytes) -> Result<(), AllocError>
-        ensures { OnOk result (self.new ≡ joined self.old (one_word word)) }
+    fn push(&mut self, word: Word<'a>) -> Result<(), AllocError>
+        ensures { OnOk result (self.new ≡ joined self.old (one_word word.entry)) }
     {
         match self.more.pop() {
             None => self.words.push(word)?,
@@ -92,22 +83,47 @@ impl Line {
     fn separate(&mut self, alloc: Global) -> Result<(), AllocError>
         ensures { OnOk result (self.new ≡ joined self.old separator) }
     {
-        self.more.push(Names::new(alloc))?;
+        self.more.push(Seq::new(alloc))?;
         Ok(())
     }
 
-    /// The line with one more part behind a space, if that is a separator or a word.
-    pub fn with(mut self, alloc: Global, raw: &[u8]) -> Result<Option<Line>, AllocError>
-        ensures { IfOk result (λ line. line ≡ option_map (joined self) (piece_of raw.now)) }
+    /// Whether a part behind a space is a separator or a word. If so, the line has it behind what it had.
+    pub fn put(&mut self, alloc: Global, raw: &'a [u8]) -> Result<bool, AllocError>
+        ensures { IfOk result (λ is. (if is then Some self.new else None)
+            ≡ option_map (joined self.old) (piece_of raw.now)) }
     {
         if raw == b";".as_slice() {
             self.separate(alloc)?;
-            return Ok(Some(self));
+            return Ok(true);
         }
         let Some(word) = word(alloc, raw)? else {
-            return Ok(None);
+            return Ok(false);
         };
         self.push(word)?;
-        Ok(Some(self))
+        Ok(true)
+    }
+
+    /// Forgets all words.
+    fn clear(&mut self)
+        ensures { self.new ≡ record { words = []; more = [] } }
+    {
+        self.words.clear();
+        self.more.clear();
+    }
+
+    /// Whether the bytes of a line are words. If so, the line has these and no others, whatever it had before.
+    pub fn read(&mut self, alloc: Global, bytes: &'a [u8]) -> Result<bool, AllocError>
+        ensures { IfOk result (λ is. (if is then Some self.new else None)
+            ≡ words_of_line bytes.now) }
+    {
+        self.clear();
+        let mut left = bytes;
+        while let Some((raw, rest)) = cut(left, b' ') {
+            if !self.put(alloc, raw)? {
+                return Ok(false);
+            }
+            left = rest;
+        }
+        self.put(alloc, left)
     }
 }

@@ -6,7 +6,7 @@ ghost use Rattle.script_text.specs.Script.{is_end, script_of};
 use crate::config_line::opening;
 use crate::event_line::event;
 use crate::line::Line;
-use crate::words::{cut, words};
+use crate::words::cut;
 use containers::Seq;
 use driver_model::{Config, Event};
 use std::alloc::{AllocError, Global};
@@ -71,9 +71,13 @@ fn next_line<'a>(cursor: &mut Cursor<'a>) -> Option<&'a [u8]>
     Some(line)
 }
 
-/// The words of the next line.
-pub fn line_words(alloc: Global, cursor: &mut Cursor<'_>) -> Result<Line, ScriptError>
-    ensures words { IfOk result (λ words. words_left cursor.old ≡ Some words) }
+/// Reads the words of the next line, in place of those that the line had.
+pub fn read_words<'a>(
+    alloc: Global,
+    cursor: &mut Cursor<'a>,
+    words: &mut Line<'a>,
+) -> Result<(), ScriptError>
+    ensures words { IfOk result (λ _. words_left cursor.old ≡ Some words.new) }
     ensures passed { IfOk result (λ _. Goes cursor.old cursor.new) }
     ensures fault { IfErr result (λ e. Refuses e cursor.old.number (words_left cursor.old)) }
 {
@@ -81,14 +85,15 @@ pub fn line_words(alloc: Global, cursor: &mut Cursor<'_>) -> Result<Line, Script
     let Some(line) = next_line(cursor) else {
         return Err(ScriptError::Line(number));
     };
-    match words(alloc, line)? {
-        Some(words) => Ok(words),
-        None => Err(ScriptError::Line(number)),
+    if words.read(alloc, line)? {
+        Ok(())
+    } else {
+        Err(ScriptError::Line(number))
     }
 }
 
 /// Whether these are the words of the last line.
-pub fn is_end_line(words: &Line) -> bool
+pub fn is_end_line(words: &Line<'_>) -> bool
     ensures { result ≡ is_end words.now }
 {
     match (words.words(), words.more()) {
@@ -99,18 +104,21 @@ pub fn is_end_line(words: &Line) -> bool
 
 /// The event that the next line is, or none where it is the last line.
 #[tactic(auto, using(crate::proofs::Lines::nothing_left))]
-fn next_event(alloc: Global, cursor: &mut Cursor<'_>) -> Result<Option<Event>, ScriptError>
+fn next_event<'a>(
+    alloc: Global,
+    cursor: &mut Cursor<'a>,
+    words: &mut Line<'a>,
+) -> Result<Option<Event>, ScriptError>
     ensures event { IfOk result (λ e.
         Continues e (events_left cursor.old) (events_left cursor.new)) }
     ensures less { IfOk result (λ _. length cursor.new.left.now < length cursor.old.left.now) }
     ensures fault { IfErr result (λ e. Tells e (events_left cursor.old)) }
 {
     let number = cursor.number;
-    let words = match line_words(alloc, cursor) {
-        Ok(words) => words,
-        Err(error) => return Err(error),
-    };
-    if is_end_line(&words) {
+    if let Err(error) = read_words(alloc, cursor, words) {
+        return Err(error);
+    }
+    if is_end_line(words) {
         if cursor.left.is_empty() {
             return Ok(None);
         }
@@ -123,13 +131,17 @@ fn next_event(alloc: Global, cursor: &mut Cursor<'_>) -> Result<Option<Event>, S
 }
 
 /// The events up to the last line.
-fn all_events(alloc: Global, cursor: &mut Cursor<'_>) -> Result<Seq<Event>, ScriptError>
+fn all_events<'a>(
+    alloc: Global,
+    cursor: &mut Cursor<'a>,
+    words: &mut Line<'a>,
+) -> Result<Seq<Event>, ScriptError>
     ensures events { IfOk result (λ es. events_left cursor.old ≡ Ok es) }
     ensures fault { IfErr result (λ e. Tells e (events_left cursor.old)) }
 {
     let mut events = Seq::new(alloc);
     loop {
-        match next_event(alloc, cursor) {
+        match next_event(alloc, cursor, words) {
             Ok(Some(event)) => events.push(event)?,
             Ok(None) => return Ok(events),
             Err(error) => return Err(error),
@@ -138,7 +150,11 @@ fn all_events(alloc: Global, cursor: &mut Cursor<'_>) -> Result<Seq<Event>, Scri
 }
 
 /// The configuration that the next line is, and the word of its draws.
-fn config_line(alloc: Global, cursor: &mut Cursor<'_>) -> Result<(Config, u64), ScriptError>
+fn config_line<'a>(
+    alloc: Global,
+    cursor: &mut Cursor<'a>,
+    words: &mut Line<'a>,
+) -> Result<(Config, u64), ScriptError>
     ensures config { IfOk result (λ o.
         option_and_then opening_of (words_left cursor.old) ≡ Some o) }
     ensures passed { IfOk result (λ _. Goes cursor.old cursor.new) }
@@ -146,11 +162,10 @@ fn config_line(alloc: Global, cursor: &mut Cursor<'_>) -> Result<(Config, u64), 
         Refuses e cursor.old.number (option_and_then opening_of (words_left cursor.old))) }
 {
     let number = cursor.number;
-    let words = match line_words(alloc, cursor) {
-        Ok(words) => words,
-        Err(error) => return Err(error),
-    };
-    match opening(alloc, &words)? {
+    if let Err(error) = read_words(alloc, cursor, words) {
+        return Err(error);
+    }
+    match opening(alloc, words)? {
         Some(opening) => Ok(opening),
         None => Err(ScriptError::Line(number)),
     }
@@ -167,11 +182,12 @@ pub fn read_script(alloc: Global, text: &[u8]) -> Result<Script, ScriptError>
         number: 1,
         room: MAX_TEXT,
     };
-    let (config, word) = match config_line(alloc, &mut cursor) {
+    let mut words = Line::new(alloc);
+    let (config, word) = match config_line(alloc, &mut cursor, &mut words) {
         Ok(opening) => opening,
         Err(error) => return Err(error),
     };
-    match all_events(alloc, &mut cursor) {
+    match all_events(alloc, &mut cursor, &mut words) {
         Ok(events) => Ok(Script {
             config,
             word,

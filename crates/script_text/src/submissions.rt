@@ -6,7 +6,7 @@ ghost use Rattle.script_text.specs.Lines.{config_of_parts, texts};
 use crate::config_line::config;
 use crate::event_line::event;
 use crate::line::Line;
-use crate::script::{Cursor, MAX_TEXT, ScriptError, is_end_line, line_words};
+use crate::script::{Cursor, MAX_TEXT, ScriptError, is_end_line, read_words};
 use containers::Seq;
 use driver_model::{Config, Event, EventKind, Submission};
 use std::alloc::{AllocError, Global};
@@ -24,9 +24,10 @@ fn submitted(event: Event) -> Option<(Submission, u64)>
 
 /// The submission that the next line is, or none where it is the last line.
 #[tactic(auto, using(crate::proofs::Lines::nothing_left))]
-fn next_submission(
+fn next_submission<'a>(
     alloc: Global,
-    cursor: &mut Cursor<'_>,
+    cursor: &mut Cursor<'a>,
+    words: &mut Line<'a>,
 ) -> Result<Option<(Submission, u64)>, ScriptError>
     ensures line { IfOk result (λ line.
         PutsBefore line (submissions_left cursor.old) (submissions_left cursor.new)) }
@@ -34,11 +35,10 @@ fn next_submission(
     ensures fault { IfErr result (λ e. Tells e (submissions_left cursor.old)) }
 {
     let number = cursor.number;
-    let words = match line_words(alloc, cursor) {
-        Ok(words) => words,
-        Err(error) => return Err(error),
-    };
-    if is_end_line(&words) {
+    if let Err(error) = read_words(alloc, cursor, words) {
+        return Err(error);
+    }
+    if is_end_line(words) {
         if cursor.left.is_empty() {
             return Ok(None);
         }
@@ -54,16 +54,17 @@ fn next_submission(
 }
 
 /// The submissions up to the last line.
-fn all_submissions(
+fn all_submissions<'a>(
     alloc: Global,
-    cursor: &mut Cursor<'_>,
+    cursor: &mut Cursor<'a>,
+    words: &mut Line<'a>,
 ) -> Result<Seq<(Submission, u64)>, ScriptError>
     ensures lines { IfOk result (λ lines. submissions_left cursor.old ≡ Ok lines) }
     ensures fault { IfErr result (λ e. Tells e (submissions_left cursor.old)) }
 {
     let mut lines = Seq::new(alloc);
     loop {
-        match next_submission(alloc, cursor) {
+        match next_submission(alloc, cursor, words) {
             Ok(Some(line)) => lines.push(line)?,
             Ok(None) => return Ok(lines),
             Err(error) => return Err(error),
@@ -82,7 +83,8 @@ pub fn read_lines(alloc: Global, text: &[u8]) -> Result<Vec<(Submission, u64)>, 
         number: 1,
         room: MAX_TEXT,
     };
-    match all_submissions(alloc, &mut cursor) {
+    let mut words = Line::new(alloc);
+    match all_submissions(alloc, &mut cursor, &mut words) {
         Ok(lines) => Ok(lines.into_vec()),
         Err(error) => Err(error),
     }
@@ -92,14 +94,14 @@ pub fn read_lines(alloc: Global, text: &[u8]) -> Result<Vec<(Submission, u64)>, 
 pub fn read_config(alloc: Global, words: &[String]) -> Result<Option<Config>, AllocError>
     ensures { IfOk result (λ config. config ≡ config_of_parts (texts words.now)) }
 {
-    let Some(mut line) = Line::new(alloc).with(alloc, b"config")? else {
+    let mut line = Line::new(alloc);
+    if !line.put(alloc, b"config")? {
         return Ok(None);
-    };
+    }
     for word in words {
-        let Some(more) = line.with(alloc, word.as_bytes())? else {
+        if !line.put(alloc, word.as_bytes())? {
             return Ok(None);
-        };
-        line = more;
+        }
     }
     config(alloc, line.words(), line.more())
 }

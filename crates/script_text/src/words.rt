@@ -1,8 +1,8 @@
 ghost use Rattle.std.specs.Prelude.{◌≡◌, ◌+◌, ◌≤◌, ◌∷◌, false, length, MatchOption, Some, None, IfSome, IfOk, if◌then◌else◌};
 ghost use Rattle.percent_encoding.specs.Percent.{percent_decode};
-ghost use Rattle.script_text.specs.Words.{cut_at, is_well_escaped, begins_with_hex, unescaped, words_of_line};
+ghost use Rattle.script_text.specs.Words.{cut_at, is_well_escaped, begins_with_hex, unescaped};
 
-use crate::line::Line;
+use crate::word::Word;
 use containers::Bytes;
 use memchr::memchr;
 use std::alloc::{AllocError, Global};
@@ -73,32 +73,22 @@ fn decoded(alloc: Global, raw: &[u8]) -> Result<Option<Bytes>, AllocError>
     Ok(Some(Bytes::from_vec(bytes)))
 }
 
-/// The bytes that a word stands for.
+/// The word that a part between spaces is. Takes no memory where no byte is escaped.
 #[tactic(auto, unfolding(crate::specs::Words::unescaped))]
-pub fn word(alloc: Global, raw: &[u8]) -> Result<Option<Bytes>, AllocError>
-    ensures { IfOk result (λ w. w ≡ unescaped raw.now) }
+pub fn word<'a>(alloc: Global, raw: &'a [u8]) -> Result<Option<Word<'a>>, AllocError>
+    ensures { IfOk result (λ word. word ≡ unescaped raw.now) }
 {
     if raw.is_empty() {
         return Ok(None);
     }
     if raw == b"%-".as_slice() {
-        return Ok(Some(Bytes::new(alloc)));
+        return Ok(Some(Word::plain(b"")));
     }
-    decoded(alloc, raw)
-}
-
-/// The words of a line.
-pub fn words(alloc: Global, line: &[u8]) -> Result<Option<Line>, AllocError>
-    ensures { IfOk result (λ l. l ≡ words_of_line line.now) }
-{
-    let mut words = Line::new(alloc);
-    let mut left = line;
-    while let Some((raw, rest)) = cut(left, b' ') {
-        let Some(more) = words.with(alloc, raw)? else {
-            return Ok(None);
-        };
-        words = more;
-        left = rest;
+    let Some(_) = cut(raw, b'%') else {
+        return Ok(Some(Word::plain(raw)));
+    };
+    match decoded(alloc, raw)? {
+        Some(bytes) => Ok(Some(Word::unescaped(bytes))),
+        None => Ok(None),
     }
-    words.with(alloc, left)
 }

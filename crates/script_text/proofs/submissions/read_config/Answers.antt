@@ -2,6 +2,7 @@ use Rattle.std.proofs.Common.{◌≡◌, ℕ, ◌+◌, ◌<◌, suc, List, [], �
 use Rattle.std.specs.Prelude.{option_and_then}
 use Rattle.std.proofs.lemmas.List.{drop_all}
 use Rattle.std.proofs.lemmas.Result.{IfOk-weaker}
+use Rattle.containers.proofs.Choices.{taken_if, left_if}
 use Rattle.script_text.specs.ConfigLine.{config_of}
 use Rattle.script_text.specs.Lines.{texts}
 use Rattle.script_text.specs.Pieces.{joined, piece_of}
@@ -22,8 +23,19 @@ pub loop-word-init : goal.loop-word-init
 loop-word-init c =
     let name = codes "config" in
     let rest = texts c.args.words.now in
-    piece_read (words_of_parts (name ∷ rest)) (record { words = []; more = [] }) name rest (Some c.in-Some.line) (behind_nothing (words_of_parts (name ∷ rest)))
-    (sym c.in-Some.is ∙ c.in_ok-line.ensures ∙ ap (λ l. option_map (joined l) (piece_of name)) c.new.ensures)
+    piece_read (words_of_parts (name ∷ rest)) (record { words = []; more = [] }) name rest (Some c.put.new.self) (behind_nothing (words_of_parts (name ∷ rest)))
+    (sym (taken_if _ (Some c.put.new.self) None c.if-not-branch.false) ∙ c.in_ok-put.ensures ∙ ap (λ l. option_map (joined l) (piece_of name)) c.new-line.ensures)
+
+pub returns-then-not-branch-2 : goal.returns-then-not-branch-2
+returns-then-not-branch-2 c =
+    let words = c.args.words.now in
+    let line = c.loop-word.line in
+    let i = c.loop-word.word-index in
+    let word = c.word-item.result in
+    sym (ap (option_and_then config_of)
+    (piece_read (words_of_parts (codes "config" ∷ texts words)) line (string_bytes word) (texts (drop (i + 1) words)) None
+    (c.loop-word.invariant ∙ ap (λ ts. option_map (joined line) (words_of_parts ts)) (next_text words i word c.loop-word-test.true c.word-item.is))
+    (sym (left_if _ (Some c.put-in-loop-word.new.self) None c.if-not-branch-2.true) ∙ c.in_ok-put-2.ensures ∙ ap (λ raw. option_map (joined line) (piece_of raw)) c.as_bytes.ensures.value)))
 
 pub loop-word-preserved : goal.loop-word-preserved
 loop-word-preserved c =
@@ -31,9 +43,9 @@ loop-word-preserved c =
     let line = c.loop-word.line in
     let i = c.loop-word.word-index in
     let word = c.word-item.result in
-    piece_read (words_of_parts (codes "config" ∷ texts words)) line (string_bytes word) (texts (drop (i + 1) words)) (Some c.in-Some-2.more)
+    piece_read (words_of_parts (codes "config" ∷ texts words)) line (string_bytes word) (texts (drop (i + 1) words)) (Some c.put-in-loop-word.new.self)
     (c.loop-word.invariant ∙ ap (λ ts. option_map (joined line) (words_of_parts ts)) (next_text words i word c.loop-word-test.true c.word-item.is))
-    (sym c.in-Some-2.is ∙ c.in_ok-more.ensures ∙ ap (λ raw. option_map (joined line) (piece_of raw)) c.as_bytes.ensures.value)
+    (sym (taken_if _ (Some c.put-in-loop-word.new.self) None c.if-not-branch-2.false) ∙ c.in_ok-put-2.ensures ∙ ap (λ raw. option_map (joined line) (piece_of raw)) c.as_bytes.ensures.value)
 
 pub returns : goal.returns
 returns c =
