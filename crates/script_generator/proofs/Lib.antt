@@ -1,0 +1,6 @@
+pub mod Lasts
+pub mod Sessions
+pub mod Submits
+pub mod Turns
+pub mod Books
+pub mod Fronts
