@@ -36,11 +36,11 @@ use Rattle.script_generator.proofs.Turns.{told, connected_turn, wrote_turn, canc
 use Rattle.script_generator.proofs.Books.{Tells, turn, tells_connected, tells_submitted, tells_wrote, tells_cancelled, tells_replied, tells_answered}
 
 -- one more event of a history that isn't bad
-good_on : (c : Core) (es : List Event) (e : Event) → AreGoodOn c es → is_bad (run_on c es) e.kind ≡ false → AreGoodOn c (es ++ e ∷ [])
+pub good_on : (c : Core) (es : List Event) (e : Event) → AreGoodOn c es → is_bad (run_on c es) e.kind ≡ false → AreGoodOn c (es ++ e ∷ [])
 good_on c [] e all g = (g, tt)
 good_on c (d ∷ es) e all g = (all.0, good_on (next_turn c d.kind).core es e all.1 g)
 
-unspent_on : (c : Core) (es : List Event) (e : Event) → AreUnspentOn c es → spends (run_on c es) e ≡ false → AreUnspentOn c (es ++ e ∷ [])
+pub unspent_on : (c : Core) (es : List Event) (e : Event) → AreUnspentOn c es → spends (run_on c es) e ≡ false → AreUnspentOn c (es ++ e ∷ [])
 unspent_on c [] e all g = (g, tt)
 unspent_on c (d ∷ es) e all g = (all.0, unspent_on (next_turn c d.kind).core es e all.1 g)
 
@@ -62,7 +62,7 @@ pub record Stands (es : List Event) (core : ℕ → Core) (submissions dealt nee
   pub short : length es ≤ most
   pub few : length (trace es) ≤ 4 * most
 
-count_append : (f : Action → ℕ) (s t : List Action) → count f (s ++ t) ≡ count f s + count f t
+pub count_append : (f : Action → ℕ) (s t : List Action) → count f (s ++ t) ≡ count f s + count f t
 count_append f [] t = omega arith
 count_append f (a ∷ s) t = let e : count f (s ++ t) ≡ count f s + count f t = count_append f s t in omega arith
 
@@ -99,7 +99,7 @@ stands_more es e core core' more n d s n' d' s' k most low h x little takes_more
     let next = is_next es e core core' more n d s most low h x in
     let t = 1 + length es in
     let acts : actions_of (state es) e ≡ action.Turn t (cause.Event e) ∷ more = ap (λ (c : Core). actions_of c e) h.state_is ∙ x.acts t in
-    let grown : trace (es ++ e ∷ []) ≡ trace es ++ action.Turn t (cause.Event e) ∷ more = trace_of-more generated_config generated_word es e ∙ ap (λ (as : List Action). trace es ++ as) acts in
+    let grown : trace (es ++ e ∷ []) ≡ trace es ++ action.Turn t (cause.Event e) ∷ more = trace_of-more generated_config generated_word es e ∙ ap (λ (more' : List Action). trace es ++ more') acts in
     let long : length (es ++ e ∷ []) ≡ length es + 1 = length-append es (e ∷ []) in
     let later : 1 + length (es ++ e ∷ []) ≡ t + 1 = omega arith in
     let short = h.short in

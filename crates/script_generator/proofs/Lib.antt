@@ -4,3 +4,6 @@ pub mod Submits
 pub mod Turns
 pub mod Books
 pub mod Fronts
+pub mod Rounds
+pub mod Whole
+pub mod Counts
