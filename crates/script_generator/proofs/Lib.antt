@@ -7,3 +7,4 @@ pub mod Fronts
 pub mod Rounds
 pub mod Whole
 pub mod Counts
+pub mod Takes
