@@ -1,0 +1,10 @@
+pub mod Lasts
+pub mod Sessions
+pub mod Submits
+pub mod Turns
+pub mod Books
+pub mod Fronts
+pub mod Rounds
+pub mod Whole
+pub mod Counts
+pub mod Takes

@@ -1,0 +1,54 @@
+-- The session takes the next line of the script.
+use Rattle.std.proofs.Common.{◌≡◌, ◌⊎◌, inl, inr, ℕ, zero, suc, ◌+◌, ◌<◌, ◌≤◌, true, false, List, [], ◌∷◌, ◌++◌, Option, Some, None, refl, ap, sym, ◌∙◌, subst, arith}
+use Rattle.driver_model.specs.declared.action.Action.{Action}
+use Rattle.driver_model.specs.declared.event.Event.{Event}
+use Rattle.driver_model.specs.declared.event.EventKind.TheVariants as event
+use Rattle.shared_session.specs.History.{History}
+use Rattle.shared_session.specs.Turn.{actions_of}
+use Rattle.shared_session.specs.Replay.{opening_actions, state_after, trace_of, is_bad_after, is_spent_after}
+use Rattle.shared_session.specs.declared.session.Failure.{Failure}
+use Rattle.shared_session.specs.declared.session.Failure.TheVariants.{Sound, Spent, NoMemory}
+use Rattle.shared_session.proofs.Replays.{trace_of-none, trace_of-more}
+use Rattle.script_generator.specs.Script.{generated_config, generated_word, event_of, is_cancelled, submits, writes, cancels, replies}
+use Rattle.script_generator.specs.Fronts.{front, submitted, written, cancelled, IsAt}
+use Rattle.script_generator.specs.Summary.{no_summary, counted_each}
+use Rattle.script_generator.specs.declared.summary.Summary.{Summary}
+use Rattle.script_generator.proofs.Fronts.{IsNext}
+use Rattle.script_generator.proofs.Whole.{next_front, next_front_gone}
+
+-- what the session is asked with the next event
+pub sound_at : (es : List Event) (s : History) (counts : Summary) → IsAt es s counts → s.failure ≡ Sound
+sound_at es s counts h = ap (λ (x : History). x.failure) h.made
+
+pub good_at : (es : List Event) (e : Event) (s : History) (counts : Summary) → IsAt es s counts → IsNext es e → is_bad_after s.config s.word s.events e ≡ false
+good_at es e s counts h next = ap (λ (x : History). is_bad_after x.config x.word x.events e) h.made ∙ next.good
+
+pub unspent_at : (es : List Event) (e : Event) (s : History) (counts : Summary) → IsAt es s counts → IsNext es e → is_spent_after s.config s.word s.events e ≡ false
+unspent_at es e s counts h next = ap (λ (x : History). is_spent_after x.config x.word x.events e) h.made ∙ next.unspent
+
+counted_append : (counts : Summary) (s t : List Action) → counted_each counts (s ++ t) ≡ counted_each (counted_each counts s) t
+counted_append counts [] t = refl
+counted_append counts (a ∷ s) t = counted_append _ s t
+
+-- it has taken it
+pub at_more : (es : List Event) (e : Event) (s t : History) (before after : Summary) → IsAt es s before
+    → t ≡ record s { events = s.events ++ e ∷ [] } → after ≡ counted_each before (actions_of (state_after s.config s.word s.events) e) → IsAt (es ++ e ∷ []) t after
+at_more es e s t before after h taken counted = record {
+  made = taken ∙ ap (λ (x : History). record x { events = x.events ++ e ∷ [] }) h.made;
+  counted = counted ∙ ap (λ (x : History). counted_each before (actions_of (state_after x.config x.word x.events) e)) h.made
+      ∙ ap (λ (c : Summary). counted_each c (actions_of (state_after generated_config generated_word es) e)) h.counted
+      ∙ sym (counted_append no_summary (trace_of generated_config generated_word es) (actions_of (state_after generated_config generated_word es) e))
+      ∙ ap (counted_each no_summary) (sym (trace_of-more generated_config generated_word es e));
+}
+
+-- at its opening
+pub at_none : (s : History) (counts : Summary) → s ≡ record { config = generated_config; word = generated_word; events = []; failure = Sound }
+    → counts ≡ counted_each no_summary (opening_actions generated_config generated_word) → IsAt [] s counts
+at_none s counts made counted = record { made = made; counted = counted ∙ ap (counted_each no_summary) (sym (trace_of-none generated_config generated_word)) }
+
+-- a round is over
+pub round_over : (i : ℕ) (s : History) (counts : Summary) → is_cancelled i ≡ false → IsAt (written i ++ replies ∷ []) s counts → IsAt (front (i + 1)) s counts
+round_over i s counts stays h = subst (λ es. IsAt es s counts) (next_front i stays ∙ ap front (omega arith)) h
+
+pub round_over_gone : (i : ℕ) (s : History) (counts : Summary) → is_cancelled i ≡ true → IsAt (cancelled i ++ replies ∷ []) s counts → IsAt (front (i + 1)) s counts
+round_over_gone i s counts gone h = subst (λ es. IsAt es s counts) (next_front_gone i gone ∙ ap front (omega arith)) h
