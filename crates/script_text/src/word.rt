@@ -74,8 +74,8 @@ pub fn take_all(alloc: Global, words: &mut [Word<'_>]) -> Result<Names, AllocErr
     ensures { IfOk result (λ names. names ≡ words.old) }
 {
     let mut names = Vec::with_capacity(alloc, words.len())?;
-    for index in 0..words.len() {
-        names.push(words[index].take(alloc)?)?;
+    for word in words {
+        names.push(word.take(alloc)?)?;
     }
     Ok(Names::from_vec(names))
 }
