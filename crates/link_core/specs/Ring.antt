@@ -6,7 +6,7 @@ use Rattle.link_core.specs.declared.row.Taker.{Taker}
 use Rattle.link_core.specs.Dealing.{with_item}
 use Rattle.link_core.specs.Row.{lack_of}
 
--- the message of a place
+-- a message, without the count at which it is full
 abbrev pub entry_in : Taker → Entry
 entry_in t = t.entry
 

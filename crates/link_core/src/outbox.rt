@@ -45,7 +45,7 @@ impl Outbox {
         Ok(true)
     }
 
-    /// The first `count` of the offered bytes were taken.
+    /// The first `count` of the offered bytes were taken. Where all were, nothing moves, and their room is kept.
     pub fn take(&mut self, count: u64)
         requires { count ≤ length self.old.unwritten }
         ensures { self.new ≡ taken self.old count }

@@ -71,8 +71,8 @@ impl Row {
         self.takers.len()
     }
 
-    /// A message starts: it is the last, and has no items yet. An error leaves the row as it was; it comes for want of
-    /// memory, or if the counts had no room.
+    /// A message starts: it is the last, and has no items yet. An error leaves the row as it was. It comes for want of memory,
+    /// and where the count of items would pass 2^128, to which no link comes.
     #[tactic(auto, using(crate::proofs::RingLemmas::one_more))]
     pub fn start(&mut self, alloc: Global, message: &Queued) -> Result<(), AllocError>
         ensures ok { OnOk result (self.new ≡ self.old ++ entry_of message.now ∷ []) }

@@ -1,3 +1,4 @@
+use containers::Bytes;
 use driver_model::{Shape, Verdict};
 use link_core::{EnqueueError, LinkCore, LinkFault, PushAt, Settled, StartError, Started};
 use redis_error::{FaultKind, RedisError};
@@ -59,7 +60,8 @@ fn put_shape(
     answered: bool,
     log: &mut Vec<u8>,
 ) -> Result<(), AllocError> {
-    let word: &str = match link.enqueue(alloc, id, text.as_bytes(), shape, answered) {
+    let mut packed = Bytes::from_slice(alloc, text.as_bytes())?;
+    let word: &str = match link.enqueue(alloc, id, &mut packed, shape, answered) {
         Ok(()) => if link.is_full() {
             "put, full; "
         } else {
@@ -267,13 +269,13 @@ fn fault(
     log: &mut Vec<u8>,
 ) -> Result<(), AllocError> {
     let mut settled = Vec::new(alloc);
-    link.fault(alloc, fault, &mut settled)?;
+    link.fault(fault, &mut settled)?;
     describe_all(alloc, settled.as_slice(), log)
 }
 
 fn close(alloc: Global, link: &mut LinkCore, log: &mut Vec<u8>) -> Result<(), AllocError> {
     let mut settled = Vec::new(alloc);
-    link.close(alloc, &mut settled)?;
+    link.close(&mut settled)?;
     describe_all(alloc, settled.as_slice(), log)
 }
 
@@ -565,18 +567,19 @@ fn reads_text(alloc: Global, piece: &[u8], len: usize) -> Result<bool, AllocErro
     }
 }
 
-fn takes_message(alloc: Global, packed: &[u8]) -> bool {
+/// Whether a link takes over the bytes of this message.
+fn takes_message(alloc: Global, packed: &mut Bytes) -> bool {
     let mut link = LinkCore::new(alloc, 1, 1);
     match link.enqueue(alloc, 7, packed, Shape::Single, false) {
-        Ok(()) => link.is_full(),
+        Ok(()) => link.is_full() && packed.is_empty(),
         Err(_) => false,
     }
 }
 
 /// Whether a link takes a message that long.
 fn takes_long(alloc: Global, len: usize) -> Result<bool, AllocError> {
-    let text = vec![in alloc; b'x'; len]?;
-    Ok(takes_message(alloc, text.as_slice()))
+    let mut text = Bytes::from_vec(vec![in alloc; b'x'; len]?);
+    Ok(takes_message(alloc, &mut text))
 }
 
 fn frame(piece: &mut Vec<u8>, text: &[u8]) -> Result<(), AllocError> {

@@ -218,17 +218,19 @@ impl MultiplexedConnection {
 }
 
 impl MultiplexedConnection {
-    ghost use Rattle.mux_conn.specs.Passes.{placed_at, told_at_place, seated, moved_up};
+    ghost use Rattle.std.specs.Prelude.{if◌then◌else◌};
+    ghost use Rattle.mux_conn.specs.Requests.{answered};
+    ghost use Rattle.mux_conn.specs.Passes.{placed_at, seated, moved_up};
     ghost use Rattle.mux_conn.specs.Passes.{moved_up_all, put_behind, seated_or_behind, admitted};
     ghost use Rattle.mux_conn.specs.Passes.{admitted_all, passed};
     ghost use Rattle.mux_conn.specs.Connection.{work_with, admits_none, has_room, runs_out};
 
     /// A request takes its place in the queue.
-    fn place(&mut self, alloc: Global, request: &Waiting) -> Result<(), AllocError>
+    fn place(&mut self, alloc: Global, request: Waiting) -> Result<(), AllocError>
         requires free { has_room self.old.life ≡ true }
-        requires there { request.now.number < length self.old.requests }
+        requires there { request.number < length self.old.requests }
         ensures work { OnOk result (
-            work_with self.new [] ≡ placed_at (work_with self.old []) request.now self.old.life
+            work_with self.new [] ≡ placed_at (work_with self.old []) request self.old.life
             ) }
         ensures count { length self.new.requests ≡ length self.old.requests }
         ensures failure { self.new.failure ≡ self.old.failure }
@@ -242,53 +244,65 @@ impl MultiplexedConnection {
             Life::Dialing => return Ok(()),
             Life::Ended { error: _ } => return Ok(()),
         };
-        let number = u64::from(request.number);
-        let packed = request.packed.as_slice();
-        match link.enqueue(alloc, number, packed, request.shape, !request.awaited) {
+        let Waiting {
+            number,
+            mut packed,
+            shape,
+            awaited,
+            timeout: _,
+        } = request;
+        match link.enqueue(alloc, u64::from(number), &mut packed, shape, !awaited) {
             Ok(()) => {}
             Err(EnqueueError::Full) => unreachable!(),
             Err(EnqueueError::NoMemory) => return Err(AllocError),
         }
-        self.moved.push_back(request.number)?;
-        self.set_progress(request.number, Progress::Placed);
+        self.moved.push_back(number)?;
+        self.set_progress(number, Progress::Placed);
         Ok(())
     }
 
     /// A command whose reply nobody awaits is answered at its place.
-    fn tell_at_place(&mut self, request: &Waiting, out: &mut Vec<LinkAct>) -> Result<(), AllocError>
+    fn tell_at_place(
+        &mut self,
+        number: u32,
+        awaited: bool,
+        out: &mut Vec<LinkAct>,
+    ) -> Result<(), AllocError>
         ensures work { OnOk result (
             work_with self.new out.new.items
-            ≡ told_at_place (work_with self.old out.old.items) request.now
+            ≡ (if awaited then work_with self.old out.old.items else answered (work_with self.old out.old.items) number (Outcome.One Value.Nil))
             ) }
         ensures count { length self.new.requests ≡ length self.old.requests }
         ensures failure { self.new.failure ≡ self.old.failure }
     {
-        if request.awaited {
+        if awaited {
             return Ok(());
         }
-        self.answer(u64::from(request.number), Outcome::One(Value::Nil), out)
+        self.answer(u64::from(number), Outcome::One(Value::Nil), out)
     }
 
     /// A request takes its place in the queue, and messages start.
     fn seat(
         &mut self,
         alloc: Global,
-        request: &Waiting,
+        request: Waiting,
         out: &mut Vec<LinkAct>,
     ) -> Result<(), ConnectionError>
         requires free { has_room self.old.life ≡ true }
-        requires there { request.now.number < length self.old.requests }
+        requires there { request.number < length self.old.requests }
         ensures work { OnOk result (
             work_with self.new out.new.items
-            ≡ seated (work_with self.old out.old.items) request.now
+            ≡ seated (work_with self.old out.old.items) request
             ) }
         ensures spent { IsErrOf result ConnectionError.Spent
-            → runs_out (seated (work_with self.old out.old.items) request.now) ≡ true }
+            → runs_out (seated (work_with self.old out.old.items) request) ≡ true }
         ensures count { length self.new.requests ≡ length self.old.requests }
         ensures failure { self.new.failure ≡ self.old.failure }
     {
+        let number = request.number;
+        let awaited = request.awaited;
         self.place(alloc, request)?;
-        self.tell_at_place(request, out)?;
+        self.tell_at_place(number, awaited, out)?;
         self.start(alloc, out)
     }
 
@@ -296,16 +310,16 @@ impl MultiplexedConnection {
     fn move_up(
         &mut self,
         alloc: Global,
-        request: &Waiting,
+        request: Waiting,
         out: &mut Vec<LinkAct>,
     ) -> Result<(), ConnectionError>
         requires { has_room self.old.life ≡ true }
         ensures work { OnOk result (
             work_with self.new out.new.items
-            ≡ moved_up (work_with self.old out.old.items) request.now
+            ≡ moved_up (work_with self.old out.old.items) request
             ) }
         ensures spent { IsErrOf result ConnectionError.Spent
-            → runs_out (moved_up (work_with self.old out.old.items) request.now) ≡ true }
+            → runs_out (moved_up (work_with self.old out.old.items) request) ≡ true }
         ensures count { length self.new.requests ≡ length self.old.requests }
         ensures failure { self.new.failure ≡ self.old.failure }
     {
@@ -328,7 +342,7 @@ impl MultiplexedConnection {
         let mut rest = std::mem::replace(&mut self.admitted, Queue::new(alloc));
         'requests: while self.life.has_room() {
             match rest.pop_front() {
-                Some(request) => match self.move_up(alloc, &request, out) {
+                Some(request) => match self.move_up(alloc, request, out) {
                     Ok(()) => {}
                     Err(error) => return Err(error),
                 },
@@ -372,7 +386,7 @@ impl MultiplexedConnection {
         ensures failure { self.new.failure ≡ self.old.failure }
     {
         if self.life.has_room() {
-            return self.seat(alloc, &request, out);
+            return self.seat(alloc, request, out);
         }
         self.put_behind(request)?;
         Ok(())
@@ -493,7 +507,7 @@ impl MultiplexedConnection {
         }
         let found = take_entry(alloc, &mut self.admitted, number)?;
         match found {
-            Some(request) => match self.move_up(alloc, &request, out) {
+            Some(request) => match self.move_up(alloc, request, out) {
                 Ok(()) => Ok(true),
                 Err(error) => Err(error),
             },

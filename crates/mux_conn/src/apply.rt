@@ -224,9 +224,9 @@ impl MultiplexedConnection {
         ensures failure { self.new.failure ≡ self.old.failure }
     {
         let mut link = link;
-        let packed = setup_bytes(alloc, &self.info, with_user)?;
+        let mut packed = setup_bytes(alloc, &self.info, with_user)?;
         let shape = setup_shape(&self.info, with_user);
-        link.enqueue_beyond(alloc, setup_id(with_user), packed.as_slice(), shape)?;
+        link.enqueue_beyond(alloc, setup_id(with_user), &mut packed, shape)?;
         self.life = Life::SettingUp { link, with_user };
         Ok(())
     }
@@ -458,7 +458,7 @@ impl MultiplexedConnection {
         }
         let mut settled = Vec::new(alloc);
         match &mut self.life {
-            Life::Ready { link } => link.fault(alloc, fault, &mut settled)?,
+            Life::Ready { link } => link.fault(fault, &mut settled)?,
             Life::SettingUp {
                 link: _,
                 with_user: _,
@@ -480,7 +480,7 @@ impl MultiplexedConnection {
     {
         let mut settled = Vec::new(alloc);
         match &mut self.life {
-            Life::Ready { link } => link.close(alloc, &mut settled)?,
+            Life::Ready { link } => link.close(&mut settled)?,
             Life::SettingUp {
                 link: _,
                 with_user: _,
