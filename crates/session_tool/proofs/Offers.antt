@@ -1,6 +1,6 @@
 -- What a second replay keeps, which looks for the bad event.
-use Rattle.std.proofs.Common.{◌≡◌, ◌==◌, ◌<◌, ◌+◌, ℕ, true, false, List, [], ◌∷◌, ◌++◌, length, ◌≤◌, Option, Some, None, arith, ◌∙◌, refl, sym, ap, subst}
-use Rattle.std.specs.Prelude.{slice_get, take, IfSome}
+use Rattle.std.proofs.Common.{◌≡◌, ◌==◌, ℕ, false, List, [], ◌∷◌, ◌++◌, Option, Some, None, ◌∙◌, refl, sym, ap, subst}
+use Rattle.std.specs.Prelude.{slice_get}
 use Rattle.containers.proofs.Choices.{chosen}
 use Rattle.driver_model.specs.News.{news_of, of_timer, overdue, silence}
 use Rattle.driver_model.specs.declared.action.Action.{Action}
@@ -19,7 +19,6 @@ use Rattle.shared_session.specs.Replay.{opening_actions, state_after, trace_of, 
 use Rattle.shared_session.specs.Turn.{actions_of}
 use Rattle.shared_session.proofs.Replays.{Kept, kept_none, trace_of-none, trace_of-more}
 use Rattle.session_tool.specs.declared.offer.Offer.{Offer}
-use Rattle.session_tool.specs.Notes.{IsBadNoteOf, bad_event_words, line_note}
 use Rattle.session_tool.specs.Offers.{IsOfferOf}
 use Rattle.session_tool.proofs.Traces.{kept_next}
 
@@ -70,17 +69,3 @@ follows_more config word taken s t e o next h made good unspent offers =
       kept = kept_next config word taken s t e h.kept made good unspent;
       offer = subst (λ (b : Book). IsOfferOf next b) is (offers (book before) h.offer);
     }
-
--- a bad event ends it, and a note of that event is the note of the first bad one
-pub found_bad : (config : Config) (word : ℕ) (all : List Event) (index : ℕ) (s : History) (e : Event) (o : Offer) (found : Option (List ℕ)) → index < length all → slice_get all index ≡ Some e
-    → Follows config word (take index all) s o → is_bad_after s.config s.word s.events e ≡ true
-    → IfSome found (λ note. (b : Book) → IsOfferOf o b → note ≡ line_note (index + 2) (bad_event_words b e.kind)) → IfSome found (IsBadNoteOf config word all)
-found_bad config word all index s e o None l stands h bad said = said
-found_bad config word all index s e o (Some note) l stands h bad said = record {
-  index = index;
-  first = record {
-    before = record { within = omega arith; sound = h.sound; good = h.kept.good; unspent = h.kept.unspent };
-    bad = record { event = e; stands = stands; bad = sym (ap (λ (x : History). is_bad_after x.config x.word x.events e) h.kept.made) ∙ bad };
-  };
-  is = said (book (trace_of config word (take index all))) h.offer;
-}

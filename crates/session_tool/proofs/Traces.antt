@@ -1,15 +1,16 @@
 -- Traces that are written while they grow.
-use Rattle.std.proofs.Common.{arith, ◌≡◌, ◌<◌, ◌≤◌, ◌⊎◌, inl, inr, ◌+◌, ℕ, true, false, List, [], ◌∷◌, ◌++◌, length, Option, Some, append_assoc, ◌∙◌, refl, sym, ap, subst, length-append}
-use Rattle.std.proofs.Math.Nat.{le_refl}
+use Rattle.std.proofs.Common.{arith, ◌≡◌, ◌<◌, ◌≤◌, ◌⊎◌, inl, inr, ◌+◌, ℕ, suc, true, false, List, [], ◌∷◌, ◌++◌, length, Option, Some, append_assoc, ◌∙◌, refl, sym, ap, subst, length-append}
+use Rattle.std.proofs.Math.Nat.{le_refl, le_of_lt}
 use Rattle.std.proofs.lemmas.List.{append-nil}
 use Rattle.std.proofs.lemmas.Grind.{flat_map-append}
-use Rattle.std.proofs.Math.Seq.{take-append-add, take-length}
-use Rattle.std.specs.Prelude.{slice_get, take, codes}
+use Rattle.std.proofs.Math.Seq.{take-append-add, take-append_seam, take-length}
+use Rattle.std.specs.Prelude.{Result, Err, slice_get, take, codes}
 use Rattle.outside.specs.Ends.{Gained, GainedPart}
 use Rattle.redis_error.specs.declared.config_name.ConfigName.{ConfigName}
 use Rattle.driver_model.specs.declared.action.Action.{Action}
 use Rattle.driver_model.specs.declared.config.Config.{Config}
 use Rattle.driver_model.specs.declared.event.Event.{Event}
+use Rattle.legal_trace.specs.Book.{book}
 use Rattle.shared_session.specs.declared.session.Failure.TheVariants.{Sound, Spent}
 use Rattle.shared_session.specs.History.{History}
 use Rattle.shared_session.specs.Replay.{opening_actions, state_after, trace_of, AreGood, AreUnspent, is_bad_after, is_spent_after, IsSound}
@@ -22,6 +23,7 @@ use Rattle.program_ends.proofs.Sent.{gained_more, gained_none, sent_none, sent_a
 use Rattle.session_tool.specs.declared.replaying.Stop.{Stop}
 use Rattle.session_tool.specs.declared.replaying.Stop.TheVariants as stop
 use Rattle.session_tool.specs.Stops.{AreTaken, AreTurns, IsFirstBad, IsFirstSpent, EndsAt, EndsBadly, EndsSpent, EndsRefused, IsToldRefused, IsNotOpened, ToldAt, SentTurns, GainedTurns, GainedFront, Ends, Told, IsReplayText, EndsWith, turns_before, event_line, stop_line}
+use Rattle.session_tool.specs.Notes.{IsBadNoteOf, bad_event_words, line_note}
 use Rattle.program_ends.specs.Lines.{numbered_line, config_line}
 
 -- the text of two lists of actions
@@ -34,13 +36,19 @@ pub record Streams (config : Config) (word : ℕ) (taken : List Event) (s : Hist
   pub kept : Kept config word taken [] s (trace_of config word taken)
   pub sent : Sent old new rest (show (trace_of config word taken))
 
-pub streams_none : {held : Option (List ℕ)} (config : Config) (word : ℕ) (s : History) (before rest : List ℕ) → s ≡ record { config = config; word = word; events = []; failure = Sound }
+streams_none : {held : Option (List ℕ)} (config : Config) (word : ℕ) (s : History) (before rest : List ℕ) → s ≡ record { config = config; word = word; events = []; failure = Sound }
     → IsSound config → before ≡ [] → rest ≡ before ++ show (opening_actions config word) → Streams config word [] s held held rest
 streams_none {held} config word s before rest made sound empty shown = record {
   sound = sound;
   kept = kept_none config word [] (trace_of config word []) s made (trace_of-none config word);
   sent = sent_none rest (show (trace_of config word [])) (shown ∙ ap (λ (xs : List ℕ). xs ++ show (opening_actions config word)) empty ∙ ap (λ (acts : List Action). show acts) (sym (trace_of-none config word)));
 }
+
+-- the same where the events so far are named by the session
+pub streams_opened : {held : Option (List ℕ)} (config : Config) (word : ℕ) (s : History) (before rest : List ℕ) → s ≡ record { config = config; word = word; events = []; failure = Sound }
+    → IsSound config → before ≡ [] → rest ≡ before ++ show (opening_actions config word) → Streams config word s.events s held held rest
+streams_opened {held} config word s before rest made sound empty shown =
+    subst (λ (es : List Event). Streams config word es s held held rest) (sym (ap (λ (x : History). x.events) made)) (streams_none config word s before rest made sound empty shown)
 
 -- one event more is kept
 pub kept_next : (config : Config) (word : ℕ) (taken : List Event) (s t : History) (e : Event) → Kept config word taken [] s (trace_of config word taken) → t ≡ record s { events = s.events ++ e ∷ [] }
@@ -51,7 +59,7 @@ kept_next config word taken s t e h made good unspent =
     kept_more config word taken [] before (trace_of config word (taken ++ e ∷ [])) s t e h made
     (trace_of-more config word taken e ∙ ap (λ (acted : List Action). before ++ acted) (sym same)) good unspent
 
-pub streams_more : {old mid new : Option (List ℕ)} (config : Config) (word : ℕ) (taken : List Event) (s t : History) (e : Event) (rest grown after : List ℕ) →
+streams_more : {old mid new : Option (List ℕ)} (config : Config) (word : ℕ) (taken : List Event) (s t : History) (e : Event) (rest grown after : List ℕ) →
     Streams config word taken s old mid rest → t ≡ record s { events = s.events ++ e ∷ [] } → is_bad_after s.config s.word s.events e ≡ false
     → is_spent_after s.config s.word s.events e ≡ false → grown ≡ rest ++ show (actions_of (state_after s.config s.word s.events) e) → Sent mid new after grown → Streams config word (taken ++ e ∷ []) t old new after
 streams_more {old} {mid} {new} config word taken s t e rest grown after h made good unspent shown sent =
@@ -65,12 +73,24 @@ streams_more {old} {mid} {new} config word taken s t e rest grown after h made g
           (sent_more rest grown after (show (trace_of config word taken)) (show acts) h.sent (shown ∙ ap (λ (acted : List Action). rest ++ show acted) same) sent);
     }
 
+-- and one event later
+pub streams_next : {old mid new : Option (List ℕ)} (config : Config) (word : ℕ) (s t : History) (e : Event) (rest grown after : List ℕ) →
+    Streams config word s.events s old mid rest → t ≡ record s { events = s.events ++ e ∷ [] } → is_bad_after s.config s.word s.events e ≡ false
+    → is_spent_after s.config s.word s.events e ≡ false → grown ≡ rest ++ show (actions_of (state_after s.config s.word s.events) e) → Sent mid new after grown → Streams config word t.events t old new after
+streams_next {old} {mid} {new} config word s t e rest grown after h made good unspent shown sent =
+    subst (λ (es : List Event). Streams config word es t old new after) (sym (ap (λ (x : History). x.events) made))
+    (streams_more config word s.events s t e rest grown after h made good unspent shown sent)
+
+-- and what is left is one event less
+pub taken_next : (s t : History) (e : Event) (left all : List Event) → t ≡ record s { events = s.events ++ e ∷ [] } → s.events ++ e ∷ left ≡ all → t.events ++ left ≡ all
+taken_next s t e left all made is = ap (λ (x : History). x.events ++ left) made ∙ append_assoc s.events (e ∷ []) left ∙ is
+
 -- the events so far are taken
 taken_before : {old new : Option (List ℕ)} (config : Config) (word : ℕ) (all : List Event) (index : ℕ) (s : History) (rest : List ℕ) → index ≤ length all → Streams config word (take index all) s old new rest → AreTaken config word all index
 taken_before {old} {new} config word all index s rest l h = record { within = l; sound = h.sound; good = h.kept.good; unspent = h.kept.unspent }
 
 -- a bad event ends a replay into a sink
-pub ends_badly : {old new : Option (List ℕ)} (config : Config) (word : ℕ) (all : List Event) (index number : ℕ) (s : History) (e : Event) (before after : List ℕ) →
+ends_badly : {old new : Option (List ℕ)} (config : Config) (word : ℕ) (all : List Event) (index number : ℕ) (s : History) (e : Event) (before after : List ℕ) →
     index < length all → slice_get all index ≡ Some e → Streams config word (take index all) s old new before → after ≡ before
     → is_bad_after s.config s.word s.events e ≡ true → number ≡ length s.events + 1 → EndsBadly config word all number old new after
 ends_badly {old} {new} config word all index number s e before after l is h same b counted =
@@ -86,7 +106,7 @@ ends_badly {old} {new} config word all index number s e before after l is h same
     }
 
 -- and so does a spent step
-pub ends_spent : {old new : Option (List ℕ)} (config : Config) (word : ℕ) (all : List Event) (index number : ℕ) (s : History) (e : Event) (before after : List ℕ) →
+ends_spent : {old new : Option (List ℕ)} (config : Config) (word : ℕ) (all : List Event) (index number : ℕ) (s : History) (e : Event) (before after : List ℕ) →
     index < length all → slice_get all index ≡ Some e → Streams config word (take index all) s old new before → after ≡ before
     → (s.failure ≡ Spent) ⊎ IsSpentBy s e → number ≡ length s.events + 1 → EndsSpent config word all number old new after
 ends_spent {old} {new} config word all index number s e before after l is h same why counted =
@@ -104,7 +124,7 @@ ends_spent {old} {new} config word all index number s e before after l is h same
     }
 
 -- the sink and the rest have whole turns, wherever a replay into a sink stopped
-pub sent_turns : {old new : Option (List ℕ)} (config : Config) (word : ℕ) (all : List Event) (index : ℕ) (s : History) (before after : List ℕ) →
+sent_turns : {old new : Option (List ℕ)} (config : Config) (word : ℕ) (all : List Event) (index : ℕ) (s : History) (before after : List ℕ) →
     index ≤ length all → Streams config word (take index all) s old new before → after ≡ before → SentTurns config word all old new after
 sent_turns {old} {new} config word all index s before after l h same = record {
   text = turns_before config word all index;
@@ -129,7 +149,7 @@ front_of_turns : {old new : Option (List ℕ)} (config : Config) (word : ℕ) (a
 front_of_turns {old} {new} config word all text turns part = record { text = text; is = inl turns; part = part }
 
 -- the sink failed behind an event: it has the front of the turns up to that event's
-pub cut_short : {old mid new : Option (List ℕ)} (config : Config) (word : ℕ) (all : List Event) (index : ℕ) (s : History) (e : Event) (before grown : List ℕ) →
+cut_short : {old mid new : Option (List ℕ)} (config : Config) (word : ℕ) (all : List Event) (index : ℕ) (s : History) (e : Event) (before grown : List ℕ) →
     index < length all → take (index + 1) all ≡ take index all ++ e ∷ [] → Streams config word (take index all) s old mid before
     → is_bad_after s.config s.word s.events e ≡ false → is_spent_after s.config s.word s.events e ≡ false
     → grown ≡ before ++ show (actions_of (state_after s.config s.word s.events) e) → GainedPart mid new grown → GainedFront config word all old new
@@ -231,6 +251,12 @@ front_refused config word all name rest h (inr part) = front_of_turns config wor
 no_fault : stop.NoMemory ≡ stop.WriteFault → ⊥
 no_fault is = cc
 
+no_bad_memory : (n : ℕ) → stop.NoMemory ≡ stop.BadEvent n → ⊥
+no_bad_memory n is = cc
+
+no_bad_fault : (n : ℕ) → stop.WriteFault ≡ stop.BadEvent n → ⊥
+no_bad_fault n is = cc
+
 either_part : {mid new : Option (List ℕ)} (rest : List ℕ) → GainedPart mid new (rest ++ []) ⊎ GainedPart mid new (rest ++ []) → GainedPart mid new (rest ++ [])
 either_part {mid} {new} rest (inl part) = part
 either_part {mid} {new} rest (inr part) = part
@@ -291,8 +317,22 @@ told_end old mid new config word all s r rest ends (inr (inl e)) (inl is) same c
 told_end old mid new config word all s r rest ends (inr (inr e)) told same cut =
     subst (λ (x : Stop). Told x config word all old new) (sym e) (told_cut old mid new config word all s rest ends (λ is. (same is).1) (cut e))
 
+-- a session that has taken the first events, and those that are left
+split_take : (taken : List Event) (e : Event) (left all : List Event) → taken ++ e ∷ left ≡ all → take (length taken) all ≡ taken
+split_take taken e left all is = ap (λ (es : List Event). take (length taken) es) (sym is) ∙ take-append_seam taken (e ∷ left)
+
+split_more : (taken : List Event) (e : Event) (left all : List Event) → taken ++ e ∷ left ≡ all → take (length taken + 1) all ≡ taken ++ e ∷ []
+split_more taken e left all is = ap (λ (es : List Event). take (length taken + 1) es) (sym is) ∙ take-append-add taken (e ∷ left) 1
+
+split_at : (taken : List Event) (e : Event) (left all : List Event) → taken ++ e ∷ left ≡ all → slice_get all (length taken) ≡ Some e
+split_at [] e left all is = ap (λ (es : List Event). slice_get es 0) (sym is)
+split_at (d ∷ taken) e left all is = ap (λ (es : List Event). slice_get es (suc (length taken))) (sym is) ∙ split_at taken e left (taken ++ e ∷ left) refl
+
+split_within : (taken : List Event) (e : Event) (left all : List Event) → taken ++ e ∷ left ≡ all → length taken < length all
+split_within taken e left all is = omega (arith, ap length is, length-append taken (e ∷ left))
+
 -- a turn that wasn't taken ends a replay into a sink
-pub stopped_turn : {old new : Option (List ℕ)} (config : Config) (word : ℕ) (all : List Event) (index : ℕ) (s : History) (e : Event) (why : Stop) (before after : List ℕ) →
+stopped_turn : {old new : Option (List ℕ)} (config : Config) (word : ℕ) (all : List Event) (index : ℕ) (s : History) (e : Event) (why : Stop) (before after : List ℕ) →
     index < length all → slice_get all index ≡ Some e → Streams config word (take index all) s old new before → after ≡ before
     → ((n : ℕ) → why ≡ stop.BadEvent n → is_bad_after s.config s.word s.events e ≡ true) → ((n : ℕ) → why ≡ stop.BadEvent n → n ≡ length s.events + 1)
     → ((n : ℕ) → why ≡ stop.Spent n → (s.failure ≡ Spent) ⊎ IsSpentBy s e) → ((n : ℕ) → why ≡ stop.Spent n → n ≡ length s.events + 1)
@@ -302,3 +342,53 @@ stopped_turn {old} {new} config word all index s e (stop.BadEvent n) before afte
 stopped_turn {old} {new} config word all index s e (stop.Spent n) before after l is h same bad number spent count writes opened = ends_spent config word all index n s e before after l is h same (spent n refl) (count n refl)
 stopped_turn {old} {new} config word all index s e stop.NoMemory before after l is h same bad number spent count writes opened = sent_turns config word all index s before after (omega arith) h same
 stopped_turn {old} {new} config word all index s e stop.WriteFault before after l is h same bad number spent count writes opened = absurd (writes refl)
+
+-- the same of one that has taken the events before that of the turn
+pub stopped_behind : {old new : Option (List ℕ)} (config : Config) (word : ℕ) (all left : List Event) (s : History) (e : Event) (why : Stop) (before after : List ℕ) →
+    s.events ++ e ∷ left ≡ all → Streams config word s.events s old new before → after ≡ before
+    → ((n : ℕ) → why ≡ stop.BadEvent n → is_bad_after s.config s.word s.events e ≡ true) → ((n : ℕ) → why ≡ stop.BadEvent n → n ≡ length s.events + 1)
+    → ((n : ℕ) → why ≡ stop.Spent n → (s.failure ≡ Spent) ⊎ IsSpentBy s e) → ((n : ℕ) → why ≡ stop.Spent n → n ≡ length s.events + 1)
+    → (why ≡ stop.WriteFault → ⊥) → ((name : ConfigName) → why ≡ stop.Config name → ⊥) → Ends why config word all old new after
+stopped_behind {old} {new} config word all left s e why before after is h same bad number spent count writes opened =
+    stopped_turn config word all (length s.events) s e why before after (split_within s.events e left all is) (split_at s.events e left all is)
+    (subst (λ (es : List Event). Streams config word es s old new before) (sym (split_take s.events e left all is)) h) same bad number spent count writes opened
+
+-- the sink failed behind such a turn
+pub cut_behind : {old mid new : Option (List ℕ)} (config : Config) (word : ℕ) (all left : List Event) (s : History) (e : Event) (before grown : List ℕ) →
+    s.events ++ e ∷ left ≡ all → Streams config word s.events s old mid before
+    → is_bad_after s.config s.word s.events e ≡ false → is_spent_after s.config s.word s.events e ≡ false
+    → grown ≡ before ++ show (actions_of (state_after s.config s.word s.events) e) → GainedPart mid new grown → GainedFront config word all old new
+cut_behind {old} {mid} {new} config word all left s e before grown is h good unspent shown part =
+    let first = split_take s.events e left all is in
+    cut_short config word all (length s.events) s e before grown (split_within s.events e left all is)
+    (split_more s.events e left all is ∙ ap (λ (es : List Event). es ++ e ∷ []) (sym first))
+    (subst (λ (es : List Event). Streams config word es s old mid before) (sym first) h) good unspent shown part
+
+-- a note of such an event, which is bad, is the note of the first bad one
+pub noted_behind : {old new : Option (List ℕ)} (config : Config) (word : ℕ) (all left : List Event) (s : History) (e : Event) (before note : List ℕ) →
+    s.events ++ e ∷ left ≡ all → Streams config word s.events s old new before → is_bad_after s.config s.word s.events e ≡ true
+    → (note ≡ []) ⊎ (note ≡ line_note (length s.events + 2) (bad_event_words (book (trace_of s.config s.word s.events)) e.kind)) → (note ≡ []) ⊎ IsBadNoteOf config word all note
+noted_behind {old} {new} config word all left s e before note is h bad (inl none) = inl none
+noted_behind {old} {new} config word all left s e before note is h bad (inr said) =
+    let index = length s.events in
+    let first : s.events ≡ take index all = sym (split_take s.events e left all is) in
+    let made : s ≡ record { config = config; word = word; events = take index all; failure = Sound } =
+    h.kept.made ∙ ap (λ (es : List Event). let x : History = record { config = config; word = word; events = es; failure = Sound } in x) first in
+    let taken = taken_before config word all index s before (le_of_lt (split_within s.events e left all is)) (subst (λ (es : List Event). Streams config word es s old new before) first h) in
+    inr (record {
+      index = index;
+      first = record {
+        before = taken;
+        bad = record { event = e; stands = split_at s.events e left all is; bad = sym (ap (λ (x : History). is_bad_after x.config x.word x.events e) made) ∙ bad };
+      };
+      is = said ∙ ap (λ (x : History). line_note (index + 2) (bad_event_words (book (trace_of x.config x.word x.events)) e.kind)) made;
+    })
+
+-- a stop that is a bad event's in the end was so before
+pub noted_end : {P : Type 0} (s r : Stop) → (r ≡ s) ⊎ ((r ≡ stop.NoMemory) ⊎ (r ≡ stop.WriteFault)) → ((n : ℕ) → s ≡ stop.BadEvent n → P) → (n : ℕ) → r ≡ stop.BadEvent n → P
+noted_end s r (inl same) noted n is = noted n (sym same ∙ is)
+noted_end s r (inr (inl other)) noted n is = absurd (no_bad_memory n (sym other ∙ is))
+noted_end s r (inr (inr other)) noted n is = absurd (no_bad_fault n (sym other ∙ is))
+
+pub same_stop : (a b : Stop) → ◌≡◌ {A = Result (Option ℕ) Stop} (Err a) (Err b) → a ≡ b
+same_stop a b is = cc

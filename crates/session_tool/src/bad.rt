@@ -1,12 +1,11 @@
-ghost use Rattle.std.specs.Prelude.{◌≡◌, ◌⊎◌, ◌<◌, ◌+◌, ◌^◌, ℕ, ◌∷◌, [], ◌++◌, true, false, decimal};
-ghost use Rattle.std.specs.Prelude.{OnOk, OnSome, IfOk, IfSome, IsErrOf};
+ghost use Rattle.std.specs.Prelude.{◌≡◌, ◌⊎◌, ◌<◌, ◌+◌, ◌^◌, ◌∷◌, [], ◌++◌, length, false, decimal};
+ghost use Rattle.std.specs.Prelude.{OnOk, OnSome, IfOk, IfSome};
 ghost use Rattle.legal_trace.specs.Book.{Book, book, entered_each};
-ghost use Rattle.shared_session.specs.Replay.{opening_actions, state_after, IsSound};
+ghost use Rattle.shared_session.specs.Replay.{opening_actions, state_after, trace_of, IsSound};
 ghost use Rattle.shared_session.specs.Replay.{is_bad_after, is_spent_after};
 ghost use Rattle.shared_session.specs.Turn.{actions_of};
 ghost use Rattle.shared_session.specs.declared.session.Failure.TheVariants.{Sound};
-ghost use Rattle.session_tool.specs.Notes.{IsBadNoteOf, bad_event_words, bad_words, event_words};
-ghost use Rattle.session_tool.specs.Notes.{line_note};
+ghost use Rattle.session_tool.specs.Notes.{bad_event_words, bad_words, event_words, line_note};
 ghost use Rattle.session_tool.specs.Offers.{IsOfferOf};
 
 use crate::lines::reason_line;
@@ -14,8 +13,7 @@ use crate::offer::Offer;
 use containers::Bytes;
 use driver_model::{Config, Event, EventKind};
 use program_ends::push_number;
-use script_text::Script;
-use shared_session::{Session, StepError};
+use shared_session::Session;
 use std::alloc::{AllocError, Global};
 
 /// Why an event is bad.
@@ -31,15 +29,6 @@ pub enum BadReason {
     NoTimer,
     /// It says that more bytes were taken than were offered.
     OnlyOffered { count: u64 },
-}
-
-/// Why one step didn't go on.
-#[derive(Clone, Copy)]
-enum Halt {
-    /// The event is bad.
-    Bad,
-    /// Memory was refused, or a number has run out.
-    Failed,
 }
 
 /// Appends words and a number.
@@ -132,36 +121,28 @@ fn open_quietly(alloc: Global, config: &Config, word: u64, offer: &mut Offer) ->
     Some(session)
 }
 
-/// Steps one event, and says what is offered then.
-fn step_quietly(
-    alloc: Global,
-    session: &mut Session,
-    event: &Event,
-    offer: Offer,
-) -> Result<Offer, Halt>
-    ensures ok { OnOk result (
+/// Steps one event, and says what is offered then. None: memory was refused for it.
+fn step_quietly(alloc: Global, session: &mut Session, event: &Event, offer: Offer) -> Option<Offer>
+    ensures ok { OnSome result (
         session.new ≡ record session.old { events = session.old.events ++ event.now ∷ [] }
         ) }
-    ensures offer { IfOk result (λ next. (b : Book) → IsOfferOf offer b
+    ensures offer { IfSome result (λ next. (b : Book) → IsOfferOf offer b
         → IsOfferOf next (entered_each b (actions_of
         (state_after session.old.config session.old.word session.old.events) event.now))) }
-    ensures good { OnOk result (
+    ensures good { OnSome result (
         is_bad_after session.old.config session.old.word session.old.events event.now ≡ false
         ) }
-    ensures unspent { OnOk result (
+    ensures unspent { OnSome result (
         is_spent_after session.old.config session.old.word session.old.events event.now ≡ false
         ) }
-    ensures bad { IsErrOf result Halt.Bad
-        → is_bad_after session.old.config session.old.word session.old.events event.now ≡ true }
 {
     let Ok(event) = event.clone(alloc) else {
-        return Err(Halt::Failed);
+        return None;
     };
     let mut actions = Vec::new(alloc);
     match session.step(alloc, event, &mut actions) {
-        Ok(()) => Ok(offer.after_each(actions.as_slice())),
-        Err(StepError::BadEvent) => Err(Halt::Bad),
-        Err(_) => Err(Halt::Failed),
+        Ok(()) => Some(offer.after_each(actions.as_slice())),
+        Err(_) => None,
     }
 }
 
@@ -180,31 +161,45 @@ fn offered_line(alloc: Global, place: u64, kind: &EventKind, offer: Offer) -> Op
     }
 }
 
-/// The note of the first bad event of a history. None: memory was refused for it, or there is none.
-fn find_bad(alloc: Global, config: &Config, word: u64, events: &[Event]) -> Option<Bytes>
-    ensures { IfSome result (IsBadNoteOf config.now word events.now) }
+/// What is offered after a history that a session has taken, found by a second session. None: memory was refused for it.
+fn find_offer(alloc: Global, config: &Config, word: u64, events: &[Event]) -> Option<Offer>
+    ensures { IfSome result (λ offer.
+        IsOfferOf offer (book (trace_of config.now word events.now))) }
 {
     let mut offer = Offer::new();
     let Some(mut session) = open_quietly(alloc, config, word, &mut offer) else {
         return None;
     };
-    for (place, event) in events.iter().enumerate() {
+    for event in events {
         match step_quietly(alloc, &mut session, event, offer) {
-            Ok(next) => offer = next,
-            Err(Halt::Bad) => return offered_line(alloc, place as u64, &event.kind, offer),
-            Err(Halt::Failed) => return None,
+            Some(next) => offer = next,
+            None => return None,
         }
     }
-    None
+    Some(offer)
 }
 
-/// The note of a replay that a bad event ended: nothing, where memory was refused for it.
-pub fn bad_note(alloc: Global, script: &Script) -> Bytes
-    ensures { (result ≡ [])
-        ⊎ IsBadNoteOf script.now.config script.now.word script.now.events result }
+/// The note of an event that a session didn't take, since it is bad. None: memory was refused for it.
+fn find_note(alloc: Global, session: &Session, kind: &EventKind) -> Option<Bytes>
+    ensures { IfSome result (λ note. note ≡ line_note (length session.now.events + 2)
+        (bad_event_words
+        (book (trace_of session.now.config session.now.word session.now.events))
+        kind.now)) }
 {
-    let events = script.events.as_slice();
-    match find_bad(alloc, &script.config, script.word, events) {
+    let Some(offer) = find_offer(alloc, session.config(), session.word(), session.events()) else {
+        return None;
+    };
+    offered_line(alloc, u64::from(session.events_taken()), kind, offer)
+}
+
+/// The note of an event that a session didn't take, since it is bad: nothing, where memory was refused for it.
+pub fn bad_note(alloc: Global, session: &Session, kind: &EventKind) -> Bytes
+    ensures { (result ≡ []) ⊎ (result ≡ line_note (length session.now.events + 2)
+        (bad_event_words
+        (book (trace_of session.now.config session.now.word session.now.events))
+        kind.now)) }
+{
+    match find_note(alloc, session, kind) {
         Some(note) => note,
         None => Bytes::new(alloc),
     }

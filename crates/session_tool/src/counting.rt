@@ -1,6 +1,6 @@
 ghost use Rattle.std.specs.Prelude.{◌≡◌, ◌⊎◌, [], IfOk, IfSome, OnOk};
 ghost use Rattle.shared_session.specs.Replay.{trace_of, outcomes_in};
-ghost use Rattle.session_tool.specs.Notes.{kept_by, kept_each, open_from, open_note, IsCountNote};
+ghost use Rattle.session_tool.specs.Notes.{kept_by, kept_each, open_count, open_from, open_note, IsCountNote};
 
 use containers::{Bytes, Seq};
 use driver_model::{Event, EventKind};
@@ -54,13 +54,12 @@ fn count_open(session: &Session, kept: &[bool]) -> Option<u64>
     Some(count)
 }
 
-/// How many submissions are open after these events. None: memory was refused for the count.
-pub fn open_after(alloc: Global, session: &Session, events: &[Event]) -> Option<u64>
-    ensures { IfSome result (λ count. count ≡ open_from
-        (outcomes_in (trace_of session.now.config session.now.word session.now.events))
-        0 (kept_each [] events.now)) }
+/// How many submissions are open after the history of a session. None: memory was refused for the count.
+pub fn open_after(alloc: Global, session: &Session) -> Option<u64>
+    ensures { IfSome result (λ count.
+        count ≡ open_count session.now.config session.now.word session.now.events) }
 {
-    match kept_of(alloc, events) {
+    match kept_of(alloc, session.events()) {
         Ok(kept) => count_open(session, kept.as_slice()),
         Err(_) => None,
     }

@@ -5,14 +5,13 @@ ghost use Rattle.shared_session.specs.Replay.{trace_of, AreGood, AreUnspent, IsS
 ghost use Rattle.trace_text.specs.Show.{show};
 ghost use Rattle.session_tool.specs.Does.{Does};
 ghost use Rattle.program_ends.specs.Lines.{usage_line};
-ghost use Rattle.session_tool.specs.Notes.{IsOwn, IsWritten, Notes, live_note, open_count};
+ghost use Rattle.session_tool.specs.Notes.{IsBadNoteOf, IsOwn, IsWritten, Notes, live_note, open_count};
 ghost use Rattle.program_ends.specs.Sides.{side};
 ghost use Rattle.session_tool.specs.Stops.{Told, stop_line};
 ghost use Rattle.live_lines.specs.Does.{DoesLive};
 ghost use Rattle.script_text.specs.Lines.{texts};
 ghost use Rattle.session_tool.specs.Words.{command_of, is_live, words_behind};
 
-use crate::bad::bad_note;
 use crate::command::{Command, command_of};
 use crate::counting::done_note;
 use crate::lines::{VERSION, help_text};
@@ -74,28 +73,39 @@ fn end_early<K: Sink>(alloc: Global, stop: Stop, text: &mut Bytes, sink: &mut K)
     }
 }
 
-/// Replays a script, and writes its trace.
+/// Replays a script, and writes its trace. Where an event is bad, the note says why, unless memory was refused for that.
 #[tactic(auto, using(program_ends::proofs::Sent::sent_end))]
-fn replay_script<K: Sink>(alloc: Global, script: &Script, sink: &mut K) -> Result<Option<u64>, Stop>
+fn replay_script<K: Sink>(
+    alloc: Global,
+    script: Script,
+    sink: &mut K,
+    note: &mut Bytes,
+) -> Result<Option<u64>, Stop>
     ensures trace { OnOk result (
         Gained (K.held sink.old) (K.held sink.new)
-        (show (trace_of script.now.config script.now.word script.now.events))
+        (show (trace_of script.config script.word script.events))
         ) }
-    ensures sound { OnOk result (IsSound script.now.config) }
-    ensures good { OnOk result (AreGood script.now.config script.now.word script.now.events) }
-    ensures unspent { OnOk result (AreUnspent script.now.config script.now.word script.now.events) }
+    ensures sound { OnOk result (IsSound script.config) }
+    ensures good { OnOk result (AreGood script.config script.word script.events) }
+    ensures unspent { OnOk result (AreUnspent script.config script.word script.events) }
     ensures counted { IfOk result (λ count. IfSome count (λ n.
-        n ≡ open_count script.now.config script.now.word script.now.events)) }
+        n ≡ open_count script.config script.word script.events)) }
     ensures stops { IfErr result (λ stop.
-        Told stop script.now.config script.now.word script.now.events (K.held sink.old)
+        Told stop script.config script.word script.events (K.held sink.old)
         (K.held sink.new)
         ) }
+    ensures noted { (n : ℕ) → IsErrOf result (Stop.BadEvent n)
+        → (note.new ≡ []) ⊎ IsBadNoteOf script.config script.word script.events note.new }
     ensures cause { IsErrOf result Stop.WriteFault
         → Rose (K.fault_count sink.old) (K.fault_count sink.new) }
 {
     let mut text = Bytes::new(alloc);
-    let events = script.events.as_slice();
-    match replay_into(alloc, &script.config, script.word, events, sink, &mut text) {
+    let Script {
+        config,
+        word,
+        events,
+    } = script;
+    match replay_into(alloc, config, word, events, sink, &mut text, note) {
         Ok(count) => {
             if put(&text, sink) {
                 Ok(count)
@@ -142,10 +152,11 @@ fn replay_source<S: Source, K: Sink>(alloc: Global, source: &mut S, sink: &mut K
         Err(ScriptError::NoMemory) => return (Status::NoMemory, Bytes::new(alloc)),
     };
     drop(intake);
-    match replay_script(alloc, &script, sink) {
+    let mut note = Bytes::new(alloc);
+    match replay_script(alloc, script, sink, &mut note) {
         Ok(count) => (Status::Done, done_note(alloc, count)),
         Err(Stop::Config(name)) => (Status::Config, config_note(alloc, name)),
-        Err(Stop::BadEvent(_)) => (Status::BadEvent, bad_note(alloc, &script)),
+        Err(Stop::BadEvent(_)) => (Status::BadEvent, note),
         Err(Stop::NoMemory) => (Status::NoMemory, Bytes::new(alloc)),
         Err(Stop::WriteFault) => (Status::WriteFault, Bytes::new(alloc)),
         Err(Stop::Spent(_)) => (Status::Spent, Bytes::new(alloc)),

@@ -23,7 +23,7 @@ use Rattle.driver_model.specs.declared.action.Owner.TheVariants as owner
 use Rattle.driver_model.specs.declared.action.Purpose.{Purpose}
 use Rattle.driver_model.specs.declared.action.Purpose.TheVariants as purpose
 use Rattle.driver_model.specs.declared.action.Cause.TheVariants as cause
-use Rattle.shared_session.specs.Turn.{Turning, counted, heard, submitted, left_by, late_by, fired_by, requested, next_turn, shown_each, actions_of, is_bad, has_run_out, spends, IsFewer}
+use Rattle.shared_session.specs.Turn.{Turning, counted, heard, submitted, left_by, late_by, fired_by, requested, next_turn, shown_each, effects_of, actions_of, is_bad, has_run_out, spends, IsFewer}
 use Rattle.shared_session.specs.Done.{done_each, put_each}
 use Rattle.shared_session.specs.Replay.{connect_timers, connect_asked, opening_core, opening_actions, run_on, state_after, turns_on, trace_of, with_room, told_each, outcomes_in, AreGood, AreGoodOn, AreUnspent, AreUnspentOn, is_bad_after, is_spent_after}
 use Rattle.shared_session.specs.Stops.{Shown, IsBadAt, IsSpentAt, IsSpentBy}
@@ -194,14 +194,35 @@ unspent-more : (config : Config) (word : ℕ) (es : List Event) (e : Event) → 
 unfolding AreUnspent state_after
 unspent-more config word es e all free = unspent_on-more (opening_core config word) es e all free
 
--- what is shown of a turn is the actions of the history's next turn
-pub shown_kept : (before after : Core) (config : Config) (word : ℕ) (es : List Event) (e : Event) (number link timers : ℕ) (acts : List LinkAct) (old new : List Action) →
-    before ≡ state_after config word es → ◌≡◌ {A = Turning} (record { core = after; acts = acts }) (next_turn before e.kind) → number ≡ before.turns → link ≡ before.single.link → timers ≡ length before.timers
-    → new ≡ old ++ (action.Turn number (cause.Event e) ∷ shown_each link timers acts) → new ≡ old ++ actions_of (state_after config word es) e
-shown_kept before after config word es e number link timers acts old new b a n l t s =
-    rw (← b) (s ∙ ap (λ (k : ℕ). old ++ (action.Turn k (cause.Event e) ∷ shown_each link timers acts)) n ∙ ap (λ (k : ℕ). old ++ (action.Turn before.turns (cause.Event e) ∷ shown_each k timers acts)) l
-    ∙ ap (λ (k : ℕ). old ++ (action.Turn before.turns (cause.Event e) ∷ shown_each before.single.link k acts)) t
-    ∙ ap (λ (x : Turning). old ++ (action.Turn before.turns (cause.Event e) ∷ shown_each before.single.link (length before.timers) x.acts)) a)
+-- what is shown of a turn is the effects of the history's next turn
+pub shown_kept : (before after : Core) (config : Config) (word : ℕ) (es : List Event) (e : Event) (link timers : ℕ) (acts : List LinkAct) (old new : List Action) →
+    before ≡ state_after config word es → ◌≡◌ {A = Turning} (record { core = after; acts = acts }) (next_turn before e.kind) → link ≡ before.single.link → timers ≡ length before.timers
+    → new ≡ old ++ shown_each link timers acts → new ≡ old ++ effects_of (state_after config word es) e
+shown_kept before after config word es e link timers acts old new b a l t s =
+    rw (← b) (s ∙ ap (λ (k : ℕ). old ++ shown_each k timers acts) l ∙ ap (λ (k : ℕ). old ++ shown_each before.single.link k acts) t
+    ∙ ap (λ (x : Turning). old ++ shown_each before.single.link (length before.timers) x.acts) a)
+
+-- the number of a turn is the number of the events that were then taken
+pub turn_numbered : (config : Config) (word : ℕ) (es fs : List Event) (e : Event) → fs ≡ es ++ e ∷ []
+    → actions_of (state_after config word es) e ≡ action.Turn (length fs) (cause.Event e) ∷ effects_of (state_after config word es) e
+turn_numbered config word es fs e f =
+    let n : (state_after config word es).turns ≡ length fs = omega (arith, turns_after config word es, ap length f, length-append es (e ∷ [])) in
+    ap (λ (k : ℕ). action.Turn k (cause.Event e) ∷ effects_of (state_after config word es) e) n
+
+-- the first action of a turn tells how many events are taken with it
+pub line_told : (core : Core) (config : Config) (word : ℕ) (es : List Event) (e : Event) (number : ℕ) (old new : List Action) → core ≡ state_after config word es → number ≡ core.turns
+    → new ≡ old ++ action.Turn number (cause.Event e) ∷ [] → new ≡ old ++ action.Turn (length es + 1) (cause.Event e) ∷ []
+line_told core config word es e number old new c n t =
+    let k : number ≡ length es + 1 = omega (arith, n, ap (λ (x : Core). x.turns) c, turns_after config word es) in
+    t ∙ ap (λ (m : ℕ). old ++ action.Turn m (cause.Event e) ∷ []) k
+
+-- the first action of a turn, and then its effects, are its actions
+pub actions_told : (config : Config) (word : ℕ) (es : List Event) (e : Event) (old told new : List Action) → told ≡ old ++ action.Turn (length es + 1) (cause.Event e) ∷ []
+    → new ≡ told ++ effects_of (state_after config word es) e → new ≡ old ++ actions_of (state_after config word es) e
+actions_told config word es e old told new t s =
+    let n : length es + 1 ≡ (state_after config word es).turns = omega (arith, turns_after config word es) in
+    s ∙ ap (λ (acts : List Action). acts ++ effects_of (state_after config word es) e) (t ∙ ap (λ (m : ℕ). old ++ action.Turn m (cause.Event e) ∷ []) n)
+    ∙ append_assoc old (action.Turn (state_after config word es).turns (cause.Event e) ∷ []) (effects_of (state_after config word es) e)
 
 few_timers : (timeout : Option ℕ) → nat_le (2 ^ 32) (length (connect_timers timeout)) ≡ false
 few_timers None = refl

@@ -180,9 +180,13 @@ abbrev pub shown_each : ℕ → ℕ → List LinkAct → List Action
 shown_each l t [] = []
 shown_each l t (a ∷ more) = shown l t a ∷ shown_each l (t + length (timer_of a)) more
 
--- the actions of one turn
+-- what one turn shows behind its first action
+abbrev pub effects_of : Core → Event → List Action
+effects_of c e = shown_each c.single.link (length c.timers) (next_turn c e.kind).acts
+
+-- the actions of one turn: which turn it is, with its event, and its effects
 abbrev pub actions_of : Core → Event → List Action
-actions_of c e = action.Turn c.turns (cause.Event e) ∷ shown_each c.single.link (length c.timers) (next_turn c e.kind).acts
+actions_of c e = action.Turn c.turns (cause.Event e) ∷ effects_of c e
 
 -- a cancel names one of so many submissions
 abbrev pub IsKnown : ℕ → EventKind → Type 0

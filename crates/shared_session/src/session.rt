@@ -1,4 +1,4 @@
-ghost use Rattle.std.specs.Prelude.{◌≡◌, ◌⊎◌, ℕ, ◌<◌, ◌+◌, ◌^◌, ◌↔◌, [], ◌∷◌, ◌++◌, length, true};
+ghost use Rattle.std.specs.Prelude.{◌≡◌, ◌⊎◌, ℕ, ◌<◌, ◌+◌, ◌^◌, ◌↔◌, [], ◌∷◌, ◌++◌, length, take, true};
 ghost use Rattle.std.specs.Prelude.{false, Some, OnOk, OnErr, IfOk, IsErrOf, option_copied};
 ghost use Rattle.shared_session.specs.Turn.{shown_each, timers_of};
 ghost use Rattle.shared_session.specs.Done.{done_each, put_each};
@@ -162,7 +162,7 @@ fn show_opening(
 }
 
 impl Session {
-    ghost use Rattle.shared_session.specs.Turn.{actions_of};
+    ghost use Rattle.shared_session.specs.Turn.{effects_of, actions_of};
     ghost use Rattle.shared_session.specs.Replay.{state_after, trace_of, outcomes_in, outcome_at};
     ghost use Rattle.shared_session.specs.Replay.{is_bad_after, is_spent_after};
     ghost use Rattle.shared_session.specs.Stops.{IsSpentBy};
@@ -245,9 +245,18 @@ impl Session {
         self.outcomes.at(submission as usize).as_ref()
     }
 
+    /// Whether the event is bad: a step of a session that hasn't failed answers `BadEvent` to it, and to no other. Takes no
+    /// memory.
+    pub fn is_bad(&self, event: &Event) -> bool
+        ensures { self.now.failure ≡ Failure.Sound
+            → result
+            ≡ is_bad_after self.now.config self.now.word self.now.events event.now }
+    {
+        self.core.is_bad_event(&event.kind)
+    }
+
     /// Takes one event: one turn, whose actions `out` gains. After an error `out` is as it was. After `Spent` and
     /// `NoMemory` the session has failed: its history and its outcomes stay, and every later step answers the same.
-    #[tactic(auto, unfolding(crate::specs::Turn::spends))]
     pub fn step(
         &mut self,
         alloc: Global,
@@ -261,6 +270,104 @@ impl Session {
             out.new.items
             ≡ out.old.items
             ++ actions_of (state_after self.old.config self.old.word self.old.events) event
+            ) }
+        ensures sound { OnOk result (self.old.failure ≡ Failure.Sound) }
+        ensures good { OnOk result (
+            is_bad_after self.old.config self.old.word self.old.events event ≡ false
+            ) }
+        ensures bad { IsErrOf result StepError.BadEvent
+            ↔ ((self.old.failure ≡ Failure.Sound)
+            × (is_bad_after self.old.config self.old.word self.old.events event ≡ true)) }
+        ensures bad_same { IsErrOf result StepError.BadEvent → self.new ≡ self.old }
+        ensures spent { (n : ℕ) → IsErrOf result (StepError.Spent n)
+            → (self.old.failure ≡ Failure.Spent) ⊎ IsSpentBy self.old event }
+        ensures count { (n : ℕ) → IsErrOf result (StepError.Spent n)
+            → n ≡ length self.old.events }
+        ensures unspent { OnOk result (
+            is_spent_after self.old.config self.old.word self.old.events event ≡ false
+            ) }
+        ensures again { self.old.failure ≡ Failure.Spent
+            → IsErrOf result (StepError.Spent (length self.old.events)) }
+        ensures failed { self.old.failure ≡ Failure.NoMemory
+            → IsErrOf result StepError.NoMemory }
+        ensures fails_spent { (n : ℕ) → IsErrOf result (StepError.Spent n)
+            → self.new.failure ≡ Failure.Spent }
+        ensures fails { IsErrOf result StepError.NoMemory
+            → self.new.failure ≡ Failure.NoMemory }
+        ensures err { OnErr result (out.new.items ≡ out.old.items) }
+        ensures kept { OnErr result (self.new ≡ record self.old { failure = self.new.failure }) }
+    {
+        let before = out.len();
+        match self.tell(alloc, &event, out) {
+            Ok(()) => {}
+            Err(_) => {
+                self.failure = Failure::NoMemory;
+                return Err(StepError::NoMemory);
+            }
+        }
+        match self.take(alloc, event, out) {
+            Ok(()) => Ok(()),
+            Err(error) => {
+                out.truncate(before);
+                Err(error)
+            }
+        }
+    }
+
+    /// The first action of the next turn is shown, where the session takes this event.
+    #[tactic(auto, unfolding(crate::specs::Turn::spends))]
+    fn tell(&self, alloc: Global, event: &Event, out: &mut Vec<Action>) -> Result<(), AllocError>
+        ensures told { OnOk result (
+            self.now.failure ≡ Failure.Sound
+            → is_bad_after self.now.config self.now.word self.now.events event.now ≡ false
+            → is_spent_after self.now.config self.now.word self.now.events event.now ≡ false
+            → out.new.items
+            ≡ out.old.items
+            ++ Action.Turn (length self.now.events + 1) (Cause.Event event.now) ∷ []
+            ) }
+        ensures due { OnErr result (
+            (self.now.failure ≡ Failure.Sound)
+            × (is_bad_after self.now.config self.now.word self.now.events event.now ≡ false)
+            ) }
+        ensures front { take (length out.old.items) out.new.items ≡ out.old.items }
+        ensures err { OnErr result (out.new.items ≡ out.old.items) }
+    {
+        match self.failure {
+            Failure::Sound => {}
+            Failure::Spent => return Ok(()),
+            Failure::NoMemory => return Ok(()),
+        }
+        if self.core.is_bad_event(&event.kind) {
+            return Ok(());
+        }
+        if u64::from(u32::MAX) < self.core.turns {
+            return Ok(());
+        }
+        let number = self.core.turns as u32;
+        show_line(alloc, number, event, out)?;
+        Ok(())
+    }
+
+    /// A `step` of which `out` gains all but the first action, which tells the turn and its event. No event is copied.
+    #[tactic(auto, unfolding(crate::specs::Turn::spends))]
+    pub fn take(
+        &mut self,
+        alloc: Global,
+        event: Event,
+        out: &mut Vec<Action>,
+    ) -> Result<(), StepError>
+        ensures ok { OnOk result (
+            self.new ≡ record self.old { events = self.old.events ++ event ∷ [] }
+            ) }
+        ensures actions { OnOk result (
+            out.new.items
+            ≡ out.old.items
+            ++ effects_of (state_after self.old.config self.old.word self.old.events) event
+            ) }
+        ensures turn { OnOk result (
+            actions_of (state_after self.old.config self.old.word self.old.events) event
+            ≡ Action.Turn (length self.new.events) (Cause.Event event)
+            ∷ effects_of (state_after self.old.config self.old.word self.old.events) event
             ) }
         ensures sound { OnOk result (self.old.failure ≡ Failure.Sound) }
         ensures good { OnOk result (
@@ -303,7 +410,6 @@ impl Session {
             return Err(StepError::Spent { events });
         }
         self.failure = Failure::NoMemory;
-        let number = self.core.turns as u32;
         let link = self.core.single.link;
         let timers = self.core.timers.len() as u64;
         let mut acts = Vec::new(alloc);
@@ -316,7 +422,7 @@ impl Session {
             Err(ConnectionError::NoMemory) => return Err(StepError::NoMemory),
         }
         let mut done = Queue::new(alloc);
-        match show_turn(alloc, number, link, timers, &event, acts, &mut done, out) {
+        match show_turn(alloc, link, timers, acts, &mut done, out) {
             Ok(()) => {}
             Err(_) => return Err(StepError::NoMemory),
         }
@@ -333,32 +439,46 @@ impl Session {
     }
 }
 
-/// A turn is shown, where so many timers were asked for before it, and its outcomes kept. After an error `out` is as it was.
-fn show_turn(
+/// The first action of a turn is shown. After an error `out` is as it was.
+fn show_line(
     alloc: Global,
     number: u32,
+    event: &Event,
+    out: &mut Vec<Action>,
+) -> Result<(), AllocError>
+    ensures told { OnOk result (
+        out.new.items
+        ≡ out.old.items ++ Action.Turn number (Cause.Event event.now) ∷ []
+        ) }
+    ensures front { take (length out.old.items) out.new.items ≡ out.old.items }
+    ensures err { OnErr result (out.new.items ≡ out.old.items) }
+{
+    let event = event.clone(alloc)?;
+    out.push(Action::Turn {
+        number,
+        cause: Cause::Event { event },
+    })?;
+    Ok(())
+}
+
+/// The effects of a turn are shown, where so many timers were asked for before it, and its outcomes kept. After an error
+/// `out` is as it was.
+fn show_turn(
+    alloc: Global,
     link: u32,
     timers: u64,
-    event: &Event,
     acts: Vec<LinkAct>,
     done: &mut Queue<Done>,
     out: &mut Vec<Action>,
 ) -> Result<(), AllocError>
     requires { timers + length (timers_of acts.items) < 2 ^ 32 }
     ensures actions { OnOk result (
-        out.new.items
-        ≡ out.old.items
-        ++ (Action.Turn number (Cause.Event event.now) ∷ shown_each link timers acts.items)
+        out.new.items ≡ out.old.items ++ shown_each link timers acts.items
         ) }
     ensures done { OnOk result (done.new ≡ done.old ++ done_each acts.items) }
     ensures err { OnErr result (out.new.items ≡ out.old.items) }
 {
     let before = out.len();
-    let event = event.clone(alloc)?;
-    out.push(Action::Turn {
-        number,
-        cause: Cause::Event { event },
-    })?;
     match show_each(alloc, link, timers, acts, done, out) {
         Ok(()) => Ok(()),
         Err(error) => {

@@ -1,4 +1,4 @@
-use Rattle.std.proofs.Common.{◌≡◌, ℕ, List, subst}
+use Rattle.std.proofs.Common.{◌≡◌, ℕ, List, refl, subst}
 use Rattle.std.specs.Prelude.{Ok}
 use Rattle.script_text.specs.Script.{script_of}
 use Rattle.text_laws.specs.Fits.{AreBytes}
@@ -63,5 +63,6 @@ pub returns-in-Err-BadEvent-clause-own : goal.returns-in-Err-BadEvent-clause-own
 returns-in-Err-BadEvent-clause-own g c =
     let script = c.in-Ok-read_script.script in
     let reads : script_of c.in-Ok.intake ≡ Ok script = subst (λ (text : List ℕ). script_of text ≡ Ok script) c.text-text.ensures c.in-Ok-read_script.ensures.script in
+    let stop = rw c.in-Err-BadEvent.field-0-is at c.in-Err-BadEvent.ensures in
     own_bad (side (g.S.Source.left c.args.source.now) (g.S.Source.fault_count c.args.source.now)) (g.S.Source.left c.read_text.new.source)
-    c.in-Ok.intake script c.bad_note.result c.in-Ok.ensures.text reads c.bad_note.ensures
+    c.in-Ok.intake script c.replay_script.new.note c.in-Ok.ensures.text reads (stop.noted _ refl)
