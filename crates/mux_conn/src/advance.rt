@@ -270,7 +270,8 @@ impl MultiplexedConnection {
     ) -> Result<(), AllocError>
         ensures work { OnOk result (
             work_with self.new out.new.items
-            ≡ (if awaited then work_with self.old out.old.items else answered (work_with self.old out.old.items) number (Outcome.One Value.Nil))
+            ≡ (if awaited then work_with self.old out.old.items
+            else answered (work_with self.old out.old.items) number (Outcome.One Value.Nil))
             ) }
         ensures count { length self.new.requests ≡ length self.old.requests }
         ensures failure { self.new.failure ≡ self.old.failure }
