@@ -1,10 +1,13 @@
 -- A session may go to another thread, and threads may share it. With `crossing` a search proves the same of what holds sessions.
 use denote.Param.Send.{IsSend, IsSync}
+use Rattle.redis_error.specs.contracts.redis_error.RedisError as RedisError
 use Rattle.driver_model.specs.contracts.event.Event as Event
 use Rattle.driver_model.specs.contracts.outcome.Outcome as Outcome
 use Rattle.mux_conn.proofs.Threads as connections
+use Rattle.mux_conn.specs.contracts.act.LinkAct as Act
 use Rattle.shared_session.specs.contracts.core_state.Core as Core
 use Rattle.shared_session.specs.contracts.session.Session as Session
+use Rattle.shared_session.specs.contracts.showing.Done as Done
 
 event_send : IsSend Event.the_field.row
 event_send = search connections.crossing depth 60 fits 20000
@@ -24,10 +27,28 @@ core_send = search connections.crossing depth 60 fits 20000
 core_sync : IsSync Core.the_field.row
 core_sync = search connections.crossing depth 60 fits 20000
 
+error_send : IsSend RedisError.the_field.row
+error_send = search connections.crossing depth 60 fits 20000
+
+error_sync : IsSync RedisError.the_field.row
+error_sync = search connections.crossing depth 60 fits 20000
+
+act_send : IsSend Act.the_field.row
+act_send = search (outcome_send, error_send, connections.crossing) depth 60 fits 20000
+
+act_sync : IsSync Act.the_field.row
+act_sync = search (outcome_sync, error_sync, connections.crossing) depth 60 fits 20000
+
+done_send : IsSend Done.the_field.row
+done_send = search (outcome_send, connections.crossing) depth 60 fits 20000
+
+done_sync : IsSync Done.the_field.row
+done_sync = search (outcome_sync, connections.crossing) depth 60 fits 20000
+
 pub session_send : IsSend Session.the_field.row
-session_send = search (event_send, outcome_send, core_send, connections.crossing) depth 60 fits 20000
+session_send = search (event_send, outcome_send, core_send, act_send, done_send, connections.crossing) depth 60 fits 20000
 
 pub session_sync : IsSync Session.the_field.row
-session_sync = search (event_sync, outcome_sync, core_sync, connections.crossing) depth 60 fits 20000
+session_sync = search (event_sync, outcome_sync, core_sync, act_sync, done_sync, connections.crossing) depth 60 fits 20000
 
 pub ruleset crossing = (session_send, session_sync, connections.crossing)

@@ -9,8 +9,9 @@ ghost use Rattle.shared_session.specs.Replay.{connect_timers, timer_asked, IsSou
 use crate::core_state::{Core, Single};
 use crate::errors::{MakeError, StepError};
 use crate::showing::{Done, show_each};
+use crate::spare::{Rest, Spare};
 use connection_info::{ConnectionInfo, OpenError, RedisConnectionInfo};
-use containers::{Queue, Seq};
+use containers::Seq;
 use driver_model::{Action, Cause, Config, Event, EventKind, Outcome, Purpose};
 use mux_conn::{ConnectionError, LinkAct, MultiplexedConnection};
 use redis_error::ConfigName;
@@ -37,6 +38,9 @@ pub struct Session {
     events: Seq<Event>,
     core: Core,
     outcomes: Seq<Option<Outcome>>,
+    /// Room for the lists of a turn: of its acts, and of its outcomes.
+    acts: Spare<LinkAct>,
+    done: Spare<Done>,
     failure: Failure,
 }
 
@@ -65,12 +69,16 @@ impl Drop for Session {
             events,
             core,
             outcomes,
+            acts,
+            done,
             failure: _,
         } = self;
         drop(config);
         drop(events);
         drop(core);
         drop(outcomes);
+        drop(acts);
+        drop(done);
     }
 }
 
@@ -192,6 +200,7 @@ impl Session {
             Err(_) => return Err(MakeError::NoMemory),
         };
         let events = Seq::new(alloc);
+        let outcomes = Seq::new(alloc);
         let told = config.told_info(alloc, &info)?;
         let core = opened(alloc, &config, told)?;
         show_opening(alloc, &config, info, word, out)?;
@@ -200,7 +209,9 @@ impl Session {
             word,
             events,
             core,
-            outcomes: Seq::new(alloc),
+            outcomes,
+            acts: Spare::new(alloc),
+            done: Spare::new(alloc),
             failure: Failure::Sound,
         })
     }
@@ -412,7 +423,7 @@ impl Session {
         self.failure = Failure::NoMemory;
         let link = self.core.single.link;
         let timers = self.core.timers.len() as u64;
-        let mut acts = Vec::new(alloc);
+        let mut acts = self.acts.take(alloc);
         match self.core.turn(alloc, &event.kind, &mut acts) {
             Ok(()) => {}
             Err(ConnectionError::Spent) => {
@@ -421,9 +432,9 @@ impl Session {
             }
             Err(ConnectionError::NoMemory) => return Err(StepError::NoMemory),
         }
-        let mut done = Queue::new(alloc);
+        let mut done = self.done.take(alloc);
         match show_turn(alloc, link, timers, acts, &mut done, out) {
-            Ok(()) => {}
+            Ok(acts) => self.acts.give(acts),
             Err(_) => return Err(StepError::NoMemory),
         }
         match keep(&mut self.outcomes, &mut self.events, event) {
@@ -433,7 +444,7 @@ impl Session {
                 return Err(StepError::NoMemory);
             }
         }
-        commit(&mut self.outcomes, &mut done);
+        self.done.give(commit(&mut self.outcomes, done));
         self.failure = Failure::Sound;
         Ok(())
     }
@@ -461,26 +472,27 @@ fn show_line(
     Ok(())
 }
 
-/// The effects of a turn are shown, where so many timers were asked for before it, and its outcomes kept. After an error
-/// `out` is as it was.
+/// The effects of a turn are shown, where so many timers were asked for before it, and its outcomes kept. The answer is the
+/// list of its acts, emptied. After an error `out` is as it was.
 fn show_turn(
     alloc: Global,
     link: u32,
     timers: u64,
     acts: Vec<LinkAct>,
-    done: &mut Queue<Done>,
+    done: &mut Vec<Done>,
     out: &mut Vec<Action>,
-) -> Result<(), AllocError>
+) -> Result<Vec<LinkAct>, AllocError>
     requires { timers + length (timers_of acts.items) < 2 ^ 32 }
     ensures actions { OnOk result (
         out.new.items ≡ out.old.items ++ shown_each link timers acts.items
         ) }
-    ensures done { OnOk result (done.new ≡ done.old ++ done_each acts.items) }
+    ensures done { OnOk result (done.new.items ≡ done.old.items ++ done_each acts.items) }
+    ensures emptied { IfOk result (λ list. list.items ≡ []) }
     ensures err { OnErr result (out.new.items ≡ out.old.items) }
 {
     let before = out.len();
     match show_each(alloc, link, timers, acts, done, out) {
-        Ok(()) => Ok(()),
+        Ok(list) => Ok(list),
         Err(error) => {
             out.truncate(before);
             Err(error)
@@ -522,15 +534,17 @@ fn make_room(outcomes: &mut Seq<Option<Outcome>>, event: &EventKind) -> Result<(
     }
 }
 
-/// The outcomes of a turn are put in their places.
-fn commit(outcomes: &mut Seq<Option<Outcome>>, done: &mut Queue<Done>)
-    ensures outcomes { outcomes.new ≡ put_each outcomes.old done.old }
-    ensures done { done.new ≡ [] }
+/// The outcomes of a turn are put in their places. The answer is their list, emptied.
+fn commit(outcomes: &mut Seq<Option<Outcome>>, done: Vec<Done>) -> Vec<Done>
+    ensures outcomes { outcomes.new ≡ put_each outcomes.old done.items }
+    ensures emptied { result.items ≡ [] }
 {
-    while let Some(next) = done.pop_front() {
+    let mut rest = Rest::of(done);
+    while let Some(next) = rest.pop_front() {
         let place = next.submission as usize;
         if place < outcomes.len() {
             outcomes.set(place, Some(next.outcome));
         }
     }
+    rest.into_list()
 }

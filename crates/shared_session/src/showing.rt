@@ -1,8 +1,8 @@
-ghost use Rattle.std.specs.Prelude.{◌≡◌, ◌<◌, ◌≤◌, ◌+◌, ◌^◌, ◌++◌, ◌∷◌, [], length, take, OnOk, OnErr};
+ghost use Rattle.std.specs.Prelude.{◌≡◌, ◌<◌, ◌≤◌, ◌+◌, ◌^◌, ◌++◌, ◌∷◌, [], length, take, IfOk, OnOk, OnErr};
 ghost use Rattle.shared_session.specs.Turn.{shown, shown_each, timer_of, timers_of};
 ghost use Rattle.shared_session.specs.Done.{done_by, done_each};
 
-use containers::Queue;
+use crate::spare::Rest;
 use driver_model::{Action, Outcome, Owner, Purpose};
 use mux_conn::LinkAct;
 use std::alloc::{AllocError, Global};
@@ -86,45 +86,47 @@ fn timers_in(act: &LinkAct) -> u64
 }
 
 /// The outcome that an act tells is kept.
-fn note_done(alloc: Global, act: &LinkAct, done: &mut Queue<Done>) -> Result<(), AllocError>
-    ensures { OnOk result (done.new ≡ done.old ++ done_by act.now) }
+fn note_done(alloc: Global, act: &LinkAct, done: &mut Vec<Done>) -> Result<(), AllocError>
+    ensures { OnOk result (done.new.items ≡ done.old.items ++ done_by act.now) }
 {
     match act {
         LinkAct::Outcome { request, outcome } => {
             let outcome = outcome.clone(alloc)?;
-            done.push_back(Done {
+            done.push(Done {
                 submission: *request,
                 outcome,
-            })
+            })?;
+            Ok(())
         }
         _ => Ok(()),
     }
 }
 
-/// The acts of a turn are shown, where so many timers were asked for before it, and their outcomes kept. After an error `out`
-/// begins with what it held.
+/// The acts of a turn are shown, where so many timers were asked for before it, and their outcomes kept. The answer is the
+/// list of the acts, emptied. After an error `out` begins with what it held.
 pub fn show_each(
     alloc: Global,
     link: u32,
     timers: u64,
     acts: Vec<LinkAct>,
-    done: &mut Queue<Done>,
+    done: &mut Vec<Done>,
     out: &mut Vec<Action>,
-) -> Result<(), AllocError>
+) -> Result<Vec<LinkAct>, AllocError>
     requires { timers + length (timers_of acts.items) < 2 ^ 32 }
     ensures actions { OnOk result (
         out.new.items ≡ out.old.items ++ shown_each link timers acts.items
         ) }
-    ensures done { OnOk result (done.new ≡ done.old ++ done_each acts.items) }
+    ensures done { OnOk result (done.new.items ≡ done.old.items ++ done_each acts.items) }
+    ensures emptied { IfOk result (λ list. list.items ≡ []) }
     ensures err { OnErr result (take (length out.old.items) out.new.items ≡ out.old.items) }
 {
     let mut timer = timers;
-    let mut rest = Queue::from_vec(acts);
+    let mut rest = Rest::of(acts);
     while let Some(act) = rest.pop_front() {
         note_done(alloc, &act, done)?;
         let more = timers_in(&act);
         out.push(action_of(link, timer, act))?;
         timer += more;
     }
-    Ok(())
+    Ok(rest.into_list())
 }

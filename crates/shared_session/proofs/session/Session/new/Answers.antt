@@ -10,7 +10,7 @@ invariant_of-result c =
     record {
       configured = c.in-Ok.ensures.sound;
       core = λ _. opened_is _ config word c.new-events.result is c.new-events.ensures;
-      outcomes = c.new.ensures ∙ rw c.new-events.ensures (sym (outcomes-none config word));
+      outcomes = c.new-outcomes.ensures ∙ rw c.new-events.ensures (sym (outcomes-none config word));
       few = omega (arith, ap length c.new-events.ensures);
       unspent = λ _. unspent_opening _ config word is;
       fewer = λ _. fewer_opening _ config word is;

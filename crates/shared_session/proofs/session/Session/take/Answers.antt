@@ -31,13 +31,13 @@ invariant_of-self-2 c =
     let b = c.self.invariant.core c.in-Sound.is in
     let a = c.in-Ok.ensures.turning in
     let kept = c.in-Ok-keep.ensures.ok in
-    let put = c.commit.ensures.outcomes ∙ ap (λ (os : List (Option Outcome)). put_each os c.show_turn.new.done) kept.0 in
+    let put = c.commit.ensures.outcomes ∙ ap (λ (os : List (Option Outcome)). put_each os c.show_turn.new.done.items) kept.0 in
     let low : before.turns ≤ 2 ^ 32 - 1 = omega (arith, c.if-self-from.false, c.from.ensures) in
-    let done : c.show_turn.new.done ≡ done_each c.turn.new.acts.items = c.in-Ok-show_turn.ensures.done ∙ ap (λ ds. ds ++ done_each c.turn.new.acts.items) c.new-done.ensures in
+    let done : c.show_turn.new.done.items ≡ done_each c.turn.new.acts.items = c.in-Ok-show_turn.ensures.done ∙ ap (λ ds. ds ++ done_each c.turn.new.acts.items) c.take-done.ensures in
     record {
       configured = c.self.invariant.configured;
       core = λ _. state_kept before after config word es c.keep.new.events c.args.event c.turn.new.acts.items b a kept.1;
-      outcomes = outcomes_kept before after config word es c.keep.new.events c.args.event c.turn.new.acts.items c.self.inside.outcomes c.commit.new.outcomes c.show_turn.new.done b c.self.invariant.outcomes a kept.1 done put;
+      outcomes = outcomes_kept before after config word es c.keep.new.events c.args.event c.turn.new.acts.items c.self.inside.outcomes c.commit.new.outcomes c.show_turn.new.done.items b c.self.invariant.outcomes a kept.1 done put;
       few = few_kept before config word es c.keep.new.events c.args.event b low kept.1;
       unspent = λ _. c.in-Ok.ensures.unspent;
       fewer = λ _. c.in-Ok.ensures.fewer;
