@@ -35,8 +35,8 @@ returns-in-Err-BadEvent-clause-does g c =
     (side (g.K.Sink.held c.args.sink.now) (g.K.Sink.fault_count c.args.sink.now)) (side (g.K.Sink.held c.replay_script.new.sink) (g.K.Sink.fault_count c.replay_script.new.sink))
     c.in-Ok.intake script c.in-Ok.ensures.text reads stop.stops
 
-pub returns-clause-does : goal.returns-clause-does
-returns-clause-does g c =
+pub returns-in-Err-Spent-clause-does : goal.returns-in-Err-Spent-clause-does
+returns-in-Err-Spent-clause-does g c =
     let script = c.in-Ok-read_script.script in
     let reads : script_of c.in-Ok.intake ≡ Ok script = subst (λ (text : List ℕ). script_of text ≡ Ok script) c.text-text.ensures c.in-Ok-read_script.ensures.script in
     let stop = rw c.in-Err-Spent.field-0-is at c.in-Err-Spent.ensures in
