@@ -1,5 +1,9 @@
 -- The session takes the next line of the script.
 use Rattle.std.proofs.Common.{◌≡◌, ◌⊎◌, inl, inr, ℕ, zero, suc, ◌+◌, ◌<◌, ◌≤◌, true, false, List, [], ◌∷◌, ◌++◌, Option, Some, None, refl, ap, sym, ◌∙◌, subst, arith}
+use Rattle.std.specs.Prelude.{Result, Ok, Err, OnOk}
+use Rattle.redis_error.specs.declared.config_name.ConfigName.{ConfigName}
+use Rattle.driver_model.specs.Config.{first_fault}
+use Rattle.driver_model.specs.declared.config.Config.{Config}
 use Rattle.driver_model.specs.declared.action.Action.{Action}
 use Rattle.driver_model.specs.declared.event.Event.{Event}
 use Rattle.driver_model.specs.declared.event.EventKind.TheVariants as event
@@ -14,7 +18,7 @@ use Rattle.script_generator.specs.Fronts.{front, submitted, written, cancelled, 
 use Rattle.script_generator.specs.Summary.{no_summary, counted_each}
 use Rattle.script_generator.specs.declared.summary.Summary.{Summary}
 use Rattle.script_generator.proofs.Fronts.{IsNext}
-use Rattle.script_generator.proofs.Whole.{next_front, next_front_gone}
+use Rattle.script_generator.proofs.Whole.{generated_sound, next_front, next_front_gone}
 
 -- what the session is asked with the next event
 pub sound_at : (es : List Event) (s : History) (counts : Summary) → IsAt es s counts → s.failure ≡ Sound
@@ -52,3 +56,30 @@ round_over i s counts stays h = subst (λ es. IsAt es s counts) (next_front i st
 
 pub round_over_gone : (i : ℕ) (s : History) (counts : Summary) → is_cancelled i ≡ true → IsAt (cancelled i ++ replies ∷ []) s counts → IsAt (front (i + 1)) s counts
 round_over_gone i s counts gone h = subst (λ es. IsAt es s counts) (next_front_gone i gone ∙ ap front (omega arith)) h
+
+-- the same of an event that is the script's
+pub good_for : (es : List Event) (e d : Event) (s : History) (counts : Summary) → IsAt es s counts → e ≡ d → IsNext es d → is_bad_after s.config s.word s.events e ≡ false
+good_for es e d s counts h is next = ap (λ (x : Event). is_bad_after s.config s.word s.events x) is ∙ good_at es d s counts h next
+
+pub unspent_for : (es : List Event) (e d : Event) (s : History) (counts : Summary) → IsAt es s counts → e ≡ d → IsNext es d → is_spent_after s.config s.word s.events e ≡ false
+unspent_for es e d s counts h is next = ap (λ (x : Event). is_spent_after s.config s.word s.events x) is ∙ unspent_at es d s counts h next
+
+pub at_for : (es : List Event) (e d : Event) (s t : History) (before after : Summary) → IsAt es s before → e ≡ d
+    → t ≡ record s { events = s.events ++ e ∷ [] } → after ≡ counted_each before (actions_of (state_after s.config s.word s.events) e) → IsAt (es ++ d ∷ []) t after
+at_for es e d s t before after h is taken counted = subst (λ (x : Event). IsAt (es ++ x ∷ []) t after) is (at_more es e s t before after h taken counted)
+
+-- what follows where a call is done
+pub if_done : {A E : Type 0} (r : Result A E) (P Q R : Type 0) → OnOk r P → OnOk r Q → (P → Q → R) → OnOk r R
+if_done (Ok a) P Q R p q f = f p q
+if_done (Err e) P Q R p q f = tt
+
+-- a session of the script's configuration is made
+pub not_refused : (config : Config) (name : ConfigName) → config ≡ generated_config → first_fault config ≡ Some name → ⊥
+not_refused config name is refused = let none : first_fault config ≡ None = ap first_fault is ∙ generated_sound in cc
+
+pub opened : (config : Config) (s : History) → config ≡ generated_config → s ≡ record { config = config; word = 0; events = []; failure = Sound }
+    → (before after : Summary) (cleared shown : List Action) → before ≡ no_summary → cleared ≡ [] → shown ≡ cleared ++ opening_actions config 0 → after ≡ counted_each before shown → IsAt [] s after
+opened config s is made before after cleared shown none empty is_shown counted =
+    at_none s after (made ∙ ap (λ (c : Config). record { config = c; word = 0; events = []; failure = Sound }) is)
+    (counted ∙ ap (λ (c : Summary). counted_each c shown) none
+    ∙ ap (counted_each no_summary) (is_shown ∙ (λ i. empty i ++ opening_actions (is i) 0)))
