@@ -15,7 +15,7 @@ use Rattle.shared_session.specs.declared.session.Failure.TheVariants.{Sound, Spe
 use Rattle.shared_session.proofs.Replays.{trace_of-none, trace_of-more}
 use Rattle.script_generator.specs.Script.{generated_config, generated_word, event_of, is_cancelled, submits, writes, cancels, replies}
 use Rattle.script_generator.specs.Fronts.{front, submitted, written, cancelled, IsAt}
-use Rattle.script_generator.specs.Summary.{no_summary, counted_each}
+use Rattle.script_generator.specs.Summary.{no_summary, counted, counted_each}
 use Rattle.script_generator.specs.declared.summary.Summary.{Summary}
 use Rattle.script_generator.proofs.Fronts.{IsNext}
 use Rattle.script_generator.proofs.Whole.{generated_sound, next_front, next_front_gone}
@@ -32,7 +32,7 @@ unspent_at es e s counts h next = ap (λ (x : History). is_spent_after x.config 
 
 counted_append : (counts : Summary) (s t : List Action) → counted_each counts (s ++ t) ≡ counted_each (counted_each counts s) t
 counted_append counts [] t = refl
-counted_append counts (a ∷ s) t = counted_append _ s t
+counted_append counts (a ∷ s) t = counted_append (counted counts a) s t
 
 -- it has taken it
 pub at_more : (es : List Event) (e : Event) (s t : History) (before after : Summary) → IsAt es s before
@@ -52,10 +52,10 @@ at_none s counts made counted = record { made = made; counted = counted ∙ ap (
 
 -- a round is over
 pub round_over : (i : ℕ) (s : History) (counts : Summary) → is_cancelled i ≡ false → IsAt (written i ++ replies ∷ []) s counts → IsAt (front (i + 1)) s counts
-round_over i s counts stays h = subst (λ es. IsAt es s counts) (next_front i stays ∙ ap front (omega arith)) h
+round_over i s counts stays h = subst (λ es. IsAt es s counts) (next_front i stays ∙ (let e : suc i ≡ i + 1 = omega arith in ap front e)) h
 
 pub round_over_gone : (i : ℕ) (s : History) (counts : Summary) → is_cancelled i ≡ true → IsAt (cancelled i ++ replies ∷ []) s counts → IsAt (front (i + 1)) s counts
-round_over_gone i s counts gone h = subst (λ es. IsAt es s counts) (next_front_gone i gone ∙ ap front (omega arith)) h
+round_over_gone i s counts gone h = subst (λ es. IsAt es s counts) (next_front_gone i gone ∙ (let e : suc i ≡ i + 1 = omega arith in ap front e)) h
 
 -- the same of an event that is the script's
 pub good_for : (es : List Event) (e d : Event) (s : History) (counts : Summary) → IsAt es s counts → e ≡ d → IsNext es d → is_bad_after s.config s.word s.events e ≡ false

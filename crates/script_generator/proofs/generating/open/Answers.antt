@@ -3,6 +3,7 @@ use Rattle.std.specs.Prelude.{Err}
 use Rattle.redis_error.specs.declared.config_name.ConfigName.{ConfigName}
 use Rattle.driver_model.specs.declared.config.Config.{Config}
 use Rattle.driver_model.specs.Config.{first_fault}
+use Rattle.script_generator.specs.Summary.{counted_each}
 use Rattle.script_generator.proofs.Takes.{opened, not_refused}
 use Rattle.script_generator.proofs.generating.open.Goals as goal
 
@@ -10,4 +11,4 @@ pub unreachable-requires : goal.unreachable-requires
 unreachable-requires c = not_refused c.in_ok-config.config c.in-Err-Config.field-0-0 c.in_ok-config.ensures (c.new.ensures.refused c.in-Err-Config.field-0-0 (c.in-Err-Config.is ∙ ap (λ e. Err e) c.in-Err-Config.field-0-is))
 
 pub returns : goal.returns
-returns c = opened c.in_ok-config.config c.in-Ok.session c.in_ok-config.ensures c.in-Ok.ensures.made _ _ _ c.requires c.clear.ensures.items c.in-Ok.ensures.actions c.count_each.ensures
+returns c = opened c.in_ok-config.config c.in-Ok.session c.in_ok-config.ensures c.in-Ok.ensures.made _ _ _ _ c.requires c.clear.ensures.items c.in-Ok.ensures.actions (c.count_each.ensures ∙ ap (counted_each c.args.counts.now) c.as_slice.ensures.value)
