@@ -16,6 +16,8 @@ use Rattle.session_tool.specs.declared.command.Command.{Command}
 use Rattle.session_tool.specs.declared.command.Command.TheVariants.{Replay, Generate, Help, Version, Unknown}
 use Rattle.session_tool.specs.Does.{Does, generated_line}
 use Rattle.session_tool.specs.Headline.{HeadlineOf}
+use Rattle.text_laws.proofs.Traces.{good_forms}
+use Rattle.session_tool.proofs.Fitting.{generated_fits}
 use Rattle.session_tool.proofs.Headlines.{headline_of}
 
 abbrev the_count : Command → ℕ → ℕ
@@ -124,3 +126,18 @@ front_does n source sink sink' part fails = record {
   exact = λ same. absurd (not_replay n same);
   complete = λ same. absurd (not_replay n same);
 }
+
+-- what holds of the script of so many rounds
+pub generated_holds : (n : ℕ) → n ≤ 200000 → HeadlineOf generated_config generated_word (generated_events n)
+generated_holds n few =
+    let good = all_good n few in
+    headline_of generated_config generated_word (generated_events n) (generated_fits n few) (good_forms generated_config generated_word (generated_events n) good) generated_sound good
+
+-- the line, or its front, was written
+pub print_does : (n : ℕ) (line line' : List ℕ) (s : Status) (source sink sink' : Side) → n ≤ 200000 → line ≡ generated_line n → line' ≡ line → Prints status.Done line' s sink sink' → Does (Generate n) s source source sink sink'
+print_does n line line' s source sink sink' few is whole (inl h) =
+    subst (λ (x : Status). Does (Generate n) x source source sink sink') (sym h.0)
+    (line_does n source sink sink' (generated_holds n few) (subst (λ (bytes : List ℕ). Gained sink.bytes sink'.bytes bytes) (whole ∙ is) h.1))
+print_does n line line' s source sink sink' few is whole (inr h) =
+    subst (λ (x : Status). Does (Generate n) x source source sink sink') (sym h.0)
+    (front_does n source sink sink' (subst (λ (bytes : List ℕ). GainedPart sink.bytes sink'.bytes bytes) (whole ∙ is) h.1) h.2)
