@@ -6,7 +6,7 @@ mod bad;
 mod calls;
 mod command;
 mod counting;
-mod generated;
+mod generating;
 mod lines;
 #[cfg(test)]
 mod note_tests;

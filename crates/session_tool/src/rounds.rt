@@ -8,8 +8,8 @@ const MOST: u32 = 200_000;
 
 /// A number with one more digit, if it is one of at most `MOST`.
 fn with_digit(n: u32, digit: u32) -> Option<u32>
-    requires { digit < 10 }
-    requires { n ≤ 200000 }
+    requires digit { digit < 10 }
+    requires few { n ≤ 200000 }
     ensures { SomeIff result (10 * n + digit ≤ 200000) (10 * n + digit) }
 {
     if 10 * n + digit <= MOST {

@@ -15,7 +15,7 @@ ghost use Rattle.session_tool.specs.Words.{command_of, is_live, words_behind};
 use crate::bad::bad_note;
 use crate::command::{Command, command_of};
 use crate::counting::done_note;
-use crate::generated::write_generated;
+use crate::generating::write_generated;
 use crate::lines::{VERSION, help_text};
 use crate::noting::{config_note, live_note, note_of, script_note, write_note};
 use crate::reading::{ReadError, read_text};
