@@ -1,20 +1,18 @@
 -- The session takes the next line of the script.
-use Rattle.std.proofs.Common.{◌≡◌, ◌⊎◌, inl, inr, ℕ, zero, suc, ◌+◌, ◌<◌, ◌≤◌, true, false, List, [], ◌∷◌, ◌++◌, Option, Some, None, refl, ap, sym, ◌∙◌, subst, arith}
+use Rattle.std.proofs.Common.{◌≡◌, ℕ, suc, ◌+◌, true, false, List, [], ◌∷◌, ◌++◌, Some, None, refl, ap, sym, ◌∙◌, subst, arith}
 use Rattle.std.specs.Prelude.{Result, Ok, Err, OnOk}
 use Rattle.redis_error.specs.declared.config_name.ConfigName.{ConfigName}
 use Rattle.driver_model.specs.Config.{first_fault}
 use Rattle.driver_model.specs.declared.config.Config.{Config}
 use Rattle.driver_model.specs.declared.action.Action.{Action}
 use Rattle.driver_model.specs.declared.event.Event.{Event}
-use Rattle.driver_model.specs.declared.event.EventKind.TheVariants as event
 use Rattle.shared_session.specs.History.{History}
 use Rattle.shared_session.specs.Turn.{actions_of}
 use Rattle.shared_session.specs.Replay.{opening_actions, state_after, trace_of, is_bad_after, is_spent_after}
-use Rattle.shared_session.specs.declared.session.Failure.{Failure}
-use Rattle.shared_session.specs.declared.session.Failure.TheVariants.{Sound, Spent, NoMemory}
+use Rattle.shared_session.specs.declared.session.Failure.TheVariants.{Sound}
 use Rattle.shared_session.proofs.Replays.{trace_of-none, trace_of-more}
-use Rattle.script_generator.specs.Script.{generated_config, generated_word, event_of, is_cancelled, submits, writes, cancels, replies}
-use Rattle.script_generator.specs.Fronts.{front, submitted, written, cancelled, IsAt}
+use Rattle.script_generator.specs.Script.{generated_config, generated_word, is_cancelled, replies}
+use Rattle.script_generator.specs.Fronts.{front, written, cancelled, IsAt}
 use Rattle.script_generator.specs.Summary.{no_summary, counted, counted_each}
 use Rattle.script_generator.specs.declared.summary.Summary.{Summary}
 use Rattle.script_generator.proofs.Fronts.{IsNext}

@@ -1,4 +1,4 @@
-use Rattle.std.proofs.Common.{◌≡◌, ◌++◌, [], ◌∷◌, ℕ, List, subst, arith, ap, ◌∙◌}
+use Rattle.std.proofs.Common.{◌≡◌, ◌++◌, [], ◌∷◌, ℕ, List, subst, arith, ◌∙◌}
 use Rattle.std.specs.Prelude.{IfOk}
 use Rattle.driver_model.specs.declared.event.EventKind.TheVariants as event
 use Rattle.script_generator.specs.Fronts.{front, IsAt}
@@ -41,6 +41,6 @@ returns c =
     let end : c.loop-round.round ≡ n = (let t = c.loop-round-test.false in let within = c.loop-round.auto.round-end in omega arith) in
     let at = subst (λ m. IsAt (front m) c.loop-round.session c.loop-round.counts) end c.loop-round.invariant in
     let whole : IsAt (front n ++ event_of event.Shutdown ∷ []) c.take-2.new.session c.take-2.new.counts =
-        at_for (front n) c.shutdown-shutdown.result (event_of event.Shutdown) c.loop-round.session c.take-2.new.session c.loop-round.counts c.take-2.new.counts at c.shutdown-shutdown.ensures
-        c.in_ok-take-2.ensures.taken c.in_ok-take-2.ensures.counted in
+    at_for (front n) c.shutdown-shutdown.result (event_of event.Shutdown) c.loop-round.session c.take-2.new.session c.loop-round.counts c.take-2.new.counts at c.shutdown-shutdown.ensures
+    c.in_ok-take-2.ensures.taken c.in_ok-take-2.ensures.counted in
     subst (λ (counts : Summary). IfOk c.line.result (λ (line : List ℕ). line ≡ summary_line counts)) (whole.counted ∙ generated_counts n c.requires) c.line.ensures

@@ -1,8 +1,5 @@
-use Rattle.std.proofs.Common.{◌≡◌, Option, Some, None, sym, ◌∙◌, ap}
+use Rattle.std.proofs.Common.{◌∙◌, ap}
 use Rattle.std.specs.Prelude.{Err}
-use Rattle.redis_error.specs.declared.config_name.ConfigName.{ConfigName}
-use Rattle.driver_model.specs.declared.config.Config.{Config}
-use Rattle.driver_model.specs.Config.{first_fault}
 use Rattle.script_generator.specs.Summary.{counted_each}
 use Rattle.script_generator.proofs.Takes.{opened, not_refused}
 use Rattle.script_generator.proofs.generating.open.Goals as goal

@@ -1,5 +1,4 @@
-use Rattle.std.proofs.Common.{◌≡◌, ℕ, ap, ◌∙◌}
-use Rattle.driver_model.specs.declared.event.Event.{Event}
+use Rattle.std.proofs.Common.{◌≡◌, ap, ◌∙◌}
 use Rattle.driver_model.specs.declared.event.EventKind.TheVariants as event
 use Rattle.script_generator.specs.Fronts.{submitted}
 use Rattle.script_generator.specs.Script.{event_of, writes}
