@@ -1,8 +1,8 @@
 -- What the turns of the generated script tell of link 0.
-use Rattle.std.proofs.Common.{◌≡◌, ℕ, ◌+◌, ◌-◌, ◌==◌, Bool, true, false, List, [], ◌∷◌, ◌++◌, length, take, Option, Some, None, refl, ap, sym, ◌∙◌, subst, arith, length-append, if◌then◌else◌}
+use Rattle.std.proofs.Common.{◌≡◌, ℕ, ◌+◌, ◌-◌, ◌==◌, Bool, true, List, [], ◌∷◌, ◌++◌, length, take, None, refl, ap, ◌∙◌, arith, length-append, if◌then◌else◌}
 use Rattle.std.specs.Fmt.{digits}
 use Rattle.containers.proofs.Choices.{eq_test, if_true}
-use Rattle.resp_value.specs.Data.{Data, simple}
+use Rattle.resp_value.specs.Data.{simple}
 use Rattle.resp_read.specs.Grammar.{max_depth}
 use Rattle.resp_read.specs.Values.{values, left_over}
 use Rattle.resp_read.specs.Items.{items}
@@ -11,18 +11,16 @@ use Rattle.driver_model.specs.declared.action.Action.TheVariants as action
 use Rattle.driver_model.specs.declared.action.Cause.TheVariants as cause
 use Rattle.driver_model.specs.declared.action.Owner.TheVariants as owner
 use Rattle.driver_model.specs.declared.config.Config.{Config}
-use Rattle.driver_model.specs.declared.event.Event.{Event}
 use Rattle.driver_model.specs.declared.event.EventKind.{EventKind}
 use Rattle.driver_model.specs.declared.event.EventKind.TheVariants as event
-use Rattle.driver_model.specs.declared.event.Submission.{Submission}
 use Rattle.driver_model.specs.declared.event.Submission.TheVariants as submission
 use Rattle.driver_model.specs.declared.outcome.Outcome.{Outcome}
 use Rattle.driver_model.specs.declared.outcome.Shape.{Shape}
-use Rattle.driver_model.specs.News.{News, took, came}
+use Rattle.driver_model.specs.News.{took, came}
 use Rattle.driver_model.specs.Shape.{need_of}
-use Rattle.legal_trace.specs.Ledger.{Ledger, Start, reach, with_news, bytes_came, noted, offers, begins}
-use Rattle.legal_trace.specs.Story.{Story, handed_in, shape}
-use Rattle.legal_trace.specs.Book.{Book, blank_book, book, entered, entered_each, current}
+use Rattle.legal_trace.specs.Ledger.{Ledger, Start, reach, bytes_came}
+use Rattle.legal_trace.specs.Story.{handed_in, shape}
+use Rattle.legal_trace.specs.Book.{Book, blank_book, entered_each, current}
 use Rattle.legal_trace.proofs.Ledgers.{reach_alike, reach_more}
 use Rattle.script_generator.specs.Script.{event_of, reply}
 

@@ -21,12 +21,12 @@ count_on f m (a ∷ more) = count_on f (added m (f a)) more
 
 -- each number by itself
 by_number : (s : Summary) (t : List Action) → counted_each s t ≡ record {
-      turns = count_on is_turn s.turns t;
-      starts = count_on is_start s.starts t;
-      items = count_on takes s.items t;
-      outcomes = count_on is_outcome s.outcomes t;
-      cancelled = count_on is_cancel s.cancelled t;
-    }
+  turns = count_on is_turn s.turns t;
+  starts = count_on is_start s.starts t;
+  items = count_on takes s.items t;
+  outcomes = count_on is_outcome s.outcomes t;
+  cancelled = count_on is_cancel s.cancelled t;
+}
 by_number s [] = refl
 by_number s (a ∷ t) = by_number (counted s a) t
 

@@ -1,39 +1,19 @@
 -- What each front of the generated script leads to: none of its events is bad, and none of their steps is spent.
-use Rattle.std.proofs.Common.{◌≡◌, ℕ, zero, suc, ◌+◌, ◌*◌, ◌^◌, ◌<◌, ◌≤◌, ◌==◌, nat_lt, nat_le, Bool, true, false, ◌&&◌, ◌||◌, List, [], ◌∷◌, ◌++◌, length, Option, Some, None, refl, ap, sym, ◌∙◌, subst, arith, length-append, append_assoc, if◌then◌else◌}
-use Rattle.std.specs.Str.Lossy.{utf8_lossy, utf8_valid_len}
-use Rattle.url.proofs.OnLiterals.{url_on_literals}
-use Rattle.containers.proofs.Choices.{not_le_test, chosen}
-use Rattle.connection_info.specs.declared.address.ConnectionInfo.{ConnectionInfo}
-use Rattle.resp_write.specs.Pack.{pack}
-use Rattle.driver_model.specs.Config.{address}
+use Rattle.std.proofs.Common.{◌≡◌, ℕ, ◌+◌, ◌*◌, ◌^◌, ◌<◌, ◌≤◌, nat_le, false, ◌||◌, List, [], ◌∷◌, ◌++◌, length, ap, sym, ◌∙◌, subst, arith, length-append}
+use Rattle.containers.proofs.Choices.{not_le_test}
 use Rattle.driver_model.specs.declared.action.Action.{Action}
 use Rattle.driver_model.specs.declared.action.Action.TheVariants as action
 use Rattle.driver_model.specs.declared.action.Cause.TheVariants as cause
-use Rattle.driver_model.specs.declared.action.Owner.TheVariants as owner
 use Rattle.driver_model.specs.declared.event.Event.{Event}
-use Rattle.driver_model.specs.declared.event.EventKind.{EventKind}
-use Rattle.driver_model.specs.declared.event.EventKind.TheVariants as event
-use Rattle.link_core.specs.declared.message.Entry.{Entry}
-use Rattle.link_core.specs.declared.outbox.Outbox.{Outbox}
-use Rattle.link_core.specs.Link.{LinkState}
-use Rattle.mux_conn.specs.declared.act.LinkAct.{LinkAct}
-use Rattle.mux_conn.specs.declared.act.LinkAct.TheVariants as act
-use Rattle.mux_conn.specs.declared.request.Pending.{Pending}
-use Rattle.mux_conn.specs.declared.request.Progress.TheVariants as progress
-use Rattle.mux_conn.specs.declared.request.Request.{Request}
-use Rattle.legal_trace.specs.Book.{Book, blank_book, book, entered_each}
-use Rattle.legal_trace.proofs.Books.{book_append, entered_append}
+use Rattle.legal_trace.specs.Book.{Book, book, entered_each}
+use Rattle.legal_trace.proofs.Books.{book_append}
 use Rattle.shared_session.specs.declared.core_state.Core.{Core}
-use Rattle.shared_session.specs.Replay.{opening_core, connect_asked, run_on, state_after, trace_of, AreGood, AreGoodOn, AreUnspent, AreUnspentOn, is_bad_after, is_spent_after}
-use Rattle.shared_session.specs.Turn.{Turning, turning_with, next_turn, actions_of, shown_each, is_bad, has_run_out, spends, pending}
-use Rattle.shared_session.proofs.Replays.{state_after-more, state_after-none, trace_of-none, trace_of-more}
-use Rattle.script_generator.specs.Script.{generated_config, generated_word, event_of, command, is_cancelled, reply, submits, writes, cancels, replies, round, rounds}
+use Rattle.shared_session.specs.Replay.{opening_core, run_on, state_after, trace_of, AreGood, AreGoodOn, AreUnspent, AreUnspentOn, is_bad_after, is_spent_after}
+use Rattle.shared_session.specs.Turn.{next_turn, actions_of, is_bad, has_run_out, spends}
+use Rattle.shared_session.proofs.Replays.{state_after-more, trace_of-more}
+use Rattle.script_generator.specs.Script.{generated_config, generated_word}
 use Rattle.script_generator.specs.Summary.{count, takes}
-use Rattle.script_generator.proofs.Lasts.{come_to}
-use Rattle.script_generator.proofs.Sessions.{link_with, no_bytes, up}
-use Rattle.script_generator.proofs.Submits.{entry, all_of, submit_turn}
-use Rattle.script_generator.proofs.Turns.{told, connected_turn, wrote_turn, cancel_turn, answer, answer_turn, unheard_turn}
-use Rattle.script_generator.proofs.Books.{Tells, turn, tells_connected, tells_submitted, tells_wrote, tells_cancelled, tells_replied, tells_answered}
+use Rattle.script_generator.proofs.Books.{Tells}
 
 -- one more event of a history that isn't bad
 pub good_on : (c : Core) (es : List Event) (e : Event) → AreGoodOn c es → is_bad (run_on c es) e.kind ≡ false → AreGoodOn c (es ++ e ∷ [])

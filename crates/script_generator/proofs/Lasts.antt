@@ -1,8 +1,8 @@
 -- The last request of a connection, by its number.
-use Rattle.std.proofs.Common.{◌≡◌, ℕ, zero, suc, List, [], ◌∷◌, ◌++◌, length, Option, Some, None, slice_get, slice_set, refl, ap, ◌∙◌}
+use Rattle.std.proofs.Common.{◌≡◌, ℕ, List, [], ◌∷◌, ◌++◌, length, Option, Some, slice_get, slice_set, refl, ap, ◌∙◌}
 use Rattle.mux_conn.specs.declared.request.Progress.{Progress}
 use Rattle.mux_conn.specs.declared.request.Request.{Request}
-use Rattle.mux_conn.specs.Requests.{name_or_none, name_at, permits_or_none, permits_at, with_permits, at_progress}
+use Rattle.mux_conn.specs.Requests.{name_or_none, name_at, permits_or_none, with_permits, at_progress}
 
 -- what stands last
 pub get_last : {X : Type 0} (xs : List X) (x : X) → slice_get (xs ++ x ∷ []) (length xs) ≡ Some x

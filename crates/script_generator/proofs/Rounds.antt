@@ -1,44 +1,29 @@
 -- Where each round of the generated script leads to.
-use Rattle.std.proofs.Common.{◌≡◌, ℕ, zero, suc, ◌+◌, ◌*◌, ◌^◌, ◌<◌, ◌≤◌, ◌==◌, nat_lt, nat_le, Bool, true, false, ◌&&◌, ◌||◌, List, [], ◌∷◌, ◌++◌, length, Option, Some, None, refl, ap, sym, ◌∙◌, subst, arith, length-append, append_assoc, if◌then◌else◌}
-use Rattle.std.specs.Prelude.{decimal, codes}
-use Rattle.std.specs.Str.Lossy.{utf8_lossy, utf8_valid_len}
-use Rattle.url.proofs.OnLiterals.{url_on_literals}
+use Rattle.std.proofs.Common.{◌≡◌, ℕ, zero, suc, ◌+◌, ◌^◌, ◌<◌, ◌≤◌, ◌==◌, nat_lt, nat_le, true, false, ◌||◌, List, [], ◌∷◌, ◌++◌, length, Option, Some, refl, ap, ◌∙◌, subst, arith, length-append}
 use Rattle.std.proofs.lemmas.Bool.Decides.{nat_tests}
-use Rattle.containers.proofs.Choices.{le_test, not_le_test, ne_test, by_test}
+use Rattle.containers.proofs.Choices.{not_le_test, ne_test}
 use Rattle.resp_write.specs.Pack.{pack}
-use Rattle.connection_info.specs.declared.address.ConnectionInfo.{ConnectionInfo}
-use Rattle.driver_model.specs.Config.{address, connect_timeout, fault_in, first_fault}
-use Rattle.driver_model.specs.declared.action.Action.{Action}
 use Rattle.driver_model.specs.declared.action.Action.TheVariants as action
 use Rattle.driver_model.specs.declared.action.Cause.TheVariants as cause
 use Rattle.driver_model.specs.declared.action.Owner.TheVariants as owner
 use Rattle.driver_model.specs.declared.event.Event.{Event}
-use Rattle.driver_model.specs.declared.event.EventKind.{EventKind}
 use Rattle.driver_model.specs.declared.event.EventKind.TheVariants as event
 use Rattle.link_core.specs.declared.message.Entry.{Entry}
 use Rattle.link_core.specs.declared.outbox.Outbox.{Outbox}
 use Rattle.link_core.specs.Link.{LinkState}
 use Rattle.mux_conn.specs.declared.act.LinkAct.{LinkAct}
-use Rattle.mux_conn.specs.declared.act.LinkAct.TheVariants as act
 use Rattle.mux_conn.specs.declared.request.Pending.{Pending}
 use Rattle.mux_conn.specs.declared.request.Progress.{Progress}
 use Rattle.mux_conn.specs.declared.request.Progress.TheVariants as progress
 use Rattle.mux_conn.specs.declared.request.Request.{Request}
-use Rattle.legal_trace.specs.Book.{Book, blank_book, book, entered_each}
-use Rattle.legal_trace.proofs.Books.{book_append, entered_append}
 use Rattle.shared_session.specs.declared.core_state.Core.{Core}
-use Rattle.shared_session.specs.Replay.{opening_core, opening_actions, connect_asked, state_after, trace_of, AreGood, AreUnspent, IsSound}
-use Rattle.shared_session.specs.Turn.{Turning, turning_with, next_turn, actions_of, shown_each, is_bad, has_run_out, spends, pending}
-use Rattle.shared_session.proofs.Replays.{state_after-more, state_after-none, trace_of-none, trace_of-more}
-use Rattle.script_generator.specs.Script.{generated_config, generated_word, event_of, command, is_cancelled, reply, submits, writes, cancels, replies, round, rounds}
-use Rattle.script_generator.specs.Fronts.{front, submitted, written, cancelled}
-use Rattle.script_generator.specs.Summary.{count, takes}
+use Rattle.shared_session.specs.Turn.{Turning, turning_with, next_turn, shown_each, is_bad, has_run_out, pending}
+use Rattle.script_generator.specs.Script.{event_of, command, submits, writes, cancels, replies}
 use Rattle.script_generator.proofs.Lasts.{come_to}
 use Rattle.script_generator.proofs.Sessions.{link_with, no_bytes, up}
 use Rattle.script_generator.proofs.Submits.{entry, all_of, submit_turn}
-use Rattle.script_generator.proofs.Turns.{told, shut, connected_turn, wrote_turn, cancel_turn, answer, answer_turn, unheard_turn, shutdown_turn}
-use Rattle.script_generator.proofs.Books.{Tells, turn, tells_connected, tells_submitted, tells_wrote, tells_cancelled, tells_replied, tells_answered}
-use Rattle.script_generator.proofs.Fronts.{Stands, Steps, IsNext, is_next, stands_more, state, trace}
+use Rattle.script_generator.proofs.Turns.{told, shut, wrote_turn, cancel_turn, answer, answer_turn, unheard_turn, shutdown_turn}
+use Rattle.script_generator.proofs.Fronts.{Steps}
 
 -- no number runs out below 2^32
 pub room_in : (t k : ℕ) (table : List (Option Pending)) (rs : List Request) (row : List Entry) (outbox : Outbox) → k < 2 ^ 32 → length table < 2 ^ 32 → has_run_out (up told t table rs (link_with row k outbox)) ≡ false
@@ -94,7 +79,7 @@ cancel_steps i k n table rs long few short =
     let grown : length (table ++ Some (pending (length rs)) ∷ []) ≡ length table + 1 = length-append table (Some (pending (length rs)) ∷ []) in
     steps_up (cancels i) _ _ _ _ _
     (λ t. subst (λ m. next_turn (up told t (table ++ Some (pending (length rs)) ∷ []) (rs ++ come_to n progress.Placed ∷ []) (link_with (entry (length rs) true ∷ []) k no_bytes)) (event.Cancel m)
-          ≡ turning_with (up told (t + 1) (table ++ Some (pending (length rs)) ∷ []) (rs ++ come_to n progress.Closed ∷ []) (link_with (entry (length rs) false ∷ []) k no_bytes)) []) long (cancel_turn told t k n table rs))
+    ≡ turning_with (up told (t + 1) (table ++ Some (pending (length rs)) ∷ []) (rs ++ come_to n progress.Closed ∷ []) (link_with (entry (length rs) false ∷ []) k no_bytes)) []) long (cancel_turn told t k n table rs))
     (λ t. not_le_test (length (table ++ Some (pending (length rs)) ∷ [])) i (omega arith))
     (λ t. room_in t k _ _ _ _ few (omega arith))
 

@@ -1,8 +1,6 @@
 -- The sessions that the generated script leads to.
-use Rattle.std.proofs.Common.{◌≡◌, ℕ, false, List, [], ◌∷◌, ◌++◌, length, Option, Some, None}
-use Rattle.resp_value.specs.Data.{Data}
+use Rattle.std.proofs.Common.{ℕ, false, List, [], Option, None}
 use Rattle.connection_info.specs.declared.address.RedisConnectionInfo.{RedisConnectionInfo}
-use Rattle.driver_model.specs.declared.outcome.Shape.TheVariants.{Single}
 use Rattle.link_core.specs.declared.message.Entry.{Entry}
 use Rattle.link_core.specs.declared.outbox.Outbox.{Outbox}
 use Rattle.link_core.specs.Link.{LinkState}

@@ -1,10 +1,10 @@
 -- The other turns of the generated script.
-use Rattle.std.proofs.Common.{◌≡◌, ℕ, ◌+◌, ◌==◌, Bool, true, false, List, [], ◌∷◌, ◌++◌, length, drop, min, Option, Some, None, refl, ap, ◌∙◌, if◌then◌else◌}
+use Rattle.std.proofs.Common.{◌≡◌, ℕ, ◌+◌, Bool, true, false, List, [], ◌∷◌, ◌++◌, length, drop, min, Option, Some, None, refl, ap, ◌∙◌, if◌then◌else◌}
 use Rattle.std.specs.Fmt.{digits}
 use Rattle.std.specs.Str.Lossy.{utf8_lossy, utf8_valid_len}
 use Rattle.url.proofs.OnLiterals.{url_on_literals}
 use Rattle.containers.proofs.Choices.{eq_test}
-use Rattle.resp_value.specs.Data.{Data, simple}
+use Rattle.resp_value.specs.Data.{simple}
 use Rattle.resp_read.specs.Grammar.{max_depth}
 use Rattle.resp_read.specs.Values.{values, left_over, is_spoiled}
 use Rattle.resp_read.specs.Items.{items}
@@ -19,19 +19,17 @@ use Rattle.driver_model.specs.declared.outcome.Outcome.{Outcome}
 use Rattle.driver_model.specs.declared.outcome.Shape.TheVariants.{Single}
 use Rattle.link_core.specs.declared.message.Entry.{Entry}
 use Rattle.link_core.specs.declared.message.Settled.{Settled}
-use Rattle.link_core.specs.Link.{LinkState, Settling, piece_dealt}
+use Rattle.link_core.specs.Link.{piece_dealt}
 use Rattle.link_core.specs.Row.{silent}
-use Rattle.mux_conn.specs.declared.act.LinkAct.{LinkAct}
 use Rattle.mux_conn.specs.declared.act.LinkAct.TheVariants as act
 use Rattle.mux_conn.specs.declared.connection.MultiplexedConnection.{MultiplexedConnection}
 use Rattle.mux_conn.specs.declared.life.Life.TheVariants.{Ready, Ended}
 use Rattle.mux_conn.specs.declared.request.Pending.{Pending}
-use Rattle.mux_conn.specs.declared.request.Progress.{Progress}
 use Rattle.mux_conn.specs.declared.request.Progress.TheVariants as progress
 use Rattle.mux_conn.specs.declared.request.Request.{Request}
 use Rattle.mux_conn.specs.Connection.{Work, work_with, acted}
 use Rattle.mux_conn.specs.Requests.{if_there, is_open, permits_or_none, name_at, closed}
-use Rattle.mux_conn.specs.Effects.{new_link, all_fresh, made_ready, sets_up, cancelled_in, left, read_to}
+use Rattle.mux_conn.specs.Effects.{new_link, all_fresh, made_ready, sets_up, cancelled_in, read_to}
 use Rattle.shared_session.specs.declared.core_state.Core.{Core}
 use Rattle.shared_session.specs.Replay.{opening_core}
 use Rattle.shared_session.specs.Turn.{Turning, turning_with, work_of, counted, left_by, moved_on, timed, with_work, next_turn, pending}

@@ -1,5 +1,5 @@
 -- The whole generated script, front by front.
-use Rattle.std.proofs.Common.{◌≡◌, ℕ, zero, suc, ◌+◌, ◌*◌, ◌^◌, ◌<◌, ◌≤◌, ◌==◌, nat_le, Bool, true, false, ◌||◌, List, [], ◌∷◌, ◌++◌, length, Option, Some, None, refl, ap, sym, ◌∙◌, subst, arith, length-append, if◌then◌else◌}
+use Rattle.std.proofs.Common.{◌≡◌, ℕ, zero, suc, ◌+◌, ◌*◌, ◌<◌, ◌≤◌, Bool, true, false, List, [], ◌∷◌, ◌++◌, length, Some, None, refl, ap, sym, ◌∙◌, subst, arith, length-append, if◌then◌else◌}
 use Rattle.std.specs.Prelude.{codes, pos}
 use Rattle.std.specs.Str.Lossy.{utf8_lossy, utf8_valid_len}
 use Rattle.url.proofs.OnLiterals.{url_on_literals}
@@ -13,22 +13,20 @@ use Rattle.driver_model.specs.declared.action.Action.TheVariants as action
 use Rattle.driver_model.specs.declared.action.Cause.TheVariants as cause
 use Rattle.driver_model.specs.declared.action.Owner.TheVariants as owner
 use Rattle.driver_model.specs.declared.event.Event.{Event}
-use Rattle.driver_model.specs.declared.event.EventKind.{EventKind}
 use Rattle.driver_model.specs.declared.event.EventKind.TheVariants as event
 use Rattle.legal_trace.specs.Book.{Book, blank_book, book, entered_each}
-use Rattle.legal_trace.specs.Ledger.{Ledger}
 use Rattle.legal_trace.proofs.Books.{book_append}
 use Rattle.shared_session.specs.declared.core_state.Core.{Core}
-use Rattle.shared_session.specs.Replay.{opening_core, opening_actions, connect_asked, state_after, trace_of, AreGood, AreUnspent, IsSound}
+use Rattle.shared_session.specs.Replay.{opening_core, connect_asked, state_after, AreGood, AreUnspent, IsSound}
 use Rattle.shared_session.specs.Turn.{Turning, next_turn, actions_of, shown_each, is_bad, has_run_out, spends}
 use Rattle.shared_session.proofs.Replays.{state_after-more, state_after-none, trace_of-none, trace_of-more}
-use Rattle.script_generator.specs.Script.{generated_config, generated_word, generated_events, event_of, command, is_cancelled, reply, submits, writes, cancels, replies, round, rounds}
+use Rattle.script_generator.specs.Script.{generated_config, generated_word, generated_events, event_of, command, is_cancelled, reply, submits, writes, cancels, replies}
 use Rattle.script_generator.specs.Fronts.{front, submitted, written, cancelled}
 use Rattle.script_generator.specs.Summary.{count, takes, items_dealt}
-use Rattle.script_generator.proofs.Sessions.{link_with, no_bytes}
-use Rattle.script_generator.proofs.Turns.{told, connected_turn, answer}
+use Rattle.script_generator.proofs.Sessions.{no_bytes}
+use Rattle.script_generator.proofs.Turns.{connected_turn, answer}
 use Rattle.script_generator.proofs.Books.{Tells, turn, tells_connected, tells_submitted, tells_wrote, tells_cancelled, tells_replied, tells_answered, dealt_at_end}
-use Rattle.script_generator.proofs.Fronts.{good_on, unspent_on, count_append, Stands, Steps, IsNext, is_next, stands_more, state, trace}
+use Rattle.script_generator.proofs.Fronts.{good_on, unspent_on, count_append, Stands, IsNext, is_next, stands_more, trace}
 use Rattle.script_generator.proofs.Rounds.{lists, long, over, ready, offering, waiting, unheard, room_in, submits_on, writes_on, cancels_on, answers_on, drops_on, shuts_on}
 
 -- the server that the script's URL names
@@ -92,7 +90,7 @@ after_submit : (i : ℕ) → i < 200000 → Stands (front i) (ready i) i i i (1 
 after_submit i few h =
     stands_more (front i) (submits i) (ready i) (offering i) _ i i i (i + 1) i (i + 1) 1 (1 + 4 * i) (omega arith) h (submits_on i few) (omega arith) refl refl
     (λ b t tells. subst (λ m. Tells (entered_each b (turn t (submits i).kind ∷ action.Start 0 i (owner.Try m 0) 1 (length (pack (command i))) ∷ action.Write 0 (pack (command i)) ∷ [])) (i + 1) i (i + 1)) (sym (long i))
-          (tells_submitted b i i i t i (length (pack (command i))) (command i) (pack (command i)) tells))
+    (tells_submitted b i i i t i (length (pack (command i))) (command i) (pack (command i)) tells))
 
 abbrev AfterWrite : ℕ → Type 0
 AfterWrite i = Stands (written i) (waiting i) (i + 1) i (i + 1) (1 + 4 * i + 1 + 1)
@@ -215,10 +213,10 @@ all_dealt n few =
     let more = turn t event.Shutdown ∷ action.Close 0 ∷ [] in
     let h = after_front n few in
     let dealt : items_dealt (trace (front n ++ event_of event.Shutdown ∷ [])) ≡ n =
-        ap items_dealt (all_trace n few) ∙ ap (λ (b : Book). length (b.link 0).dealt) (book_append (trace (front n)) more)
-        ∙ ap length (dealt_at_end (book (trace (front n))) t) ∙ h.tells.link.dealt in
+    ap items_dealt (all_trace n few) ∙ ap (λ (b : Book). length (b.link 0).dealt) (book_append (trace (front n)) more)
+    ∙ ap length (dealt_at_end (book (trace (front n))) t) ∙ h.tells.link.dealt in
     let took : count takes (trace (front n ++ event_of event.Shutdown ∷ [])) ≡ n =
-        ap (count takes) (all_trace n few) ∙ count_append takes (trace (front n)) more ∙ (let all = h.takes in omega arith) in
+    ap (count takes) (all_trace n few) ∙ count_append takes (trace (front n)) more ∙ (let all = h.takes in omega arith) in
     dealt ∙ sym took
 
 -- and there are not many actions

@@ -1,11 +1,10 @@
 ghost use Rattle.std.specs.Prelude.{◌≡◌, ◌+◌, ◌<◌, ◌≤◌, ◌++◌, ◌∷◌, [], false, OnOk, IfOk, length};
 ghost use Rattle.resp_write.specs.Pack.{pack};
-ghost use Rattle.driver_model.specs.declared.event.EventKind.TheVariants as event;
 ghost use Rattle.shared_session.specs.Turn.{actions_of};
 ghost use Rattle.shared_session.specs.Replay.{state_after, trace_of, is_bad_after, is_spent_after};
 ghost use Rattle.shared_session.specs.declared.session.Failure.TheVariants.{Sound};
 ghost use Rattle.script_generator.specs.Script.{generated_config, generated_word};
-ghost use Rattle.script_generator.specs.Script.{generated_events, event_of, command};
+ghost use Rattle.script_generator.specs.Script.{generated_events, command};
 ghost use Rattle.script_generator.specs.Fronts.{front, submitted, written, IsAt};
 ghost use Rattle.script_generator.specs.Summary.{no_summary, counted_each};
 ghost use Rattle.script_generator.specs.Summary.{summary_of, summary_line};
@@ -130,8 +129,8 @@ fn take_round(
     take_reply(alloc, session, round, actions, counts)
 }
 
-/// Makes the script of so many rounds, at most 200,000, takes each of its events with one session, and answers the line of
-/// what is counted in its trace. Nothing of the trace is kept. An error is want of memory.
+/// Makes the script of so many rounds, at most 200,000: one session takes its events, line by line. It answers the line of
+/// what is counted in the script's trace, of which nothing is kept. An error is want of memory.
 pub fn generate(alloc: Global, rounds: u32) -> Result<Bytes, AllocError>
     requires { rounds ≤ 200000 }
     ensures { IfOk result (λ line. line ≡ summary_line

@@ -1,6 +1,5 @@
-ghost use Rattle.std.specs.Prelude.{◌≡◌, ◌++◌, ◌∷◌, [], codes, decimal, OnOk, IfOk};
-ghost use Rattle.script_generator.specs.Script.{generated_config, command, reply, is_cancelled};
-ghost use Rattle.script_generator.specs.Script.{cancels, replies};
+ghost use Rattle.std.specs.Prelude.{◌≡◌, ◌∷◌, [], codes, IfOk};
+ghost use Rattle.script_generator.specs.Script.{generated_config, command, is_cancelled, replies};
 
 use containers::{Bytes, Names};
 use driver_model::{Config, Event, Submission};

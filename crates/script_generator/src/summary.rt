@@ -15,7 +15,7 @@ pub struct Summary {
     pub turns: u64,
     /// The messages that started.
     pub starts: u64,
-    /// The items of these messages.
+    /// The items that these messages take: where all come, the items dealt.
     pub items: u64,
     /// The submissions that were answered.
     pub outcomes: u64,

@@ -4,7 +4,7 @@ use Rattle.std.specs.Prelude.{Ok, Err}
 use Rattle.outside.specs.Ends.{Gained, GainedPart}
 use Rattle.script_text.specs.Script.{script_of}
 use Rattle.session_tool.specs.declared.command.Command.{Command}
-use Rattle.session_tool.specs.declared.command.Command.TheVariants.{Replay, Help, Version, Unknown}
+use Rattle.session_tool.specs.declared.command.Command.TheVariants.{Replay, Generate, Help, Version, Unknown}
 use Rattle.program_ends.specs.declared.status.Status.{Status}
 use Rattle.program_ends.specs.declared.status.Status.TheVariants as status
 use Rattle.session_tool.specs.Does.{Does, EndsWell, EndsRefused}
@@ -51,6 +51,10 @@ ends_refused status.ReadFault source source' sink sink' comes bytes told refused
 ends_refused status.WriteFault source source' sink sink' comes bytes told refused read wrote = absurd (wrote comes.1)
 ends_refused status.Spent source source' sink sink' comes bytes told refused read wrote = let h = comes bytes told in absurd (not_sound bytes h.script h.reads h.told.first.before.sound refused)
 
+-- a replay makes no script
+replay_is_not : (n : ℕ) → Replay ≡ Generate n → ⊥
+replay_is_not n same = cc
+
 -- a replay does what it comes to
 pub replay_does : (s : Status) (source source' sink sink' : Side) → Comes s source source' sink sink' → Does Replay s source source' sink sink'
 replay_does s source source' sink sink' comes =
@@ -58,6 +62,11 @@ replay_does s source source' sink sink' comes =
     record {
       done = λ is replay bytes told. (at status.Done is bytes told).0;
       headline = λ is replay bytes told. (at status.Done is bytes told).1;
+      generated = λ n is other. absurd (replay_is_not n other);
+      generated_headline = λ n is other. absurd (replay_is_not n other);
+      generates = λ n other. absurd (replay_is_not n other);
+      unread = λ n other. absurd (replay_is_not n other);
+      unwritten = λ n is other. absurd (replay_is_not n other);
       version = λ is other. cc;
       help = λ is other. cc;
       words = λ is. absurd (at status.Usage is);
@@ -67,7 +76,7 @@ replay_does s source source' sink sink' comes =
       refused = at status.Config;
       exact = λ replay. ends_refused s source source' sink sink' comes;
       bad = at status.BadEvent;
-      free = λ is. refl;
+      free = λ is. inl refl;
       whole = at status.NoMemory;
       fault = λ is. (at status.ReadFault is).0;
       read = λ is. (at status.ReadFault is).1;

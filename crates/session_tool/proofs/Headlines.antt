@@ -15,11 +15,11 @@ use Rattle.legal_laws.proofs.Lines.{ledgers_are_told}
 use Rattle.legal_laws.proofs.Links.{links_take_in_order}
 use Rattle.legal_laws.proofs.Segments.{in_segments}
 use Rattle.session_laws.proofs.Legality.{replay_legal}
-use Rattle.text_laws.specs.Fits.{AreBytes}
+use Rattle.text_laws.specs.Fits.{AreBytes, FitsHistory, HaveForms}
 use Rattle.text_laws.proofs.OneTrace.{same_trace}
 use Rattle.text_laws.proofs.Scripts.{script_fits}
 use Rattle.text_laws.proofs.Traces.{good_forms}
-use Rattle.session_tool.specs.Headline.{HasOwnText, IsInOrder, IsLegalUpTo, Headline}
+use Rattle.session_tool.specs.Headline.{HasOwnText, IsInOrder, IsLegalUpTo, Headline, HeadlineOf}
 use Rattle.session_tool.specs.Stops.{AreTaken}
 
 -- each link of a legal trace takes its messages in order
@@ -27,34 +27,35 @@ takes_in_order : (config : Config) (word : ℕ) (events : List Event) (trace : L
 takes_in_order config word events trace h l =
     subst (λ (link : Ledger). IsPrefix (stream link) (joined link.starts)) (sym (ledgers_are_told trace l)) (links_take_in_order config word events trace h l)
 
--- no other trace has the text of a script's
-own_text : (text : List ℕ) (script : Script) → AreBytes text → script_of text ≡ Ok script → HasOwnText (trace_of script.config script.word script.events)
-own_text text script small reads =
-    let said = script_fits text script small reads in
+-- no other trace has the text of a history's that the types hold, and whose submissions have forms
+own_text : (config : Config) (word : ℕ) (events : List Event) → FitsHistory config word events → HaveForms events → HasOwnText (trace_of config word events)
+own_text config word events fits forms =
     record {
-      of_good = λ config word events good fits same.
-          same_trace config script.config word script.word events script.events fits (good_forms config word events good) said.0 said.1 same;
-      also_of_bad = λ config word events forms fits same. same_trace config script.config word script.word events script.events fits forms said.0 said.1 same;
+      of_good = λ other draws more good small same. same_trace other config draws word more events small (good_forms other draws more good) fits forms same;
+      also_of_bad = λ other draws more theirs small same. same_trace other config draws word more events small theirs fits forms same;
     }
 
 -- the turns of events that were taken are legal
 pub legal_up_to : (script : Script) (index : ℕ) → AreTaken script.config script.word script.events index → IsLegalUpTo script index
 legal_up_to script index taken = replay_legal script.config script.word (take index script.events) taken.sound taken.good
 
--- a text of bytes is kept of all that is read, which says the same script
-pub headline : (kept bytes : List ℕ) (script : Script) → AreBytes kept → script_of kept ≡ Ok script → script_of bytes ≡ Ok script → IsSound script.config → AreGood script.config script.word script.events → Headline bytes
-headline kept bytes script small reads says sound good =
-    let config = script.config in
-    let word = script.word in
-    let events = script.events in
+-- what holds of the trace of a history
+pub headline_of : (config : Config) (word : ℕ) (events : List Event) → FitsHistory config word events → HaveForms events → IsSound config → AreGood config word events → HeadlineOf config word events
+headline_of config word events fits forms sound good =
     let trace = trace_of config word events in
     let h = replay_legal config word events sound good in
     record {
-      legal = record { script = script; reads = says; legal = h };
-      in_order = record { script = script; reads = says; holds = takes_in_order config word events trace h };
-      in_place = record { script = script; reads = says; holds = record { each = h.each; segments = in_segments config word events trace h } };
-      settled = record { script = script; reads = says; holds = h.settled };
-      answers_once = record { script = script; reads = says; holds = at_most_one config word events trace h };
-      answers_all = record { script = script; reads = says; holds = exactly_one config word events trace h };
-      one_trace = record { script = script; reads = says; holds = own_text kept script small reads };
+      legal = h;
+      in_order = takes_in_order config word events trace h;
+      in_place = record { each = h.each; segments = in_segments config word events trace h };
+      settled = h.settled;
+      answers_once = at_most_one config word events trace h;
+      answers_all = exactly_one config word events trace h;
+      one_trace = own_text config word events fits forms;
     }
+
+-- a text of bytes is kept of all that is read, which says the same script
+pub headline : (kept bytes : List ℕ) (script : Script) → AreBytes kept → script_of kept ≡ Ok script → script_of bytes ≡ Ok script → IsSound script.config → AreGood script.config script.word script.events → Headline bytes
+headline kept bytes script small reads says sound good =
+    let said = script_fits kept script small reads in
+    record { script = script; reads = says; of = headline_of script.config script.word script.events said.0 said.1 sound good }

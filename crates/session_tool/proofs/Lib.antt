@@ -1,4 +1,6 @@
 mod Does
+mod Fitting
+mod Generated
 mod Headlines
 mod Notes
 mod Offers

@@ -1,4 +1,4 @@
--- What a finished replay gives its callers, said of its trace.
+-- What a finished replay gives its callers, said of its trace; and so does a script that is made.
 use Rattle.std.specs.Prelude.{◌≡◌, ℕ, List, Ok, take}
 use Rattle.driver_model.specs.declared.action.Action.{Action}
 use Rattle.driver_model.specs.declared.config.Config.{Config}
@@ -14,12 +14,6 @@ use Rattle.legal_trace.specs.Legal.{AllStand, IsSettled, Legal}
 use Rattle.legal_laws.specs.Answers.{AnswersOnce, AnswersAll}
 use Rattle.legal_laws.specs.Links.{IsPrefix}
 use Rattle.legal_laws.specs.Segments.{AreInOrder}
-
--- these bytes are a script, and that holds of its trace
-pub record OfTrace (bytes : List ℕ) (P : List Action → Type 0) : Type 0 where
-  pub script : Script
-  pub reads : script_of bytes ≡ Ok script
-  pub holds : P (trace_of script.config script.word script.events)
 
 -- the bytes that each link took, and then those offered to it, are the first of the messages that started there
 abbrev pub IsInOrder : List Action → Type 0
@@ -52,18 +46,18 @@ IsLegalUpTo script index =
     let taken = take index script.events in
     Legal script.config script.word taken (trace_of script.config script.word taken)
 
--- these bytes are a script, and its trace is a legal one of its events
-pub record IsLegal (bytes : List ℕ) : Type 0 where
+-- the headline: what holds of the trace of a history that was taken to its end
+pub record HeadlineOf (config : Config) (word : ℕ) (events : List Event) : Type 0 where
+  pub legal : Legal config word events (trace_of config word events)
+  pub in_order : IsInOrder (trace_of config word events)
+  pub in_place : IsInPlace (trace_of config word events)
+  pub settled : EndsSettled (trace_of config word events)
+  pub answers_once : AnswersOnce (trace_of config word events)
+  pub answers_all : AnswersAll (trace_of config word events)
+  pub one_trace : HasOwnText (trace_of config word events)
+
+-- these bytes are a script, and that holds where its replay is done
+pub record Headline (bytes : List ℕ) : Type 0 where
   pub script : Script
   pub reads : script_of bytes ≡ Ok script
-  pub legal : Legal script.config script.word script.events (trace_of script.config script.word script.events)
-
--- the headline: what holds of the trace of these bytes where their replay is done
-pub record Headline (bytes : List ℕ) : Type 0 where
-  pub legal : IsLegal bytes
-  pub in_order : OfTrace bytes IsInOrder
-  pub in_place : OfTrace bytes IsInPlace
-  pub settled : OfTrace bytes EndsSettled
-  pub answers_once : OfTrace bytes AnswersOnce
-  pub answers_all : OfTrace bytes AnswersAll
-  pub one_trace : OfTrace bytes HasOwnText
+  pub of : HeadlineOf script.config script.word script.events

@@ -9,10 +9,10 @@ version_line = codes "session_tool 0.1.0" ++ 10 ∷ []
 unfoldable pub help_text : List ℕ
 help_text =
     codes "session_tool replay     reads a script from standard input, and writes the trace of its session\n"
+    ++ codes "session_tool gen N      makes a script of N rounds, N from 1 to 200000, and writes what is counted in its trace\n"
     ++ codes "session_tool live WORDS hands the lines of standard input to a server, and writes the outcome of each\n"
     ++ codes "session_tool --help     this text\n"
     ++ codes "session_tool --version  the version\n"
-    ++ codes "gen N is not in this version: it answers 1\n"
     ++ codes "\n"
     ++ codes "The WORDS of live are callers=K, K from 1 to 8, or nothing, and then those behind `config` in a script; each line is a line `submit ..`, and the last one `end`.\n"
     ++ codes "\n"

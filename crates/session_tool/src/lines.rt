@@ -9,10 +9,10 @@ use std::alloc::{AllocError, Global};
 /// What the program says of itself.
 const HELP: &[u8] =
     b"session_tool replay     reads a script from standard input, and writes the trace of its session
+session_tool gen N      makes a script of N rounds, N from 1 to 200000, and writes what is counted in its trace
 session_tool live WORDS hands the lines of standard input to a server, and writes the outcome of each
 session_tool --help     this text
 session_tool --version  the version
-gen N is not in this version: it answers 1
 
 The WORDS of live are callers=K, K from 1 to 8, or nothing, and then those behind `config` in a script; each line is a line `submit ..`, and the last one `end`.
 

@@ -6,6 +6,7 @@ mod bad;
 mod calls;
 mod command;
 mod counting;
+mod generating;
 mod lines;
 #[cfg(test)]
 mod note_tests;
@@ -13,6 +14,7 @@ mod noting;
 mod offer;
 mod reading;
 mod replaying;
+mod rounds;
 #[cfg(test)]
 mod rows;
 mod running;

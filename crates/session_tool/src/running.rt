@@ -14,6 +14,7 @@ ghost use Rattle.session_tool.specs.Words.{command_of, is_live, words_behind};
 
 use crate::command::{Command, command_of};
 use crate::counting::done_note;
+use crate::generating::write_generated;
 use crate::lines::{VERSION, help_text};
 use crate::noting::{config_note, live_note, note_of, script_note, write_note};
 use crate::reading::{ReadError, read_text};
@@ -180,6 +181,7 @@ fn run_command<S: Source, K: Sink>(
 {
     match command_of(words) {
         Command::Replay => replay_source(alloc, source, sink),
+        Command::Generate(rounds) => (write_generated(alloc, rounds, sink), Bytes::new(alloc)),
         Command::Help => (print(help_text(), Status::Done, sink), Bytes::new(alloc)),
         Command::Version => (print(VERSION, Status::Done, sink), Bytes::new(alloc)),
         Command::Unknown => (print(USAGE, Status::Usage, sink), Bytes::new(alloc)),

@@ -17,10 +17,10 @@ use std::test::Fail;
 /// What `--help` writes.
 const HELP: &[u8] =
     b"session_tool replay     reads a script from standard input, and writes the trace of its session
+session_tool gen N      makes a script of N rounds, N from 1 to 200000, and writes what is counted in its trace
 session_tool live WORDS hands the lines of standard input to a server, and writes the outcome of each
 session_tool --help     this text
 session_tool --version  the version
-gen N is not in this version: it answers 1
 
 The WORDS of live are callers=K, K from 1 to 8, or nothing, and then those behind `config` in a script; each line is a line `submit ..`, and the last one `end`.
 
@@ -306,9 +306,14 @@ fn a_script_past_a_limit_is_refused_at_its_line(rt: HostRuntime) -> Result<(), F
 #[test]
 fn words_are_commands(rt: HostRuntime) -> Result<(), Fail> {
     let usage = b"usage: session_tool replay or gen N or live CONFIG\n".as_slice();
-    let cases: [(&[&str], u8, &[u8]); 7] = [
+    let cases: [(&[&str], u8, &[u8]); 12] = [
         (&[], 1, usage),
-        (&["gen", "1"], 1, usage),
+        (&["gen"], 1, usage),
+        (&["gen", "0"], 1, usage),
+        (&["gen", "200001"], 1, usage),
+        (&["gen", "x"], 1, usage),
+        (&["gen", "01"], 1, usage),
+        (&["gen", "1", "1"], 1, usage),
         (&["live"], 1, usage),
         (&["replay", "replay"], 1, usage),
         (&["Replay"], 1, usage),
@@ -317,6 +322,36 @@ fn words_are_commands(rt: HostRuntime) -> Result<(), Fail> {
     ];
     for (words, status, output) in cases {
         let (answered, sink) = answer(rt.alloc(), words, b"", None, None)?;
+        assert_eq!(rt; answered, status);
+        assert_eq!(rt; sink.as_slice(), output);
+    }
+    Ok(())
+}
+
+/// A number of rounds, the write that fails, counted from 0, the status, and what the sink holds then.
+type Made = (&'static str, Option<u64>, u8, &'static [u8]);
+
+const MADE: [Made; 4] = [
+    (
+        "1",
+        None,
+        0,
+        b"turns 6 starts 1 items 1 outcomes 1 cancelled 0\n",
+    ),
+    (
+        "16",
+        None,
+        0,
+        b"turns 52 starts 16 items 16 outcomes 15 cancelled 1\n",
+    ),
+    ("16", Some(1), 7, b"turns 52 starts 16 i"),
+    ("1", Some(0), 7, b""),
+];
+
+#[test]
+fn scripts_are_made(rt: HostRuntime) -> Result<(), Fail> {
+    for (rounds, write, status, output) in MADE {
+        let (answered, sink) = answer(rt.alloc(), &["gen", rounds], b"", Some(0), write)?;
         assert_eq!(rt; answered, status);
         assert_eq!(rt; sink.as_slice(), output);
     }
