@@ -9,8 +9,10 @@ mod heads;
 mod limits;
 mod lines;
 mod reader;
+mod tape;
 mod underway;
 mod waiting;
 
 pub use limits::Limits;
 pub use reader::{Health, ReadError, Reader};
+pub use tape::{Steps, Tape};
