@@ -19,3 +19,4 @@ pub mod DigitLaws
 pub mod WaitLaws
 pub mod AskedLaws
 pub mod SizeLaws
+pub mod StageLaws

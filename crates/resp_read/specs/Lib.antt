@@ -11,3 +11,4 @@ pub mod Doubles
 pub mod Waiting
 pub mod Items
 pub mod Frames
+pub mod Stages
