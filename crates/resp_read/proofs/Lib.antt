@@ -20,3 +20,5 @@ pub mod WaitLaws
 pub mod AskedLaws
 pub mod SizeLaws
 pub mod StageLaws
+pub mod HeadLaws
+pub mod LookLaws

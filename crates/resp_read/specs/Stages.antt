@@ -1,5 +1,5 @@
 -- Where a reader is within what it reads next, and what the bytes that follow make of it.
-use Rattle.std.specs.Prelude.{◌≡◌, ◌≤◌, ℕ, ◌+◌, ◌-◌, Bool, true, false, ◌&&◌, ◌==◌, nat_le, List, [], ◌∷◌, ◌++◌, length, take, drop, Option, Some, None, Result, Ok, Err, if◌then◌else◌}
+use Rattle.std.specs.Prelude.{◌≡◌, ◌≤◌, ℕ, ◌+◌, ◌-◌, ◌*◌, Bool, true, false, ◌&&◌, ◌==◌, nat_le, List, [], ◌∷◌, ◌++◌, length, take, drop, Option, Some, None, Result, Ok, Err, if◌then◌else◌}
 use Rattle.resp_value.specs.Data.{Data, bulk, verbatim}
 use Rattle.resp_value.specs.Kinds.{kind_of}
 use Rattle.resp_read.specs.Grammar.{Limits as GrammarLimits, error_of, max_bulk, fits}
@@ -7,7 +7,9 @@ use Rattle.resp_read.specs.Parser.{read, short, bad, Found, found_and_then, foun
 use Rattle.resp_read.specs.Limits.{bounds, reading}
 use Rattle.resp_read.specs.Parts.{line_form}
 use Rattle.resp_read.specs.Frames.{begun_as, with_values}
+use Rattle.resp_read.specs.Waiting.{IsFrontOf}
 use Rattle.resp_read.specs.declared.limits.Limits.{Limits}
+use Rattle.resp_read.specs.declared.waiting.Front.{Front}
 use Rattle.resp_read.specs.declared.forms.Refusal.{Refusal}
 use Rattle.resp_read.specs.declared.forms.Refusal.TheVariants.{Short, Bad, NoMemory}
 use Rattle.resp_read.specs.declared.frames.Sequence.TheVariants as sequence
@@ -99,3 +101,22 @@ IsStage (stage.Want w) = IsWant w
 abbrev pub Follows : GrammarLimits → Head → List ℕ → Option Follow → Type 0
 Follows limits h l (Some f) = IsFollow f × ((inside : List ℕ → Found Data) → ((m : List ℕ) → head_on limits inside h (ended l m) ≡ follow_as limits inside f m) × (head_on limits inside h (held l) ≡ short))
 Follows limits h l None = (inside : List ℕ → Found Data) → ((m : List ℕ) → head_on limits inside h (ended l m) ≡ bad) × (head_on limits inside h (held l) ≡ bad)
+
+-- what is known of a line that has not ended and can become one of that head; or it can't
+abbrev pub GoesOn : GrammarLimits → Head → List ℕ → Option Front → Type 0
+GoesOn limits h l (Some front) = IsFrontOf front l × ((inside : List ℕ → Found Data) → head_on limits inside h (unended l) ≡ short)
+GoesOn limits h l None = (inside : List ℕ → Found Data) → head_on limits inside h (unended l) ≡ bad
+
+-- what was taken of a line within the limit: all of it, where its CR has come, or all that is there; or it can be no line
+abbrev pub IsLook : Limits → List ℕ → Result Bool Refusal → List ℕ → Type 0
+IsLook limits rest (Ok true) l = (length l ≤ limits.line) × (line l ≡ unended l) × (rest ≡ l ++ 13 ∷ drop (length l + 1) rest)
+IsLook limits rest (Ok false) l = (length l ≤ limits.line) × (line l ≡ unended l) × (rest ≡ l)
+IsLook limits rest (Err Bad) l = (inside : List ℕ → Found Data) (h : Head) → head_on (bounds limits) inside h (line rest) ≡ bad
+IsLook limits rest (Err Short) l = ⊥
+IsLook limits rest (Err NoMemory) l = Unit {0}
+
+-- each byte that was taken costs two steps, and CR one
+abbrev pub LookCosts : List ℕ → List ℕ → ℕ → Result Bool Refusal → List ℕ → ℕ → Type 0
+LookCosts rest old before (Ok true) new after = after + 2 * length old ≡ before + 2 * length new + 1
+LookCosts rest old before (Ok false) new after = after + 2 * length old ≡ before + 2 * length new
+LookCosts rest old before (Err e) new after = after + 2 * length old ≤ before + 2 * length rest

@@ -9,6 +9,7 @@ mod heads;
 mod limits;
 mod lines;
 mod reader;
+mod scan;
 mod stages;
 mod tape;
 mod underway;
