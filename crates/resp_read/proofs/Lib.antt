@@ -22,3 +22,4 @@ pub mod SizeLaws
 pub mod StageLaws
 pub mod HeadLaws
 pub mod LookLaws
+pub mod BodyLaws

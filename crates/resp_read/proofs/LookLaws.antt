@@ -1,11 +1,11 @@
 -- A line that is looked at byte by byte.
-use Rattle.std.proofs.Common.{◌≡◌, ℕ, ◌≤◌, ◌<◌, ◌+◌, ◌-◌, ◌*◌, List, [], ◌∷◌, ◌++◌, length, get_or, take, drop, length-drop, length-append, length-take-le, take-add, Ok, Err, Option, Bool, true, false, refl, sym, ap, ◌∙◌, subst, arith}
+use Rattle.std.proofs.Common.{◌≡◌, ℕ, ◌≤◌, ◌<◌, ◌+◌, ◌-◌, ◌*◌, List, [], ◌∷◌, ◌++◌, length, get_or, take, drop, length-drop, length-append, length-take-le, take-add, append_assoc, Ok, Err, Option, Some, None, Bool, true, false, cond, refl, sym, ap, ◌∙◌, subst, arith}
 use Rattle.std.proofs.lemmas.List.{take_more, drop_more, take-append-drop, take_all, get_or-drop, drop-drop, append-nil}
 use Rattle.std.proofs.lemmas.Bool.Decides.{nat_tests}
 use Rattle.std.specs.Prelude.{◌==◌}
 use Rattle.resp_value.specs.Data.{Data}
 use Rattle.resp_read.specs.Grammar.{Limits as GrammarLimits, fits}
-use Rattle.resp_read.specs.Parser.{bad, Found, found_and_then, ended, held, unended, broken, after_return, Line, line, LineForm, line_found, size_line, count_line, text_line, bulk_of, error_body, verbatim_of, array_of, set_of, map_of, push_of, attribute_of}
+use Rattle.resp_read.specs.Parser.{short, bad, Found, found_and_then, ended, held, unended, broken, after_return, Line, line, LineForm, line_found, size_line, count_line, text_line, bulk_of, error_body, verbatim_of, array_of, set_of, map_of, push_of, attribute_of}
 use Rattle.resp_read.specs.Limits.{bounds}
 use Rattle.resp_read.specs.declared.limits.Limits.{Limits}
 use Rattle.resp_read.specs.Parts.{line_form}
@@ -13,7 +13,10 @@ use Rattle.resp_read.specs.declared.forms.Refusal.TheVariants.{Bad}
 use Rattle.resp_read.specs.declared.stages.Head.{Head}
 use Rattle.resp_read.specs.declared.stages.Head.TheVariants.{Value, Bulk, BulkError, Verbatim, Array, Set, Map, Push, Attributes, Kind, KindLength}
 use Rattle.resp_read.specs.Waiting.{IsClear, IsReturn}
-use Rattle.resp_read.specs.Stages.{head_on, kind_with, body_then, IsLook}
+use Rattle.resp_read.specs.declared.stages.Follow.{Follow}
+use Rattle.resp_read.specs.declared.place.Taken.{Taken}
+use Rattle.resp_read.specs.Stages.{head_on, kind_with, body_then, follow_as, after_feed, Follows, IsLook}
+use Rattle.resp_read.specs.Places.{PassesLine}
 use Rattle.resp_read.proofs.FirstLine.{bytes_before, before-ended, before-held, before-unended, before-broken, going_on, line-append}
 use Rattle.resp_read.proofs.WaitLaws.{line_on}
 
@@ -102,3 +105,56 @@ module _ (limits : Limits) (rest : List ℕ) where
   look_endless long h =
       let clear : line rest ≡ unended rest = subst (λ x. line x ≡ unended x) (take_all (length rest) rest (omega arith)) h in
       long_head limits rest long rest [] (sym (append-nil rest)) clear
+
+-- a whole line, once its CR has come
+module _ (limits : Limits) (h : Head) (l : List ℕ) (clear : line l ≡ unended l) (inside : List ℕ → Found Data) where
+  abbrev on : Line → Found Data
+  on = head_on (bounds limits) inside h
+
+  broken_bad : on (bytes_before l broken) ≡ bad
+  broken_bad = ap on (before-broken l) ∙ head_bad (bounds limits) inside broken (λ A form. refl) h
+
+  ended_is : (y : List ℕ) → on (bytes_before l (ended [] y)) ≡ on (ended l y)
+  ended_is y = ap on (before-ended l [] y ∙ ap (λ k. ended k y) (append-nil l))
+
+  held_is : on (bytes_before l (held [])) ≡ on (held l)
+  held_is = ap on (before-held l [] ∙ ap held (append-nil l))
+
+  line_at_return : (rest q m : List ℕ) → rest ≡ l ++ 13 ∷ q → on (line (rest ++ m)) ≡ on (bytes_before l (after_return (q ++ m)))
+  line_at_return rest q m is =
+      ap (λ x. on (line (x ++ m))) is ∙ ap (λ x. on (line x)) (append_assoc l (13 ∷ q) m) ∙ ap on (line-append l (13 ∷ q ++ m) ∙ ap (λ x. going_on x (13 ∷ q ++ m)) clear)
+
+  module _ (f : List ℕ → Found Data) (whole : (m : List ℕ) → on (ended l m) ≡ f m) (waits : on (held l) ≡ short) where
+    feed_by : (c : Bool) (y : List ℕ) → on (bytes_before l (cond c (ended [] y) broken)) ≡ cond c (f y) bad
+    feed_by true y = ended_is y ∙ whole y
+    feed_by false y = broken_bad
+
+    then_feed : (x : List ℕ) → on (bytes_before l (after_return x)) ≡ after_feed f x
+    then_feed [] = held_is ∙ waits
+    then_feed (b ∷ y) = feed_by (b == 10) y
+
+  module _ (whole : (m : List ℕ) → on (ended l m) ≡ bad) (waits : on (held l) ≡ bad) where
+    bad_by : (c : Bool) (y : List ℕ) → on (bytes_before l (cond c (ended [] y) broken)) ≡ bad
+    bad_by true y = ended_is y ∙ whole y
+    bad_by false y = broken_bad
+
+    then_bad : (x : List ℕ) → on (bytes_before l (after_return x)) ≡ bad
+    then_bad [] = held_is ∙ waits
+    then_bad (b ∷ y) = bad_by (b == 10) y
+
+module _ (limits : Limits) (h : Head) (rest : List ℕ) (t : Taken) (look : IsLook limits rest (Ok true) t.text.items) where
+  pub line_passes : (f : Follow) → Follows (bounds limits) h t.text.items (Some f) → PassesLine limits h rest (Ok f) t
+  line_passes f follows =
+      let l = t.text.items in
+      let q = drop (length l + 1) rest in
+      let size : length rest ≡ length l + length (13 ∷ q) = ap length look.2 ∙ length-append l (13 ∷ q) in
+      (follows.0, omega (arith, size), λ inside m.
+      let parts = follows.1 inside in
+      line_at_return limits h l look.1 inside rest q m look.2 ∙ then_feed limits h l look.1 inside (follow_as (bounds limits) inside f) parts.0 parts.1 (q ++ m))
+
+  pub line_refused : Follows (bounds limits) h t.text.items None → PassesLine limits h rest (Err Bad) t
+  line_refused follows = λ inside.
+      let l = t.text.items in
+      let q = drop (length l + 1) rest in
+      let parts = follows inside in
+      ap (λ x. head_on (bounds limits) inside h (line x)) (sym (append-nil rest)) ∙ line_at_return limits h l look.1 inside rest q [] look.2 ∙ then_bad limits h l look.1 inside parts.0 parts.1 (q ++ [])

@@ -12,3 +12,4 @@ pub mod Waiting
 pub mod Items
 pub mod Frames
 pub mod Stages
+pub mod Places

@@ -56,7 +56,7 @@ part_as inside (part.Kind n) t bs = kind_with inside n t bs
 
 -- a text of that format, of n bytes
 abbrev pub format_then : ℕ → List ℕ → List ℕ → Found Data
-format_then n f bs = body_then (part_as (λ rest. bad) (part.Verbatim f)) n bs
+format_then n f bs = body_then (λ t rest. read (verbatim f t) rest) n bs
 
 -- what is wanted behind a line
 abbrev pub want_as : GrammarLimits → (List ℕ → Found Data) → Want → List ℕ → Found Data
@@ -120,3 +120,27 @@ abbrev pub LookCosts : List ℕ → List ℕ → ℕ → Result Bool Refusal →
 LookCosts rest old before (Ok true) new after = after + 2 * length old ≡ before + 2 * length new + 1
 LookCosts rest old before (Ok false) new after = after + 2 * length old ≡ before + 2 * length new
 LookCosts rest old before (Err e) new after = after + 2 * length old ≤ before + 2 * length rest
+
+-- what stands behind the first byte, by that byte
+abbrev pub IsHeadOf : Limits → ℕ → ℕ → Option Head → Type 0
+IsHeadOf limits n b (Some h) = (bs : List ℕ) → reading limits n (b ∷ bs) ≡ head_on (bounds limits) (reading limits (n - 1)) h (line bs)
+IsHeadOf limits n b None = (bs : List ℕ) → reading limits n (b ∷ bs) ≡ bad
+
+-- the kind of a push begins with that byte
+abbrev pub IsKindOf : ℕ → ℕ → Option Head → Type 0
+IsKindOf n b (Some h) = (limits : GrammarLimits) (inside : List ℕ → Found Data) (bs : List ℕ) → want_as limits inside (want.Kind n) (b ∷ bs) ≡ head_on limits inside h (line bs)
+IsKindOf n b None = (limits : GrammarLimits) (inside : List ℕ → Found Data) (bs : List ℕ) → want_as limits inside (want.Kind n) (b ∷ bs) ≡ bad
+
+-- a body that is followed by CR is whole once LF follows
+abbrev pub IsBody : Part → ℕ → List ℕ → Result Begun Refusal → Type 0
+IsBody part n rest (Ok b) = (limits : GrammarLimits) (inside : List ℕ → Found Data) (m : List ℕ) → want_as limits inside (want.Body part n) (rest ++ m) ≡ after_feed (begun_as inside b) (drop (n + 1) rest ++ m)
+IsBody part n rest (Err Bad) = (limits : GrammarLimits) (inside : List ℕ → Found Data) → want_as limits inside (want.Body part n) rest ≡ bad
+IsBody part n rest (Err Short) = ⊥
+IsBody part n rest (Err NoMemory) = Unit {0}
+
+-- a format is followed by its text
+abbrev pub IsFormat : ℕ → List ℕ → Result (List ℕ) Refusal → Type 0
+IsFormat n rest (Ok f) = (limits : GrammarLimits) (inside : List ℕ → Found Data) (m : List ℕ) → want_as limits inside (want.Format n) (rest ++ m) ≡ want_as limits inside (want.Body (part.Verbatim f) n) (drop 4 rest ++ m)
+IsFormat n rest (Err Bad) = (limits : GrammarLimits) (inside : List ℕ → Found Data) → want_as limits inside (want.Format n) rest ≡ bad
+IsFormat n rest (Err Short) = ⊥
+IsFormat n rest (Err NoMemory) = Unit {0}

@@ -77,7 +77,7 @@ pub enum Stage {
 }
 
 /// The form that holds no values and begins with this byte.
-fn plain_head(first: u8) -> Option<Head>
+pub fn plain_head(first: u8) -> Option<Head>
     ensures { MatchOption result
         ((limits : Limits) (bs : List ℕ) → chosen (plain (bounds limits)) first bs ≡ bad)
         (λ h. (limits : Limits) (inside : List ℕ → Found Data) (bs : List ℕ)
@@ -99,7 +99,7 @@ fn plain_head(first: u8) -> Option<Head>
 }
 
 /// The form that holds values and begins with this byte.
-fn nested_head(first: u8) -> Option<Head>
+pub fn nested_head(first: u8) -> Option<Head>
     ensures { (limits : Limits) (inside : List ℕ → Found Data) (bs : List ℕ) → MatchOption result
         (chosen (nested (bounds limits) inside) first bs ≡ bad)
         (λ h. chosen (nested (bounds limits) inside) first bs
@@ -116,7 +116,7 @@ fn nested_head(first: u8) -> Option<Head>
 }
 
 /// What begins with this byte where no more may be nested.
-fn innermost_head(first: u8) -> Option<Head>
+pub fn innermost_head(first: u8) -> Option<Head>
     ensures { (limits : Limits) (inside : List ℕ → Found Data) (bs : List ℕ) → MatchOption result
         (chosen (innermost (bounds limits)) first bs ≡ bad)
         (λ h. chosen (innermost (bounds limits)) first bs
