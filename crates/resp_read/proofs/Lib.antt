@@ -23,3 +23,4 @@ pub mod StageLaws
 pub mod HeadLaws
 pub mod LookLaws
 pub mod BodyLaws
+pub mod PlaceLaws

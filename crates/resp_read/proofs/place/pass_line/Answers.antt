@@ -7,7 +7,7 @@ use Rattle.resp_read.proofs.place.pass_line.Goals as goal
 pub returns-in-Ok-Some-clause-passes : goal.returns-in-Ok-Some-clause-passes
 returns-in-Ok-Some-clause-passes g c =
     line_passes c.args.limits c.args.head (drop c.args.next c.args.tape.now) (record { text = c.take_line.new.text; front = c.args.line.now.front }) (rw c.in-Ok-true.field-0-test at c.in-Ok-true.ensures.look) c.in-Ok-Some.follow
-    (subst (λ l. Follows (bounds c.args.limits) c.args.head l (Some c.in-Ok-Some.follow)) c.as_slice.ensures.value c.in-Ok-Some.ensures)
+    (subst (λ l. Follows (bounds c.args.limits) c.args.head l (Some c.in-Ok-Some.follow)) c.as_slice.ensures.value (rw c.in-Ok-Some.field-0-is at c.in-Ok-Some.ensures))
 
 pub returns-in-Ok-None-clause-passes : goal.returns-in-Ok-None-clause-passes
 returns-in-Ok-None-clause-passes g c =
