@@ -252,3 +252,62 @@ fn pass_want<L: Ledger>(
         }
     }
 }
+
+/// A line, and what follows it.
+fn on_line<L: Ledger>(
+    alloc: Global,
+    limits: Limits,
+    around: usize,
+    head: Head,
+    tape: &Tape,
+    place: &mut Place,
+    steps: &mut Steps<L>,
+) -> Result<Option<Begun>, Refusal>
+    requires allowed { AreAllowed limits }
+    requires place { IsPlace tape.now place.old }
+    requires line { place.old.stage ≡ staged.Line head }
+    ensures advances { Advances limits (limits.depth - around) tape.now place.old result place.new }
+    ensures place { StaysPlace tape.now result place.new }
+    ensures costs { Costs tape.now place.old steps.old result place.new steps.new }
+{
+    let end = tape.len();
+    match pass_line(alloc, limits, head, tape, place.next, &mut place.line, steps) {
+        Ok(follow) => {
+            let taken = place.line.text.as_slice().len();
+            place.next = end - (end - place.next - taken - 1);
+            place.line.clear();
+            place.enter(Stage::End(follow));
+            Ok(None)
+        }
+        Err(refusal) => Err(refusal),
+    }
+}
+
+/// Takes a step onwards from a place, in so many aggregates. `Short`: what it looked at is noted there.
+pub fn advance<L: Ledger>(
+    alloc: Global,
+    limits: Limits,
+    around: usize,
+    tape: &Tape,
+    place: &mut Place,
+    steps: &mut Steps<L>,
+) -> Result<Option<Begun>, Refusal>
+    requires allowed { AreAllowed limits }
+    requires place { IsPlace tape.now place.old }
+    ensures advances { Advances limits (limits.depth - around) tape.now place.old result place.new }
+    ensures place { StaysPlace tape.now result place.new }
+    ensures costs { Costs tape.now place.old steps.old result place.new steps.new }
+{
+    if let Some(head) = place.stage.line() {
+        return on_line(alloc, limits, around, head, tape, place, steps);
+    }
+    if place.stage.has_too_few(tape.len() - place.next) {
+        return Err(Refusal::Short);
+    }
+    match place.take_stage() {
+        Stage::First => pass_first(limits, around, tape, place, steps),
+        Stage::Line(_) => Err(Refusal::Bad),
+        Stage::End(follow) => pass_end(limits, around, follow, tape, place, steps),
+        Stage::Want(want) => pass_want(alloc, limits, around, want, tape, place, steps),
+    }
+}
