@@ -24,3 +24,4 @@ pub mod HeadLaws
 pub mod LookLaws
 pub mod BodyLaws
 pub mod PlaceLaws
+pub mod UnderwayLaws

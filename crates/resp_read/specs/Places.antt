@@ -1,14 +1,17 @@
 -- Where a reader is in its tape, and how it goes on from there.
 use Rattle.std.specs.Prelude.{◌≡◌, ◌≤◌, ◌<◌, ℕ, ◌+◌, ◌-◌, ◌*◌, Bool, true, false, nat_le, nat_lt, List, [], ◌++◌, length, take, drop, Option, Some, None, Result, Ok, Err}
 use Rattle.resp_value.specs.Data.{Data}
-use Rattle.resp_read.specs.Parser.{short, bad, Found, line, unended}
+use Rattle.resp_value.specs.View.{data_of}
+use Rattle.resp_value.specs.declared.value.Value.{Value}
+use Rattle.resp_read.specs.Parser.{read, short, bad, Found, line, unended}
 use Rattle.resp_read.specs.Limits.{bounds, reading}
 use Rattle.resp_read.specs.Waiting.{IsFrontOf}
-use Rattle.resp_read.specs.Frames.{begun_as}
+use Rattle.resp_read.specs.Frames.{begun_as, within}
 use Rattle.resp_read.specs.Stages.{head_on, follow_as, after_feed, stage_as, IsFollow, IsStage}
 use Rattle.resp_read.specs.declared.limits.Limits.{Limits}
 use Rattle.resp_read.specs.declared.forms.Refusal.{Refusal}
 use Rattle.resp_read.specs.declared.forms.Refusal.TheVariants.{Short, Bad, NoMemory}
+use Rattle.resp_read.specs.declared.frames.Frame.{Frame}
 use Rattle.resp_read.specs.declared.frames.Begun.{Begun}
 use Rattle.resp_read.specs.declared.stages.Head.{Head}
 use Rattle.resp_read.specs.declared.stages.Follow.{Follow}
@@ -95,3 +98,20 @@ Costs tape old before (Ok o) new after = after + 2 * seen old ≤ before + 2 * s
 Costs tape old before (Err Short) new after = after + 2 * seen old ≤ before + 2 * seen new
 Costs tape old before (Err Bad) new after = after + 2 * seen old ≤ before + 2 * length tape
 Costs tape old before (Err NoMemory) new after = after + 2 * seen old ≤ before + 2 * length tape
+
+-- where a value begins to be made, the first byte of the next one is read next
+abbrev pub IsAtFirst : Result (Option Begun) Refusal → Place → Type 0
+IsAtFirst (Ok (Some b)) new = new.stage ≡ stage.First
+IsAtFirst (Ok None) new = Unit {0}
+IsAtFirst (Err e) new = Unit {0}
+
+-- what the outermost of these aggregates is, where these bytes follow the stage in the innermost
+abbrev pub resumed_at : Limits → List Frame → Stage → List ℕ → Found Data
+resumed_at limits frames s bs = within limits limits.depth frames (stage_as limits (limits.depth - length frames) s bs)
+
+-- what reading on from a place makes of the aggregates: the outermost is whole, or more bytes are wanted, or none can help
+abbrev pub ReadsFrom : Limits → List ℕ → List Frame → Place → Result Value Refusal → List Frame → Place → Type 0
+ReadsFrom limits tape frames old (Ok v) new p = (new ≡ []) × (p.stage ≡ stage.First) × (old.next ≤ p.next) × ((m : List ℕ) → resumed_at limits frames old.stage (drop old.next tape ++ m) ≡ read (data_of v) (drop p.next tape ++ m))
+ReadsFrom limits tape frames old (Err Short) new p = (old.next ≤ p.next) × ((m : List ℕ) → resumed_at limits frames old.stage (drop old.next tape ++ m) ≡ resumed_at limits new p.stage (drop p.next tape ++ m)) × (resumed_at limits frames old.stage (drop old.next tape) ≡ short)
+ReadsFrom limits tape frames old (Err Bad) new p = resumed_at limits frames old.stage (drop old.next tape) ≡ bad
+ReadsFrom limits tape frames old (Err NoMemory) new p = Unit {0}

@@ -1,6 +1,6 @@
 ghost use Rattle.std.specs.Prelude.{◌≡◌, ◌≤◌, ◌<◌, ◌+◌, ◌-◌, List, ℕ, [], length, drop, false, MatchOption};
 ghost use Rattle.resp_read.specs.Limits.{AreAllowed};
-ghost use Rattle.resp_read.specs.Places.{is_too_few, is_line, IsTaken, IsPlace, PassesLine, LineCosts, Goes, Advances, StaysPlace, Costs};
+ghost use Rattle.resp_read.specs.Places.{is_too_few, is_line, IsTaken, IsPlace, PassesLine, LineCosts, Goes, Advances, StaysPlace, IsAtFirst, Costs};
 ghost use Rattle.resp_read.specs.Stages.{stage_as, IsFollow, IsWant};
 ghost use Rattle.resp_read.specs.declared.stages.Stage.TheVariants as staged;
 
@@ -149,6 +149,7 @@ fn pass_first<L: Ledger>(
     ensures goes { Goes limits (limits.depth - around) tape.now
         (stage_as limits (limits.depth - around) staged.First) place.old.next result place.new }
     ensures place { StaysPlace tape.now result place.new }
+    ensures first { IsAtFirst result place.new }
     ensures costs { Costs tape.now place.old steps.old result place.new steps.new }
 {
     let end = tape.len();
@@ -180,6 +181,7 @@ fn pass_end<L: Ledger>(
     ensures goes { Goes limits (limits.depth - around) tape.now
         (stage_as limits (limits.depth - around) (staged.End follow)) place.old.next result place.new }
     ensures place { StaysPlace tape.now result place.new }
+    ensures first { IsAtFirst result place.new }
     ensures costs { Costs tape.now place.old steps.old result place.new steps.new }
 {
     let end = tape.len();
@@ -214,6 +216,7 @@ fn pass_want<L: Ledger>(
     ensures goes { Goes limits (limits.depth - around) tape.now
         (stage_as limits (limits.depth - around) (staged.Want want)) place.old.next result place.new }
     ensures place { StaysPlace tape.now result place.new }
+    ensures first { IsAtFirst result place.new }
     ensures costs { Costs tape.now place.old steps.old result place.new steps.new }
 {
     let end = tape.len();
@@ -268,6 +271,7 @@ fn on_line<L: Ledger>(
     requires line { place.old.stage ≡ staged.Line head }
     ensures advances { Advances limits (limits.depth - around) tape.now place.old result place.new }
     ensures place { StaysPlace tape.now result place.new }
+    ensures first { IsAtFirst result place.new }
     ensures costs { Costs tape.now place.old steps.old result place.new steps.new }
 {
     let end = tape.len();
@@ -296,6 +300,7 @@ pub fn advance<L: Ledger>(
     requires place { IsPlace tape.now place.old }
     ensures advances { Advances limits (limits.depth - around) tape.now place.old result place.new }
     ensures place { StaysPlace tape.now result place.new }
+    ensures first { IsAtFirst result place.new }
     ensures costs { Costs tape.now place.old steps.old result place.new steps.new }
 {
     if let Some(head) = place.stage.line() {
