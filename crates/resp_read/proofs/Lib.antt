@@ -25,3 +25,4 @@ pub mod LookLaws
 pub mod BodyLaws
 pub mod PlaceLaws
 pub mod UnderwayLaws
+pub mod CourseLaws

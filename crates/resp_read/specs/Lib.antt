@@ -13,3 +13,4 @@ pub mod Items
 pub mod Frames
 pub mod Stages
 pub mod Places
+pub mod Courses

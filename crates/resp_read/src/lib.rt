@@ -1,6 +1,7 @@
 //! Reads values of RESP from bytes that come in pieces.
 #![tactic(auto)]
 
+mod course;
 mod decimals;
 mod digits;
 mod forms;
