@@ -16,7 +16,7 @@ use Rattle.resp_read.specs.declared.place.Place.{Place}
 use Rattle.resp_read.specs.declared.course.Course.{Course}
 use Rattle.resp_read.specs.Places.{IsTaken, IsPlace, seen, resumed_at, ReadsFrom, StaysPlace}
 use Rattle.resp_read.specs.Stages.{IsStage}
-use Rattle.resp_read.specs.Courses.{rest_of, unread, IsCourse, ReadsNext}
+use Rattle.resp_read.specs.Courses.{rest_of, unread, IsCourse, ReadsNext, ReadsAll}
 
 -- within no aggregates
 at_first : (limits : Limits) (bs : List ℕ) → resumed_at limits [] First bs ≡ reading limits limits.depth bs
@@ -97,3 +97,8 @@ module _ (limits : Limits) (old new : Course) (same_tape : new.tape ≡ old.tape
         }, same_rest, found_next short (ap (resumed_at limits old.frames.items old.place.stage) (append-nil (drop old.place.next old.tape)) ∙ reads.2))
     next_refused Bad reads place = (same_rest, found_next bad (ap (resumed_at limits old.frames.items old.place.stage) (append-nil (drop old.place.next old.tape)) ∙ reads))
     next_refused NoMemory reads place = same_rest
+
+-- one value more
+pub one_value_more : (limits : Limits) (bs mid rest : List ℕ) (vs : List Value) (v : Value) → ReadsAll limits bs vs mid → reading limits limits.depth mid ≡ read (data_of v) rest → ReadsAll limits bs (vs ++ v ∷ []) rest
+one_value_more limits bs mid rest [] v h is = (rest, ap (reading limits limits.depth) h ∙ is, refl)
+one_value_more limits bs mid rest (w ∷ vs) v h is = (h.0, h.1, one_value_more limits h.0 mid rest vs v h.2 is)

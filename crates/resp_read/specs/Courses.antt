@@ -1,5 +1,5 @@
 -- The bytes that a reader was fed, and where it is in them.
-use Rattle.std.specs.Prelude.{◌≡◌, ◌≤◌, ℕ, ◌+◌, ◌-◌, ◌*◌, List, [], ◌++◌, length, drop, Result, Ok, Err}
+use Rattle.std.specs.Prelude.{◌≡◌, ◌≤◌, ℕ, ◌+◌, ◌-◌, ◌*◌, List, [], ◌∷◌, ◌++◌, length, drop, Result, Ok, Err}
 use Rattle.resp_value.specs.View.{data_of}
 use Rattle.resp_value.specs.declared.value.Value.{Value}
 use Rattle.resp_read.specs.Parser.{read, short, bad}
@@ -41,3 +41,20 @@ NextCosts old before (Ok v) new after = after + 2 * unread new ≤ before + 2 * 
 NextCosts old before (Err Short) new after = after + 2 * unread new ≤ before + 2 * unread old
 NextCosts old before (Err Bad) new after = after ≤ before + 2 * unread old
 NextCosts old before (Err NoMemory) new after = after ≤ before + 2 * unread old
+
+-- these values stand one after another at the front of a text, and this is left behind them
+abbrev pub ReadsAll : Limits → List ℕ → List Value → List ℕ → Type 0
+ReadsAll limits bs [] rest = bs ≡ rest
+ReadsAll limits bs (v ∷ vs) rest = (mid : List ℕ) × (reading limits limits.depth bs ≡ read (data_of v) mid) × ReadsAll limits mid vs rest
+
+-- every value that is whole was appended; or nothing can begin behind them; or memory was refused behind some of them
+abbrev pub AppendsAll : {U : Type 0} → Limits → Course → List Value → Result U Refusal → Course → List Value → Type 0
+AppendsAll limits old before (Ok u) new after = (vs : List Value) × (after ≡ before ++ vs) × ReadsAll limits (rest_of old) vs (rest_of new) × IsCourse limits new × (reading limits limits.depth (rest_of new) ≡ short)
+AppendsAll limits old before (Err Bad) new after = (vs : List Value) × (after ≡ before ++ vs) × ReadsAll limits (rest_of old) vs (rest_of new) × (reading limits limits.depth (rest_of new) ≡ bad)
+AppendsAll limits old before (Err NoMemory) new after = (vs : List Value) × (rest : List ℕ) × (after ≡ before ++ vs) × ReadsAll limits (rest_of old) vs rest
+AppendsAll limits old before (Err Short) new after = ⊥
+
+-- two steps at most for each byte that is looked at; where it reads no further, for each that it had
+abbrev pub AllCosts : {U : Type 0} → Course → ℕ → Result U Refusal → Course → ℕ → Type 0
+AllCosts old before (Ok u) new after = after + 2 * unread new ≤ before + 2 * unread old
+AllCosts old before (Err e) new after = after ≤ before + 2 * unread old

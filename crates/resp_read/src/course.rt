@@ -1,6 +1,6 @@
 ghost use Rattle.std.specs.Prelude.{◌≡◌, ◌+◌, [], ◌++◌, length, drop, OnOk, OnErr};
 ghost use Rattle.resp_read.specs.Limits.{AreAllowed};
-ghost use Rattle.resp_read.specs.Courses.{rest_of, unread, IsInTape, IsCourse, ReadsNext, NextCosts};
+ghost use Rattle.resp_read.specs.Courses.{rest_of, unread, IsInTape, IsCourse, ReadsNext, NextCosts, AppendsAll, AllCosts};
 
 use crate::forms::Refusal;
 use crate::frames::Frame;
@@ -87,6 +87,32 @@ impl Course {
                 Ok(value)
             }
             Err(refusal) => Err(refusal),
+        }
+    }
+
+    /// Appends every value that is whole.
+    pub fn next_all<L: Ledger>(
+        &mut self,
+        alloc: Global,
+        limits: Limits,
+        out: &mut Vec<Value>,
+        steps: &mut Steps<L>,
+    ) -> Result<(), Refusal>
+        requires allowed { AreAllowed limits }
+        requires course { IsCourse limits self.old }
+        ensures appends { AppendsAll limits self.old out.old.items result self.new out.new.items }
+        ensures costs { AllCosts self.old steps.old result self.new steps.new }
+    {
+        loop {
+            match self.next(alloc, limits, steps) {
+                Ok(value) => match out.push(value) {
+                    Ok(()) => {}
+                    Err(_) => return Err(Refusal::NoMemory),
+                },
+                Err(Refusal::Short) => return Ok(()),
+                Err(Refusal::Bad) => return Err(Refusal::Bad),
+                Err(Refusal::NoMemory) => return Err(Refusal::NoMemory),
+            }
         }
     }
 }
