@@ -1,11 +1,10 @@
 -- What stands at a place of the tape, and what becomes of it when bytes follow.
-use Rattle.std.proofs.Common.{◌≡◌, ℕ, suc, zero, ◌≤◌, ◌<◌, ◌+◌, ◌-◌, List, [], ◌∷◌, ◌++◌, length, get_or, take, drop, append_assoc, length-append, length-take-le, length-drop, Ok, Err, Option, Some, None, Bool, true, false, cond, refl, sym, ap, ◌∙◌, subst, arith}
-use Rattle.std.proofs.lemmas.List.{drop_more, take_all, take-append-drop, drop_at, take_at, drop-append-le, append-nil, get_or-drop}
+use Rattle.std.proofs.Common.{◌≡◌, ℕ, suc, ◌<◌, ◌+◌, ◌-◌, List, [], ◌∷◌, ◌++◌, length, get_or, take, drop, append_assoc, length-append, length-take-le, Ok, Err, Option, Some, None, Bool, true, false, cond, refl, sym, ap, ◌∙◌, arith}
+use Rattle.std.proofs.lemmas.List.{drop_more, take-append-drop, drop_at, take_at, append-nil}
 use Rattle.std.proofs.lemmas.Bool.Decides.{nat_tests}
 use Rattle.std.specs.Prelude.{◌==◌, MatchOption}
-use Rattle.resp_value.specs.Data.{Data, verbatim}
-use Rattle.resp_read.specs.Grammar.{Limits as GrammarLimits}
-use Rattle.resp_read.specs.Parser.{read, short, bad, Found, found_and_then, line, fed, closed, body, format, colon, some_bytes, chosen, plain, nested, innermost, line_found, count_line}
+use Rattle.resp_value.specs.Data.{Data}
+use Rattle.resp_read.specs.Parser.{read, bad, Found, found_and_then, line, fed, closed, body, format, colon, chosen, plain, nested, innermost, line_found, count_line}
 use Rattle.resp_read.specs.Limits.{bounds, reading}
 use Rattle.resp_read.specs.declared.limits.Limits.{Limits}
 use Rattle.resp_read.specs.Parts.{has}
@@ -15,9 +14,7 @@ use Rattle.resp_read.specs.declared.frames.Begun.{Begun}
 use Rattle.resp_read.specs.declared.stages.Head.{Head}
 use Rattle.resp_read.specs.declared.stages.Head.TheVariants.{Kind, KindLength}
 use Rattle.resp_read.specs.declared.stages.Part.{Part}
-use Rattle.resp_read.specs.declared.stages.Part.TheVariants as part
-use Rattle.resp_read.specs.declared.stages.Want.TheVariants as want
-use Rattle.resp_read.specs.Stages.{head_on, kind_with, part_as, body_then, format_then, want_as, after_feed, IsHeadOf, IsKindOf, IsBody, IsFormat}
+use Rattle.resp_read.specs.Stages.{head_on, kind_with, part_as, format_then, after_feed, IsHeadOf, IsKindOf, IsBody, IsFormat}
 use Rattle.resp_read.proofs.FrameLaws.{then_then}
 use Rattle.resp_read.proofs.ParseLaws.{parse_plain, form_more}
 use Rattle.resp_read.proofs.Bodies.{body_enough, bytes_enough}

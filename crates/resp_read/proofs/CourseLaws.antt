@@ -1,5 +1,5 @@
 -- A reader goes on in its tape.
-use Rattle.std.proofs.Common.{◌≡◌, ℕ, ◌≤◌, ◌+◌, ◌-◌, ◌*◌, List, [], ◌∷◌, ◌++◌, length, take, drop, length-append, length-drop, append_assoc, Ok, Err, refl, sym, ap, ◌∙◌, subst, arith}
+use Rattle.std.proofs.Common.{◌≡◌, ℕ, ◌-◌, List, [], ◌∷◌, ◌++◌, length, take, drop, length-append, length-drop, append_assoc, Ok, Err, refl, sym, ap, ◌∙◌, subst, arith}
 use Rattle.std.proofs.lemmas.List.{append-nil, drop-append-le, take-append-le}
 use Rattle.resp_value.specs.View.{data_of}
 use Rattle.resp_value.specs.declared.value.Value.{Value}
@@ -9,14 +9,12 @@ use Rattle.resp_read.specs.Limits.{reading}
 use Rattle.resp_read.specs.declared.limits.Limits.{Limits}
 use Rattle.resp_read.specs.declared.forms.Refusal.{Refusal}
 use Rattle.resp_read.specs.declared.forms.Refusal.TheVariants.{Short, Bad, NoMemory}
-use Rattle.resp_read.specs.declared.frames.Frame.{Frame}
 use Rattle.resp_read.specs.declared.stages.Stage.TheVariants.{First}
-use Rattle.resp_read.specs.declared.place.Taken.{Taken}
 use Rattle.resp_read.specs.declared.place.Place.{Place}
 use Rattle.resp_read.specs.declared.course.Course.{Course}
-use Rattle.resp_read.specs.Places.{IsTaken, IsPlace, seen, resumed_at, ReadsFrom, StaysPlace}
+use Rattle.resp_read.specs.Places.{IsTaken, IsPlace, resumed_at, ReadsFrom, StaysPlace}
 use Rattle.resp_read.specs.Stages.{IsStage}
-use Rattle.resp_read.specs.Courses.{rest_of, unread, IsCourse, ReadsNext, ReadsAll}
+use Rattle.resp_read.specs.Courses.{rest_of, IsCourse, ReadsNext, ReadsAll}
 
 -- within no aggregates
 at_first : (limits : Limits) (bs : List ℕ) → resumed_at limits [] First bs ≡ reading limits limits.depth bs
@@ -62,10 +60,10 @@ course_fed limits old new piece at place frames tape h =
       order = omega (arith, order, at, next);
       place = subst (IsPlace new.tape) (sym place) (subst (λ t. IsPlace t old.place) (sym tape) (place_fed old.tape piece old.place h.place));
       resumes = λ m.
-        ap (λ x. reading limits limits.depth (x ++ m)) here ∙ ap (reading limits limits.depth) (append_assoc (rest_of old) piece m)
-        ∙ h.resumes (piece ++ m)
-        ∙ (let back = sym (append_assoc (drop old.place.next old.tape) piece m) in λ j. resumed_at limits (sym frames j).items (sym place j).stage (back j))
-        ∙ ap (λ x. resumed_at limits new.frames.items new.place.stage (x ++ m)) (sym there);
+          ap (λ x. reading limits limits.depth (x ++ m)) here ∙ ap (reading limits limits.depth) (append_assoc (rest_of old) piece m)
+          ∙ h.resumes (piece ++ m)
+          ∙ (let back = sym (append_assoc (drop old.place.next old.tape) piece m) in λ j. resumed_at limits (sym frames j).items (sym place j).stage (back j))
+          ∙ ap (λ x. resumed_at limits new.frames.items new.place.stage (x ++ m)) (sym there);
     }
 
 -- the next value of a course
@@ -75,12 +73,14 @@ module _ (limits : Limits) (old new : Course) (same_tape : new.tape ≡ old.tape
 
   pub next_given : (v : Value) → new.at ≡ new.place.next → ReadsFrom limits old.tape old.frames.items old.place (Ok v) new.frames.items new.place → IsPlace old.tape new.place → ReadsNext limits old (Ok v) new
   next_given v at reads place =
-      let rest : drop new.place.next old.tape ≡ rest_of new = λ j. drop (sym at j) (sym same_tape j) in
-      (record {
-        order = omega (arith, at);
-        place = subst (λ t. IsPlace t new.place) (sym same_tape) place;
-        resumes = λ m. (λ j. reading limits limits.depth (drop (at j) new.tape ++ m)) ∙ sym (at_first limits (drop new.place.next new.tape ++ m)) ∙ (λ j. resumed_at limits (sym reads.0 j) (sym reads.1 j) (drop new.place.next new.tape ++ m));
-      }, found_next (read (data_of v) (rest_of new)) (reads.3 [] ∙ ap (read (data_of v)) (append-nil (drop new.place.next old.tape) ∙ rest)))
+      let rest : drop new.place.next old.tape ≡ rest_of new = λ j. drop (sym at j) (sym same_tape j) in (
+        record {
+          order = omega (arith, at);
+          place = subst (λ t. IsPlace t new.place) (sym same_tape) place;
+          resumes = λ m. (λ j. reading limits limits.depth (drop (at j) new.tape ++ m)) ∙ sym (at_first limits (drop new.place.next new.tape ++ m)) ∙ (λ j. resumed_at limits (sym reads.0 j) (sym reads.1 j) (drop new.place.next new.tape ++ m));
+        },
+        found_next (read (data_of v) (rest_of new)) (reads.3 [] ∙ ap (read (data_of v)) (append-nil (drop new.place.next old.tape) ∙ rest)),
+      )
 
   module _ (same_at : new.at ≡ old.at) where
     same_rest : rest_of new ≡ rest_of old
@@ -89,12 +89,15 @@ module _ (limits : Limits) (old new : Course) (same_tape : new.tape ≡ old.tape
     pub next_refused : (e : Refusal) → ReadsFrom limits old.tape old.frames.items old.place (Err e) new.frames.items new.place → StaysPlace {A = Value} old.tape (Err e) new.place → ReadsNext limits old (Err e) new
     next_refused Short reads place =
         let order = h.order in
-        let on = reads.0 in
-        (record {
-          order = omega (arith, same_at, order, on);
-          place = subst (λ t. IsPlace t new.place) (sym same_tape) place;
-          resumes = λ m. ap (λ x. reading limits limits.depth (x ++ m)) same_rest ∙ h.resumes m ∙ reads.1 m ∙ ap (λ t. resumed_at limits new.frames.items new.place.stage (drop new.place.next t ++ m)) (sym same_tape);
-        }, same_rest, found_next short (ap (resumed_at limits old.frames.items old.place.stage) (append-nil (drop old.place.next old.tape)) ∙ reads.2))
+        let on = reads.0 in (
+          record {
+            order = omega (arith, same_at, order, on);
+            place = subst (λ t. IsPlace t new.place) (sym same_tape) place;
+            resumes = λ m. ap (λ x. reading limits limits.depth (x ++ m)) same_rest ∙ h.resumes m ∙ reads.1 m ∙ ap (λ t. resumed_at limits new.frames.items new.place.stage (drop new.place.next t ++ m)) (sym same_tape);
+          },
+          same_rest,
+          found_next short (ap (resumed_at limits old.frames.items old.place.stage) (append-nil (drop old.place.next old.tape)) ∙ reads.2),
+        )
     next_refused Bad reads place = (same_rest, found_next bad (ap (resumed_at limits old.frames.items old.place.stage) (append-nil (drop old.place.next old.tape)) ∙ reads))
     next_refused NoMemory reads place = same_rest
 

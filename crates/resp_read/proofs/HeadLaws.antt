@@ -1,10 +1,10 @@
 -- A line of a head that has not ended.
-use Rattle.std.proofs.Common.{◌≡◌, ℕ, ◌≤◌, ◌<◌, List, [], ◌∷◌, ◌++◌, length, Option, Some, None, Bool, true, false, cond, refl, sym, ap, ◌∙◌, arith}
-use Rattle.std.specs.Prelude.{◌&&◌, ◌==◌, is_some, option_map, bytes_eq}
+use Rattle.std.proofs.Common.{◌≡◌, ℕ, ◌≤◌, ◌<◌, List, [], ◌∷◌, length, Option, Some, None, Bool, true, false, cond, refl, ap, ◌∙◌, arith}
+use Rattle.std.specs.Prelude.{◌==◌, is_some, option_map, bytes_eq}
 use Rattle.std.proofs.lemmas.Bool.Decides.{nat_tests}
 use Rattle.resp_value.specs.Data.{Data}
-use Rattle.resp_read.specs.Grammar.{natural, size, is_end}
-use Rattle.resp_read.specs.Parser.{read, short, bad, Found, found_and_then, unended, LineForm, line_found, size_line, count_line, text_line, size_begun, count_begun}
+use Rattle.resp_read.specs.Grammar.{natural, is_end}
+use Rattle.resp_read.specs.Parser.{short, bad, Found, found_and_then, unended, LineForm, line_found, size_begun}
 use Rattle.resp_read.specs.Limits.{bounds}
 use Rattle.resp_read.specs.declared.limits.Limits.{Limits}
 use Rattle.resp_read.specs.Parts.{line_form}
@@ -13,8 +13,8 @@ use Rattle.resp_read.specs.declared.digits.Digits.TheVariants.{Empty}
 use Rattle.resp_read.specs.declared.forms.OneLine.{OneLine}
 use Rattle.resp_read.specs.declared.waiting.Front.{Front}
 use Rattle.resp_read.specs.declared.stages.Head.{Head}
-use Rattle.resp_read.specs.declared.stages.Head.TheVariants.{Value, Kind}
-use Rattle.resp_read.specs.Waiting.{IsFrontOf, IsJudged}
+use Rattle.resp_read.specs.declared.stages.Head.TheVariants.{Value}
+use Rattle.resp_read.specs.Waiting.{IsJudged}
 use Rattle.resp_read.specs.Stages.{head_on, GoesOn}
 use Rattle.resp_read.proofs.DigitLaws.{natural_is}
 use Rattle.resp_read.proofs.Numbers.{never_both}

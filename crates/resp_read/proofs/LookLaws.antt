@@ -1,5 +1,5 @@
 -- A line that is looked at byte by byte.
-use Rattle.std.proofs.Common.{◌≡◌, ℕ, ◌≤◌, ◌<◌, ◌+◌, ◌-◌, ◌*◌, List, [], ◌∷◌, ◌++◌, length, get_or, take, drop, length-drop, length-append, length-take-le, take-add, append_assoc, Ok, Err, Option, Some, None, Bool, true, false, cond, refl, sym, ap, ◌∙◌, subst, arith}
+use Rattle.std.proofs.Common.{◌≡◌, ℕ, ◌≤◌, ◌<◌, ◌+◌, ◌-◌, List, [], ◌∷◌, ◌++◌, length, get_or, take, drop, length-drop, length-append, length-take-le, take-add, append_assoc, Ok, Err, Option, Some, None, Bool, true, false, cond, refl, sym, ap, ◌∙◌, subst, arith}
 use Rattle.std.proofs.lemmas.List.{take_more, drop_more, take-append-drop, take_all, get_or-drop, drop-drop, append-nil}
 use Rattle.std.proofs.lemmas.Bool.Decides.{nat_tests}
 use Rattle.std.specs.Prelude.{◌==◌}
@@ -147,10 +147,13 @@ module _ (limits : Limits) (h : Head) (rest : List ℕ) (t : Taken) (look : IsLo
   line_passes f follows =
       let l = t.text.items in
       let q = drop (length l + 1) rest in
-      let size : length rest ≡ length l + length (13 ∷ q) = ap length look.2 ∙ length-append l (13 ∷ q) in
-      (follows.0, omega (arith, size), λ inside m.
-      let parts = follows.1 inside in
-      line_at_return limits h l look.1 inside rest q m look.2 ∙ then_feed limits h l look.1 inside (follow_as (bounds limits) inside f) parts.0 parts.1 (q ++ m))
+      let size : length rest ≡ length l + length (13 ∷ q) = ap length look.2 ∙ length-append l (13 ∷ q) in (
+        follows.0,
+        omega (arith, size),
+        λ inside m.
+            let parts = follows.1 inside in
+            line_at_return limits h l look.1 inside rest q m look.2 ∙ then_feed limits h l look.1 inside (follow_as (bounds limits) inside f) parts.0 parts.1 (q ++ m),
+      )
 
   pub line_refused : Follows (bounds limits) h t.text.items None → PassesLine limits h rest (Err Bad) t
   line_refused follows = λ inside.

@@ -1,13 +1,12 @@
 -- Steps from stage to stage.
-use Rattle.std.proofs.Common.{◌≡◌, ℕ, zero, suc, ◌≤◌, ◌<◌, ◌+◌, ◌-◌, List, [], ◌∷◌, ◌++◌, length, get_or, take, drop, length-drop, Ok, Err, Option, Some, None, Bool, true, false, refl, sym, ap, ◌∙◌, subst, arith}
+use Rattle.std.proofs.Common.{◌≡◌, ℕ, zero, suc, ◌≤◌, ◌<◌, ◌+◌, ◌-◌, List, [], ◌∷◌, ◌++◌, length, get_or, take, drop, Ok, Err, Some, None, Bool, true, false, refl, sym, ap, ◌∙◌, subst, arith}
 use Rattle.std.proofs.lemmas.List.{drop-drop, drop_more, drop_all}
 use Rattle.std.proofs.lemmas.Bool.Decides.{nat_tests}
-use Rattle.std.specs.Prelude.{nat_le, nat_lt}
+use Rattle.std.specs.Prelude.{nat_lt}
 use Rattle.resp_value.specs.Data.{Data}
 use Rattle.resp_read.specs.Parser.{short, Found, found_and_then, body, closed, format, colon}
 use Rattle.resp_read.specs.Limits.{bounds, reading}
 use Rattle.resp_read.specs.declared.limits.Limits.{Limits}
-use Rattle.resp_read.specs.Frames.{begun_as}
 use Rattle.resp_read.specs.declared.forms.Refusal.{Refusal}
 use Rattle.resp_read.specs.declared.forms.Refusal.TheVariants.{Short, Bad, NoMemory}
 use Rattle.resp_read.specs.declared.frames.Begun.{Begun}
@@ -21,16 +20,19 @@ use Rattle.resp_read.specs.declared.stages.Stage.{Stage}
 use Rattle.resp_read.specs.declared.stages.Stage.TheVariants as stage
 use Rattle.resp_read.specs.declared.place.Taken.{Taken}
 use Rattle.resp_read.specs.declared.place.Place.{Place}
-use Rattle.resp_read.specs.Stages.{stage_as, want_as, part_as, format_then, follow_as, after_feed, IsFollow, IsStage, IsBody, IsFormat, IsKindOf}
+use Rattle.resp_read.specs.Stages.{stage_as, part_as, format_then, follow_as, after_feed, IsFollow, IsStage, IsBody, IsFormat, IsKindOf}
 use Rattle.resp_read.specs.Places.{is_too_few, IsTaken, IsPlace, Goes}
 use Rattle.resp_read.proofs.Bodies.{body_few, body_enough, bytes_few, bytes_enough}
 
 -- what f finds behind some more bytes is what the next stage finds there
 module _ (limits : Limits) (d : ℕ) (tape : List ℕ) (next n : ℕ) (new : Place) (some : 0 < n) (fits : next + n ≤ length tape) (moved : new.next ≡ next + n) where
   pub goes_on_to : (f : List ℕ → Found Data) (s : Stage) → new.stage ≡ s → ((m : List ℕ) → f (drop next tape ++ m) ≡ stage_as limits d s (drop n (drop next tape) ++ m)) → Goes limits d tape f next (Ok None) new
-  goes_on_to f s is same =
-      (omega (arith, some, moved), omega (arith, fits, moved), λ m.
-      same m ∙ (λ j. stage_as limits d (sym is j) ((drop-drop n next tape ∙ ap (λ k. drop k tape) (sym moved)) j ++ m)))
+  goes_on_to f s is same = (
+    omega (arith, some, moved),
+    omega (arith, fits, moved),
+    λ m.
+        same m ∙ (λ j. stage_as limits d (sym is j) ((drop-drop n next tape ∙ ap (λ k. drop k tape) (sym moved)) j ++ m)),
+  )
 
 module _ (limits : Limits) (d : ℕ) (tape : List ℕ) (next size : ℕ) (new : Place) where
   pub body_goes : (p : Part) (w : Begun) → next + (size + 1) ≤ length tape → new.next ≡ next + (size + 1) → new.stage ≡ stage.End (follow.Begun w) → IsBody p size (drop next tape) (Ok w) → Goes limits d tape (stage_as limits d (stage.Want (want.Body p size))) next (Ok None) new

@@ -1,22 +1,17 @@
 -- What a line announces, once it has come.
-use Rattle.std.proofs.Common.{◌≡◌, ℕ, ◌≤◌, ◌+◌, ◌-◌, List, [], ◌∷◌, ◌++◌, length, Option, Some, None, Bool, true, false, cond, refl, sym, ap, ◌∙◌, arith}
-use Rattle.std.specs.Prelude.{◌&&◌, option_map, is_some}
-use Rattle.resp_value.specs.Data.{Data}
+use Rattle.std.proofs.Common.{◌≡◌, ℕ, ◌≤◌, List, length, Some, None, refl, sym, ap}
+use Rattle.std.specs.Prelude.{option_map}
 use Rattle.resp_value.specs.View.{data_of}
 use Rattle.resp_value.specs.declared.value.Value.{Value as RespValue}
-use Rattle.resp_read.specs.Grammar.{Limits as GrammarLimits, fits}
-use Rattle.resp_read.specs.Parser.{read, short, bad, Found, found_and_then, found_map, Line, ended, held, unended, broken, LineForm, line_found, found}
+use Rattle.resp_read.specs.Parser.{read, short, bad, Found, found_and_then, ended, held, LineForm, line_found}
 use Rattle.resp_read.specs.Limits.{bounds}
 use Rattle.resp_read.specs.declared.limits.Limits.{Limits}
 use Rattle.resp_read.specs.Parts.{line_form}
-use Rattle.resp_read.specs.Frames.{begun_as}
 use Rattle.resp_read.specs.declared.forms.OneLine.{OneLine}
 use Rattle.resp_read.specs.declared.frames.Begun.TheVariants.{Whole}
-use Rattle.resp_read.specs.declared.stages.Head.{Head}
 use Rattle.resp_read.specs.declared.stages.Head.TheVariants.{Value}
-use Rattle.resp_read.specs.declared.stages.Follow.{Follow}
 use Rattle.resp_read.specs.declared.stages.Follow.TheVariants.{Begun}
-use Rattle.resp_read.specs.Stages.{head_on, follow_as, Follows}
+use Rattle.resp_read.specs.Stages.{Follows}
 use Rattle.resp_read.proofs.LineLaws.{fits_is}
 
 -- a line that is of its form, and one that is not

@@ -1,9 +1,9 @@
 -- Where a reader is within what it reads next, and what the bytes that follow make of it.
-use Rattle.std.specs.Prelude.{◌≡◌, ◌≤◌, ℕ, ◌+◌, ◌-◌, ◌*◌, Bool, true, false, ◌&&◌, ◌==◌, nat_le, List, [], ◌∷◌, ◌++◌, length, take, drop, Option, Some, None, Result, Ok, Err, if◌then◌else◌}
+use Rattle.std.specs.Prelude.{◌≡◌, ◌≤◌, ℕ, ◌+◌, ◌-◌, ◌*◌, Bool, true, false, ◌==◌, List, [], ◌∷◌, ◌++◌, length, drop, Option, Some, None, Result, Ok, Err, if◌then◌else◌}
 use Rattle.resp_value.specs.Data.{Data, bulk, verbatim}
 use Rattle.resp_value.specs.Kinds.{kind_of}
-use Rattle.resp_read.specs.Grammar.{Limits as GrammarLimits, error_of, max_bulk, fits}
-use Rattle.resp_read.specs.Parser.{read, short, bad, Found, found_and_then, found_map, Line, ended, held, unended, line, line_found, size_line, count_line, text_line, bulk_of, body, error_body, format, verbatim_of, array_of, set_of, map_of, attribute_of, push_of, kind}
+use Rattle.resp_read.specs.Grammar.{Limits as GrammarLimits, error_of, max_bulk}
+use Rattle.resp_read.specs.Parser.{read, short, bad, Found, found_and_then, Line, ended, held, unended, line, line_found, size_line, count_line, text_line, bulk_of, body, error_body, format, verbatim_of, array_of, set_of, map_of, attribute_of, push_of, kind}
 use Rattle.resp_read.specs.Limits.{bounds, reading}
 use Rattle.resp_read.specs.Parts.{line_form}
 use Rattle.resp_read.specs.Frames.{begun_as, with_values}

@@ -275,7 +275,15 @@ fn on_line<L: Ledger>(
     ensures costs { Costs tape.now place.old steps.old result place.new steps.new }
 {
     let end = tape.len();
-    match pass_line(alloc, limits, head, tape, place.next, &mut place.line, steps) {
+    match pass_line(
+        alloc,
+        limits,
+        head,
+        tape,
+        place.next,
+        &mut place.line,
+        steps,
+    ) {
         Ok(follow) => {
             let taken = place.line.text.as_slice().len();
             place.next = end - (end - place.next - taken - 1);

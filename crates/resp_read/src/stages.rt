@@ -81,7 +81,7 @@ pub fn plain_head(first: u8) -> Option<Head>
     ensures { MatchOption result
         ((limits : Limits) (bs : List ℕ) → chosen (plain (bounds limits)) first bs ≡ bad)
         (λ h. (limits : Limits) (inside : List ℕ → Found Data) (bs : List ℕ)
-            → chosen (plain (bounds limits)) first bs ≡ head_on (bounds limits) inside h (line bs)) }
+        → chosen (plain (bounds limits)) first bs ≡ head_on (bounds limits) inside h (line bs)) }
 {
     match first {
         b'+' => Some(Head::Value(OneLine::Simple)),
@@ -103,7 +103,7 @@ pub fn nested_head(first: u8) -> Option<Head>
     ensures { (limits : Limits) (inside : List ℕ → Found Data) (bs : List ℕ) → MatchOption result
         (chosen (nested (bounds limits) inside) first bs ≡ bad)
         (λ h. chosen (nested (bounds limits) inside) first bs
-            ≡ head_on (bounds limits) inside h (line bs)) }
+        ≡ head_on (bounds limits) inside h (line bs)) }
 {
     match first {
         b'*' => Some(Head::Array),
@@ -120,7 +120,7 @@ pub fn innermost_head(first: u8) -> Option<Head>
     ensures { (limits : Limits) (inside : List ℕ → Found Data) (bs : List ℕ) → MatchOption result
         (chosen (innermost (bounds limits)) first bs ≡ bad)
         (λ h. chosen (innermost (bounds limits)) first bs
-            ≡ head_on (bounds limits) inside h (line bs)) }
+        ≡ head_on (bounds limits) inside h (line bs)) }
 {
     match first {
         b'*' => Some(Head::Value(OneLine::NoArray)),
@@ -273,7 +273,12 @@ fn after_push(limits: Limits, line: &[u8]) -> Option<Follow>
 }
 
 /// What follows the kind of a push that has so many values behind it.
-fn after_kind(alloc: Global, limits: Limits, more: u64, line: &[u8]) -> Result<Option<Follow>, AllocError>
+fn after_kind(
+    alloc: Global,
+    limits: Limits,
+    more: u64,
+    line: &[u8],
+) -> Result<Option<Follow>, AllocError>
     requires { length line.now ≤ limits.line }
     ensures { IfOk result (λ f. Follows (bounds limits) (named.Kind more) line.now f) }
 {

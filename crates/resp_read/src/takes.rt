@@ -2,13 +2,12 @@ ghost use Rattle.std.specs.Prelude.{◌≡◌, ◌≤◌, ◌<◌, ◌+◌, ◌-
 ghost use Rattle.resp_read.specs.Grammar.{max_bulk};
 ghost use Rattle.resp_read.specs.Stages.{IsHeadOf, IsKindOf, IsBody, IsFormat};
 
-use crate::forms;
 use crate::forms::Refusal;
 use crate::frames::Begun;
 use crate::limits::Limits;
-use crate::stages;
 use crate::stages::{Head, Part};
 use crate::tape::{Steps, Tape};
+use crate::{forms, stages};
 use containers::Bytes;
 use std::alloc::Global;
 use std::sync::ledger::Ledger;

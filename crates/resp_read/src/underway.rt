@@ -5,11 +5,10 @@ ghost use Rattle.resp_read.specs.Places.{IsPlace, ReadsFrom, StaysPlace, Costs};
 
 use crate::forms::{Input, Refusal};
 use crate::frames::{Begun, Frame};
-use crate::heads;
 use crate::limits::Limits;
-use crate::place;
 use crate::place::Place;
 use crate::tape::{Steps, Tape};
+use crate::{heads, place};
 use resp_value::Value;
 use std::alloc::{AllocError, Global};
 use std::sync::ledger::Ledger;

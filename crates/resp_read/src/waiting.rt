@@ -11,13 +11,12 @@ ghost use Rattle.resp_read.specs.Waiting.{IsFrontOf, IsLooked, IsJudged};
 ghost use Rattle.resp_read.specs.declared.digits.Digits.TheVariants.{Empty};
 ghost use Rattle.resp_read.specs.declared.decimals.Seen.TheVariants.{Nothing};
 
-use crate::decimals;
 use crate::decimals::Seen;
 use crate::digits::Digits;
 use crate::forms::OneLine;
 use crate::limits::Limits;
-use crate::lines;
 use crate::stages::Head;
+use crate::{decimals, lines};
 use memchr::memchr;
 
 /// What was read of a line that has not ended.

@@ -1,4 +1,4 @@
-use Rattle.std.proofs.Common.{◌≡◌, ℕ, ◌-◌, length, drop, length-drop, refl, sym, ap, ◌∙◌}
+use Rattle.std.proofs.Common.{ℕ, ◌-◌, drop, length-drop, refl, sym, ap, ◌∙◌}
 use Rattle.resp_read.proofs.PlaceLaws.{few_short}
 use Rattle.resp_read.proofs.place.advance.Goals as goal
 

@@ -1,4 +1,4 @@
-use Rattle.std.proofs.Common.{◌≡◌, ◌≤◌, ◌-◌, length, ap, subst, sym, arith}
+use Rattle.std.proofs.Common.{ap, arith}
 use Rattle.resp_read.specs.declared.place.Place.{Place}
 use Rattle.resp_read.proofs.PlaceLaws.{line_left}
 use Rattle.resp_read.proofs.place.on_line.Goals as goal

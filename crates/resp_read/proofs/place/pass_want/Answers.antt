@@ -1,8 +1,7 @@
-use Rattle.std.proofs.Common.{◌≡◌, ℕ, ◌≤◌, ◌<◌, ◌+◌, ◌-◌, length, drop, Ok, Err, None, Bool, false, sym, ap, ◌∙◌, subst, arith}
+use Rattle.std.proofs.Common.{◌≡◌, ◌<◌, ◌-◌, length, Ok, Err, None, false, sym, ap, ◌∙◌, subst, arith}
 use Rattle.std.specs.Prelude.{nat_le}
 use Rattle.std.proofs.lemmas.Bool.Decides.{nat_tests}
 use Rattle.resp_read.specs.declared.stages.Want.{Want}
-use Rattle.resp_read.specs.declared.stages.Want.TheVariants as want
 use Rattle.resp_read.specs.declared.stages.Stage.TheVariants as stage
 use Rattle.resp_read.specs.declared.place.Place.{Place}
 use Rattle.resp_read.specs.Stages.{stage_as}

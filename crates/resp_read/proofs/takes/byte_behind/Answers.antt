@@ -1,4 +1,4 @@
-use Rattle.std.proofs.Common.{◌≡◌, ◌+◌, ◌-◌, get_or, drop, sym, ap, ◌∙◌, arith}
+use Rattle.std.proofs.Common.{◌≡◌, ◌+◌, ◌-◌, get_or, sym, ap, ◌∙◌, arith}
 use Rattle.std.proofs.lemmas.List.{get_or-drop}
 use Rattle.resp_read.proofs.takes.byte_behind.Goals as goal
 

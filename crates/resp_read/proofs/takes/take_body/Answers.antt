@@ -1,5 +1,4 @@
-use Rattle.std.proofs.Common.{◌≡◌, ◌++◌, take, drop, length-drop, sym, ap, ◌∙◌, arith}
-use Rattle.resp_read.specs.Frames.{begun_as}
+use Rattle.std.proofs.Common.{◌++◌, take, drop, length-drop, sym, ap, ◌∙◌, arith}
 use Rattle.resp_read.specs.Stages.{part_as}
 use Rattle.resp_read.proofs.BodyLaws.{body_comes}
 use Rattle.resp_read.proofs.takes.take_body.Goals as goal

@@ -1,6 +1,5 @@
-use Rattle.std.proofs.Common.{◌≡◌, ℕ, ◌≤◌, ◌+◌, ◌-◌, ◌*◌, ◌++◌, length, drop, Ok, sym, ap, ◌∙◌, subst, arith}
+use Rattle.std.proofs.Common.{◌++◌, length, drop, ap, ◌∙◌, arith}
 use Rattle.resp_read.specs.declared.frames.Begun.TheVariants.{Within}
-use Rattle.resp_read.specs.Places.{IsAtFirst}
 use Rattle.resp_read.proofs.UnderwayLaws.{begun_there, held_there, stops}
 use Rattle.resp_read.proofs.underway.read_from.Goals as goal
 
@@ -24,6 +23,6 @@ loop-begun-preserved g c =
       place = step.place;
       order = omega (arith, so_far.order, step.advances.0);
       same = λ m. so_far.same m ∙ held_there c.args.limits frames cur.stage (drop cur.next tape ++ m) (drop new.next tape ++ m) c.in-Within.frame c.hold.new.frames.items new.stage c.in-Ok.ensures first
-        (begun_there c.args.limits frames (length c.as_slice-around.result.now) cur.stage new.stage (drop cur.next tape ++ m) (drop new.next tape ++ m) c.in-Ok-Some.field-0 c.in-Ok-Some.begun (Within c.in-Within.frame) (ap length c.as_slice-around.ensures.value) c.in-Ok-Some.field-0-is c.in-Within.is (step.advances.2 m));
+          (begun_there c.args.limits frames (length c.as_slice-around.result.now) cur.stage new.stage (drop cur.next tape ++ m) (drop new.next tape ++ m) c.in-Ok-Some.field-0 c.in-Ok-Some.begun (Within c.in-Within.frame) (ap length c.as_slice-around.ensures.value) c.in-Ok-Some.field-0-is c.in-Within.is (step.advances.2 m));
       costs = omega (arith, before, costs);
     }

@@ -1,5 +1,4 @@
-use Rattle.std.proofs.Common.{◌≡◌, Option, ℕ, sym, ap, ◌∙◌, arith}
-use Rattle.resp_read.specs.Grammar.{natural}
+use Rattle.std.proofs.Common.{sym, ap, ◌∙◌, arith}
 use Rattle.resp_read.specs.Digits.{natural_in}
 use Rattle.resp_read.proofs.DigitLaws.{natural_is}
 use Rattle.resp_read.proofs.Counts.{begun_empty, front_few, front_many, front_none}

@@ -1,6 +1,5 @@
-use Rattle.std.proofs.Common.{◌≡◌, Bool, true, false, sym, ap, ◌∙◌, subst}
+use Rattle.std.proofs.Common.{Bool, sym, ap, ◌∙◌, subst}
 use Rattle.std.specs.Prelude.{◌||◌, is_some}
-use Rattle.resp_read.specs.Parser.{number_begun, big_begun, no_array_begun}
 use Rattle.resp_read.specs.Digits.{is_bare, are_digits, number_in}
 use Rattle.resp_read.specs.Limits.{bounds}
 use Rattle.resp_read.specs.Parts.{line_form}
