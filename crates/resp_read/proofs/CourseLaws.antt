@@ -1,6 +1,6 @@
 -- A reader goes on in its tape.
-use Rattle.std.proofs.Common.{◌≡◌, ℕ, ◌-◌, List, [], ◌∷◌, ◌++◌, length, take, drop, length-append, length-drop, append_assoc, Ok, Err, refl, sym, ap, ◌∙◌, subst, arith}
-use Rattle.std.proofs.lemmas.List.{append-nil, drop-append-le, take-append-le}
+use Rattle.std.proofs.Common.{◌≡◌, ℕ, ◌≤◌, ◌+◌, ◌*◌, ◌-◌, List, [], ◌∷◌, ◌++◌, length, take, drop, length-append, length-drop, append_assoc, Ok, Err, refl, sym, ap, ◌∙◌, subst, arith}
+use Rattle.std.proofs.lemmas.List.{append-nil, drop-append-le, take-append-le, drop-drop}
 use Rattle.resp_value.specs.View.{data_of}
 use Rattle.resp_value.specs.declared.value.Value.{Value}
 use Rattle.resp_read.specs.Parser.{read, short, bad, Found}
@@ -10,11 +10,12 @@ use Rattle.resp_read.specs.declared.limits.Limits.{Limits}
 use Rattle.resp_read.specs.declared.forms.Refusal.{Refusal}
 use Rattle.resp_read.specs.declared.forms.Refusal.TheVariants.{Short, Bad, NoMemory}
 use Rattle.resp_read.specs.declared.stages.Stage.TheVariants.{First}
+use Rattle.resp_read.specs.declared.place.Taken.{Taken}
 use Rattle.resp_read.specs.declared.place.Place.{Place}
 use Rattle.resp_read.specs.declared.course.Course.{Course}
-use Rattle.resp_read.specs.Places.{IsTaken, IsPlace, resumed_at, ReadsFrom, StaysPlace}
+use Rattle.resp_read.specs.Places.{IsTaken, IsPlace, resumed_at, ReadsFrom, StaysPlace, is_line}
 use Rattle.resp_read.specs.Stages.{IsStage}
-use Rattle.resp_read.specs.Courses.{rest_of, IsCourse, ReadsNext, ReadsAll}
+use Rattle.resp_read.specs.Courses.{rest_of, IsCourse, ReadsNext, ReadsAll, unread}
 
 -- within no aggregates
 at_first : (limits : Limits) (bs : List ℕ) → resumed_at limits [] First bs ≡ reading limits limits.depth bs
@@ -105,3 +106,42 @@ module _ (limits : Limits) (old new : Course) (same_tape : new.tape ≡ old.tape
 pub one_value_more : (limits : Limits) (bs mid rest : List ℕ) (vs : List Value) (v : Value) → ReadsAll limits bs vs mid → reading limits limits.depth mid ≡ read (data_of v) rest → ReadsAll limits bs (vs ++ v ∷ []) rest
 one_value_more limits bs mid rest [] v h is = (rest, ap (reading limits limits.depth) h ∙ is, refl)
 one_value_more limits bs mid rest (w ∷ vs) v h is = (h.0, h.1, one_value_more limits h.0 mid rest vs v h.2 is)
+
+-- the bytes of the values given are forgotten
+module _ (old : Course) (new : Course) (tape : new.tape ≡ drop old.at old.tape) (at : new.at ≡ 0) (place : new.place ≡ record old.place { next = old.place.next - old.at }) (order : old.at ≤ old.place.next) where
+  same_place : drop new.place.next new.tape ≡ drop old.place.next old.tape
+  same_place =
+      let total : old.at + (old.place.next - old.at) ≡ old.place.next = omega (arith, order) in
+      (λ j. drop (place j).next (tape j)) ∙ drop-drop (old.place.next - old.at) old.at old.tape ∙ ap (λ k. drop k old.tape) total
+
+  pub moved_rest : rest_of new ≡ rest_of old
+  moved_rest = (λ j. drop (at j) (tape j))
+
+  moved_length : length new.tape ≡ length old.tape - old.at
+  moved_length = ap length tape ∙ length-drop old.at old.tape
+
+  pub moved_unread : unread new ≡ unread old
+  moved_unread =
+      let n = moved_length in
+      let next = ap (λ (p : Place). p.next) place in
+      let text = ap (λ (p : Place). length p.line.text.items) place in
+      omega (arith, n, next, text, order)
+
+  pub moved_course : (limits : Limits) → new.frames ≡ old.frames → IsCourse limits old → IsCourse limits new
+  moved_course limits frames h =
+      let n = moved_length in
+      let next = ap (λ (p : Place). p.next) place in
+      let text = ap (λ (p : Place). length p.line.text.items) place in
+      let fits = h.place.fits in
+      let line : new.place.line ≡ old.place.line = ap (λ (p : Place). p.line) place in
+      let staged : new.place.stage ≡ old.place.stage = ap (λ (p : Place). p.stage) place in
+      record {
+        order = omega (arith, at);
+        place = record {
+          fits = omega (arith, n, next, text, fits, order);
+          taken = (subst (λ x. IsTaken new.place.line x) (sym same_place) (subst (λ t. IsTaken t (drop old.place.next old.tape)) (sym line) h.place.taken));
+          stage = subst IsStage (sym staged) h.place.stage;
+          alone = λ none. ap (λ (t : Taken). t.text.items) line ∙ h.place.alone (ap is_line (sym staged) ∙ none);
+        };
+        resumes = λ m. ap (λ x. reading limits limits.depth (x ++ m)) moved_rest ∙ h.resumes m ∙ (λ j. resumed_at limits (sym frames j).items (sym staged j) (sym same_place j ++ m));
+      }

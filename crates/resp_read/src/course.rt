@@ -62,6 +62,18 @@ impl Course {
         }
     }
 
+    /// Lets the bytes of the values given go.
+    pub fn forget_given(&mut self)
+        requires { IsInTape self.old }
+        ensures course { (limits : Limits) → IsCourse limits self.old → IsCourse limits self.new }
+        ensures rest { rest_of self.new ≡ rest_of self.old }
+        ensures unread { unread self.new ≡ unread self.old }
+    {
+        self.tape.forget(self.at);
+        self.place.next -= self.at;
+        self.at = 0;
+    }
+
     /// The next value. `Short`: what was looked at is noted.
     pub fn next<L: Ledger>(
         &mut self,
