@@ -1,5 +1,5 @@
-use Rattle.std.proofs.Common.{◌≡◌, ◌-◌, refl}
-use Rattle.resp_read.proofs.CourseLaws.{moved_course, moved_rest, moved_unread}
+use Rattle.std.proofs.Common.{◌-◌, refl}
+use Rattle.resp_read.proofs.CourseLaws.{moved_course, moved_unread}
 use Rattle.resp_read.proofs.course.Course.forget_given.Goals as goal
 
 pub returns-clause-course : goal.returns-clause-course
