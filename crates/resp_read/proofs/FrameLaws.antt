@@ -26,7 +26,7 @@ use Rattle.resp_read.proofs.Laws.{Lawful}
 use Rattle.resp_read.proofs.ParseLaws.{same_first, takes_a_byte}
 
 -- three, one after another, grouped either way
-then_then : {A B C : Type 0} (f : A → List ℕ → Found B) (g : B → List ℕ → Found C) (x : Found A) → found_and_then g (found_and_then f x) ≡ found_and_then (λ a rest. found_and_then g (f a rest)) x
+pub then_then : {A B C : Type 0} (f : A → List ℕ → Found B) (g : B → List ℕ → Found C) (x : Found A) → found_and_then g (found_and_then f x) ≡ found_and_then (λ a rest. found_and_then g (f a rest)) x
 then_then f g (read a rest) = refl
 then_then f g short = refl
 then_then f g bad = refl

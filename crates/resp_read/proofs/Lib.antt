@@ -19,3 +19,10 @@ pub mod DigitLaws
 pub mod WaitLaws
 pub mod AskedLaws
 pub mod SizeLaws
+pub mod StageLaws
+pub mod HeadLaws
+pub mod LookLaws
+pub mod BodyLaws
+pub mod PlaceLaws
+pub mod UnderwayLaws
+pub mod CourseLaws

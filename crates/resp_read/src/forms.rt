@@ -63,7 +63,7 @@ fn simple(alloc: Global, line: &[u8]) -> Result<Value, AllocError>
     Ok(Value::SimpleString(Bytes::from_slice(alloc, line)?))
 }
 
-fn error(alloc: Global, line: &[u8]) -> Result<Value, AllocError>
+pub fn error(alloc: Global, line: &[u8]) -> Result<Value, AllocError>
     ensures { IfOk result (λ v. data_of v ≡ error_of line.now) }
 {
     for (i, b) in line.iter().enumerate() {
@@ -102,7 +102,7 @@ fn big(alloc: Global, line: &[u8]) -> Result<Option<Value>, AllocError>
 }
 
 /// What a whole line stands for.
-fn value_of_line(alloc: Global, form: OneLine, line: &[u8]) -> Result<Option<Value>, AllocError>
+pub fn value_of_line(alloc: Global, form: OneLine, line: &[u8]) -> Result<Option<Value>, AllocError>
     ensures { IfOk result (λ v. (most : GrammarLimits)
         → option_map data_of v ≡ (line_form most form).whole line.now) }
 {

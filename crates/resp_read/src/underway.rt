@@ -1,13 +1,17 @@
 ghost use Rattle.std.specs.Prelude.{◌≡◌, ◌∷◌, [], ◌++◌, OnOk};
 ghost use Rattle.resp_read.specs.Frames.{IsPutInPlace, IsPut, ReadsOn};
 ghost use Rattle.resp_read.specs.Limits.{AreAllowed};
+ghost use Rattle.resp_read.specs.Places.{IsPlace, ReadsFrom, StaysPlace, Costs};
 
 use crate::forms::{Input, Refusal};
 use crate::frames::{Begun, Frame};
-use crate::heads;
 use crate::limits::Limits;
+use crate::place::Place;
+use crate::tape::{Steps, Tape};
+use crate::{heads, place};
 use resp_value::Value;
 use std::alloc::{AllocError, Global};
+use std::sync::ledger::Ledger;
 
 /// One more aggregate, the innermost.
 fn hold(frames: &mut Vec<Frame>, frame: Frame) -> Result<(), AllocError>
@@ -77,6 +81,43 @@ pub fn read_on(
                 None => {}
             },
             Begun::Within(frame) => hold(frames, frame)?,
+        }
+    }
+}
+
+/// Reads on from a place within these aggregates, the outermost first. `Short`: what was looked at is noted at the place.
+pub fn read_from<L: Ledger>(
+    alloc: Global,
+    limits: Limits,
+    frames: &mut Vec<Frame>,
+    tape: &Tape,
+    place: &mut Place,
+    steps: &mut Steps<L>,
+) -> Result<Value, Refusal>
+    requires allowed { AreAllowed limits }
+    requires place { IsPlace tape.now place.old }
+    ensures reads { ReadsFrom limits tape.now frames.old.items place.old
+        result frames.new.items place.new }
+    ensures place { StaysPlace tape.now result place.new }
+    ensures costs { Costs tape.now place.old steps.old result place.new steps.new }
+{
+    loop {
+        let around = frames.as_slice().len();
+        let begun = match place::advance(alloc, limits, around, tape, place, steps) {
+            Ok(Some(begun)) => begun,
+            Ok(None) => continue,
+            Err(refusal) => return Err(refusal),
+        };
+        match begun {
+            Begun::Whole(value) => match put(alloc, frames, value) {
+                Ok(Some(outermost)) => return Ok(outermost),
+                Ok(None) => {}
+                Err(_) => return Err(Refusal::NoMemory),
+            },
+            Begun::Within(frame) => match hold(frames, frame) {
+                Ok(()) => {}
+                Err(_) => return Err(Refusal::NoMemory),
+            },
         }
     }
 }
