@@ -29,6 +29,8 @@ dialing size boundary limit info = record {
   admitted = [];
   fresh = [];
   moved = [];
+  starts = tt;
+  settled = tt;
   failure = None;
 }
 

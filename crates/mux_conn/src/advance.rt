@@ -9,6 +9,7 @@ use crate::connection::MultiplexedConnection;
 use crate::errors::ConnectionError;
 use crate::life::Life;
 use crate::request::{Progress, Request, Waiting};
+use crate::spare::Rest;
 use containers::Queue;
 use driver_model::{Outcome, Shape};
 use link_core::{EnqueueError, LinkCore, StartError, Started};
@@ -19,7 +20,7 @@ impl MultiplexedConnection {
     ghost use Rattle.mux_conn.specs.Connection.{work_with, runs_out, is_setting_up};
     ghost use Rattle.mux_conn.specs.Passes.{shown_each, set_up_each, started};
 
-    /// Each start is shown.
+    /// Each start is shown, and the room of their list is kept.
     fn show_starts(
         &mut self,
         starts: Vec<Started>,
@@ -31,7 +32,7 @@ impl MultiplexedConnection {
             ≡ shown_each (work_with self.old out.old.items) starts.items
             ) }
     {
-        let mut rest = Queue::from_vec(starts);
+        let mut rest = Rest::of(starts);
         while let Some(start) = rest.pop_front() {
             let request = self.name(start.id);
             out.push(LinkAct::Start {
@@ -41,6 +42,7 @@ impl MultiplexedConnection {
                 len: start.len,
             })?;
         }
+        self.starts.give(rest.into_list());
         Ok(())
     }
 
@@ -101,7 +103,7 @@ impl MultiplexedConnection {
         if self.life.is_setting_up() {
             return self.start_setup(alloc, out);
         }
-        let mut starts = Vec::new(alloc);
+        let mut starts = self.starts.take(alloc);
         let ready = match &mut self.life {
             Life::Ready { link } => start_ready(alloc, link, &mut starts),
             Life::SettingUp {

@@ -9,6 +9,7 @@ use crate::act::LinkAct;
 use crate::connection::MultiplexedConnection;
 use crate::life::Life;
 use crate::request::{Pending, Waiting};
+use crate::spare::Rest;
 use connection_info::RedisConnectionInfo;
 use connection_setup::{SetupResult, check_setup};
 use containers::Queue;
@@ -29,7 +30,7 @@ impl MultiplexedConnection {
     ghost use Rattle.mux_conn.specs.Effects.{applied, cancelled_in, left, timed_out};
     ghost use Rattle.mux_conn.specs.Effects.{CanTake, IsWithin};
 
-    /// What the link has settled is answered, in order.
+    /// What the link has settled is answered, in order, and the room of its list is kept.
     fn settle(&mut self, settled: Vec<Settled>, out: &mut Vec<LinkAct>) -> Result<(), AllocError>
         ensures work { OnOk result (
             work_with self.new out.new.items
@@ -38,10 +39,11 @@ impl MultiplexedConnection {
         ensures count { length self.new.requests ≡ length self.old.requests }
         ensures failure { self.new.failure ≡ self.old.failure }
     {
-        let mut rest = Queue::from_vec(settled);
+        let mut rest = Rest::of(settled);
         while let Some(message) = rest.pop_front() {
             self.answer(message.id, message.verdict.into_outcome(), out)?;
         }
+        self.settled.give(rest.into_list());
         Ok(())
     }
 
@@ -388,7 +390,7 @@ impl MultiplexedConnection {
         ensures count { length self.new.requests ≡ length self.old.requests }
         ensures failure { self.new.failure ≡ self.old.failure }
     {
-        let mut settled = Vec::new(alloc);
+        let mut settled = self.settled.take(alloc);
         let read = match &mut self.life {
             Life::Ready { link } => link.bytes_unheard(alloc, piece, &mut settled),
             Life::SettingUp {

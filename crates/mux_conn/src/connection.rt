@@ -6,9 +6,11 @@ use crate::act::LinkAct;
 use crate::errors::ConnectionError;
 use crate::life::Life;
 use crate::request::{Pending, Progress, Request, Waiting};
+use crate::spare::Spare;
 use connection_info::RedisConnectionInfo;
 use containers::{Bytes, Queue, Seq};
 use driver_model::{Outcome, Shape};
+use link_core::{Settled, Started};
 use std::alloc::{AllocError, Global};
 
 /// One multiplexed connection: how many messages the queue of its link holds, and at how many unwritten bytes none starts;
@@ -28,6 +30,9 @@ pub struct MultiplexedConnection {
     pub admitted: Queue<Waiting>,
     pub fresh: Queue<u32>,
     pub moved: Queue<u32>,
+    /// Room for the lists of a turn: of what starts, and of what the link settles.
+    pub(crate) starts: Spare<Started>,
+    pub(crate) settled: Spare<Settled>,
     /// Why every call fails, if it does: a call was refused memory, or a number has run out.
     pub failure: Option<ConnectionError>,
 }
@@ -46,6 +51,8 @@ impl Drop for MultiplexedConnection {
             admitted,
             fresh,
             moved,
+            starts,
+            settled,
             failure: _,
         } = self;
         drop(info);
@@ -55,6 +62,8 @@ impl Drop for MultiplexedConnection {
         drop(admitted);
         drop(fresh);
         drop(moved);
+        drop(starts);
+        drop(settled);
     }
 }
 
@@ -90,6 +99,8 @@ impl MultiplexedConnection {
             admitted: Queue::new(alloc),
             fresh: Queue::new(alloc),
             moved: Queue::new(alloc),
+            starts: Spare::new(alloc),
+            settled: Spare::new(alloc),
             failure: None,
         }
     }

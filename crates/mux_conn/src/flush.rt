@@ -124,6 +124,7 @@ impl MultiplexedConnection {
             let kind = self.moved_wait(number);
             self.show_wait(number, kind, out)?;
         }
+        self.moved = rest;
         Ok(())
     }
 
@@ -140,6 +141,7 @@ impl MultiplexedConnection {
             let kind = self.fresh_wait(number);
             self.show_wait(number, kind, out)?;
         }
+        self.fresh = rest;
         Ok(())
     }
 

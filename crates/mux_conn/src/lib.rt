@@ -11,6 +11,7 @@ mod flush;
 mod internal;
 mod life;
 mod request;
+mod spare;
 mod step;
 
 pub use act::LinkAct;
@@ -18,3 +19,4 @@ pub use connection::MultiplexedConnection;
 pub use errors::ConnectionError;
 pub use life::Life;
 pub use request::{Pending, Progress, Request, Waiting};
+pub use spare::{Rest, Spare};

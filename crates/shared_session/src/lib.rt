@@ -6,10 +6,8 @@ mod errors;
 mod replaying;
 mod session;
 mod showing;
-mod spare;
 
 pub use core_state::{Core, Single};
 pub use errors::{MakeError, ReplayError, StepError};
 pub use session::{Failure, Session};
 pub use showing::Done;
-pub use spare::{Rest, Spare};

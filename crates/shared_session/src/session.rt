@@ -9,11 +9,10 @@ ghost use Rattle.shared_session.specs.Replay.{connect_timers, timer_asked, IsSou
 use crate::core_state::{Core, Single};
 use crate::errors::{MakeError, StepError};
 use crate::showing::{Done, show_each};
-use crate::spare::{Rest, Spare};
 use connection_info::{ConnectionInfo, OpenError, RedisConnectionInfo};
 use containers::Seq;
 use driver_model::{Action, Cause, Config, Event, EventKind, Outcome, Purpose};
-use mux_conn::{ConnectionError, LinkAct, MultiplexedConnection};
+use mux_conn::{ConnectionError, LinkAct, MultiplexedConnection, Rest, Spare};
 use redis_error::ConfigName;
 use std::alloc::{AllocError, Global};
 use std::marker::Model;

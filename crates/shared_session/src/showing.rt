@@ -2,9 +2,8 @@ ghost use Rattle.std.specs.Prelude.{◌≡◌, ◌<◌, ◌≤◌, ◌+◌, ◌^
 ghost use Rattle.shared_session.specs.Turn.{shown, shown_each, timer_of, timers_of};
 ghost use Rattle.shared_session.specs.Done.{done_by, done_each};
 
-use crate::spare::Rest;
 use driver_model::{Action, Outcome, Owner, Purpose};
-use mux_conn::LinkAct;
+use mux_conn::{LinkAct, Rest};
 use std::alloc::{AllocError, Global};
 
 /// A submission that was answered in this turn, and its outcome.

@@ -4,9 +4,8 @@ use Rattle.mux_conn.proofs.connection.MultiplexedConnection.show_fresh.Given as 
 
 abbrev pub invariant-loop-number : goal.invariant-loop-number
 invariant-loop-number l = record {
+  same : l.self ≡ record l.fn.self { fresh = [] };
   work : fresh_each_shown (record { conn = l.self; acts = l.out.items }) l.rest ≡ fresh_each_shown (record { conn = record l.fn.self { fresh = [] }; acts = l.fn.out.items }) l.fn.self.fresh;
-  count : length l.self.requests ≡ length l.fn.self.requests;
-  failure : l.self.failure ≡ l.fn.self.failure;
 }
 
 abbrev pub decreases-loop-number : goal.decreases-loop-number

@@ -4,9 +4,8 @@ use Rattle.mux_conn.proofs.connection.MultiplexedConnection.show_moved.Given as 
 
 abbrev pub invariant-loop-number : goal.invariant-loop-number
 invariant-loop-number l = record {
+  same : l.self ≡ record l.fn.self { moved = [] };
   work : moved_each_shown (record { conn = l.self; acts = l.out.items }) l.rest ≡ moved_each_shown (record { conn = record l.fn.self { moved = [] }; acts = l.fn.out.items }) l.fn.self.moved;
-  count : length l.self.requests ≡ length l.fn.self.requests;
-  failure : l.self.failure ≡ l.fn.self.failure;
 }
 
 abbrev pub decreases-loop-number : goal.decreases-loop-number
