@@ -71,7 +71,7 @@ const FAILING: [Failing; 8] = [
         None,
         None,
         1,
-        b"this version has the words replay, live, --help and --version: gen is not in it\n",
+        b"the words are replay, gen N, live CONFIG, --help or --version, and N is a number from 1 to 200000\n",
     ),
     ("--help", None, None, None, 0, b""),
     ("--version", None, None, None, 0, b""),
