@@ -158,7 +158,7 @@ pub record IsOpenNote (bytes text : List ℕ) : Type 0 where
 -- what is said of a status whatever the script is; of 0, 2, 3 and 4 nothing
 abbrev pub fixed_note : Status → List ℕ
 fixed_note status.Done = []
-fixed_note status.Usage = codes "the words are replay, gen N with N from 1 to 200000, live CONFIG, --help or --version" ++ codes "\n"
+fixed_note status.Usage = codes "the words are replay, gen N, live CONFIG, --help or --version, and N is a number from 1 to 200000" ++ codes "\n"
 fixed_note status.Script = []
 fixed_note status.Config = []
 fixed_note status.BadEvent = []

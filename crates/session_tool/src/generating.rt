@@ -1,4 +1,4 @@
-ghost use Rattle.std.specs.Prelude.{◌≡◌, ◌≤◌, ℕ, Option};
+ghost use Rattle.std.specs.Prelude.{◌≤◌};
 ghost use Rattle.program_ends.specs.Sides.{Side, side};
 ghost use Rattle.session_tool.specs.Does.{Does};
 

@@ -1,4 +1,5 @@
-//! Replays a script of events for one multiplexed connection, and writes the trace; or makes a live run, and writes the outcomes.
+//! Replays a script of events for one multiplexed connection, and writes the trace; makes a
+//! script, and writes what is counted in its trace; or makes a live run, and writes the outcomes.
 #![tactic(auto)]
 
 mod bad;

@@ -71,7 +71,7 @@ const FAILING: [Failing; 8] = [
         None,
         None,
         1,
-        b"the words are replay, gen N with N from 1 to 200000, live CONFIG, --help or --version\n",
+        b"the words are replay, gen N, live CONFIG, --help or --version, and N is a number from 1 to 200000\n",
     ),
     ("--help", None, None, None, 0, b""),
     ("--version", None, None, None, 0, b""),

@@ -13,7 +13,7 @@ use std::alloc::{AllocError, Global};
 
 /// Where the words are no command.
 const USAGE_NOTE: &[u8] =
-    b"the words are replay, gen N with N from 1 to 200000, live CONFIG, --help or --version\n";
+    b"the words are replay, gen N, live CONFIG, --help or --version, and N is a number from 1 to 200000\n";
 
 /// Where memory was refused.
 const MEMORY_NOTE: &[u8] = b"memory was refused: standard output has whole turns at most\n";
