@@ -1,14 +1,13 @@
 -- The types hold the script that is made.
-use Rattle.std.proofs.Common.{◌≡◌, ℕ, zero, suc, ◌+◌, ◌*◌, ◌%◌, ◌==◌, ◌^◌, ◌<◌, ◌≤◌, Bool, true, false, List, [], ◌∷◌, ◌++◌, length, All, codes, decimal, refl, arith, length-append, if◌then◌else◌}
+use Rattle.std.proofs.Common.{ℕ, zero, suc, ◌+◌, ◌%◌, ◌^◌, ◌<◌, ◌≤◌, List, [], ◌∷◌, ◌++◌, length, All, codes, decimal, refl, arith, length-append, if◌then◌else◌}
 use Rattle.std.proofs.lemmas.Fmt.{length-decimal-le_succ}
 use Rattle.std.proofs.lemmas.List.Elements.{All-nil, All-cons, All-append}
 use Rattle.containers.proofs.Choices.{chosen}
 use Rattle.resp_write.specs.Pack.{pack, number_line, sized_text, crlf}
-use Rattle.driver_model.specs.declared.event.Event.{Event}
 use Rattle.driver_model.specs.declared.event.EventKind.TheVariants as event
 use Rattle.text_laws.specs.Fits.{IsByte, AreBytes, FitsEvent, FitsHistory}
 use Rattle.text_laws.proofs.Bytes.{looked, decimal_bytes}
-use Rattle.script_generator.specs.Script.{generated_config, generated_word, generated_events, event_of, command, is_cancelled, reply, submits, writes, cancels, replies, round, rounds}
+use Rattle.script_generator.specs.Script.{generated_config, generated_word, generated_events, event_of, is_cancelled, reply, submits, writes, cancels, replies, round, rounds}
 
 -- a line of a number is short, and so are a byte string and a command of two
 line_short : (first n : ℕ) → n < 2 ^ 32 → length (number_line first n) ≤ n + 4

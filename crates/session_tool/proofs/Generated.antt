@@ -1,15 +1,11 @@
 -- What the making of a script comes to.
-use Rattle.std.proofs.Common.{◌≡◌, ◌⊎◌, inl, inr, ℕ, zero, suc, ◌+◌, ◌%◌, ◌==◌, ◌^◌, ◌<◌, ◌≤◌, Bool, true, false, List, [], ◌∷◌, ◌++◌, length, Option, Some, None, refl, sym, ap, subst, ◌∙◌, arith, if◌then◌else◌}
-use Rattle.std.specs.Prelude.{All, decimal, codes}
+use Rattle.std.proofs.Common.{◌≡◌, inl, inr, ℕ, ◌≤◌, List, [], refl, sym, ap, subst, ◌∙◌}
 use Rattle.outside.specs.Ends.{Gained, GainedPart}
-use Rattle.driver_model.specs.declared.event.Event.{Event}
 use Rattle.program_ends.proofs.Sent.{gained_none}
 use Rattle.program_ends.specs.Prints.{Prints}
-use Rattle.program_ends.specs.Sides.{Side, Fails, IfTold}
+use Rattle.program_ends.specs.Sides.{Side, Fails}
 use Rattle.program_ends.specs.declared.status.Status.{Status}
 use Rattle.program_ends.specs.declared.status.Status.TheVariants as status
-use Rattle.shared_session.specs.Replay.{trace_of}
-use Rattle.text_laws.specs.Fits.{FitsHistory, HaveForms}
 use Rattle.script_generator.specs.Script.{generated_config, generated_word, generated_events}
 use Rattle.script_generator.proofs.Whole.{generated_sound, all_good}
 use Rattle.session_tool.specs.declared.command.Command.{Command}
