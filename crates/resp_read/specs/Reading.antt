@@ -1,5 +1,5 @@
 -- What a reader of values answers, and the state that it leaves.
-use Rattle.std.specs.Prelude.{◌≡◌, ℕ, List, ◌++◌, Option, Some, None, Result, Ok, Err, ◌⊎◌}
+use Rattle.std.specs.Prelude.{◌≡◌, ℕ, List, [], ◌∷◌, ◌++◌, Option, Some, None, Result, Ok, Err, ◌⊎◌}
 use Rattle.resp_value.specs.View.{data_of}
 use Rattle.resp_value.specs.declared.value.Value.{Value}
 use Rattle.resp_read.specs.declared.reader.Health.{Health}
@@ -41,3 +41,14 @@ abbrev pub FailsAgain : {U : Type 0} → Result U ReadError → ReaderState → 
 FailsAgain (Ok u) old new before after = ⊥
 FailsAgain (Err Parse) old new before after = (old.health ≡ health.Malformed) × (new ≡ old) × (after ≡ before)
 FailsAgain (Err NoMemory) old new before after = (old.health ≡ health.NoMemory) × (new ≡ old) × (after ≡ before)
+
+-- these pieces, one after another
+abbrev pub joined : List (List ℕ) → List ℕ
+joined [] = []
+joined (piece ∷ more) = piece ++ joined more
+
+-- What a new reader with these limits makes of a text that it is fed in pieces, after these values. Ok: every value that is whole was appended, and what is left is the front of one. Parse: values were appended, and what follows them can never begin one. NoMemory: some of the values were appended.
+abbrev pub ReadsPieces : Limits → List ℕ → List Value → Result ReaderState ReadError → List Value → Type 0
+ReadsPieces limits text before (Ok new) after = ((vs : List Value) × (after ≡ before ++ vs) × ReadsEachWithin limits text vs new.rest) × IsProperPrefixWithin limits new.rest × (new.health ≡ health.Sound) × (new.limits ≡ limits)
+ReadsPieces limits text before (Err Parse) after = (vs : List Value) × (rest : List ℕ) × (after ≡ before ++ vs) × ReadsEachWithin limits text vs rest × IsMalformedWithin limits rest
+ReadsPieces limits text before (Err NoMemory) after = (vs : List Value) × (rest : List ℕ) × (after ≡ before ++ vs) × ReadsEachWithin limits text vs rest

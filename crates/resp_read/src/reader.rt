@@ -2,12 +2,13 @@ ghost use Rattle.std.specs.Prelude.{◌≡◌, ◌+◌, ◌-◌, ◌*◌, ◌≤
 ghost use Rattle.resp_read.specs.declared.reader.Health.TheVariants.{Sound, Malformed, NoMemory};
 ghost use Rattle.resp_read.specs.Limits.{default_limits, nearest_allowed, AreAllowed};
 ghost use Rattle.resp_read.specs.State.{unseen};
-ghost use Rattle.resp_read.specs.Reading.{kept_of, NextValue, NextFound, Pumps, FailsAgain};
+ghost use Rattle.resp_read.specs.Reading.{kept_of, NextValue, NextFound, Pumps, FailsAgain, joined, ReadsPieces};
 
 use crate::course::Course;
 use crate::forms::Refusal;
 use crate::limits::Limits;
 use crate::tape::Steps;
+use containers::Bytes;
 use resp_value::Value;
 use std::alloc::{AllocError, Global};
 use std::marker::{Brand, Model};
@@ -110,6 +111,33 @@ impl Reader {
             health: Health::Sound,
             limits,
         }
+    }
+
+    /// Feeds pieces to a new reader, with the allowed limits that are nearest to these, and appends every value that is whole.
+    /// However the text is cut, each of its bytes takes two steps at most.
+    ///
+    /// # Errors
+    /// `Parse`: what follows the values appended begins no value within the limits. `NoMemory`: memory was refused; some of the
+    /// values may have been appended.
+    pub fn from_pieces<L: Ledger>(
+        alloc: Global,
+        limits: Limits,
+        pieces: &[Bytes],
+        out: &mut Vec<Value>,
+        steps: &mut Steps<L>,
+    ) -> Result<Reader, ReadError>
+        ensures reads { ReadsPieces (nearest_allowed limits) (joined pieces.now) out.old.items result out.new.items }
+        ensures costs { steps.new ≤ steps.old + 2 * length (joined pieces.now) }
+    {
+        let within = limits.nearest_allowed();
+        let mut reader = Reader::within(alloc, within);
+        for piece in pieces {
+            match reader.pump(alloc, piece.as_slice(), out, steps) {
+                Ok(()) => {}
+                Err(error) => return Err(error),
+            }
+        }
+        Ok(reader)
     }
 
     /// What it takes at most.
