@@ -1,5 +1,5 @@
 -- The laws of the whole grammar.
-use Rattle.std.proofs.Common.{◌≡◌, ℕ, zero, suc, ◌<◌, List, [], ◌∷◌, ◌++◌, length, get_or, drop, Bool, true, false, cond, refl, ap, ◌∙◌, arith, length-append}
+use Rattle.std.proofs.Common.{◌≡◌, ℕ, zero, suc, ◌<◌, List, [], ◌∷◌, ◌++◌, length, Bool, true, false, cond, refl, ap, ◌∙◌, arith, length-append}
 use Rattle.std.specs.Prelude.{◌==◌, ◌||◌}
 use Rattle.resp_value.specs.Data.{Data, simple}
 use Rattle.resp_read.specs.Parser.{read, short, Found, Table, plain, nested, innermost, chosen, form, simple_line, error_line, number_line, null_line, boolean_line, double_line, big_line, no_array_line}
@@ -85,10 +85,6 @@ module _ (limits : Limits) (allowed : AreAllowed limits) where
   pub empty_short : (n : ℕ) → reading limits n [] ≡ short
   empty_short zero = refl
   empty_short (suc n) = refl
-
-pub same_first : (bs : List ℕ) (b : ℕ) → 0 < length bs → get_or bs 0 0 ≡ b → bs ≡ b ∷ drop 1 bs
-same_first [] b h is = absurd (omega arith)
-same_first (c ∷ bs) b h is = ap (λ x. x ∷ bs) is
 
 step_by : (c d : Bool) (x y w z : Found Data) → w ≡ cond d y z → cond c x w ≡ cond (c || d) (cond c x y) z
 step_by true d x y w z h = refl

@@ -21,14 +21,6 @@ unread_left limits c h =
 pub in_tape : (limits : Limits) (c : Course) → IsCourse limits c → IsInTape c
 in_tape limits c h = (h.order, h.place)
 
--- what was looked at, and what was not, are what is left
-pub looked_and_unread : (c : Course) → IsInTape c → (c.place.next - c.at + length c.place.line.text.items) + unread c ≡ length (rest_of c)
-looked_and_unread c h =
-    let order = h.0 in
-    let fits = h.1.fits in
-    let size = length-drop c.at c.tape in
-    omega (arith, order, fits, size)
-
 module _ (limits : Limits) (old new : Course) (counted : ℕ) (state : Health) (h : IsReading limits old counted state) (course : (l : Limits) → IsCourse l old → IsCourse l new) where
   -- what is left stays
   pub reading_still : rest_of new ≡ rest_of old → unread new ≡ unread old → IsReading limits new counted state
@@ -57,10 +49,6 @@ reading_on limits old new counted state after h sound course rest costs = record
   course = λ _. course;
   looked = λ _. let before = h.looked sound in let size = ap length rest in omega (arith, before, size, costs);
 }
-
--- it reads no further
-pub reading_ended : (limits : Limits) (c : Course) (counted : ℕ) (state : Health) → AreAllowed limits → (state ≡ Sound → ⊥) → IsReading limits c counted state
-reading_ended limits c counted state allowed never = record { allowed = allowed; course = λ sound. absurd (never sound); looked = λ sound. absurd (never sound) }
 
 -- all that was looked at is counted
 pub reading_all : (limits : Limits) (c : Course) (counted : ℕ) (state : Health) → AreAllowed limits → IsCourse limits c → counted + unread c ≡ length (rest_of c) → IsReading limits c counted state

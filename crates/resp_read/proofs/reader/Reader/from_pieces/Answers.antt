@@ -1,4 +1,4 @@
-use Rattle.std.proofs.Common.{◌≡◌, ◌+◌, ◌*◌, ◌++◌, List, [], length, length-append, drop, refl, sym, ap, ◌∙◌, subst, arith, Ok, Err}
+use Rattle.std.proofs.Common.{◌≡◌, ◌+◌, ◌++◌, [], length, length-append, drop, sym, ap, ◌∙◌, subst, arith, Ok, Err}
 use Rattle.std.proofs.lemmas.List.{append-nil, drop_all}
 use Rattle.resp_read.specs.Limits.{nearest_allowed, AreAllowed}
 use Rattle.resp_read.specs.State.{ReaderState}

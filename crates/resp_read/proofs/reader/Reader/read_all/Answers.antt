@@ -1,9 +1,7 @@
-use Rattle.std.proofs.Common.{◌≡◌, ℕ, List, ◌++◌, refl, sym, ap, ◌∙◌, subst}
-use Rattle.resp_value.specs.declared.value.Value.{Value}
-use Rattle.resp_read.specs.Parser.{short, bad}
+use Rattle.std.proofs.Common.{◌≡◌, refl, sym, ap, ◌∙◌, subst}
 use Rattle.resp_read.specs.State.{ReaderState}
 use Rattle.resp_read.specs.Limits.{reading, AreAllowed}
-use Rattle.resp_read.specs.Courses.{rest_of, ReadsAll}
+use Rattle.resp_read.specs.Courses.{rest_of}
 use Rattle.resp_read.specs.Reads.{ReadsEachWithin, IsProperPrefixWithin}
 use Rattle.resp_read.specs.declared.limits.Limits.{Limits}
 use Rattle.resp_read.proofs.WithinLaws.{prefix_from_short, malformed_from_bad}

@@ -1,8 +1,8 @@
-use Rattle.std.proofs.Common.{◌≡◌, inr, sym, ap, ◌∙◌, subst}
+use Rattle.std.proofs.Common.{inr, sym, ap, ◌∙◌, subst}
 use Rattle.resp_value.specs.View.{data_of}
 use Rattle.resp_read.specs.Parser.{read}
 use Rattle.resp_read.specs.State.{ReaderState}
-use Rattle.resp_read.specs.declared.reader.Health.TheVariants.{Sound, Malformed}
+use Rattle.resp_read.specs.declared.reader.Health.TheVariants.{Malformed}
 use Rattle.resp_read.specs.Limits.{bounds, reading, AreAllowed}
 use Rattle.resp_read.proofs.GrammarLaws.{read_where_found}
 use Rattle.resp_read.proofs.WithinLaws.{prefix_from_short, malformed_from_bad}
