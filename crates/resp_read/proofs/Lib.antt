@@ -26,3 +26,4 @@ pub mod BodyLaws
 pub mod PlaceLaws
 pub mod UnderwayLaws
 pub mod CourseLaws
+pub mod ReaderLaws

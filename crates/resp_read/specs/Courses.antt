@@ -3,12 +3,14 @@ use Rattle.std.specs.Prelude.{◌≡◌, ◌≤◌, ℕ, ◌+◌, ◌-◌, ◌*�
 use Rattle.resp_value.specs.View.{data_of}
 use Rattle.resp_value.specs.declared.value.Value.{Value}
 use Rattle.resp_read.specs.Parser.{read, short, bad}
-use Rattle.resp_read.specs.Limits.{reading}
+use Rattle.resp_read.specs.Limits.{reading, AreAllowed}
 use Rattle.resp_read.specs.Places.{IsPlace, seen, resumed_at}
 use Rattle.resp_read.specs.declared.limits.Limits.{Limits}
 use Rattle.resp_read.specs.declared.forms.Refusal.{Refusal}
 use Rattle.resp_read.specs.declared.forms.Refusal.TheVariants.{Short, Bad, NoMemory}
 use Rattle.resp_read.specs.declared.course.Course.{Course}
+use Rattle.resp_read.specs.declared.reader.Health.{Health}
+use Rattle.resp_read.specs.declared.reader.Health.TheVariants as health
 
 -- the bytes that no value given was made of
 abbrev pub rest_of : Course → List ℕ
@@ -27,6 +29,12 @@ pub record IsCourse (limits : Limits) (c : Course) : Type 0 where
   pub order : c.at ≤ c.place.next
   pub place : IsPlace c.tape c.place
   pub resumes : (m : List ℕ) → reading limits limits.depth (rest_of c ++ m) ≡ resumed_at limits c.frames.items c.place.stage (drop c.place.next c.tape ++ m)
+
+-- a reader with these limits goes on in its course while it is sound, and looked at no fewer bytes of what is left than it counts
+pub record IsReading (limits : Limits) (c : Course) (counted : ℕ) (state : Health) : Type 0 where
+  pub allowed : AreAllowed limits
+  pub course : state ≡ health.Sound → IsCourse limits c
+  pub looked : state ≡ health.Sound → counted + unread c ≤ length (rest_of c)
 
 -- the next value: it stood at the front; or more bytes are wanted, or none can help, and what is left is as it was
 abbrev pub ReadsNext : Limits → Course → Result Value Refusal → Course → Type 0

@@ -74,6 +74,39 @@ impl Course {
         self.at = 0;
     }
 
+    /// How many bytes no value given was made of.
+    pub fn left(&self) -> usize
+        ensures { result ≡ length (rest_of self.now) }
+    {
+        self.tape.len().saturating_sub(self.at)
+    }
+
+    /// How many of them it has looked at.
+    pub fn looked_at(&self) -> usize
+        requires { IsInTape self.now }
+        ensures { result + unread self.now ≡ length (rest_of self.now) }
+    {
+        let unread = self.tape.len() - self.place.next - self.place.line.text.len();
+        self.left() - unread
+    }
+
+    /// Lets the bytes of the values given go, and gives back the room that the others don't use; answers whether it did.
+    pub fn give_room_back(&mut self, alloc: Global) -> bool
+        requires { IsInTape self.old }
+        ensures course { (limits : Limits) → IsCourse limits self.old → IsCourse limits self.new }
+        ensures rest { rest_of self.new ≡ rest_of self.old }
+        ensures unread { unread self.new ≡ unread self.old }
+    {
+        match self.tape.forget_and_shrink(alloc, self.at) {
+            Ok(()) => {
+                self.place.next -= self.at;
+                self.at = 0;
+                true
+            }
+            Err(_) => false,
+        }
+    }
+
     /// The next value. `Short`: what was looked at is noted.
     pub fn next<L: Ledger>(
         &mut self,
