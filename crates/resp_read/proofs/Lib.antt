@@ -17,7 +17,6 @@ pub mod ItemLaws
 pub mod FrameLaws
 pub mod DigitLaws
 pub mod WaitLaws
-pub mod AskedLaws
 pub mod SizeLaws
 pub mod StageLaws
 pub mod HeadLaws

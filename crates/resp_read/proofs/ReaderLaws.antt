@@ -1,15 +1,13 @@
 -- A reader goes on in its course.
-use Rattle.std.proofs.Common.{◌≡◌, ℕ, ◌≤◌, ◌+◌, ◌-◌, ◌*◌, List, [], ◌∷◌, ◌++◌, length, drop, length-append, length-drop, Ok, Err, sym, ap, ◌∙◌, arith}
+use Rattle.std.proofs.Common.{◌≡◌, ℕ, ◌≤◌, ◌+◌, ◌-◌, ◌*◌, List, [], ◌∷◌, ◌++◌, length, length-append, length-drop, ap, ◌∙◌, arith}
 use Rattle.resp_value.specs.declared.value.Value.{Value}
 use Rattle.resp_value.specs.View.{data_of}
 use Rattle.resp_read.specs.Limits.{bounds, AreAllowed}
 use Rattle.resp_read.specs.Reads.{ReadsEachWithin}
 use Rattle.resp_read.specs.declared.limits.Limits.{Limits}
-use Rattle.resp_read.specs.declared.forms.Refusal.TheVariants.{Short}
 use Rattle.resp_read.specs.declared.course.Course.{Course}
 use Rattle.resp_read.specs.declared.reader.Health.{Health}
 use Rattle.resp_read.specs.declared.reader.Health.TheVariants.{Sound}
-use Rattle.resp_read.specs.Places.{seen}
 use Rattle.resp_read.specs.Courses.{rest_of, unread, IsCourse, IsInTape, IsReading, ReadsAll}
 use Rattle.resp_read.proofs.GrammarLaws.{read_where_found}
 

@@ -1,4 +1,4 @@
-ghost use Rattle.std.specs.Prelude.{◌≡◌, ◌+◌, [], ◌++◌, length, drop, OnOk, OnErr};
+ghost use Rattle.std.specs.Prelude.{◌≡◌, ◌+◌, [], ◌++◌, length, OnOk, OnErr};
 ghost use Rattle.resp_read.specs.Limits.{AreAllowed};
 ghost use Rattle.resp_read.specs.Courses.{rest_of, unread, IsInTape, IsCourse, ReadsNext, NextCosts, AppendsAll, AllCosts};
 

@@ -6,7 +6,6 @@ mod decimals;
 mod digits;
 mod forms;
 mod frames;
-mod heads;
 mod limits;
 mod lines;
 mod place;

@@ -1,6 +1,5 @@
 ghost use Rattle.std.specs.Prelude.{◌≡◌, ◌≤◌, List, ℕ, length, IfOk, MatchOption};
 ghost use Rattle.resp_value.specs.Data.{Data};
-ghost use Rattle.resp_read.specs.Grammar.{max_bulk};
 ghost use Rattle.resp_read.specs.Parser.{Found, bad, chosen, nested, plain, innermost, line};
 ghost use Rattle.resp_read.specs.Limits.{bounds, AreAllowed};
 ghost use Rattle.resp_read.specs.Frames.{begun_as};

@@ -1,5 +1,4 @@
-ghost use Rattle.std.specs.Prelude.{◌≡◌, ◌≤◌, ◌<◌, ◌+◌, ◌-◌, ◌*◌, length, drop, get_or};
-ghost use Rattle.resp_read.specs.Grammar.{max_bulk};
+ghost use Rattle.std.specs.Prelude.{◌≡◌, ◌≤◌, ◌<◌, ◌+◌, ◌-◌, length, drop, get_or};
 ghost use Rattle.resp_read.specs.Stages.{IsHeadOf, IsKindOf, IsBody, IsFormat};
 
 use crate::forms::Refusal;

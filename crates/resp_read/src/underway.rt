@@ -1,14 +1,13 @@
 ghost use Rattle.std.specs.Prelude.{◌≡◌, ◌∷◌, [], ◌++◌, OnOk};
-ghost use Rattle.resp_read.specs.Frames.{IsPutInPlace, IsPut, ReadsOn};
+ghost use Rattle.resp_read.specs.Frames.{IsPutInPlace, IsPut};
 ghost use Rattle.resp_read.specs.Limits.{AreAllowed};
 ghost use Rattle.resp_read.specs.Places.{IsPlace, ReadsFrom, StaysPlace, Costs};
 
-use crate::forms::{Input, Refusal};
+use crate::forms::Refusal;
 use crate::frames::{Begun, Frame};
 use crate::limits::Limits;
-use crate::place::Place;
+use crate::place::{self, Place};
 use crate::tape::{Steps, Tape};
-use crate::{heads, place};
 use resp_value::Value;
 use std::alloc::{AllocError, Global};
 use std::sync::ledger::Ledger;
@@ -52,35 +51,6 @@ fn put(alloc: Global, frames: &mut Vec<Frame>, value: Value) -> Result<Option<Va
                 hold(frames, frame)?;
                 return Ok(None);
             }
-        }
-    }
-}
-
-/// Reads on within these aggregates, the outermost first. `Short`: `input` is where the next value begins.
-pub fn read_on(
-    alloc: Global,
-    limits: Limits,
-    frames: &mut Vec<Frame>,
-    input: &mut Input<'_>,
-) -> Result<Value, Refusal>
-    requires { AreAllowed limits }
-    ensures { ReadsOn limits frames.old.items input.old.left.now
-        result frames.new.items input.new.left.now }
-{
-    loop {
-        let mut ahead = Input { left: input.left };
-        let around = frames.as_slice().len();
-        let begun = match heads::begin(alloc, limits, around, &mut ahead) {
-            Ok(begun) => begun,
-            Err(refusal) => return Err(refusal),
-        };
-        input.left = ahead.left;
-        match begun {
-            Begun::Whole(value) => match put(alloc, frames, value)? {
-                Some(outermost) => return Ok(outermost),
-                None => {}
-            },
-            Begun::Within(frame) => hold(frames, frame)?,
         }
     }
 }

@@ -1,13 +1,11 @@
-ghost use Rattle.std.specs.Prelude.{◌≡◌, ◌≤◌, ◌*◌, ◌∷◌, ℕ, List, length, take, Some, IfSome, MatchOption, IsTrue};
-ghost use Rattle.resp_read.specs.Grammar.{is_double};
-ghost use Rattle.resp_value.specs.Data.{Data};
-ghost use Rattle.resp_read.specs.Parser.{Found, short, bad, unended, line, number_begun, big_begun, size_begun, count_begun, made_by, double_tails};
-ghost use Rattle.resp_read.specs.Limits.{bounds, reading, AreAllowed};
+ghost use Rattle.std.specs.Prelude.{◌≡◌, ◌≤◌, ◌*◌, ℕ, List, length, Some};
+ghost use Rattle.resp_read.specs.Parser.{line, size_begun, count_begun};
+ghost use Rattle.resp_read.specs.Limits.{bounds, AreAllowed};
 ghost use Rattle.resp_read.specs.Parts.{line_form};
 ghost use Rattle.resp_read.specs.Stages.{GoesOn};
 ghost use Rattle.resp_read.specs.Digits.{greatest, digits_run, AreKept};
 ghost use Rattle.resp_read.specs.Doubles.{run};
-ghost use Rattle.resp_read.specs.Waiting.{IsFrontOf, IsLooked, IsJudged};
+ghost use Rattle.resp_read.specs.Waiting.{IsLooked, IsJudged};
 ghost use Rattle.resp_read.specs.declared.digits.Digits.TheVariants.{Empty};
 ghost use Rattle.resp_read.specs.declared.decimals.Seen.TheVariants.{Nothing};
 
@@ -17,7 +15,6 @@ use crate::forms::OneLine;
 use crate::limits::Limits;
 use crate::stages::Head;
 use crate::{decimals, lines};
-use memchr::memchr;
 
 /// What was read of a line that has not ended.
 #[derive(Clone, Copy)]
@@ -36,17 +33,6 @@ pub struct Looked {
 }
 
 impl Looked {
-    /// No byte was looked at.
-    pub fn at_nothing() -> Looked
-        ensures count { result.count ≡ 0 }
-        ensures front { result.front ≡ Front.Text }
-    {
-        Looked {
-            count: 0,
-            front: Front::Text,
-        }
-    }
-
     /// The digits of the whole line.
     fn digits(self, text: &[u8]) -> Digits
         requires { IsLooked self text.now }
@@ -70,76 +56,6 @@ impl Looked {
             Front::Text => decimals::read_through(Seen::Nothing, text),
             Front::Numeral(_) => decimals::read_through(Seen::Nothing, text),
         }
-    }
-}
-
-/// Whether no line ends in these bytes, of which so much was looked at.
-fn is_unended(looked: Looked, text: &[u8]) -> bool
-    requires { IsLooked looked text.now }
-    ensures { IsTrue result → line text.now ≡ unended text.now }
-{
-    match memchr(b'\r', &text[looked.count..]) {
-        None => true,
-        Some(_) => false,
-    }
-}
-
-/// What is read of a line that has not ended and can become a value of the form that begins with `first`; or none, where
-/// that is to be found out in another way.
-fn front_of(limits: Limits, first: u8, looked: Looked, text: &[u8]) -> Option<Front>
-    requires looked { IsLooked looked text.now }
-    requires fits { length text.now ≤ limits.line }
-    requires unended { line text.now ≡ unended text.now }
-    ensures { IfSome result (λ front. IsFrontOf front text.now
-        × ((depth : ℕ) → reading limits depth (first ∷ text.now) ≡ short)) }
-{
-    match first {
-        b'+' => Some(Front::Text),
-        b'-' => Some(Front::Text),
-        b':' => {
-            let digits = looked.digits(text);
-            if digits.can_be_number() {
-                Some(Front::Numeral(digits))
-            } else {
-                None
-            }
-        }
-        b'(' => {
-            let digits = looked.digits(text);
-            if digits.can_be_some() {
-                Some(Front::Numeral(digits))
-            } else {
-                None
-            }
-        }
-        b',' => {
-            let seen = looked.double(text);
-            if decimals::can_be_double(limits, seen, text.len()) {
-                Some(Front::Double(seen))
-            } else {
-                None
-            }
-        }
-        _ => None,
-    }
-}
-
-/// Looks at the bytes of a line that were not looked at. What is known of it then, if it has not ended and can become a
-/// value of the form that begins with `first`.
-pub fn look_on(limits: Limits, first: u8, looked: Looked, text: &[u8]) -> Option<Looked>
-    requires { IsLooked looked text.now }
-    ensures { IfSome result (λ known. IsLooked known text.now
-        × ((depth : ℕ) → reading limits depth (first ∷ text.now) ≡ short)) }
-{
-    if text.len() > limits.line || !is_unended(looked, text) {
-        return None;
-    }
-    match front_of(limits, first, looked, text) {
-        Some(front) => Some(Looked {
-            count: text.len(),
-            front,
-        }),
-        None => None,
     }
 }
 
