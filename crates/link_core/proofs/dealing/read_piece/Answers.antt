@@ -1,4 +1,4 @@
-use Rattle.std.proofs.Common.{◌≡◌, ◌++◌, map, ◌∙◌}
+use Rattle.std.proofs.Common.{◌++◌, map, ◌∙◌}
 use Rattle.resp_value.specs.View.{data_of}
 use Rattle.link_core.proofs.CameLemmas.{all_came, all_spoiled, items_came}
 use Rattle.link_core.proofs.dealing.read_piece.Goals as goal
