@@ -50,8 +50,8 @@ impl From<AllocError> for ReadError {
 /// How many bytes of room a reader keeps for those to come.
 const KEPT_ROOM: usize = 65_536;
 
-/// Reads values from bytes that come in pieces. However they are cut, it goes on where it was, and looks at no byte again
-/// but the last one of a line.
+/// Reads values from bytes that come in pieces. However they are cut, it goes on where it was: of the bytes that it holds it looks
+/// at each once, and copies each once at most.
 ///
 /// What it holds of a reply under way: the bytes fed that no value given was made of, and the values that were made of
 /// them and stand in aggregates that are not whole. The bytes go once they are no fewer than half of all that it holds,
@@ -257,8 +257,8 @@ impl Reader {
         }
     }
 
-    /// Adds bytes to those not yet read, and appends every value that is whole then. Each byte is looked at twice at most,
-    /// however the bytes are cut.
+    /// Adds bytes to those not yet read, and appends every value that is whole then. However the bytes are cut, each takes two
+    /// steps at most: one to look at it, and one to copy it.
     ///
     /// # Errors
     /// `Parse`: what is left behind the values appended begins no value within the limits, whatever follows. `NoMemory`: memory
