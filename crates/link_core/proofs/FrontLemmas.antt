@@ -1,5 +1,5 @@
 -- What was in a list before stays its front.
-use Rattle.std.proofs.Common.{◌≡◌, ℕ, ◌≤◌, List, ◌++◌, length, take, sym, ap, ◌∙◌, arith}
+use Rattle.std.proofs.Common.{◌≡◌, ◌≤◌, List, ◌++◌, length, take, sym, ap, ◌∙◌, arith}
 use Rattle.std.proofs.Math.Nat.{le_refl}
 use Rattle.std.proofs.lemmas.List.{take-append-le, take-take, length-take, take_all}
 use Rattle.std.specs.Prelude.{Result, Ok, Err, OnErr}
