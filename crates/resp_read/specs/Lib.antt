@@ -11,6 +11,3 @@ pub mod Doubles
 pub mod Waiting
 pub mod Items
 pub mod Frames
-pub mod Stages
-pub mod Places
-pub mod Courses
