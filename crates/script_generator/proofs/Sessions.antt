@@ -34,6 +34,8 @@ connection_with info life requests waiting fresh moved = record {
   admitted = [];
   fresh = fresh;
   moved = moved;
+  starts = tt;
+  settled = tt;
   failure = None;
 }
 
