@@ -23,7 +23,7 @@ is_whole_turns() {
 }
 
 was_refused() {
-  [ "$(cat "$room/told")" = refused ]
+  [ "$(head -n 1 "$room/told")" = refused ]
 }
 
 # The runs of these words: sweep NAME INPUT WORD..
