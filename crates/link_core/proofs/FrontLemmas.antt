@@ -1,5 +1,5 @@
 -- What was in a list before stays its front.
-use Rattle.std.proofs.Common.{◌≡◌, ℕ, ◌≤◌, List, ◌++◌, length, take, sym, ap, ◌∙◌, arith}
+use Rattle.std.proofs.Common.{◌≡◌, ◌≤◌, List, ◌++◌, length, take, sym, ap, ◌∙◌, arith}
 use Rattle.std.proofs.Math.Nat.{le_refl}
 use Rattle.std.proofs.lemmas.List.{take-append-le, take-take, length-take, take_all}
 use Rattle.std.specs.Prelude.{Result, Ok, Err, OnErr}
@@ -24,7 +24,3 @@ module _ {X : Type 0} where
   pub front_after : {T E : Type 0} (r : Result T E) (before out now : List X) → take (length before) out ≡ before → OnErr r (take (length out) now ≡ out) → OnErr r (take (length before) now ≡ before)
   front_after (Ok v) before out now h k = tt
   front_after (Err e) before out now h k = front_through before out now h k
-
-  -- as many items as before are still there
-  pub front_there : (n : ℕ) (out now : List X) → n ≤ length out → take n now ≡ take n out → n ≤ length now
-  front_there n out now l h = omega (arith, l, length-take n out, length-take n now, ap length h)

@@ -7,6 +7,7 @@ mod link;
 mod message;
 mod outbox;
 mod row;
+mod spare;
 
 pub use driver_model::LinkFault;
 pub use errors::{EnqueueError, StartError};
@@ -14,3 +15,4 @@ pub use link::LinkCore;
 pub use message::{Entry, PushAt, PushInfo, Queued, Settled, Started};
 pub use outbox::Outbox;
 pub use row::Row;
+pub use spare::{Rest, Spare};

@@ -5,21 +5,23 @@ ghost use Rattle.link_core.specs.Waiting.{without, is_wanted};
 ghost use Rattle.link_core.specs.Ends.{queue_closed};
 ghost use Rattle.link_core.specs.Dealing.{heard_of};
 
-use crate::dealing::deal_into;
+use crate::dealing::{deal_into, read_piece};
 use crate::errors::{EnqueueError, StartError};
 use crate::message::{PushAt, Queued, Settled, Started};
 use crate::outbox::Outbox;
 use crate::row::{Row, fail};
+use crate::spare::{Rest, Spare};
 use containers::{Bytes, Queue};
 use driver_model::{LinkFault, Shape};
 use redis_error::RedisError;
 use resp_read::{ReadError, Reader};
+use resp_value::Value;
 use std::alloc::{AllocError, Global};
-use std::marker::Model;
+use std::marker::{Brand, Model};
+use std::sync::ledger::Blank;
 
 /// A link. Messages take a place in its queue, start in that order, and each item that comes goes to the oldest started
 /// message that takes more.
-#[derive(Drop)]
 pub struct LinkCore {
     size: u32,
     boundary: u64,
@@ -28,8 +30,32 @@ pub struct LinkCore {
     started: u32,
     outbox: Outbox,
     reader: Reader,
+    /// The list into which values are read.
+    came: Spare<Value>,
     broken: bool,
     failed: bool,
+}
+
+impl Drop for LinkCore {
+    fn drop(self) {
+        let LinkCore {
+            size: _,
+            boundary: _,
+            queue,
+            row,
+            started: _,
+            outbox,
+            reader,
+            came,
+            broken: _,
+            failed: _,
+        } = self;
+        drop(queue);
+        drop(row);
+        drop(outbox);
+        drop(reader);
+        drop(came);
+    }
 }
 
 impl Model for LinkCore {
@@ -83,6 +109,7 @@ impl LinkCore {
                 offered: 0,
             },
             reader: Reader::new(alloc),
+            came: Spare::new(alloc),
             broken: false,
             failed: false,
         }
@@ -575,9 +602,13 @@ impl LinkCore {
         ensures no_memory { OnErr result (self.new.failed ≡ true) }
     {
         self.failed = true;
-        self.reader.feed(piece)?;
+        let mut came = self.came.take(alloc);
         let reader = &mut self.reader;
-        self.broken = deal_into(alloc, heard, reader, &mut self.row, out, pushes)?;
+        let broken = read_piece::<Brand>(alloc, reader, piece, &mut came, Blank::new(1))?;
+        let mut came = Rest::of(came);
+        deal_into(alloc, heard, &mut came, &mut self.row, out, pushes)?;
+        self.came.give(came.into_list());
+        self.broken = broken;
         self.failed = false;
         Ok(())
     }

@@ -9,10 +9,9 @@ use crate::connection::MultiplexedConnection;
 use crate::errors::ConnectionError;
 use crate::life::Life;
 use crate::request::{Progress, Request, Waiting};
-use crate::spare::Rest;
 use containers::Queue;
 use driver_model::{Outcome, Shape};
-use link_core::{EnqueueError, LinkCore, StartError, Started};
+use link_core::{EnqueueError, LinkCore, Rest, StartError, Started};
 use resp_value::Value;
 use std::alloc::{AllocError, Global};
 

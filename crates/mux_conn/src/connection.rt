@@ -6,11 +6,10 @@ use crate::act::LinkAct;
 use crate::errors::ConnectionError;
 use crate::life::Life;
 use crate::request::{Pending, Progress, Request, Waiting};
-use crate::spare::Spare;
 use connection_info::RedisConnectionInfo;
 use containers::{Bytes, Queue, Seq};
 use driver_model::{Outcome, Shape};
-use link_core::{Settled, Started};
+use link_core::{Settled, Spare, Started};
 use std::alloc::{AllocError, Global};
 
 /// One multiplexed connection: how many messages the queue of its link holds, and at how many unwritten bytes none starts;

@@ -11,12 +11,11 @@ mod flush;
 mod internal;
 mod life;
 mod request;
-mod spare;
 mod step;
 
 pub use act::LinkAct;
 pub use connection::MultiplexedConnection;
 pub use errors::ConnectionError;
 pub use life::Life;
+pub use link_core::{Rest, Spare};
 pub use request::{Pending, Progress, Request, Waiting};
-pub use spare::{Rest, Spare};

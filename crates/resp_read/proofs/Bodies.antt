@@ -22,10 +22,10 @@ module _ {A : Type 0} (v : A) where
   lawful_closed [] = lawful_nil (closed v) refl (13 ∷ 10 ∷ [], v, refl)
   lawful_closed (b ∷ bs) = lawful_cons (closed v) (λ x. cond (b == 13) (fed v x) bad) b bs (λ x. refl) (lawful_if (b == 13) (fed v) (λ x. bad) bs (lawful_fed bs) (lawful_bad bs))
 
-body_few : (n : ℕ) (bs : List ℕ) → length bs < n → body n bs ≡ short
+pub body_few : (n : ℕ) (bs : List ℕ) → length bs < n → body n bs ≡ short
 body_few n bs h = let c : nat_lt (length bs) n ≡ true = grind (arith, nat_tests) in rw c refl
 
-body_enough : (n : ℕ) (bs : List ℕ) → n ≤ length bs → body n bs ≡ closed (take n bs) (drop n bs)
+pub body_enough : (n : ℕ) (bs : List ℕ) → n ≤ length bs → body n bs ≡ closed (take n bs) (drop n bs)
 body_enough n bs h = let c : nat_lt (length bs) n ≡ false = grind (arith, nat_tests) in rw c refl
 
 -- n bytes and their end are a body
@@ -85,10 +85,10 @@ lawful_bulk_error limits allowed =
     (λ n. lawful_map error_of (body n) (lawful_body n)) (λ n. possible_map error_of (body n) (body_possible n))
 
 -- n bytes
-bytes_few : (n : ℕ) (bs : List ℕ) → length bs < n → some_bytes n bs ≡ short
+pub bytes_few : (n : ℕ) (bs : List ℕ) → length bs < n → some_bytes n bs ≡ short
 bytes_few n bs h = let c : nat_lt (length bs) n ≡ true = grind (arith, nat_tests) in rw c refl
 
-bytes_enough : (n : ℕ) (bs : List ℕ) → n ≤ length bs → some_bytes n bs ≡ read (take n bs) (drop n bs)
+pub bytes_enough : (n : ℕ) (bs : List ℕ) → n ≤ length bs → some_bytes n bs ≡ read (take n bs) (drop n bs)
 bytes_enough n bs h = let c : nat_lt (length bs) n ≡ false = grind (arith, nat_tests) in rw c refl
 
 bytes_all : (n : ℕ) (bs : List ℕ) → length bs ≡ n → some_bytes n bs ≡ read bs []

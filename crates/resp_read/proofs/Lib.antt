@@ -17,5 +17,13 @@ pub mod ItemLaws
 pub mod FrameLaws
 pub mod DigitLaws
 pub mod WaitLaws
-pub mod AskedLaws
 pub mod SizeLaws
+pub mod StageLaws
+pub mod HeadLaws
+pub mod LookLaws
+pub mod BodyLaws
+pub mod PlaceLaws
+pub mod UnderwayLaws
+pub mod CourseLaws
+pub mod ReaderLaws
+pub mod PieceLaws

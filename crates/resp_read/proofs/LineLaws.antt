@@ -32,9 +32,6 @@ fits_within limits l h = grind (arith, nat_tests)
 longer : (limits : Limits) (l q : List ℕ) → fits (bounds limits) l ≡ false → fits (bounds limits) (l ++ q) ≡ true → ⊥
 longer limits l q long on = let e = length-append l q in grind (arith, nat_tests)
 
-fits_first : (limits : Limits) (l q : List ℕ) → fits (bounds limits) (l ++ q) ≡ true → length l ≤ limits.line
-fits_first limits l q h = omega (arith, length-append l q, fits_within limits (l ++ q) h)
-
 -- the text that a line was found in
 abbrev IsOf : Line → List ℕ → Type 0
 IsOf (ended l rest) bs = bs ≡ l ++ 13 ∷ 10 ∷ rest

@@ -1,10 +1,9 @@
 -- The laws of the whole grammar.
-use Rattle.std.proofs.Common.{◌≡◌, ℕ, zero, suc, ◌<◌, List, [], ◌∷◌, ◌++◌, length, get_or, drop, Bool, true, false, cond, refl, sym, ap, ◌∙◌, subst, arith, length-append}
-use Rattle.std.specs.Prelude.{◌==◌, ◌||◌, Result}
+use Rattle.std.proofs.Common.{◌≡◌, ℕ, zero, suc, ◌<◌, List, [], ◌∷◌, ◌++◌, length, Bool, true, false, cond, refl, ap, ◌∙◌, arith, length-append}
+use Rattle.std.specs.Prelude.{◌==◌, ◌||◌}
 use Rattle.resp_value.specs.Data.{Data, simple}
 use Rattle.resp_read.specs.Parser.{read, short, Found, Table, plain, nested, innermost, chosen, form, simple_line, error_line, number_line, null_line, boolean_line, double_line, big_line, no_array_line}
-use Rattle.resp_read.specs.Parts.{has, IsFound}
-use Rattle.resp_read.specs.declared.forms.Refusal.{Refusal}
+use Rattle.resp_read.specs.Parts.{has}
 use Rattle.resp_read.specs.Limits.{bounds, reading, AreAllowed}
 use Rattle.resp_read.specs.declared.limits.Limits.{Limits}
 use Rattle.resp_read.proofs.Laws.{Lawful, Possible, lawful_bad, lawful_if, lawful_cons, lawful_nil}
@@ -87,10 +86,6 @@ module _ (limits : Limits) (allowed : AreAllowed limits) where
   empty_short zero = refl
   empty_short (suc n) = refl
 
-pub same_first : (bs : List ℕ) (b : ℕ) → 0 < length bs → get_or bs 0 0 ≡ b → bs ≡ b ∷ drop 1 bs
-same_first [] b h is = absurd (omega arith)
-same_first (c ∷ bs) b h is = ap (λ x. x ∷ bs) is
-
 step_by : (c d : Bool) (x y w z : Found Data) → w ≡ cond d y z → cond c x w ≡ cond (c || d) (cond c x y) z
 step_by true d x y w z h = refl
 step_by false d x y w z h = h
@@ -109,16 +104,3 @@ form_more limits more b bs h = chosen_more (plain (bounds limits)) more b bs ∙
 pub parse_plain : (limits : Limits) (depth b : ℕ) (bs : List ℕ) → has (plain (bounds limits)) b ≡ true → reading limits depth (b ∷ bs) ≡ chosen (plain (bounds limits)) b bs
 parse_plain limits zero b bs h = form_plain limits (innermost (bounds limits)) b bs h
 parse_plain limits (suc n) b bs h = form_plain limits (nested (bounds limits) (reading limits n)) b bs h
-
--- what was found behind the first byte is found at the front
-module _ (limits : Limits) {X : Type 0} (view : X → Data) (left rest : List ℕ) (b : ℕ) (r : Result X Refusal) (new : List ℕ) (some : 0 < length left) (first : get_or left 0 0 ≡ b) (behind : rest ≡ drop 1 left) where
-  at_first : (f g : List ℕ → Found Data) → ((bs : List ℕ) → f (b ∷ bs) ≡ g bs) → IsFound view (g rest) r new → IsFound view (f left) r new
-  at_first f g same found =
-      let e : f left ≡ g rest = ap f (same_first left b some first) ∙ same (drop 1 left) ∙ ap g (sym behind) in
-      subst (λ x. IsFound view x r new) (sym e) found
-
-  pub at_plain : (depth : ℕ) → has (plain (bounds limits)) b ≡ true → IsFound view (chosen (plain (bounds limits)) b rest) r new → IsFound view (reading limits depth left) r new
-  at_plain depth h found = at_first (reading limits depth) (chosen (plain (bounds limits)) b) (λ bs. parse_plain limits depth b bs h) found
-
-  pub at_innermost : (depth : ℕ) → depth ≡ 0 → has (plain (bounds limits)) b ≡ false → IsFound view (chosen (innermost (bounds limits)) b rest) r new → IsFound view (reading limits depth left) r new
-  at_innermost depth is h found = at_first (reading limits depth) (chosen (innermost (bounds limits)) b) (λ bs. ap (λ d. reading limits d (b ∷ bs)) is ∙ form_more limits (innermost (bounds limits)) b bs h) found

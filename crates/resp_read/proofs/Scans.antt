@@ -4,50 +4,8 @@ use Rattle.std.proofs.lemmas.List.{append-nil, drop_more, take_more, drop_all, t
 use Rattle.std.proofs.lemmas.Bool.Decides.{nat_tests}
 use Rattle.std.specs.Prelude.{◌==◌, nat_le}
 use Rattle.resp_read.specs.Grammar.{is_digit, digits_after, at_most, before_space, after_space}
-use Rattle.resp_read.specs.Parser.{ended, held, unended, broken, after_return, byte_before, line}
 use Rattle.resp_read.specs.Doubles.{step, run}
 use Rattle.resp_read.specs.declared.decimals.Seen.{Seen}
-use Rattle.resp_read.proofs.FirstLine.{bytes_before, before-ended, before-held, before-unended, before-broken, before-push}
-
--- the first i bytes hold no CR
-abbrev pub IsClear : ℕ → List ℕ → Type 0
-IsClear i bs = line bs ≡ bytes_before (take i bs) (line (drop i bs))
-
-return_first : (b : ℕ) (bs : List ℕ) → b ≡ 13 → line (b ∷ bs) ≡ after_return bs
-return_first b bs is = let c : (b == 13) ≡ true = grind (arith, nat_tests) in rw c refl
-
-other_first : (b : ℕ) (bs : List ℕ) → (b ≡ 13 → ⊥) → line (b ∷ bs) ≡ byte_before b (line bs)
-other_first b bs is = let c : (b == 13) ≡ false = grind (arith, nat_tests) in rw c refl
-
-at_return : (i : ℕ) (bs : List ℕ) → i < length bs → IsClear i bs → get_or bs i 0 ≡ 13 → line bs ≡ bytes_before (take i bs) (after_return (drop (i + 1) bs))
-at_return i bs h clear is = clear ∙ ap (bytes_before (take i bs)) (ap line (drop_more bs i 0 h) ∙ return_first (get_or bs i 0) (drop (i + 1) bs) is)
-
-pub line_ended : (i : ℕ) (bs : List ℕ) → i + 1 < length bs → IsClear i bs → get_or bs i 0 ≡ 13 → get_or bs (i + 1) 0 ≡ 10 → line bs ≡ ended (take i bs) (drop (i + 2) bs)
-line_ended i bs h clear is feed =
-    let two : i + 1 + 1 ≡ i + 2 = omega arith in
-    let c : (get_or bs (i + 1) 0 == 10) ≡ true = grind (arith, nat_tests) in
-    let after : after_return (drop (i + 1) bs) ≡ ended [] (drop (i + 2) bs) = ap after_return (drop_more bs (i + 1) 0 h) ∙ ap (λ t. cond t (ended [] (drop (i + 1 + 1) bs)) broken) c ∙ ap (λ k. ended [] (drop k bs)) two in
-    at_return i bs (omega arith) clear is ∙ ap (bytes_before (take i bs)) after ∙ before-ended (take i bs) [] (drop (i + 2) bs) ∙ ap (λ l. ended l (drop (i + 2) bs)) (append-nil (take i bs))
-
-pub line_broken : (i : ℕ) (bs : List ℕ) → i + 1 < length bs → IsClear i bs → get_or bs i 0 ≡ 13 → (get_or bs (i + 1) 0 ≡ 10 → ⊥) → line bs ≡ broken
-line_broken i bs h clear is other =
-    let c : (get_or bs (i + 1) 0 == 10) ≡ false = grind (arith, nat_tests) in
-    let after : after_return (drop (i + 1) bs) ≡ broken = ap after_return (drop_more bs (i + 1) 0 h) ∙ ap (λ t. cond t (ended [] (drop (i + 1 + 1) bs)) broken) c in
-    at_return i bs (omega arith) clear is ∙ ap (bytes_before (take i bs)) after ∙ before-broken (take i bs)
-
-pub line_held : (i : ℕ) (bs : List ℕ) → i + 1 ≡ length bs → IsClear i bs → get_or bs i 0 ≡ 13 → line bs ≡ held (take i bs)
-line_held i bs h clear is =
-    at_return i bs (omega arith) clear is ∙ ap (λ d. bytes_before (take i bs) (after_return d)) (drop_all (i + 1) bs (omega arith)) ∙ before-held (take i bs) [] ∙ ap held (append-nil (take i bs))
-
-pub line_unended : (i : ℕ) (bs : List ℕ) → length bs ≤ i → IsClear i bs → line bs ≡ unended bs
-line_unended i bs h clear =
-    clear ∙ (λ j. bytes_before (take_all i bs h j) (line (drop_all i bs h j))) ∙ before-unended bs [] ∙ ap unended (append-nil bs)
-
-pub clear_more : (i : ℕ) (bs : List ℕ) → i < length bs → IsClear i bs → (get_or bs i 0 ≡ 13 → ⊥) → IsClear (i + 1) bs
-clear_more i bs h clear other =
-    let b = get_or bs i 0 in
-    let rest = drop (i + 1) bs in
-    clear ∙ ap (bytes_before (take i bs)) (ap line (drop_more bs i 0 h) ∙ other_first b rest other) ∙ sym (before-push (take i bs) b (line rest)) ∙ ap (λ t. bytes_before t (line rest)) (sym (take_more bs i 0 h))
 
 pub below_digits : (n b : ℕ) (ds : List ℕ) → b < 48 → digits_after n (b ∷ ds) ≡ None
 below_digits n b ds low = let l : nat_le 48 b ≡ false = grind (arith, nat_tests) in rw l refl

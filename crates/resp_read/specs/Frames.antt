@@ -1,10 +1,8 @@
 -- Aggregates that are begun and not whole, and what a value becomes that stands in them.
-use Rattle.std.specs.Prelude.{◌≡◌, ◌≤◌, ℕ, ◌-◌, List, [], ◌∷◌, ◌++◌, length, drop, Option, Some, None, Result, Ok, Err}
+use Rattle.std.specs.Prelude.{◌≡◌, ℕ, ◌-◌, List, [], ◌∷◌, ◌++◌, length, Option, Some, None, Result, Ok, Err}
 use Rattle.resp_value.specs.Data.{Data, array, set, push, dict, attribute, items_of, members_of}
 use Rattle.resp_value.specs.View.{data_of}
 use Rattle.resp_value.specs.declared.value.Value.{Value}
-use Rattle.resp_read.specs.declared.forms.Refusal.{Refusal}
-use Rattle.resp_read.specs.declared.forms.Refusal.TheVariants.{Short, Bad, NoMemory}
 use Rattle.resp_read.specs.declared.frames.Sequence.{Sequence}
 use Rattle.resp_read.specs.declared.frames.Sequence.TheVariants.{Array, Set, Push}
 use Rattle.resp_read.specs.declared.frames.Pairing.{Pairing}
@@ -14,12 +12,8 @@ use Rattle.resp_read.specs.declared.frames.Frame.TheVariants.{Item, Entry, Attri
 use Rattle.resp_read.specs.declared.frames.Begun.{Begun}
 use Rattle.resp_read.specs.declared.frames.Begun.TheVariants.{Whole, Within}
 use Rattle.resp_read.specs.declared.limits.Limits.{Limits}
-use Rattle.resp_read.specs.declared.waiting.Looked.{Looked}
-use Rattle.resp_read.specs.declared.reader.Health.{Health}
-use Rattle.resp_read.specs.declared.reader.Health.TheVariants.{Sound}
-use Rattle.resp_read.specs.Waiting.{IsLooked}
-use Rattle.resp_read.specs.Parser.{read, short, bad, Found, found_and_then, found_map, repeated, pair, attributed}
-use Rattle.resp_read.specs.Limits.{reading, AreAllowed}
+use Rattle.resp_read.specs.Parser.{read, Found, found_and_then, found_map, repeated, pair, attributed}
+use Rattle.resp_read.specs.Limits.{reading}
 
 -- what these values make
 abbrev pub made : Sequence → List Data → Data
@@ -52,11 +46,6 @@ abbrev pub begun_as : (List ℕ → Found Data) → Begun → List ℕ → Found
 begun_as inside (Whole v) bs = read (data_of v) bs
 begun_as inside (Within frame) bs = found_and_then (with_value inside frame) (inside bs)
 
--- a value that was read is whole
-abbrev pub whole_of : Result Value Refusal → Result Begun Refusal
-whole_of (Ok v) = Ok (Whole v)
-whole_of (Err e) = Err e
-
 -- what the outermost of these aggregates is, where x is found in the innermost; n may still be nested
 abbrev pub within : Limits → ℕ → List Frame → Found Data → Found Data
 within limits n [] x = x
@@ -65,17 +54,6 @@ within limits n (frame ∷ frames) x = found_and_then (with_value (reading limit
 -- what it is, where these bytes follow
 abbrev pub resumed : Limits → List Frame → List ℕ → Found Data
 resumed limits frames bs = within limits limits.depth frames (reading limits (limits.depth - length frames) bs)
-
--- the one text is the end of the other
-abbrev pub IsEnd : List ℕ → List ℕ → Type 0
-IsEnd end bs = (p : List ℕ) × (bs ≡ p ++ end)
-
--- what began is what the form is, whatever bytes follow; or the form is short or bad
-abbrev pub Begins : (List ℕ → Found Data) → (List ℕ → Found Data) → List ℕ → Result Begun Refusal → List ℕ → Type 0
-Begins form inside bs (Ok b) left = IsEnd left bs × ((m : List ℕ) → form (bs ++ m) ≡ begun_as inside b (left ++ m))
-Begins form inside bs (Err Short) left = form bs ≡ short
-Begins form inside bs (Err Bad) left = form bs ≡ bad
-Begins form inside bs (Err NoMemory) left = Unit {0}
 
 -- what an aggregate does with a value that is offered: it takes it and waits for the next one, or hands it back and stays as it was
 abbrev pub IsAdded : {E : Type 0} → Frame → Value → Result (Option Value) E → Frame → Type 0
@@ -94,18 +72,3 @@ abbrev pub IsPut : {E : Type 0} → List Frame → Value → Result (Option Valu
 IsPut old v (Ok (Some w)) new = (new ≡ []) × ((limits : Limits) (bs : List ℕ) → within limits limits.depth old (read (data_of v) bs) ≡ read (data_of w) bs)
 IsPut old v (Ok None) new = (limits : Limits) (bs : List ℕ) → within limits limits.depth old (read (data_of v) bs) ≡ resumed limits new bs
 IsPut old v (Err e) new = Unit {0}
-
--- what reading on makes of the aggregates: the outermost is whole, or more bytes are wanted, or none can help
-abbrev pub ReadsOn : Limits → List Frame → List ℕ → Result Value Refusal → List Frame → List ℕ → Type 0
-ReadsOn limits old bs (Ok v) new left = (new ≡ []) × IsEnd left bs × ((m : List ℕ) → resumed limits old (bs ++ m) ≡ read (data_of v) (left ++ m))
-ReadsOn limits old bs (Err Short) new left = IsEnd left bs × (resumed limits old bs ≡ short) × ((m : List ℕ) → resumed limits old (bs ++ m) ≡ resumed limits new (left ++ m))
-ReadsOn limits old bs (Err Bad) new left = resumed limits old bs ≡ bad
-ReadsOn limits old bs (Err NoMemory) new left = Unit {0}
-
--- where a reader with these limits is in its bytes: the value that begins at the one place is what the aggregates are with the bytes from the other place on, whatever bytes follow; and what is known of the line behind the first byte there
-pub record IsUnderway (limits : Limits) (bytes : List ℕ) (at next : ℕ) (frames : List Frame) (looked : Looked) (health : Health) : Type 0 where
-  pub allowed : AreAllowed limits
-  pub in_order : at ≤ next
-  pub fits : next ≤ length bytes
-  pub resumes : health ≡ Sound → (m : List ℕ) → reading limits limits.depth (drop at bytes ++ m) ≡ resumed limits frames (drop next bytes ++ m)
-  pub known : IsLooked looked (drop 1 (drop next bytes))

@@ -11,3 +11,6 @@ pub mod Doubles
 pub mod Waiting
 pub mod Items
 pub mod Frames
+pub mod Stages
+pub mod Places
+pub mod Courses

@@ -1,6 +1,6 @@
 ghost use Rattle.std.specs.Prelude.{◌≡◌, ℕ, List, length};
-ghost use Rattle.resp_read.specs.Grammar.{is_end, after_digits, unsigned, is_big, is_double};
-ghost use Rattle.resp_read.specs.Parser.{big_begun, made_by, double_tails};
+ghost use Rattle.resp_read.specs.Grammar.{is_big, is_double};
+ghost use Rattle.resp_read.specs.Parser.{made_by, double_tails};
 ghost use Rattle.resp_read.specs.Limits.{bounds};
 ghost use Rattle.resp_read.specs.Doubles.{digit_to, byte_to, exponent_to, step, run, missing};
 ghost use Rattle.resp_read.specs.declared.decimals.Seen.TheVariants.{Nothing, Whole, Fraction, Exponent};
@@ -14,14 +14,6 @@ pub fn is_big_number(line: &[u8]) -> bool
 {
     let read = Digits::Empty.through(line);
     read.are_some()
-}
-
-/// Whether a line that starts so can become a big number.
-pub fn is_big_begun(front: &[u8]) -> bool
-    ensures { result ≡ big_begun front.now }
-{
-    let read = Digits::Empty.through(front);
-    read.can_be_some()
 }
 
 /// What has been read of a double.
@@ -203,11 +195,4 @@ pub fn can_be_double(limits: Limits, seen: Seen, size: usize) -> bool
         }
         None => false,
     }
-}
-
-/// Whether a line that starts so can become a double within the limit of a line.
-pub fn is_double_begun(limits: Limits, front: &[u8]) -> bool
-    ensures { result ≡ made_by (bounds limits) is_double double_tails front.now }
-{
-    can_be_double(limits, read_all(front), front.len())
 }

@@ -1,40 +1,11 @@
-ghost use Rattle.std.specs.Prelude.{◌≡◌, ◌≤◌, ◌+◌, ◌*◌, ◌||◌, [], ◌∷◌, length, neg_ℤ, pos, is_some, Some, IfSome, bytes_eq};
-ghost use Rattle.resp_read.specs.Grammar.{fits, digits_after, at_most, natural, number, size, count, truth, is_end};
-ghost use Rattle.resp_read.specs.Parser.{line, number_begun, size_begun, count_begun, no_array_begun};
-ghost use Rattle.resp_read.specs.Limits.{bounds, AreAllowed};
+ghost use Rattle.std.specs.Prelude.{◌≡◌, ◌≤◌, ◌||◌, [], ◌∷◌, length, is_some, Some, IfSome, bytes_eq};
+ghost use Rattle.resp_read.specs.Grammar.{fits, natural, number, size, count, truth, is_end};
+ghost use Rattle.resp_read.specs.Parser.{line, size_begun, no_array_begun};
+ghost use Rattle.resp_read.specs.Limits.{bounds};
 ghost use Rattle.resp_read.specs.Digits.{greatest};
-ghost use Rattle.resp_read.specs.Parts.{line_at, IsWithin};
 
 use crate::digits::Digits;
 use crate::limits::Limits;
-
-/// Where the first line of some bytes ends: at a CR LF, at a CR that is the last byte, not yet, or never, because a CR
-/// stands before another byte.
-pub enum LineEnd {
-    Ended(usize),
-    Held(usize),
-    Unended,
-    Broken,
-}
-
-pub fn find_line(bytes: &[u8]) -> LineEnd
-    ensures line { line_at result bytes.now ≡ line bytes.now }
-    ensures within { IsWithin result bytes.now }
-{
-    let len = bytes.len();
-    for (i, b) in bytes.iter().enumerate() {
-        if *b == b'\r' {
-            if i + 1 == len {
-                return LineEnd::Held(i);
-            }
-            if bytes[i + 1] == b'\n' {
-                return LineEnd::Ended(i);
-            }
-            return LineEnd::Broken;
-        }
-    }
-    LineEnd::Unended
-}
 
 pub fn is_within(limits: Limits, line: &[u8]) -> bool
     ensures { result ≡ fits (bounds limits) line.now }
@@ -58,14 +29,6 @@ pub fn read_number(line: &[u8]) -> Option<i64>
 {
     let read = Digits::Empty.through(line);
     read.number()
-}
-
-/// Whether a line that starts so can become a number.
-pub fn is_number_begun(front: &[u8]) -> bool
-    ensures { result ≡ number_begun front.now }
-{
-    let read = Digits::Empty.through(front);
-    read.can_be_number()
 }
 
 /// A length that is at most `most`, or none for `-1`.
@@ -110,28 +73,6 @@ pub fn read_count(least: u64, most: u64, line: &[u8]) -> Option<u64>
             Some(n)
         }
         None => None,
-    }
-}
-
-/// Whether a line that starts so can become such a length, within the limit of a line.
-pub fn is_count_begun(limits: Limits, least: u64, most: u64, front: &[u8]) -> bool
-    requires allowed { AreAllowed limits }
-    requires most { most ≤ greatest }
-    requires digit { least ≤ 9 }
-    requires room { 11 * least ≤ most }
-    ensures { result ≡ count_begun (bounds limits) least (Some most) front.now }
-{
-    if front.is_empty() {
-        return true;
-    }
-    match read_natural(most, front) {
-        Some(n) => {
-            if n < least {
-                return front.len() < limits.line;
-            }
-            is_within(limits, front)
-        }
-        None => false,
     }
 }
 

@@ -1,18 +1,18 @@
-ghost use Rattle.std.specs.Prelude.{◌≡◌, [], length, OnOk, OnErr, IsOk, IsErr, IsTrue, ◌↔◌};
+ghost use Rattle.std.specs.Prelude.{◌≡◌, ◌+◌, ◌-◌, ◌*◌, ◌≤◌, ◌<◌, [], ◌++◌, length, OnOk, OnErr, IsOk, IsErr, IsTrue, ◌↔◌};
 ghost use Rattle.resp_read.specs.declared.reader.Health.TheVariants.{Sound, Malformed, NoMemory};
-ghost use Rattle.resp_read.specs.Reads.{IsProperPrefixWithin};
 ghost use Rattle.resp_read.specs.Limits.{default_limits, nearest_allowed, AreAllowed};
-ghost use Rattle.resp_read.specs.Reading.{kept_of, NextValue, NextFound};
+ghost use Rattle.resp_read.specs.State.{unseen};
+ghost use Rattle.resp_read.specs.Reading.{kept_of, NextValue, NextFound, Pumps, FailsAgain, joined, ReadsPieces};
 
-use crate::forms::{Input, Refusal};
-use crate::frames::Frame;
+use crate::course::Course;
+use crate::forms::Refusal;
 use crate::limits::Limits;
-use crate::waiting::Looked;
-use crate::{underway, waiting};
+use crate::tape::Steps;
 use containers::Bytes;
 use resp_value::Value;
 use std::alloc::{AllocError, Global};
-use std::marker::Model;
+use std::marker::{Brand, Model};
+use std::sync::ledger::{Blank, Ledger};
 use thiserror::Error;
 
 /// Whether a reader still reads.
@@ -50,49 +50,51 @@ impl From<AllocError> for ReadError {
 /// How many bytes of room a reader keeps for those to come.
 const KEPT_ROOM: usize = 65_536;
 
-/// Reads values from bytes that come in pieces. However they are cut, an aggregate goes on where it was,
-/// and a line that has not ended where it was looked at.
+/// Reads values from bytes that come in pieces. However they are cut, it goes on where it was: of the bytes that it holds it looks
+/// at each once, and copies each once at most.
 ///
 /// What it holds of a reply under way: the bytes fed that no value given was made of, and the values that were made of
 /// them and stand in aggregates that are not whole. The bytes go once they are no fewer than half of all that it holds,
 /// so these are at most twice those of the reply, in room that grows by doubling. Where a value was given and no more than
 /// a quarter of that room is in use, what is more than 65,536 bytes of it is given back.
-#[derive(Drop)]
 pub struct Reader {
-    bytes: Bytes,
+    course: Course,
     /// The bytes that were there at once at most, since room was last given back.
     room: usize,
-    /// Where the value that is being read begins.
-    at: usize,
-    /// Where the next value within it begins.
-    next: usize,
-    /// The aggregates that it stands in, the outermost first.
-    frames: Vec<Frame>,
-    /// Whether more bytes were wanted when it last looked.
-    waits: bool,
-    /// What is known of the line behind the first byte of that value.
-    looked: Looked,
+    /// How many of the bytes left were looked at when all were last pumped.
+    seen: usize,
     health: Health,
     limits: Limits,
 }
 
+impl Drop for Reader {
+    fn drop(self) {
+        let Reader {
+            course,
+            room: _,
+            seen: _,
+            health: _,
+            limits: _,
+        } = self;
+        drop(course);
+    }
+}
+
 impl Model for Reader {
-    ghost use Rattle.std.specs.Prelude.{drop};
     ghost use Rattle.resp_read.specs.State.{ReaderState};
+    ghost use Rattle.resp_read.specs.Courses.{rest_of, IsReading};
 
     ghost Value = { ReaderState };
 
-    ghost view = { λ r. record { health = r.health; rest = drop r.at r.bytes; limits = r.limits } };
+    ghost view = { λ r. record { health = r.health; rest = rest_of r.course; seen = r.seen; limits = r.limits } };
 
-    ghost use Rattle.resp_read.specs.Frames.{IsUnderway};
-
-    ghost invariant = { λ r. IsUnderway r.limits r.bytes r.at r.next r.frames.items r.looked r.health };
+    ghost invariant = { λ r. IsReading r.limits r.course r.seen r.health };
 }
 
 impl Reader {
     /// A reader that was fed nothing, with the default limits. Takes no memory.
     pub fn new(alloc: Global) -> Reader
-        ensures { result ≡ record { health = Sound; rest = []; limits = default_limits } }
+        ensures { result ≡ record { health = Sound; rest = []; seen = 0; limits = default_limits } }
     {
         Reader::within(alloc, Limits::default())
     }
@@ -105,26 +107,49 @@ impl Reader {
     /// Where replies may be nested that is much: to bound them further, compare `buffered_len` with a limit of your own.
     pub fn with_limits(alloc: Global, limits: Limits) -> Reader
         ensures { result
-            ≡ record { health = Sound; rest = []; limits = nearest_allowed limits } }
+            ≡ record { health = Sound; rest = []; seen = 0; limits = nearest_allowed limits } }
     {
         Reader::within(alloc, limits.nearest_allowed())
     }
 
     fn within(alloc: Global, limits: Limits) -> Reader
         requires { AreAllowed limits }
-        ensures { result ≡ record { health = Sound; rest = []; limits = limits } }
+        ensures { result ≡ record { health = Sound; rest = []; seen = 0; limits = limits } }
     {
         Reader {
-            bytes: Bytes::new(alloc),
+            course: Course::new(alloc),
             room: 0,
-            at: 0,
-            next: 0,
-            frames: Vec::new(alloc),
-            waits: false,
-            looked: Looked::at_nothing(),
+            seen: 0,
             health: Health::Sound,
             limits,
         }
+    }
+
+    /// Feeds pieces to a new reader, with the allowed limits that are nearest to these, and appends every value that is whole.
+    /// However the text is cut, each of its bytes takes two steps at most.
+    ///
+    /// # Errors
+    /// `Parse`: what follows the values appended begins no value within the limits. `NoMemory`: memory was refused; some of the
+    /// values may have been appended.
+    pub fn from_pieces<L: Ledger>(
+        alloc: Global,
+        limits: Limits,
+        pieces: &[Bytes],
+        out: &mut Vec<Value>,
+        steps: &mut Steps<L>,
+    ) -> Result<Reader, ReadError>
+        ensures reads { ReadsPieces (nearest_allowed limits) (joined pieces.now) out.old.items result out.new.items }
+        ensures costs { steps.new ≤ steps.old + 2 * length (joined pieces.now) }
+    {
+        let within = limits.nearest_allowed();
+        let mut reader = Reader::within(alloc, within);
+        for piece in pieces {
+            match reader.pump(alloc, piece.as_slice(), out, steps) {
+                Ok(()) => {}
+                Err(error) => return Err(error),
+            }
+        }
+        Ok(reader)
     }
 
     /// What it takes at most.
@@ -138,37 +163,31 @@ impl Reader {
     pub fn buffered_len(&self) -> usize
         ensures { result ≡ length self.now.rest }
     {
-        self.bytes.len() - self.at
+        self.course.left()
     }
 
     /// Forgets the bytes of the values given, where they are no fewer than the others: so no more bytes are ever moved than
     /// are forgotten.
     fn forget_given(&mut self)
+        requires { self.old.health ≡ Sound }
         ensures { self.new ≡ self.old }
     {
-        if self.at >= self.bytes.len() - self.at {
-            self.bytes.drop_front(self.at);
-            self.next -= self.at;
-            self.at = 0;
+        if self.course.at >= self.course.left() {
+            self.course.forget_given();
         }
     }
 
     /// Gives room back where it is much, and no more than a quarter of it is in use: so less is moved than was read.
     fn give_room_back(&mut self, alloc: Global)
+        requires { self.old.health ≡ Sound }
         ensures { self.new ≡ self.old }
     {
-        let left = self.bytes.len() - self.at;
+        let left = self.course.left();
         if self.room <= KEPT_ROOM || left > self.room / 4 {
             return;
         }
-        match Bytes::from_slice(alloc, &self.bytes.as_slice()[self.at..]) {
-            Ok(bytes) => {
-                self.bytes = bytes;
-                self.room = left;
-                self.next -= self.at;
-                self.at = 0;
-            }
-            Err(_) => {}
+        if self.course.give_room_back(alloc) {
+            self.room = left;
         }
     }
 
@@ -188,9 +207,9 @@ impl Reader {
             Health::Malformed => Ok(()),
             Health::Sound => {
                 self.forget_given();
-                match self.bytes.extend_from_slice(piece) {
+                match self.course.feed(piece) {
                     Ok(()) => {
-                        self.room = self.room.max(self.bytes.len());
+                        self.room = self.room.max(self.course.tape.len());
                         Ok(())
                     }
                     Err(error) => {
@@ -199,25 +218,6 @@ impl Reader {
                     }
                 }
             }
-        }
-    }
-
-    /// Whether a line that had not ended still has not, and can become a value. Looks at none of its bytes again.
-    fn waits_on(&mut self) -> bool
-        ensures same { self.new ≡ self.old }
-        ensures short { IsTrue result → self.old.health ≡ Sound
-            → IsProperPrefixWithin self.old.limits self.old.rest }
-    {
-        let left = &self.bytes.as_slice()[self.next..];
-        if !self.waits || left.is_empty() {
-            return false;
-        }
-        match waiting::look_on(self.limits, left[0], self.looked, &left[1..]) {
-            Some(looked) => {
-                self.looked = looked;
-                true
-            }
-            None => false,
         }
     }
 
@@ -233,39 +233,31 @@ impl Reader {
         match self.health {
             Health::NoMemory => Err(ReadError::NoMemory),
             Health::Malformed => Err(ReadError::Parse),
-            Health::Sound => {
-                if self.waits_on() {
-                    return Ok(None);
-                }
-                self.read_on(alloc)
-            }
+            Health::Sound => self.read_on::<Brand>(alloc, Blank::new(1)),
         }
     }
 
-    /// The same of a sound reader, from where what it reads next begins.
-    fn read_on(&mut self, alloc: Global) -> Result<Option<Value>, ReadError>
-        requires { self.old.health ≡ Sound }
+    /// The same of a sound reader. Its steps are of the ledger that `blank` is to be.
+    fn read_on<L: Ledger>(
+        &mut self,
+        alloc: Global,
+        blank: Blank,
+    ) -> Result<Option<Value>, ReadError>
+        requires name { blank.name ≡ L.name }
+        requires parts { blank.parts ≡ L.parts }
+        requires some { 0 < blank.parts }
+        requires sound { self.old.health ≡ Sound }
         ensures value { NextValue result self.old self.new }
         ensures found { NextFound result self.old self.new }
     {
-        let mut input = Input {
-            left: &self.bytes.as_slice()[self.next..],
-        };
-        match underway::read_on(alloc, self.limits, &mut self.frames, &mut input) {
+        let mut steps = Steps::<L>::new(blank);
+        match self.course.next(alloc, self.limits, &mut steps) {
             Ok(value) => {
-                self.at = self.bytes.len() - input.left.len();
-                self.next = self.at;
-                self.waits = false;
-                self.looked = Looked::at_nothing();
+                self.seen = 0;
                 self.give_room_back(alloc);
                 Ok(Some(value))
             }
-            Err(Refusal::Short) => {
-                self.waits = true;
-                self.looked = Looked::at_nothing();
-                self.next = self.bytes.len() - input.left.len();
-                Ok(None)
-            }
+            Err(Refusal::Short) => Ok(None),
             Err(Refusal::Bad) => {
                 self.health = Health::Malformed;
                 Err(ReadError::Parse)
@@ -274,6 +266,67 @@ impl Reader {
                 self.health = Health::NoMemory;
                 Err(ReadError::NoMemory)
             }
+        }
+    }
+
+    /// Adds bytes to those not yet read, and appends every value that is whole then. However the bytes are cut, each takes two
+    /// steps at most: one to look at it, and one to copy it.
+    ///
+    /// # Errors
+    /// `Parse`: what is left behind the values appended begins no value within the limits, whatever follows. `NoMemory`: memory
+    /// was refused, now or before; some of the values may have been appended. After either the reader reads no further.
+    pub fn pump<L: Ledger>(
+        &mut self,
+        alloc: Global,
+        piece: &[u8],
+        out: &mut Vec<Value>,
+        steps: &mut Steps<L>,
+    ) -> Result<(), ReadError>
+        ensures pumps { self.old.health ≡ Sound
+            → Pumps self.old.limits (self.old.rest ++ piece.now) out.old.items result self.new out.new.items }
+        ensures failed { (self.old.health ≡ Sound → ⊥)
+            → FailsAgain result self.old self.new out.old.items out.new.items }
+        ensures costs { steps.new + 2 * unseen self.new
+            ≤ steps.old + 2 * unseen self.old + 2 * length piece.now }
+    {
+        match self.health {
+            Health::NoMemory => Err(ReadError::NoMemory),
+            Health::Malformed => Err(ReadError::Parse),
+            Health::Sound => match self.feed(piece) {
+                Ok(()) => self.read_all(alloc, out, steps),
+                Err(_) => Err(ReadError::NoMemory),
+            },
+        }
+    }
+
+    /// Appends every value that is whole.
+    fn read_all<L: Ledger>(
+        &mut self,
+        alloc: Global,
+        out: &mut Vec<Value>,
+        steps: &mut Steps<L>,
+    ) -> Result<(), ReadError>
+        requires { self.old.health ≡ Sound }
+        ensures pumps { Pumps self.old.limits self.old.rest out.old.items result self.new out.new.items }
+        ensures costs { steps.new + 2 * unseen self.new ≤ steps.old + 2 * unseen self.old }
+    {
+        match self.course.next_all(alloc, self.limits, out, steps) {
+            Ok(()) => {
+                self.seen = self.course.looked_at();
+                self.give_room_back(alloc);
+                Ok(())
+            }
+            Err(Refusal::Bad) => {
+                self.seen = self.course.left();
+                self.health = Health::Malformed;
+                Err(ReadError::Parse)
+            }
+            Err(Refusal::NoMemory) => {
+                self.seen = self.course.left();
+                self.health = Health::NoMemory;
+                Err(ReadError::NoMemory)
+            }
+            Err(Refusal::Short) => unreachable!(),
         }
     }
 

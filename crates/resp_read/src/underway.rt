@@ -1,13 +1,16 @@
 ghost use Rattle.std.specs.Prelude.{◌≡◌, ◌∷◌, [], ◌++◌, OnOk};
-ghost use Rattle.resp_read.specs.Frames.{IsPutInPlace, IsPut, ReadsOn};
+ghost use Rattle.resp_read.specs.Frames.{IsPutInPlace, IsPut};
 ghost use Rattle.resp_read.specs.Limits.{AreAllowed};
+ghost use Rattle.resp_read.specs.Places.{IsPlace, ReadsFrom, StaysPlace, Costs};
 
-use crate::forms::{Input, Refusal};
+use crate::forms::Refusal;
 use crate::frames::{Begun, Frame};
-use crate::heads;
 use crate::limits::Limits;
+use crate::place::{self, Place};
+use crate::tape::{Steps, Tape};
 use resp_value::Value;
 use std::alloc::{AllocError, Global};
+use std::sync::ledger::Ledger;
 
 /// One more aggregate, the innermost.
 fn hold(frames: &mut Vec<Frame>, frame: Frame) -> Result<(), AllocError>
@@ -52,31 +55,39 @@ fn put(alloc: Global, frames: &mut Vec<Frame>, value: Value) -> Result<Option<Va
     }
 }
 
-/// Reads on within these aggregates, the outermost first. `Short`: `input` is where the next value begins.
-pub fn read_on(
+/// Reads on from a place within these aggregates, the outermost first. `Short`: what was looked at is noted at the place.
+pub fn read_from<L: Ledger>(
     alloc: Global,
     limits: Limits,
     frames: &mut Vec<Frame>,
-    input: &mut Input<'_>,
+    tape: &Tape,
+    place: &mut Place,
+    steps: &mut Steps<L>,
 ) -> Result<Value, Refusal>
-    requires { AreAllowed limits }
-    ensures { ReadsOn limits frames.old.items input.old.left.now
-        result frames.new.items input.new.left.now }
+    requires allowed { AreAllowed limits }
+    requires place { IsPlace tape.now place.old }
+    ensures reads { ReadsFrom limits tape.now frames.old.items place.old
+        result frames.new.items place.new }
+    ensures place { StaysPlace tape.now result place.new }
+    ensures costs { Costs tape.now place.old steps.old result place.new steps.new }
 {
     loop {
-        let mut ahead = Input { left: input.left };
         let around = frames.as_slice().len();
-        let begun = match heads::begin(alloc, limits, around, &mut ahead) {
-            Ok(begun) => begun,
+        let begun = match place::advance(alloc, limits, around, tape, place, steps) {
+            Ok(Some(begun)) => begun,
+            Ok(None) => continue,
             Err(refusal) => return Err(refusal),
         };
-        input.left = ahead.left;
         match begun {
-            Begun::Whole(value) => match put(alloc, frames, value)? {
-                Some(outermost) => return Ok(outermost),
-                None => {}
+            Begun::Whole(value) => match put(alloc, frames, value) {
+                Ok(Some(outermost)) => return Ok(outermost),
+                Ok(None) => {}
+                Err(_) => return Err(Refusal::NoMemory),
             },
-            Begun::Within(frame) => hold(frames, frame)?,
+            Begun::Within(frame) => match hold(frames, frame) {
+                Ok(()) => {}
+                Err(_) => return Err(Refusal::NoMemory),
+            },
         }
     }
 }

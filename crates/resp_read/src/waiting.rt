@@ -1,18 +1,20 @@
-ghost use Rattle.std.specs.Prelude.{◌≡◌, ◌≤◌, ◌∷◌, ℕ, length, take, IfSome, IsTrue};
-ghost use Rattle.resp_read.specs.Grammar.{is_double};
-ghost use Rattle.resp_read.specs.Parser.{short, unended, line, number_begun, big_begun, made_by, double_tails};
-ghost use Rattle.resp_read.specs.Limits.{reading};
-ghost use Rattle.resp_read.specs.Digits.{digits_run, AreKept};
+ghost use Rattle.std.specs.Prelude.{◌≡◌, ◌≤◌, ◌*◌, ℕ, List, length, Some};
+ghost use Rattle.resp_read.specs.Parser.{line, size_begun, count_begun};
+ghost use Rattle.resp_read.specs.Limits.{bounds, AreAllowed};
+ghost use Rattle.resp_read.specs.Parts.{line_form};
+ghost use Rattle.resp_read.specs.Stages.{GoesOn};
+ghost use Rattle.resp_read.specs.Digits.{greatest, digits_run, AreKept};
 ghost use Rattle.resp_read.specs.Doubles.{run};
-ghost use Rattle.resp_read.specs.Waiting.{IsFrontOf, IsLooked};
+ghost use Rattle.resp_read.specs.Waiting.{IsLooked, IsJudged};
 ghost use Rattle.resp_read.specs.declared.digits.Digits.TheVariants.{Empty};
 ghost use Rattle.resp_read.specs.declared.decimals.Seen.TheVariants.{Nothing};
 
-use crate::decimals;
 use crate::decimals::Seen;
 use crate::digits::Digits;
+use crate::forms::OneLine;
 use crate::limits::Limits;
-use memchr::memchr;
+use crate::stages::Head;
+use crate::{decimals, lines};
 
 /// What was read of a line that has not ended.
 #[derive(Clone, Copy)]
@@ -31,17 +33,6 @@ pub struct Looked {
 }
 
 impl Looked {
-    /// No byte was looked at.
-    pub fn at_nothing() -> Looked
-        ensures count { result.count ≡ 0 }
-        ensures front { result.front ≡ Front.Text }
-    {
-        Looked {
-            count: 0,
-            front: Front::Text,
-        }
-    }
-
     /// The digits of the whole line.
     fn digits(self, text: &[u8]) -> Digits
         requires { IsLooked self text.now }
@@ -68,30 +59,56 @@ impl Looked {
     }
 }
 
-/// Whether no line ends in these bytes, of which so much was looked at.
-fn is_unended(looked: Looked, text: &[u8]) -> bool
-    requires { IsLooked looked text.now }
-    ensures { IsTrue result → line text.now ≡ unended text.now }
+/// Whether a line with these digits can become a length that is at most `most`, or `-1`.
+fn can_be_size(most: u64, read: Digits, text: &[u8]) -> bool
+    requires most { most ≤ greatest }
+    requires read { read ≡ digits_run Empty text.now }
+    ensures { result ≡ size_begun (Some most) text.now }
 {
-    match memchr(b'\r', &text[looked.count..]) {
-        None => true,
-        Some(_) => false,
+    if text.len() <= 2 {
+        return lines::is_size_begun(most, text);
+    }
+    read.natural(most).is_some()
+}
+
+/// Whether a line with these digits can become a length between these two, within the limit of a line.
+fn can_be_count(limits: Limits, least: u64, most: u64, read: Digits, text: &[u8]) -> bool
+    requires allowed { AreAllowed limits }
+    requires most { most ≤ greatest }
+    requires digit { least ≤ 9 }
+    requires room { 11 * least ≤ most }
+    requires read { read ≡ digits_run Empty text.now }
+    ensures { result ≡ count_begun (bounds limits) least (Some most) text.now }
+{
+    if text.is_empty() {
+        return true;
+    }
+    match read.natural(most) {
+        Some(n) => {
+            if n < least {
+                return text.len() < limits.line;
+            }
+            lines::is_within(limits, text)
+        }
+        None => false,
     }
 }
 
-/// What is read of a line that has not ended and can become a value of the form that begins with `first`; or none, where
-/// that is to be found out in another way.
-fn front_of(limits: Limits, first: u8, looked: Looked, text: &[u8]) -> Option<Front>
-    requires looked { IsLooked looked text.now }
-    requires fits { length text.now ≤ limits.line }
-    requires unended { line text.now ≡ unended text.now }
-    ensures { IfSome result (λ front. IsFrontOf front text.now
-        × ((depth : ℕ) → reading limits depth (first ∷ text.now) ≡ short)) }
+fn text_if(can_be: bool) -> Option<Front>
+    ensures { (l : List ℕ) → IsJudged can_be l result }
 {
-    match first {
-        b'+' => Some(Front::Text),
-        b'-' => Some(Front::Text),
-        b':' => {
+    if can_be { Some(Front::Text) } else { None }
+}
+
+/// What is read of a line that can become a value of this form.
+fn front_of_value(limits: Limits, form: OneLine, looked: Looked, text: &[u8]) -> Option<Front>
+    requires { IsLooked looked text.now }
+    ensures { IsJudged ((line_form (bounds limits) form).begun text.now) text.now result }
+{
+    match form {
+        OneLine::Simple => Some(Front::Text),
+        OneLine::Error => Some(Front::Text),
+        OneLine::Number => {
             let digits = looked.digits(text);
             if digits.can_be_number() {
                 Some(Front::Numeral(digits))
@@ -99,15 +116,9 @@ fn front_of(limits: Limits, first: u8, looked: Looked, text: &[u8]) -> Option<Fr
                 None
             }
         }
-        b'(' => {
-            let digits = looked.digits(text);
-            if digits.can_be_some() {
-                Some(Front::Numeral(digits))
-            } else {
-                None
-            }
-        }
-        b',' => {
+        OneLine::Null => text_if(text.is_empty()),
+        OneLine::Boolean => text_if(lines::is_truth_begun(text)),
+        OneLine::Double => {
             let seen = looked.double(text);
             if decimals::can_be_double(limits, seen, text.len()) {
                 Some(Front::Double(seen))
@@ -115,25 +126,76 @@ fn front_of(limits: Limits, first: u8, looked: Looked, text: &[u8]) -> Option<Fr
                 None
             }
         }
-        _ => None,
+        OneLine::Big => {
+            let digits = looked.digits(text);
+            if digits.can_be_some() {
+                Some(Front::Numeral(digits))
+            } else {
+                None
+            }
+        }
+        OneLine::NoArray => text_if(lines::is_no_array_begun(text)),
     }
 }
 
-/// Looks at the bytes of a line that were not looked at. What is known of it then, if it has not ended and can become a
-/// value of the form that begins with `first`.
-pub fn look_on(limits: Limits, first: u8, looked: Looked, text: &[u8]) -> Option<Looked>
-    requires { IsLooked looked text.now }
-    ensures { IfSome result (λ known. IsLooked known text.now
-        × ((depth : ℕ) → reading limits depth (first ∷ text.now) ≡ short)) }
+/// What is read of a line that can become a length that is at most `most`, or `-1`.
+fn front_of_size(most: u64, looked: Looked, text: &[u8]) -> Option<Front>
+    requires most { most ≤ greatest }
+    requires looked { IsLooked looked text.now }
+    ensures { IsJudged (size_begun (Some most) text.now) text.now result }
 {
-    if text.len() > limits.line || !is_unended(looked, text) {
-        return None;
+    let digits = looked.digits(text);
+    if can_be_size(most, digits, text) {
+        Some(Front::Numeral(digits))
+    } else {
+        None
     }
-    match front_of(limits, first, looked, text) {
-        Some(front) => Some(Looked {
-            count: text.len(),
-            front,
-        }),
-        None => None,
+}
+
+/// What is read of a line that can become a length between these two, within the limit of a line.
+fn front_of_count(
+    limits: Limits,
+    least: u64,
+    most: u64,
+    looked: Looked,
+    text: &[u8],
+) -> Option<Front>
+    requires allowed { AreAllowed limits }
+    requires most { most ≤ greatest }
+    requires digit { least ≤ 9 }
+    requires room { 11 * least ≤ most }
+    requires looked { IsLooked looked text.now }
+    ensures { IsJudged (count_begun (bounds limits) least (Some most) text.now) text.now result }
+{
+    let digits = looked.digits(text);
+    if can_be_count(limits, least, most, digits, text) {
+        Some(Front::Numeral(digits))
+    } else {
+        None
+    }
+}
+
+/// What is read of a line that has not ended, where it can become a line of this head.
+#[tactic(auto, using(crate::proofs::HeadLaws::value_goes_on))]
+pub fn front_of_head(limits: Limits, head: Head, looked: Looked, text: &[u8]) -> Option<Front>
+    requires allowed { AreAllowed limits }
+    requires looked { IsLooked looked text.now }
+    requires fits { length text.now ≤ limits.line }
+    ensures { GoesOn (bounds limits) head text.now result }
+{
+    let bulk = limits.bulk as u64;
+    let count = limits.count as u64;
+    match head {
+        Head::Value(form) => front_of_value(limits, form, looked, text),
+        Head::Bulk => front_of_size(bulk, looked, text),
+        Head::BulkError => front_of_count(limits, 0, bulk, looked, text),
+        Head::Verbatim => front_of_count(limits, 4, bulk, looked, text),
+        Head::Array => front_of_size(count, looked, text),
+        Head::Set => front_of_count(limits, 0, count, looked, text),
+        Head::Map => front_of_count(limits, 0, count, looked, text),
+        Head::Push => front_of_count(limits, 1, count, looked, text),
+        Head::Attributes => front_of_count(limits, 0, count, looked, text),
+        Head::Kind(_) => Some(Front::Text),
+        Head::KindLength(_) => front_of_count(limits, 0, bulk, looked, text),
     }
 }

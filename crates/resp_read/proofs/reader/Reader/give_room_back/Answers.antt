@@ -1,9 +1,14 @@
-use Rattle.std.proofs.Common.{ap, ◌∙◌, drop}
-use Rattle.std.proofs.lemmas.List.{take_rest}
-use Rattle.resp_read.proofs.FrameLaws.{moved_up}
+use Rattle.resp_read.proofs.ReaderLaws.{reading_still}
 use Rattle.resp_read.proofs.reader.Reader.give_room_back.Goals as goal
 
 pub invariant_of-self : goal.invariant_of-self
 invariant_of-self c =
     let r = c.self.inside in
-    moved_up r.limits r.bytes r.at r.next r.frames.items r.looked r.health c.self.invariant c.in-Ok.bytes (c.in-Ok.ensures ∙ take_rest c.as_slice.result.now r.at ∙ ap (drop r.at) c.as_slice.ensures)
+    let h = c.give_room_back.ensures in
+    reading_still r.limits r.course c.give_room_back.new.self r.seen r.health c.self.invariant h.course h.rest h.unread
+
+pub invariant_of-self-else-give_room_back : goal.invariant_of-self-else-give_room_back
+invariant_of-self-else-give_room_back c =
+    let r = c.self.inside in
+    let h = c.give_room_back.ensures in
+    reading_still r.limits r.course c.give_room_back.new.self r.seen r.health c.self.invariant h.course h.rest h.unread

@@ -1,81 +1,55 @@
-use Rattle.std.proofs.Common.{◌≡◌, ℕ, ◌-◌, List, length, take, drop, inr, sym, ap, ◌∙◌, subst}
-use Rattle.std.proofs.lemmas.List.{take_rest}
+use Rattle.std.proofs.Common.{inr, sym, ap, ◌∙◌, subst}
 use Rattle.resp_value.specs.View.{data_of}
 use Rattle.resp_read.specs.Parser.{read}
 use Rattle.resp_read.specs.State.{ReaderState}
-use Rattle.resp_read.specs.Frames.{IsUnderway}
-use Rattle.resp_read.specs.declared.reader.Health.TheVariants.{Sound, Malformed}
+use Rattle.resp_read.specs.declared.reader.Health.TheVariants.{Malformed}
 use Rattle.resp_read.specs.Limits.{bounds, reading, AreAllowed}
 use Rattle.resp_read.proofs.GrammarLaws.{read_where_found}
 use Rattle.resp_read.proofs.WithinLaws.{prefix_from_short, malformed_from_bad}
-use Rattle.resp_read.proofs.WaitLaws.{known_at_nothing}
-use Rattle.resp_read.proofs.FrameLaws.{given, waits, spoiled, underway_still}
 use Rattle.resp_read.proofs.reader.Reader.read_on.Goals as goal
 
--- the text that was read on is what the bytes have left
-text_is : (slice bytes : List ℕ) (place : ℕ) → slice ≡ bytes → take (length slice - place) (drop place slice) ≡ drop place bytes
-text_is slice bytes place e = take_rest slice place ∙ ap (drop place) e
-
 pub returns-in-Ok-clause-found : goal.returns-in-Ok-clause-found
-returns-in-Ok-clause-found c =
-    let r = c.self.inside in
-    let left = c.read_on.new.input.left.now in
+returns-in-Ok-clause-found g c =
+    let now = c.args.self.now in
     let v = data_of c.in-Ok.value in
-    read_where_found (bounds c.args.self.now.limits) c.args.self.now.limits.depth c.args.self.now.rest v _ (
+    read_where_found (bounds now.limits) now.limits.depth now.rest v _ (
     ap (λ (p : ReaderState). reading p.limits p.limits.depth p.rest) (sym c.self.view_is)
-    ∙ given r.limits r.bytes r.at r.next r.frames.items r.looked r.health c.self.invariant (ap (λ (p : ReaderState). p.health) c.self.view_is ∙ c.requires) _ (text_is c.as_slice.result.now r.bytes r.next c.as_slice.ensures) c.read_on.new.frames.items left c.in-Ok.value c.in-Ok.ensures
-    ∙ ap (λ n. read v (drop (n - length left) r.bytes)) (sym c.len.ensures)
+    ∙ c.in-Ok.ensures.reads.1
     ∙ ap (λ (p : ReaderState). read v p.rest) (sym c.give_room_back.ensures)
     )
 
 pub returns-in-Ok-clause-value : goal.returns-in-Ok-clause-value
-returns-in-Ok-clause-value c =
-    let h : c.self.inside.health ≡ c.args.self.now.health = ap (λ (p : ReaderState). p.health) c.self.view_is in (
-      c.requires,
-      returns-in-Ok-clause-found c,
-      ap (λ (p : ReaderState). p.health) c.give_room_back.ensures ∙ (ap (λ (p : ReaderState). p.health) c.self.view_is ∙ c.requires),
-      ap (λ (p : ReaderState). p.limits) c.give_room_back.ensures ∙ ap (λ (p : ReaderState). p.limits) c.self.view_is,
-    )
-
-pub invariant_of-self-in-Err-Short : goal.invariant_of-self-in-Err-Short
-invariant_of-self-in-Err-Short c =
-    let r = c.self.inside in
-    let left = c.read_on.new.input.left.now in
-    let h = rw c.in-Err-Short.field-0-is at c.in-Err-Short.ensures in
-    let nothing = c.at_nothing-self-inside-in-Err-Short.result in
-    subst (λ n. IsUnderway r.limits r.bytes r.at (n - length left) c.read_on.new.frames.items nothing r.health) (sym c.len-in-Err-Short.ensures)
-    (underway_still r.limits r.bytes r.at r.next r.frames.items r.looked r.health c.self.invariant (ap (λ (p : ReaderState). p.health) c.self.view_is ∙ c.requires) _ (text_is c.as_slice.result.now r.bytes r.next c.as_slice.ensures) c.read_on.new.frames.items left nothing (known_at_nothing nothing c.at_nothing-self-inside-in-Err-Short.ensures.count c.at_nothing-self-inside-in-Err-Short.ensures.front) h)
+returns-in-Ok-clause-value g c = (
+  c.requires.sound,
+  returns-in-Ok-clause-found g c,
+  ap (λ (p : ReaderState). p.health) c.give_room_back.ensures ∙ ap (λ (p : ReaderState). p.health) c.self.view_is ∙ c.requires.sound,
+  ap (λ (p : ReaderState). p.limits) c.give_room_back.ensures ∙ ap (λ (p : ReaderState). p.limits) c.self.view_is,
+)
 
 pub returns-in-Err-Short-clause-found : goal.returns-in-Err-Short-clause-found
-returns-in-Err-Short-clause-found c =
-    let r = c.self.inside in
-    let allowed : AreAllowed c.args.self.now.limits = subst (λ (p : ReaderState). AreAllowed p.limits) c.self.view_is c.self.invariant.allowed in
-    let h = rw c.in-Err-Short.field-0-is at c.in-Err-Short.ensures in
-    prefix_from_short c.args.self.now.limits allowed c.args.self.now.rest (
-    ap (λ (p : ReaderState). reading p.limits p.limits.depth p.rest) (sym c.self.view_is)
-    ∙ waits r.limits r.bytes r.at r.next r.frames.items r.looked r.health c.self.invariant (ap (λ (p : ReaderState). p.health) c.self.view_is ∙ c.requires) _ (text_is c.as_slice.result.now r.bytes r.next c.as_slice.ensures) c.read_on.new.frames.items c.read_on.new.input.left.now h
-    )
+returns-in-Err-Short-clause-found g c =
+    let now = c.args.self.now in
+    let allowed : AreAllowed now.limits = subst (λ (p : ReaderState). AreAllowed p.limits) c.self.view_is c.self.invariant.allowed in
+    let h = rw c.in-Err-Short.field-0-is at c.in-Err-Short.ensures.reads in
+    prefix_from_short now.limits allowed now.rest (ap (λ (p : ReaderState). reading p.limits p.limits.depth p.rest) (sym c.self.view_is) ∙ h.2)
 
 pub returns-in-Err-Short-clause-value : goal.returns-in-Err-Short-clause-value
-returns-in-Err-Short-clause-value c =
-    let h : c.self.inside.health ≡ c.args.self.now.health = ap (λ (p : ReaderState). p.health) c.self.view_is in
-    (c.requires, returns-in-Err-Short-clause-found c, c.self.view_is)
-
-found_bad : goal.returns-in-Err-Bad-clause-found
-found_bad c = λ sound.
+returns-in-Err-Short-clause-value g c =
     let r = c.self.inside in
-    let allowed : AreAllowed c.args.self.now.limits = subst (λ (p : ReaderState). AreAllowed p.limits) c.self.view_is c.self.invariant.allowed in
-    let h = rw c.in-Err-Bad.field-0-is at c.in-Err-Bad.ensures in
-    malformed_from_bad c.args.self.now.limits allowed c.args.self.now.rest (
-    ap (λ (p : ReaderState). reading p.limits p.limits.depth p.rest) (sym c.self.view_is)
-    ∙ spoiled r.limits r.bytes r.at r.next r.frames.items r.looked r.health c.self.invariant (ap (λ (p : ReaderState). p.health) c.self.view_is ∙ c.requires) _ (text_is c.as_slice.result.now r.bytes r.next c.as_slice.ensures) c.read_on.new.frames.items c.read_on.new.input.left.now h
-    )
+    let h = rw c.in-Err-Short.field-0-is at c.in-Err-Short.ensures.reads in
+    (c.requires.sound, returns-in-Err-Short-clause-found g c, (λ j. record { health = r.health; rest = h.1 j; seen = r.seen; limits = r.limits }) ∙ c.self.view_is)
 
 pub returns-in-Err-Bad-clause-found : goal.returns-in-Err-Bad-clause-found
-returns-in-Err-Bad-clause-found c = found_bad c
+returns-in-Err-Bad-clause-found g c = λ sound.
+    let now = c.args.self.now in
+    let allowed : AreAllowed now.limits = subst (λ (p : ReaderState). AreAllowed p.limits) c.self.view_is c.self.invariant.allowed in
+    let h = rw c.in-Err-Bad.field-0-is at c.in-Err-Bad.ensures.reads in
+    malformed_from_bad now.limits allowed now.rest (ap (λ (p : ReaderState). reading p.limits p.limits.depth p.rest) (sym c.self.view_is) ∙ h.1)
 
 pub returns-in-Err-Bad-clause-value : goal.returns-in-Err-Bad-clause-value
-returns-in-Err-Bad-clause-value c =
-    let h : c.self.inside.health ≡ c.args.self.now.health = ap (λ (p : ReaderState). p.health) c.self.view_is in
-    let sound : c.args.self.now.health ≡ Sound = c.requires in
-    (inr (sound, found_bad c sound), ap (λ (p : ReaderState). record p { health = Malformed }) c.self.view_is)
+returns-in-Err-Bad-clause-value g c =
+    let r = c.self.inside in
+    let h = rw c.in-Err-Bad.field-0-is at c.in-Err-Bad.ensures.reads in (
+      inr (c.requires.sound, returns-in-Err-Bad-clause-found g c c.requires.sound),
+      (λ j. record { health = Malformed; rest = h.0 j; seen = r.seen; limits = r.limits }) ∙ ap (λ (p : ReaderState). record p { health = Malformed }) c.self.view_is,
+    )
