@@ -5,4 +5,4 @@ use Rattle.std.specs.Prelude.{ℕ, ◌-◌, ◌*◌, ◌/◌, ◌^◌, nat_lt, m
 -- expired before
 abbrev pub refresh_threshold : ℕ → ℕ → ℕ → ℕ → Option ℕ
 refresh_threshold received expires num den =
-  if nat_lt expires received then None else Some (min ((expires - received) * num / den) (2 ^ 64 - 1))
+    if nat_lt expires received then None else Some (min ((expires - received) * num / den) (2 ^ 64 - 1))

@@ -1,4 +1,4 @@
-ghost use Rattle.std.specs.Prelude.{List, Option};
+ghost use Rattle.std.specs.Prelude.{◌≡◌, List, Option, IfOk};
 ghost use Rattle.credentials.specs.Stream.{Gave, Told};
 
 use crate::basic_auth::BasicAuth;
@@ -34,6 +34,10 @@ pub trait CredsSource {
 pub trait StreamingCredentialsProvider {
     type Source: CredsSource;
 
+    // What is to come of a new source, where that is told.
+    ghost coming: { Self → Option (List Told) };
+
     /// A source of its own. Only want of memory is refused.
-    fn subscribe(&mut self) -> Result<Self::Source, AllocError>;
+    fn subscribe(&mut self) -> Result<Self::Source, AllocError>
+        ensures { IfOk result (λ source. Self.Source.left source ≡ coming self.old) };
 }
