@@ -1,4 +1,4 @@
-//! Addresses, setups and replies to them, each with the proof of what it comes to.
+//! Addresses, setups and replies to them, and credentials with their renewal, each with the proof of what it comes to.
 #![tactic(auto)]
 
 ghost use Rattle.std.specs.Prelude.{◌≡◌, ◌≢◌, ◌<◌, ℕ, Bool, true, false, List, [], ◌∷◌, length, codes, Some, None, pos};
@@ -10,8 +10,11 @@ ghost use Rattle.connection_info.specs.declared.protocol.ProtocolVersion.TheVari
 ghost use Rattle.connection_info.specs.Address.{address_of};
 ghost use Rattle.connection_info.specs.Written.{url_of, ReadsBack};
 ghost use Rattle.connection_setup.specs.declared.judgement.SetupResult.TheVariants.{Ready, RepeatWithoutUser, Failed};
-ghost use Rattle.connection_setup.specs.Setup.{pipeline_of, setup};
+ghost use Rattle.connection_setup.specs.Setup.{opening, pipeline_of, setup};
 ghost use Rattle.connection_setup.specs.Judgement.{judged};
+ghost use Rattle.credentials.specs.Message.{auth_bytes};
+ghost use Rattle.credentials.specs.Refresh.{default_refresh};
+ghost use Rattle.credentials.specs.Threshold.{refresh_threshold};
 ghost use Rattle.connection_examples.specs.Known.{an_error, at, counted, plain, place, secured, with_name};
 
 /// Does nothing. Its contract: these texts are these addresses.
@@ -65,4 +68,31 @@ pub fn these_are_judged()
         → judged (setup (plain RESP3) true) (error an_error ∷ replies) ≡ Failed (Server an_error) }
     ensures library { judged (setup (plain RESP3) true) (okay ∷ error an_error ∷ error counted ∷ [])
         ≡ Ready }
+{}
+
+/// Does nothing. Its contract: how long after they came credentials are renewed, in seconds of these moments.
+pub fn these_are_renewed()
+    ensures hour { refresh_threshold 0 3600 4 5 ≡ Some 2880 }
+    ensures no_later { refresh_threshold 0 3600 4 5 ≢ Some 2881 }
+    ensures by_default { refresh_threshold 1000 4600 default_refresh.expiration_refresh_ratio.0
+        default_refresh.expiration_refresh_ratio.1 ≡ Some 2880 }
+    ensures rounded_down { refresh_threshold 0 7 1 2 ≡ Some 3 }
+    ensures at_once { refresh_threshold 100 100 4 5 ≡ Some 0 }
+    ensures expired { refresh_threshold 101 100 4 5 ≡ None }
+    ensures greatest { refresh_threshold 0 18_446_744_073_709_551_615 1 1
+        ≡ Some 18_446_744_073_709_551_615 }
+    ensures saturated { refresh_threshold 0 18_446_744_073_709_551_615 2 1
+        ≡ Some 18_446_744_073_709_551_615 }
+{}
+
+/// Does nothing. Its contract: the bytes that tell these credentials, which are those of a setup of the older protocol with
+/// the same user and password.
+pub fn these_are_told()
+    ensures bytes { auth_bytes (codes "u") (codes "q")
+        ≡ codes "*3\r\n$4\r\nAUTH\r\n$1\r\nu\r\n$1\r\nq\r\n" }
+    ensures count { length (auth_bytes (codes "u") (codes "q")) ≡ 28 }
+    ensures swapped { auth_bytes (codes "q") (codes "u")
+        ≡ codes "*3\r\n$4\r\nAUTH\r\n$1\r\nq\r\n$1\r\nu\r\n" }
+    ensures as_setup { (user : List ℕ) (password : List ℕ)
+        → pack_pipeline (pipeline_of (opening RESP2 (Some user) (Some password))) ≡ auth_bytes user password }
 {}
