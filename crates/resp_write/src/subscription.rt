@@ -62,7 +62,6 @@ impl SubscriptionAction {
     }
 
     /// The name of the command that does it, in capitals.
-    #[tactic(auto, using(crate::proofs::Actions::word_is_read))]
     pub fn word(self) -> &'static [u8]
         ensures word { result.now ≡ action_word self }
         ensures read { subscription_action result.now ≡ Some self }
