@@ -18,10 +18,7 @@ const CALLS: [SubscriptionAction; 4] = [
 ];
 
 /// A connection whose connect succeeded, to a server that is told to speak this protocol.
-fn speaking(
-    alloc: Global,
-    protocol: ProtocolVersion,
-) -> Result<MultiplexedConnection, AllocError> {
+fn speaking(alloc: Global, protocol: ProtocolVersion) -> Result<MultiplexedConnection, AllocError> {
     let mut info = said(None);
     info.protocol = protocol;
     let config = AsyncConnectionConfig::new();
@@ -47,11 +44,7 @@ fn call(
 }
 
 /// Whether the call is refused, since RESP3 is required.
-fn is_refused(
-    alloc: Global,
-    conn: &mut MultiplexedConnection,
-    action: SubscriptionAction,
-) -> bool {
+fn is_refused(alloc: Global, conn: &mut MultiplexedConnection, action: SubscriptionAction) -> bool {
     let sent = call(alloc, conn, action);
     matches!(sent, Err(SendError::Refused(RedisError::Resp3Required)))
 }

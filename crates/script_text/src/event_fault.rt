@@ -140,12 +140,7 @@ fn separator_fault(more: &[Seq<Word<'_>>], part: usize) -> Option<Fault>
 
 /// What is wrong with a subscription call, by its name and what is behind it in `part` parts.
 #[tactic(auto, unfolding(crate::specs::EventLine::calls))]
-fn call_fault(
-    name: &[u8],
-    words: &[Word<'_>],
-    more: &[Seq<Word<'_>>],
-    part: usize,
-) -> Option<Fault>
+fn call_fault(name: &[u8], words: &[Word<'_>], more: &[Seq<Word<'_>>], part: usize) -> Option<Fault>
     ensures { FindsFault result (by_first calls (name.now ∷ words.now) more.now) }
 {
     if name == b"subscribe".as_slice() || name == b"unsubscribe".as_slice() {

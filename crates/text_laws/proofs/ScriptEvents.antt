@@ -128,9 +128,13 @@ packed_fits (offset ∷ count ∷ first) more small behind =
 
 calls_fit : AllRead SaidSubmission calls
 unfolding calls
-calls_fit =
-    (whole_fits SaidSubmission _ (λ names each. (each, refl)), (whole_fits SaidSubmission _ (λ names each. (each, refl)),
-    (whole_fits SaidSubmission _ (λ names each. (each, refl)), (whole_fits SaidSubmission _ (λ names each. (each, refl)), tt))))
+calls_fit = (
+  whole_fits SaidSubmission _ (λ names each. (each, refl)),
+  (
+    whole_fits SaidSubmission _ (λ names each. (each, refl)),
+    (whole_fits SaidSubmission _ (λ names each. (each, refl)), (whole_fits SaidSubmission _ (λ names each. (each, refl)), tt)),
+  ),
+)
 
 submissions_fit : AllRead SaidSubmission submissions
 submissions_fit =
