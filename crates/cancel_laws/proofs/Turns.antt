@@ -157,8 +157,9 @@ bare_turn n p c kind l none h =
 more_requested : (n : ℕ) (t : Turning) (kind : EventKind) → n < length t.core.table → n < length (requested t kind).core.table
 more_requested n t (event.Submit s) l =
     chosen (λ (x : Turning). n < length x.core.table) t.core.shut _ _ (λ u. omega (arith, length-append t.core.table (None ∷ [])))
-    (λ f. chosen (λ (x : Turning). n < length x.core.table) (length (packed_bytes s) == 0) _ _ (λ u. omega (arith, length-append t.core.table (None ∷ [])))
-    (λ g. omega (arith, length-append t.core.table (Some (pending (length t.core.single.connection.requests)) ∷ []))))
+    (λ f. chosen (λ (x : Turning). n < length x.core.table) (lacks_resp3 t.core.single.connection.info.protocol s) _ _ (λ u. omega (arith, length-append t.core.table (None ∷ [])))
+    (λ d. chosen (λ (x : Turning). n < length x.core.table) (length (packed_bytes s) == 0) _ _ (λ u. omega (arith, length-append t.core.table (None ∷ [])))
+    (λ g. omega (arith, length-append t.core.table (Some (pending (length t.core.single.connection.requests)) ∷ [])))))
 more_requested n t (event.Cancel m) l = more_left (slice_get t.core.table m)
   where
     more_left : (who : Option (Option Pending)) → n < length (left_by t who).core.table
